@@ -1,0 +1,15 @@
+//! The bytes below every application-layer command of a LoRaWAN device (TS003 to TS006, 1.0.0): little-endian
+//! numbers at places of a payload, payloads of at most 242 bytes, and why a payload is refused.
+//! The number that was put at a place is the number that is read there, and a put without room changes nothing.
+//! Which commands there are is left to the crates above, which write their tables as rows of `specs/Rows.antt`.
+#![tactic(auto)]
+
+mod laws;
+mod numbers;
+mod payload;
+mod refusal;
+
+pub use laws::number_put_is_number_read;
+pub use numbers::{put_bytes, put_u8, put_u16, put_u24, put_u32, u8_at, u16_at, u24_at, u32_at};
+pub use payload::{Full, MAX_PAYLOAD, Payload};
+pub use refusal::{Direction, Refusal, Why};

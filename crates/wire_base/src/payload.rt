@@ -1,0 +1,98 @@
+ghost use Rattle.std.specs.Prelude.{◌≡◌, ◌-◌, ◌≤◌, ◌↔◌, [], length, IsTrue};
+ghost use Rattle.wire_base.specs.Payload.{Appends};
+
+use arrayvec::ArrayVec;
+use std::marker::Model;
+
+/// The most bytes that a payload of an application package has (this project's profile).
+pub const MAX_PAYLOAD: usize = 242;
+
+/// The payload has too few free bytes.
+#[derive(Clone, Copy, Debug, PartialEq, Eq)]
+pub struct Full;
+
+/// The bytes of one frame, at most `MAX_PAYLOAD`. They lie in the value itself. Contracts see their list.
+#[derive(Debug, Drop, PartialEq)]
+pub struct Payload {
+    bytes: ArrayVec<u8, MAX_PAYLOAD>,
+}
+
+impl Model for Payload {
+    ghost use Rattle.std.specs.Prelude.{ℕ, List, ◌≤◌, length};
+
+    ghost Value = { List ℕ };
+
+    ghost view = { λ p. p.bytes.items };
+
+    ghost invariant = { λ p. length p.bytes.items ≤ 242 };
+
+    ghost inverse = { λ bytes. record { bytes = record { items = bytes } } };
+}
+
+impl Payload {
+    /// A payload without bytes.
+    pub fn new() -> Self
+        ensures { result ≡ [] }
+    {
+        Payload {
+            bytes: ArrayVec::new(),
+        }
+    }
+
+    /// A payload of these bytes.
+    pub fn from_slice(bytes: &[u8]) -> Self
+        requires { length bytes.now ≤ MAX_PAYLOAD }
+        ensures { result ≡ bytes.now }
+    {
+        let mut payload = Payload::new();
+        let _fits = payload.append(bytes);
+        payload
+    }
+
+    /// The number of bytes.
+    pub fn len(&self) -> usize
+        ensures number { result ≡ length self.now }
+        ensures within { length self.now ≤ MAX_PAYLOAD }
+    {
+        self.bytes.len()
+    }
+
+    /// Whether there are no bytes.
+    pub fn is_empty(&self) -> bool
+        ensures { IsTrue result ↔ (length self.now ≡ 0) }
+    {
+        self.bytes.is_empty()
+    }
+
+    /// How many bytes are free.
+    pub fn room(&self) -> usize
+        ensures { result ≡ MAX_PAYLOAD - length self.now }
+    {
+        MAX_PAYLOAD - self.bytes.len()
+    }
+
+    /// The bytes.
+    pub fn as_slice(&self) -> &[u8]
+        ensures value { result.now ≡ self.now }
+        ensures within { length result.now ≤ MAX_PAYLOAD }
+    {
+        self.bytes.as_slice()
+    }
+
+    /// A second payload of the same bytes, which takes no memory.
+    pub fn copied(&self) -> Self
+        ensures { result ≡ self.now }
+    {
+        Payload::from_slice(self.as_slice())
+    }
+
+    /// Puts the bytes behind those that are there.
+    pub fn append(&mut self, bytes: &[u8]) -> Result<(), Full>
+        ensures { Appends self.old self.new bytes.now result }
+    {
+        match self.bytes.try_extend_from_slice(bytes) {
+            Ok(()) => Ok(()),
+            Err(_) => Err(Full),
+        }
+    }
+}
