@@ -1,0 +1,4 @@
+pub mod Known
+pub mod Only
+pub mod Spellings
+pub mod Writes
