@@ -1,0 +1,78 @@
+ghost use Rattle.std.specs.Prelude.{◌≡◌, List, ℕ};
+ghost use Rattle.aes_block.specs.Cipher.{IsBlock, AreRoundKeys, cipher};
+
+use crate::expansion::round_keys;
+use crate::steps::{add_round_key, mix_columns, shift_rows, sub_bytes};
+use crate::undo::{undo_add_round_key, undo_mix_columns, undo_shift_rows, undo_sub_bytes};
+use std::marker::Model;
+
+/// AES-128 under one key. Contracts see the key's 16 bytes.
+#[derive(Drop)]
+pub struct Aes128 {
+    key: [u8; 16],
+    round_keys: [[u8; 16]; 11],
+}
+
+impl Model for Aes128 {
+    ghost use Rattle.std.specs.Prelude.{List, ℕ};
+    ghost use Rattle.aes_block.specs.Cipher.{IsExpanded};
+
+    ghost Value = { List ℕ };
+
+    ghost view = { λ a. a.key };
+
+    ghost invariant = { λ a. IsExpanded a.key a.round_keys };
+}
+
+impl Aes128 {
+    /// The cipher under a key.
+    pub fn new(key: &[u8; 16]) -> Self
+        ensures { result ≡ key.now }
+    {
+        Aes128 {
+            key: *key,
+            round_keys: round_keys(key),
+        }
+    }
+
+    /// The encryption of a block.
+    pub fn encrypt(&self, block: &[u8; 16]) -> [u8; 16]
+        ensures { result ≡ cipher self.now block.now }
+    {
+        encrypted(&self.key, &self.round_keys, block)
+    }
+
+    /// The block whose encryption is the one given.
+    pub fn decrypt(&self, block: &[u8; 16]) -> [u8; 16]
+        ensures found { cipher self.now result ≡ block.now }
+        ensures only { (x : List ℕ) → IsBlock x → cipher self.now x ≡ block.now → x ≡ result }
+    {
+        decrypted(&self.key, &self.round_keys, block)
+    }
+}
+
+fn encrypted(key: &[u8; 16], round_keys: &[[u8; 16]; 11], block: &[u8; 16]) -> [u8; 16]
+    requires { AreRoundKeys key.now round_keys.now }
+    ensures { result ≡ cipher key.now block.now }
+{
+    let mut state = add_round_key(block, &round_keys[0]);
+    for round in 1..10 {
+        state = mix_columns(&shift_rows(&sub_bytes(&state)));
+        state = add_round_key(&state, &round_keys[round]);
+    }
+    add_round_key(&shift_rows(&sub_bytes(&state)), &round_keys[10])
+}
+
+fn decrypted(key: &[u8; 16], round_keys: &[[u8; 16]; 11], block: &[u8; 16]) -> [u8; 16]
+    requires { AreRoundKeys key.now round_keys.now }
+    ensures found { cipher key.now result ≡ block.now }
+    ensures block { IsBlock result }
+{
+    let last = undo_add_round_key(block, &round_keys[10]);
+    let mut state = undo_sub_bytes(&undo_shift_rows(&last));
+    for round in (1..10).rev() {
+        let mixed = undo_add_round_key(&state, &round_keys[round]);
+        state = undo_sub_bytes(&undo_shift_rows(&undo_mix_columns(&mixed)));
+    }
+    undo_add_round_key(&state, &round_keys[0])
+}
