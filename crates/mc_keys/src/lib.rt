@@ -1,0 +1,12 @@
+//! The keys of a multicast group (TS005-1.0.0, Multicast security; LoRaWAN 1.0 devices).
+//! Each key is the AES-128 that the standard says of the key before it, and the key that was wrapped for a device
+//! is the one that it unwraps.
+//! Where keys are kept, and what is encrypted with them, is left to the crates above.
+#![tactic(auto)]
+
+mod keys;
+
+pub use keys::{Key, app_s_key, kek, net_s_key, root_1_0, unwrap_key, wrap_key};
+
+#[cfg(test)]
+mod tests;

@@ -1,0 +1,33 @@
+use super::*;
+use std::test::*;
+
+/// Keys as numbers, the first byte highest; computed with the AES of Python's `cryptography`.
+const GEN_APP_KEY: u128 = 0x000102030405060708090a0b0c0d0e0f;
+
+const ROOT: u128 = 0xc6a13b37878f5b826f4f8162a1c8d879;
+
+const KEK: u128 = 0x2c578f7927a949d3b511ae8fb69145c6;
+
+const MC_KEY: u128 = 0x00112233445566778899aabbccddeeff;
+
+const WRAPPED: u128 = 0xb0e6277d714c7313a0ec58f357c8f0fb;
+
+const ADDR: u32 = 0x11223344;
+
+const APP_S_KEY: u128 = 0x1076bbc2ea64f6e75805688798928aba;
+
+const NET_S_KEY: u128 = 0x9f0420feddea37d9f057e1a21f2cd4ca;
+
+#[test]
+fn keys_are_those_of_another_aes(rt: HostRuntime) {
+    let root = root_1_0(&GEN_APP_KEY.to_be_bytes());
+    assert!(rt; root == ROOT.to_be_bytes());
+    let kek = kek(&root);
+    assert!(rt; kek == KEK.to_be_bytes());
+    let mc_key = MC_KEY.to_be_bytes();
+    let wrapped = wrap_key(&kek, &mc_key);
+    assert!(rt; wrapped == WRAPPED.to_be_bytes());
+    assert!(rt; unwrap_key(&kek, &wrapped) == mc_key);
+    assert!(rt; app_s_key(&mc_key, ADDR) == APP_S_KEY.to_be_bytes());
+    assert!(rt; net_s_key(&mc_key, ADDR) == NET_S_KEY.to_be_bytes());
+}
