@@ -1,0 +1,12 @@
+pub mod Members
+pub mod Verdicts
+pub mod Parts
+pub mod Files
+pub mod Drawing
+pub mod Uncoded
+pub mod Sums
+pub mod Tables
+pub mod Dimension
+pub mod Uniqueness
+pub mod Flips
+pub mod Enough

@@ -1,0 +1,7 @@
+pub mod Members
+pub mod Parity
+pub mod Fragments
+pub mod Gain
+pub mod Verdict
+pub mod File
+pub mod Laws

@@ -1,0 +1,33 @@
+//! Laws about the definitions, each the contract of a function that does nothing.
+
+ghost use Rattle.frag_model.specs.Laws.{ExactlyOneVerdict, OneBlockIsOneFile, FullGainIsUniqueness, GainIsBounded, EnoughRowsForTheUnheard, WorkedValues};
+
+/// Of each list of heard fragments exactly one verdict is right: the one that `verdict` gives.
+pub fn exactly_one_verdict()
+    ensures { ExactlyOneVerdict }
+{}
+
+/// Where the padding is shorter than a piece, one block alone fits exactly where one file alone fits.
+pub fn one_block_is_one_file()
+    ensures { OneBlockIsOneFile }
+{}
+
+/// Where some block fits, gain is full exactly where one block alone fits.
+pub fn full_gain_is_uniqueness()
+    ensures { FullGainIsUniqueness }
+{}
+
+/// Gain is at most the number of pieces, and at least the pieces that came uncoded.
+pub fn gain_is_bounded()
+    ensures { GainIsBounded }
+{}
+
+/// As many rows as there are pieces unheard at the first coded fragment are enough.
+pub fn enough_rows_for_the_unheard()
+    ensures { EnoughRowsForTheUnheard }
+{}
+
+/// The definitions give the worked values of lines, draws, gain and direct.
+pub fn worked_values()
+    ensures { WorkedValues }
+{}

@@ -1,0 +1,10 @@
+//! The algebra of fragments that LoRaWAN's fragmented data block transport rests on (TS004-1.0.0):
+//! parity lines, which blocks fit what was heard, and the verdict and the recovered file that follow.
+//! Its functions are plain and slow ones whose contracts are the definitions of `specs/`, and functions
+//! without a body whose contracts are laws about them. How to recover a file in little memory and
+//! time is left to the crates above, which cite the same definitions.
+#![tactic(auto)]
+
+pub mod gains;
+pub mod laws;
+pub mod lines;

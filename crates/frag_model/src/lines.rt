@@ -1,0 +1,111 @@
+//! Parity lines, drawn one state at a time.
+
+ghost use Rattle.std.specs.Prelude.{◌≡◌, ◌+◌, ◌<◌, ◌≤◌, ◌^◌, length};
+ghost use Rattle.frag_model.specs.Parity.{prbs23, modulus, line, draws, number_of};
+
+/// The largest number of a coded fragment over `cols` columns is this much above `cols` (TS004-1.0.0 has
+/// 14 bits for it; up to here the first state fits the register).
+pub const MAX_PARITY_INDEX: u16 = 8380;
+
+/// The most pieces of a file (this project's profile).
+pub const MAX_PIECES: u16 = 1024;
+
+/// The next state of the 23-bit register behind `x` (TS004-1.0.0).
+pub fn plain_prbs23(x: u32) -> u32
+    requires { x < 2 ^ 23 }
+    ensures { result ≡ prbs23 x }
+{
+    (x >> 1) + (((x & 1) ^ (x >> 5 & 1)) << 22)
+}
+
+/// What states are divided by: `cols`, and one more where `cols` is a power of two.
+pub fn plain_modulus(cols: u16) -> u16
+    requires { cols ≤ MAX_PIECES }
+    ensures value { result ≡ modulus cols }
+    ensures least { cols ≤ result }
+    ensures most { result ≤ cols + 1 }
+{
+    if cols.is_power_of_two() {
+        cols + 1
+    } else {
+        cols
+    }
+}
+
+/// Marks the columns of coded fragment `n` over `cols` columns, and answers how many states were drawn.
+pub fn plain_line(n: u16, cols: u16, out: &mut [bool]) -> u16
+    requires first { 1 ≤ n }
+    requires last { n ≤ MAX_PARITY_INDEX }
+    requires some { 1 ≤ cols }
+    requires most { cols ≤ MAX_PIECES }
+    requires room { length out.old ≡ cols }
+    ensures line { number_of out.new ≡ line n cols }
+    ensures draws { result ≡ draws n cols }
+{
+    out.fill(false);
+    let half = cols / 2;
+    let modulus = plain_modulus(cols);
+    let mut x = 1 + 1001 * n as u32;
+    let mut found = 0;
+    let mut draws = 0;
+    for turn in 0..25 * half {
+        if found < half {
+            x = plain_prbs23(x);
+            draws += 1;
+            let residue = (x % modulus as u32) as u16;
+            if residue < cols {
+                out[residue as usize] = true;
+                found += 1;
+            }
+        }
+    }
+    draws
+}
+
+#[cfg(test)]
+mod tests {
+    use super::*;
+    use std::test::Fail;
+
+    #[test]
+    fn register_moves_as_in_the_standard(rt: HostRuntime) -> Result<(), Fail> {
+        assert_eq!(rt; plain_prbs23(1002), 4_194_805);
+        Ok(())
+    }
+
+    #[test]
+    fn lines_over_four_columns(rt: HostRuntime) -> Result<(), Fail> {
+        let rows = [
+            (1, [true, false, true, false]),
+            (2, [true, false, true, false]),
+            (3, [false, true, false, true]),
+            (4, [false, true, true, false]),
+            (5, [true, false, false, true]),
+            (7, [false, false, false, true]),
+            (9, [false, true, false, true]),
+        ];
+        for (n, columns) in &rows {
+            let mut out = [true; 4];
+            let n: u16 = *n;
+            assert!(rt; 1 <= n && n <= MAX_PARITY_INDEX);
+            plain_line(n, 4, &mut out);
+            assert_eq!(rt; out.as_slice(), columns.as_slice());
+        }
+        Ok(())
+    }
+
+    #[test]
+    fn a_rejected_state_is_drawn_too(rt: HostRuntime) -> Result<(), Fail> {
+        let mut out = [false; 4];
+        assert_eq!(rt; plain_line(9, 4, &mut out), 4);
+        Ok(())
+    }
+
+    #[test]
+    fn line_over_two_columns(rt: HostRuntime) -> Result<(), Fail> {
+        let mut out = [false; 2];
+        plain_line(1, 2, &mut out);
+        assert_eq!(rt; out.as_slice(), [false, true].as_slice());
+        Ok(())
+    }
+}
