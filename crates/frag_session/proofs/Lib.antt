@@ -1,0 +1,5 @@
+pub mod Pieces
+pub mod Deciding
+pub mod Standing
+pub mod Calls
+pub mod Feeding

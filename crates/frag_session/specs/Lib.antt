@@ -1,0 +1,8 @@
+pub mod Setup
+pub mod Session
+pub mod Held
+pub mod Inside
+pub mod Pieces
+pub mod Shows
+pub mod Steps
+pub mod Stands

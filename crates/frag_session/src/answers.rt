@@ -1,0 +1,53 @@
+//! What a session is asked with and what it answers.
+
+/// How a payload came.
+#[derive(Clone, Copy, Debug, PartialEq, Eq)]
+pub enum Via {
+    Unicast,
+    /// By the multicast group with this id.
+    Group(u8),
+}
+
+/// Why a fragment is dropped.
+#[derive(Clone, Copy, Debug, PartialEq, Eq)]
+pub enum Cause {
+    /// No session lives.
+    NoSession,
+    /// It came by a group that the session's mask does not have.
+    Group,
+    /// No fragment of the session has this number.
+    Index,
+    /// It has not the session's number of bytes.
+    Size,
+}
+
+/// What became of a fragment.
+#[derive(Clone, Copy, Debug, PartialEq, Eq)]
+pub enum Heard {
+    Fed,
+    Dropped(Cause),
+}
+
+/// What is known of the file, with the mark of the fragment that decided it.
+#[derive(Clone, Copy, Debug, PartialEq, Eq)]
+pub enum Verdict {
+    Receiving,
+    /// One file alone fits the fragments heard.
+    Complete(u64),
+    /// There were more independent coded fragments than rows.
+    NoRows(u64),
+    /// No file fits.
+    Conflict(u64),
+}
+
+/// What a session shows.
+#[derive(Clone, Copy, Debug)]
+pub struct View<'a> {
+    /// Fragments heard, repeats included, at most 16,383.
+    pub received: u16,
+    /// Pieces still to be gained.
+    pub missing: u16,
+    pub verdict: Verdict,
+    /// The file, and nothing unless it is complete.
+    pub file: &'a [u8],
+}

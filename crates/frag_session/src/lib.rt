@@ -1,0 +1,22 @@
+//! One fragmentation session of a LoRaWAN device (TS004-1.0.0): its setup, the fragments that it hears,
+//! and the file that they make. A slot stands for the list of all fragments heard since its setup, and
+//! its contracts say each answer of that list, though it keeps no list. Where payloads come from, and
+//! what becomes of a whole file, is left to the device above.
+#![tactic(auto)]
+
+mod answers;
+mod complete_state;
+mod conflicted_state;
+mod idle_state;
+mod receiving_state;
+mod setups;
+mod slots;
+mod storage;
+
+pub use answers::{Cause, Heard, Verdict, Via, View};
+pub use complete_state::Complete;
+pub use conflicted_state::Conflicted;
+pub use idle_state::{Idle, Memory};
+pub use receiving_state::{Next, Receiving};
+pub use setups::{Limits, SetupReq};
+pub use slots::{Slot, State};
