@@ -1,0 +1,14 @@
+pub mod Named
+pub mod ImageLemmas
+pub mod Fragments
+pub mod Writing
+pub mod ReplyLemmas
+pub mod Messages
+pub mod DeviceLemmas
+pub mod Texts
+pub mod CauseLemmas
+pub mod WorldLemmas
+pub mod Canonical
+pub mod Outcomes
+pub mod SourceLines
+pub mod Playing

@@ -1,0 +1,161 @@
+-- What a source that was read, or was not, makes the program say.
+use Rattle.std.proofs.Common.{◌≡◌, ◌≢◌, inl, inr, ℕ, ◌+◌, ◌<◌, ◌≤◌, true, false, nat_lt, List, length, Option, None, Some, IsSome, IfSome, Result, Ok, Err, IfOk, refl, sym, ap, subst, ◌∙◌, arith}
+use Rattle.std.proofs.lemmas.Bool.{lt-ltb, le-ltb}
+use Rattle.std.specs.Io.KnownBytes.{IsAtEnd, Appends}
+use Rattle.fuota_run.specs.declared.source.SourceError.{SourceError}
+use Rattle.fuota_run.specs.declared.source.SourceError.TheVariants as error
+use Rattle.fuota_run.specs.declared.status.Status.{Status}
+use Rattle.fuota_run.specs.declared.status.Status.TheVariants as status
+use Rattle.fuota_run.specs.Outside.{Held, HoldsName, HasRisen}
+use Rattle.fuota_run.specs.Source.{IsSource, IsTooLong}
+use Rattle.fuota_run.specs.Image.{is_image}
+use Rattle.fuota_run.specs.World.{campaign_of}
+use Rattle.fuota_run.specs.Answer.{Answer, answer, usage, is_form, word_at, answer_of, image_refused, too_long, taken_text, played, script_answer, campaign_answer}
+use Rattle.fuota_run.specs.Reply.{Gives, Effects, Ends, AppendsAnswer, GivesBy, GivesScript, GivesCampaign, IsTextOf, IsReply, IsCaused, Says, ends_source}
+use Rattle.fuota_run.specs.Replies.{IsUnread}
+
+-- a rise since later is a rise since earlier
+risen_before : (before between now : ℕ) → before ≤ between → HasRisen between now → HasRisen before now
+risen_before before between now kept risen = omega arith
+
+-- a source that is too long gives the answer that says so
+too_long_given : (held : Option Held) (name : List ℕ) (answer_for : Held → Option (List ℕ) → Answer) (limit : ℕ) → ((h : Held) (bytes : List ℕ) → limit < length bytes → answer_for h (Some bytes) ≡ too_long limit)
+    → HoldsName held name → IsTooLong held name limit → GivesBy held name answer_for (too_long limit)
+too_long_given None name answer_for limit says holds long = refl
+too_long_given (Some h) name answer_for limit says holds long = by_file (h name) refl holds long
+  where
+    by_file : (file : Option (List ℕ)) → h name ≡ file → IsSome file → IfSome file (λ bytes. limit < length bytes) → too_long limit ≡ answer_for h (h name)
+    by_file None is some long = absurd cc
+    by_file (Some bytes) is some long = sym (ap (λ (f : Option (List ℕ)). answer_for h f) is ∙ says h bytes long)
+
+-- what is said where a source was not read
+pub says_unread : (held : Option Held) (name : List ℕ) (answer_for : Held → Option (List ℕ) → Answer) (limit before now : ℕ) (left : Option (List ℕ)) (e : SourceError) (a : Answer)
+    → ((h : Held) (bytes : List ℕ) → limit < length bytes → answer_for h (Some bytes) ≡ too_long limit) → HoldsName held name
+    → ((taken : ℕ) → e ≡ error.TooLong taken → IsTooLong held name limit) → ((taken : ℕ) → e ≡ error.TooLong taken → taken ≡ limit + 1) → (e ≡ error.Failed → HasRisen before now)
+    → IsUnread e a → Says (GivesBy held name answer_for a) before now left a × (a.status ≢ status.Usage)
+says_unread held name answer_for limit before now left error.Memory a says holds long taken failed is = absurd is
+says_unread held name answer_for limit before now left error.Failed a says holds long taken failed is = (
+  record { reply = inr (is, failed refl); told = subst (λ (x : Answer). IsTextOf x.status x.text) (sym is) refl; caused = λ _. (failed refl, is); read_up = λ ends. absurd (let s = ap ends_source (ap (λ (x : Answer). x.status) is) in cc) },
+  λ usage. let s = ap (λ (x : Answer). x.status) is in cc,
+)
+says_unread held name answer_for limit before now left (error.TooLong n) a says holds long taken failed is =
+    let count : n ≡ limit + 1 = taken n refl in
+    let here : a ≡ too_long limit = is ∙ ap (λ m. answer (status.TooLong m) (taken_text m)) count in
+    let s : a.status ≡ status.TooLong (limit + 1) = ap (λ (x : Answer). x.status) here in (
+      record {
+        reply = inl (subst (λ (x : Answer). GivesBy held name answer_for x) (sym here) (too_long_given held name answer_for limit says holds (long n refl)));
+        told = subst (λ (x : Answer). IsTextOf x.status x.text) (sym here) refl;
+        caused = λ fault. absurd cc;
+        read_up = λ ends. absurd (let t = ap ends_source s in cc);
+      },
+      λ usage. cc,
+    )
+
+-- what is said where a source was read to its end
+pub says_source : (held : Option Held) (name : List ℕ) (answer_for : Held → Option (List ℕ) → Answer) (limit before now : ℕ) (left : Option (List ℕ)) (bytes : List ℕ) (a : Answer)
+    → IsSource held name limit bytes → ((h : Held) → a ≡ answer_for h (Some bytes)) → IsTextOf a.status a.text → a.status ≢ status.ReadFault → IsAtEnd left → Says (GivesBy held name answer_for a) before now left a
+says_source None name answer_for limit before now left bytes a source is text fine ends = record { reply = inl text; told = text; caused = λ fault. absurd (fine fault); read_up = λ _. ends }
+says_source (Some h) name answer_for limit before now left bytes a source is text fine ends =
+    record { reply = inl (is h ∙ ap (λ (f : Option (List ℕ)). answer_for h f) (sym source)); told = text; caused = λ fault. absurd (fine fault); read_up = λ _. ends }
+
+-- a script that is too long
+pub script_long : (image script : List ℕ) → 1048576 < length script → script_answer image (Some script) ≡ too_long 1048576
+unfolding script_answer
+script_long image script long = let t : nat_lt 1048576 (length script) ≡ true = lt-ltb _ _ long in rw t refl
+
+-- one within its limit
+pub script_given : (image script : List ℕ) (a : Answer) → length script ≤ 1048576 → a ≡ played (campaign_of image script) → a ≡ script_answer image (Some script)
+unfolding script_answer
+script_given image script a within is = let t : nat_lt 1048576 (length script) ≡ false = le-ltb _ _ within in rw t is
+
+-- an image that is too long
+pub image_long : (image : List ℕ) (script : Option (List ℕ)) → 65536 < length image → campaign_answer (Some image) script ≡ too_long 65536
+unfolding campaign_answer
+image_long image script long = let t : nat_lt 65536 (length image) ≡ true = lt-ltb _ _ long in rw t refl
+
+-- one that is no image file
+pub image_given_refused : (image : List ℕ) (script : Option (List ℕ)) → length image ≤ 65536 → is_image image ≡ false → image_refused ≡ campaign_answer (Some image) script
+unfolding campaign_answer
+image_given_refused image script within bad = let t : nat_lt 65536 (length image) ≡ false = le-ltb _ _ within in rw (t, bad) refl
+
+-- and one that is
+pub image_given : (image : List ℕ) (script : Option (List ℕ)) → length image ≤ 65536 → is_image image ≡ true → script_answer image script ≡ campaign_answer (Some image) script
+unfolding campaign_answer
+image_given image script within good = let t : nat_lt 65536 (length image) ≡ false = le-ltb _ _ within in rw (t, good) refl
+
+-- a reply that holds of every Ok
+pub if_ok_map : {T E : Type 0} {P Q : T → Type 0} (r : Result T E) → ((x : T) → P x → Q x) → IfOk r P → IfOk r Q
+if_ok_map (Ok x) turns holds = turns x holds
+if_ok_map (Err e) turns holds = tt
+
+-- the reply behind an image file is the campaign's
+pub says_behind : (held middle : Option Held) (image_name script_name : List ℕ) (before between now : ℕ) (left : Option (List ℕ)) (image : List ℕ) (a : Answer) → middle ≡ held → before ≤ between
+    → IsSource held image_name 65536 image → length image ≤ 65536 → is_image image ≡ true → Says (GivesScript middle image script_name a) between now left a → Says (GivesCampaign held image_name script_name a) before now left a
+says_behind held middle image_name script_name before between now left image a same kept source within good says =
+    let here = subst (λ (m : Option Held). Says (GivesScript m image script_name a) between now left a) same says in
+    record {
+      reply = replies held source here.reply;
+      told = here.told;
+      caused = λ fault. (risen_before before between now kept (here.caused fault).0, (here.caused fault).1);
+      read_up = here.read_up;
+    }
+  where
+    replies : (h : Option Held) → IsSource h image_name 65536 image → IsReply (GivesScript h image script_name a) between now a → IsReply (GivesCampaign h image_name script_name a) before now a
+    replies None source (inl text) = inl text
+    replies (Some h) source (inl is) = inl (is ∙ image_given image (h script_name) within good ∙ ap (λ (i : Option (List ℕ)). campaign_answer i (h script_name)) (sym source))
+    replies h source (inr fault) = inr (fault.0, risen_before before between now kept fault.1)
+
+-- what is said where the words are no form
+pub says_usage : (held : Option Held) (words : List (List ℕ)) (before : ℕ) (left : Option (List ℕ)) (a : Answer) → is_form words ≡ false → a ≡ usage → Says (Gives held words a) before before left a
+unfolding answer_of
+says_usage held words before left a bad is =
+    let s : a.status ≡ status.Usage = ap (λ (x : Answer). x.status) is in
+    let text = subst (λ (x : Answer). IsTextOf x.status x.text) (sym is) refl in
+    record { reply = inl (given held); told = text; caused = λ fault. absurd cc; read_up = λ ends. absurd (let t = ap ends_source s in cc) }
+  where
+    answered : (h : Held) → usage ≡ answer_of words h
+    answered h = rw bad refl
+
+    given : (h : Option Held) → Gives h words a
+    given None = subst (λ (x : Answer). IsTextOf x.status x.text) (sym is) refl
+    given (Some h) = is ∙ answered h
+
+-- where they are one, it is what is said of its files
+pub says_form : (held : Option Held) (words : List (List ℕ)) (before now : ℕ) (left : Option (List ℕ)) (a : Answer) → is_form words ≡ true
+    → Says (GivesCampaign held (word_at words 2) (word_at words 3) a) before now left a → Says (Gives held words a) before now left a
+unfolding answer_of
+says_form held words before now left a good says = record { reply = replies held says.reply; told = says.told; caused = says.caused; read_up = says.read_up }
+  where
+    answered : (h : Held) → campaign_answer (h (word_at words 2)) (h (word_at words 3)) ≡ answer_of words h
+    answered h = rw good refl
+
+    replies : (h : Option Held) → IsReply (GivesCampaign h (word_at words 2) (word_at words 3) a) before now a → IsReply (Gives h words a) before now a
+    replies None (inl text) = inl text
+    replies (Some h) (inl is) = inl (is ∙ answered h)
+    replies h (inr fault) = inr fault
+
+-- what is written of a reply
+appends_answer : (held : Option Held) (words : List (List ℕ)) (s : Status) (text : List ℕ) (old new : Option (List ℕ)) → Gives held words (answer s text) → IsTextOf s text → Appends old new text → AppendsAnswer held words s old new
+appends_answer None words s text old new gives told appends = (text, told, appends)
+appends_answer (Some h) words s text old new gives told appends =
+    (ap (λ (x : Answer). x.status) gives, subst (λ (x : Answer). Appends old new x.text) gives appends)
+
+ends_by : (held : Option Held) (words : List (List ℕ)) (e : Effects) (s : Status) (text : List ℕ) → Gives held words (answer s text) → IsTextOf s text
+    → IsCaused e.files_before e.files_after (answer s text) → Appends e.old e.new text → Ends held words e s
+ends_by held words e status.Done text gives told caused appends = appends_answer held words status.Done text e.old e.new gives told appends
+ends_by held words e status.Usage text gives told caused appends = appends_answer held words status.Usage text e.old e.new gives told appends
+ends_by held words e status.ImageRefused text gives told caused appends = appends_answer held words status.ImageRefused text e.old e.new gives told appends
+ends_by held words e status.ScriptRefused text gives told caused appends = appends_answer held words status.ScriptRefused text e.old e.new gives told appends
+ends_by held words e (status.TooLong taken) text gives told caused appends = appends_answer held words (status.TooLong taken) text e.old e.new gives told appends
+ends_by held words e status.ReadFault text gives told caused appends =
+    let fault = caused refl in (fault.0, subst (λ (x : Answer). Appends e.old e.new x.text) fault.1 appends)
+ends_by held words e status.WriteFault text gives told caused appends = absurd told
+ends_by held words e status.Memory text gives told caused appends = absurd told
+
+-- how a run ends whose text was written
+pub ends_written : (held : Option Held) (words : List (List ℕ)) (e : Effects) (left : Option (List ℕ)) (a : Answer) → Says (Gives held words a) e.files_before e.files_after left a → Appends e.old e.new a.text → Ends held words e a.status
+ends_written held words e left a says appends =
+    elim says.reply [
+      | inl gives ↦ ends_by held words e a.status a.text gives says.told says.caused appends
+      | inr fault ↦ subst (λ (x : Answer). Ends held words e x.status) (sym fault.0) (fault.1, subst (λ (x : Answer). Appends e.old e.new x.text) fault.0 appends)
+    ]

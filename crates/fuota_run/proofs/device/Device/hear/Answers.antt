@@ -1,0 +1,47 @@
+use Rattle.std.proofs.Common.{◌≡◌, Bool, sym, ap, subst, ◌∙◌}
+use Rattle.frag_session.specs.declared.answers.Via.TheVariants as via
+use Rattle.frag_session.specs.declared.slots.State.{State}
+use Rattle.frag_session.specs.Session.{after_fragment, view_of}
+use Rattle.frag_session.specs.Stands.{Stands}
+use Rattle.fuota_run.specs.declared.device.Counts.{Counts}
+use Rattle.fuota_run.specs.declared.device.DeviceConfig.{DeviceConfig}
+use Rattle.fuota_run.specs.declared.image.ImageState.{ImageState}
+use Rattle.fuota_run.specs.Device.{offered, raised, shows_file}
+use Rattle.fuota_run.specs.HeldDevice.{HeldDevice}
+use Rattle.fuota_run.proofs.DeviceLemmas.{heard_fed, heard_dropped}
+use Rattle.fuota_run.proofs.device.Device.hear.Goals as goal
+
+pub returns-in-Fed-clause-stands : goal.returns-in-Fed-clause-stands
+returns-in-Fed-clause-stands c = λ device stands.
+    let slot = subst (λ (s : State). Stands s device.session) (ap (λ (h : HeldDevice). h.slot) (sym c.self.view_is)) stands.slot in
+    let fed = heard_fed device c.args.n c.args.bytes.now c.args.mark (sym c.in-Fed.is ∙ c.fragment.ensures.answer device.session slot) in
+    let config : device.config ≡ c.self.inside.config = stands.config ∙ ap (λ (h : HeldDevice). h.config) (sym c.self.view_is) in
+    let next : device.next ≡ c.self.inside.next = stands.next ∙ ap (λ (h : HeldDevice). h.next) (sym c.self.view_is) in
+    let session = after_fragment device.session via.Unicast c.args.n c.args.bytes.now c.args.mark in
+    let heard = c.fragment.ensures.stands device.session slot in
+    let shows = c.has_file-had_file.ensures device.session stands.slot in
+    rw fed (record {
+      slot = heard;
+      config = config;
+      next =
+          ap (λ (n : ImageState). offered n device.config.hw (shows_file (view_of device.session)) (view_of session)) next
+          ∙ ap (λ (d : DeviceConfig). offered c.self.inside.next d.hw (shows_file (view_of device.session)) (view_of session)) config
+          ∙ ap (λ (b : Bool). offered c.self.inside.next c.self.inside.config.hw b (view_of session)) (sym shows)
+          ∙ sym (c.offered-self-inside.ensures session heard);
+      counts = stands.counts ∙ ap (λ (h : HeldDevice). h.counts) (sym c.self.view_is);
+    })
+
+pub returns-in-Dropped-clause-stands : goal.returns-in-Dropped-clause-stands
+returns-in-Dropped-clause-stands c = λ device stands.
+    let slot = subst (λ (s : State). Stands s device.session) (ap (λ (h : HeldDevice). h.slot) (sym c.self.view_is)) stands.slot in
+    let dropped = heard_dropped device c.args.n c.args.bytes.now c.args.mark c.in-Dropped.field-0 (sym c.in-Dropped.is ∙ c.fragment.ensures.answer device.session slot) in
+    let kept : c.fragment.new.self ≡ c.self.inside.slot = c.fragment.ensures.dropped (λ fed. let d = c.in-Dropped.is in cc) in
+    let config : device.config ≡ c.self.inside.config = stands.config ∙ ap (λ (h : HeldDevice). h.config) (sym c.self.view_is) in
+    let next : device.next ≡ c.self.inside.next = stands.next ∙ ap (λ (h : HeldDevice). h.next) (sym c.self.view_is) in
+    let counts : device.counts ≡ c.self.inside.counts = stands.counts ∙ ap (λ (h : HeldDevice). h.counts) (sym c.self.view_is) in
+    rw (dropped, c.drop_fragment.ensures) (record {
+      slot = rw kept slot;
+      config = config;
+      next = next;
+      counts = ap (λ (k : Counts). record k { dropped = raised k.dropped }) counts;
+    })

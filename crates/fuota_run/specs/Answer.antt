@@ -1,0 +1,91 @@
+-- The answer of the program: the status and the text that words and files determine, where nothing fails.
+use Rattle.std.specs.Prelude.{ℕ, ◌+◌, Bool, false, ◌&&◌, not, ◌==◌, nat_lt, if◌then◌else◌, List, [], ◌∷◌, ◌++◌, length, slice_get, unwrap_or, codes, Option, Some, None, Result, Ok, Err}
+use Rattle.std.specs.Str.{bytes_eq}
+use Rattle.std.specs.Fmt.{decimal}
+use Rattle.fuota_run.specs.declared.running.TheConstants.{IMAGE_LIMIT, SCRIPT_LIMIT}
+use Rattle.fuota_run.specs.declared.status.Status.{Status}
+use Rattle.fuota_run.specs.declared.status.Status.TheVariants as status
+use Rattle.fuota_run.specs.declared.world.LineWhy.{LineWhy}
+use Rattle.fuota_run.specs.declared.world.LineWhy.TheVariants as why
+use Rattle.fuota_run.specs.declared.world.LineFault.{LineFault}
+use Rattle.fuota_run.specs.Outside.{Held}
+use Rattle.fuota_run.specs.Image.{is_image}
+use Rattle.fuota_run.specs.World.{WorldState, campaign_of}
+use Rattle.fuota_run.specs.Report.{report_of}
+
+-- a status and the text that is written with it
+pub record Answer : Type 0 where
+  pub status : Status
+  pub text : List ℕ
+
+abbrev pub answer : Status → List ℕ → Answer
+answer status text = record { status = status; text = text }
+
+abbrev pub usage_text : List ℕ
+usage_text = codes "usage: fuota campaign IMAGE SCRIPT, recover IMAGE SCRIPT DEVICE, replay FILE, decode PORT DIR FILE, generate SEED\n"
+
+abbrev pub usage : Answer
+usage = answer status.Usage usage_text
+
+abbrev pub why_word : LineWhy → List ℕ
+why_word why.Limit = codes "limit"
+why_word why.Syntax = codes "syntax"
+why_word why.Order = codes "order"
+why_word why.Range = codes "range"
+why_word why.Device = codes "device"
+why_word why.Unsent = codes "unsent"
+
+-- a line is refused
+abbrev pub refused : LineFault → Answer
+refused fault = answer status.ScriptRefused (codes "line " ++ decimal fault.line ++ (codes " " ++ why_word fault.why ++ codes "\n"))
+
+-- so many bytes were taken of a source that is longer than its limit
+abbrev pub taken_text : ℕ → List ℕ
+taken_text taken = codes "too long " ++ decimal taken ++ codes "\n"
+
+-- a source is longer than its limit
+abbrev pub too_long : ℕ → Answer
+too_long limit = answer (status.TooLong (limit + 1)) (taken_text (limit + 1))
+
+abbrev pub image_refused : Answer
+image_refused = answer status.ImageRefused (codes "image refused\n")
+
+abbrev pub read_fault : Answer
+read_fault = answer status.ReadFault (codes "read fault\n")
+
+-- the answer to a campaign, or to its first refused line
+abbrev pub played : Result WorldState LineFault → Answer
+played (Ok world) = answer status.Done (report_of world)
+played (Err fault) = refused fault
+
+-- the answer once the image is an image file
+unfoldable pub script_answer : List ℕ → Option (List ℕ) → Answer
+script_answer image None = read_fault
+script_answer image (Some script) = if nat_lt SCRIPT_LIMIT (length script) then too_long SCRIPT_LIMIT else played (campaign_of image script)
+
+-- the answer to `campaign IMAGE SCRIPT`: of the image first too long, then refused; then of the script
+unfoldable pub campaign_answer : Option (List ℕ) → Option (List ℕ) → Answer
+campaign_answer None script = read_fault
+campaign_answer (Some image) script =
+    if nat_lt IMAGE_LIMIT (length image) then too_long IMAGE_LIMIT
+    else if is_image image then script_answer image script
+    else image_refused
+
+-- the word at a place, counted from 0
+abbrev pub word_at : List (List ℕ) → ℕ → List ℕ
+word_at words k = unwrap_or (slice_get words k) []
+
+-- a word that begins with a dash (45)
+abbrev pub begins_with_dash : List ℕ → Bool
+begins_with_dash [] = false
+begins_with_dash (b ∷ bs) = b == 45
+
+-- the words are a form: `campaign IMAGE SCRIPT` behind the program's name, the last two not beginning with a dash
+unfoldable pub is_form : List (List ℕ) → Bool
+is_form words =
+    length words == 4 && bytes_eq (word_at words 1) (codes "campaign")
+    && not (begins_with_dash (word_at words 2)) && not (begins_with_dash (word_at words 3))
+
+-- the answer to the words over the files that are held
+unfoldable pub answer_of : List (List ℕ) → Held → Answer
+answer_of words held = if is_form words then campaign_answer (held (word_at words 2)) (held (word_at words 3)) else usage

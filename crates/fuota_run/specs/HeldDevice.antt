@@ -1,0 +1,35 @@
+-- What a device keeps, and when it stands for one that has heard a list of fragments.
+use Rattle.std.specs.Prelude.{◌≡◌, List, [], ◌∷◌, Option, Some, None}
+use Rattle.frag_session.specs.declared.slots.State.{State}
+use Rattle.frag_session.specs.Stands.{Stands}
+use Rattle.fuota_run.specs.declared.device.Counts.{Counts}
+use Rattle.fuota_run.specs.declared.device.DeviceConfig.{DeviceConfig}
+use Rattle.fuota_run.specs.declared.device.Uplink.{Uplink}
+use Rattle.fuota_run.specs.declared.grammar.Command.{Command}
+use Rattle.fuota_run.specs.declared.image.ImageState.{ImageState}
+use Rattle.fuota_run.specs.Commands.{port_of, canonical}
+use Rattle.fuota_run.specs.Device.{DeviceState}
+
+-- a device without its history: what its slot holds, and the uplinks that are not yet taken
+pub record HeldDevice : Type 0 where
+  pub config : DeviceConfig
+  pub slot : State
+  pub next : ImageState
+  pub counts : Counts
+  pub outbox : List Uplink
+
+-- the slot stands for the session, and all else is equal
+pub record StandsAs (held : HeldDevice) (device : DeviceState) : Type 0 where
+  pub slot : Stands held.slot device.session
+  pub config : device.config ≡ held.config
+  pub next : device.next ≡ held.next
+  pub counts : device.counts ≡ held.counts
+
+-- an answer as it is sent
+abbrev pub uplink_of : Command → Uplink
+uplink_of c = record { port = port_of c; payload = canonical c }
+
+-- the oldest uplink that is held was taken; none where none is held
+abbrev pub TakesUplink : HeldDevice → HeldDevice → Option Uplink → Type 0
+TakesUplink old new None = (old.outbox ≡ []) × (new ≡ old)
+TakesUplink old new (Some uplink) = (old.outbox ≡ uplink ∷ new.outbox) × (new ≡ record old { outbox = new.outbox })

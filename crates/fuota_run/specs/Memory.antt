@@ -1,0 +1,25 @@
+-- Files in memory: what a list of named files holds, and which calls of a schedule fail.
+use Rattle.std.specs.Prelude.{◌≡◌, ◌<◌, ℕ, ◌+◌, ◌-◌, ◌^◌, min, List, [], ◌∷◌, Option, None, Some, if◌then◌else◌, map, get_or}
+use Rattle.std.specs.Str.{bytes_eq}
+
+-- a name, and the bytes that it holds
+abbrev pub Named : Type 0
+Named = List ℕ × List ℕ
+
+-- what is held under a name: the bytes of the first file of that name
+abbrev pub held_by : List Named → List ℕ → Option (List ℕ)
+held_by [] name = None
+held_by (f ∷ fs) name = if bytes_eq f.0 name then Some f.1 else held_by fs name
+
+-- the bytes of the file at a place; none where no place is chosen
+abbrev pub bytes_at : List Named → Option ℕ → List ℕ
+bytes_at files None = []
+bytes_at files (Some i) = get_or (map (λ f. f.1) files) i []
+
+-- the number of the call that comes after so many
+abbrev pub next_call : ℕ → ℕ
+next_call calls = min (calls + 1) (2 ^ 64 - 1)
+
+-- a sink has no room for any byte of a piece that is not empty
+abbrev pub IsFull : (room held piece : ℕ) → Type 0
+IsFull room held piece = (held ≡ room) × (0 < piece)

@@ -1,0 +1,17 @@
+-- A reply of the program as an answer.
+use Rattle.std.specs.Prelude.{◌≡◌}
+use Rattle.fuota_run.specs.declared.running.Reply.{Reply}
+use Rattle.fuota_run.specs.declared.source.SourceError.{SourceError}
+use Rattle.fuota_run.specs.declared.source.SourceError.TheVariants as error
+use Rattle.fuota_run.specs.declared.status.Status.TheVariants as status
+use Rattle.fuota_run.specs.Answer.{Answer, answer, read_fault, taken_text}
+
+-- its status and its text
+abbrev pub answer_in : Reply → Answer
+answer_in r = answer r.status r.text.items
+
+-- the answer for a source that was not read; for want of memory there is none
+abbrev pub IsUnread : SourceError → Answer → Type 0
+IsUnread error.Memory a = ⊥
+IsUnread error.Failed a = a ≡ read_fault
+IsUnread (error.TooLong taken) a = a ≡ answer (status.TooLong taken) (taken_text taken)

@@ -1,0 +1,122 @@
+-- How a run of the program ends, and why: what each status says of the files and of the sink.
+use Rattle.std.specs.Prelude.{◌≡◌, ◌⊎◌, ℕ, Bool, true, false, List, ⊤, Option, None, Some, IsSome, Result, Ok, Err}
+use Rattle.std.specs.Io.KnownBytes.{Keeps, Appends, IsAtEnd}
+use Rattle.fuota_run.specs.declared.status.Status.{Status}
+use Rattle.fuota_run.specs.declared.status.Status.TheVariants as status
+use Rattle.fuota_run.specs.declared.world.WorldError.{WorldError}
+use Rattle.fuota_run.specs.declared.world.WorldError.TheVariants as error
+use Rattle.fuota_run.specs.declared.world.LineFault.{LineFault}
+use Rattle.fuota_run.specs.Outside.{Held, HasRisen, AppendsFront}
+use Rattle.fuota_run.specs.World.{WorldState}
+use Rattle.fuota_run.specs.Report.{report_of}
+use Rattle.fuota_run.specs.Answer.{Answer, read_fault, usage, image_refused, refused, taken_text, is_form, word_at, script_answer, campaign_answer, answer_of}
+
+-- where it is told what is held, and the words are a form, something is held under its file words
+abbrev pub HoldsForm : Option Held → List (List ℕ) → Type 0
+HoldsForm None words = ⊤
+HoldsForm (Some held) words = is_form words ≡ true → IsSome (held (word_at words 2)) × IsSome (held (word_at words 3))
+
+-- the report, or the first refused line, of this image and script
+abbrev pub IsPlayed : Result WorldState LineFault → Result (List ℕ) WorldError → Type 0
+IsPlayed campaign (Ok text) = (world : WorldState) × (campaign ≡ Ok world) × (text ≡ report_of world)
+IsPlayed campaign (Err (error.Line fault)) = campaign ≡ Err fault
+IsPlayed campaign (Err error.Memory) = ⊤
+
+-- what a status is written as, whatever is told of the files
+abbrev pub IsTextOf : Status → List ℕ → Type 0
+IsTextOf status.Done text = (world : WorldState) × (text ≡ report_of world)
+IsTextOf status.Usage text = text ≡ usage.text
+IsTextOf status.ImageRefused text = text ≡ image_refused.text
+IsTextOf status.ScriptRefused text = (fault : LineFault) × (text ≡ (refused fault).text)
+IsTextOf status.ReadFault text = text ≡ read_fault.text
+IsTextOf status.WriteFault text = ⊥
+IsTextOf status.Memory text = ⊥
+IsTextOf (status.TooLong taken) text = text ≡ taken_text taken
+
+-- with these statuses the file chosen last was read to its end
+abbrev pub ends_source : Status → Bool
+ends_source status.Done = true
+ends_source status.ImageRefused = true
+ends_source status.ScriptRefused = true
+ends_source s = false
+
+-- where it is told what is held, this is the answer that the file under the name determines; where not, it is some answer
+abbrev pub GivesBy : Option Held → List ℕ → (Held → Option (List ℕ) → Answer) → Answer → Type 0
+GivesBy None name answer_for a = IsTextOf a.status a.text
+GivesBy (Some held) name answer_for a = a ≡ answer_for held (held name)
+
+-- the answer behind an image file
+abbrev pub GivesScript : Option Held → List ℕ → List ℕ → Answer → Type 0
+GivesScript held image script a = GivesBy held script (λ h source. script_answer image source) a
+
+abbrev pub GivesCampaign : Option Held → List ℕ → List ℕ → Answer → Type 0
+GivesCampaign held image script a = GivesBy held image (λ h source. campaign_answer source (h script)) a
+
+abbrev pub Gives : Option Held → List (List ℕ) → Answer → Type 0
+Gives None words a = IsTextOf a.status a.text
+Gives (Some held) words a = a ≡ answer_of words held
+
+-- a reply is what is to be given, or that reading failed, and the count of faults rose
+abbrev pub IsReply : Type 0 → (before now : ℕ) → Answer → Type 0
+IsReply gives before now a = gives ⊎ ((a ≡ read_fault) × HasRisen before now)
+
+-- that reading failed is said only where the count of faults rose
+abbrev pub IsCaused : (before now : ℕ) → Answer → Type 0
+IsCaused before now a = a.status ≡ status.ReadFault → HasRisen before now × (a ≡ read_fault)
+
+-- where the source was read to its end, nothing is left of it
+abbrev pub IsReadUp : Status → Option (List ℕ) → Type 0
+IsReadUp s left = ends_source s ≡ true → IsAtEnd left
+
+-- all that is said of a reply
+pub record Says (gives : Type 0) (before now : ℕ) (left : Option (List ℕ)) (a : Answer) : Type 0 where
+  pub reply : IsReply gives before now a
+  pub told : IsTextOf a.status a.text
+  pub caused : IsCaused before now a
+  pub read_up : IsReadUp a.status left
+
+-- ---- the run as a whole
+
+-- the status is the answer's, and its text was appended; where nothing is told of the files, a text of the status was
+abbrev pub AppendsAnswer : Option Held → List (List ℕ) → Status → Option (List ℕ) → Option (List ℕ) → Type 0
+AppendsAnswer None words s old new = (text : List ℕ) × IsTextOf s text × Appends old new text
+AppendsAnswer (Some held) words s old new = (s ≡ (answer_of words held).status) × Appends old new (answer_of words held).text
+
+-- a front of the answer's text was appended
+abbrev pub AppendsAnswerFront : Option Held → List (List ℕ) → Option (List ℕ) → Option (List ℕ) → Type 0
+AppendsAnswerFront None words old new = (s : Status) × (text : List ℕ) × IsTextOf s text × AppendsFront old new text
+AppendsAnswerFront (Some held) words old new = AppendsFront old new (answer_of words held).text
+
+-- the counts of faults before and after, and the sink's bytes
+pub record Effects : Type 0 where
+  pub files_before : ℕ
+  pub files_after : ℕ
+  pub out_before : ℕ
+  pub out_after : ℕ
+  pub old : Option (List ℕ)
+  pub new : Option (List ℕ)
+
+-- what each status says: a fault of reading is a rise of the files' count, and is said so; a fault of writing is a rise of
+-- the sink's, and left a front of the text; want of memory wrote nothing; each other status is the answer's, with its text
+abbrev pub Ends : Option Held → List (List ℕ) → Effects → Status → Type 0
+Ends held words e status.ReadFault = HasRisen e.files_before e.files_after × Appends e.old e.new read_fault.text
+Ends held words e status.WriteFault =
+    HasRisen e.out_before e.out_after
+    × (AppendsAnswerFront held words e.old e.new ⊎ (HasRisen e.files_before e.files_after × AppendsFront e.old e.new read_fault.text))
+Ends held words e status.Memory = Keeps e.old e.new
+Ends held words e status.Done = AppendsAnswer held words status.Done e.old e.new
+Ends held words e status.Usage = AppendsAnswer held words status.Usage e.old e.new
+Ends held words e status.ImageRefused = AppendsAnswer held words status.ImageRefused e.old e.new
+Ends held words e status.ScriptRefused = AppendsAnswer held words status.ScriptRefused e.old e.new
+Ends held words e (status.TooLong taken) = AppendsAnswer held words (status.TooLong taken) e.old e.new
+
+-- the sink's last call was a finish that was Ok, but where writing failed or memory was wanting
+abbrev pub IsFinished : Status → Bool → Type 0
+IsFinished status.WriteFault finished = ⊤
+IsFinished status.Memory finished = ⊤
+IsFinished status.Done finished = finished ≡ true
+IsFinished status.Usage finished = finished ≡ true
+IsFinished status.ImageRefused finished = finished ≡ true
+IsFinished status.ScriptRefused finished = finished ≡ true
+IsFinished status.ReadFault finished = finished ≡ true
+IsFinished (status.TooLong taken) finished = finished ≡ true

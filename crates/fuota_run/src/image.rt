@@ -1,0 +1,102 @@
+// Image files: 49 bytes of versions, length and digest, and a body. (This project's profile.)
+ghost use Rattle.std.specs.Prelude.{◌≡◌, ◌+◌, ◌≤◌, length, ◌<◌, IsTrue, drop, take};
+ghost use Rattle.std.specs.Str.{bytes_eq};
+ghost use Rattle.sha2.specs.Sha256.{sha256};
+ghost use Rattle.wire_base.specs.Numbers.{number_at};
+ghost use Rattle.fuota_run.specs.Image.{image_start, is_image, image_state, hardware_of, firmware_of};
+
+use sha2::{Digest, Sha256};
+use wire_base::u32_at;
+
+/// The bytes of an image file before its body.
+const HEAD: usize = 49;
+
+/// The most bytes of an image file.
+pub const MAX_IMAGE: usize = 65_536;
+
+/// What the bytes in a device's next slot are to it.
+#[derive(Clone, Copy, Debug, PartialEq, Eq)]
+pub enum ImageState {
+    /// Nothing was offered.
+    None,
+    /// No image file.
+    Corrupt,
+    /// An image file for another hardware version.
+    Incompatible,
+    /// An image file for this device, with its firmware version.
+    Valid(u32),
+}
+
+fn body_of(file: &[u8]) -> &[u8]
+    requires { 49 ≤ length file.now }
+    ensures { result.now ≡ drop 49 file.now }
+{
+    file.split_at(HEAD).1
+}
+
+fn digest_of(body: &[u8]) -> [u8; 32]
+    ensures { result ≡ sha256 body.now }
+{
+    Sha256::digest(body)
+}
+
+#[tactic(auto, unfolding(crate::specs::Image::image_start))]
+fn has_start(file: &[u8]) -> bool
+    requires { 49 ≤ length file.now }
+    ensures { result ≡ bytes_eq (take 5 file.now) image_start }
+{
+    file[..5] == b"FUIM\x01"[..]
+}
+
+fn has_digest(file: &[u8]) -> bool
+    requires { 49 ≤ length file.now }
+    ensures { result ≡ bytes_eq (take 32 (drop 17 file.now)) (sha256 (drop 49 file.now)) }
+{
+    let digest = digest_of(body_of(file));
+    &file[17..HEAD] == digest.as_slice()
+}
+
+/// Whether the bytes are an image file.
+#[tactic(auto, unfolding(crate::specs::Image::is_image, crate::specs::Image::firmware_of))]
+pub fn is_image(file: &[u8]) -> bool
+    ensures { result ≡ is_image file.now }
+{
+    file.len() >= HEAD
+        && file.len() <= MAX_IMAGE
+        && has_start(file)
+        && u32_at(file, 9) != 0
+        && u32_at(file, 13) as usize == file.len() - HEAD
+        && has_digest(file)
+}
+
+/// The hardware version of an image file.
+#[tactic(auto, unfolding(crate::specs::Image::hardware_of))]
+pub fn hardware(file: &[u8]) -> u32
+    requires { 49 ≤ length file.now }
+    ensures { result ≡ hardware_of file.now }
+{
+    u32_at(file, 5)
+}
+
+/// The firmware version of an image file.
+#[tactic(auto, unfolding(crate::specs::Image::firmware_of))]
+pub fn firmware(file: &[u8]) -> u32
+    requires { 49 ≤ length file.now }
+    ensures { result ≡ firmware_of file.now }
+{
+    u32_at(file, 9)
+}
+
+/// What a file is to a device of this hardware version. It is never `ImageState::None`.
+#[tactic(auto, unfolding(crate::specs::Image::image_state, crate::specs::Image::is_image))]
+pub fn image_state(file: &[u8], hw: u32) -> ImageState
+    ensures { result ≡ image_state file.now hw }
+{
+    if !is_image(file) {
+        return ImageState::Corrupt;
+    }
+    if hardware(file) != hw {
+        return ImageState::Incompatible;
+    }
+    ImageState::Valid(firmware(file))
+}

@@ -1,0 +1,266 @@
+// Files and a sink in memory, with a list of the calls that fail.
+ghost use Rattle.std.specs.Prelude.{◌≡◌, ◌≢◌, ℕ, ◌+◌, ◌-◌, ◌^◌, ◌≤◌, ◌<◌, ◌↔◌, ◌⊎◌, min, Bool, true, false, List, [], ◌++◌, length, take, drop, map, Option, Some, None, is_some, is_ok, IsTrue, IsErr, IfOk, OnOk, OnErr, IfSome, IfNone, Contains, slice_get, string_bytes, vec_len, vec_capacity};
+ghost use Rattle.std.specs.Bool.{OnTrue, OnFalse};
+ghost use Rattle.std.specs.Io.KnownBytes.{Keeps, ReadConsumes, WriteAppends};
+ghost use Rattle.fuota_run.specs.Outside.{HoldsName, IsWhole, HasCause, HasRisen, AtMost, TakesSome};
+ghost use Rattle.fuota_run.specs.Memory.{held_by, bytes_at, next_call, IsFull};
+
+use crate::files::{Failed, Files};
+use crate::sink::Sink;
+use std::alloc::{AllocError, Global};
+use std::io::Read;
+
+/// Calls counted from 1, and the numbers of those that fail.
+#[derive(Debug, Drop)]
+struct Schedule {
+    fails: Vec<u64>,
+    calls: u64,
+    faults: u64,
+}
+
+impl Schedule {
+    fn new(fails: Vec<u64>) -> Self
+        ensures fails { result.fails.items ≡ fails.items }
+        ensures start { (result.calls ≡ 0) × (result.faults ≡ 0) }
+    {
+        Schedule {
+            fails,
+            calls: 0,
+            faults: 0,
+        }
+    }
+
+    /// Counts a call, and says whether it fails: exactly where its number is listed.
+    fn fails_now(&mut self) -> bool
+        ensures listed { IsTrue result ↔ Contains self.old.fails.items (next_call self.old.calls) }
+        ensures counted { self.new.calls ≡ next_call self.old.calls }
+        ensures schedule { self.new.fails.items ≡ self.old.fails.items }
+        ensures risen { OnTrue result (HasRisen self.old.faults self.new.faults) }
+        ensures same { OnFalse result (self.new.faults ≡ self.old.faults) }
+        ensures kept { self.old.faults ≤ self.new.faults }
+    {
+        self.calls = self.calls.saturating_add(1);
+        let fails = self.fails.contains(&self.calls);
+        if fails {
+            self.raise();
+        }
+        fails
+    }
+
+    /// Counts a fault.
+    fn raise(&mut self)
+        ensures risen { HasRisen self.old.faults self.new.faults }
+        ensures kept { self.old.faults ≤ self.new.faults }
+        ensures calls { self.new.calls ≡ self.old.calls }
+        ensures schedule { self.new.fails.items ≡ self.old.fails.items }
+    {
+        self.faults = self.faults.saturating_add(1);
+    }
+}
+
+/// Files held in memory. A call fails exactly where its number is listed.
+#[derive(Drop)]
+pub struct MemFiles {
+    files: Vec<(String, Vec<u8>)>,
+    place: Option<usize>,
+    from: usize,
+    schedule: Schedule,
+}
+
+/// The place of the first file of that name.
+fn place_of(files: &[(String, Vec<u8>)], name: &str) -> Option<usize>
+    ensures found { IfSome result (λ i. held_by (map (λ f. (string_bytes f.0, f.1.items)) files.now) name.now
+        ≡ Some (bytes_at (map (λ f. (string_bytes f.0, f.1.items)) files.now) (Some i))) }
+    ensures none { IfNone result (held_by (map (λ f. (string_bytes f.0, f.1.items)) files.now) name.now ≡ None) }
+{
+    for (i, file) in files.iter().enumerate() {
+        if file.0.as_str() == name {
+            return Some(i);
+        }
+    }
+    None
+}
+
+/// Reads on behind the first bytes, and says how many were read.
+fn read_from(bytes: &[u8], from: usize, buf: &mut [u8]) -> usize
+    ensures within { result ≤ length buf.new }
+    ensures taken { drop from bytes.now ≡ take result buf.new ++ drop (from + result) bytes.now }
+    ensures end { result ≡ 0 → 0 < length buf.new → drop (from + result) bytes.now ≡ [] }
+    ensures fits { from + result < 2 ^ 64 }
+{
+    if from >= bytes.len() {
+        return 0;
+    }
+    let mut left = &bytes[from..];
+    left.read(buf).unwrap()
+}
+
+/// The bytes of the file at a place.
+fn bytes_in(files: &[(String, Vec<u8>)], place: Option<usize>) -> &[u8]
+    ensures { result.now ≡ bytes_at (map (λ f. (string_bytes f.0, f.1.items)) files.now) place }
+{
+    match place {
+        Some(i) if i < files.len() => files[i].1.as_slice(),
+        _ => &[],
+    }
+}
+
+impl MemFiles {
+    /// Files by name, and the numbers of the calls that fail, counted from 1. No two names are equal;
+    /// of equal ones the first is the file.
+    pub fn new(files: Vec<(String, Vec<u8>)>, fails: Vec<u64>) -> Self
+        ensures files { result.files.items ≡ files.items }
+        ensures unchosen { result.place ≡ None }
+        ensures fails { result.schedule.fails.items ≡ fails.items }
+        ensures start { (result.schedule.calls ≡ 0) × (result.schedule.faults ≡ 0) }
+    {
+        MemFiles {
+            files,
+            place: None,
+            from: 0,
+            schedule: Schedule::new(fails),
+        }
+    }
+
+    /// Whether there is a file of that name.
+    pub fn holds(&self, name: &str) -> bool
+        ensures { result ≡ is_some (held_by (map (λ f. (string_bytes f.0, f.1.items)) self.now.files.items) name.now) }
+    {
+        place_of(&self.files, name).is_some()
+    }
+}
+
+impl Files for MemFiles {
+    ghost held = { λ m. Some (held_by (map (λ f. (string_bytes f.0, f.1.items)) m.files.items)) };
+
+    ghost left = { λ m. Some (drop m.from (bytes_at (map (λ f. (string_bytes f.0, f.1.items)) m.files.items) m.place)) };
+
+    ghost chosen = { λ m. is_some m.place };
+
+    ghost faults = { λ m. m.schedule.faults };
+
+    fn choose(&mut self, name: &str) -> Result<(), Failed>
+        requires { HoldsName (Some (held_by (map (λ f. (string_bytes f.0, f.1.items)) self.old.files.items))) name.now }
+        ensures whole { OnOk result (IsWhole (Some (held_by (map (λ f. (string_bytes f.0, f.1.items)) self.old.files.items))) name.now (Some (drop self.new.from (bytes_at (map (λ f. (string_bytes f.0, f.1.items)) self.new.files.items) self.new.place)))) }
+        ensures chosen { is_some self.new.place ≡ is_ok result }
+        ensures held { self.new.files.items ≡ self.old.files.items }
+        ensures cause { HasCause self.old.schedule.faults self.new.schedule.faults result }
+        ensures listed { IsErr result ↔ Contains self.old.schedule.fails.items (next_call self.old.schedule.calls) }
+        ensures counted { self.new.schedule.calls ≡ next_call self.old.schedule.calls }
+        ensures schedule { self.new.schedule.fails.items ≡ self.old.schedule.fails.items }
+    {
+        self.place = None;
+        if self.schedule.fails_now() {
+            return Err(Failed);
+        }
+        self.place = place_of(&self.files, name);
+        self.from = 0;
+        Ok(())
+    }
+
+    fn read(&mut self, buf: &mut [u8]) -> Result<usize, Failed>
+        requires { is_some self.old.place ≡ true }
+        ensures within { AtMost result (length buf.new) }
+        ensures bytes { ReadConsumes (Some (drop self.old.from (bytes_at (map (λ f. (string_bytes f.0, f.1.items)) self.old.files.items) self.old.place))) (Some (drop self.new.from (bytes_at (map (λ f. (string_bytes f.0, f.1.items)) self.new.files.items) self.new.place))) result buf.new }
+        ensures chosen { is_some self.new.place ≡ true }
+        ensures held { self.new.files.items ≡ self.old.files.items }
+        ensures cause { HasCause self.old.schedule.faults self.new.schedule.faults result }
+        ensures listed { IsErr result ↔ Contains self.old.schedule.fails.items (next_call self.old.schedule.calls) }
+        ensures counted { self.new.schedule.calls ≡ next_call self.old.schedule.calls }
+        ensures schedule { self.new.schedule.fails.items ≡ self.old.schedule.fails.items }
+    {
+        if self.schedule.fails_now() {
+            return Err(Failed);
+        }
+        let taken = read_from(bytes_in(&self.files, self.place), self.from, buf);
+        self.from += taken;
+        Ok(taken)
+    }
+}
+
+/// A sink in memory, with room for so many bytes. A call fails exactly where its number is listed,
+/// and a `write` of a piece that is not empty also where no room is left.
+#[derive(Drop)]
+pub struct MemSink {
+    bytes: Vec<u8>,
+    room: usize,
+    finished: bool,
+    schedule: Schedule,
+    ghost reserved: { room ≤ vec_capacity bytes },
+    ghost within: { vec_len bytes ≤ room },
+}
+
+impl MemSink {
+    /// A sink with room for so many bytes, and the numbers of the calls that fail, counted from 1.
+    pub fn reserve(alloc: Global, room: u32, fails: Vec<u64>) -> Result<Self, AllocError>
+        ensures empty { IfOk result (λ s. s.bytes.items ≡ []) }
+        ensures room { IfOk result (λ s. s.room ≡ room) }
+        ensures fails { IfOk result (λ s. s.schedule.fails.items ≡ fails.items) }
+        ensures start { IfOk result (λ s. (s.schedule.calls ≡ 0) × (s.schedule.faults ≡ 0)) }
+    {
+        let bytes = Vec::with_capacity(alloc, room as usize)?;
+        Ok(MemSink {
+            bytes,
+            room: room as usize,
+            finished: false,
+            schedule: Schedule::new(fails),
+        })
+    }
+
+    /// All bytes that were written.
+    pub fn bytes(&self) -> &[u8]
+        ensures { result.now ≡ self.now.bytes.items }
+    {
+        self.bytes.as_slice()
+    }
+}
+
+impl Sink for MemSink {
+    ghost written = { λ m. Some m.bytes.items };
+
+    ghost finished = { λ m. m.finished };
+
+    ghost faults = { λ m. m.schedule.faults };
+
+    fn write(&mut self, piece: &[u8]) -> Result<usize, Failed>
+        ensures takes { TakesSome result (length piece.now) }
+        ensures bytes { WriteAppends (Some self.old.bytes.items) (Some self.new.bytes.items) result piece.now }
+        ensures unfinished { self.new.finished ≡ false }
+        ensures cause { HasCause self.old.schedule.faults self.new.schedule.faults result }
+        ensures listed { IsErr result ↔ Contains self.old.schedule.fails.items (next_call self.old.schedule.calls) ⊎ IsFull self.old.room (vec_len self.old.bytes) (length piece.now) }
+        ensures taken { IfOk result (λ n. n ≡ min (self.old.room - vec_len self.old.bytes) (length piece.now)) }
+        ensures counted { self.new.schedule.calls ≡ next_call self.old.schedule.calls }
+        ensures schedule { (self.new.schedule.fails.items ≡ self.old.schedule.fails.items) × (self.new.room ≡ self.old.room) }
+    {
+        self.finished = false;
+        if self.schedule.fails_now() {
+            return Err(Failed);
+        }
+        let free = self.room - self.bytes.len();
+        let taken = free.min(piece.len());
+        if taken == 0 && !piece.is_empty() {
+            self.schedule.raise();
+            return Err(Failed);
+        }
+        if self.bytes.extend_from_slice(&piece[..taken]).is_err() {
+            unreachable!();
+        }
+        Ok(taken)
+    }
+
+    fn finish(&mut self) -> Result<(), Failed>
+        ensures bytes { Keeps (Some self.old.bytes.items) (Some self.new.bytes.items) }
+        ensures finished { self.new.finished ≡ is_ok result }
+        ensures cause { HasCause self.old.schedule.faults self.new.schedule.faults result }
+        ensures listed { IsErr result ↔ Contains self.old.schedule.fails.items (next_call self.old.schedule.calls) }
+        ensures counted { self.new.schedule.calls ≡ next_call self.old.schedule.calls }
+        ensures schedule { (self.new.schedule.fails.items ≡ self.old.schedule.fails.items) × (self.new.room ≡ self.old.room) }
+    {
+        self.finished = false;
+        if self.schedule.fails_now() {
+            return Err(Failed);
+        }
+        self.finished = true;
+        Ok(())
+    }
+}

@@ -1,0 +1,182 @@
+//! Whole runs over files and a sink in memory, and the first steps over those of the system.
+
+use super::*;
+use crate::memory::{MemFiles, MemSink};
+use crate::system::{StdFiles, StdSink};
+use std::process::Abort;
+use std::test::Fail;
+
+/// An image file for hardware 1 with firmware 2, its body and digest those of the text abc.
+const IMAGE: [u8; 52] = [
+    0x46, 0x55, 0x49, 0x4d, 0x01, 0x01, 0x00, 0x00, 0x00, 0x02, 0x00, 0x00, 0x00, 0x03, 0x00, 0x00,
+    0x00, 0xba, 0x78, 0x16, 0xbf, 0x8f, 0x01, 0xcf, 0xea, 0x41, 0x41, 0x40, 0xde, 0x5d, 0xae, 0x22,
+    0x23, 0xb0, 0x03, 0x61, 0xa3, 0x96, 0x17, 0x7a, 0x9c, 0xb4, 0x10, 0xff, 0x61, 0xf2, 0x00, 0x15,
+    0xad, 0x61, 0x62, 0x63,
+];
+
+const START: &str = "fuota 1\nimage 13 0\ndevice 1 c 1 0 0 00000000000000000000000000000000\n";
+
+const EVENTS: &str =
+    "ask 1\ndown 1 1\nup 1\nask 1\ndown 2 1\nup 2\nfrag\nfrag\nfrag\nfrag\ndown 6 1\ndown 3 1\ndown 3 1\ndown 5 1\ndown 4 1\nend\n";
+
+const REPORT: &str =
+    "fuota report 1\nimage 52 fragments 4 size 13 padding 0 parity 0\ndevice 1 status clock 0 token 0 running 0 next valid 2\ncounts deaf 0 refused 0 full 0 dropped 0\nsession 0 received 5 missing 0 complete at 18 same\nend\n";
+
+const WORDS: [&str; 4] = ["fuota", "campaign", "image", "script"];
+
+/// What stands outside a run: its files, the number of the call that fails on each side (0 for none),
+/// and the room of its sink.
+#[derive(Clone, Copy)]
+struct Outside<'a> {
+    image: &'a [u8],
+    events: &'static str,
+    read_fails: u64,
+    write_fails: u64,
+    room: u32,
+}
+
+const SOUND: Outside<'static> = Outside {
+    image: &IMAGE,
+    events: EVENTS,
+    read_fails: 0,
+    write_fails: 0,
+    room: 4096,
+};
+
+fn files(alloc: Global, outside: &Outside) -> Result<MemFiles, Fail> {
+    let script = format!(in alloc; "{START}{}", outside.events)?.into_bytes();
+    let mut files = Vec::new(alloc);
+    files.push((format!(in alloc; "image")?, outside.image.to_vec(alloc)?))?;
+    files.push((format!(in alloc; "script")?, script))?;
+    Ok(MemFiles::new(files, [outside.read_fails].to_vec(alloc)?))
+}
+
+/// Runs the words, where the files that they name are held.
+fn run_held(
+    alloc: Global,
+    words: &[String],
+    files: &mut MemFiles,
+    sink: &mut MemSink,
+) -> Option<Status> {
+    if is_campaign(words) && !(files.holds(word_at(words, 2)) && files.holds(word_at(words, 3))) {
+        return None;
+    }
+    Some(run(alloc, words, files, sink))
+}
+
+fn ends(
+    rt: &impl Abort,
+    alloc: Global,
+    words: &[&str],
+    outside: &Outside,
+    status: Status,
+    text: &str,
+) -> Result<(), Fail> {
+    let mut owned = Vec::new(alloc);
+    for word in words {
+        owned.push(format!(in alloc; "{word}")?)?;
+    }
+    let mut files = files(alloc, outside)?;
+    let fails = [outside.write_fails].to_vec(alloc)?;
+    let mut sink = MemSink::reserve(alloc, outside.room, fails)?;
+    assert_eq!(rt;
+        run_held(alloc, &owned, &mut files, &mut sink),
+        Some(status)
+    );
+    assert_eq!(rt; sink.bytes(), text.as_bytes());
+    Ok(())
+}
+
+#[test]
+fn a_run_ends_with_its_status_and_text(rt: HostRuntime) -> Result<(), Fail> {
+    let mut changed = IMAGE;
+    changed[51] = b'd';
+    let image = Outside {
+        image: &changed,
+        ..SOUND
+    };
+    let unended = Outside {
+        events: "",
+        ..SOUND
+    };
+    let cut = Outside { room: 20, ..SOUND };
+    ends(&rt, rt.alloc(), &WORDS, &SOUND, Status::Done, REPORT)?;
+    ends(
+        &rt,
+        rt.alloc(),
+        &WORDS,
+        &unended,
+        Status::ScriptRefused,
+        "line 4 syntax\n",
+    )?;
+    ends(
+        &rt,
+        rt.alloc(),
+        &WORDS,
+        &image,
+        Status::ImageRefused,
+        "image refused\n",
+    )?;
+    ends(&rt, rt.alloc(), &WORDS[..1], &SOUND, Status::Usage, USAGE)?;
+    ends(
+        &rt,
+        rt.alloc(),
+        &WORDS,
+        &cut,
+        Status::WriteFault,
+        &REPORT[..20],
+    )
+}
+
+#[test]
+fn each_call_outside_may_fail(rt: HostRuntime) -> Result<(), Fail> {
+    for call in 1..=6 {
+        let outside = Outside {
+            read_fails: call,
+            ..SOUND
+        };
+        ends(
+            &rt,
+            rt.alloc(),
+            &WORDS,
+            &outside,
+            Status::ReadFault,
+            "read fault\n",
+        )?;
+    }
+    for (call, text) in [(1, ""), (2, REPORT)] {
+        let outside = Outside {
+            write_fails: call,
+            ..SOUND
+        };
+        ends(&rt, rt.alloc(), &WORDS, &outside, Status::WriteFault, text)?;
+    }
+    Ok(())
+}
+
+#[test]
+fn an_image_of_65_537_bytes_is_too_long(rt: HostRuntime) -> Result<(), Fail> {
+    let mut image = Vec::new(rt.alloc());
+    image.resize(65_537, 0)?;
+    let outside = Outside {
+        image: &image,
+        ..SOUND
+    };
+    ends(
+        &rt,
+        rt.alloc(),
+        &WORDS,
+        &outside,
+        Status::TooLong(65_537),
+        "too long 65537\n",
+    )
+}
+
+#[test]
+fn the_system_has_no_such_file(rt: HostRuntime) {
+    let mut files = StdFiles::new(&rt);
+    assert!(rt; files.choose("no such file").is_err());
+    let mut sink = StdSink::new(&rt);
+    assert!(rt; sink.write(&[]) == Ok(0));
+    assert!(rt; sink.finish().is_ok());
+}

@@ -1,0 +1,297 @@
+// The server of a campaign: what it asks and sends, and what an uplink moves.
+ghost use Rattle.std.specs.Prelude.{ℕ, List, OnOk, OnErr, IsOk, ◌≡◌, ◌+◌, ◌-◌, ◌*◌, ◌/◌, ◌<◌, ◌≤◌, Some, None, true, IsTrue, IfOk, IfSome, IfNone, length, min, take, drop, replicate, ◌++◌};
+ghost use Rattle.wire_base.specs.declared.refusal.Direction.{Direction};
+ghost use Rattle.fuota_run.specs.declared.grammar.Command.{Command};
+ghost use Rattle.fuota_run.specs.Commands.{IsDownlink, IsMessage, SpellsAll};
+ghost use Rattle.fuota_run.specs.Image.{is_image, hardware_of, firmware_of};
+ghost use Rattle.fuota_run.specs.Server.{ServerState, fragments_of, padding_of, fragment_of, first_server, setup_of, asked, next_fragment, after_fragment, is_spent, answered, answered_all, after_version, after_setup_answer, worth};
+
+use crate::grammar::{Command, check, read_one};
+use crate::image::{firmware, hardware};
+use cast_wire::{Cmd, FragmentBytes, MAX_FRAGMENT};
+use std::alloc::{AllocError, Global};
+use std::io::Read;
+use std::marker::Model;
+use wire_base::{Direction, Refusal};
+
+/// The most fragments of a file (this project's profile).
+pub const MAX_FRAGMENTS: usize = 1024;
+
+/// What the server asks of a device: a row of its table.
+#[derive(Clone, Copy, Debug, PartialEq, Eq)]
+pub enum Request {
+    /// DevVersionReq
+    Version,
+    /// FragSessionSetupReq
+    Fragments,
+    /// FragSessionStatusReq, which is not sent yet.
+    Status,
+}
+
+/// Where a device stands with its server.
+#[derive(Clone, Copy, Debug, PartialEq, Eq)]
+pub enum Stage {
+    /// The answer to this request is what moves it on.
+    At(Request),
+    /// An answer refused the campaign, with these bits.
+    Refused { request: Request, bits: u8 },
+}
+
+/// The server: the image that it sends, how it cuts it, and where its device stands.
+#[derive(Drop)]
+pub struct Server {
+    image: Vec<u8>,
+    frag_size: u8,
+    stage: Stage,
+    next: u16,
+}
+
+impl Model for Server {
+    ghost use Rattle.std.specs.Prelude.{◌≡◌, ◌≤◌, ◌<◌, length, true};
+    ghost use Rattle.fuota_run.specs.Server.{ServerState, IsServer};
+
+    ghost Value = { ServerState };
+
+    ghost view = { λ s. record { image = s.image.items; frag_size = s.frag_size; stage = s.stage; next = s.next } };
+
+    ghost invariant = { λ s. IsServer s.image.items s.frag_size s.next };
+}
+
+/// The number of fragments of so many bytes that a file is cut into.
+pub fn fragments(len: usize, frag_size: u8) -> usize
+    requires some { 0 < frag_size }
+    requires fits { len ≤ 65536 }
+    ensures { result ≡ fragments_of len frag_size }
+{
+    len.div_ceil(usize::from(frag_size))
+}
+
+#[tactic(auto, using(crate::proofs::ImageLemmas::image_bounds))]
+impl Server {
+    /// The server at the start of a campaign.
+    pub fn new(alloc: Global, frag_size: u8, image: &[u8]) -> Result<Self, AllocError>
+        requires image { is_image image.now ≡ true }
+        requires some { 0 < frag_size }
+        requires fits { frag_size ≤ 239 }
+        requires number { fragments_of (length image.now) frag_size ≤ 1024 }
+        ensures { IfOk result (λ s. s ≡ first_server image.now frag_size) }
+    {
+        Ok(Server {
+            image: image.to_vec(alloc)?,
+            frag_size,
+            stage: Stage::At(Request::Version),
+            next: 1,
+        })
+    }
+
+    /// The image that is sent.
+    pub fn image(&self) -> &[u8]
+        ensures { result.now ≡ self.now.image }
+    {
+        self.image.as_slice()
+    }
+
+    /// Bytes a fragment.
+    pub fn frag_size(&self) -> u8
+        ensures { result ≡ self.now.frag_size }
+    {
+        self.frag_size
+    }
+
+    /// The number of fragments, 1 to 1,024.
+    pub fn nb_frag(&self) -> u16
+        ensures { result ≡ fragments_of (length self.now.image) self.now.frag_size }
+    {
+        fragments(self.image.len(), self.frag_size) as u16
+    }
+
+    /// The zero bytes that fill the last fragment up.
+    pub fn padding(&self) -> u8
+        ensures { result ≡ padding_of (length self.now.image) self.now.frag_size }
+    {
+        let sent = usize::from(self.nb_frag()) * usize::from(self.frag_size);
+        (sent - self.image.len()) as u8
+    }
+
+    /// Where the device stands.
+    pub fn stage(&self) -> Stage
+        ensures { result ≡ self.now.stage }
+    {
+        self.stage
+    }
+
+    /// The request of the stage; None where there is none to send.
+    #[tactic(auto, using(crate::proofs::ImageLemmas::image_bounds), unfolding(crate::specs::Server::asked))]
+    pub fn ask(&self) -> Option<Command>
+        ensures asked { result ≡ asked self.now.image self.now.frag_size self.now.stage }
+        ensures sendable { IfSome result IsDownlink }
+    {
+        match self.stage {
+            Stage::At(Request::Version) => Some(Command::DevVersionReq),
+            Stage::At(Request::Fragments) => Some(Command::Cast(Cmd::FragSessionSetupReq {
+                index: 0,
+                mask: 0,
+                nb_frag: self.nb_frag(),
+                frag_size: self.frag_size,
+                algo: 0,
+                delay: 0,
+                padding: self.padding(),
+                descriptor: firmware(&self.image),
+            })),
+            _ => None,
+        }
+    }
+
+    /// Whether all fragments were sent.
+    pub fn is_spent(&self) -> bool
+        ensures { result ≡ is_spent self.now }
+    {
+        self.next > self.nb_frag()
+    }
+
+    /// Takes the commands of an uplink in order, or none where reading stops.
+    pub fn uplink(&mut self, port: u8, payload: &[u8]) -> Result<(), Refusal>
+        ensures taken { (cs : List Command) → IsMessage cs port Direction.Up payload.now → self.new ≡ record self.old { stage = answered_all self.old.image self.old.stage cs } }
+        ensures message { OnOk result ((cs : List Command) × IsMessage cs port Direction.Up payload.now) }
+        ensures only { (cs : List Command) → IsMessage cs port Direction.Up payload.now → IsOk result }
+        ensures refused { OnErr result (self.new ≡ self.old) }
+    {
+        match check(port, Direction::Up, payload) {
+            Ok(_) => {
+                self.answer_from(port, payload, 0);
+                Ok(())
+            }
+            Err(refusal) => Err(refusal),
+        }
+    }
+
+    /// Takes the commands from a place on.
+    fn answer_from(&mut self, port: u8, payload: &[u8], at: u16)
+        requires within { at ≤ length payload.now }
+        requires fits { length payload.now ≤ 242 }
+        ensures { (cs : List Command) → SpellsAll cs port Direction.Up payload.now at → self.new ≡ record self.old { stage = answered_all self.old.image self.old.stage cs } }
+    {
+        if at as usize == payload.len() {
+            return;
+        }
+        if let Ok((command, next)) = read_one(port, Direction::Up, payload, at) {
+            self.answer(&command);
+            self.answer_from(port, payload, next);
+        }
+    }
+
+    /// The next fragment for session 0; None exactly where all were sent.
+    #[tactic(auto, using(crate::proofs::ImageLemmas::image_bounds), unfolding(crate::specs::Server::next_fragment))]
+    pub fn next_fragment(&mut self) -> Option<Command>
+        ensures sent { result ≡ next_fragment self.old }
+        ensures moved { self.new ≡ after_fragment self.old }
+        ensures sendable { IfSome result IsDownlink }
+    {
+        if self.next > self.nb_frag() {
+            return None;
+        }
+        let n = self.next;
+        let bytes = fragment(&self.image, self.frag_size, n);
+        self.next += 1;
+        Some(Command::Cast(Cmd::DataFragment { index: 0, n, bytes }))
+    }
+
+    /// Takes a command of an uplink.
+    #[tactic(auto, using(crate::proofs::ImageLemmas::image_bounds), unfolding(crate::specs::Server::answered))]
+    pub fn answer(&mut self, command: &Command)
+        ensures { self.new ≡ record self.old { stage = answered self.old.image self.old.stage command.now } }
+    {
+        self.stage = next_stage(&self.image, self.stage, command);
+    }
+}
+
+/// The stage behind a command of an uplink.
+#[tactic(auto, unfolding(crate::specs::Server::answered))]
+fn next_stage(image: &[u8], stage: Stage, command: &Command) -> Stage
+    requires { 49 ≤ length image.now }
+    ensures { result ≡ answered image.now stage command.now }
+{
+    match (stage, command) {
+        (
+            Stage::At(Request::Version),
+            Command::DevVersionAns {
+                hardware: found,
+                ..
+            },
+        ) => { after_version(hardware(image), *found) }
+        (Stage::At(Request::Fragments), Command::Cast(cmd)) => after_setup_answer(image, cmd),
+        _ => stage,
+    }
+}
+
+fn after_version(wanted: u32, found: u32) -> Stage
+    ensures { result ≡ after_version wanted found }
+{
+    if found == wanted {
+        return Stage::At(Request::Fragments);
+    }
+    Stage::Refused {
+        request: Request::Version,
+        bits: 1,
+    }
+}
+
+/// A bit of a status, by its worth.
+fn worth(set: bool, value: u8) -> u8
+    ensures { result ≡ worth set value }
+{
+    if set { value } else { 0 }
+}
+
+/// The stage behind a command that came at stage fragments.
+#[tactic(auto, unfolding(crate::specs::Server::answered))]
+fn after_setup_answer(image: &[u8], cmd: &Cmd) -> Stage
+    ensures { result ≡ answered image.now (Stage.At Request.Fragments) (Command.Cast cmd.now) }
+{
+    let Cmd::FragSessionSetupAns {
+        index: 0,
+        wrong_descriptor,
+        index_unsupported,
+        no_memory,
+        encoding_unsupported,
+    } = *cmd
+    else {
+        return Stage::At(Request::Fragments);
+    };
+    let bits = worth(wrong_descriptor, 8)
+        + worth(index_unsupported, 4)
+        + worth(no_memory, 2)
+        + worth(encoding_unsupported, 1);
+    if bits == 0 {
+        return Stage::At(Request::Status);
+    }
+    Stage::Refused {
+        request: Request::Fragments,
+        bits,
+    }
+}
+
+/// Uncoded fragment n, from 1 on, of a file.
+fn fragment(file: &[u8], frag_size: u8, n: u16) -> FragmentBytes
+    requires first { 1 ≤ n }
+    requires some { 0 < frag_size }
+    requires fits { frag_size ≤ 239 }
+    requires last { n ≤ fragments_of (length file.now) frag_size }
+    requires short { length file.now ≤ 65536 }
+    ensures { result ≡ fragment_of file.now frag_size n }
+{
+    let size = usize::from(frag_size);
+    let start = (usize::from(n) - 1) * size;
+    let bytes = buffered(file.split_at(start).1);
+    FragmentBytes::from_slice(bytes.split_at(size).0)
+}
+
+/// The front of some bytes, and zeros behind where they end.
+fn buffered(bytes: &[u8]) -> [u8; MAX_FRAGMENT]
+    ensures { let n = min (length bytes.now) 239 in result ≡ take n bytes.now ++ drop n (replicate 239 0) }
+{
+    let mut buffer = [0; MAX_FRAGMENT];
+    let mut rest = bytes;
+    let _taken = rest.read(&mut buffer);
+    buffer
+}

@@ -1,0 +1,91 @@
+// Reading a whole source, up to a limit.
+ghost use Rattle.std.specs.Prelude.{◌≡◌, ◌≢◌, ℕ, ◌+◌, ◌<◌, ◌≤◌, ◌^◌, true, List, length, vec_len, Err, IfOk, OnOk, IsErrOf};
+ghost use Rattle.std.specs.Io.KnownBytes.{IsAtEnd};
+ghost use Rattle.fuota_run.specs.Outside.{HoldsName, HasRisen, IsReadSoFar};
+ghost use Rattle.fuota_run.specs.Source.{IsSource, IsTooLong};
+
+use crate::files::Files;
+use std::alloc::{AllocError, Global};
+
+/// How many bytes are asked for at a time.
+const PIECE: usize = 4096;
+
+/// Why a source was not read.
+#[derive(Clone, Copy, Debug, PartialEq, Eq)]
+pub enum SourceError {
+    /// There was not enough memory.
+    Memory,
+    /// A call of the files failed.
+    Failed,
+    /// It is longer than the limit: so many bytes, one more than the limit, were taken.
+    TooLong(u32),
+}
+
+/// All bytes of a file, read to its end, or to one byte more than the limit.
+pub fn read_source<F: Files>(
+    alloc: Global,
+    files: &mut F,
+    name: &str,
+    limit: u32,
+) -> Result<Vec<u8>, SourceError>
+    requires held { HoldsName (F.held files.old) name.now }
+    requires limit { limit + 1 < 2 ^ 32 }
+
+    ensures source { IfOk result (λ bytes. IsSource (F.held files.old) name.now limit bytes.items) }
+    ensures within { IfOk result (λ bytes. length bytes.items ≤ limit) }
+    ensures end { OnOk result (IsAtEnd (F.left files.new)) }
+
+    ensures long { (taken : ℕ) → IsErrOf result (SourceError.TooLong taken) → IsTooLong (F.held files.old) name.now limit }
+    ensures taken { (taken : ℕ) → IsErrOf result (SourceError.TooLong taken) → taken ≡ limit + 1 }
+    ensures failed { IsErrOf result SourceError.Failed → HasRisen (F.faults files.old) (F.faults files.new) }
+
+    ensures held { F.held files.new ≡ F.held files.old }
+    ensures kept { F.faults files.old ≤ F.faults files.new }
+{
+    if files.choose(name).is_err() {
+        return Err(SourceError::Failed);
+    }
+    let mut bytes = Vec::new(alloc);
+    let most = limit as usize + 1;
+    while bytes.len() < most {
+        match read_piece(files, &mut bytes, most) {
+            Ok(0) => return Ok(bytes),
+            Ok(_) => {}
+            Err(error) => return Err(error),
+        }
+    }
+    Err(SourceError::TooLong(limit + 1))
+}
+
+/// Reads one piece more, and says how long it is.
+fn read_piece<F: Files>(
+    files: &mut F,
+    bytes: &mut Vec<u8>,
+    most: usize,
+) -> Result<usize, SourceError>
+    requires chosen { F.chosen files.old ≡ true }
+    requires room { vec_len bytes.old < most }
+
+    ensures so_far { OnOk result ((name : List ℕ) → IsReadSoFar (F.held files.old) name bytes.old.items (F.left files.old)
+        → IsReadSoFar (F.held files.old) name bytes.new.items (F.left files.new)) }
+    ensures taken { IfOk result (λ n. vec_len bytes.new ≡ vec_len bytes.old + n) }
+    ensures within { OnOk result (vec_len bytes.new ≤ most) }
+    ensures end { IfOk result (λ n. n ≡ 0 → IsAtEnd (F.left files.new)) }
+
+    ensures failed { IsErrOf result SourceError.Failed → HasRisen (F.faults files.old) (F.faults files.new) }
+    ensures not_long { (taken : ℕ) → result ≢ Err (SourceError.TooLong taken) }
+
+    ensures chosen { F.chosen files.new ≡ true }
+    ensures held { F.held files.new ≡ F.held files.old }
+    ensures kept { F.faults files.old ≤ F.faults files.new }
+{
+    let mut piece = [0; PIECE];
+    let room = PIECE.min(most - bytes.len());
+    let Ok(taken) = files.read(&mut piece[..room]) else {
+        return Err(SourceError::Failed);
+    };
+    match bytes.extend_from_slice(&piece[..taken]) {
+        Ok(()) => Ok(taken),
+        Err(_) => Err(SourceError::Memory),
+    }
+}
