@@ -1,3 +1,4 @@
+pub mod GroupLists
 pub mod Known
 pub mod Only
 pub mod Spellings

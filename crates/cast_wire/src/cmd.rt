@@ -1,30 +1,36 @@
 use crate::fragment_bytes::FragmentBytes;
-
-/// The port of remote multicast setup (TS005-1.0.0).
-pub const MULTICAST_PORT: u8 = 200;
-
-/// The port of fragmented data block transport (TS004-1.0.0).
-pub const FRAGMENT_PORT: u8 = 201;
-
-/// FragSessionSetupReq and FragSessionSetupAns (TS004-1.0.0): a request and its answer share an identifier.
-pub const SESSION_SETUP: u8 = 0x02;
-
-/// DataFragment (TS004-1.0.0).
-pub const DATA_FRAGMENT: u8 = 0x08;
-
-/// The bytes of a FragSessionSetupReq, with its identifier.
-pub const SETUP_REQUEST_LEN: u16 = 11;
-
-/// The bytes of a FragSessionSetupAns, with its identifier.
-pub const SETUP_ANSWER_LEN: u16 = 2;
-
-/// The bytes of a DataFragment before the fragment itself, with its identifier.
-pub const FRAGMENT_HEAD_LEN: u16 = 3;
+use crate::group_list::GroupList;
 
 /// A command with its fields. `specs/Table.antt` says how each lies in its bytes.
 #[derive(Debug, PartialEq, Drop)]
 pub enum Cmd {
-    /// TS004-1.0.0, FragSessionSetupReq, from the server.
+    /// From the server, on both ports: which package and version is there?
+    PackageVersionReq,
+    /// From the device, on both ports.
+    PackageVersionAns {
+        identifier: u8,
+        version: u8,
+    },
+
+    /// TS004-1.0.0, from the server.
+    FragSessionStatusReq {
+        /// The session, 0 to 3.
+        index: u8,
+        /// Participants: whether devices that miss nothing answer too.
+        all: bool,
+    },
+    /// TS004-1.0.0, from the device.
+    FragSessionStatusAns {
+        /// The session, 0 to 3.
+        index: u8,
+        /// The fragments heard, below 2^14.
+        received: u16,
+        /// The fragments missing, or 255.
+        missing: u8,
+        /// The device has too little memory for the matrix of coded fragments.
+        norows: bool,
+    },
+    /// TS004-1.0.0, from the server.
     FragSessionSetupReq {
         /// The session, 0 to 3.
         index: u8,
@@ -43,7 +49,7 @@ pub enum Cmd {
         /// What the file is, as the server says it.
         descriptor: u32,
     },
-    /// TS004-1.0.0, FragSessionSetupAns, from the device.
+    /// TS004-1.0.0, from the device.
     FragSessionSetupAns {
         /// The session, 0 to 3.
         index: u8,
@@ -56,7 +62,19 @@ pub enum Cmd {
         /// The device can't decode the fragments.
         encoding_unsupported: bool,
     },
-    /// TS004-1.0.0, DataFragment, from the server. It takes all that is left of its payload.
+    /// TS004-1.0.0, from the server.
+    FragSessionDeleteReq {
+        /// The session, 0 to 3.
+        index: u8,
+    },
+    /// TS004-1.0.0, from the device.
+    FragSessionDeleteAns {
+        /// The session, 0 to 3.
+        index: u8,
+        /// The session doesn't exist.
+        missing: bool,
+    },
+    /// TS004-1.0.0, from the server. It takes all that is left of its payload.
     DataFragment {
         /// The session, 0 to 3.
         index: u8,
@@ -64,5 +82,106 @@ pub enum Cmd {
         n: u16,
         /// The fragment, 1 to 239 bytes.
         bytes: FragmentBytes,
+    },
+
+    /// TS005-1.0.0, from the server.
+    McGroupStatusReq {
+        /// The groups asked for, a bit for each of 0 to 3.
+        mask: u8,
+    },
+    /// TS005-1.0.0, from the device.
+    McGroupStatusAns {
+        /// The number of groups that exist, 0 to 7.
+        total: u8,
+        /// The groups answered, a bit for each of 0 to 3.
+        mask: u8,
+        /// The groups answered, as many as the mask has bits.
+        groups: GroupList,
+    },
+    /// TS005-1.0.0, from the server.
+    McGroupSetupReq {
+        /// The group, 0 to 3.
+        id: u8,
+        /// McAddr, the group's address.
+        addr: u32,
+        /// McKey_encrypted, the group's key wrapped for the device.
+        key: [u8; 16],
+        /// minMcFCount, the first frame count that is heard.
+        min: u32,
+        /// maxMcFCount, the first frame count that isn't heard any more.
+        max: u32,
+    },
+    /// TS005-1.0.0, from the device.
+    McGroupSetupAns {
+        /// The group, 0 to 3.
+        id: u8,
+        /// The device has no group of that id.
+        error: bool,
+    },
+    /// TS005-1.0.0, from the server.
+    McGroupDeleteReq {
+        /// The group, 0 to 3.
+        id: u8,
+    },
+    /// TS005-1.0.0, from the device.
+    McGroupDeleteAns {
+        /// The group, 0 to 3.
+        id: u8,
+        /// The group doesn't exist.
+        undefined: bool,
+    },
+    /// TS005-1.0.0, from the server.
+    McClassCSessionReq {
+        /// The group, 0 to 3.
+        id: u8,
+        /// SessionTime, the start in seconds of the device's clock.
+        time: u32,
+        /// TimeOut: the session lasts 2^timeout seconds, 0 to 15.
+        timeout: u8,
+        /// DLFrequ, the frequency in units of 100 Hz, below 2^24.
+        freq: u32,
+        /// DR, the data rate.
+        dr: u8,
+    },
+    /// TS005-1.0.0, from the device.
+    McClassCSessionAns {
+        /// The group, 0 to 3.
+        id: u8,
+        /// The group doesn't exist.
+        undefined: bool,
+        /// The device can't use the frequency.
+        freq_error: bool,
+        /// The device can't use the data rate.
+        dr_error: bool,
+        /// TimeToStart in seconds, below 2^24; there exactly where there is no error.
+        start: Option<u32>,
+    },
+    /// TS005-1.0.0, from the server.
+    McClassBSessionReq {
+        /// The group, 0 to 3.
+        id: u8,
+        /// SessionTime, the start in seconds of the device's clock.
+        time: u32,
+        /// Periodicity of the ping slots, 0 to 7.
+        periodicity: u8,
+        /// TimeOut: the session lasts 2^timeout beacon periods, 0 to 15.
+        timeout: u8,
+        /// DLFrequ, the frequency in units of 100 Hz, below 2^24.
+        freq: u32,
+        /// DR, the data rate.
+        dr: u8,
+    },
+    /// TS005-1.0.0, from the device.
+    McClassBSessionAns {
+        /// The group, 0 to 3.
+        id: u8,
+        /// The group doesn't exist.
+        undefined: bool,
+        /// The device can't use the frequency.
+        freq_error: bool,
+        /// The device can't use the data rate.
+        dr_error: bool,
+        /// TimeToStart in seconds, below 2^24; there exactly where there is no error.
+        start: Option<u32>,
     },
 }

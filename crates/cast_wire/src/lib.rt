@@ -1,5 +1,5 @@
 //! The commands of fragmented data block transport (TS004-1.0.0, port 201) and remote multicast setup
-//! (TS005-1.0.0, port 200), one by one, as values and as bytes; so far three of TS004.
+//! (TS005-1.0.0, port 200), one by one, as values and as bytes.
 //! A command is answered exactly where its bytes spell it by the row of `specs/Table.antt`, any other place is
 //! refused with its cause, and a valid command is written in its canonical spelling, whole or not at all.
 //! Payloads of several commands, the other packages and what a command does are left to the crates above.
@@ -7,13 +7,22 @@
 
 mod cmd;
 mod fragment_bytes;
+mod group_list;
+mod ids;
 mod laws;
 mod reading;
+mod reading_fragments;
+mod reading_groups;
+mod refusals;
 mod validity;
 mod writing;
+mod writing_fragments;
+mod writing_groups;
 
-pub use cmd::{Cmd, FRAGMENT_PORT, MULTICAST_PORT};
+pub use cmd::Cmd;
 pub use fragment_bytes::{FragmentBytes, MAX_FRAGMENT};
+pub use group_list::{GroupAddress, GroupList, MAX_GROUPS};
+pub use ids::{FRAGMENT_PORT, MULTICAST_PORT};
 pub use laws::{no_spelling_begins_another, place_has_one_spelling, written_is_read};
 pub use reading::read_one;
 pub use validity::valid;

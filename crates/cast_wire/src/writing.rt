@@ -1,12 +1,17 @@
-ghost use Rattle.std.specs.Prelude.{◌<◌, ◌≤◌, length};
 ghost use Rattle.cast_wire.specs.Table.{IsValid, canonical};
 ghost use Rattle.wire_base.specs.Payload.{Appends};
 
-use crate::cmd::{
-    Cmd, DATA_FRAGMENT, FRAGMENT_HEAD_LEN, SESSION_SETUP, SETUP_ANSWER_LEN, SETUP_REQUEST_LEN,
+use crate::cmd::Cmd;
+use crate::writing_fragments::{
+    put_data_fragment, put_delete_answer, put_delete_request, put_setup_answer, put_setup_request,
+    put_status_answer, put_status_request, put_version_answer, put_version_request,
 };
-use crate::fragment_bytes::FragmentBytes;
-use wire_base::{Full, Payload, put_bytes, put_u8, put_u16, put_u32};
+use crate::writing_groups::{
+    put_class_b_answer, put_class_b_request, put_class_c_answer, put_class_c_request,
+    put_group_delete_answer, put_group_delete_request, put_group_setup_answer,
+    put_group_setup_request, put_group_status_answer, put_group_status_request,
+};
+use wire_base::{Full, Payload};
 
 /// Puts the canonical spelling of a command at the end, whole or not at all.
 pub fn write_one(cmd: &Cmd, out: &mut Payload) -> Result<(), Full>
@@ -14,6 +19,18 @@ pub fn write_one(cmd: &Cmd, out: &mut Payload) -> Result<(), Full>
     ensures { Appends out.old out.new (canonical cmd.now) result }
 {
     match cmd {
+        &Cmd::PackageVersionReq => put_version_request(out),
+        &Cmd::PackageVersionAns {
+            identifier,
+            version,
+        } => put_version_answer(identifier, version, out),
+        &Cmd::FragSessionStatusReq { index, all } => put_status_request(index, all, out),
+        &Cmd::FragSessionStatusAns {
+            index,
+            received,
+            missing,
+            norows,
+        } => put_status_answer(index, received, missing, norows, out),
         &Cmd::FragSessionSetupReq {
             index,
             mask,
@@ -23,101 +40,70 @@ pub fn write_one(cmd: &Cmd, out: &mut Payload) -> Result<(), Full>
             delay,
             padding,
             descriptor,
-        } => {
-            put_setup_request(
-                index, mask, nb_frag, frag_size, algo, delay, padding, descriptor, out,
-            )
-        }
+        } => put_setup_request(
+            index, mask, nb_frag, frag_size, algo, delay, padding, descriptor, out,
+        ),
         &Cmd::FragSessionSetupAns {
             index,
             wrong_descriptor,
             index_unsupported,
             no_memory,
             encoding_unsupported,
-        } => {
-            put_setup_answer(
-                index,
-                wrong_descriptor,
-                index_unsupported,
-                no_memory,
-                encoding_unsupported,
-                out,
-            )
-        }
+        } => put_setup_answer(
+            index,
+            wrong_descriptor,
+            index_unsupported,
+            no_memory,
+            encoding_unsupported,
+            out,
+        ),
+        &Cmd::FragSessionDeleteReq { index } => put_delete_request(index, out),
+        &Cmd::FragSessionDeleteAns { index, missing } => put_delete_answer(index, missing, out),
         Cmd::DataFragment { index, n, bytes } => put_data_fragment(*index, *n, bytes, out),
+        &Cmd::McGroupStatusReq { mask } => put_group_status_request(mask, out),
+        Cmd::McGroupStatusAns {
+            total,
+            mask,
+            groups,
+        } => put_group_status_answer(*total, *mask, groups, out),
+        &Cmd::McGroupSetupReq {
+            id,
+            addr,
+            key,
+            min,
+            max,
+        } => put_group_setup_request(id, addr, key, min, max, out),
+        &Cmd::McGroupSetupAns { id, error } => put_group_setup_answer(id, error, out),
+        &Cmd::McGroupDeleteReq { id } => put_group_delete_request(id, out),
+        &Cmd::McGroupDeleteAns { id, undefined } => put_group_delete_answer(id, undefined, out),
+        &Cmd::McClassCSessionReq {
+            id,
+            time,
+            timeout,
+            freq,
+            dr,
+        } => put_class_c_request(id, time, timeout, freq, dr, out),
+        &Cmd::McClassCSessionAns {
+            id,
+            undefined,
+            freq_error,
+            dr_error,
+            start,
+        } => put_class_c_answer(id, undefined, freq_error, dr_error, start, out),
+        &Cmd::McClassBSessionReq {
+            id,
+            time,
+            periodicity,
+            timeout,
+            freq,
+            dr,
+        } => put_class_b_request(id, time, periodicity, timeout, freq, dr, out),
+        &Cmd::McClassBSessionAns {
+            id,
+            undefined,
+            freq_error,
+            dr_error,
+            start,
+        } => put_class_b_answer(id, undefined, freq_error, dr_error, start, out),
     }
-}
-
-fn put_setup_request(
-    index: u8,
-    mask: u8,
-    nb_frag: u16,
-    frag_size: u8,
-    algo: u8,
-    delay: u8,
-    padding: u8,
-    descriptor: u32,
-    out: &mut Payload,
-) -> Result<(), Full>
-    requires { IsValid (Cmd.FragSessionSetupReq index mask nb_frag frag_size algo delay padding descriptor) }
-    ensures { let cmd = Cmd.FragSessionSetupReq index mask nb_frag frag_size algo delay padding descriptor in
-        Appends out.old out.new (canonical cmd) result }
-{
-    if out.room() < SETUP_REQUEST_LEN as usize {
-        return Err(Full);
-    }
-    put_u8(out, SESSION_SETUP)?;
-    put_u8(out, (index << 4) + mask)?;
-    put_u16(out, nb_frag)?;
-    put_u8(out, frag_size)?;
-    put_u8(out, (algo << 3) + delay)?;
-    put_u8(out, padding)?;
-    put_u32(out, descriptor)?;
-    Ok(())
-}
-
-fn put_setup_answer(
-    index: u8,
-    wrong_descriptor: bool,
-    index_unsupported: bool,
-    no_memory: bool,
-    encoding_unsupported: bool,
-    out: &mut Payload,
-) -> Result<(), Full>
-    requires { IsValid (Cmd.FragSessionSetupAns index wrong_descriptor index_unsupported no_memory encoding_unsupported) }
-    ensures { let cmd = Cmd.FragSessionSetupAns index wrong_descriptor index_unsupported no_memory encoding_unsupported in
-        Appends out.old out.new (canonical cmd) result }
-{
-    if out.room() < SETUP_ANSWER_LEN as usize {
-        return Err(Full);
-    }
-    put_u8(out, SESSION_SETUP)?;
-    put_u8(
-        out,
-        (index << 6)
-            + (u8::from(wrong_descriptor) << 3)
-            + (u8::from(index_unsupported) << 2)
-            + (u8::from(no_memory) << 1)
-            + u8::from(encoding_unsupported),
-    )?;
-    Ok(())
-}
-
-fn put_data_fragment(
-    index: u8,
-    n: u16,
-    bytes: &FragmentBytes,
-    out: &mut Payload,
-) -> Result<(), Full>
-    requires { IsValid (Cmd.DataFragment index n bytes.now) }
-    ensures { Appends out.old out.new (canonical (Cmd.DataFragment index n bytes.now)) result }
-{
-    let fragment = bytes.as_slice();
-    if out.room() < FRAGMENT_HEAD_LEN as usize + fragment.len() {
-        return Err(Full);
-    }
-    put_u8(out, DATA_FRAGMENT)?;
-    put_u16(out, (u16::from(index) << 14) + n)?;
-    put_bytes(out, fragment)?;
-    Ok(())
 }

@@ -6,7 +6,7 @@ use Rattle.wire_base.specs.declared.refusal.Direction.{Direction}
 use Rattle.wire_base.specs.declared.refusal.Refusal.{Refusal}
 use Rattle.wire_base.specs.Rows.{Part, PartsLie, size}
 use Rattle.fuota_run.specs.declared.grammar.Command.{Command}
-use Rattle.cast_wire.specs.declared.cmd.Cmd.TheVariants.{FragSessionSetupReq, FragSessionSetupAns, DataFragment}
+use Rattle.cast_wire.specs.declared.cmd.Cmd.TheVariants.{PackageVersionReq, PackageVersionAns, FragSessionStatusReq, FragSessionStatusAns, FragSessionSetupReq, FragSessionSetupAns, FragSessionDeleteReq, FragSessionDeleteAns, DataFragment, McGroupStatusReq, McGroupStatusAns, McGroupSetupReq, McGroupSetupAns, McGroupDeleteReq, McGroupDeleteAns, McClassCSessionReq, McClassCSessionAns, McClassBSessionReq, McClassBSessionAns}
 use Rattle.fuota_run.specs.declared.device.DeviceConfig.{DeviceConfig}
 use Rattle.fuota_run.specs.declared.grammar.Command.TheVariants.{Cast, DevVersionReq, DevVersionAns}
 use Rattle.fuota_run.specs.Commands.{Spells, SpellsAll}
@@ -45,9 +45,25 @@ none_read port dir bytes at r e (d ∷ ds) inside only is all = let s = only d a
 -- a command has no more answers than it weighs
 pub answers_fit : (config : DeviceConfig) (c : Command) → length (answer_to config c) ≤ weight c
 unfolding answer_to
+answers_fit config (Cast PackageVersionReq) = lit≤ tt
+answers_fit config (Cast (PackageVersionAns identifier version)) = lit≤ tt
+answers_fit config (Cast (FragSessionStatusReq index all)) = lit≤ tt
+answers_fit config (Cast (FragSessionStatusAns index received missing norows)) = lit≤ tt
 answers_fit config (Cast (FragSessionSetupReq index mask nb_frag frag_size algo delay padding descriptor)) = lit≤ tt
 answers_fit config (Cast (FragSessionSetupAns index descriptor unsupported memory encoding)) = lit≤ tt
+answers_fit config (Cast (FragSessionDeleteReq index)) = lit≤ tt
+answers_fit config (Cast (FragSessionDeleteAns index missing)) = lit≤ tt
 answers_fit config (Cast (DataFragment index n part)) = lit≤ tt
+answers_fit config (Cast (McGroupStatusReq mask)) = lit≤ tt
+answers_fit config (Cast (McGroupStatusAns total mask groups)) = lit≤ tt
+answers_fit config (Cast (McGroupSetupReq id addr key min max)) = lit≤ tt
+answers_fit config (Cast (McGroupSetupAns id error)) = lit≤ tt
+answers_fit config (Cast (McGroupDeleteReq id)) = lit≤ tt
+answers_fit config (Cast (McGroupDeleteAns id undefined)) = lit≤ tt
+answers_fit config (Cast (McClassCSessionReq id time timeout freq dr)) = lit≤ tt
+answers_fit config (Cast (McClassCSessionAns id undefined freq_error dr_error start)) = lit≤ tt
+answers_fit config (Cast (McClassBSessionReq id time periodicity timeout freq dr)) = lit≤ tt
+answers_fit config (Cast (McClassBSessionAns id undefined freq_error dr_error start)) = lit≤ tt
 answers_fit config DevVersionReq = lit≤ tt
 answers_fit config (DevVersionAns firmware hardware) = lit≤ tt
 

@@ -4,7 +4,7 @@ use Rattle.std.specs.List.{AllByRecursion}
 use Rattle.std.proofs.lemmas.List.{map-append, length-map}
 use Rattle.fuota_run.proofs.Messages.{all_more}
 use Rattle.fuota_run.specs.declared.device.Uplink.{Uplink}
-use Rattle.cast_wire.specs.declared.cmd.Cmd.TheVariants.{FragSessionSetupReq, FragSessionSetupAns, DataFragment}
+use Rattle.cast_wire.specs.declared.cmd.Cmd.TheVariants.{PackageVersionReq, PackageVersionAns, FragSessionStatusReq, FragSessionStatusAns, FragSessionSetupReq, FragSessionSetupAns, FragSessionDeleteReq, FragSessionDeleteAns, DataFragment, McGroupStatusReq, McGroupStatusAns, McGroupSetupReq, McGroupSetupAns, McGroupDeleteReq, McGroupDeleteAns, McClassCSessionReq, McClassCSessionAns, McClassBSessionReq, McClassBSessionAns}
 use Rattle.fuota_run.specs.declared.grammar.Command.{Command}
 use Rattle.fuota_run.specs.declared.grammar.Command.TheVariants.{Cast, DevVersionReq, DevVersionAns}
 use Rattle.fuota_run.specs.declared.lines.Form.{Form}
@@ -180,9 +180,25 @@ record_with_device h device w is stands = record {
 
 -- a command makes one uplink at most
 pub weight_one : (c : Command) → weight c ≤ 1
+weight_one (Cast PackageVersionReq) = lit≤ tt
+weight_one (Cast (PackageVersionAns identifier version)) = lit≤ tt
+weight_one (Cast (FragSessionStatusReq index all)) = lit≤ tt
+weight_one (Cast (FragSessionStatusAns index received missing norows)) = lit≤ tt
 weight_one (Cast (FragSessionSetupReq index mask nb_frag frag_size algo delay padding descriptor)) = lit≤ tt
 weight_one (Cast (FragSessionSetupAns index descriptor unsupported memory encoding)) = lit≤ tt
+weight_one (Cast (FragSessionDeleteReq index)) = lit≤ tt
+weight_one (Cast (FragSessionDeleteAns index missing)) = lit≤ tt
 weight_one (Cast (DataFragment index n part)) = lit≤ tt
+weight_one (Cast (McGroupStatusReq mask)) = lit≤ tt
+weight_one (Cast (McGroupStatusAns total mask groups)) = lit≤ tt
+weight_one (Cast (McGroupSetupReq id addr key min max)) = lit≤ tt
+weight_one (Cast (McGroupSetupAns id error)) = lit≤ tt
+weight_one (Cast (McGroupDeleteReq id)) = lit≤ tt
+weight_one (Cast (McGroupDeleteAns id undefined)) = lit≤ tt
+weight_one (Cast (McClassCSessionReq id time timeout freq dr)) = lit≤ tt
+weight_one (Cast (McClassCSessionAns id undefined freq_error dr_error start)) = lit≤ tt
+weight_one (Cast (McClassBSessionReq id time periodicity timeout freq dr)) = lit≤ tt
+weight_one (Cast (McClassBSessionAns id undefined freq_error dr_error start)) = lit≤ tt
 weight_one DevVersionReq = lit≤ tt
 weight_one (DevVersionAns firmware hardware) = lit≤ tt
 

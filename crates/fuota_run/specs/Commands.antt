@@ -41,7 +41,7 @@ pub record Spells (c : Command) (port : ℕ) (direction : Direction) (bytes : Li
 abbrev pub canonical : Command → List ℕ
 canonical c = spelling (row c)
 
--- the port of a command
+-- the port on which a campaign sends a command: of the commands of ports 200 and 201 it sends those of 201 alone
 abbrev pub port_of : Command → ℕ
 port_of (Cast cmd) = 201
 port_of DevVersionReq = 203

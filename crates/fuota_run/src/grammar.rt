@@ -32,6 +32,7 @@ pub enum Command {
 }
 
 /// The command at a place of a payload, and the place behind it.
+#[tactic(auto, using(crate::proofs::Canonical::spelled_within))]
 pub fn read_one(port: u8, dir: Direction, bytes: &[u8], at: u16) -> Result<(Command, u16), Refusal>
     requires { at < length bytes.now }
     ensures found { IfOk result (λ r. Spells r.0 port dir bytes.now at r.1) }
@@ -164,6 +165,7 @@ pub fn port_of(command: &Command) -> u8
 }
 
 /// The canonical spelling of a command.
+#[tactic(auto, using(crate::proofs::Canonical::cast_fits))]
 pub fn spelled(command: &Command) -> Payload
     requires { IsValid command.now }
     ensures { result ≡ canonical command.now }

@@ -1,5 +1,5 @@
 // The files and the standard output of the system. What they hold is not told; each failed call is counted.
-ghost use Rattle.std.specs.Prelude.{◌≡◌, ◌-◌, ◌^◌, ◌≤◌, Bool, None, is_some};
+ghost use Rattle.std.specs.Prelude.{◌≡◌, ◌-◌, ◌^◌, ◌≤◌, Bool, false, None, is_some};
 ghost use Rattle.fuota_run.specs.Outside.{HasRisen};
 
 use crate::files::{Failed, Files};
@@ -33,7 +33,10 @@ pub struct StdFiles<'a, R: std::rt::Files> {
 
 impl<'a, R: std::rt::Files> StdFiles<'a, R> {
     /// The files that the runtime reaches, none of them chosen.
-    pub fn new(rt: &'a R) -> Self {
+    pub fn new(rt: &'a R) -> Self
+        ensures unchosen { result.chosen ≡ None }
+        ensures start { result.count.faults ≡ 0 }
+    {
         StdFiles {
             rt,
             chosen: None,
@@ -85,7 +88,10 @@ pub struct StdSink<'a, P: Print> {
 
 impl<'a, P: Print> StdSink<'a, P> {
     /// The standard output that the runtime reaches.
-    pub fn new(to: &'a P) -> Self {
+    pub fn new(to: &'a P) -> Self
+        ensures unfinished { result.finished ≡ false }
+        ensures start { result.count.faults ≡ 0 }
+    {
         StdSink {
             to,
             finished: false,

@@ -1,5 +1,6 @@
 -- Parts that are put one after another.
-use Rattle.std.proofs.Common.{◌≡◌, ℕ, ◌+◌, ◌≤◌, List, ◌++◌, length, Result, Ok, refl, ap, subst, ◌∙◌, append_assoc, arith, length-append}
+use Rattle.std.proofs.Common.{◌≡◌, ℕ, ◌+◌, ◌<◌, ◌≤◌, List, ◌++◌, length, Result, Ok, Err, refl, ap, subst, ◌∙◌, append_assoc, arith, length-append}
+use Rattle.std.proofs.lemmas.Bool.{false≢true}
 use Rattle.wire_base.specs.declared.payload.Full.{Full}
 use Rattle.wire_base.specs.Payload.{Appends}
 
@@ -17,3 +18,7 @@ then {a} {b} {c} {x} {y} first second =
 
 pub puts_same : {a b x y : List ℕ} {r : Result (Unit {0}) Full} → x ≡ y → Appends a b x r → Appends a b y r
 puts_same {a} {b} {x} {y} {r} same put = subst (λ (bytes : List ℕ). Appends a b bytes r) same put
+
+-- without room nothing changes
+pub refused : {out bytes : List ℕ} {full : Full} → 242 < length out + length bytes → Appends out out bytes (Err full)
+refused {out} {bytes} past = record { room = ((λ ok. absurd (false≢true ok)), λ fits. absurd (omega arith)); appended = tt; unchanged = refl }

@@ -110,7 +110,8 @@ row_written row before after formed fit small alone =
 
 -- ---- more bytes behind
 
-parts_before : (ps : List Part) (bytes : List ℕ) (at skip next : ℕ) → PartsLie bytes at skip ps next → (next ≤ length bytes) × (at + skip ≤ next)
+-- parts that lie there end within the bytes, and not before their place
+pub parts_before : (ps : List Part) (bytes : List ℕ) (at skip next : ℕ) → PartsLie bytes at skip ps next → (next ≤ length bytes) × (at + skip ≤ next)
 parts_before [] bytes at skip next lie = (lie.1, omega (arith, lie.0))
 parts_before (p ∷ ps) bytes at skip next lie =
     let later = parts_before ps bytes at (skip + size p) next lie.1 in

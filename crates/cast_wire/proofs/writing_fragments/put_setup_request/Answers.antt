@@ -1,6 +1,6 @@
 use Rattle.wire_base.proofs.Putting.{then, puts_same}
 use Rattle.cast_wire.proofs.Writes.{setup_request_spelled}
-use Rattle.cast_wire.proofs.writing.put_setup_request.Goals as goal
+use Rattle.cast_wire.proofs.writing_fragments.put_setup_request.Goals as goal
 
 pub returns : goal.returns
 returns c =

@@ -1,0 +1,62 @@
+ghost use Rattle.std.specs.Prelude.{◌≡◌, ◌<◌, ◌≤◌, [], ◌∷◌, ◌++◌, length};
+
+use arrayvec::ArrayVec;
+use std::marker::Model;
+
+/// The most groups that a device has (TS005-1.0.0).
+pub const MAX_GROUPS: usize = 4;
+
+/// A group that exists, and its address.
+#[derive(Clone, Copy, Debug, Default, PartialEq, Eq)]
+pub struct GroupAddress {
+    /// McGroupID, 0 to 3.
+    pub id: u8,
+    /// McAddr.
+    pub addr: u32,
+}
+
+/// At most `MAX_GROUPS` groups. They lie in the value itself. Contracts see their list.
+#[derive(Debug, Drop, PartialEq)]
+pub struct GroupList {
+    groups: ArrayVec<GroupAddress, MAX_GROUPS>,
+}
+
+impl Model for GroupList {
+    ghost use Rattle.std.specs.Prelude.{List, ◌≤◌, length};
+    ghost use Rattle.cast_wire.specs.declared.group_list.GroupAddress.{GroupAddress};
+
+    ghost Value = { List GroupAddress };
+
+    ghost view = { λ l. l.groups.items };
+
+    ghost invariant = { λ l. length l.groups.items ≤ 4 };
+
+    ghost inverse = { λ groups. record { groups = record { items = groups } } };
+}
+
+impl GroupList {
+    /// No group.
+    pub fn new() -> Self
+        ensures { result ≡ [] }
+    {
+        GroupList {
+            groups: ArrayVec::new(),
+        }
+    }
+
+    /// Puts a group at the end.
+    pub fn push(&mut self, group: GroupAddress)
+        requires { length self.old < MAX_GROUPS }
+        ensures { self.new ≡ self.old ++ group ∷ [] }
+    {
+        self.groups.push(group);
+    }
+
+    /// The groups.
+    pub fn as_slice(&self) -> &[GroupAddress]
+        ensures value { result.now ≡ self.now }
+        ensures within { length result.now ≤ MAX_GROUPS }
+    {
+        self.groups.as_slice()
+    }
+}

@@ -1,0 +1,248 @@
+//! TS005-1.0.0.
+
+ghost use Rattle.std.specs.Prelude.{◌≡◌, ◌+◌, ◌*◌, ◌<◌, ◌≤◌, ◌||◌, [], ◌∷◌, ◌++◌, length, is_none};
+ghost use Rattle.cast_wire.specs.Table.{IsValid, canonical, group_parts, start_parts};
+ghost use Rattle.wire_base.specs.Payload.{Appends};
+ghost use Rattle.wire_base.specs.Rows.{PartsFit, parts_bytes, packed, flag, bits};
+
+use crate::cmd::Cmd;
+use crate::group_list::{GroupAddress, GroupList};
+use crate::ids::{
+    CLASS_B_SESSION, CLASS_C_SESSION, CLASS_SESSION_REQUEST_LEN, GROUP_DELETE, GROUP_LEN,
+    GROUP_SETUP, GROUP_SETUP_REQUEST_LEN, GROUP_STATUS, GROUPS_HEAD_LEN, ONE_BYTE_LEN,
+    START_ANSWER_LEN,
+};
+use wire_base::{Full, MAX_PAYLOAD, Payload, put_bytes, put_u8, put_u24, put_u32};
+
+pub fn put_group_status_request(mask: u8, out: &mut Payload) -> Result<(), Full>
+    requires { IsValid (Cmd.McGroupStatusReq mask) }
+    ensures { Appends out.old out.new (canonical (Cmd.McGroupStatusReq mask)) result }
+{
+    if out.room() < ONE_BYTE_LEN as usize {
+        return Err(Full);
+    }
+    put_u8(out, GROUP_STATUS)?;
+    put_u8(out, mask)?;
+    Ok(())
+}
+
+pub fn put_group_status_answer(
+    total: u8,
+    mask: u8,
+    groups: &GroupList,
+    out: &mut Payload,
+) -> Result<(), Full>
+    requires { IsValid (Cmd.McGroupStatusAns total mask groups.now) }
+    ensures { Appends out.old out.new (canonical (Cmd.McGroupStatusAns total mask groups.now)) result }
+{
+    let groups = groups.as_slice();
+    if out.room() < GROUPS_HEAD_LEN as usize + GROUP_LEN as usize * groups.len() {
+        return Err(Full);
+    }
+    put_u8(out, GROUP_STATUS)?;
+    put_u8(out, (total << 4) + mask)?;
+    put_groups(groups, out)?;
+    Ok(())
+}
+
+fn put_groups(groups: &[GroupAddress], out: &mut Payload) -> Result<(), Full>
+    requires few { length groups.now ≤ 4 }
+    requires room { length out.old + 5 * length groups.now ≤ MAX_PAYLOAD }
+    requires fit { PartsFit (group_parts groups.now) }
+    ensures { Appends out.old out.new (parts_bytes (group_parts groups.now)) result }
+{
+    for group in groups {
+        put_u8(out, group.id)?;
+        put_u32(out, group.addr)?;
+    }
+    Ok(())
+}
+
+pub fn put_group_setup_request(
+    id: u8,
+    addr: u32,
+    key: [u8; 16],
+    min: u32,
+    max: u32,
+    out: &mut Payload,
+) -> Result<(), Full>
+    requires { IsValid (Cmd.McGroupSetupReq id addr key min max) }
+    ensures { Appends out.old out.new (canonical (Cmd.McGroupSetupReq id addr key min max)) result }
+{
+    if out.room() < GROUP_SETUP_REQUEST_LEN as usize {
+        return Err(Full);
+    }
+    put_u8(out, GROUP_SETUP)?;
+    put_u8(out, id)?;
+    put_u32(out, addr)?;
+    put_bytes(out, &key)?;
+    put_u32(out, min)?;
+    put_u32(out, max)?;
+    Ok(())
+}
+
+pub fn put_group_setup_answer(id: u8, error: bool, out: &mut Payload) -> Result<(), Full>
+    requires { IsValid (Cmd.McGroupSetupAns id error) }
+    ensures { Appends out.old out.new (canonical (Cmd.McGroupSetupAns id error)) result }
+{
+    if out.room() < ONE_BYTE_LEN as usize {
+        return Err(Full);
+    }
+    put_u8(out, GROUP_SETUP)?;
+    put_u8(out, (u8::from(error) << 2) + id)?;
+    Ok(())
+}
+
+pub fn put_group_delete_request(id: u8, out: &mut Payload) -> Result<(), Full>
+    requires { IsValid (Cmd.McGroupDeleteReq id) }
+    ensures { Appends out.old out.new (canonical (Cmd.McGroupDeleteReq id)) result }
+{
+    if out.room() < ONE_BYTE_LEN as usize {
+        return Err(Full);
+    }
+    put_u8(out, GROUP_DELETE)?;
+    put_u8(out, id)?;
+    Ok(())
+}
+
+pub fn put_group_delete_answer(id: u8, undefined: bool, out: &mut Payload) -> Result<(), Full>
+    requires { IsValid (Cmd.McGroupDeleteAns id undefined) }
+    ensures { Appends out.old out.new (canonical (Cmd.McGroupDeleteAns id undefined)) result }
+{
+    if out.room() < ONE_BYTE_LEN as usize {
+        return Err(Full);
+    }
+    put_u8(out, GROUP_DELETE)?;
+    put_u8(out, (u8::from(undefined) << 2) + id)?;
+    Ok(())
+}
+
+pub fn put_class_c_request(
+    id: u8,
+    time: u32,
+    timeout: u8,
+    freq: u32,
+    dr: u8,
+    out: &mut Payload,
+) -> Result<(), Full>
+    requires { IsValid (Cmd.McClassCSessionReq id time timeout freq dr) }
+    ensures { Appends out.old out.new (canonical (Cmd.McClassCSessionReq id time timeout freq dr)) result }
+{
+    if out.room() < CLASS_SESSION_REQUEST_LEN as usize {
+        return Err(Full);
+    }
+    put_u8(out, CLASS_C_SESSION)?;
+    put_u8(out, id)?;
+    put_u32(out, time)?;
+    put_u8(out, timeout)?;
+    put_u24(out, freq)?;
+    put_u8(out, dr)?;
+    Ok(())
+}
+
+pub fn put_class_c_answer(
+    id: u8,
+    undefined: bool,
+    freq_error: bool,
+    dr_error: bool,
+    start: Option<u32>,
+    out: &mut Payload,
+) -> Result<(), Full>
+    requires { IsValid (Cmd.McClassCSessionAns id undefined freq_error dr_error start) }
+    ensures { Appends out.old out.new (canonical (Cmd.McClassCSessionAns id undefined freq_error dr_error start)) result }
+{
+    put_session_answer(
+        CLASS_C_SESSION,
+        id,
+        undefined,
+        freq_error,
+        dr_error,
+        start,
+        out,
+    )
+}
+
+pub fn put_class_b_request(
+    id: u8,
+    time: u32,
+    periodicity: u8,
+    timeout: u8,
+    freq: u32,
+    dr: u8,
+    out: &mut Payload,
+) -> Result<(), Full>
+    requires { IsValid (Cmd.McClassBSessionReq id time periodicity timeout freq dr) }
+    ensures { Appends out.old out.new (canonical (Cmd.McClassBSessionReq id time periodicity timeout freq dr)) result }
+{
+    if out.room() < CLASS_SESSION_REQUEST_LEN as usize {
+        return Err(Full);
+    }
+    put_u8(out, CLASS_B_SESSION)?;
+    put_u8(out, id)?;
+    put_u32(out, time)?;
+    put_u8(out, (periodicity << 4) + timeout)?;
+    put_u24(out, freq)?;
+    put_u8(out, dr)?;
+    Ok(())
+}
+
+pub fn put_class_b_answer(
+    id: u8,
+    undefined: bool,
+    freq_error: bool,
+    dr_error: bool,
+    start: Option<u32>,
+    out: &mut Payload,
+) -> Result<(), Full>
+    requires { IsValid (Cmd.McClassBSessionAns id undefined freq_error dr_error start) }
+    ensures { Appends out.old out.new (canonical (Cmd.McClassBSessionAns id undefined freq_error dr_error start)) result }
+{
+    put_session_answer(
+        CLASS_B_SESSION,
+        id,
+        undefined,
+        freq_error,
+        dr_error,
+        start,
+        out,
+    )
+}
+
+/// A class session's answer: the group with its error bits, and TimeToStart where there is none.
+fn put_session_answer(
+    cid: u8,
+    id: u8,
+    undefined: bool,
+    freq_error: bool,
+    dr_error: bool,
+    start: Option<u32>,
+    out: &mut Payload,
+) -> Result<(), Full>
+    requires id { id < 4 }
+    requires fit { PartsFit (start_parts start) }
+    ensures { Appends out.old out.new (cid ∷ parts_bytes (packed 1 (flag 4 undefined ∷ flag 3 freq_error ∷ flag 2 dr_error ∷ bits 1 0 id ∷ []) ∷ start_parts start)) result }
+{
+    let status = (u8::from(undefined) << 4)
+        + (u8::from(freq_error) << 3)
+        + (u8::from(dr_error) << 2)
+        + id;
+    match start {
+        None => {
+            if out.room() < ONE_BYTE_LEN as usize {
+                return Err(Full);
+            }
+            put_u8(out, cid)?;
+            put_u8(out, status)?;
+            Ok(())
+        }
+        Some(start) => {
+            if out.room() < START_ANSWER_LEN as usize {
+                return Err(Full);
+            }
+            put_u8(out, cid)?;
+            put_u8(out, status)?;
+            put_u24(out, start)?;
+            Ok(())
+        }
+    }
+}
