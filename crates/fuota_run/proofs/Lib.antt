@@ -12,3 +12,7 @@ pub mod Canonical
 pub mod Outcomes
 pub mod SourceLines
 pub mod Playing
+pub mod HeadlineMoments
+pub mod HeadlineWorlds
+pub mod HeadlineImage
+pub mod HeadlineLaw

@@ -18,3 +18,4 @@ pub mod Worlds
 pub mod Texts
 pub mod HeldDevices
 pub mod Exit
+pub mod Headline

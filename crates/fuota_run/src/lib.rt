@@ -10,6 +10,7 @@ mod device;
 mod files;
 mod grammar;
 mod image;
+mod laws;
 mod lines;
 mod memory;
 mod output;
@@ -24,6 +25,7 @@ mod world;
 
 pub use files::{Failed, Files};
 pub use image::ImageState;
+pub use laws::{first_moment, headline};
 pub use lines::{Form, Key};
 pub use memory::{MemFiles, MemSink};
 pub use running::run;

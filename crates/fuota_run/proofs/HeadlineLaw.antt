@@ -1,0 +1,170 @@
+-- The headline: what is seen of the session in each campaign, and what the report says of it.
+use Rattle.std.proofs.Common.{◌≡◌, ◌≢◌, ◌⊎◌, inl, inr, ℕ, ◌<◌, ◌^◌, true, List, ◌∷◌, ◌++◌, length, All, Option, Some, Ok, le-ltb, refl, sym, ap, ◌∙◌, subst, arith, bytes_eq}
+use Rattle.std.specs.List.{AllByRecursion}
+use Rattle.std.proofs.lemmas.Slice.Eq.{bytes_eq-Decides}
+use Rattle.frag_model.specs.Fragments.{Heard as Fragment, Shape}
+use Rattle.frag_model.specs.File.{OneFileFits}
+use Rattle.frag_session.specs.declared.answers.Verdict.{Verdict}
+use Rattle.frag_session.specs.declared.answers.Verdict.TheVariants as verdict
+use Rattle.frag_session.specs.declared.setups.SetupReq.{SetupReq}
+use Rattle.frag_session.specs.Session.{Session, Seen, shape_of, seen_of, view_of}
+use Rattle.fuota_run.specs.Server.{ServerState, fragments_of, padding_of}
+use Rattle.fuota_run.specs.Device.{DeviceState}
+use Rattle.fuota_run.specs.World.{WorldState, campaign_of}
+use Rattle.fuota_run.specs.Report.{image_line, device_line, counts_line, verdict_text, session_text, session_line, report_text, report_lines, report_of_ends, report_of}
+use Rattle.fuota_run.specs.declared.status.Status.TheVariants as status
+use Rattle.fuota_run.specs.Outside.{Held}
+use Rattle.fuota_run.specs.Answer.{answer, script_answer, campaign_answer, answer_of}
+use Rattle.fuota_run.specs.Headline.{IsWhole, FirstAt, IsDecidedAtFirst, IsFragmentOf, FirstAlone, IsServed, IsRecovered, IsReported, IsCampaign, AreHandedIn, Headline}
+use Rattle.fuota_run.proofs.HeadlineMoments.{decided_at_first}
+use Rattle.fuota_run.proofs.HeadlineWorlds.{IsSetFor, campaign_session}
+use Rattle.fuota_run.proofs.HeadlineImage.{IsShapeFor, image_fits, alone_is_image, has_room, open_where_none, none_where_open, behind}
+
+-- the session's shape is the image's
+shape_for : (image : List ℕ) (size : ℕ) (s : Session) → All (λ b. b < 2 ^ 8) image → IsSetFor image size s → IsShapeFor image (shape_of s) s.setup.padding × ((shape_of s).frag_size ≡ size)
+unfolding shape_of
+shape_for image size s bytes k =
+    let cut : s.setup.frag_size ≡ size = ap (λ (r : SetupReq). r.frag_size) k.setup in
+    let count : s.setup.nb_frag ≡ fragments_of (length image) size = ap (λ (r : SetupReq). r.nb_frag) k.setup in
+    let pad : s.setup.padding ≡ padding_of (length image) size = ap (λ (r : SetupReq). r.padding) k.setup in (
+      record {
+        count = count ∙ ap (fragments_of (length image)) (sym cut);
+        padded = pad ∙ ap (padding_of (length image)) (sym cut);
+        makes = record {
+          some = subst (λ (n : ℕ). 0 < n) (sym count) k.makes.some;
+          short = subst (λ (n : ℕ). s.setup.padding < n) (sym cut) (subst (λ (n : ℕ). n < size) (sym pad) k.makes.short);
+        };
+        bytes = bytes;
+      },
+      cut,
+    )
+
+-- the moments are the same: no row is wanted, and two files fit until one does
+alone_from : (image : List ℕ) (shape : Shape) (padding : ℕ) (heard : List Fragment) (mark : ℕ) (file : List ℕ) → FirstAt shape padding (IsWhole shape padding file) heard mark → FirstAlone shape padding file heard mark
+alone_from image shape padding heard mark file at =
+    (at.0, at.1, at.2, record { parted = at.3.parted; marked = at.3.marked; before = none_where_open shape padding at.2 at.3.before; now = at.3.now.alone })
+
+alone_to : (image : List ℕ) (shape : Shape) (padding : ℕ) (heard : List Fragment) (mark : ℕ) (file : List ℕ) → IsShapeFor image shape padding → AllByRecursion (IsFragmentOf image shape.frag_size) heard
+    → FirstAlone shape padding file heard mark → FirstAt shape padding (IsWhole shape padding file) heard mark
+alone_to image shape padding heard mark file h all at =
+    let from : AllByRecursion (IsFragmentOf image shape.frag_size) (at.1 ∷ at.2) =
+    behind (IsFragmentOf image shape.frag_size) at.0 (at.1 ∷ at.2) (subst (AllByRecursion (IsFragmentOf image shape.frag_size)) at.3.parted all) in (
+      at.0,
+      at.1,
+      at.2,
+      record {
+        parted = at.3.parted;
+        marked = at.3.marked;
+        before = open_where_none image shape padding at.2 h from.1 at.3.before;
+        now = record { room = has_room image shape padding (at.1 ∷ at.2) h from; alone = at.3.now };
+      },
+    )
+
+only_image : (image : List ℕ) (shape : Shape) (padding : ℕ) (heard newer older : List Fragment) (file : List ℕ) → IsShapeFor image shape padding → AllByRecursion (IsFragmentOf image shape.frag_size) heard
+    → heard ≡ newer ++ older → OneFileFits shape padding older file → file ≡ image
+only_image image shape padding heard newer older file h all parted one =
+    alone_is_image image shape padding older file h (behind (IsFragmentOf image shape.frag_size) newer older (subst (AllByRecursion (IsFragmentOf image shape.frag_size)) parted all)) one
+
+recovered_by : (image : List ℕ) (s : Session) → IsShapeFor image (shape_of s) s.setup.padding → AllByRecursion (IsFragmentOf image (shape_of s).frag_size) s.heard → IsRecovered image s
+recovered_by image s h all =
+    let shape : Shape = shape_of s in
+    let padding : ℕ = s.setup.padding in
+    let decided : IsDecidedAtFirst s = decided_at_first s h.makes in
+    record {
+      complete = λ mark. (
+        λ is. let at = (decided.complete mark).0 is in (at.0, alone_from image shape padding s.heard mark at.0 at.1),
+        λ at. (decided.complete mark).1 (at.0, alone_to image shape padding s.heard mark at.0 h all at.1),
+      );
+      alone = λ newer older file parted one. only_image image shape padding s.heard newer older file h all parted one;
+      shown = λ mark is.
+          let at = (decided.complete mark).0 is in
+          decided.file mark at.0 at.1 ∙ only_image image shape padding s.heard at.1.0 (at.1.1 ∷ at.1.2) at.0 h all at.1.3.parted at.1.3.now.alone;
+      receiving = (
+        λ is. none_where_open shape padding s.heard (decided.receiving.0 is),
+        λ none. decided.receiving.1 (open_where_none image shape padding s.heard h all none),
+      );
+      rows = λ mark is.
+          let at = (decided.no_rows mark).0 is in
+          let from = behind (IsFragmentOf image shape.frag_size) at.0 (at.1 ∷ at.2) (subst (AllByRecursion (IsFragmentOf image shape.frag_size)) at.3.parted all) in
+          let room = has_room image shape padding (at.1 ∷ at.2) h from in
+          let over = at.3.now.over in
+          absurd (omega (arith, room, over));
+      agrees = λ mark is.
+          let at = (decided.conflict mark).0 is in
+          let from = behind (IsFragmentOf image shape.frag_size) at.0 (at.1 ∷ at.2) (subst (AllByRecursion (IsFragmentOf image shape.frag_size)) at.3.parted all) in
+          at.3.now image (image_fits image shape padding (at.1 ∷ at.2) h from);
+    }
+
+set_for : (image script : List ℕ) (world : WorldState) (server : ServerState) (device : DeviceState) (session : Session) → IsCampaign image script world server device session
+    → (server.image ≡ image) × IsSetFor image server.frag_size session
+set_for image script world server device session c = campaign_session image script world server device session c.accepted c.server_is c.device_is c.session_is
+
+served : (image script : List ℕ) (world : WorldState) (server : ServerState) (device : DeviceState) (session : Session) → IsCampaign image script world server device session → IsServed image server session
+served image script world server device session c =
+    let k = set_for image script world server device session c in
+    record {
+      image_is = k.0;
+      nb_frag = ap (λ (r : SetupReq). r.nb_frag) k.1.setup;
+      frag_size = ap (λ (r : SetupReq). r.frag_size) k.1.setup;
+      padding = ap (λ (r : SetupReq). r.padding) k.1.setup;
+      heard = k.1.heard;
+    }
+
+recovered : (image script : List ℕ) (world : WorldState) (server : ServerState) (device : DeviceState) (session : Session) → IsCampaign image script world server device session → IsRecovered image session
+recovered image script world server device session c =
+    let k = set_for image script world server device session c in
+    let shape = shape_for image server.frag_size session c.bytes k.1 in
+    recovered_by image session shape.0 (subst (λ (n : ℕ). AllByRecursion (IsFragmentOf image n) session.heard) (sym shape.1) k.1.heard)
+
+-- the report over a session
+report_is : (world : WorldState) (server : ServerState) (device : DeviceState) (session : Session) → world.server ≡ Some server → world.device ≡ Some device → device.session ≡ Some session
+    → report_of world ≡ report_text (image_line server) (device_line server.stage device) (counts_line device.counts) (session_line server.image (Some (seen_of session)))
+unfolding report_of report_lines view_of
+report_is world server device session s d e =
+    ap (λ (x : Option ServerState). report_of_ends x world.device) s
+    ∙ ap (λ (x : Option DeviceState). report_of_ends (Some server) x) d
+    ∙ ap (λ (x : Option Session). report_text (image_line server) (device_line server.stage device) (counts_line device.counts) (session_line server.image (view_of x))) e
+
+line_is : (sent : List ℕ) (seen : Seen) (v : Verdict) → seen.verdict ≡ v → session_line sent (Some seen) ≡ session_text seen.received seen.missing (verdict_text v (bytes_eq seen.file sent))
+line_is sent seen v is = ap (λ (x : Verdict). session_text seen.received seen.missing (verdict_text x (bytes_eq seen.file sent))) is
+
+-- a session is complete or receiving, where it never has another verdict
+seen_cases : (v : Verdict) → ((mark : ℕ) → v ≢ verdict.NoRows mark) → ((mark : ℕ) → v ≢ verdict.Conflict mark) → ((mark : ℕ) × (v ≡ verdict.Complete mark)) ⊎ (v ≡ verdict.Receiving)
+seen_cases verdict.Receiving rows agrees = inr refl
+seen_cases (verdict.Complete mark) rows agrees = inl (mark, refl)
+seen_cases (verdict.NoRows mark) rows agrees = absurd (rows mark refl)
+seen_cases (verdict.Conflict mark) rows agrees = absurd (agrees mark refl)
+
+first_of_image : (image : List ℕ) (s : Session) → IsRecovered image s → (mark : ℕ) (file : List ℕ) → FirstAlone (shape_of s) s.setup.padding file s.heard mark → FirstAlone (shape_of s) s.setup.padding image s.heard mark
+first_of_image image s r mark file at =
+    subst (λ (f : List ℕ). FirstAlone (shape_of s) s.setup.padding f s.heard mark) (r.alone at.0 (at.1 ∷ at.2) file at.3.parted at.3.now) at
+
+reported : (image script : List ℕ) (world : WorldState) (server : ServerState) (device : DeviceState) (session : Session) → IsCampaign image script world server device session → IsReported image world server device session
+reported image script world server device session c =
+    let k = set_for image script world server device session c in
+    let r = recovered image script world server device session c in
+    let seen : Seen = seen_of session in
+    let text = report_is world server device session c.server_is c.device_is c.session_is in
+    let whole : List ℕ → List ℕ = λ line. report_text (image_line server) (device_line server.stage device) (counts_line device.counts) line in
+    record {
+      cases = elim (seen_cases seen.verdict r.rows r.agrees) [
+        | inl is ↦ let at = (r.complete is.0).0 is.1 in inl (is.0, first_of_image image session r is.0 at.0 at.1)
+        | inr is ↦ inr (r.receiving.0 is)
+      ];
+      complete = λ line file at.
+          let is = (r.complete line).1 (file, at) in
+          let same : bytes_eq seen.file server.image ≡ true = (bytes_eq-Decides seen.file server.image).1 (r.shown line is ∙ sym k.0) in
+          text ∙ ap whole (line_is server.image seen (verdict.Complete line) is ∙ ap (λ b. session_text seen.received seen.missing (verdict_text (verdict.Complete line) b)) same);
+      receiving = λ none. text ∙ ap whole (line_is server.image seen verdict.Receiving (r.receiving.1 none));
+    }
+
+-- ---- the program's answer
+
+answered : (words : List (List ℕ)) (held : Held) (image script : List ℕ) (world : WorldState) → AreHandedIn words held image script → campaign_of image script ≡ Ok world
+    → answer_of words held ≡ answer status.Done (report_of world)
+unfolding answer_of campaign_answer script_answer
+answered words held image script world h is =
+    rw (h.form, h.image_held, le-ltb _ _ h.image_short, h.image_fine, h.script_held, le-ltb _ _ h.script_short, is) refl
+
+pub headline : Headline
+headline = record { served = served; recovered = recovered; reported = reported; answered = answered }

@@ -1,0 +1,184 @@
+-- The headline in the field's own words: when a session is decided, what is then known, and of which file.
+-- (TS004-1.0.0 leaves recovery to the device; when it ends, and how, is this project's profile.)
+use Rattle.std.specs.Prelude.{◌≡◌, ◌≢◌, ◌↔◌, ℕ, ◌<◌, ◌≤◌, ◌^◌, ◌⊎◌, List, [], ◌∷◌, ◌++◌, length, All, codes, true, Some, Ok}
+use Rattle.std.specs.List.{AllByRecursion}
+use Rattle.std.specs.Fmt.{decimal}
+use Rattle.frag_model.specs.Fragments.{Heard as Fragment, Shape}
+use Rattle.frag_model.specs.Gain.{excess}
+use Rattle.frag_model.specs.File.{FileFits, OneFileFits}
+use Rattle.frag_session.specs.declared.answers.Verdict.TheVariants as verdict
+use Rattle.frag_session.specs.Session.{Session, Seen, shape_of, seen_of}
+use Rattle.fuota_run.specs.declared.running.TheConstants.{IMAGE_LIMIT, SCRIPT_LIMIT}
+use Rattle.fuota_run.specs.declared.status.Status.TheVariants as status
+use Rattle.fuota_run.specs.Outside.{Held}
+use Rattle.fuota_run.specs.Image.{is_image}
+use Rattle.fuota_run.specs.Answer.{answer, is_form, word_at, answer_of}
+use Rattle.fuota_run.specs.Server.{ServerState, fragments_of, padding_of, fragment_of}
+use Rattle.fuota_run.specs.Device.{DeviceState}
+use Rattle.fuota_run.specs.World.{WorldState, campaign_of}
+use Rattle.fuota_run.specs.Report.{image_line, device_line, counts_line, session_text, report_text, report_of}
+
+-- after each fragment that was heard this holds of all that was heard by then
+abbrev pub AfterEach : (List Fragment → Type 0) → List Fragment → Type 0
+AfterEach Holds [] = Unit {0}
+AfterEach Holds (f ∷ older) = Holds (f ∷ older) × AfterEach Holds older
+
+-- ---- what was heard so far, taken for itself
+
+-- two different files fit
+pub record TwoFilesFit (shape : Shape) (padding : ℕ) (heard : List Fragment) (first second : List ℕ) : Type 0 where
+  pub one : FileFits shape padding heard first
+  pub other : FileFits shape padding heard second
+  pub differ : first ≢ second
+
+-- no file fits
+abbrev pub NoFileFits : Shape → ℕ → List Fragment → Type 0
+NoFileFits shape padding heard = (file : List ℕ) → FileFits shape padding heard file → ⊥
+
+-- the rows hold the independent coded fragments
+abbrev pub HasRoom : Shape → List Fragment → Type 0
+HasRoom shape heard = excess shape heard ≤ shape.rows
+
+-- it is open which file it is
+pub record IsOpen (shape : Shape) (padding : ℕ) (heard : List Fragment) : Type 0 where
+  pub room : HasRoom shape heard
+  pub files : (first : List ℕ) × (second : List ℕ) × TwoFilesFit shape padding heard first second
+
+-- the file is whole: this one alone fits
+pub record IsWhole (shape : Shape) (padding : ℕ) (file : List ℕ) (heard : List Fragment) : Type 0 where
+  pub room : HasRoom shape heard
+  pub alone : OneFileFits shape padding heard file
+
+-- there are more independent coded fragments than rows, and some file fits
+pub record Overflows (shape : Shape) (padding : ℕ) (heard : List Fragment) : Type 0 where
+  pub over : shape.rows < excess shape heard
+  pub file : (file : List ℕ) × FileFits shape padding heard file
+
+-- ---- the first moment
+
+-- after f, which has this mark, it holds; before f the file was open after each fragment
+pub record IsMoment (shape : Shape) (padding : ℕ) (Holds : List Fragment → Type 0) (heard : List Fragment) (mark : ℕ) (newer : List Fragment) (f : Fragment) (older : List Fragment) : Type 0 where
+  pub parted : heard ≡ newer ++ f ∷ older
+  pub marked : f.mark ≡ mark
+  pub before : AfterEach (IsOpen shape padding) older
+  pub now : Holds (f ∷ older)
+
+-- the fragment with this mark is the first after which the file is no longer open, and it then holds
+abbrev pub FirstAt : Shape → ℕ → (List Fragment → Type 0) → List Fragment → ℕ → Type 0
+FirstAt shape padding Holds heard mark = (newer : List Fragment) × (f : Fragment) × (older : List Fragment) × IsMoment shape padding Holds heard mark newer f older
+
+-- a setup that makes a file: there are pieces, and the padding is shorter than one
+pub record MakesFile (shape : Shape) (padding : ℕ) : Type 0 where
+  pub some : 0 < shape.nb_frag
+  pub short : padding < shape.frag_size
+
+-- what is seen of one session, in terms of the files that fit
+pub record IsDecidedAtFirst (s : Session) : Type 0 where
+  -- whole from the first fragment on after which one file alone fits
+  pub complete : (mark : ℕ) → ((seen_of s).verdict ≡ verdict.Complete mark) ↔ ((file : List ℕ) × FirstAt (shape_of s) s.setup.padding (IsWhole (shape_of s) s.setup.padding file) s.heard mark)
+  -- and that file is the one that is shown
+  pub file : (mark : ℕ) (file : List ℕ) → FirstAt (shape_of s) s.setup.padding (IsWhole (shape_of s) s.setup.padding file) s.heard mark → (seen_of s).file ≡ file
+  -- no rows from the first fragment on that is one independent coded fragment too many
+  pub no_rows : (mark : ℕ) → ((seen_of s).verdict ≡ verdict.NoRows mark) ↔ FirstAt (shape_of s) s.setup.padding (Overflows (shape_of s) s.setup.padding) s.heard mark
+  -- a conflict from the first fragment on after which no file fits
+  pub conflict : (mark : ℕ) → ((seen_of s).verdict ≡ verdict.Conflict mark) ↔ FirstAt (shape_of s) s.setup.padding (NoFileFits (shape_of s) s.setup.padding) s.heard mark
+  -- else two different files fit after each fragment
+  pub receiving : ((seen_of s).verdict ≡ verdict.Receiving) ↔ AfterEach (IsOpen (shape_of s) s.setup.padding) s.heard
+
+-- so it is with each session whose setup makes a file
+abbrev pub FirstMoment : Type 0
+FirstMoment = (s : Session) → MakesFile (shape_of s) s.setup.padding → IsDecidedAtFirst s
+
+-- ---- in a campaign
+
+-- a fragment that the server cut from the image
+pub record IsFragmentOf (image : List ℕ) (frag_size : ℕ) (f : Fragment) : Type 0 where
+  pub first : 1 ≤ f.number
+  pub last : f.number ≤ fragments_of (length image) frag_size
+  pub part : f.part ≡ fragment_of image frag_size f.number
+
+-- no file fits alone
+abbrev pub NoFileAlone : Shape → ℕ → List Fragment → Type 0
+NoFileAlone shape padding heard = (file : List ℕ) → OneFileFits shape padding heard file → ⊥
+
+-- after f, which has this mark, this file alone fits; before f no file did
+pub record IsFirstAlone (shape : Shape) (padding : ℕ) (file : List ℕ) (heard : List Fragment) (mark : ℕ) (newer : List Fragment) (f : Fragment) (older : List Fragment) : Type 0 where
+  pub parted : heard ≡ newer ++ f ∷ older
+  pub marked : f.mark ≡ mark
+  pub before : AfterEach (NoFileAlone shape padding) older
+  pub now : OneFileFits shape padding (f ∷ older) file
+
+-- the fragment with this mark is the first after which one file alone fits, and that file is this one
+abbrev pub FirstAlone : Shape → ℕ → List ℕ → List Fragment → ℕ → Type 0
+FirstAlone shape padding file heard mark = (newer : List Fragment) × (f : Fragment) × (older : List Fragment) × IsFirstAlone shape padding file heard mark newer f older
+
+-- the session is the one that the server sets up for the image, and hears nothing but the image's fragments
+pub record IsServed (image : List ℕ) (server : ServerState) (session : Session) : Type 0 where
+  pub image_is : server.image ≡ image
+  pub nb_frag : session.setup.nb_frag ≡ fragments_of (length image) server.frag_size
+  pub frag_size : session.setup.frag_size ≡ server.frag_size
+  pub padding : session.setup.padding ≡ padding_of (length image) server.frag_size
+  pub heard : AllByRecursion (IsFragmentOf image server.frag_size) session.heard
+
+-- what is seen of the session in a campaign, where the image is known
+pub record IsRecovered (image : List ℕ) (s : Session) : Type 0 where
+  -- complete at the first fragment after which one file alone fits
+  pub complete : (mark : ℕ) → ((seen_of s).verdict ≡ verdict.Complete mark) ↔ ((file : List ℕ) × FirstAlone (shape_of s) s.setup.padding file s.heard mark)
+  -- a file that alone fits what was heard by then is the image
+  pub alone : (newer older : List Fragment) (file : List ℕ) → s.heard ≡ newer ++ older → OneFileFits (shape_of s) s.setup.padding older file → file ≡ image
+  -- and the image is what is shown then
+  pub shown : (mark : ℕ) → (seen_of s).verdict ≡ verdict.Complete mark → (seen_of s).file ≡ image
+  -- until then it is receiving
+  pub receiving : ((seen_of s).verdict ≡ verdict.Receiving) ↔ AfterEach (NoFileAlone (shape_of s) s.setup.padding) s.heard
+  -- rows never run out, and there is no conflict
+  pub rows : (mark : ℕ) → (seen_of s).verdict ≢ verdict.NoRows mark
+  pub agrees : (mark : ℕ) → (seen_of s).verdict ≢ verdict.Conflict mark
+
+-- the report in which this is said of the session's verdict
+abbrev pub report_saying : ServerState → DeviceState → Seen → List ℕ → List ℕ
+report_saying server device seen words =
+    report_text (image_line server) (device_line server.stage device) (counts_line device.counts) (session_text seen.received seen.missing words)
+
+-- what is said of a session that is complete from a line on, with the server's image as its file
+abbrev pub complete_words : ℕ → List ℕ
+complete_words line = codes "complete at " ++ decimal line ++ codes " same"
+
+-- what the report says of the session
+pub record IsReported (image : List ℕ) (world : WorldState) (server : ServerState) (device : DeviceState) (s : Session) : Type 0 where
+  -- some fragment is the first after which one file alone fits, the image; or there is none yet
+  pub cases : ((line : ℕ) × FirstAlone (shape_of s) s.setup.padding image s.heard line) ⊎ AfterEach (NoFileAlone (shape_of s) s.setup.padding) s.heard
+  -- where there is one, the report names its line
+  pub complete : (line : ℕ) (file : List ℕ) → FirstAlone (shape_of s) s.setup.padding file s.heard line
+      → report_of world ≡ report_saying server device (seen_of s) (complete_words line)
+  -- and until then says so
+  pub receiving : AfterEach (NoFileAlone (shape_of s) s.setup.padding) s.heard
+      → report_of world ≡ report_saying server device (seen_of s) (codes "receiving")
+
+-- a campaign whose device has a session: the image's bytes, the script, how it ends, and both ends
+pub record IsCampaign (image script : List ℕ) (world : WorldState) (server : ServerState) (device : DeviceState) (session : Session) : Type 0 where
+  pub bytes : All (λ b. b < 2 ^ 8) image
+  pub accepted : campaign_of image script ≡ Ok world
+  pub server_is : world.server ≡ Some server
+  pub device_is : world.device ≡ Some device
+  pub session_is : device.session ≡ Some session
+
+-- the words and the files of a campaign: both files are within their limits, and the image is an image file
+pub record AreHandedIn (words : List (List ℕ)) (held : Held) (image script : List ℕ) : Type 0 where
+  pub form : is_form words ≡ true
+  pub image_held : held (word_at words 2) ≡ Some image
+  pub script_held : held (word_at words 3) ≡ Some script
+  pub image_short : length image ≤ IMAGE_LIMIT
+  pub script_short : length script ≤ SCRIPT_LIMIT
+  pub image_fine : is_image image ≡ true
+
+-- whatever image and accepted script of losses, repeats and reorderings there are
+pub record Headline : Type 0 where
+  pub served : (image script : List ℕ) (world : WorldState) (server : ServerState) (device : DeviceState) (session : Session)
+      → IsCampaign image script world server device session → IsServed image server session
+  pub recovered : (image script : List ℕ) (world : WorldState) (server : ServerState) (device : DeviceState) (session : Session)
+      → IsCampaign image script world server device session → IsRecovered image session
+  pub reported : (image script : List ℕ) (world : WorldState) (server : ServerState) (device : DeviceState) (session : Session)
+      → IsCampaign image script world server device session → IsReported image world server device session
+  -- the program's answer is that report
+  pub answered : (words : List (List ℕ)) (held : Held) (image script : List ℕ) (world : WorldState) → AreHandedIn words held image script
+      → campaign_of image script ≡ Ok world → answer_of words held ≡ answer status.Done (report_of world)

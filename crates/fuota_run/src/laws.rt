@@ -1,0 +1,15 @@
+//! Laws about the definitions, each the contract of a function that does nothing.
+
+ghost use Rattle.fuota_run.specs.Headline.{FirstMoment, Headline};
+
+/// A session is decided by the first heard fragment after which its file is no longer open: it is whole
+/// from the first one on after which one file alone fits, and shows that file.
+pub fn first_moment()
+    ensures { FirstMoment }
+{}
+
+/// In each accepted campaign the session is complete from the first heard fragment on after which one file
+/// alone fits, that file is the server's image, and the report says so.
+pub fn headline()
+    ensures { Headline }
+{}
