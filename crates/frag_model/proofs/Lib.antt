@@ -10,3 +10,4 @@ pub mod Dimension
 pub mod Uniqueness
 pub mod Flips
 pub mod Enough
+pub mod Draws

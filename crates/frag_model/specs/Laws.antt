@@ -1,5 +1,5 @@
 -- Laws about the definitions alone. Functions with an empty body have them as their contracts.
-use Rattle.std.specs.Prelude.{◌≡◌, ◌↔◌, ℕ, ◌+◌, ◌<◌, ◌≤◌, List, [], ◌∷◌, ◌++◌, take}
+use Rattle.std.specs.Prelude.{◌≡◌, ◌↔◌, ℕ, ◌+◌, ◌*◌, ◌/◌, ◌<◌, ◌≤◌, List, [], ◌∷◌, ◌++◌, length, take}
 use Rattle.std.specs.List.{AllByRecursion}
 use Rattle.frag_model.specs.Parity.{prbs23, residues, columns_drawn, line, draws}
 use Rattle.frag_model.specs.Gain.{gain_of, direct_of, gain, direct, excess}
@@ -46,6 +46,13 @@ pub record EnoughRowsForTheUnheard : Type 0 where
   -- and from it on there are rows enough
   pub after : (shape : Shape) (newer older : List Heard) → AllByRecursion (IsUncoded shape) older → shape.nb_frag ≤ direct shape older + shape.rows
       → AreNumbered newer → excess shape (newer ++ older) ≤ shape.rows
+
+-- every line has enough draws, for every number of a coded fragment and up to 1,024 columns
+pub record EveryLineHasEnoughDraws : Type 0 where
+  -- half as many columns as there are, rounded down, are found among its residues, a column drawn twice counting twice
+  pub columns : (n cols : ℕ) → n ≤ 8380 → cols ≤ 1024 → length (columns_drawn n cols) ≡ cols / 2
+  -- and the last of them in the 25 states for each
+  pub draws : (n cols : ℕ) → draws n cols ≤ 25 * (cols / 2)
 
 -- worked values of the standard's generator, and of gain and excess over four pieces, numbers newest first
 pub record WorkedValues : Type 0 where

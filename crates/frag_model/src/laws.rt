@@ -1,6 +1,6 @@
 //! Laws about the definitions, each the contract of a function that does nothing.
 
-ghost use Rattle.frag_model.specs.Laws.{ExactlyOneVerdict, OneBlockIsOneFile, FullGainIsUniqueness, GainIsBounded, EnoughRowsForTheUnheard, WorkedValues};
+ghost use Rattle.frag_model.specs.Laws.{ExactlyOneVerdict, OneBlockIsOneFile, FullGainIsUniqueness, GainIsBounded, EnoughRowsForTheUnheard, EveryLineHasEnoughDraws, WorkedValues};
 
 /// Of each list of heard fragments exactly one verdict is right: the one that `verdict` gives.
 pub fn exactly_one_verdict()
@@ -25,6 +25,11 @@ pub fn gain_is_bounded()
 /// As many rows as there are pieces unheard at the first coded fragment are enough.
 pub fn enough_rows_for_the_unheard()
     ensures { EnoughRowsForTheUnheard }
+{}
+
+/// Every line finds its columns within 25 states for each.
+pub fn every_line_has_enough_draws()
+    ensures { EveryLineHasEnoughDraws }
 {}
 
 /// The definitions give the worked values of lines, draws, gain and direct.
