@@ -15,9 +15,11 @@ use Rattle.fuota_run.specs.Report.{image_line, device_line, counts_line, verdict
 use Rattle.fuota_run.specs.declared.status.Status.TheVariants as status
 use Rattle.fuota_run.specs.Outside.{Held}
 use Rattle.fuota_run.specs.Answer.{answer, script_answer, campaign_answer, answer_of}
-use Rattle.fuota_run.specs.Headline.{IsWhole, FirstAt, IsDecidedAtFirst, IsFragmentOf, FirstAlone, IsServed, IsRecovered, IsReported, IsCampaign, AreHandedIn, Headline}
+use Rattle.fuota_run.specs.Headline.{IsWhole, FirstAt, IsDecidedAtFirst, IsFragmentOf, FirstAlone, IsServed, CameInOrder, IsRecovered, IsReported, IsCampaign, AreHandedIn, Headline}
 use Rattle.fuota_run.proofs.HeadlineMoments.{decided_at_first}
 use Rattle.fuota_run.proofs.HeadlineWorlds.{IsSetFor, campaign_session}
+use Rattle.fuota_run.proofs.HeadlineLines.{campaign_came}
+use Rattle.fuota_run.specs.Script.{lines_of}
 use Rattle.fuota_run.proofs.HeadlineImage.{IsShapeFor, image_fits, alone_is_image, has_room, open_where_none, none_where_open, behind}
 
 -- the session's shape is the image's
@@ -110,6 +112,10 @@ served image script world server device session c =
       heard = k.1.heard;
     }
 
+delivered : (image script : List ℕ) (world : WorldState) (server : ServerState) (device : DeviceState) (session : Session) → IsCampaign image script world server device session
+    → CameInOrder (lines_of script) world.sent world.lines session.heard
+delivered image script world server device session c = campaign_came image script world device session c.accepted c.device_is c.session_is
+
 recovered : (image script : List ℕ) (world : WorldState) (server : ServerState) (device : DeviceState) (session : Session) → IsCampaign image script world server device session → IsRecovered image session
 recovered image script world server device session c =
     let k = set_for image script world server device session c in
@@ -167,4 +173,4 @@ answered words held image script world h is =
     rw (h.form, h.image_held, le-ltb _ _ h.image_short, h.image_fine, h.script_held, le-ltb _ _ h.script_short, is) refl
 
 pub headline : Headline
-headline = record { served = served; recovered = recovered; reported = reported; answered = answered }
+headline = record { served = served; delivered = delivered; recovered = recovered; reported = reported; answered = answered }

@@ -266,7 +266,7 @@ at_devices place.Devices is early = early
 at_devices place.Events is early = early
 at_devices place.Ended is early = early
 
-form_keeps : (image : List ℕ) (w : WorldState) (form : Form) → Keeps image w → form_cause (circumstances_of w) form ≡ None → Keeps image (form_made w form)
+pub form_keeps : (image : List ℕ) (w : WorldState) (form : Form) → Keeps image w → form_cause (circumstances_of w) form ≡ None → Keeps image (form_made w form)
 unfolding form_made
 form_keeps image w Header k fine =
     let was = k.early (at_header w.place (allowed w Header fine).1) in
@@ -300,13 +300,13 @@ form_keeps image w (Up uplink) k fine =
     events image (record w { server = hears w.server (numbered w.uplinks uplink) }) (with_server image w (hears w.server (numbered w.uplinks uplink)) k heard.0 heard.1)
 form_keeps image w End k fine = record { image_is = k.image_is; early = λ e. absurd e; server = k.server; sent = k.sent; device = k.device }
 
-made_keeps : (image : List ℕ) (w : WorldState) (form : Option Form) → Keeps image w → form_cause_of (circumstances_of w) form ≡ None → Keeps image (form_made_of w form)
+pub made_keeps : (image : List ℕ) (w : WorldState) (form : Option Form) → Keeps image w → form_cause_of (circumstances_of w) form ≡ None → Keeps image (form_made_of w form)
 made_keeps image w None k fine = k
 made_keeps image w (Some form) k fine =
     let now = form_keeps image w form k fine in
     record { image_is = now.image_is; early = now.early; server = now.server; sent = now.sent; device = now.device }
 
-cause_by : (b : Bool) (why : LineWhy) (rest : Option LineWhy) → cond b (Some why) rest ≡ None → rest ≡ None
+pub cause_by : (b : Bool) (why : LineWhy) (rest : Option LineWhy) → cond b (Some why) rest ≡ None → rest ≡ None
 cause_by true why rest is = absurd cc
 cause_by false why rest is = is
 
@@ -321,10 +321,10 @@ lines_keep image (Err fault) lines k = tt
 lines_keep image (Ok w) [] k = k
 lines_keep image (Ok w) (line ∷ lines) k = lines_keep image (line_read w line) lines (line_by image w line (cause_of (circumstances_of w) line) k refl)
 
-first_keeps : (image : List ℕ) → Keeps image (first_world image)
+pub first_keeps : (image : List ℕ) → Keeps image (first_world image)
 first_keeps image = record { image_is = refl; early = λ e. (refl, refl); server = tt; sent = tt; device = tt }
 
-ended_by : (b : Bool) (w : WorldState) (fault : LineFault) (world : WorldState) → cond b (Ok w) (Err fault) ≡ Ok world → w ≡ world
+pub ended_by : (b : Bool) (w : WorldState) (fault : LineFault) (world : WorldState) → cond b (Ok w) (Err fault) ≡ Ok world → w ≡ world
 ended_by true w fault world is = cc
 ended_by false w fault world is = absurd cc
 
@@ -338,7 +338,7 @@ unfolding campaign_of
 campaign_keeps image script world is =
     ended_keeps image (lines_read (Ok (first_world image)) (lines_of script)) world (lines_keep image (Ok (first_world image)) (lines_of script) (first_keeps image)) is
 
-if_some : {A : Type 0} (P : A → Type 0) (o : Option A) (x : A) → o ≡ Some x → IfSome o P → P x
+pub if_some : {A : Type 0} (P : A → Type 0) (o : Option A) (x : A) → o ≡ Some x → IfSome o P → P x
 if_some P None x is h = absurd cc
 if_some P (Some y) x is h = let same : y ≡ x = cc in subst P same h
 

@@ -15,4 +15,5 @@ pub mod Playing
 pub mod HeadlineMoments
 pub mod HeadlineWorlds
 pub mod HeadlineImage
+pub mod HeadlineLines
 pub mod HeadlineLaw

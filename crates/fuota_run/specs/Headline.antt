@@ -1,6 +1,6 @@
 -- The headline in the field's own words: when a session is decided, what is then known, and of which file.
 -- (TS004-1.0.0 leaves recovery to the device; when it ends, and how, is this project's profile.)
-use Rattle.std.specs.Prelude.{◌≡◌, ◌≢◌, ◌↔◌, ℕ, ◌<◌, ◌≤◌, ◌^◌, ◌⊎◌, List, [], ◌∷◌, ◌++◌, length, All, codes, true, Some, Ok}
+use Rattle.std.specs.Prelude.{◌≡◌, ◌≢◌, ◌↔◌, ℕ, ◌<◌, ◌≤◌, ◌^◌, ◌⊎◌, List, [], ◌∷◌, ◌++◌, length, All, codes, true, Option, Some, Ok, ◌-◌}
 use Rattle.std.specs.List.{AllByRecursion}
 use Rattle.std.specs.Fmt.{decimal}
 use Rattle.frag_model.specs.Fragments.{Heard as Fragment, Shape}
@@ -15,7 +15,11 @@ use Rattle.fuota_run.specs.Image.{is_image}
 use Rattle.fuota_run.specs.Answer.{answer, is_form, word_at, answer_of}
 use Rattle.fuota_run.specs.Server.{ServerState, fragments_of, padding_of, fragment_of}
 use Rattle.fuota_run.specs.Device.{DeviceState}
-use Rattle.fuota_run.specs.World.{WorldState, campaign_of}
+use Rattle.cast_wire.specs.declared.cmd.Cmd.TheVariants.{DataFragment}
+use Rattle.fuota_run.specs.declared.grammar.Command.TheVariants.{Cast}
+use Rattle.fuota_run.specs.declared.lines.Form.TheVariants.{Down}
+use Rattle.fuota_run.specs.Script.{form_of, lines_of}
+use Rattle.fuota_run.specs.World.{WorldState, Sending, numbered, campaign_of}
 use Rattle.fuota_run.specs.Report.{image_line, device_line, counts_line, session_text, report_text, report_of}
 
 -- after each fragment that was heard this holds of all that was heard by then
@@ -120,6 +124,20 @@ pub record IsServed (image : List ℕ) (server : ServerState) (session : Session
   pub padding : session.setup.padding ≡ padding_of (length image) server.frag_size
   pub heard : AllByRecursion (IsFragmentOf image server.frag_size) session.heard
 
+-- the line of the script whose number is the fragment's mark is a down, and the payload that it delivers is this fragment
+pub record IsDelivery (lines : List (List ℕ)) (sent : List Sending) (f : Fragment) (line : List ℕ) (payload device word : ℕ) (to : Option ℕ) : Type 0 where
+  pub line_is : numbered lines f.mark ≡ Some line
+  pub form : form_of line ≡ Some (Down payload device word)
+  pub payload_is : numbered sent payload ≡ Some (record { to = to; command = Cast (DataFragment 0 f.number f.part) })
+
+abbrev pub WasDelivered : List (List ℕ) → List Sending → Fragment → Type 0
+WasDelivered lines sent f = (line : List ℕ) × (payload : ℕ) × (device : ℕ) × (word : ℕ) × (to : Option ℕ) × IsDelivery lines sent f line payload device word to
+
+-- each fragment was delivered up to this line, and those heard before it at lines before its own
+abbrev pub CameInOrder : List (List ℕ) → List Sending → ℕ → List Fragment → Type 0
+CameInOrder lines sent last [] = Unit {0}
+CameInOrder lines sent last (f ∷ older) = (f.mark ≤ last) × WasDelivered lines sent f × CameInOrder lines sent (f.mark - 1) older
+
 -- what is seen of the session in a campaign, where the image is known
 pub record IsRecovered (image : List ℕ) (s : Session) : Type 0 where
   -- complete at the first fragment after which one file alone fits
@@ -175,6 +193,9 @@ pub record AreHandedIn (words : List (List ℕ)) (held : Held) (image script : L
 pub record Headline : Type 0 where
   pub served : (image script : List ℕ) (world : WorldState) (server : ServerState) (device : DeviceState) (session : Session)
       → IsCampaign image script world server device session → IsServed image server session
+  -- a fragment's mark is the number of the line that delivered it
+  pub delivered : (image script : List ℕ) (world : WorldState) (server : ServerState) (device : DeviceState) (session : Session)
+      → IsCampaign image script world server device session → CameInOrder (lines_of script) world.sent world.lines session.heard
   pub recovered : (image script : List ℕ) (world : WorldState) (server : ServerState) (device : DeviceState) (session : Session)
       → IsCampaign image script world server device session → IsRecovered image session
   pub reported : (image script : List ℕ) (world : WorldState) (server : ServerState) (device : DeviceState) (session : Session)

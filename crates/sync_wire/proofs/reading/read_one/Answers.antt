@@ -1,0 +1,30 @@
+use Rattle.std.proofs.Common.{◌≡◌, ℕ, subst, ◌∙◌, arith}
+use Rattle.wire_base.specs.declared.refusal.Direction.{Direction}
+use Rattle.wire_base.specs.declared.refusal.Direction.TheVariants.{Down, Up}
+use Rattle.sync_wire.specs.Table.{Spells}
+use Rattle.sync_wire.proofs.Only.{ok_of, only}
+use Rattle.sync_wire.proofs.reading.read_one.Goals as goal
+
+pub returns-in-Down-clause-only : goal.returns-in-Down-clause-only
+returns-in-Down-clause-only c = λ cmd next fits s.
+    let port_is : c.args.port ≡ 202 = c.if-port-eq-CLOCK_PORT.true in
+    let here = subst (λ (d : Direction). Spells cmd 202 d c.args.bytes.now c.args.at next) c.in-Down.is (subst (λ (p : ℕ). Spells cmd p c.args.dir c.args.bytes.now c.args.at next) port_is s) in
+    ok_of _ _ (c.read_clock_down.ensures.exact ∙ only cmd 202 Down c.args.bytes.now c.args.at next here)
+
+pub returns-in-Down-2-clause-only : goal.returns-in-Down-2-clause-only
+returns-in-Down-2-clause-only c = λ cmd next fits s.
+    let port_is : c.args.port ≡ 203 = search arith in
+    let here = subst (λ (d : Direction). Spells cmd 203 d c.args.bytes.now c.args.at next) c.in-Down-2.is (subst (λ (p : ℕ). Spells cmd p c.args.dir c.args.bytes.now c.args.at next) port_is s) in
+    ok_of _ _ (c.read_firmware_down.ensures.exact ∙ only cmd 203 Down c.args.bytes.now c.args.at next here)
+
+pub returns-in-Up-clause-only : goal.returns-in-Up-clause-only
+returns-in-Up-clause-only c = λ cmd next fits s.
+    let port_is : c.args.port ≡ 202 = c.if-port-eq-CLOCK_PORT-2.true in
+    let here = subst (λ (d : Direction). Spells cmd 202 d c.args.bytes.now c.args.at next) c.in-Up.is (subst (λ (p : ℕ). Spells cmd p c.args.dir c.args.bytes.now c.args.at next) port_is s) in
+    ok_of _ _ (c.read_clock_up.ensures.exact ∙ only cmd 202 Up c.args.bytes.now c.args.at next here)
+
+pub returns-in-Up-2-clause-only : goal.returns-in-Up-2-clause-only
+returns-in-Up-2-clause-only c = λ cmd next fits s.
+    let port_is : c.args.port ≡ 203 = search arith in
+    let here = subst (λ (d : Direction). Spells cmd 203 d c.args.bytes.now c.args.at next) c.in-Up-2.is (subst (λ (p : ℕ). Spells cmd p c.args.dir c.args.bytes.now c.args.at next) port_is s) in
+    ok_of _ _ (c.read_firmware_up.ensures.exact ∙ only cmd 203 Up c.args.bytes.now c.args.at next here)

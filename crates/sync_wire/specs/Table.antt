@@ -1,0 +1,93 @@
+-- The commands of TS003-1.0.0 (port 202) and TS006-1.0.0 (port 203): one row for each, as the standard's tables have them.
+use Rattle.std.specs.Prelude.{◌≡◌, ℕ, ◌<◌, ◌≤◌, ◌⊎◌, ◌==◌, List, [], ◌∷◌, length, Option, Some, None, is_some, FitsSigned}
+use Rattle.std.specs.Int.{w32, cast_unsigned}
+use Rattle.wire_base.specs.declared.refusal.Direction.{Direction}
+use Rattle.wire_base.specs.declared.refusal.Direction.TheVariants.{Down, Up}
+use Rattle.wire_base.specs.declared.payload.TheConstants.{MAX_PAYLOAD}
+use Rattle.wire_base.specs.declared.refusal.Refusal.{Refusal}
+use Rattle.wire_base.specs.declared.refusal.Why.{Why}
+use Rattle.wire_base.specs.declared.refusal.Why.TheVariants.{Port, UnknownCommand, Short, TooLong}
+use Rattle.wire_base.specs.Numbers.{number_at}
+use Rattle.wire_base.specs.Rows.{Row, Part, bits, flag, number, packed, IsListed, Lies, PartsFit, spelling}
+use Rattle.sync_wire.specs.declared.cmd.Cmd.{Cmd}
+use Rattle.sync_wire.specs.declared.cmd.Cmd.TheVariants.{PackageVersionReq, PackageVersionAns, AppTimeReq, AppTimeAns, DeviceAppTimePeriodicityReq, DeviceAppTimePeriodicityAns, ForceDeviceResyncReq, DevVersionReq, DevVersionAns, DevRebootTimeReq, DevRebootTimeAns, DevRebootCountdownReq, DevRebootCountdownAns, DevUpgradeImageReq, DevUpgradeImageAns, DevDeleteImageReq, DevDeleteImageAns}
+
+-- the next version, where it is there
+abbrev pub next_parts : Option ℕ → List Part
+next_parts None = []
+next_parts (Some version) = number 4 version ∷ []
+
+-- the table; the correction is signed, in two's complement
+abbrev pub row : Cmd → Row
+row PackageVersionReq = record { ports = 202 ∷ 203 ∷ []; direction = Down; cid = 0x00; parts = [] }
+row (PackageVersionAns identifier version) = record { ports = 202 ∷ 203 ∷ []; direction = Up; cid = 0x00; parts = number 1 identifier ∷ number 1 version ∷ [] }
+row (AppTimeReq time required token) = record { ports = 202 ∷ []; direction = Up; cid = 0x01; parts = number 4 time ∷ packed 1 (flag 4 required ∷ bits 3 0 token ∷ []) ∷ [] }
+row (AppTimeAns correction token) = record { ports = 202 ∷ []; direction = Down; cid = 0x01; parts = number 4 (cast_unsigned w32 correction) ∷ packed 1 (bits 3 0 token ∷ []) ∷ [] }
+row (DeviceAppTimePeriodicityReq period) = record { ports = 202 ∷ []; direction = Down; cid = 0x02; parts = packed 1 (bits 3 0 period ∷ []) ∷ [] }
+row (DeviceAppTimePeriodicityAns unsupported time) = record { ports = 202 ∷ []; direction = Up; cid = 0x02; parts = packed 1 (flag 0 unsupported ∷ []) ∷ number 4 time ∷ [] }
+row (ForceDeviceResyncReq count) = record { ports = 202 ∷ []; direction = Down; cid = 0x03; parts = packed 1 (bits 2 0 count ∷ []) ∷ [] }
+row DevVersionReq = record { ports = 203 ∷ []; direction = Down; cid = 0x01; parts = [] }
+row (DevVersionAns firmware hardware) = record { ports = 203 ∷ []; direction = Up; cid = 0x01; parts = number 4 firmware ∷ number 4 hardware ∷ [] }
+row (DevRebootTimeReq time) = record { ports = 203 ∷ []; direction = Down; cid = 0x02; parts = number 4 time ∷ [] }
+row (DevRebootTimeAns time) = record { ports = 203 ∷ []; direction = Up; cid = 0x02; parts = number 4 time ∷ [] }
+row (DevRebootCountdownReq count) = record { ports = 203 ∷ []; direction = Down; cid = 0x03; parts = number 3 count ∷ [] }
+row (DevRebootCountdownAns count) = record { ports = 203 ∷ []; direction = Up; cid = 0x03; parts = number 3 count ∷ [] }
+row DevUpgradeImageReq = record { ports = 203 ∷ []; direction = Down; cid = 0x04; parts = [] }
+row (DevUpgradeImageAns status next) = record { ports = 203 ∷ []; direction = Up; cid = 0x04; parts = packed 1 (bits 1 0 status ∷ []) ∷ next_parts next }
+row (DevDeleteImageReq version) = record { ports = 203 ∷ []; direction = Down; cid = 0x05; parts = number 4 version ∷ [] }
+row (DevDeleteImageAns errors) = record { ports = 203 ∷ []; direction = Up; cid = 0x05; parts = packed 1 (bits 1 0 errors ∷ []) ∷ [] }
+
+-- what a command's fields must be together: the correction has 32 bits with its sign, and the next version is there
+-- exactly where the status is 3
+abbrev pub IsWhole : Cmd → Type 0
+IsWhole (AppTimeAns correction token) = FitsSigned w32 correction
+IsWhole (DevUpgradeImageAns status next) = is_some next ≡ (status == 3)
+IsWhole _ = Unit {0}
+
+-- a valid command: each field fits the bits that the table gives it, and they fit together
+pub record IsValid (c : Cmd) : Type 0 where
+  pub fields : PartsFit (row c).parts
+  pub whole : IsWhole c
+
+-- in a payload of that port and direction the bytes from a place to the next spell the command; reserved bits are free
+pub record Spells (c : Cmd) (port : ℕ) (direction : Direction) (bytes : List ℕ) (at next : ℕ) : Type 0 where
+  pub listed : IsListed (row c) port direction
+  pub lies : Lies (row c) bytes at next
+  pub whole : IsWhole c
+
+-- the canonical spelling of a command: its bytes with reserved bits 0
+abbrev pub canonical : Cmd → List ℕ
+canonical c = spelling (row c)
+
+-- the ports of the two packages
+abbrev pub IsPort : ℕ → Type 0
+IsPort port = (port ≡ 202) ⊎ (port ≡ 203)
+
+-- some command of the table for that port and direction has this identifier
+pub record IsKnown (port : ℕ) (direction : Direction) (cid : ℕ) : Type 0 where
+  pub command : Cmd
+  pub listed : IsListed (row command) port direction
+  pub cid_is : (row command).cid ≡ cid
+
+-- a payload of one of the two packages that isn't too long
+abbrev pub IsRead : ℕ → List ℕ → Type 0
+IsRead port bytes = IsPort port × (length bytes ≤ MAX_PAYLOAD)
+
+-- when a place where no command is spelled is refused for a reason
+abbrev pub IsRefused : ℕ → Direction → List ℕ → (at : ℕ) → Why → Type 0
+IsRefused port direction bytes at Port = ¬ IsPort port
+IsRefused port direction bytes at TooLong = IsPort port × (MAX_PAYLOAD < length bytes)
+IsRefused port direction bytes at UnknownCommand = IsRead port bytes × ¬ IsKnown port direction (number_at bytes at 1)
+IsRefused port direction bytes at Short = IsRead port bytes × IsKnown port direction (number_at bytes at 1)
+
+-- the place that a refusal names
+abbrev pub place_of : List ℕ → (at : ℕ) → Why → ℕ
+place_of bytes at Port = 0
+place_of bytes at TooLong = MAX_PAYLOAD
+place_of bytes at UnknownCommand = at
+place_of bytes at Short = length bytes
+
+-- a refusal names its reason and its place
+pub record HasCause (port : ℕ) (direction : Direction) (bytes : List ℕ) (at : ℕ) (refusal : Refusal) : Type 0 where
+  pub why : IsRefused port direction bytes at refusal.why
+  pub place : refusal.at ≡ place_of bytes at refusal.why

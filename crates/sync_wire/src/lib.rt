@@ -1,0 +1,28 @@
+//! The commands of clock synchronization (TS003-1.0.0, port 202) and firmware management (TS006-1.0.0, port 203),
+//! one by one, as values and as bytes.
+//! A command is answered exactly where its bytes spell it by the row of `specs/Table.antt`, any other place is
+//! refused with its cause, and a valid command is written in its canonical spelling, whole or not at all.
+//! Payloads of several commands, the other packages and what a command does are left to the crates above.
+#![tactic(auto)]
+
+mod cmd;
+mod ids;
+mod laws;
+mod reading;
+mod reading_clock;
+mod reading_firmware;
+mod refusals;
+mod validity;
+mod writing;
+mod writing_clock;
+mod writing_firmware;
+
+pub use cmd::Cmd;
+pub use ids::{CLOCK_PORT, FIRMWARE_PORT};
+pub use laws::{no_spelling_begins_another, place_has_one_spelling, written_is_read};
+pub use reading::read_one;
+pub use validity::valid;
+pub use writing::write_one;
+
+#[cfg(test)]
+mod tests;

@@ -1,0 +1,43 @@
+ghost use Rattle.std.specs.Prelude.{◌≡◌, ℕ, ◌<◌, ◌≤◌, length, IfOk, OnOk, IfErr, Ok};
+ghost use Rattle.sync_wire.specs.Table.{Spells, IsValid, HasCause};
+
+use crate::cmd::Cmd;
+use crate::ids::{CLOCK_PORT, FIRMWARE_PORT};
+use crate::reading_clock::{read_clock_down, read_clock_up};
+use crate::reading_firmware::{read_firmware_down, read_firmware_up};
+use wire_base::{Direction, MAX_PAYLOAD, Refusal, Why};
+
+/// The command at a place of a payload, and the place behind it; reserved bits are ignored.
+/// Else the first cause: `Port` at 0, `TooLong` at 242, `UnknownCommand` at the place, `Short` at the payload's end.
+pub fn read_one(port: u8, dir: Direction, bytes: &[u8], at: u16) -> Result<(Cmd, u16), Refusal>
+    requires { at < length bytes.now }
+    // What is answered is spelled there.
+    ensures found { IfOk result (λ r. Spells r.0 port dir bytes.now at r.1) }
+    // What is spelled there is answered, in a payload that isn't too long.
+    ensures only { (c : Cmd) (next : ℕ) → length bytes.now ≤ MAX_PAYLOAD
+        → Spells c port dir bytes.now at next → result ≡ Ok (c, next) }
+    ensures fits { OnOk result (length bytes.now ≤ MAX_PAYLOAD) }
+    ensures valid { IfOk result (λ r. IsValid r.0) }
+    ensures moves { IfOk result (λ r. at < r.1) }
+    // Where nothing is answered: the place and the cause.
+    ensures stops { IfErr result (HasCause port dir bytes.now at) }
+{
+    if port != CLOCK_PORT && port != FIRMWARE_PORT {
+        return Err(Refusal {
+            at: 0,
+            why: Why::Port,
+        });
+    }
+    if bytes.len() > MAX_PAYLOAD {
+        return Err(Refusal {
+            at: MAX_PAYLOAD as u16,
+            why: Why::TooLong,
+        });
+    }
+    match dir {
+        Direction::Down if port == CLOCK_PORT => read_clock_down(bytes, at),
+        Direction::Down => read_firmware_down(bytes, at),
+        Direction::Up if port == CLOCK_PORT => read_clock_up(bytes, at),
+        Direction::Up => read_firmware_up(bytes, at),
+    }
+}
