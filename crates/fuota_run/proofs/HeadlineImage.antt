@@ -61,13 +61,13 @@ pieces_of-at (suc count) size (suc k) xs lt =
 -- ---- the image's block
 
 -- the image and the zeros that fill its last piece
-filled : List ℕ → ℕ → List ℕ
+unfoldable pub filled : List ℕ → ℕ → List ℕ
 filled image size = image ++ replicate (padding_of (length image) size) 0
 
 block_of : List ℕ → ℕ → List (List ℕ)
 block_of image size = pieces_of (fragments_of (length image) size) size (filled image size)
 
-filled_long : (image : List ℕ) (size : ℕ) → 0 < size → length (filled image size) ≡ fragments_of (length image) size * size
+pub filled_long : (image : List ℕ) (size : ℕ) → 0 < size → length (filled image size) ≡ fragments_of (length image) size * size
 unfolding filled
 filled_long image size some =
     let bound : length image ≤ fragments_of (length image) size * size = (div_ceil_times (length image) size some).0 in

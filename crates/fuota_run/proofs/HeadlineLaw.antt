@@ -15,10 +15,11 @@ use Rattle.fuota_run.specs.Report.{image_line, device_line, counts_line, verdict
 use Rattle.fuota_run.specs.declared.status.Status.TheVariants as status
 use Rattle.fuota_run.specs.Outside.{Held}
 use Rattle.fuota_run.specs.Answer.{answer, script_answer, campaign_answer, answer_of}
-use Rattle.fuota_run.specs.Headline.{IsWhole, FirstAt, IsDecidedAtFirst, IsFragmentOf, FirstAlone, IsServed, CameInOrder, IsRecovered, IsReported, IsCampaign, AreHandedIn, Headline}
+use Rattle.fuota_run.specs.Headline.{IsWhole, FirstAt, IsDecidedAtFirst, IsFragmentOf, FirstAlone, IsServed, HearsDelivered, IsRecovered, IsReported, IsCampaign, AreHandedIn, Headline}
 use Rattle.fuota_run.proofs.HeadlineMoments.{decided_at_first}
 use Rattle.fuota_run.proofs.HeadlineWorlds.{IsSetFor, campaign_session}
 use Rattle.fuota_run.proofs.HeadlineLines.{campaign_came}
+use Rattle.fuota_run.proofs.HeadlineHeard.{campaign_hears}
 use Rattle.fuota_run.specs.Script.{lines_of}
 use Rattle.fuota_run.proofs.HeadlineImage.{IsShapeFor, image_fits, alone_is_image, has_room, open_where_none, none_where_open, behind}
 
@@ -113,8 +114,11 @@ served image script world server device session c =
     }
 
 delivered : (image script : List ℕ) (world : WorldState) (server : ServerState) (device : DeviceState) (session : Session) → IsCampaign image script world server device session
-    → CameInOrder (lines_of script) world.sent world.lines session.heard
-delivered image script world server device session c = campaign_came image script world device session c.accepted c.device_is c.session_is
+    → HearsDelivered image (lines_of script) world server session
+delivered image script world server device session c = record {
+  only = campaign_came image script world device session server.frag_size c.accepted c.device_is c.session_is (set_for image script world server device session c).1.setup;
+  all = campaign_hears image script world server device session c.accepted c.server_is c.device_is c.session_is;
+}
 
 recovered : (image script : List ℕ) (world : WorldState) (server : ServerState) (device : DeviceState) (session : Session) → IsCampaign image script world server device session → IsRecovered image session
 recovered image script world server device session c =

@@ -1,6 +1,6 @@
 -- Each heard fragment was delivered by the line whose number is its mark.
 use Rattle.std.proofs.Common.{◌≡◌, inl, inr, ℕ, zero, suc, ◌+◌, ◌-◌, ◌≤◌, Bool, true, false, cond, ◌==◌, List, [], ◌∷◌, ◌++◌, drop, slice_get, Option, None, Some, IfSome, is_none, option_map, Result, Ok, Err, IfOk, refl, sym, ap, ◌∙◌, subst, arith, ne_eqb}
-use Rattle.cast_wire.specs.declared.cmd.Cmd.TheVariants.{DataFragment}
+use Rattle.cast_wire.specs.declared.cmd.Cmd.TheVariants.{FragSessionSetupReq, DataFragment}
 use Rattle.frag_model.specs.Fragments.{Heard as Fragment}
 use Rattle.frag_session.specs.declared.setups.SetupReq.{SetupReq}
 use Rattle.frag_session.specs.declared.setups.Limits.{Limits}
@@ -15,10 +15,10 @@ use Rattle.fuota_run.specs.declared.lines.Form.TheVariants.{Header, Image, Devic
 use Rattle.fuota_run.specs.declared.world.LineWhy.{LineWhy}
 use Rattle.fuota_run.specs.declared.world.LineFault.{LineFault}
 use Rattle.fuota_run.specs.Script.{form_of, lines_of}
-use Rattle.fuota_run.specs.Server.{fragment_of}
+use Rattle.fuota_run.specs.Server.{fragment_of, setup_of}
 use Rattle.fuota_run.specs.Device.{DeviceState, limits_of, after_command, after_data, after_heard}
 use Rattle.fuota_run.specs.World.{WorldState, Sending, first_world, numbered, circumstances_of, form_cause_of, cause_of, sends, request_of, fragment_from, moved_on, reaches, form_made, form_made_of, after_line, judged, line_read, lines_read, ended, campaign_of}
-use Rattle.fuota_run.specs.Headline.{WasDelivered, CameInOrder}
+use Rattle.fuota_run.specs.Headline.{Delivers, WasDelivered, CameInOrder}
 use Rattle.fuota_run.proofs.WorldLemmas.{all_numbered}
 use Rattle.fuota_run.proofs.HeadlineWorlds.{setup_req, IsSentOf, size_of, Keeps, made_keeps, cause_by, ended_by, first_keeps, if_some}
 
@@ -34,7 +34,7 @@ more_by : {A : Type 0} (xs ys : List A) (b : Bool) (k : ℕ) (x : A) → cond b 
 more_by xs ys true k x is = absurd cc
 more_by xs ys false k x is = get_more xs ys k x is
 
-numbered_more : {A : Type 0} (xs ys : List A) (n : ℕ) (x : A) → numbered xs n ≡ Some x → numbered (xs ++ ys) n ≡ Some x
+pub numbered_more : {A : Type 0} (xs ys : List A) (n : ℕ) (x : A) → numbered xs n ≡ Some x → numbered (xs ++ ys) n ≡ Some x
 numbered_more xs ys n x is = more_by xs ys (n == 0) (n - 1) x is
 
 -- the item behind the first n
@@ -44,7 +44,7 @@ get_next [] (suc n) x rest is = absurd cc
 get_next (y ∷ ys) zero x rest is = (cc, cc)
 get_next (y ∷ ys) (suc n) x rest is = get_next ys n x rest is
 
-numbered_next : (xs : List (List ℕ)) (n : ℕ) (x : List ℕ) (rest : List (List ℕ)) → drop n xs ≡ x ∷ rest → (numbered xs (n + 1) ≡ Some x) × (drop (n + 1) xs ≡ rest)
+pub numbered_next : (xs : List (List ℕ)) (n : ℕ) (x : List ℕ) (rest : List (List ℕ)) → drop n xs ≡ x ∷ rest → (numbered xs (n + 1) ≡ Some x) × (drop (n + 1) xs ≡ rest)
 numbered_next xs n x rest is =
     let r = get_next xs n x rest is in
     let one : n + 1 ≡ suc n = omega arith in
@@ -54,28 +54,32 @@ numbered_next xs n x rest is =
       ap (λ (k : ℕ). drop k xs) one ∙ r.1,
     )
 
-some_weaker : {A : Type 0} (P Q : A → Type 0) (o : Option A) → ((x : A) → P x → Q x) → IfSome o P → IfSome o Q
+pub some_weaker : {A : Type 0} (P Q : A → Type 0) (o : Option A) → ((x : A) → P x → Q x) → IfSome o P → IfSome o Q
 some_weaker P Q None f h = tt
 some_weaker P Q (Some x) f h = f x h
 
 -- ---- deliveries as the campaign goes on
 
-later : (lines : List (List ℕ)) (sent : List Sending) (last next : ℕ) (heard : List Fragment) → last ≤ next → CameInOrder lines sent last heard → CameInOrder lines sent next heard
-later lines sent last next [] le h = tt
-later lines sent last next (f ∷ older) le h = (omega (arith, h.0, le), h.1, h.2)
+later : (lines : List (List ℕ)) (sent : List Sending) (setup : Command) (last next : ℕ) (heard : List Fragment) → last ≤ next → CameInOrder lines sent setup last heard → CameInOrder lines sent setup next heard
+later lines sent setup last next [] le h = (h.0, omega (arith, h.1, le), h.2)
+later lines sent setup last next (f ∷ older) le h = (omega (arith, h.0, le), h.1, h.2)
 
-more_sent : (lines : List (List ℕ)) (sent more : List Sending) (last : ℕ) (heard : List Fragment) → CameInOrder lines sent last heard → CameInOrder lines (sent ++ more) last heard
-more_sent lines sent more last [] h = tt
-more_sent lines sent more last (f ∷ older) h =
-    let d = h.1.5 in (
-      h.0,
-      (h.1.0, h.1.1, h.1.2, h.1.3, h.1.4, record { line_is = d.line_is; form = d.form; payload_is = numbered_more sent more h.1.1 _ d.payload_is }),
-      more_sent lines sent more (f.mark - 1) older h.2,
-    )
+still_delivers : (lines : List (List ℕ)) (sent more : List Sending) (n : ℕ) (c : Command) → Delivers lines sent n c → Delivers lines (sent ++ more) n c
+still_delivers lines sent more n c d =
+    (d.0, d.1, d.2, d.3, d.4, record { line_is = d.5.line_is; form = d.5.form; payload_is = numbered_more sent more d.1 _ d.5.payload_is })
+
+more_sent : (lines : List (List ℕ)) (sent more : List Sending) (setup : Command) (last : ℕ) (heard : List Fragment) → CameInOrder lines sent setup last heard → CameInOrder lines (sent ++ more) setup last heard
+more_sent lines sent more setup last [] h = (h.0, h.1, still_delivers lines sent more h.0 setup h.2)
+more_sent lines sent more setup last (f ∷ older) h =
+    (h.0, still_delivers lines sent more f.mark (Cast (DataFragment 0 f.number f.part)) h.1, more_sent lines sent more setup (f.mark - 1) older h.2)
+
+-- the request that a setup came by
+abbrev command_of : SetupReq → Command
+command_of r = Cast (FragSessionSetupReq r.index r.mask r.nb_frag r.frag_size r.algo r.delay r.padding r.descriptor)
 
 -- what a session heard
 abbrev SessionCame : List (List ℕ) → List Sending → ℕ → Session → Type 0
-SessionCame lines sent last s = CameInOrder lines sent last s.heard
+SessionCame lines sent last s = CameInOrder lines sent (command_of s.setup) last s.heard
 
 -- what a device's session heard
 abbrev DeviceCame : List (List ℕ) → List Sending → ℕ → DeviceState → Type 0
@@ -83,7 +87,7 @@ DeviceCame lines sent last d = IfSome d.session (SessionCame lines sent last)
 
 device_later : (lines : List (List ℕ)) (sent : List Sending) (n : ℕ) (d : DeviceState) → DeviceCame lines sent n d → DeviceCame lines sent (n + 1) d
 device_later lines sent n d h =
-    some_weaker (SessionCame lines sent n) (SessionCame lines sent (n + 1)) d.session (λ s c. later lines sent n (n + 1) s.heard (omega arith) c) h
+    some_weaker (SessionCame lines sent n) (SessionCame lines sent (n + 1)) d.session (λ s c. later lines sent (command_of s.setup) n (n + 1) s.heard (omega arith) c) h
 
 all_later : (lines : List (List ℕ)) (sent : List Sending) (n : ℕ) (d : Option DeviceState) → IfSome d (DeviceCame lines sent n) → IfSome d (DeviceCame lines sent (n + 1))
 all_later lines sent n d h = some_weaker (DeviceCame lines sent n) (DeviceCame lines sent (n + 1)) d (device_later lines sent n) h
@@ -91,32 +95,32 @@ all_later lines sent n d h = some_weaker (DeviceCame lines sent n) (DeviceCame l
 all_more_sent : (lines : List (List ℕ)) (sent more : List Sending) (n : ℕ) (d : Option DeviceState) → IfSome d (DeviceCame lines sent n) → IfSome d (DeviceCame lines (sent ++ more) n)
 all_more_sent lines sent more n d h =
     some_weaker (DeviceCame lines sent n) (DeviceCame lines (sent ++ more) n) d
-    (λ x c. some_weaker (SessionCame lines sent n) (SessionCame lines (sent ++ more) n) x.session (λ s i. more_sent lines sent more n s.heard i) c) h
+    (λ x c. some_weaker (SessionCame lines sent n) (SessionCame lines (sent ++ more) n) x.session (λ s i. more_sent lines sent more (command_of s.setup) n s.heard i) c) h
 
 -- ---- a command
 
-fresh_came : (lines : List (List ℕ)) (sent : List Sending) (last : ℕ) (limits : Limits) (req : SetupReq) → SessionCame lines sent last (new_session limits req)
+fresh_came : (lines : List (List ℕ)) (sent : List Sending) (last : ℕ) (limits : Limits) (req : SetupReq) → Delivers lines sent last (command_of req) → SessionCame lines sent last (new_session limits req)
 unfolding new_session
-fresh_came lines sent last limits req = tt
+fresh_came lines sent last limits req d = (last, omega arith, d)
 
-renewed_by : (lines : List (List ℕ)) (sent : List Sending) (last : ℕ) (limits : Limits) (s : Session) (req : SetupReq) (b : Bool) → SessionCame lines sent last s → SessionCame lines sent last (cond b s (new_session limits req))
-renewed_by lines sent last limits s req true h = h
-renewed_by lines sent last limits s req false h = fresh_came lines sent last limits req
+renewed_by : (lines : List (List ℕ)) (sent : List Sending) (last : ℕ) (limits : Limits) (s : Session) (req : SetupReq) (b : Bool) → Delivers lines sent last (command_of req) → SessionCame lines sent last s → SessionCame lines sent last (cond b s (new_session limits req))
+renewed_by lines sent last limits s req true d h = h
+renewed_by lines sent last limits s req false d h = fresh_came lines sent last limits req d
 
-renewed_came : (lines : List (List ℕ)) (sent : List Sending) (last : ℕ) (limits : Limits) (s : Option Session) (req : SetupReq) → IfSome s (SessionCame lines sent last) → SessionCame lines sent last (renewed limits s req)
+renewed_came : (lines : List (List ℕ)) (sent : List Sending) (last : ℕ) (limits : Limits) (s : Option Session) (req : SetupReq) → Delivers lines sent last (command_of req) → IfSome s (SessionCame lines sent last) → SessionCame lines sent last (renewed limits s req)
 unfolding renewed
-renewed_came lines sent last limits None req h = fresh_came lines sent last limits req
-renewed_came lines sent last limits (Some s) req h = renewed_by lines sent last limits s req (same_setup s.setup req) h
+renewed_came lines sent last limits None req d h = fresh_came lines sent last limits req d
+renewed_came lines sent last limits (Some s) req d h = renewed_by lines sent last limits s req (same_setup s.setup req) d h
 
-setup_by : (lines : List (List ℕ)) (sent : List Sending) (last : ℕ) (limits : Limits) (s : Option Session) (req : SetupReq) (b : Bool) → IfSome s (SessionCame lines sent last)
+setup_by : (lines : List (List ℕ)) (sent : List Sending) (last : ℕ) (limits : Limits) (s : Option Session) (req : SetupReq) (b : Bool) → Delivers lines sent last (command_of req) → IfSome s (SessionCame lines sent last)
     → IfSome (cond b (Some (renewed limits s req)) s) (SessionCame lines sent last)
-setup_by lines sent last limits s req true h = renewed_came lines sent last limits s req h
-setup_by lines sent last limits s req false h = h
+setup_by lines sent last limits s req true d h = renewed_came lines sent last limits s req d h
+setup_by lines sent last limits s req false d h = h
 
-setup_came : (lines : List (List ℕ)) (sent : List Sending) (last : ℕ) (limits : Limits) (area : ℕ) (s : Option Session) (req : SetupReq) → IfSome s (SessionCame lines sent last)
+setup_came : (lines : List (List ℕ)) (sent : List Sending) (last : ℕ) (limits : Limits) (area : ℕ) (s : Option Session) (req : SetupReq) → Delivers lines sent last (command_of req) → IfSome s (SessionCame lines sent last)
     → IfSome (after_setup limits area s req) (SessionCame lines sent last)
 unfolding after_setup
-setup_came lines sent last limits area s req h = setup_by lines sent last limits s req (setup_bits limits area req == 0) h
+setup_came lines sent last limits area s req d h = setup_by lines sent last limits s req (setup_bits limits area req == 0) d h
 
 followed_came : (lines : List (List ℕ)) (sent : List Sending) (n : ℕ) (s : Option Session) (number : ℕ) (part : List ℕ) → WasDelivered lines sent (record { number = number; part = part; mark = n + 1 })
     → IfSome s (SessionCame lines sent n) → IfSome (option_map (λ x. followed x number part (n + 1)) s) (SessionCame lines sent (n + 1))
@@ -124,12 +128,12 @@ unfolding followed
 followed_came lines sent n None number part f h = tt
 followed_came lines sent n (Some s) number part f h =
     let back : (n + 1) - 1 ≡ n = omega arith in
-    (omega arith, f, subst (λ (k : ℕ). CameInOrder lines sent k s.heard) (sym back) h)
+    (omega arith, f, subst (λ (k : ℕ). CameInOrder lines sent (command_of s.setup) k s.heard) (sym back) h)
 
 heard_by : (lines : List (List ℕ)) (sent : List Sending) (n : ℕ) (s : Option Session) (number : ℕ) (part : List ℕ) (b : Bool) → WasDelivered lines sent (record { number = number; part = part; mark = n + 1 })
     → IfSome s (SessionCame lines sent n) → IfSome (cond b (option_map (λ x. followed x number part (n + 1)) s) s) (SessionCame lines sent (n + 1))
 heard_by lines sent n s number part true f h = followed_came lines sent n s number part f h
-heard_by lines sent n s number part false f h = some_weaker (SessionCame lines sent n) (SessionCame lines sent (n + 1)) s (λ x c. later lines sent n (n + 1) x.heard (omega arith) c) h
+heard_by lines sent n s number part false f h = some_weaker (SessionCame lines sent n) (SessionCame lines sent (n + 1)) s (λ x c. later lines sent (command_of x.setup) n (n + 1) x.heard (omega arith) c) h
 
 fragment_came : (lines : List (List ℕ)) (sent : List Sending) (n : ℕ) (s : Option Session) (number : ℕ) (part : List ℕ) → WasDelivered lines sent (record { number = number; part = part; mark = n + 1 })
     → IfSome s (SessionCame lines sent n) → IfSome (after_fragment s via.Unicast number part (n + 1)) (SessionCame lines sent (n + 1))
@@ -154,8 +158,10 @@ unfolding after_command
 command_came image size lines sent n d s line payload device word (inl is) line_is form got h =
     subst (λ (x : Command). DeviceCame lines sent (n + 1) (after_command d x (n + 1))) (sym is) (device_later lines sent n d h)
 command_came image size lines sent n d s line payload device word (inr (inl is)) line_is form got h =
+    let same : s ≡ record { to = s.to; command = Cast (setup_of image size) } = ap (λ (c : Command). let r : Sending = record { to = s.to; command = c } in r) is in
     subst (λ (x : Command). DeviceCame lines sent (n + 1) (after_command d x (n + 1))) (sym is)
-    (setup_came lines sent (n + 1) (limits_of d.config) FILE_AREA d.session (setup_req image size) (device_later lines sent n d h))
+    (setup_came lines sent (n + 1) (limits_of d.config) FILE_AREA d.session (setup_req image size)
+    (line, payload, device, word, s.to, record { line_is = line_is; form = form; payload_is = got ∙ ap (λ (x : Sending). Some x) same }) (device_later lines sent n d h))
 command_came image size lines sent n d s line payload device word (inr (inr f)) line_is form got h =
     let same : s ≡ record { to = s.to; command = Cast (DataFragment 0 f.0 (fragment_of image size f.0)) } = ap (λ (c : Command). let r : Sending = record { to = s.to; command = c } in r) f.3 in
     subst (λ (x : Command). DeviceCame lines sent (n + 1) (after_command d x (n + 1))) (sym f.3)
@@ -207,7 +213,7 @@ form_step image lines w line (Up uplink) k h line_is form = record { came = all_
 form_step image lines w line End k h line_is form = record { came = all_later lines w.sent w.lines w.device h; counted = refl }
 
 -- what holds between two lines, with these lines left
-record Reads (image : List ℕ) (lines : List (List ℕ)) (rest : List (List ℕ)) (w : WorldState) : Type 0 where
+pub record Reads (image : List ℕ) (lines : List (List ℕ)) (rest : List (List ℕ)) (w : WorldState) : Type 0 where
   pub keeps : Keeps image w
   pub came : IfSome w.device (DeviceCame lines w.sent w.lines)
   pub left : drop w.lines lines ≡ rest
@@ -224,7 +230,7 @@ made_reads image lines w line rest (Some form) r is fine =
       left = ap (λ (n : ℕ). drop (n + 1) lines) step.counted ∙ next.1;
     }
 
-line_reads : (image : List ℕ) (lines : List (List ℕ)) (w : WorldState) (line : List ℕ) (rest : List (List ℕ)) (cause : Option LineWhy) → Reads image lines (line ∷ rest) w → cause_of (circumstances_of w) line ≡ cause
+pub line_reads : (image : List ℕ) (lines : List (List ℕ)) (w : WorldState) (line : List ℕ) (rest : List (List ℕ)) (cause : Option LineWhy) → Reads image lines (line ∷ rest) w → cause_of (circumstances_of w) line ≡ cause
     → IfOk (judged w cause (after_line w line)) (Reads image lines rest)
 unfolding cause_of after_line
 line_reads image lines w line rest (Some why) r is = tt
@@ -240,16 +246,21 @@ ended_reads : (image : List ℕ) (lines : List (List ℕ)) (r : Result WorldStat
 ended_reads image lines (Err fault) world h is = absurd cc
 ended_reads image lines (Ok w) world h is = subst (Reads image lines []) (ended_by _ w _ world is) h
 
-campaign_reads : (image script : List ℕ) (world : WorldState) → campaign_of image script ≡ Ok world → Reads image (lines_of script) [] world
+pub first_reads : (image : List ℕ) (lines : List (List ℕ)) → Reads image lines lines (first_world image)
+first_reads image lines = record { keeps = first_keeps image; came = tt; left = refl }
+
+pub campaign_reads : (image script : List ℕ) (world : WorldState) → campaign_of image script ≡ Ok world → Reads image (lines_of script) [] world
 unfolding campaign_of
 campaign_reads image script world is =
     ended_reads image (lines_of script) (lines_read (Ok (first_world image)) (lines_of script)) world
-    (all_read image (lines_of script) (Ok (first_world image)) (lines_of script) (record { keeps = first_keeps image; came = tt; left = refl })) is
+    (all_read image (lines_of script) (Ok (first_world image)) (lines_of script) (first_reads image (lines_of script))) is
 
 -- so it is in each accepted campaign
-pub campaign_came : (image script : List ℕ) (world : WorldState) (device : DeviceState) (session : Session) → campaign_of image script ≡ Ok world → world.device ≡ Some device → device.session ≡ Some session
-    → CameInOrder (lines_of script) world.sent world.lines session.heard
-campaign_came image script world device session is d s =
+pub campaign_came : (image script : List ℕ) (world : WorldState) (device : DeviceState) (session : Session) (size : ℕ) → campaign_of image script ≡ Ok world → world.device ≡ Some device → device.session ≡ Some session
+    → session.setup ≡ setup_req image size → CameInOrder (lines_of script) world.sent (Cast (setup_of image size)) world.lines session.heard
+campaign_came image script world device session size is d s setup =
     let r = campaign_reads image script world is in
+    let came : SessionCame (lines_of script) world.sent world.lines session =
     if_some (SessionCame (lines_of script) world.sent world.lines) device.session session s
-    (if_some (DeviceCame (lines_of script) world.sent world.lines) world.device device d r.came)
+    (if_some (DeviceCame (lines_of script) world.sent world.lines) world.device device d r.came) in
+    subst (λ (x : SetupReq). CameInOrder (lines_of script) world.sent (command_of x) world.lines session.heard) setup came

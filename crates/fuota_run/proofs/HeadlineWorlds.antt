@@ -166,11 +166,11 @@ moved_by : (image : List ℕ) (s : ServerState) (b : Bool) → IsServerOf image 
 moved_by image s true k = (k, refl)
 moved_by image s false k = (record { image_is = k.image_is; next = omega (arith, k.next) }, refl)
 
-moved_server : (image : List ℕ) (s : Option ServerState) → IfSome s (IsServerOf image) → IfSome (moved_on s) (IsServerOf image) × (size_of (moved_on s) ≡ size_of s)
+pub moved_server : (image : List ℕ) (s : Option ServerState) → IfSome s (IsServerOf image) → IfSome (moved_on s) (IsServerOf image) × (size_of (moved_on s) ≡ size_of s)
 moved_server image None k = (tt, refl)
 moved_server image (Some s) k = moved_by image s (is_spent s) k
 
-hears_server : (image : List ℕ) (s : Option ServerState) (c : Option Command) → IfSome s (IsServerOf image) → IfSome (hears s c) (IsServerOf image) × (size_of (hears s c) ≡ size_of s)
+pub hears_server : (image : List ℕ) (s : Option ServerState) (c : Option Command) → IfSome s (IsServerOf image) → IfSome (hears s c) (IsServerOf image) × (size_of (hears s c) ≡ size_of s)
 hears_server image None c k = (tt, refl)
 hears_server image (Some s) None k = (k, refl)
 hears_server image (Some s) (Some c) k = (record { image_is = k.image_is; next = k.next }, refl)
@@ -237,11 +237,11 @@ numbered_by P xs n (Some x) all is = all_numbered P xs n x all is
 
 -- ---- a line
 
-passed : (b : Bool) (why : LineWhy) (rest : Option LineWhy) → cond (not b) (Some why) rest ≡ None → b ≡ true
+pub passed : (b : Bool) (why : LineWhy) (rest : Option LineWhy) → cond (not b) (Some why) rest ≡ None → b ≡ true
 passed true why rest fine = refl
 passed false why rest fine = absurd cc
 
-allowed : (w : WorldState) (form : Form) → form_cause (circumstances_of w) form ≡ None → (has : Bool) × (is_allowed w.place has form ≡ true)
+pub allowed : (w : WorldState) (form : Form) → form_cause (circumstances_of w) form ≡ None → (has : Bool) × (is_allowed w.place has form ≡ true)
 unfolding form_cause circumstances_of
 allowed w form fine = (_, passed _ _ _ fine)
 
@@ -252,7 +252,7 @@ at_header place.Devices is = absurd cc
 at_header place.Events is = absurd cc
 at_header place.Ended is = absurd cc
 
-at_image : (here : Place) → is_at here place.Image ≡ true → IsEarly here
+pub at_image : (here : Place) → is_at here place.Image ≡ true → IsEarly here
 at_image place.Header is = tt
 at_image place.Image is = tt
 at_image place.Devices is = absurd cc

@@ -16,4 +16,5 @@ pub mod HeadlineMoments
 pub mod HeadlineWorlds
 pub mod HeadlineImage
 pub mod HeadlineLines
+pub mod HeadlineHeard
 pub mod HeadlineLaw

@@ -1,23 +1,25 @@
 -- The headline in the field's own words: when a session is decided, what is then known, and of which file.
 -- (TS004-1.0.0 leaves recovery to the device; when it ends, and how, is this project's profile.)
-use Rattle.std.specs.Prelude.{◌≡◌, ◌≢◌, ◌↔◌, ℕ, ◌<◌, ◌≤◌, ◌^◌, ◌⊎◌, List, [], ◌∷◌, ◌++◌, length, All, codes, true, Option, Some, Ok, ◌-◌}
+use Rattle.std.specs.Prelude.{◌≡◌, ◌≢◌, ◌↔◌, ◌⊎◌, ℕ, ◌-◌, ◌^◌, ◌<◌, ◌≤◌, List, [], ◌∷◌, ◌++◌, length, All, codes, true, Option, Some, Ok}
 use Rattle.std.specs.List.{AllByRecursion}
 use Rattle.std.specs.Fmt.{decimal}
 use Rattle.frag_model.specs.Fragments.{Heard as Fragment, Shape}
 use Rattle.frag_model.specs.Gain.{excess}
+use Rattle.frag_model.specs.Members.{In}
 use Rattle.frag_model.specs.File.{FileFits, OneFileFits}
 use Rattle.frag_session.specs.declared.answers.Verdict.TheVariants as verdict
 use Rattle.frag_session.specs.Session.{Session, Seen, shape_of, seen_of}
+use Rattle.cast_wire.specs.declared.cmd.Cmd.TheVariants.{DataFragment}
+use Rattle.fuota_run.specs.declared.grammar.Command.TheVariants.{Cast}
+use Rattle.fuota_run.specs.declared.grammar.Command.{Command}
+use Rattle.fuota_run.specs.declared.lines.Form.TheVariants.{Down}
 use Rattle.fuota_run.specs.declared.running.TheConstants.{IMAGE_LIMIT, SCRIPT_LIMIT}
 use Rattle.fuota_run.specs.declared.status.Status.TheVariants as status
 use Rattle.fuota_run.specs.Outside.{Held}
 use Rattle.fuota_run.specs.Image.{is_image}
 use Rattle.fuota_run.specs.Answer.{answer, is_form, word_at, answer_of}
-use Rattle.fuota_run.specs.Server.{ServerState, fragments_of, padding_of, fragment_of}
+use Rattle.fuota_run.specs.Server.{ServerState, fragments_of, padding_of, fragment_of, setup_of}
 use Rattle.fuota_run.specs.Device.{DeviceState}
-use Rattle.cast_wire.specs.declared.cmd.Cmd.TheVariants.{DataFragment}
-use Rattle.fuota_run.specs.declared.grammar.Command.TheVariants.{Cast}
-use Rattle.fuota_run.specs.declared.lines.Form.TheVariants.{Down}
 use Rattle.fuota_run.specs.Script.{form_of, lines_of}
 use Rattle.fuota_run.specs.World.{WorldState, Sending, numbered, campaign_of}
 use Rattle.fuota_run.specs.Report.{image_line, device_line, counts_line, session_text, report_text, report_of}
@@ -124,19 +126,31 @@ pub record IsServed (image : List ℕ) (server : ServerState) (session : Session
   pub padding : session.setup.padding ≡ padding_of (length image) server.frag_size
   pub heard : AllByRecursion (IsFragmentOf image server.frag_size) session.heard
 
--- the line of the script whose number is the fragment's mark is a down, and the payload that it delivers is this fragment
-pub record IsDelivery (lines : List (List ℕ)) (sent : List Sending) (f : Fragment) (line : List ℕ) (payload device word : ℕ) (to : Option ℕ) : Type 0 where
-  pub line_is : numbered lines f.mark ≡ Some line
+-- line n of the script is a down, and the server sent this command as the payload that it names
+pub record IsDelivery (lines : List (List ℕ)) (sent : List Sending) (n : ℕ) (command : Command) (line : List ℕ) (payload device word : ℕ) (to : Option ℕ) : Type 0 where
+  pub line_is : numbered lines n ≡ Some line
   pub form : form_of line ≡ Some (Down payload device word)
-  pub payload_is : numbered sent payload ≡ Some (record { to = to; command = Cast (DataFragment 0 f.number f.part) })
+  pub payload_is : numbered sent payload ≡ Some (record { to = to; command = command })
 
+-- line n of the script delivers this command
+abbrev pub Delivers : List (List ℕ) → List Sending → ℕ → Command → Type 0
+Delivers lines sent n command = (line : List ℕ) × (payload : ℕ) × (device : ℕ) × (word : ℕ) × (to : Option ℕ) × IsDelivery lines sent n command line payload device word to
+
+-- the line whose number is the fragment's mark delivers it
 abbrev pub WasDelivered : List (List ℕ) → List Sending → Fragment → Type 0
-WasDelivered lines sent f = (line : List ℕ) × (payload : ℕ) × (device : ℕ) × (word : ℕ) × (to : Option ℕ) × IsDelivery lines sent f line payload device word to
+WasDelivered lines sent f = Delivers lines sent f.mark (Cast (DataFragment 0 f.number f.part))
 
--- each fragment was delivered up to this line, and those heard before it at lines before its own
-abbrev pub CameInOrder : List (List ℕ) → List Sending → ℕ → List Fragment → Type 0
-CameInOrder lines sent last [] = Unit {0}
-CameInOrder lines sent last (f ∷ older) = (f.mark ≤ last) × WasDelivered lines sent f × CameInOrder lines sent (f.mark - 1) older
+-- each fragment was delivered up to this line, those heard before it at lines before its own, and the setup before them all
+abbrev pub CameInOrder : List (List ℕ) → List Sending → Command → ℕ → List Fragment → Type 0
+CameInOrder lines sent setup last [] = (n : ℕ) × (n ≤ last) × Delivers lines sent n setup
+CameInOrder lines sent setup last (f ∷ older) = (f.mark ≤ last) × WasDelivered lines sent f × CameInOrder lines sent setup (f.mark - 1) older
+
+-- what the session hears: what the lines of the script deliver
+pub record HearsDelivered (image : List ℕ) (lines : List (List ℕ)) (world : WorldState) (server : ServerState) (session : Session) : Type 0 where
+  -- after the setup was delivered, nothing else, and each fragment at its line
+  pub only : CameInOrder lines world.sent (Cast (setup_of image server.frag_size)) world.lines session.heard
+  -- and each fragment that is delivered after the setup was
+  pub all : (f : Fragment) (n : ℕ) → Delivers lines world.sent n (Cast (setup_of image server.frag_size)) → n < f.mark → WasDelivered lines world.sent f → In f session.heard
 
 -- what is seen of the session in a campaign, where the image is known
 pub record IsRecovered (image : List ℕ) (s : Session) : Type 0 where
@@ -191,15 +205,18 @@ pub record AreHandedIn (words : List (List ℕ)) (held : Held) (image script : L
 
 -- whatever image and accepted script of losses, repeats and reorderings there are
 pub record Headline : Type 0 where
+  -- the session is the server's
   pub served : (image script : List ℕ) (world : WorldState) (server : ServerState) (device : DeviceState) (session : Session)
       → IsCampaign image script world server device session → IsServed image server session
-  -- a fragment's mark is the number of the line that delivered it
+  -- it hears what the script delivers
   pub delivered : (image script : List ℕ) (world : WorldState) (server : ServerState) (device : DeviceState) (session : Session)
-      → IsCampaign image script world server device session → CameInOrder (lines_of script) world.sent world.lines session.heard
+      → IsCampaign image script world server device session → HearsDelivered image (lines_of script) world server session
+  -- it is complete exactly when one file alone fits, the image
   pub recovered : (image script : List ℕ) (world : WorldState) (server : ServerState) (device : DeviceState) (session : Session)
       → IsCampaign image script world server device session → IsRecovered image session
+  -- the report says so
   pub reported : (image script : List ℕ) (world : WorldState) (server : ServerState) (device : DeviceState) (session : Session)
       → IsCampaign image script world server device session → IsReported image world server device session
-  -- the program's answer is that report
+  -- and it is what the program answers
   pub answered : (words : List (List ℕ)) (held : Held) (image script : List ℕ) (world : WorldState) → AreHandedIn words held image script
       → campaign_of image script ≡ Ok world → answer_of words held ≡ answer status.Done (report_of world)

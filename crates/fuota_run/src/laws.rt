@@ -8,8 +8,9 @@ pub fn first_moment()
     ensures { FirstMoment }
 {}
 
-/// In each accepted campaign the session is complete from the first heard fragment on after which one file
-/// alone fits, that file is the server's image, and the report says so.
+/// Whatever image and accepted script are handed in: the session hears what the script delivers, it is complete
+/// from the first heard fragment on after which one file alone fits, that file is the server's image, and the
+/// report says so.
 pub fn headline()
     ensures { Headline }
 {}

@@ -1,0 +1,43 @@
+//! A command of any package, and a payload on its way to devices.
+ghost use Rattle.std.specs.Prelude.{IsTrue, ◌↔◌};
+ghost use Rattle.package_grammar.specs.Grammar.{IsValid};
+
+use wire_base::Payload;
+
+/// A command of one of the four packages, by the crate that has its table. PackageVersionReq and its answer are in
+/// both: those of ports 200 and 201 are `Cast`, those of ports 202 and 203 `Sync`.
+#[derive(Debug, PartialEq, Drop)]
+pub enum Command {
+    /// TS003-1.0.0 and TS006-1.0.0.
+    Sync(sync_wire::Cmd),
+    /// TS004-1.0.0 and TS005-1.0.0.
+    Cast(cast_wire::Cmd),
+}
+
+/// Whether each field fits the bits that its command's row of the table gives it, and the fields fit together.
+pub fn valid(command: &Command) -> bool
+    ensures { IsTrue result ↔ IsValid command.now }
+{
+    match command {
+        Command::Sync(cmd) => sync_wire::valid(cmd),
+        Command::Cast(cmd) => cast_wire::valid(cmd),
+    }
+}
+
+/// Whom a downlink is for.
+#[derive(Clone, Copy, Debug, PartialEq, Eq)]
+pub enum To {
+    /// One device.
+    Unicast,
+    /// The members of a multicast group: McAddr, and the frame count of this downlink.
+    Group { addr: u32, count: u32 },
+}
+
+/// A payload on its way to devices.
+#[derive(Debug, Drop)]
+pub struct Downlink {
+    pub to: To,
+    /// The port of the payload's package.
+    pub port: u8,
+    pub payload: Payload,
+}

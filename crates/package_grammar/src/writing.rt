@@ -1,0 +1,21 @@
+//! The canonical spelling of a command.
+ghost use Rattle.wire_base.specs.Payload.{Appends};
+ghost use Rattle.wire_base.specs.Rows.{IsListed};
+ghost use Rattle.package_grammar.specs.Grammar.{row, IsValid, canonical};
+
+use crate::command::Command;
+use wire_base::{Direction, Full, Payload};
+
+/// Puts the canonical spelling of a command at the end, whole or not at all. Port and direction are those in which the
+/// table has the command; its bytes are the same in each.
+pub fn write_one(port: u8, dir: Direction, command: &Command, out: &mut Payload) -> Result<(), Full>
+    requires valid { IsValid command.now }
+    requires listed { IsListed (row command.now) port dir }
+    ensures { Appends out.old out.new (canonical command.now) result }
+{
+    let _where = (port, dir);
+    match command {
+        Command::Sync(cmd) => sync_wire::write_one(cmd, out),
+        Command::Cast(cmd) => cast_wire::write_one(cmd, out),
+    }
+}
