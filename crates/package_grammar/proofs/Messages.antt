@@ -1,9 +1,9 @@
 -- Messages of several commands, read one at a time.
-use Rattle.std.proofs.Common.{◌≡◌, ◌≢◌, ℕ, ◌+◌, ◌<◌, ◌≤◌, List, [], ◌∷◌, length, Result, Ok, Err, refl, sym, ap, subst, ◌∙◌, arith}
+use Rattle.std.proofs.Common.{◌≡◌, ◌≢◌, ℕ, List, [], ◌∷◌, length, Result, Ok, Err, refl, ap, subst, arith}
 use Rattle.wire_base.specs.declared.refusal.Direction.{Direction}
 use Rattle.wire_base.specs.declared.refusal.Refusal.{Refusal}
 use Rattle.package_grammar.specs.declared.command.Command.{Command}
-use Rattle.package_grammar.specs.Grammar.{Spells, SpellsTo, NoneSpelled, IsStopAt, StopsFrom}
+use Rattle.package_grammar.specs.Grammar.{Spells, SpellsTo, NoneSpelled, StopsFrom}
 use Rattle.package_grammar.proofs.Tables.{within, moves}
 
 -- behind the end nothing is spelled

@@ -9,11 +9,16 @@
 mod checking;
 mod command;
 mod reading;
+mod showing;
+mod showing_cast;
+mod showing_parts;
+mod showing_sync;
 mod writing;
 
 pub use checking::check;
 pub use command::{Command, Downlink, To, valid};
 pub use reading::read_one;
+pub use showing::show;
 pub use writing::write_one;
 
 #[cfg(test)]

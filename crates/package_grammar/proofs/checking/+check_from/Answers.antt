@@ -1,4 +1,4 @@
-use Rattle.std.proofs.Common.{◌≡◌, ◌∷◌, [], length, Ok, refl, sym, ap, ◌∙◌, arith}
+use Rattle.std.proofs.Common.{◌≡◌, ◌∷◌, [], length, Ok, refl, ap, arith}
 use Rattle.package_grammar.proofs.Messages.{none_left, first_read, none_spelled, none_read, stops_behind, err_or_ok}
 use Rattle.package_grammar.proofs.checking.+check_from.Goals as goal
 
@@ -10,13 +10,16 @@ returns-in-Err-clause-only t c = λ cs all.
     absurd (none_read _ _ _ _ cs c.if-at-bytes.false (none_spelled _ _ _ _ _ _ (λ d end. c.read_one.ensures.only d end c.requires.fits) c.in-Err.is) all)
 
 pub returns-in-Err-clause-stops : goal.returns-in-Err-clause-stops
-returns-in-Err-clause-stops t c =
-    ([], c.args.at, record {
-      reached = refl;
-      inside = omega (arith, c.requires.within, c.if-at-bytes.false);
-      none = none_spelled _ _ _ _ _ _ (λ d end. c.read_one.ensures.only d end c.requires.fits) c.in-Err.is;
-      cause = c.in-Err.ensures.stops;
-    })
+returns-in-Err-clause-stops t c = (
+  [],
+  c.args.at,
+  record {
+    reached = refl;
+    inside = omega (arith, c.requires.within, c.if-at-bytes.false);
+    none = none_spelled _ _ _ _ _ _ (λ d end. c.read_one.ensures.only d end c.requires.fits) c.in-Err.is;
+    cause = c.in-Err.ensures.stops;
+  },
+)
 
 pub returns-in-Err-check_from-clause-only : goal.returns-in-Err-check_from-clause-only
 returns-in-Err-check_from-clause-only t c = λ cs all.

@@ -1,4 +1,4 @@
-use Rattle.std.proofs.Common.{◌≡◌, inl, inr}
+use Rattle.std.proofs.Common.{inl, inr}
 use Rattle.sync_wire.specs.Table as sync
 use Rattle.package_grammar.proofs.Tables.{sync_cause, cast_cause, cast_within}
 use Rattle.package_grammar.proofs.reading.read_one.Goals as goal

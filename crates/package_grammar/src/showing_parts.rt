@@ -1,0 +1,126 @@
+//! The texts of fields.
+ghost use Rattle.std.specs.Prelude.{◌≡◌, ◌≤◌, IfOk, string_bytes};
+ghost use Rattle.hex.specs.Hex.{encode_lower};
+ghost use Rattle.package_grammar.specs.Texts.{worth, number_hex, there, group_text, other_groups, groups_text, pieces_text, coding_text, group_words, group_key_text, frames_text};
+
+use cast_wire::GroupAddress;
+use std::alloc::{AllocError, Global};
+
+/// A bit of a number, by its worth.
+pub fn worth(set: bool, value: u8) -> u8
+    ensures value { result ≡ worth set value }
+    ensures most { result ≤ value }
+{
+    if set { value } else { 0 }
+}
+
+/// 8 hex digits, the most significant first.
+pub fn number_hex(alloc: Global, number: u32) -> Result<String, AllocError>
+    ensures { IfOk result (λ text. string_bytes text ≡ number_hex number) }
+{
+    hex::encode(alloc, number.to_be_bytes())
+}
+
+/// Two hex digits for each byte.
+pub fn bytes_hex(alloc: Global, bytes: &[u8]) -> Result<String, AllocError>
+    ensures { IfOk result (λ text. string_bytes text ≡ encode_lower bytes.now) }
+{
+    hex::encode(alloc, bytes)
+}
+
+/// A number, or a dash where it is absent.
+pub fn there(alloc: Global, number: Option<u32>) -> Result<String, AllocError>
+    ensures { IfOk result (λ text. string_bytes text ≡ there number) }
+{
+    match number {
+        Some(number) => format!(in alloc; "{number}"),
+        None => String::from_str(alloc, "-"),
+    }
+}
+
+fn group_text(alloc: Global, group: &GroupAddress) -> Result<String, AllocError>
+    ensures { IfOk result (λ text. string_bytes text ≡ group_text group.now.id group.now.addr) }
+{
+    let id = group.id;
+    let addr = number_hex(alloc, group.addr)?;
+    format!(in alloc; "{id}:{addr}")
+}
+
+/// The groups behind the first.
+fn other_groups(alloc: Global, groups: &[GroupAddress]) -> Result<String, AllocError>
+    ensures { IfOk result (λ text. string_bytes text ≡ other_groups groups.now) }
+{
+    match groups {
+        [] => Ok(String::new(alloc)),
+        [first, others @ ..] => {
+            let first = group_text(alloc, first)?;
+            let others = other_groups(alloc, others)?;
+            format!(in alloc; ",{first}{others}")
+        }
+    }
+}
+
+/// The groups, or a dash where there is none.
+pub fn groups_text(alloc: Global, groups: &[GroupAddress]) -> Result<String, AllocError>
+    ensures { IfOk result (λ text. string_bytes text ≡ groups_text groups.now) }
+{
+    match groups {
+        [] => String::from_str(alloc, "-"),
+        [first, others @ ..] => {
+            let first = group_text(alloc, first)?;
+            let others = other_groups(alloc, others)?;
+            format!(in alloc; "{first}{others}")
+        }
+    }
+}
+
+/// A FragSessionSetupReq's session and pieces.
+pub fn pieces_text(
+    alloc: Global,
+    index: u8,
+    mask: u8,
+    nb_frag: u16,
+    frag_size: u8,
+) -> Result<String, AllocError>
+    ensures { IfOk result (λ text. string_bytes text ≡ pieces_text index mask nb_frag frag_size) }
+{
+    format!(in alloc;
+        "FragSessionSetupReq index={index} mask={mask} nbfrag={nb_frag} fragsize={frag_size}"
+    )
+}
+
+/// A FragSessionSetupReq's coding, and what the file is.
+pub fn coding_text(
+    alloc: Global,
+    algo: u8,
+    delay: u8,
+    padding: u8,
+    descriptor: u32,
+) -> Result<String, AllocError>
+    ensures { IfOk result (λ text. string_bytes text ≡ coding_text algo delay padding descriptor) }
+{
+    let descriptor = number_hex(alloc, descriptor)?;
+    format!(in alloc; " algo={algo} delay={delay} padding={padding} descriptor={descriptor}")
+}
+
+/// A McGroupSetupReq's group, with its wrapped key.
+pub fn group_key_text(alloc: Global, id: u8, addr: u32, key: &[u8]) -> Result<String, AllocError>
+    ensures { IfOk result (λ text. string_bytes text ≡ group_key_text id addr key.now) }
+{
+    let addr = number_hex(alloc, addr)?;
+    let key = bytes_hex(alloc, key)?;
+    group_words(alloc, id, addr.as_str(), key.as_str())
+}
+
+fn group_words(alloc: Global, id: u8, addr: &str, key: &str) -> Result<String, AllocError>
+    ensures { IfOk result (λ text. string_bytes text ≡ group_words id addr.now key.now) }
+{
+    format!(in alloc; "McGroupSetupReq id={id} addr={addr} key={key}")
+}
+
+/// A McGroupSetupReq's frame counts.
+pub fn frames_text(alloc: Global, min: u32, max: u32) -> Result<String, AllocError>
+    ensures { IfOk result (λ text. string_bytes text ≡ frames_text min max) }
+{
+    format!(in alloc; " min={min} max={max}")
+}
