@@ -1,6 +1,6 @@
 -- Each fragment that a line delivers after the setup was delivered is heard.
 use Rattle.std.proofs.Common.{◌≡◌, ◌⊎◌, inl, inr, ℕ, zero, suc, ◌+◌, ◌-◌, ◌*◌, ◌<◌, ◌≤◌, Bool, true, false, cond, not, ◌==◌, nat_lt, List, [], ◌∷◌, ◌++◌, map, length, drop, replicate, slice_get, Option, None, Some, IfSome, is_some, is_none, option_map, Result, Ok, Err, IfOk, append-nil, append_assoc, refl, sym, ap, ◌∙◌, subst, arith, eq-eqb, ne_eqb, eqb-true, le-ltb, length-drop, length-take, add-mul, suc-mul, true≢false}
-use Rattle.std.proofs.lemmas.Bool.{cases_lt, eqb-false}
+use Rattle.std.proofs.lemmas.Bool.{cases_lt, eqb-false, and_parts}
 use Rattle.cast_wire.specs.declared.cmd.Cmd.TheVariants.{DataFragment}
 use Rattle.frag_model.specs.Fragments.{Heard as Fragment}
 use Rattle.frag_model.specs.Members.{In}
@@ -26,7 +26,6 @@ use Rattle.fuota_run.specs.Server.{ServerState, fragments_of, padding_of, fragme
 use Rattle.fuota_run.specs.Device.{DeviceState, limits_of, after_command, after_data, after_heard, with_fragment, with_drop}
 use Rattle.fuota_run.specs.World.{WorldState, Sending, first_world, numbered, takes_events, is_allowed, is_in_range, names_device, was_sent, has_come, circumstances_of, form_cause, form_cause_of, cause_of, sends, request_of, fragment_from, moved_on, reaches, form_made, form_made_of, one_line_more, after_line, judged, line_read, lines_read, ended, campaign_of}
 use Rattle.fuota_run.specs.Headline.{IsFragmentOf, Delivers, WasDelivered}
-use Rattle.fuota_run.proofs.ImageLemmas.{both}
 use Rattle.fuota_run.proofs.WorldLemmas.{all_numbered, numbered-map}
 use Rattle.fuota_run.proofs.HeadlineWorlds.{setup_req, IsSetFor, IsDeviceFor, IsSentOf, size_of, moved_server, hears_server, Keeps, at_image, allowed, cause_by, ended_by, if_some}
 use Rattle.fuota_run.proofs.HeadlineImage.{filled, filled_long}
@@ -343,7 +342,7 @@ form_full image lines sent more w line (Image frag_size parity) k h is line_is f
     record { ready = tt; all = subst (λ (d : Option DeviceState). DeviceHears image frag_size lines sent (w.lines + 1) d) (sym none) after }
 form_full image lines sent more w line (Device id hw rows offset key descriptor) k h is line_is form fine =
     let p = passes w (Device id hw rows offset key descriptor) fine in
-    let none : w.device ≡ None = no_device w.device (both _ _ (both _ _ (both _ _ (both _ _ p.ranged).0).0).0).0 in
+    let none : w.device ≡ None = no_device w.device (and_parts _ _ (and_parts _ _ (and_parts _ _ (and_parts _ _ p.ranged).0).0).0).0 in
     let before : DeviceHears image (size_of w.server) lines sent w.lines None = subst (λ (d : Option DeviceState). DeviceHears image (size_of w.server) lines sent w.lines d) none h.all in
     let after : DeviceHears image (size_of w.server) lines sent (w.lines + 1) None = quiet image (size_of w.server) lines sent w.lines None (no_delivery lines sent (w.lines + 1) line (Device id hw rows offset key descriptor) line_is form refl) before in
     record { ready = some_ready w.place _; all = λ t. after (Cast (setup_of image (size_of w.server))) }

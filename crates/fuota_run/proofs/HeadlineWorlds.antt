@@ -21,7 +21,7 @@ use Rattle.fuota_run.specs.declared.world.Place.{Place}
 use Rattle.fuota_run.specs.declared.world.Place.TheVariants as place
 use Rattle.fuota_run.specs.declared.world.LineWhy.{LineWhy}
 use Rattle.fuota_run.specs.declared.world.LineFault.{LineFault}
-use Rattle.fuota_run.specs.Image.{firmware_of}
+use Rattle.image_slots.specs.Image.{firmware_of}
 use Rattle.fuota_run.specs.Script.{form_of, lines_of}
 use Rattle.fuota_run.specs.Server.{ServerState, fragments_of, padding_of, fragment_of, setup_of, asked, is_spent, next_fragment}
 use Rattle.fuota_run.specs.Device.{DeviceState, limits_of, after_command, after_data, after_heard}

@@ -1,5 +1,4 @@
 pub mod Named
-pub mod ImageLemmas
 pub mod Fragments
 pub mod Writing
 pub mod ReplyLemmas

@@ -8,7 +8,7 @@ use Rattle.fuota_run.specs.declared.status.Status.{Status}
 use Rattle.fuota_run.specs.declared.status.Status.TheVariants as status
 use Rattle.fuota_run.specs.Outside.{Held, HoldsName, HasRisen}
 use Rattle.fuota_run.specs.Source.{IsSource, IsTooLong}
-use Rattle.fuota_run.specs.Image.{is_image}
+use Rattle.image_slots.specs.Image.{is_image}
 use Rattle.fuota_run.specs.World.{campaign_of}
 use Rattle.fuota_run.specs.Answer.{Answer, answer, usage, is_form, word_at, answer_of, image_refused, too_long, taken_text, played, script_answer, campaign_answer}
 use Rattle.fuota_run.specs.Reply.{Gives, Effects, Ends, AppendsAnswer, GivesBy, GivesScript, GivesCampaign, IsTextOf, IsReply, IsCaused, Says, ends_source}

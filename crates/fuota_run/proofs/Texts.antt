@@ -1,7 +1,7 @@
 -- The report of equal parts.
 use Rattle.std.proofs.Common.{◌≡◌, ℕ, List, refl, sym, ap, ◌∙◌}
 use Rattle.fuota_run.specs.declared.device.DeviceConfig.{DeviceConfig}
-use Rattle.fuota_run.specs.declared.image.ImageState.{ImageState}
+use Rattle.image_slots.specs.declared.view.ImageState.{ImageState}
 use Rattle.fuota_run.specs.declared.server.Stage.{Stage}
 use Rattle.fuota_run.specs.Device.{DeviceState}
 use Rattle.fuota_run.specs.Report.{report_text, device_text, stage_text, next_text, device_line}

@@ -9,7 +9,7 @@ use Rattle.fuota_run.specs.declared.world.LineWhy.{LineWhy}
 use Rattle.fuota_run.specs.declared.world.LineWhy.TheVariants as why
 use Rattle.fuota_run.specs.declared.world.LineFault.{LineFault}
 use Rattle.fuota_run.specs.Outside.{Held}
-use Rattle.fuota_run.specs.Image.{is_image}
+use Rattle.image_slots.specs.Image.{is_image}
 use Rattle.fuota_run.specs.World.{WorldState, campaign_of}
 use Rattle.fuota_run.specs.Report.{report_of}
 

@@ -14,9 +14,9 @@ use Rattle.fuota_run.specs.declared.device.Counts.{Counts}
 use Rattle.fuota_run.specs.declared.device.DeviceConfig.{DeviceConfig}
 use Rattle.fuota_run.specs.declared.grammar.Command.{Command}
 use Rattle.fuota_run.specs.declared.grammar.Command.TheVariants.{Cast, DevVersionReq, DevVersionAns}
-use Rattle.fuota_run.specs.declared.image.ImageState.{ImageState}
-use Rattle.fuota_run.specs.declared.image.ImageState.TheVariants as image
-use Rattle.fuota_run.specs.Image.{image_state}
+use Rattle.image_slots.specs.declared.view.ImageState.{ImageState}
+use Rattle.image_slots.specs.declared.view.ImageState.TheVariants as image
+use Rattle.image_slots.specs.Image.{image_state}
 
 -- a device: its configuration, its session 0 if it has one, its next slot, its counters
 pub record DeviceState : Type 0 where

@@ -16,7 +16,7 @@ use Rattle.fuota_run.specs.declared.lines.Form.TheVariants.{Down}
 use Rattle.fuota_run.specs.declared.running.TheConstants.{IMAGE_LIMIT, SCRIPT_LIMIT}
 use Rattle.fuota_run.specs.declared.status.Status.TheVariants as status
 use Rattle.fuota_run.specs.Outside.{Held}
-use Rattle.fuota_run.specs.Image.{is_image}
+use Rattle.image_slots.specs.Image.{is_image}
 use Rattle.fuota_run.specs.Answer.{answer, is_form, word_at, answer_of}
 use Rattle.fuota_run.specs.Server.{ServerState, fragments_of, padding_of, fragment_of, setup_of}
 use Rattle.fuota_run.specs.Device.{DeviceState}

@@ -6,7 +6,7 @@ use Rattle.fuota_run.specs.declared.device.Counts.{Counts}
 use Rattle.fuota_run.specs.declared.device.DeviceConfig.{DeviceConfig}
 use Rattle.fuota_run.specs.declared.device.Uplink.{Uplink}
 use Rattle.fuota_run.specs.declared.grammar.Command.{Command}
-use Rattle.fuota_run.specs.declared.image.ImageState.{ImageState}
+use Rattle.image_slots.specs.declared.view.ImageState.{ImageState}
 use Rattle.fuota_run.specs.Commands.{port_of, canonical}
 use Rattle.fuota_run.specs.Device.{DeviceState}
 

@@ -2,7 +2,6 @@ pub mod Outside
 pub mod Source
 pub mod Memory
 pub mod Script
-pub mod Image
 pub mod Commands
 pub mod Device
 pub mod Report

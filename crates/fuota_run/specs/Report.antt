@@ -6,8 +6,8 @@ use Rattle.frag_session.specs.declared.answers.Verdict.{Verdict}
 use Rattle.frag_session.specs.declared.answers.Verdict.TheVariants as verdict
 use Rattle.frag_session.specs.Session.{Seen, view_of}
 use Rattle.fuota_run.specs.declared.device.Counts.{Counts}
-use Rattle.fuota_run.specs.declared.image.ImageState.{ImageState}
-use Rattle.fuota_run.specs.declared.image.ImageState.TheVariants as image
+use Rattle.image_slots.specs.declared.view.ImageState.{ImageState}
+use Rattle.image_slots.specs.declared.view.ImageState.TheVariants as image
 use Rattle.fuota_run.specs.declared.server.Request.{Request}
 use Rattle.fuota_run.specs.declared.server.Request.TheVariants.{Version, Fragments, Status}
 use Rattle.fuota_run.specs.declared.server.Stage.{Stage}

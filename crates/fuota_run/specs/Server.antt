@@ -9,7 +9,7 @@ use Rattle.fuota_run.specs.declared.grammar.Command.TheVariants.{Cast, DevVersio
 use Rattle.fuota_run.specs.declared.server.Request.TheVariants.{Version, Fragments, Status}
 use Rattle.fuota_run.specs.declared.server.Stage.{Stage}
 use Rattle.fuota_run.specs.declared.server.Stage.TheVariants.{At, Refused}
-use Rattle.fuota_run.specs.Image.{is_image, hardware_of, firmware_of}
+use Rattle.image_slots.specs.Image.{is_image, hardware_of, firmware_of}
 
 -- the image that the server sends, how it cuts it, where its device stands, and the fragment that is sent next
 pub record ServerState : Type 0 where

@@ -1,6 +1,6 @@
 -- What holds of each world.
 use Rattle.std.specs.Prelude.{◌≡◌, ℕ, ◌≤◌, true, List}
-use Rattle.fuota_run.specs.Image.{is_image}
+use Rattle.image_slots.specs.Image.{is_image}
 
 -- it is around an image file, and had at most as many lines as a script may have
 pub record IsWorld (image : List ℕ) (lines : ℕ) : Type 0 where

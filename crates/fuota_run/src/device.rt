@@ -13,10 +13,10 @@ ghost use Rattle.fuota_run.specs.Commands.{IsValid, IsUplink, SpellsAll, IsMessa
 ghost use Rattle.fuota_run.specs.Device.{DeviceState, first_device, limits_of, raised, after_data, after_heard, after_command, answer_to, weight, after_commands, answers_to, weights, setup_answer, has_bit, offered, is_complete, shows_file};
 
 use crate::grammar::{Command, check, port_of, read_one, spelled};
-use crate::image::{ImageState, image_state};
 use arrayvec::ArrayVec;
 use cast_wire::Cmd;
 use frag_session::{Heard, Idle, Limits, Memory, SetupReq, Slot, Verdict, Via, View};
+use image_slots::{ImageState, ImageView};
 use std::alloc::Global;
 use std::marker::Model;
 use wire_base::{Direction, Payload, Refusal};
@@ -270,7 +270,7 @@ impl Device {
     {
         match self.slot.view() {
             Some(view) if !had_file && is_complete(view.verdict) => {
-                image_state(view.file, self.config.hw)
+                ImageView::read(view.file, self.config.hw)
             }
             _ => self.next,
         }

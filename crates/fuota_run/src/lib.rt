@@ -9,7 +9,6 @@
 mod device;
 mod files;
 mod grammar;
-mod image;
 mod laws;
 mod lines;
 mod memory;
@@ -24,7 +23,6 @@ mod system;
 mod world;
 
 pub use files::{Failed, Files};
-pub use image::ImageState;
 pub use laws::{first_moment, headline};
 pub use lines::{Form, Key};
 pub use memory::{MemFiles, MemSink};

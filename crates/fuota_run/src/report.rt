@@ -9,9 +9,9 @@ ghost use Rattle.fuota_run.specs.HeldDevice.{StandsAs};
 ghost use Rattle.fuota_run.specs.Report.{image_text, image_line, request_word, stage_text, next_text, device_text, counts_line, session_text, session_line, same_word, verdict_text, report_text, report_lines};
 
 use crate::device::{Counts, Device};
-use crate::image::ImageState;
 use crate::server::{Request, Server, Stage};
 use frag_session::{Verdict, View};
+use image_slots::ImageState;
 use std::alloc::{AllocError, Global};
 
 /// The report: what was sent, where the device stands, and what its session shows.

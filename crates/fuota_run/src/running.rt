@@ -4,7 +4,7 @@ ghost use Rattle.std.specs.List.{position};
 ghost use Rattle.std.specs.Fmt.{decimal};
 ghost use Rattle.std.specs.Io.KnownBytes.{Appends};
 ghost use Rattle.fuota_run.specs.Outside.{HoldsName, HasRisen};
-ghost use Rattle.fuota_run.specs.Image.{is_image};
+ghost use Rattle.image_slots.specs.Image.{is_image};
 ghost use Rattle.fuota_run.specs.Answer.{answer, usage, begins_with_dash, word_at, is_form, why_word, refused, answer_of};
 ghost use Rattle.fuota_run.specs.Script.{lines_of};
 ghost use Rattle.fuota_run.specs.World.{campaign_of};
@@ -13,12 +13,12 @@ ghost use Rattle.fuota_run.specs.Replies.{answer_in, IsUnread};
 ghost use Rattle.fuota_run.specs.Texts.{seen_text};
 
 use crate::files::Files;
-use crate::image::is_image;
 use crate::output::write_text;
 use crate::sink::Sink;
 use crate::source::{SourceError, read_source};
 use crate::status::Status;
 use crate::world::{LineFault, LineWhy, World, WorldError};
+use image_slots::is_image;
 use std::alloc::{AllocError, Global};
 
 /// The most bytes of an image source.

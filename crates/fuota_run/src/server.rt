@@ -3,12 +3,12 @@ ghost use Rattle.std.specs.Prelude.{ℕ, List, OnOk, OnErr, IsOk, ◌≡◌, ◌
 ghost use Rattle.wire_base.specs.declared.refusal.Direction.{Direction};
 ghost use Rattle.fuota_run.specs.declared.grammar.Command.{Command};
 ghost use Rattle.fuota_run.specs.Commands.{IsDownlink, IsMessage, SpellsAll};
-ghost use Rattle.fuota_run.specs.Image.{is_image, hardware_of, firmware_of};
+ghost use Rattle.image_slots.specs.Image.{is_image, hardware_of, firmware_of};
 ghost use Rattle.fuota_run.specs.Server.{ServerState, fragments_of, padding_of, fragment_of, first_server, setup_of, asked, next_fragment, after_fragment, is_spent, answered, answered_all, after_version, after_setup_answer, worth};
 
 use crate::grammar::{Command, check, read_one};
-use crate::image::{firmware, hardware};
 use cast_wire::{Cmd, FragmentBytes, MAX_FRAGMENT};
+use image_slots::{firmware, hardware};
 use std::alloc::{AllocError, Global};
 use std::io::Read;
 use std::marker::Model;
@@ -66,7 +66,7 @@ pub fn fragments(len: usize, frag_size: u8) -> usize
     len.div_ceil(usize::from(frag_size))
 }
 
-#[tactic(auto, using(crate::proofs::ImageLemmas::image_bounds))]
+#[tactic(auto, using(image_slots::proofs::ImageLemmas::image_bounds))]
 impl Server {
     /// The server at the start of a campaign.
     pub fn new(alloc: Global, frag_size: u8, image: &[u8]) -> Result<Self, AllocError>
@@ -121,7 +121,7 @@ impl Server {
     }
 
     /// The request of the stage; None where there is none to send.
-    #[tactic(auto, using(crate::proofs::ImageLemmas::image_bounds), unfolding(crate::specs::Server::asked))]
+    #[tactic(auto, using(image_slots::proofs::ImageLemmas::image_bounds), unfolding(crate::specs::Server::asked))]
     pub fn ask(&self) -> Option<Command>
         ensures asked { result ≡ asked self.now.image self.now.frag_size self.now.stage }
         ensures sendable { IfSome result IsDownlink }
@@ -181,7 +181,7 @@ impl Server {
     }
 
     /// The next fragment for session 0; None exactly where all were sent.
-    #[tactic(auto, using(crate::proofs::ImageLemmas::image_bounds), unfolding(crate::specs::Server::next_fragment))]
+    #[tactic(auto, using(image_slots::proofs::ImageLemmas::image_bounds), unfolding(crate::specs::Server::next_fragment))]
     pub fn next_fragment(&mut self) -> Option<Command>
         ensures sent { result ≡ next_fragment self.old }
         ensures moved { self.new ≡ after_fragment self.old }
@@ -197,7 +197,7 @@ impl Server {
     }
 
     /// Takes a command of an uplink.
-    #[tactic(auto, using(crate::proofs::ImageLemmas::image_bounds), unfolding(crate::specs::Server::answered))]
+    #[tactic(auto, using(image_slots::proofs::ImageLemmas::image_bounds), unfolding(crate::specs::Server::answered))]
     pub fn answer(&mut self, command: &Command)
         ensures { self.new ≡ record self.old { stage = answered self.old.image self.old.stage command.now } }
     {

@@ -1,7 +1,7 @@
 // A campaign as its script tells it, line by line: what was sent, what was heard, and where each end stands.
 ghost use Rattle.std.specs.Prelude.{◌≡◌, ◌≤◌, ◌<◌, ◌+◌, ◌^◌, ◌++◌, ◌∷◌, [], true, map, length, Option, None, Some, Err, IsTrue, IfOk, IfErr, IfSome, OnOk};
 ghost use Rattle.std.specs.Option.{option_map};
-ghost use Rattle.fuota_run.specs.Image.{is_image};
+ghost use Rattle.image_slots.specs.Image.{is_image};
 ghost use Rattle.fuota_run.specs.Ranges.{is_frag_size, is_word};
 ghost use Rattle.fuota_run.specs.Commands.{IsValid, IsDownlink};
 ghost use Rattle.fuota_run.specs.Device.{DeviceState, first_device};
@@ -199,7 +199,7 @@ impl World {
     }
 
     /// The first cause for which a form is refused.
-    #[tactic(auto, using(crate::proofs::ImageLemmas::image_bounds), unfolding(crate::specs::World::form_cause))]
+    #[tactic(auto, using(image_slots::proofs::ImageLemmas::image_bounds), unfolding(crate::specs::World::form_cause))]
     fn cause(&self, form: &Form) -> Option<LineWhy>
         ensures { result ≡ form_cause (circumstances_in self.now) form.now }
     {

@@ -1,5 +1,5 @@
 use Rattle.std.proofs.Common.{rules, ◌≡◌, true, false, ℕ, List, refl, sym, ap, subst, ◌∙◌}
-use Rattle.fuota_run.specs.Image.{is_image}
+use Rattle.image_slots.specs.Image.{is_image}
 use Rattle.fuota_run.specs.Answer.{Answer, campaign_answer}
 use Rattle.fuota_run.specs.Reply.{IsTextOf, Says, GivesScript}
 use Rattle.fuota_run.specs.Replies.{answer_in}
@@ -17,7 +17,7 @@ returns-in-Err-clause-usage g c = if_ok_map c.unread.result (λ r is. (says_unre
 pub returns-then-not-is_image-clause-reply : goal.returns-then-not-is_image-clause-reply
 returns-then-not-is_image-clause-reply g c = if_ok_map c.say.result (λ r is.
     let image = c.in-Ok.image.items in
-    let bad : is_image image ≡ false = ap is_image (sym c.deref.ensures.value) ∙ sym c.is_image.ensures ∙ search rules in
+    let bad : is_image image ≡ false = ap is_image (sym c.deref.ensures.value) ∙ sym c.is_image.ensures.value ∙ search rules in
     says_source (g.F.Files.held c.args.files.now) c.args.image_name.now (λ h source. campaign_answer source (h c.args.script_name.now)) 65536 _ _ _ image (answer_in r)
     c.in-Ok.ensures.source (λ h. is ∙ image_given_refused image (h c.args.script_name.now) c.in-Ok.ensures.within bad)
     (subst (λ (a : Answer). IsTextOf a.status a.text) (sym is) refl) (λ fault. let s = ap (λ (a : Answer). a.status) is in cc) c.in-Ok.ensures.end) c.say.ensures
@@ -25,7 +25,7 @@ returns-then-not-is_image-clause-reply g c = if_ok_map c.say.result (λ r is.
 pub returns-clause-reply : goal.returns-clause-reply
 returns-clause-reply g c = if_ok_map c.script.result (λ r says.
     let image = c.in-Ok.image.items in
-    let good : is_image image ≡ true = ap is_image (sym c.deref.ensures.value) ∙ sym c.is_image.ensures ∙ search rules in
+    let good : is_image image ≡ true = ap is_image (sym c.deref.ensures.value) ∙ sym c.is_image.ensures.value ∙ search rules in
     says_behind (g.F.Files.held c.args.files.now) (g.F.Files.held c.read_source.new.files) c.args.image_name.now c.args.script_name.now _ _ _ _ image (answer_in r)
     c.in-Ok.ensures.held c.in-Ok.ensures.kept c.in-Ok.ensures.source c.in-Ok.ensures.within good
     (subst (λ (i : List ℕ). Says (GivesScript (g.F.Files.held c.read_source.new.files) i c.args.script_name.now (answer_in r)) (g.F.Files.faults c.read_source.new.files) (g.F.Files.faults c.script.new.files) (g.F.Files.left c.script.new.files) (answer_in r)) c.deref-2.ensures.value says)) c.script.ensures.reply

@@ -5,7 +5,7 @@ use Rattle.frag_session.specs.Session.{after_fragment, view_of}
 use Rattle.frag_session.specs.Stands.{Stands}
 use Rattle.fuota_run.specs.declared.device.Counts.{Counts}
 use Rattle.fuota_run.specs.declared.device.DeviceConfig.{DeviceConfig}
-use Rattle.fuota_run.specs.declared.image.ImageState.{ImageState}
+use Rattle.image_slots.specs.declared.view.ImageState.{ImageState}
 use Rattle.fuota_run.specs.Device.{offered, raised, shows_file}
 use Rattle.fuota_run.specs.HeldDevice.{HeldDevice}
 use Rattle.fuota_run.proofs.DeviceLemmas.{heard_fed, heard_dropped}

@@ -5,9 +5,9 @@ use Rattle.std.specs.Prelude.{ℕ, ◌-◌, Bool, ◌&&◌, not, ◌==◌, nat_l
 use Rattle.std.specs.Str.{bytes_eq}
 use Rattle.sha2.specs.Sha256.{sha256}
 use Rattle.wire_base.specs.Numbers.{number_at}
-use Rattle.fuota_run.specs.declared.image.TheConstants.{MAX_IMAGE}
-use Rattle.fuota_run.specs.declared.image.ImageState.{ImageState}
-use Rattle.fuota_run.specs.declared.image.ImageState.TheVariants.{Corrupt, Incompatible, Valid}
+use Rattle.image_slots.specs.declared.image.TheConstants.{MAX_IMAGE}
+use Rattle.image_slots.specs.declared.view.ImageState.{ImageState}
+use Rattle.image_slots.specs.declared.view.ImageState.TheVariants.{Corrupt, Incompatible, Valid}
 
 -- the mark at the start of an image file, and its format
 unfoldable pub image_start : List ℕ

@@ -3,7 +3,7 @@ ghost use Rattle.std.specs.Prelude.{◌≡◌, ◌+◌, ◌≤◌, length, ◌<�
 ghost use Rattle.std.specs.Str.{bytes_eq};
 ghost use Rattle.sha2.specs.Sha256.{sha256};
 ghost use Rattle.wire_base.specs.Numbers.{number_at};
-ghost use Rattle.fuota_run.specs.Image.{image_start, is_image, image_state, hardware_of, firmware_of};
+ghost use Rattle.image_slots.specs.Image.{image_start, is_image, hardware_of, firmware_of};
 
 use sha2::{Digest, Sha256};
 use wire_base::u32_at;
@@ -13,19 +13,6 @@ const HEAD: usize = 49;
 
 /// The most bytes of an image file.
 pub const MAX_IMAGE: usize = 65_536;
-
-/// What the bytes in a device's next slot are to it.
-#[derive(Clone, Copy, Debug, PartialEq, Eq)]
-pub enum ImageState {
-    /// Nothing was offered.
-    None,
-    /// No image file.
-    Corrupt,
-    /// An image file for another hardware version.
-    Incompatible,
-    /// An image file for this device, with its firmware version.
-    Valid(u32),
-}
 
 fn body_of(file: &[u8]) -> &[u8]
     requires { 49 ≤ length file.now }
@@ -57,16 +44,18 @@ fn has_digest(file: &[u8]) -> bool
 }
 
 /// Whether the bytes are an image file.
-#[tactic(auto, unfolding(crate::specs::Image::is_image, crate::specs::Image::firmware_of))]
-pub fn is_image(file: &[u8]) -> bool
-    ensures { result ≡ is_image file.now }
+#[tactic(auto, using(crate::proofs::ImageLemmas::image_bounds), unfolding(crate::specs::Image::is_image, crate::specs::Image::firmware_of))]
+pub fn is_image(bytes: &[u8]) -> bool
+    ensures value { result ≡ is_image bytes.now }
+    ensures long { IsTrue result → 49 ≤ length bytes.now }
+    ensures short { IsTrue result → length bytes.now ≤ 65536 }
 {
-    file.len() >= HEAD
-        && file.len() <= MAX_IMAGE
-        && has_start(file)
-        && u32_at(file, 9) != 0
-        && u32_at(file, 13) as usize == file.len() - HEAD
-        && has_digest(file)
+    bytes.len() >= HEAD
+        && bytes.len() <= MAX_IMAGE
+        && has_start(bytes)
+        && u32_at(bytes, 9) != 0
+        && u32_at(bytes, 13) as usize == bytes.len() - HEAD
+        && has_digest(bytes)
 }
 
 /// The hardware version of an image file.
@@ -85,18 +74,4 @@ pub fn firmware(file: &[u8]) -> u32
     ensures { result ≡ firmware_of file.now }
 {
     u32_at(file, 9)
-}
-
-/// What a file is to a device of this hardware version. It is never `ImageState::None`.
-#[tactic(auto, unfolding(crate::specs::Image::image_state, crate::specs::Image::is_image))]
-pub fn image_state(file: &[u8], hw: u32) -> ImageState
-    ensures { result ≡ image_state file.now hw }
-{
-    if !is_image(file) {
-        return ImageState::Corrupt;
-    }
-    if hardware(file) != hw {
-        return ImageState::Incompatible;
-    }
-    ImageState::Valid(firmware(file))
 }

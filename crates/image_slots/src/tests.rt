@@ -1,0 +1,52 @@
+ghost use Rattle.std.specs.Prelude.{◌<◌};
+
+use super::*;
+use std::test::*;
+
+/// An image file for hardware 1 with firmware 2, its body and digest those of the text abc.
+const IMAGE: [u8; 52] = [
+    0x46, 0x55, 0x49, 0x4d, 0x01, 0x01, 0x00, 0x00, 0x00, 0x02, 0x00, 0x00, 0x00, 0x03, 0x00, 0x00,
+    0x00, 0xba, 0x78, 0x16, 0xbf, 0x8f, 0x01, 0xcf, 0xea, 0x41, 0x41, 0x40, 0xde, 0x5d, 0xae, 0x22,
+    0x23, 0xb0, 0x03, 0x61, 0xa3, 0x96, 0x17, 0x7a, 0x9c, 0xb4, 0x10, 0xff, 0x61, 0xf2, 0x00, 0x15,
+    0xad, 0x61, 0x62, 0x63,
+];
+
+/// An image file for hardware 1 with firmware 2 and no body, its digest that of no bytes.
+const EMPTY: [u8; 49] = [
+    0x46, 0x55, 0x49, 0x4d, 0x01, 0x01, 0x00, 0x00, 0x00, 0x02, 0x00, 0x00, 0x00, 0x00, 0x00, 0x00,
+    0x00, 0xe3, 0xb0, 0xc4, 0x42, 0x98, 0xfc, 0x1c, 0x14, 0x9a, 0xfb, 0xf4, 0xc8, 0x99, 0x6f, 0xb9,
+    0x24, 0x27, 0xae, 0x41, 0xe4, 0x64, 0x9b, 0x93, 0x4c, 0xa4, 0x95, 0x99, 0x1b, 0x78, 0x52, 0xb8,
+    0x55,
+];
+
+/// `IMAGE` with one byte changed.
+fn changed(at: u8, byte: u8) -> [u8; 52]
+    requires { at < 52 }
+{
+    let mut file = IMAGE;
+    file[at as usize] = byte;
+    file
+}
+
+#[test]
+fn a_file_is_what_its_bytes_make_it(rt: HostRuntime) {
+    let mut longer = [0; 53];
+    longer[..52].copy_from_slice(&IMAGE);
+    let table: [(&[u8], u32, ImageState); 9] = [
+        (&IMAGE, 1, ImageState::Valid(2)),
+        (&IMAGE, 2, ImageState::Incompatible),
+        (&EMPTY, 1, ImageState::Valid(2)),
+        (&changed(51, b'd'), 1, ImageState::Corrupt),
+        (&changed(4, 2), 1, ImageState::Corrupt),
+        (&changed(9, 0), 1, ImageState::Corrupt),
+        (&longer, 1, ImageState::Corrupt),
+        (&IMAGE[..48], 1, ImageState::Corrupt),
+        (&[], 1, ImageState::Corrupt),
+    ];
+    for (file, hw, state) in table {
+        assert!(rt; ImageView::read(file, hw) == state);
+        assert!(rt; is_image(file) == (state != ImageState::Corrupt));
+    }
+    assert!(rt; hardware(&IMAGE) == 1);
+    assert!(rt; firmware(&IMAGE) == 2);
+}
