@@ -1,0 +1,9 @@
+pub mod Agreeing
+pub mod Telling
+pub mod Reducing
+pub mod Growing
+pub mod Blocks
+pub mod Counting
+pub mod Settling
+pub mod Saying
+pub mod Standing

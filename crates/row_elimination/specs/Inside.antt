@@ -1,0 +1,13 @@
+-- What is always true of the places.
+use Rattle.std.specs.Prelude.{◌≡◌, ◌≢◌, ℕ, ◌^◌, ◌<◌, List, length, get_or, Some}
+use Rattle.std.specs.Int.{bit_at}
+use Rattle.frag_model.specs.Fragments.{Equation, IsPiece}
+use Rattle.row_elimination.specs.Places.{Place, free, told}
+
+-- fully reduced: each equation has its own column, and none that another equation leads
+pub record IsReduced (cols size : ℕ) (ps : List Place) : Type 0 where
+  pub sized : length ps ≡ cols
+  pub own : (c : ℕ) (e : Equation) → told c (get_or ps c free) ≡ Some e → bit_at e.line c ≡ 1
+  pub within : (c : ℕ) (e : Equation) → told c (get_or ps c free) ≡ Some e → e.line < 2 ^ cols
+  pub part : (c : ℕ) (e : Equation) → told c (get_or ps c free) ≡ Some e → IsPiece size e.part
+  pub apart : (c d : ℕ) (e f : Equation) → c ≢ d → told c (get_or ps c free) ≡ Some e → told d (get_or ps d free) ≡ Some f → bit_at e.line d ≡ 0

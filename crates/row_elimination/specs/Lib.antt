@@ -1,0 +1,4 @@
+pub mod Places
+pub mod Inside
+pub mod Held
+pub mod Stands

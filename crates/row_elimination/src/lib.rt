@@ -1,0 +1,6 @@
+//! Recovering a file.
+#![tactic(auto)]
+
+mod stages;
+
+pub use stages::Stage;
