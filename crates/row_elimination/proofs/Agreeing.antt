@@ -7,9 +7,7 @@ use Rattle.std.proofs.lemmas.List.{ext_get_or}
 use Rattle.frag_model.specs.Fragments.{Equation, IsPiece, Meets, xor_bytes, xor_all, pieces_at}
 use Rattle.frag_model.proofs.Parts.{byte_at, get_or-xor_all, length-xor_all, get_or-xor_bytes}
 use Rattle.frag_model.proofs.Uniqueness.{byte_at-xor}
-
-abbrev pub Agrees : List (List ℕ) → ℕ → List ℕ → Type 0
-Agrees block line part = (i : ℕ) → byte_at line i block ≡ get_or part i 0
+pub use Rattle.row_elimination.specs.Steps.{Agrees}
 
 pub agrees_xor : (b : List (List ℕ)) (l m : ℕ) (p q : List ℕ) → Agrees b l p → Agrees b m q → Agrees b (bit_xor l m) (xor_bytes p q)
 agrees_xor b l m p q h k = λ i. byte_at-xor l m i b ∙ ap₂ bit_xor (h i) (k i) ∙ sym (get_or-xor_bytes p q i)

@@ -15,6 +15,7 @@ use Rattle.row_elimination.specs.Inside.{IsReduced}
 use Rattle.row_elimination.proofs.Agreeing.{Agrees, agrees_xor, agrees_back}
 use Rattle.row_elimination.proofs.Telling.{Tells, AgreesAll, told-sum, told_within, In-lines, lines-In}
 use Rattle.row_elimination.proofs.Reducing.{piece_xor}
+pub use Rattle.row_elimination.specs.Steps.{IsNew}
 
 -- the equation at a place is as it was, or it was changed by the new one
 Changed : ℕ → ℕ → List ℕ → Equation → Equation → Type 0
@@ -89,15 +90,6 @@ length-all_cleared p y q ps = length-map ps (cleared p y q)
 pub length-grown : (p y : ℕ) (q : List ℕ) (ps : List Place) → length (grown p y q ps) ≡ length ps
 unfolding grown
 length-grown p y q ps = length-set (all_cleared p y q ps) p (row y q) ∙ length-all_cleared p y q ps
-
--- a new row: it has none of the columns that lead, and a column to lead
-pub record IsNew (cols size : ℕ) (ps : List Place) (p y : ℕ) (q : List ℕ) : Type 0 where
-  pub reduced : IsReduced cols size ps
-  pub clear : (d : ℕ) (e : Equation) → Tells ps d e → bit_at y d ≡ 0
-  pub within : y < 2 ^ cols
-  pub part : IsPiece size q
-  pub inside : p < cols
-  pub own : bit_at y p ≡ 1
 
 pub not_led : (cols size : ℕ) (ps : List Place) (p y c : ℕ) (q : List ℕ) (e : Equation) → IsNew cols size ps p y q → Tells ps c e → c ≢ p
 not_led cols size ps p y c q e h k = λ same.

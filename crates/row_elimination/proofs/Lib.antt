@@ -7,3 +7,6 @@ pub mod Counting
 pub mod Settling
 pub mod Saying
 pub mod Standing
+pub mod Lines
+pub mod Chunks
+pub mod Storing

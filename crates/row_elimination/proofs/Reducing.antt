@@ -14,6 +14,7 @@ use Rattle.row_elimination.specs.Places.{Place, free, told, lines_held}
 use Rattle.row_elimination.specs.Inside.{IsReduced}
 use Rattle.row_elimination.proofs.Agreeing.{Agrees, agrees_xor, agrees_same, xor_right}
 use Rattle.row_elimination.proofs.Telling.{Tells, AgreesAll, told-sum, told_within}
+pub use Rattle.row_elimination.specs.Steps.{Reduced}
 
 pub piece_xor : (size : ℕ) (p q : List ℕ) → IsPiece size p → IsPiece size q → IsPiece size (xor_bytes p q)
 piece_xor size p q h k =
@@ -95,14 +96,6 @@ reducing_passes cols size ps line part c l q none h = record {
   within = h.within;
   piece = h.piece;
 }
-
--- reduced by all columns
-pub record Reduced (cols size : ℕ) (ps : List Place) (line : ℕ) (part : List ℕ) (l : ℕ) (q : List ℕ) : Type 0 where
-  pub agrees : (b : List (List ℕ)) → AgreesAll b ps → Agrees b (bit_xor l line) (xor_bytes q part)
-  pub sum : IsSum (bit_xor l line) (lines_held ps)
-  pub clear : (d : ℕ) (e : Equation) → Tells ps d e → bit_at l d ≡ 0
-  pub within : l < 2 ^ cols
-  pub piece : IsPiece size q
 
 pub reducing_ends : (cols size : ℕ) (ps : List Place) (line : ℕ) (part : List ℕ) (l : ℕ) (q : List ℕ)
     → length ps ≡ cols → Reducing cols size ps line part cols l q → Reduced cols size ps line part l q

@@ -14,14 +14,7 @@ use Rattle.row_elimination.proofs.Agreeing.{Agrees}
 use Rattle.row_elimination.proofs.Telling.{Tells, AgreesAll, told-sum, told_within, lines-In, no_lead}
 use Rattle.row_elimination.proofs.Blocks.{some_fitting}
 use Rattle.row_elimination.proofs.Counting.{one, one_true, one_false, rows_set, pieces_set, held_kind}
-
--- what the places know of a piece: its column is a sum, and each block that fits has it
-pub record Knows (shape : Shape) (ps : List Place) (k : ℕ) (part : List ℕ) : Type 0 where
-  pub reduced : IsReduced shape.nb_frag shape.frag_size ps
-  pub inside : k < shape.nb_frag
-  pub sum : IsSum (2 ^ k) (lines_held ps)
-  pub agrees : (b : List (List ℕ)) → AgreesAll b ps → Agrees b (2 ^ k) part
-  pub piece : IsPiece shape.frag_size part
+pub use Rattle.row_elimination.specs.Steps.{Knows}
 
 -- its column then leads an equation
 unit_off : (k d : ℕ) (ps : List Place) (e : Equation) → Tells ps d e → get_or ps k free ≡ free → d ≢ k

@@ -13,10 +13,7 @@ use Rattle.frag_model.proofs.Tables.{IsSum, IsSum-line, IsSum-without}
 use Rattle.row_elimination.specs.Places.{Place, free, piece, row, told, equations_from, equations_held, lines_held, FitsHeld}
 use Rattle.row_elimination.specs.Inside.{IsReduced}
 use Rattle.row_elimination.proofs.Agreeing.{Agrees, agrees_from_meets, meets_from_agrees}
-
--- the equation at a column
-abbrev pub Tells : List Place → ℕ → Equation → Type 0
-Tells ps c e = told c (get_or ps c free) ≡ Some e
+pub use Rattle.row_elimination.specs.Steps.{Tells, AgreesAll}
 
 -- ---- membership
 
@@ -76,10 +73,6 @@ pub told-sum : (c : ℕ) (ps : List Place) (e : Equation) → Tells ps c e → I
 told-sum c ps e h = IsSum-line e.line (lines_held ps) (In-lines c ps e h)
 
 -- ---- fitting
-
--- the block agrees with each equation held
-abbrev pub AgreesAll : List (List ℕ) → List Place → Type 0
-AgreesAll b ps = (c : ℕ) (e : Equation) → Tells ps c e → Agrees b e.line e.part
 
 pub agrees_from_fits : (shape : Shape) (ps : List Place) (b : List (List ℕ)) → FitsHeld shape ps b → AgreesAll b ps
 agrees_from_fits shape ps b h = λ c e k.

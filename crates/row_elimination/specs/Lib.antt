@@ -2,3 +2,5 @@ pub mod Places
 pub mod Inside
 pub mod Held
 pub mod Stands
+pub mod Storage
+pub mod Steps
