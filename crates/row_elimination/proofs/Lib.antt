@@ -10,3 +10,5 @@ pub mod Standing
 pub mod Lines
 pub mod Chunks
 pub mod Storing
+pub mod Placing
+pub mod Slotting

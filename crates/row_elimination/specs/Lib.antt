@@ -4,3 +4,4 @@ pub mod Held
 pub mod Stands
 pub mod Storage
 pub mod Steps
+pub mod Grid

@@ -43,3 +43,18 @@ pub record TakesOut (c : ℕ) (place : Place) (line : ℕ) (part : List ℕ) (li
 pub record Clears (cols size : ℕ) (column : Column) (p y : ℕ) (q : List ℕ) (coefs coefs' : List Bool) (cells cells' : List ℕ) : Type 0 where
   pub here : (area : List ℕ) (c : ℕ) → place_in cols size area coefs' cells' c column ≡ cleared p y q (place_in cols size area coefs cells c column)
   pub others : (area : List ℕ) (c : ℕ) (o : Column) → ((slot : ℕ) → column ≡ Row slot → o ≢ Row slot) → place_in cols size area coefs' cells' c o ≡ place_in cols size area coefs cells c o
+
+-- what is kept of a column once its piece lies in the area: there the piece, or in its slot the part of its row
+unfoldable pub part_in : ℕ → List ℕ → List ℕ → ℕ → Column → List ℕ
+part_in size area cells c Free = chunk c size area
+part_in size area cells c Piece = chunk c size area
+part_in size area cells c (Row slot) = chunk slot size cells
+
+-- which slots are in use: each by one column, and the spare ones by none
+pub record Slots (os : List Column) (spare : List ℕ) (rows count : ℕ) : Type 0 where
+  pub within : (c slot : ℕ) → get_or os c Free ≡ Row slot → slot < rows
+  pub alone : (c d slot : ℕ) → get_or os c Free ≡ Row slot → get_or os d Free ≡ Row slot → c ≡ d
+  pub few : count ≤ rows
+  pub spare_within : (i : ℕ) → count ≤ i → i < rows → get_or spare i 0 < rows
+  pub spare_free : (i c : ℕ) → count ≤ i → i < rows → get_or os c Free ≢ Row (get_or spare i 0)
+  pub spare_alone : (i j : ℕ) → count ≤ i → i < rows → count ≤ j → j < rows → get_or spare i 0 ≡ get_or spare j 0 → i ≡ j

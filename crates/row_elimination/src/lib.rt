@@ -3,7 +3,9 @@
 
 mod bytes;
 mod columns;
+mod entries;
 mod passes;
 mod stages;
+mod tables;
 
 pub use stages::Stage;

@@ -1,0 +1,92 @@
+//! The table of all that is held: pieces in their area, and the rows in slots.
+
+ghost use Rattle.std.specs.Prelude.{◌≡◌, ◌≢◌, ◌+◌, ◌-◌, ◌*◌, ◌<◌, ◌≤◌, ◌==◌, length, get_or, set, replicate, take, false, IfOk, nat_le};
+ghost use Rattle.frag_model.specs.Fragments.{Equation, IsPiece};
+ghost use Rattle.frag_model.specs.Parity.{number_of};
+ghost use Rattle.row_elimination.specs.Places.{free, piece, is_piece, grown, rows_held, gained_held};
+ghost use Rattle.row_elimination.specs.Storage.{chunk};
+ghost use Rattle.row_elimination.specs.Steps.{Reduced, IsNew, Knows, Tells};
+ghost use Rattle.row_elimination.specs.Grid.{Grid, SameRoom};
+
+use crate::columns::Column;
+use crate::entries::{put_parts, put_piece, put_row};
+use crate::passes::{clear, reduce};
+use std::alloc::{AllocError, Global};
+use std::marker::Model;
+
+/// The most pieces of a file.
+pub const MAX_PIECES: usize = 1024;
+
+/// All that is held of a file: a piece, a row or nothing for each of its columns.
+#[derive(Drop)]
+pub struct Table {
+    nb_frag: u16,
+    frag_size: u8,
+    rows: u16,
+    count: u16,
+    gained: u16,
+    columns: Vec<Column>,
+    spare: Vec<u16>,
+    area: Vec<u8>,
+    coefs: Vec<bool>,
+    cells: Vec<u8>,
+}
+
+impl Model for Table {
+    ghost use Rattle.std.specs.Prelude.{length, take};
+    ghost use Rattle.row_elimination.specs.Grid.{Grid, IsGrid};
+    ghost use Rattle.row_elimination.specs.Storage.{places_in};
+
+    ghost Value = { Grid };
+
+    ghost view = { λ t. record {
+      shape = record { nb_frag = t.nb_frag; frag_size = t.frag_size; rows = t.rows };
+      places = places_in t.nb_frag t.frag_size t.area.items t.coefs.items t.cells.items (take t.nb_frag t.columns.items);
+      area = t.area.items;
+      lines = length t.coefs.items;
+      parts = length t.cells.items;
+    } };
+
+    ghost invariant = { λ t. IsGrid t.nb_frag t.frag_size t.rows t.count t.gained t.columns.items t.spare.items t.area.items t.coefs.items t.cells.items };
+}
+
+impl Table {
+    /// How many pieces the file has.
+    pub fn nb_frag(&self) -> u16
+        ensures { result ≡ self.now.shape.nb_frag }
+    {
+        self.nb_frag
+    }
+
+    /// How many pieces are still to be gained.
+    pub fn missing(&self) -> u16
+        ensures { result ≡ self.now.shape.nb_frag - gained_held self.now.places }
+    {
+        self.nb_frag.saturating_sub(self.gained)
+    }
+
+    /// Whether each slot has a row.
+    pub fn is_full(&self) -> bool
+        ensures { result ≡ (rows_held self.now.places == self.now.shape.rows) }
+    {
+        self.count == self.rows
+    }
+
+    /// The bytes of the file's pieces in the area.
+    pub fn content(&self) -> &[u8]
+        ensures { result.now ≡ take (self.now.shape.nb_frag * self.now.shape.frag_size) self.now.area }
+    {
+        &self.area[..self.nb_frag as usize * self.frag_size as usize]
+    }
+
+    /// Takes out of an equation all columns of which something is held.
+    pub fn reduce(&self, line: &mut [bool], part: &mut [u8])
+        requires columns { length line.old ≡ self.now.shape.nb_frag }
+        requires sized { length part.old ≡ self.now.shape.frag_size }
+        requires piece { IsPiece (length part.old) part.old }
+        ensures { Reduced self.now.shape.nb_frag self.now.shape.frag_size self.now.places (number_of line.old) part.old (number_of line.new) part.new }
+    {
+        let columns = &self.columns[..self.nb_frag as usize];
+        reduce(columns, &self.area, &self.coefs, &self.cells, line, part);
+    }
+}
