@@ -27,7 +27,7 @@ put_there k size n xs ys e room =
     ap (λ l. take size l) (drop_at (take (k * size) xs) (ys ++ post_of (k * size) n xs) (k * size) front)
     ∙ take_at ys (post_of (k * size) n xs) size e
 
-before : (j k size : ℕ) → j < k → j * size + size ≤ k * size
+pub before : (j k size : ℕ) → j < k → j * size + size ≤ k * size
 before j k size lt =
     let le : suc j * size ≤ k * size = mul-le (suc j) size k size (omega arith) (omega arith) in
     omega (arith, le, suc-mul j size)

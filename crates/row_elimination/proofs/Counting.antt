@@ -32,7 +32,7 @@ count-map p f (x ∷ xs) h =
 
 -- ---- a cleared place is what it was
 
-is_piece-cleared : (p y : ℕ) (q : List ℕ) (x : Place) → is_piece (cleared p y q x) ≡ is_piece x
+pub is_piece-cleared : (p y : ℕ) (q : List ℕ) (x : Place) → is_piece (cleared p y q x) ≡ is_piece x
 unfolding is_piece cleared
 is_piece-cleared p y q free = refl
 is_piece-cleared p y q (piece part) = refl
@@ -137,3 +137,7 @@ held_kind c x e h = elim (kind x) [
   | inl k ↦ absurd (let none : told c free ≡ Some e = subst (λ p. told c p ≡ Some e) k.0 h in cc)
   | inr k ↦ k.1
 ]
+
+pub gained_more : (p y : ℕ) (q : List ℕ) (ps : List Place) → p < length ps → get_or ps p free ≡ free → gained_held (grown p y q ps) ≡ gained_held ps + 1
+unfolding gained_held
+gained_more p y q ps lt none = omega (arith, rows_grown p y q ps lt none, pieces_grown p y q ps lt none)

@@ -75,11 +75,11 @@ cleared_told p y c q (row line part) e ne h =
     ]
 
 -- what is at each column
-at_new : (p y : ℕ) (q : List ℕ) (ps : List Place) → p < length ps → get_or (grown p y q ps) p free ≡ row y q
+pub at_new : (p y : ℕ) (q : List ℕ) (ps : List Place) → p < length ps → get_or (grown p y q ps) p free ≡ row y q
 unfolding grown all_cleared
 at_new p y q ps lt = get_or-set_same (all_cleared p y q ps) p (row y q) free (omega (arith, length-map ps (cleared p y q)))
 
-at_old : (p y c : ℕ) (q : List ℕ) (ps : List Place) → c ≢ p → get_or (grown p y q ps) c free ≡ cleared p y q (get_or ps c free)
+pub at_old : (p y c : ℕ) (q : List ℕ) (ps : List Place) → c ≢ p → get_or (grown p y q ps) c free ≡ cleared p y q (get_or ps c free)
 unfolding grown
 at_old p y c q ps ne = get_or-set_other (all_cleared p y q ps) p c (row y q) free ne ∙ at_all_cleared p y q ps c
 
@@ -96,7 +96,7 @@ not_led cols size ps p y c q e h k = λ same.
     let off : bit_at y p ≡ 0 = ap (λ n. bit_at y n) (sym same) ∙ h.clear c e k in
     omega (arith, h.own)
 
-new_at : (cols size : ℕ) (ps : List Place) (p y : ℕ) (q : List ℕ) → IsNew cols size ps p y q → get_or (grown p y q ps) p free ≡ row y q
+pub new_at : (cols size : ℕ) (ps : List Place) (p y : ℕ) (q : List ℕ) → IsNew cols size ps p y q → get_or (grown p y q ps) p free ≡ row y q
 new_at cols size ps p y q h = at_new p y q ps (omega (arith, h.reduced.sized, h.inside))
 
 pub new_tells : (cols size : ℕ) (ps : List Place) (p y : ℕ) (q : List ℕ) → IsNew cols size ps p y q → Tells (grown p y q ps) p (record { line = y; part = q })

@@ -12,3 +12,5 @@ pub mod Chunks
 pub mod Storing
 pub mod Placing
 pub mod Slotting
+pub mod Adding
+pub mod Gridding

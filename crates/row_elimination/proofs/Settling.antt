@@ -8,12 +8,13 @@ use Rattle.std.proofs.lemmas.List.{ext_get_or}
 use Rattle.frag_model.specs.Fragments.{Shape, Equation, IsPiece}
 use Rattle.frag_model.proofs.Parts.{xor_same, byte_at}
 use Rattle.frag_model.proofs.Tables.{IsSum, IsSum-xor, IsSum-within}
-use Rattle.row_elimination.specs.Places.{Place, free, piece, row, told, lines_held, is_piece, is_row, rows_held, pieces_held, gained_held}
+use Rattle.row_elimination.specs.Places.{Place, free, piece, row, told, lines_held, is_piece, is_row, rows_held, pieces_held, gained_held, cleared, grown}
 use Rattle.row_elimination.specs.Inside.{IsReduced}
 use Rattle.row_elimination.proofs.Agreeing.{Agrees}
 use Rattle.row_elimination.proofs.Telling.{Tells, AgreesAll, told-sum, told_within, lines-In, no_lead}
 use Rattle.row_elimination.proofs.Blocks.{some_fitting}
-use Rattle.row_elimination.proofs.Counting.{one, one_true, one_false, rows_set, pieces_set, held_kind}
+use Rattle.row_elimination.proofs.Counting.{one, one_true, one_false, rows_set, pieces_set, held_kind, is_piece-cleared}
+use Rattle.row_elimination.proofs.Growing.{IsNew, at_old, new_at}
 pub use Rattle.row_elimination.specs.Steps.{Knows}
 
 -- its column then leads an equation
@@ -118,3 +119,16 @@ unfolding is_row
 settled_rows shape ps k part h =
     let lt : k < length ps = omega (arith, h.reduced.sized, h.inside) in
     omega (arith, rows_set ps k (piece part) lt, one_false (is_row (piece part)) refl)
+
+-- a place with an equation that is no piece is a row, also after a new row
+pub learned_row : (shape : Shape) (ps : List Place) (k p y : ℕ) (q part : List ℕ) → IsNew shape.nb_frag shape.frag_size ps p y q → Knows shape (grown p y q ps) k part
+    → is_piece (get_or ps k free) ≡ false → one (is_row (get_or (grown p y q ps) k free)) ≡ 1
+unfolding is_piece is_row cleared
+learned_row shape ps k p y q part new known fresh = elim (cases_eq k p) [
+  | inl same ↦ one_true _ (ap (λ n. is_row (get_or (grown p y q ps) n free)) same ∙ ap is_row (new_at shape.nb_frag shape.frag_size ps p y q new))
+  | inr other ↦
+      let kind : one (is_piece (get_or (grown p y q ps) k free)) + one (is_row (get_or (grown p y q ps) k free)) ≡ 1 = held_kind k (get_or (grown p y q ps) k free) _ (tells_piece shape (grown p y q ps) k part known) in
+      let none : one (is_piece (get_or (grown p y q ps) k free)) ≡ 0 =
+      one_false _ (ap is_piece (at_old p y k q ps other) ∙ is_piece-cleared p y q (get_or ps k free) ∙ fresh) in
+      omega arith
+]

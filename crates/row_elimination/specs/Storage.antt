@@ -1,6 +1,6 @@
 -- Where the places lie: pieces in the area, one behind the other; of each row the coefficients, one to a column, and the
 -- part in slots, one slot behind the other.
-use Rattle.std.specs.Prelude.{◌≡◌, ◌≢◌, ℕ, suc, ◌+◌, ◌*◌, ◌<◌, ◌≤◌, ◌^◌, Bool, List, [], ◌∷◌, length, take, drop, get_or, Some, bit_xor}
+use Rattle.std.specs.Prelude.{◌≡◌, ◌≢◌, ℕ, suc, ◌+◌, ◌*◌, ◌<◌, ◌≤◌, ◌^◌, Bool, List, [], ◌∷◌, length, take, drop, get_or, set, Some, bit_xor}
 use Rattle.std.specs.Int.{bit_at}
 use Rattle.frag_model.specs.Fragments.{Equation, xor_bytes}
 use Rattle.frag_model.specs.Parity.{number_of}
@@ -58,3 +58,9 @@ pub record Slots (os : List Column) (spare : List ℕ) (rows count : ℕ) : Type
   pub spare_within : (i : ℕ) → count ≤ i → i < rows → get_or spare i 0 < rows
   pub spare_free : (i c : ℕ) → count ≤ i → i < rows → get_or os c Free ≢ Row (get_or spare i 0)
   pub spare_alone : (i j : ℕ) → count ≤ i → i < rows → count ≤ j → j < rows → get_or spare i 0 ≡ get_or spare j 0 → i ≡ j
+
+-- a row was put into the slot that was kept, if one was
+pub record TakesOver (cols size : ℕ) (kept : Column) (p y : ℕ) (q : List ℕ) (coefs coefs' : List Bool) (cells cells' : List ℕ) (os os' : List Column) : Type 0 where
+  pub row : (slot : ℕ) → kept ≡ Row slot → (os' ≡ set os p (Row slot))
+      × ((area : List ℕ) → places_in cols size area coefs' cells' os' ≡ set (places_in cols size area coefs cells os) p (row y q))
+  pub none : ((slot : ℕ) → kept ≢ Row slot) → (os' ≡ os) × (coefs' ≡ coefs) × (cells' ≡ cells)

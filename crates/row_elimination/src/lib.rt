@@ -1,6 +1,7 @@
 //! Recovering a file.
 #![tactic(auto)]
 
+mod additions;
 mod bytes;
 mod columns;
 mod entries;

@@ -3,14 +3,15 @@
 ghost use Rattle.std.specs.Prelude.{◌≡◌, ◌≢◌, ◌+◌, ◌-◌, ◌*◌, ◌<◌, ◌≤◌, ◌==◌, length, get_or, set, replicate, take, false, IfOk, nat_le};
 ghost use Rattle.frag_model.specs.Fragments.{Equation, IsPiece};
 ghost use Rattle.frag_model.specs.Parity.{number_of};
-ghost use Rattle.row_elimination.specs.Places.{free, piece, is_piece, grown, rows_held, gained_held};
+ghost use Rattle.row_elimination.specs.Places.{free, piece as known, is_piece, grown, rows_held, gained_held};
 ghost use Rattle.row_elimination.specs.Storage.{chunk};
 ghost use Rattle.row_elimination.specs.Steps.{Reduced, IsNew, Knows, Tells};
 ghost use Rattle.row_elimination.specs.Grid.{Grid, SameRoom};
 
 use crate::columns::Column;
-use crate::entries::{put_parts, put_piece, put_row};
-use crate::passes::{clear, reduce};
+use crate::additions::{add_piece, add_piece_and_row, add_row};
+use crate::entries::put_parts;
+use crate::passes::reduce;
 use std::alloc::{AllocError, Global};
 use std::marker::Model;
 
@@ -88,5 +89,47 @@ impl Table {
     {
         let columns = &self.columns[..self.nb_frag as usize];
         reduce(columns, &self.area, &self.coefs, &self.cells, line, part);
+    }
+
+    /// Takes in a new row, which its column `p` leads.
+    pub fn push(&mut self, p: usize, line: &[bool], part: &[u8])
+        requires columns { length line.now ≡ self.old.shape.nb_frag }
+        requires sized { length part.now ≡ self.old.shape.frag_size }
+        requires new { IsNew self.old.shape.nb_frag self.old.shape.frag_size self.old.places p (number_of line.now) part.now }
+        requires room { rows_held self.old.places < self.old.shape.rows }
+        ensures { self.new ≡ record self.old { places = grown p (number_of line.now) part.now self.old.places } }
+    {
+        let slot = self.spare[self.count as usize];
+        add_row(&mut self.columns, &mut self.coefs, &mut self.cells, slot, p, line, part);
+        self.count += 1;
+        self.gained += 1;
+    }
+
+    /// Takes in a piece and a new row that column `p` leads, which is the piece itself or takes the place of the row that
+    /// the piece's column led.
+    pub fn learn(&mut self, k: usize, piece: &[u8], p: usize, line: &[bool], part: &[u8])
+        requires columns { length line.now ≡ self.old.shape.nb_frag }
+        requires sized { length part.now ≡ self.old.shape.frag_size }
+        requires new { IsNew self.old.shape.nb_frag self.old.shape.frag_size self.old.places p (number_of line.now) part.now }
+        requires known { Knows self.old.shape (grown p (number_of line.now) part.now self.old.places) k piece.now }
+        requires fresh { is_piece (get_or self.old.places k free) ≡ false }
+        ensures places { self.new.places ≡ set (grown p (number_of line.now) part.now self.old.places) k (known piece.now) }
+        ensures room { SameRoom self.old self.new }
+    {
+        add_piece_and_row(&mut self.columns, &mut self.area, &mut self.coefs, &mut self.cells, k, piece, p, line, part);
+        self.gained += 1;
+    }
+
+    /// Takes in a piece that the equations tell already.
+    pub fn settle(&mut self, k: usize, piece: &[u8])
+        requires known { Knows self.old.shape self.old.places k piece.now }
+        ensures places { self.new.places ≡ set self.old.places k (known piece.now) }
+        ensures room { SameRoom self.old self.new }
+    {
+        if let Column::Row(slot) = self.columns[k] {
+            add_piece(&mut self.columns, self.nb_frag as usize, &mut self.area, k, piece);
+            self.count -= 1;
+            self.spare[self.count as usize] = slot;
+        }
     }
 }

@@ -1,0 +1,68 @@
+use Rattle.std.proofs.Common.{◌≡◌, ◌≢◌, ◌+◌, ◌-◌, ◌*◌, ◌<◌, ◌≤◌, ℕ, List, Bool, false, length, get_or, take, set, refl, sym, ap, subst, ◌∙◌, arith}
+use Rattle.frag_model.specs.Fragments.{Shape}
+use Rattle.row_elimination.specs.declared.columns.Column.{Column}
+use Rattle.row_elimination.specs.declared.columns.Column.TheVariants.{Free, Piece, Row}
+use Rattle.row_elimination.specs.Places.{Place, piece, rows_held}
+use Rattle.row_elimination.specs.Storage.{places_in}
+use Rattle.row_elimination.specs.Steps.{Knows}
+use Rattle.row_elimination.specs.Grid.{Grid, IsGrid}
+use Rattle.row_elimination.proofs.Gridding.{written, column_read, settled_count, settled, settled_already}
+use Rattle.row_elimination.proofs.tables.Table.settle.Goals as goal
+
+pub overflow_sub-self : goal.overflow_sub-self
+overflow_sub-self c =
+    let shape : Shape = record { nb_frag = c.self.inside.nb_frag; frag_size = c.self.inside.frag_size; rows = c.self.inside.rows } in
+    let columns : List Column = c.self.inside.columns.items in
+    let os : List Column = take c.self.inside.nb_frag columns in
+    let known : Knows shape (places_in c.self.inside.nb_frag c.self.inside.frag_size c.self.inside.area.items c.self.inside.coefs.items c.self.inside.cells.items os) c.args.k c.args.piece.now =
+    subst (λ (g : Grid). Knows g.shape g.places c.args.k c.args.piece.now) (sym c.self.view_is) c.requires.known in
+    let at : get_or os c.args.k Free ≡ c.index.result.now =
+    column_read columns c.self.inside.nb_frag c.args.k c.index.result.now known.inside (omega (arith, c.self.invariant.most, c.self.invariant.columns_sized)) c.index.ensures in
+    omega (arith, c.self.invariant.counted,
+    settled_count shape c.self.inside.area.items c.self.inside.coefs.items c.self.inside.cells.items os c.args.k c.in-Row.slot c.args.piece.now known (at ∙ c.in-Row.is))
+
+pub invariant_of-self : goal.invariant_of-self
+invariant_of-self c =
+    let nb : ℕ = c.self.inside.nb_frag in
+    let size : ℕ = c.self.inside.frag_size in
+    let rows : ℕ = c.self.inside.rows in
+    let count : ℕ = c.self.inside.count in
+    let columns : List Column = c.self.inside.columns.items in
+    let spare : List ℕ = c.self.inside.spare.items in
+    let area : List ℕ = c.self.inside.area.items in
+    let coefs : List Bool = c.self.inside.coefs.items in
+    let cells : List ℕ = c.self.inside.cells.items in
+    let os : List Column = take nb columns in
+    let ps : List Place = places_in nb size area coefs cells os in
+    let shape : Shape = record { nb_frag = nb; frag_size = size; rows = rows } in
+    let part = c.args.piece.now in
+    let known : Knows shape ps c.args.k part = subst (λ (g : Grid). Knows g.shape g.places c.args.k part) (sym c.self.view_is) c.requires.known in
+    let at : get_or os c.args.k Free ≡ c.index.result.now =
+    column_read columns nb c.args.k c.index.result.now known.inside (omega (arith, c.self.invariant.most, c.self.invariant.columns_sized)) c.index.ensures in
+    let is : get_or os c.args.k Free ≡ Row c.in-Row.slot = at ∙ c.in-Row.is in
+    let some : 1 ≤ count = omega (arith, c.self.invariant.counted, settled_count shape area coefs cells os c.args.k c.in-Row.slot part known is) in
+    let cols : take nb c.add_piece.new.columns ≡ set os c.args.k Piece =
+    subst (λ (l : List Column). take nb c.add_piece.new.columns ≡ set (take nb l) c.args.k Piece) c.deref_mut.ensures.value c.add_piece.ensures.columns in
+    let told : places_in nb (length part) c.add_piece.new.area coefs cells (take nb c.add_piece.new.columns) ≡ set (places_in nb (length part) area coefs cells os) c.args.k (piece part) =
+    rw (← c.deref_mut.ensures.value, ← c.deref_mut-in-Row.ensures.value) (c.add_piece.ensures.places coefs cells) in
+    let told_here : places_in nb size c.add_piece.new.area coefs cells (take nb c.add_piece.new.columns) ≡ set ps c.args.k (piece part) =
+    subst (λ n. places_in nb n c.add_piece.new.area coefs cells (take nb c.add_piece.new.columns) ≡ set (places_in nb n area coefs cells os) c.args.k (piece part)) known.piece.sized told in
+    rw (
+    written c.self.inside.columns.len c.add_piece.new.columns columns (c.add_piece.auto.columns ∙ c.deref_mut.ensures.len),
+    written c.self.inside.area.len c.add_piece.new.area area (c.add_piece.auto.area ∙ c.deref_mut-in-Row.ensures.len))
+    (settled nb size rows count (count - 1) c.self.inside.gained c.args.k c.in-Row.slot columns c.add_piece.new.columns spare area c.add_piece.new.area coefs cells part
+    c.self.invariant known is (omega arith)
+    (c.add_piece.auto.columns ∙ ap length c.deref_mut.ensures.value) (c.add_piece.auto.area ∙ ap length c.deref_mut-in-Row.ensures.value) cols told_here)
+
+pub returns-in_default-clause-places : goal.returns-in_default-clause-places
+returns-in_default-clause-places c =
+    let nb : ℕ = c.self.inside.nb_frag in
+    let shape : Shape = record { nb_frag = nb; frag_size = c.self.inside.frag_size; rows = c.self.inside.rows } in
+    let columns : List Column = c.self.inside.columns.items in
+    let os : List Column = take nb columns in
+    let ps : List Place = places_in nb c.self.inside.frag_size c.self.inside.area.items c.self.inside.coefs.items c.self.inside.cells.items os in
+    let known : Knows shape ps c.args.k c.args.piece.now = subst (λ (g : Grid). Knows g.shape g.places c.args.k c.args.piece.now) (sym c.self.view_is) c.requires.known in
+    let at : get_or os c.args.k Free ≡ c.index.result.now =
+    column_read columns nb c.args.k c.index.result.now known.inside (omega (arith, c.self.invariant.most, c.self.invariant.columns_sized)) c.index.ensures in
+    subst (λ (g : Grid). g.places ≡ set g.places c.args.k (piece c.args.piece.now)) c.self.view_is
+    (settled_already shape c.self.inside.area.items c.self.inside.coefs.items c.self.inside.cells.items os c.args.k c.args.piece.now known (λ slot e. c.in_default.not-Row slot (sym at ∙ e)))
