@@ -12,7 +12,7 @@ use Rattle.row_elimination.proofs.Growing.{length-all_cleared, at_all_cleared, f
 unfoldable pub one : Bool → ℕ
 one t = if t then 1 else 0
 
-count-cons : (p : Place → Bool) (x : Place) (xs : List Place) → count_by p (x ∷ xs) ≡ one (p x) + count_by p xs
+pub count-cons : (p : Place → Bool) (x : Place) (xs : List Place) → count_by p (x ∷ xs) ≡ one (p x) + count_by p xs
 unfolding one
 count-cons p x xs = sum_by-cons (λ y. cond {A = ℕ} (p y) 1 0) x xs
 

@@ -1,23 +1,23 @@
 -- What the fields of a table keep true when it takes something in.
-use Rattle.std.proofs.Common.{◌≡◌, ◌≢◌, ◌⊎◌, ℕ, suc, ◌+◌, ◌-◌, ◌*◌, ◌<◌, ◌≤◌, ◌^◌, Bool, true, false, List, length, get_or, set, take, drop, ◌++◌, [], ◌∷◌, zero, Option, Some, None, true≢false, refl, sym, ap, ap₂, ◌∙◌, subst, inl, inr, arith, length-take-le, length-set}
+use Rattle.std.proofs.Common.{◌≡◌, ◌≢◌, ◌⊎◌, ℕ, suc, ◌+◌, ◌-◌, ◌*◌, ◌<◌, ◌≤◌, ◌^◌, Bool, true, false, List, length, get_or, set, take, drop, replicate, ◌++◌, [], ◌∷◌, zero, Option, Some, None, true≢false, refl, sym, ap, ap₂, ◌∙◌, subst, inl, inr, arith, length-take-le, length-set}
 use Rattle.std.proofs.lemmas.Bool.{cases_eq, cases_lt}
-use Rattle.std.proofs.lemmas.List.{take_at, set-get_or, get_or-take}
+use Rattle.std.proofs.lemmas.List.{take_at, set-get_or, get_or-take, get_or_past, get_or-replicate, length-replicate, ext_get_or}
 use Rattle.frag_model.specs.Parity.{number_of}
 use Rattle.frag_model.specs.Fragments.{Shape, Equation}
 use Rattle.row_elimination.specs.declared.columns.Column.{Column}
 use Rattle.row_elimination.specs.declared.columns.Column.TheVariants.{Free, Piece, Row}
-use Rattle.row_elimination.specs.Places.{Place, free, piece, row, told, is_piece, is_row, rows_held, gained_held, grown, cleared}
+use Rattle.row_elimination.specs.Places.{Place, free, piece, row, told, is_piece, is_row, pieces_held, rows_held, gained_held, grown, cleared}
 use Rattle.row_elimination.specs.Inside.{IsReduced}
-use Rattle.row_elimination.specs.Storage.{chunk, place_in, places_in, IsStored, Slots}
+use Rattle.row_elimination.specs.Storage.{chunk, place_in, places_in, part_in, IsStored, Slots}
 use Rattle.row_elimination.specs.Steps.{IsNew, Knows, Tells}
 use Rattle.row_elimination.specs.Grid.{Grid, IsGrid}
 use Rattle.row_elimination.proofs.Chunks.{before}
-use Rattle.row_elimination.proofs.Storing.{at_places}
+use Rattle.row_elimination.proofs.Storing.{at_places, length-places}
 use Rattle.row_elimination.proofs.Growing.{at_old, grown_reduced}
 use Rattle.row_elimination.proofs.Saying.{lead_was_free}
-use Rattle.row_elimination.proofs.Slotting.{slots_pushed, slots_freed}
+use Rattle.row_elimination.proofs.Slotting.{slots_pushed, slots_freed, slots_none}
 use Rattle.row_elimination.proofs.Settling.{not_free, tells_piece, settled_rows, settled_reduced, settled_gained, learned_row}
-use Rattle.row_elimination.proofs.Counting.{one, one_true, one_false, rows_grown, gained_more}
+use Rattle.row_elimination.proofs.Counting.{one, one_true, one_false, count-cons, rows_grown, gained_more}
 
 -- the same storage with other places
 pub grid_next : (nb size rows count count' gained gained' : ℕ) (columns columns' : List Column) (spare spare' area area' : List ℕ) (coefs coefs' : List Bool) (cells cells' : List ℕ) (ps : List Place)
@@ -229,3 +229,110 @@ settled_already shape area coefs cells os k part known none =
         let same : chunk k shape.frag_size area ≡ part = ap part_of t in
         at ∙ ap piece same
     by_column (Row slot) at ne some tells = absurd (ne slot refl)
+
+-- ---- all parts put where their pieces belong
+
+part_told : (cols size : ℕ) (area : List ℕ) (coefs : List Bool) (cells : List ℕ) (c : ℕ) (o : Column) (e : Equation) → told c (place_in cols size area coefs cells c o) ≡ Some e → part_in size area cells c o ≡ e.part
+unfolding place_in told part_in
+part_told cols size area coefs cells c Free e h = absurd (cc)
+part_told cols size area coefs cells c Piece e h = ap part_of h
+part_told cols size area coefs cells c (Row slot) e h = ap part_of h
+
+pub finished_parts : (cols size : ℕ) (area area' : List ℕ) (coefs : List Bool) (cells : List ℕ) (os : List Column) → ((c : ℕ) → chunk c size area' ≡ part_in size area cells c (get_or os c Free))
+    → (c : ℕ) (e : Equation) → Tells (places_in cols size area coefs cells os) c e → chunk c size area' ≡ e.part
+finished_parts cols size area area' coefs cells os put c e h =
+    put c ∙ part_told cols size area coefs cells c (get_or os c Free) e (subst (λ s. told c s ≡ Some e) (at_places cols size area coefs cells c os) h)
+
+same_place : (cols size : ℕ) (area area' : List ℕ) (coefs : List Bool) (cells : List ℕ) (c : ℕ) (o : Column) → chunk c size area' ≡ part_in size area cells c o → place_in cols size area' coefs cells c o ≡ place_in cols size area coefs cells c o
+unfolding place_in part_in
+same_place cols size area area' coefs cells c Free h = refl
+same_place cols size area area' coefs cells c Piece h = ap piece h
+same_place cols size area area' coefs cells c (Row slot) h = refl
+
+pub finished_places : (cols size : ℕ) (area area' : List ℕ) (coefs : List Bool) (cells : List ℕ) (os : List Column) → ((c : ℕ) → chunk c size area' ≡ part_in size area cells c (get_or os c Free))
+    → places_in cols size area' coefs cells os ≡ places_in cols size area coefs cells os
+finished_places cols size area area' coefs cells os put =
+    ext_get_or free (places_in cols size area' coefs cells os) (places_in cols size area coefs cells os)
+    (length-places cols size area' coefs cells os ∙ sym (length-places cols size area coefs cells os)) (λ c lt.
+    at_places cols size area' coefs cells c os ∙ same_place cols size area area' coefs cells c (get_or os c Free) (put c) ∙ sym (at_places cols size area coefs cells c os))
+
+pub finished : (nb size rows count gained : ℕ) (columns : List Column) (spare area area' : List ℕ) (coefs : List Bool) (cells : List ℕ) → IsGrid nb size rows count gained columns spare area coefs cells
+    → length area' ≡ length area → ((c : ℕ) → chunk c size area' ≡ part_in size area cells c (get_or (take nb columns) c Free))
+    → IsGrid nb size rows count gained columns spare area' coefs cells
+finished nb size rows count gained columns spare area area' coefs cells h a put =
+    grid_next nb size rows count count gained gained columns columns spare spare area area' coefs coefs cells cells (places_in nb size area coefs cells (take nb columns)) h refl refl a refl refl
+    h.slots (finished_places nb size area area' coefs cells (take nb columns) put) h.reduced h.counted h.gained_all
+
+-- ---- a table with nothing in it
+
+pub none_placed : (cols size : ℕ) (area : List ℕ) (coefs : List Bool) (cells : List ℕ) (os : List Column) → length os ≡ cols → ((c : ℕ) → get_or os c Free ≡ Free) → places_in cols size area coefs cells os ≡ replicate cols free
+unfolding place_in
+none_placed cols size area coefs cells os sized none =
+    ext_get_or free (places_in cols size area coefs cells os) (replicate cols free)
+    (length-places cols size area coefs cells os ∙ sized ∙ sym (length-replicate cols free)) (λ c lt.
+    at_places cols size area coefs cells c os ∙ ap (place_in cols size area coefs cells c) (none c)
+    ∙ sym (get_or-replicate cols c free free (omega (arith, length-places cols size area coefs cells os))))
+
+free_everywhere : (cols c : ℕ) → get_or (replicate cols free) c free ≡ free
+free_everywhere cols c = elim (cases_lt c cols) [
+  | inl lt ↦ get_or-replicate cols c free free lt
+  | inr past ↦ get_or_past (replicate cols free) c free (omega (arith, length-replicate {A = Place} cols free))
+]
+
+tells_nothing : (cols c : ℕ) (e : Equation) → Tells (replicate cols free) c e → ⊥
+unfolding told
+tells_nothing cols c e h = let none : told c free ≡ Some e = subst (λ s. told c s ≡ Some e) (free_everywhere cols c) h in cc
+
+pub none_reduced : (cols size : ℕ) → IsReduced cols size (replicate cols free)
+none_reduced cols size = record {
+  sized = length-replicate cols free;
+  own = λ c e h. absurd (tells_nothing cols c e h);
+  within = λ c e h. absurd (tells_nothing cols c e h);
+  part = λ c e h. absurd (tells_nothing cols c e h);
+  apart = λ c d e f ne h k. absurd (tells_nothing cols c e h);
+}
+
+pub rows_none : (n : ℕ) → rows_held (replicate n free) ≡ 0
+unfolding rows_held is_row
+rows_none zero = refl
+rows_none (suc n) =
+    let rest : rows_held (replicate n free) ≡ 0 = rows_none n in
+    omega (arith, count-cons is_row free (replicate n free), one_false (is_row free) refl, rest)
+
+pub gained_none : (n : ℕ) → gained_held (replicate n free) ≡ 0
+unfolding gained_held pieces_held rows_held is_piece
+gained_none zero = refl
+gained_none (suc n) =
+    let rest : pieces_held (replicate n free) + rows_held (replicate n free) ≡ 0 = gained_none n in
+    omega (arith, count-cons is_piece free (replicate n free), one_false (is_piece free) refl, rows_none (suc n), rest)
+
+pub begun : (nb size rows : ℕ) (columns : List Column) (spare area : List ℕ) (coefs : List Bool) (cells : List ℕ) → nb ≤ 1024 → rows ≤ nb → length columns ≡ 1024 → length spare ≡ 1024 → length area < 2 ^ 32
+    → nb * size ≤ length area → rows * nb ≤ length coefs → rows * size ≤ length cells
+    → ((c : ℕ) → get_or columns c Free ≡ Free) → ((i : ℕ) → i < length spare → get_or spare i 0 ≡ i)
+    → IsGrid nb size rows 0 0 columns spare area coefs cells
+begun nb size rows columns spare area coefs cells most few c s small a l r none each =
+    let os : List Column = take nb columns in
+    let long : length os ≡ nb = length-take-le nb columns (omega arith) in
+    let none_here : (k : ℕ) → get_or os k Free ≡ Free = λ k. elim (cases_lt k nb) [ inl lt ↦ get_or-take nb columns k Free lt ∙ none k | inr past ↦ get_or_past os k Free (omega arith) ] in
+    let is : places_in nb size area coefs cells os ≡ replicate nb free = none_placed nb size area coefs cells os long none_here in
+    record {
+      most = most;
+      few = few;
+      columns_sized = c;
+      spare_sized = s;
+      area_sized = small;
+      room_area = a;
+      room_lines = l;
+      room_parts = r;
+      slots = slots_none os spare rows none_here (λ i lt. each i (omega arith));
+      reduced = subst (λ x. IsReduced nb size x) (sym is) (none_reduced nb size);
+      counted = sym (ap rows_held is ∙ rows_none nb);
+      gained_all = sym (ap gained_held is ∙ gained_none nb);
+    }
+
+pub begun_places : (nb size : ℕ) (columns : List Column) (area : List ℕ) (coefs : List Bool) (cells : List ℕ) → nb ≤ length columns → ((c : ℕ) → get_or columns c Free ≡ Free)
+    → places_in nb size area coefs cells (take nb columns) ≡ replicate nb free
+begun_places nb size columns area coefs cells le none =
+    let os : List Column = take nb columns in
+    let long : length os ≡ nb = length-take-le nb columns le in
+    none_placed nb size area coefs cells os long (λ k. elim (cases_lt k nb) [ inl lt ↦ get_or-take nb columns k Free lt ∙ none k | inr past ↦ get_or_past os k Free (omega arith) ])

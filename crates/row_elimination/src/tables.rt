@@ -1,6 +1,6 @@
 //! The table of all that is held: pieces in their area, and the rows in slots.
 
-ghost use Rattle.std.specs.Prelude.{◌≡◌, ◌≢◌, ◌+◌, ◌-◌, ◌*◌, ◌<◌, ◌≤◌, ◌==◌, length, get_or, set, replicate, take, false, IfOk, nat_le};
+ghost use Rattle.std.specs.Prelude.{◌≡◌, ◌≢◌, ℕ, ◌+◌, ◌-◌, ◌*◌, ◌<◌, ◌≤◌, ◌==◌, length, get_or, set, replicate, take, false, IfOk, nat_le};
 ghost use Rattle.frag_model.specs.Fragments.{Equation, IsPiece};
 ghost use Rattle.frag_model.specs.Parity.{number_of};
 ghost use Rattle.row_elimination.specs.Places.{free, piece as known, is_piece, grown, rows_held, gained_held};
@@ -131,5 +131,52 @@ impl Table {
             self.count -= 1;
             self.spare[self.count as usize] = slot;
         }
+    }
+
+    /// Puts the parts of all rows into the area, as the pieces of the columns that lead them.
+    pub fn finish(&mut self)
+        ensures places { self.new.places ≡ self.old.places }
+        ensures parts { (c : ℕ) (e : Equation) → Tells self.old.places c e → chunk c self.old.shape.frag_size self.new.area ≡ e.part }
+        ensures room { SameRoom self.old self.new }
+    {
+        let columns = &self.columns[..self.nb_frag as usize];
+        put_parts(columns, &mut self.area, &self.cells, self.frag_size as usize);
+    }
+
+    /// Holds nothing any more, and takes fragments of another file.
+    pub fn begin(&mut self, nb_frag: u16, frag_size: u8, rows: u16)
+        requires most { nb_frag ≤ 1024 }
+        requires few { rows ≤ nb_frag }
+        requires area { nb_frag * frag_size ≤ length self.old.area }
+        requires lines { rows * nb_frag ≤ self.old.lines }
+        requires parts { rows * frag_size ≤ self.old.parts }
+        ensures { self.new ≡ record self.old { shape = record { nb_frag = nb_frag; frag_size = frag_size; rows = rows }; places = replicate nb_frag free } }
+    {
+        free_all(&mut self.columns);
+        count_up(&mut self.spare);
+        self.nb_frag = nb_frag;
+        self.frag_size = frag_size;
+        self.rows = rows;
+        self.count = 0;
+        self.gained = 0;
+    }
+}
+
+/// Nothing is kept of any column.
+fn free_all(columns: &mut [Column])
+    ensures { (c : ℕ) → get_or columns.new c Column.Free ≡ Column.Free }
+{
+    for i in 0..columns.len() {
+        columns[i] = Column::Free;
+    }
+}
+
+/// Writes its own place to each.
+fn count_up(spare: &mut [u16])
+    requires { length spare.old ≤ 1024 }
+    ensures { (i : ℕ) → i < length spare.new → get_or spare.new i 0 ≡ i }
+{
+    for i in 0..spare.len() {
+        spare[i] = i as u16;
     }
 }
