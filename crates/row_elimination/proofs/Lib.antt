@@ -14,3 +14,4 @@ pub mod Placing
 pub mod Slotting
 pub mod Adding
 pub mod Gridding
+pub mod Answering

@@ -57,6 +57,7 @@ pub record Takes (old new : Held) (n : ℕ) (part : List ℕ) : Type 0 where
   pub pieces : pieces_held new.places ≡ pieces_held old.places + (if is_new_piece old n then 1 else 0)
   -- one is gained exactly where the line was no sum
   pub gained : gained_held new.places ≡ gained_held old.places + (if is_sum (line_for old n) (lines_held old.places) then 0 else 1)
+  -- the rows held are no more than were reserved
   pub room : rows_held new.places ≤ new.shape.rows
 
 -- two different blocks fit what is held
@@ -73,6 +74,7 @@ pub record Receives (old new : Held) (n : ℕ) (part : List ℕ) : Type 0 where
 pub record Completes (old new : Held) (n : ℕ) (part : List ℕ) : Type 0 where
   pub takes : Takes old new n part
   pub stage : new.stage ≡ stage.Complete
+  pub full : gained_held new.places ≡ new.shape.nb_frag
   pub one : (block : List (List ℕ)) × IsLeft old n part block × ((other : List (List ℕ)) → IsLeft old n part other → other ≡ block) × (new.content ≡ concat block)
 
 -- no block is left over, and what was held stays

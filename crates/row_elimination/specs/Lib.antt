@@ -5,3 +5,4 @@ pub mod Stands
 pub mod Storage
 pub mod Steps
 pub mod Grid
+pub mod Taking

@@ -8,5 +8,6 @@ mod entries;
 mod passes;
 mod stages;
 mod tables;
+mod taking;
 
 pub use stages::Stage;

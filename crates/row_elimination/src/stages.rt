@@ -1,4 +1,4 @@
-//! How far a solver has come.
+//! How far a solver has come, and what it answers to a fragment.
 
 /// How far a solver has come.
 #[derive(Clone, Copy, Debug, PartialEq, Eq)]
@@ -11,4 +11,17 @@ pub enum Stage {
     Complete,
     /// No block fits, or the rows did not suffice.
     Ended,
+}
+
+/// What a fragment led to.
+#[derive(Clone, Copy, Debug, PartialEq, Eq)]
+pub enum Fed {
+    /// Two different blocks fit: more fragments are wanted.
+    Receiving,
+    /// One block alone fits.
+    Complete,
+    /// A block fits, but one independent coded fragment more than there are rows came.
+    NoRows,
+    /// No block fits.
+    Conflict,
 }

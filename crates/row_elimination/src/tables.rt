@@ -4,6 +4,7 @@ ghost use Rattle.std.specs.Prelude.{◌≡◌, ◌≢◌, ℕ, ◌+◌, ◌-◌,
 ghost use Rattle.frag_model.specs.Fragments.{Equation, IsPiece};
 ghost use Rattle.frag_model.specs.Parity.{number_of};
 ghost use Rattle.row_elimination.specs.Places.{free, piece as known, is_piece, grown, rows_held, gained_held};
+ghost use Rattle.row_elimination.specs.Inside.{IsReduced};
 ghost use Rattle.row_elimination.specs.Storage.{chunk};
 ghost use Rattle.row_elimination.specs.Steps.{Reduced, IsNew, Knows, Tells};
 ghost use Rattle.row_elimination.specs.Grid.{Grid, SameRoom};
@@ -85,7 +86,9 @@ impl Table {
         requires columns { length line.old ≡ self.now.shape.nb_frag }
         requires sized { length part.old ≡ self.now.shape.frag_size }
         requires piece { IsPiece (length part.old) part.old }
-        ensures { Reduced self.now.shape.nb_frag self.now.shape.frag_size self.now.places (number_of line.old) part.old (number_of line.new) part.new }
+        ensures left { Reduced self.now.shape.nb_frag self.now.shape.frag_size self.now.places (number_of line.old) part.old (number_of line.new) part.new }
+        ensures held { IsReduced self.now.shape.nb_frag self.now.shape.frag_size self.now.places }
+        ensures room { rows_held self.now.places ≤ self.now.shape.rows }
     {
         let columns = &self.columns[..self.nb_frag as usize];
         reduce(columns, &self.area, &self.coefs, &self.cells, line, part);

@@ -1,0 +1,136 @@
+//! Taking one fragment into a table.
+
+ghost use Rattle.std.specs.Prelude.{◌≡◌, ◌≢◌, ℕ, ◌+◌, ◌-◌, ◌<◌, ◌≤◌, length, get_or, true, false, All, MatchOption};
+ghost use Rattle.frag_model.specs.Fragments.{IsPiece, line_of};
+ghost use Rattle.frag_model.specs.Parity.{number_of};
+ghost use Rattle.row_elimination.specs.declared.stages.Stage.{Stage};
+ghost use Rattle.row_elimination.specs.declared.stages.Stage.TheVariants as stage;
+ghost use Rattle.row_elimination.specs.Places.{gained_held, rows_held};
+ghost use Rattle.row_elimination.specs.Inside.{IsReduced};
+ghost use Rattle.row_elimination.specs.Grid.{SameRoom};
+ghost use Rattle.row_elimination.specs.Held.{Takes, Receives};
+ghost use Rattle.row_elimination.specs.Taking.{held_of, IsReady, IsZero, stage_after, FedAs, DecidedAs};
+
+use crate::stages::Fed;
+use crate::tables::Table;
+
+/// Takes fragment `n` in, or answers why not. `line` and `rest` are its line and a copy of its bytes, and are used up.
+pub fn take_in(table: &mut Table, n: u16, part: &[u8], line: &mut [bool], rest: &mut [u8]) -> Fed
+    requires columns { length line.old ≡ table.old.shape.nb_frag }
+    requires drawn { number_of line.old ≡ line_of table.old.shape.nb_frag n }
+    requires copied { rest.old ≡ part.now }
+    requires piece { IsPiece table.old.shape.frag_size part.now }
+    requires some { 1 ≤ table.old.shape.frag_size }
+    requires first { 1 ≤ n }
+    requires more { gained_held table.old.places < table.old.shape.nb_frag }
+    ensures fed { FedAs result (held_of stage.Receiving table.old) (held_of (stage_after result) table.new) n part.now }
+    ensures room { SameRoom table.old table.new }
+    ensures held { IsReduced table.new.shape.nb_frag table.new.shape.frag_size table.new.places }
+{
+    table.reduce(line, rest);
+    match first_set(line) {
+        Some(p) => take_new(table, n, part, p, line, rest),
+        None => take_old(table, n, part, line, rest),
+    }
+}
+
+/// Takes in a fragment whose line is a sum of the lines held.
+fn take_old(table: &mut Table, n: u16, part: &[u8], line: &[bool], rest: &[u8]) -> Fed
+    requires ready { IsReady table.old n part.now (number_of line.now) rest.now }
+    requires none { number_of line.now ≡ 0 }
+    ensures fed { FedAs result (held_of stage.Receiving table.old) (held_of (stage_after result) table.new) n part.now }
+    ensures room { SameRoom table.old table.new }
+    ensures held { IsReduced table.new.shape.nb_frag table.new.shape.frag_size table.new.places }
+{
+    if !is_zero(rest) {
+        return Fed::Conflict;
+    }
+    if n <= table.nb_frag() {
+        table.settle(n as usize - 1, part);
+    }
+    Fed::Receiving
+}
+
+/// Takes in a fragment whose line is no sum of the lines held.
+fn take_new(table: &mut Table, n: u16, part: &[u8], p: usize, line: &[bool], rest: &[u8]) -> Fed
+    requires ready { IsReady table.old n part.now (number_of line.now) rest.now }
+    requires columns { length line.now ≡ table.old.shape.nb_frag }
+    requires inside { p < length line.now }
+    requires has { get_or line.now p false ≡ true }
+    ensures fed { FedAs result (held_of stage.Receiving table.old) (held_of (stage_after result) table.new) n part.now }
+    ensures room { SameRoom table.old table.new }
+    ensures held { IsReduced table.new.shape.nb_frag table.new.shape.frag_size table.new.places }
+{
+    if n <= table.nb_frag() {
+        take_piece(table, n, part, p, line, rest)
+    } else if table.is_full() {
+        Fed::NoRows
+    } else {
+        take_row(table, n, part, p, line, rest)
+    }
+}
+
+/// Takes in a piece whose line is no sum of the lines held.
+fn take_piece(table: &mut Table, n: u16, part: &[u8], p: usize, line: &[bool], rest: &[u8]) -> Fed
+    requires ready { IsReady table.old n part.now (number_of line.now) rest.now }
+    requires columns { length line.now ≡ table.old.shape.nb_frag }
+    requires inside { p < length line.now }
+    requires has { get_or line.now p false ≡ true }
+    requires uncoded { n ≤ table.old.shape.nb_frag }
+    ensures fed { FedAs result (held_of stage.Receiving table.old) (held_of (stage_after result) table.new) n part.now }
+    ensures room { SameRoom table.old table.new }
+    ensures held { IsReduced table.new.shape.nb_frag table.new.shape.frag_size table.new.places }
+{
+    table.learn(n as usize - 1, part, p, line, rest);
+    decide(table)
+}
+
+/// Takes in a coded fragment whose line is no sum of the lines held, where a slot is spare. Its own bytes are told by the
+/// row that is left of it.
+fn take_row(table: &mut Table, n: u16, part: &[u8], p: usize, line: &[bool], rest: &[u8]) -> Fed
+    requires ready { IsReady table.old n part.now (number_of line.now) rest.now }
+    requires columns { length line.now ≡ table.old.shape.nb_frag }
+    requires inside { p < length line.now }
+    requires has { get_or line.now p false ≡ true }
+    requires coded { table.old.shape.nb_frag < n }
+    requires spare { rows_held table.old.places < table.old.shape.rows }
+    ensures fed { FedAs result (held_of stage.Receiving table.old) (held_of (stage_after result) table.new) n part.now }
+    ensures room { SameRoom table.old table.new }
+    ensures held { IsReduced table.new.shape.nb_frag table.new.shape.frag_size table.new.places }
+{
+    table.push(p, line, rest);
+    decide(table)
+}
+
+/// Whether one block alone fits, and then puts it into the area.
+fn decide(table: &mut Table) -> Fed
+    requires held { IsReduced table.old.shape.nb_frag table.old.shape.frag_size table.old.places }
+    ensures { DecidedAs result table.old table.new }
+{
+    if table.missing() == 0 {
+        table.finish();
+        Fed::Complete
+    } else {
+        Fed::Receiving
+    }
+}
+
+/// The first column of a line.
+fn first_set(line: &[bool]) -> Option<usize>
+    ensures { MatchOption result (number_of line.now ≡ 0) (λ p. (p < length line.now) × (get_or line.now p false ≡ true)) }
+{
+    for c in 0..line.len() {
+        if line[c] {
+            return Some(c);
+        }
+    }
+    None
+}
+
+/// Whether all bytes are zero.
+fn is_zero(bytes: &[u8]) -> bool
+    ensures yes { result ≡ true → IsZero bytes.now }
+    ensures no { result ≡ false → (i : ℕ) × (get_or bytes.now i 0 ≢ 0) }
+{
+    bytes.iter().all(|b| *b == 0)
+}
