@@ -15,3 +15,4 @@ pub mod Slotting
 pub mod Adding
 pub mod Gridding
 pub mod Answering
+pub mod Spreading

@@ -4,6 +4,7 @@
 mod additions;
 mod bytes;
 mod columns;
+mod drawing;
 mod entries;
 mod passes;
 mod stages;
