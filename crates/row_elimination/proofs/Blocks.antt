@@ -12,10 +12,11 @@ use Rattle.frag_model.specs.Fragments.{Shape, Equation, IsPiece, IsBlock, Meets,
 use Rattle.frag_model.proofs.Parts.{xor_swap, byte_at, get_or-xor_all, length-xor_all, get_or-xor_bytes}
 use Rattle.frag_model.proofs.Sums.{xor_back}
 use Rattle.frag_model.proofs.Uncoded.{xor_all_piece}
-use Rattle.row_elimination.specs.Places.{Place, free, piece, row, told}
+use Rattle.row_elimination.specs.Places.{Place, free, piece, row, told, gained_held, FitsHeld}
 use Rattle.row_elimination.specs.Inside.{IsReduced}
 use Rattle.row_elimination.proofs.Agreeing.{Agrees, agrees_same, meets_from_agrees}
-use Rattle.row_elimination.proofs.Telling.{Tells, AgreesAll, told_within}
+use Rattle.row_elimination.proofs.Telling.{Tells, AgreesAll, told_within, agrees_from_fits}
+use Rattle.row_elimination.proofs.Counting.{none_free}
 use Rattle.row_elimination.proofs.Reducing.{piece_xor}
 
 -- ---- one piece of a block changed
@@ -218,3 +219,14 @@ alone_piece shape ps b c e t block all h is =
     let lt : c < length b = elim (cases_lt c (length b)) [ inl lt ↦ lt | inr past ↦ absurd (told_within ps c e h (omega (arith, t.sized, block.counted))) ] in
     sym (xor_all_piece shape.frag_size c e.line b is lt pieces)
     ∙ meets_from_agrees shape.frag_size b e pieces (t.part c e h).sized (all c e h)
+
+-- so two blocks that fit are one
+pub one_alone : (shape : Shape) (ps : List Place) (a b : List (List ℕ)) → IsReduced shape.nb_frag shape.frag_size ps → shape.nb_frag ≤ gained_held ps → FitsHeld shape ps a → FitsHeld shape ps b → a ≡ b
+one_alone shape ps a b t full ha hb =
+    let all : (k : ℕ) → k < shape.nb_frag → (e : Equation) × Tells ps k e = λ k lt. none_free ps k (omega (arith, t.sized)) (omega (arith, t.sized)) in
+    let pieces : (x : List (List ℕ)) → FitsHeld shape ps x → (c : ℕ) (lt : c < shape.nb_frag) → get_or x c [] ≡ (all c lt).0.part = λ x h c lt.
+    let e = all c lt in
+    alone_piece shape ps x c e.0 t h.shaped (agrees_from_fits shape ps x h) e.1 (alone_line shape.nb_frag shape.frag_size ps c e.0 t all e.1) in
+    ext_get_or [] a b (ha.shaped.counted ∙ sym hb.shaped.counted) (λ c lt.
+    let inside : c < shape.nb_frag = omega (arith, ha.shaped.counted) in
+    pieces a ha c inside ∙ sym (pieces b hb c inside))

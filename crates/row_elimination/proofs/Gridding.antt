@@ -273,7 +273,7 @@ none_placed cols size area coefs cells os sized none =
     at_places cols size area coefs cells c os ∙ ap (place_in cols size area coefs cells c) (none c)
     ∙ sym (get_or-replicate cols c free free (omega (arith, length-places cols size area coefs cells os))))
 
-free_everywhere : (cols c : ℕ) → get_or (replicate cols free) c free ≡ free
+pub free_everywhere : (cols c : ℕ) → get_or (replicate cols free) c free ≡ free
 free_everywhere cols c = elim (cases_lt c cols) [
   | inl lt ↦ get_or-replicate cols c free free lt
   | inr past ↦ get_or_past (replicate cols free) c free (omega (arith, length-replicate {A = Place} cols free))
@@ -336,3 +336,24 @@ begun_places nb size columns area coefs cells le none =
     let os : List Column = take nb columns in
     let long : length os ≡ nb = length-take-le nb columns le in
     none_placed nb size area coefs cells os long (λ k. elim (cases_lt k nb) [ inl lt ↦ get_or-take nb columns k Free lt ∙ none k | inr past ↦ get_or_past os k Free (omega arith) ])
+
+-- a table for no file
+pub no_file : (columns : List Column) (spare area : List ℕ) (coefs : List Bool) (cells : List ℕ) → length columns ≡ 1024 → length spare ≡ 1024 → length area < 2 ^ 32
+    → IsGrid 0 0 0 0 0 columns spare area coefs cells
+no_file columns spare area coefs cells c s small =
+    let none : (k : ℕ) → get_or {A = Column} [] k Free ≡ Free = λ k. get_or_past [] k Free (omega arith) in
+    let is : places_in 0 0 area coefs cells [] ≡ replicate 0 free = none_placed 0 0 area coefs cells [] refl none in
+    record {
+      most = omega arith;
+      few = omega arith;
+      columns_sized = c;
+      spare_sized = s;
+      area_sized = small;
+      room_area = omega arith;
+      room_lines = omega arith;
+      room_parts = omega arith;
+      slots = slots_none [] spare 0 none (λ i lt. absurd (omega arith));
+      reduced = subst (λ x. IsReduced 0 0 x) (sym is) (none_reduced 0 0);
+      counted = sym (ap rows_held is ∙ rows_none 0);
+      gained_all = sym (ap gained_held is ∙ gained_none 0);
+    }

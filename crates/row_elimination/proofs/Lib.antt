@@ -16,3 +16,4 @@ pub mod Adding
 pub mod Gridding
 pub mod Answering
 pub mod Spreading
+pub mod Solving

@@ -1,10 +1,10 @@
 -- A solver that stands for a list stands for it with one fragment more, or the verdict is the one that it answers.
-use Rattle.std.proofs.Common.{◌≡◌, ◌≢◌, ◌⊎◌, ℕ, zero, suc, ◌+◌, ◌-◌, ◌<◌, ◌≤◌, Bool, true, false, cond, ◌||◌, ◌&&◌, not, nat_le, List, [], ◌∷◌, map, length, get_or, replicate, bit_xor, refl, sym, ap, ap₂, ◌∙◌, subst, inl, inr, arith, le-leb}
+use Rattle.std.proofs.Common.{◌≡◌, ◌≢◌, ◌⊎◌, ℕ, zero, suc, ◌+◌, ◌-◌, ◌<◌, ◌≤◌, Bool, true, false, cond, ◌||◌, ◌&&◌, not, nat_le, All, List, [], ◌∷◌, map, length, get_or, replicate, bit_xor, refl, sym, ap, ap₂, ◌∙◌, subst, inl, inr, arith, le-leb}
 use Rattle.std.specs.Prelude.{if◌then◌else◌, ◌↔◌}
 use Rattle.std.specs.List.{concat}
 use Rattle.std.proofs.lemmas.Bool.{cases_lt, cases_Bool, and_left, and_right, and_from, lt-leb, false≢true}
-use Rattle.std.proofs.lemmas.List.Elements.{All-from_recursion, recursion_from_All}
-use Rattle.frag_model.specs.Fragments.{Heard, Shape, IsBlock, Meets, equation_of, line_of}
+use Rattle.std.proofs.lemmas.List.Elements.{All-nil, All-from_recursion, recursion_from_All}
+use Rattle.frag_model.specs.Fragments.{Heard, Shape, Equation, IsBlock, Meets, equation_of, line_of}
 use Rattle.frag_model.specs.Gain.{is_sum, gain_of_lines, gain_of, direct_of, numbers_of, gain, direct, excess}
 use Rattle.frag_model.specs.Verdict.{Verdict, receiving, complete, no_rows, conflict, verdict, verdict_now, first_verdict, lacking, missing, missing_now, missing_next, FittingBlock, IsVerdictNow}
 use Rattle.frag_model.specs.Laws.{AreNumbered}
@@ -17,6 +17,7 @@ use Rattle.row_elimination.specs.declared.stages.Stage.TheVariants as stage
 use Rattle.row_elimination.specs.Places.{Place, free, told, equations_from, equations_held, lines_held, is_piece, is_row, pieces_held, rows_held, gained_held, FitsHeld}
 use Rattle.row_elimination.specs.Held.{Held, IsMarked, missing_of, line_for, equation_for, IsLeft, is_new_piece, Takes, Receives, Completes, Contradicts, Overflows, IsBegun}
 use Rattle.row_elimination.specs.Stands.{StandsFor, FeedStands}
+use Rattle.row_elimination.proofs.Gridding.{free_everywhere, rows_none, gained_none}
 
 -- ---- one fragment more
 
@@ -233,3 +234,76 @@ overflows old new f older some s r =
     let is : verdict old.shape (f ∷ older) ≡ no_rows f.mark =
     now_is old.shape f older (no_rows f.mark) s.undecided (refl, omega arith, (left.0, left_fits old f older left.0 s left.1)) in
     (is, missing_decides old.shape f older (no_rows f.mark) s.undecided is ∙ kept_missing old new older s r.kept, over)
+
+-- ---- at first
+
+nothing_told : (c n : ℕ) → equations_from c (replicate n free) ≡ []
+unfolding equations_from told
+nothing_told c zero = refl
+nothing_told c (suc n) = nothing_told (suc c) n
+
+nothing_held : (n : ℕ) → lines_held (replicate n free) ≡ []
+unfolding lines_held equations_held
+nothing_held n = ap (λ es. map (λ (e : Equation). e.line) es) (nothing_told 0 n)
+
+nothing_marked : (n c : ℕ) → is_piece (get_or (replicate n free) c free) ≡ true → ⊥
+unfolding is_piece
+nothing_marked n c h = false≢true (sym (ap is_piece (free_everywhere n c)) ∙ h)
+
+fits_nothing : (shape : Shape) (n : ℕ) (b : List (List ℕ)) → FittingBlock shape [] b → FitsHeld shape (replicate n free) b
+unfolding equations_held
+fits_nothing shape n b h = record {
+  shaped = h.shaped;
+  fitting = subst (λ es. All (Meets shape.frag_size b) es) (sym (nothing_told 0 n)) (All-nil (Meets shape.frag_size b));
+}
+
+none_gained : (shape : Shape) → gain shape [] ≡ 0
+unfolding gain gain_of gain_of_lines numbers_of
+none_gained shape = refl
+
+none_direct : (shape : Shape) → direct shape [] ≡ 0
+unfolding direct direct_of numbers_of
+none_direct shape = refl
+
+pieces_zero : (ps : List Place) → gained_held ps ≡ 0 → pieces_held ps ≡ 0
+unfolding gained_held
+pieces_zero ps e = omega arith
+
+whole_lacks : (held : Held) → gained_held held.places ≡ held.shape.nb_frag → missing_of held ≡ 0
+unfolding missing_of
+whole_lacks held e = omega (arith, e)
+
+begun : (held : Held) → IsBegun held → StandsFor held []
+unfolding numbers_of verdict excess
+begun held h =
+    let nb : ℕ = held.shape.nb_frag in
+    let none : gained_held held.places ≡ 0 = ap gained_held h.places ∙ gained_none nb in
+    let rows : rows_held held.places ≡ 0 = ap rows_held h.places ∙ rows_none nb in
+    let pieces : pieces_held held.places ≡ 0 = pieces_zero held.places none in
+    record {
+      numbered = tt;
+      fits = λ b.
+          let P : List Place → Type 0 = λ ps. FittingBlock held.shape [] b ↔ FitsHeld held.shape ps b in
+          subst P (sym h.places) (fits_nothing held.shape nb b, λ k. record { shaped = k.shaped; fitting = All-nil _ });
+      sums = λ x. ap (is_sum x) (sym (ap lines_held h.places ∙ nothing_held nb));
+      rows = omega (arith, rows, none_gained held.shape, none_direct held.shape);
+      marked = λ c lt.
+          let P : List Place → Type 0 = λ ps. (is_piece (get_or ps c free) ≡ true) ↔ ⊥ in
+          subst P (sym h.places) (nothing_marked nb c, λ m. absurd m);
+      direct = pieces ∙ sym (none_direct held.shape);
+      gained = none ∙ sym (none_gained held.shape);
+      undecided = refl;
+    }
+-- ---- the law
+
+pub feed_stands : FeedStands
+feed_stands = record {
+  begun = begun;
+  lacks = lacks;
+  receives = receives;
+  completes = λ old new f older some s r.
+      let d = completes old new f older some s r in
+      (d.0, d.1, d.2, d.3, whole_lacks new r.full);
+  contradicts = contradicts;
+  overflows = overflows;
+}

@@ -6,3 +6,4 @@ pub mod Storage
 pub mod Steps
 pub mod Grid
 pub mod Taking
+pub mod Room

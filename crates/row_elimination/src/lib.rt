@@ -1,4 +1,8 @@
-//! Recovering a file.
+//! Recovering a file from fragments of it in fixed memory (TS004-1.0.0, fragmented data block transport; how a device
+//! recovers is this project's profile). A `Solver` keeps the pieces that came uncoded and, fully reduced, the rows of what
+//! coded fragments told beyond them; its contract says of each fragment which blocks fit afterwards, and that it is complete
+//! exactly when one block alone does. Which fragments are heard, and what becomes of a whole file, is left to the sessions
+//! above.
 #![tactic(auto)]
 
 mod additions;
@@ -6,9 +10,12 @@ mod bytes;
 mod columns;
 mod drawing;
 mod entries;
+pub mod laws;
 mod passes;
+mod solver;
 mod stages;
 mod tables;
 mod taking;
 
-pub use stages::Stage;
+pub use solver::{MAX_FRAG_SIZE, Memory, NoRoom, Solver};
+pub use stages::{Fed, Stage};

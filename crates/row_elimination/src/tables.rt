@@ -53,6 +53,33 @@ impl Model for Table {
 }
 
 impl Table {
+    /// A table for no file yet, with an area of so many bytes and so many coefficients and bytes for rows.
+    pub fn new(alloc: Global, area: u32, lines: usize, parts: usize) -> Result<Table, AllocError>
+        ensures area { IfOk result (λ table. length table.area ≡ area) }
+        ensures room { IfOk result (λ table. (table.lines ≡ lines) × (table.parts ≡ parts)) }
+        ensures shape { IfOk result (λ table. table.shape ≡ record { nb_frag = 0; frag_size = 0; rows = 0 }) }
+    {
+        Ok(Table {
+            nb_frag: 0,
+            frag_size: 0,
+            rows: 0,
+            count: 0,
+            gained: 0,
+            columns: vec![in alloc; Column::Free; MAX_PIECES]?,
+            spare: vec![in alloc; 0; MAX_PIECES]?,
+            area: vec![in alloc; 0; area as usize]?,
+            coefs: vec![in alloc; false; lines]?,
+            cells: vec![in alloc; 0; parts]?,
+        })
+    }
+
+    /// How many bytes the area has.
+    pub fn area(&self) -> usize
+        ensures { result ≡ length self.now.area }
+    {
+        self.area.len()
+    }
+
     /// How many pieces the file has.
     pub fn nb_frag(&self) -> u16
         ensures { result ≡ self.now.shape.nb_frag }

@@ -11,11 +11,34 @@ ghost use Rattle.row_elimination.specs.Grid.{SameRoom};
 ghost use Rattle.row_elimination.specs.Held.{Takes, Receives};
 ghost use Rattle.row_elimination.specs.Taking.{held_of, IsReady, IsZero, stage_after, FedAs, DecidedAs};
 
+use crate::drawing::draw;
 use crate::stages::Fed;
 use crate::tables::Table;
 
+/// Takes fragment `n` in, or answers why not. `line` and `rest` are room for a line and for the bytes of a piece.
+pub fn take(table: &mut Table, n: u16, part: &[u8], line: &mut [bool], rest: &mut [u8]) -> Fed
+    requires columns { table.old.shape.nb_frag ≤ length line.old }
+    requires most { table.old.shape.nb_frag ≤ 1024 }
+    requires bytes { length part.now ≤ length rest.old }
+    requires sized { length part.now ≡ table.old.shape.frag_size }
+    requires some { 1 ≤ table.old.shape.frag_size }
+    requires first { 1 ≤ n }
+    requires last { n ≤ table.old.shape.nb_frag + 8380 }
+    requires more { gained_held table.old.places < table.old.shape.nb_frag }
+    ensures fed { FedAs result (held_of stage.Receiving table.old) (held_of (stage_after result) table.new) n part.now }
+    ensures room { SameRoom table.old table.new }
+    ensures held { IsReduced table.new.shape.nb_frag table.new.shape.frag_size table.new.places }
+{
+    let columns = table.nb_frag() as usize;
+    let line = &mut line[..columns];
+    let rest = &mut rest[..part.len()];
+    draw(n, line);
+    rest.copy_from_slice(part);
+    take_in(table, n, part, line, rest)
+}
+
 /// Takes fragment `n` in, or answers why not. `line` and `rest` are its line and a copy of its bytes, and are used up.
-pub fn take_in(table: &mut Table, n: u16, part: &[u8], line: &mut [bool], rest: &mut [u8]) -> Fed
+fn take_in(table: &mut Table, n: u16, part: &[u8], line: &mut [bool], rest: &mut [u8]) -> Fed
     requires columns { length line.old ≡ table.old.shape.nb_frag }
     requires drawn { number_of line.old ≡ line_of table.old.shape.nb_frag n }
     requires copied { rest.old ≡ part.now }

@@ -1,0 +1,109 @@
+-- What a solver keeps true, and what its calls are given.
+use Rattle.std.proofs.Common.{◌≡◌, ◌≢◌, ◌⊎◌, ℕ, suc, ◌+◌, ◌*◌, ◌/◌, ◌<◌, ◌≤◌, ◌^◌, Bool, true, false, ◌&&◌, nat_le, List, length, get_or, replicate, refl, sym, ap, ◌∙◌, subst, inl, inr, arith, mul_left_comm}
+use Rattle.std.proofs.lemmas.Bool.{and_parts, leb-true, cases_lt}
+use Rattle.std.proofs.lemmas.Nat.{mul-le}
+use Rattle.frag_model.specs.Fragments.{Shape}
+use Rattle.row_elimination.specs.declared.stages.Stage.{Stage}
+use Rattle.row_elimination.specs.declared.stages.Stage.TheVariants as stage
+use Rattle.row_elimination.specs.declared.stages.Fed.{Fed}
+use Rattle.row_elimination.specs.declared.stages.Fed.TheVariants as fed
+use Rattle.row_elimination.specs.Places.{Place, free, gained_held, FitsHeld}
+use Rattle.row_elimination.specs.Inside.{IsReduced}
+use Rattle.row_elimination.specs.Grid.{Grid, SameRoom}
+use Rattle.row_elimination.specs.Held.{Held, TwoFit, Receives, Completes, Contradicts, Overflows}
+use Rattle.row_elimination.specs.Taking.{held_of, stage_after, FedAs}
+use Rattle.row_elimination.specs.Room.{words_for, has_room, IsSolver}
+use Rattle.row_elimination.proofs.Telling.{fits_from_agrees}
+use Rattle.row_elimination.proofs.Blocks.{two_fitting, one_alone}
+use Rattle.row_elimination.proofs.Gridding.{none_reduced, free_everywhere, gained_none}
+
+-- ---- room
+
+pub record Roomy (words bytes area nb size rows : ℕ) : Type 0 where
+  pub lines : rows * nb ≤ 64 * words
+  pub parts : rows * size ≤ bytes
+  pub pieces : nb * size ≤ area
+
+pub roomy : (words bytes area nb size rows : ℕ) → has_room words bytes area nb size rows ≡ true → Roomy words bytes area nb size rows
+unfolding has_room words_for
+roomy words bytes area nb size rows h =
+    let a = and_parts (nat_le (rows * ((nb + 63) / 64)) words && nat_le (rows * size) bytes) (nat_le (nb * size) area) h in
+    let b = and_parts (nat_le (rows * ((nb + 63) / 64)) words) (nat_le (rows * size) bytes) a.0 in
+    let enough : rows * nb ≤ rows * (64 * ((nb + 63) / 64)) = mul-le rows nb rows (64 * ((nb + 63) / 64)) (omega arith) (omega arith) in
+    let turned : rows * (64 * ((nb + 63) / 64)) ≡ 64 * (rows * ((nb + 63) / 64)) = mul_left_comm rows 64 ((nb + 63) / 64) in
+    let fits : rows * ((nb + 63) / 64) ≤ words = leb-true (rows * ((nb + 63) / 64)) words b.0 in
+    let times : 64 * (rows * ((nb + 63) / 64)) ≤ 64 * words = mul-le 64 (rows * ((nb + 63) / 64)) 64 words (omega arith) fits in
+    record { lines = omega (arith, enough, turned, times); parts = leb-true (rows * size) bytes b.1; pieces = leb-true (nb * size) area a.1 }
+
+-- ---- a solver that has just begun
+
+pub two_at_first : (g : Grid) (at : Stage) → 1 ≤ g.shape.nb_frag → 1 ≤ g.shape.frag_size → g.places ≡ replicate g.shape.nb_frag free → TwoFit (held_of at g)
+two_at_first g at some size e =
+    let reduced : IsReduced g.shape.nb_frag g.shape.frag_size g.places = subst (λ ps. IsReduced g.shape.nb_frag g.shape.frag_size ps) (sym e) (none_reduced g.shape.nb_frag g.shape.frag_size) in
+    let r = two_fitting g.shape g.places 0 reduced size some (ap (λ ps. get_or ps 0 free) e ∙ free_everywhere g.shape.nb_frag 0) in
+    (r.0, r.1, fits_from_agrees g.shape g.places r.0 reduced r.2 r.3, fits_from_agrees g.shape g.places r.1 reduced r.4 r.5, r.6)
+
+pub more_at_first : (nb : ℕ) → 1 ≤ nb → gained_held (replicate nb free) < nb
+more_at_first nb some = omega (arith, gained_none nb)
+
+-- ---- after a fragment
+
+pub receiving_only : (answer : Fed) → stage_after answer ≡ stage.Receiving → answer ≡ fed.Receiving
+unfolding stage_after
+receiving_only fed.Receiving e = refl
+receiving_only fed.Complete e = cc
+receiving_only fed.NoRows e = cc
+receiving_only fed.Conflict e = cc
+
+pub fed_receives : (answer : Fed) (old new : Held) (n : ℕ) (part : List ℕ) → FedAs answer old new n part → answer ≡ fed.Receiving → Receives old new n part
+unfolding FedAs
+fed_receives answer old new n part h e = subst (λ a. FedAs a old new n part) e h
+
+pub fed_completes : (answer : Fed) (old new : Held) (n : ℕ) (part : List ℕ) → FedAs answer old new n part → answer ≡ fed.Complete → Completes old new n part
+unfolding FedAs
+fed_completes answer old new n part h e = subst (λ a. FedAs a old new n part) e h
+
+pub fed_overflows : (answer : Fed) (old new : Held) (n : ℕ) (part : List ℕ) → FedAs answer old new n part → answer ≡ fed.NoRows → Overflows old new n part
+unfolding FedAs
+fed_overflows answer old new n part h e = subst (λ a. FedAs a old new n part) e h
+
+pub fed_contradicts : (answer : Fed) (old new : Held) (n : ℕ) (part : List ℕ) → FedAs answer old new n part → answer ≡ fed.Conflict → Contradicts old new n part
+unfolding FedAs
+fed_contradicts answer old new n part h e = subst (λ a. FedAs a old new n part) e h
+
+-- the fields afterwards
+pub still_solver : (words bytes : ℕ) (g new : Grid) (answer : Fed) (line line' : List Bool) (part part' : List ℕ) → IsSolver words bytes g stage.Receiving line part → SameRoom g new
+    → length line' ≡ length line → length part' ≡ length part → (answer ≡ fed.Receiving → gained_held new.places < new.shape.nb_frag) → IsSolver words bytes new (stage_after answer) line' part'
+still_solver words bytes g new answer line line' part part' h room l p more =
+    let nb : new.shape.nb_frag ≡ g.shape.nb_frag = ap (λ (s : Shape). s.nb_frag) room.shape in
+    let size : new.shape.frag_size ≡ g.shape.frag_size = ap (λ (s : Shape). s.frag_size) room.shape in
+    record {
+      lines = room.lines ∙ h.lines;
+      parts = room.parts ∙ h.parts;
+      line_sized = l ∙ h.line_sized;
+      part_sized = p ∙ h.part_sized;
+      most = omega (arith, nb, h.most);
+      small = omega (arith, size, h.small);
+      area_sized = omega (arith, room.area, h.area_sized);
+      some = λ e. omega (arith, size, h.some refl);
+      more = λ e. more (receiving_only answer e);
+    }
+
+-- the answer, as the solver's values have it
+pub fed_is : (answer : Fed) (g new : Grid) (before after : Stage) (old : Held) (n : ℕ) (part : List ℕ) → held_of before g ≡ old → old.stage ≡ stage.Receiving → after ≡ stage_after answer
+    → FedAs answer (held_of stage.Receiving g) (held_of (stage_after answer) new) n part → FedAs answer old (held_of after new) n part
+fed_is answer g new before after old n part is at e h =
+    let same : before ≡ stage.Receiving = ap (λ (x : Held). x.stage) is ∙ at in
+    let was : held_of stage.Receiving g ≡ old = ap (λ s. held_of s g) (sym same) ∙ is in
+    subst (λ s. FedAs answer old (held_of s new) n part) (sym e) (subst (λ x. FedAs answer x (held_of (stage_after answer) new) n part) was h)
+
+-- while it receives, something is left to be gained
+pub left_to_gain : (answer : Fed) (g new : Grid) (n : ℕ) (part : List ℕ) → FedAs answer (held_of stage.Receiving g) (held_of (stage_after answer) new) n part → IsReduced new.shape.nb_frag new.shape.frag_size new.places
+    → answer ≡ fed.Receiving → gained_held new.places < new.shape.nb_frag
+left_to_gain answer g new n part h reduced e =
+    let r = fed_receives answer (held_of stage.Receiving g) (held_of (stage_after answer) new) n part h e in
+    let two = r.two in
+    elim (cases_lt (gained_held new.places) new.shape.nb_frag) [
+      | inl lt ↦ lt
+      | inr le ↦ absurd (two.4 (one_alone new.shape new.places two.0 two.1 reduced le two.2 two.3))
+    ]

@@ -1,0 +1,178 @@
+//! A file that is recovered from whatever fragments of it come.
+
+ghost use Rattle.std.specs.Prelude.{◌≡◌, ◌*◌, ◌+◌, ◌<◌, ◌≤◌, length, is_ok, IfOk, OnOk, OnErr};
+ghost use Rattle.frag_model.specs.Fragments.{Shape};
+ghost use Rattle.row_elimination.specs.Held.{missing_of, TwoFit, IsBegun, Receives, Completes, Contradicts, Overflows};
+ghost use Rattle.row_elimination.specs.Room.{has_room, words_for};
+ghost use Rattle.row_elimination.specs.Taking.{stage_after};
+
+use crate::stages::{Fed, Stage};
+use crate::tables::{MAX_PIECES, Table};
+use crate::taking::take;
+use std::alloc::Global;
+use std::marker::Model;
+
+/// The most bytes of a fragment.
+pub const MAX_FRAG_SIZE: usize = 239;
+
+/// There was not enough memory.
+#[derive(Clone, Copy, Debug, PartialEq, Eq)]
+pub struct Memory;
+
+/// The storage or the area is too small.
+#[derive(Clone, Copy, Debug, PartialEq, Eq)]
+pub struct NoRoom;
+
+/// Recovers one file at a time from fragments, in storage that is taken once: `W` words of 64 coefficients and `B` bytes for
+/// rows, and an area for the pieces. A contract sees what it holds of each column.
+#[derive(Drop)]
+pub struct Solver<const W: usize, const B: usize> {
+    table: Table,
+    line: Vec<bool>,
+    part: Vec<u8>,
+    stage: Stage,
+}
+
+impl<const W: usize, const B: usize> Model for Solver<W, B> {
+    ghost use Rattle.row_elimination.specs.Held.{Held};
+    ghost use Rattle.row_elimination.specs.Taking.{held_of};
+    ghost use Rattle.row_elimination.specs.Room.{IsSolver};
+
+    ghost Value = { Held };
+
+    ghost view = { λ s. held_of s.stage s.table };
+
+    ghost invariant = { λ s. IsSolver W B s.table s.stage s.line.items s.part.items };
+}
+
+impl<const W: usize, const B: usize> Solver<W, B> {
+    /// Takes all memory that the solver ever uses: an area of `area` bytes for the pieces, and the storage for rows.
+    pub fn reserve(alloc: Global, area: u32) -> Result<Solver<W, B>, Memory>
+        requires words { W ≤ 16384 }
+        requires bytes { B ≤ 61184 }
+        ensures { IfOk result (λ solver. (solver.stage ≡ Stage.Idle) × (solver.area ≡ area)) }
+    {
+        let Ok(table) = Table::new(alloc, area, 64 * W, B) else {
+            return Err(Memory);
+        };
+        let Ok(line) = vec![in alloc; false; MAX_PIECES] else {
+            return Err(Memory);
+        };
+        let Ok(part) = vec![in alloc; 0u8; MAX_FRAG_SIZE] else {
+            return Err(Memory);
+        };
+        Ok(Solver {
+            table,
+            line,
+            part,
+            stage: Stage::Idle,
+        })
+    }
+
+    /// Whether there is room for a file of `nb_frag` pieces (at most 1,024) of `frag_size` bytes (at most 239) and for `rows`
+    /// rows (at most `nb_frag`).
+    pub fn fits(&self, nb_frag: u16, frag_size: u8, rows: u16) -> bool
+        requires most { nb_frag ≤ 1024 }
+        requires small { frag_size ≤ 239 }
+        requires few { rows ≤ nb_frag }
+        ensures { result ≡ has_room W B self.now.area nb_frag frag_size rows }
+    {
+        let area = self.table.area();
+        has_room(W, B, area, nb_frag, frag_size, rows)
+    }
+
+    /// Begins a file of `nb_frag` pieces (1 to 1,024) of `frag_size` bytes (1 to 239), whose last `padding` bytes (fewer than
+    /// `frag_size`) are no part of it, with `rows` rows for coded fragments (at most `nb_frag`). Where there is no room the
+    /// solver stays as it was.
+    pub fn begin(&mut self, nb_frag: u16, frag_size: u8, padding: u8, rows: u16) -> Result<(), NoRoom>
+        requires some { 1 ≤ nb_frag }
+        requires most { nb_frag ≤ 1024 }
+        requires small { frag_size ≤ 239 }
+        requires short { padding < frag_size }
+        requires few { rows ≤ nb_frag }
+        ensures room { is_ok result ≡ has_room W B self.old.area nb_frag frag_size rows }
+        ensures begun { OnOk result (IsBegun self.new) }
+        ensures shape { OnOk result (self.new.shape ≡ record { nb_frag = nb_frag; frag_size = frag_size; rows = rows }) }
+        ensures two { OnOk result (TwoFit self.new) }
+        ensures refused { OnErr result (self.new ≡ self.old) }
+        ensures area { self.new.area ≡ self.old.area }
+    {
+        let _ = padding;
+        if !self.fits(nb_frag, frag_size, rows) {
+            return Err(NoRoom);
+        }
+        self.table.begin(nb_frag, frag_size, rows);
+        self.stage = Stage::Receiving;
+        Ok(())
+    }
+
+    /// Takes in fragment `n`, from 1 to 8,380 above the number of pieces: piece `n` itself, or the coded fragment of that
+    /// number. `part` has as many bytes as a piece. The solver must be receiving.
+    pub fn feed(&mut self, n: u16, part: &[u8]) -> Fed
+        requires receiving { self.old.stage ≡ Stage.Receiving }
+        requires first { 1 ≤ n }
+        requires last { n ≤ self.old.shape.nb_frag + 8380 }
+        requires sized { length part.now ≡ self.old.shape.frag_size }
+        ensures receiving { result ≡ Fed.Receiving → Receives self.old self.new n part.now }
+        ensures complete { result ≡ Fed.Complete → Completes self.old self.new n part.now }
+        ensures no_rows { result ≡ Fed.NoRows → Overflows self.old self.new n part.now }
+        ensures conflict { result ≡ Fed.Conflict → Contradicts self.old self.new n part.now }
+        ensures area { self.new.area ≡ self.old.area }
+    {
+        let fed = take(&mut self.table, n, part, &mut self.line, &mut self.part);
+        self.stage = stage_after(fed);
+        fed
+    }
+
+    /// How many pieces are still to be gained, by pieces or by independent coded fragments.
+    #[tactic(auto, unfolding(crate::specs::Held::missing_of))]
+    pub fn missing(&self) -> u16
+        ensures { result ≡ missing_of self.now }
+    {
+        self.table.missing()
+    }
+
+    /// The bytes of all pieces, one behind the other, padding included. The solver must be complete.
+    pub fn block(&self) -> &[u8]
+        requires { self.now.stage ≡ Stage.Complete }
+        ensures { result.now ≡ self.now.content }
+    {
+        self.table.content()
+    }
+}
+
+/// Whether so many rows of a file fit in so many words and bytes, and its pieces in the area.
+#[tactic(auto, unfolding(crate::specs::Room::has_room))]
+fn has_room(words: usize, bytes: usize, area: usize, nb_frag: u16, frag_size: u8, rows: u16) -> bool
+    requires most { nb_frag ≤ 1024 }
+    requires few { rows ≤ nb_frag }
+    ensures { result ≡ has_room words bytes area nb_frag frag_size rows }
+{
+    let lines = rows as usize * words_for(nb_frag);
+    let parts = rows as usize * frag_size as usize;
+    let pieces = nb_frag as usize * frag_size as usize;
+    lines <= words && parts <= bytes && pieces <= area
+}
+
+/// How many words of 64 columns a row takes.
+#[tactic(auto, unfolding(crate::specs::Room::words_for))]
+fn words_for(nb_frag: u16) -> usize
+    requires { nb_frag ≤ 1024 }
+    ensures value { result ≡ words_for nb_frag }
+    ensures most { result ≤ 16 }
+{
+    (nb_frag as usize + 63) / 64
+}
+
+/// Where the solver stands after an answer.
+#[tactic(auto, unfolding(crate::specs::Taking::stage_after))]
+fn stage_after(fed: Fed) -> Stage
+    ensures { result ≡ stage_after fed }
+{
+    match fed {
+        Fed::Receiving => Stage::Receiving,
+        Fed::Complete => Stage::Complete,
+        Fed::NoRows => Stage::Ended,
+        Fed::Conflict => Stage::Ended,
+    }
+}
