@@ -1,5 +1,5 @@
 -- When a block agrees with a line and a part, byte by byte.
-use Rattle.std.proofs.Common.{◌≡◌, ℕ, List, length, get_or, bit_xor, refl, sym, ap, ap₂, ◌∙◌, subst}
+use Rattle.std.proofs.Common.{◌≡◌, ℕ, List, length, get_or, bit_xor, sym, ap, ap₂, ◌∙◌}
 use Rattle.std.specs.List.{AllByRecursion}
 use Rattle.std.specs.Int.Bits.{xor_self, xor_zero_r, xor_assoc}
 use Rattle.std.proofs.lemmas.Nat.{xor_comm}

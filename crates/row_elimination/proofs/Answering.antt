@@ -1,22 +1,21 @@
 -- What a fragment makes of a table is what its answer says.
-use Rattle.std.proofs.Common.{◌≡◌, ◌≢◌, ◌⊎◌, ℕ, zero, suc, ◌+◌, ◌-◌, ◌*◌, ◌<◌, ◌≤◌, ◌^◌, Bool, true, false, cond, ◌&&◌, not, nat_le, List, [], ◌∷◌, ◌++◌, set, take, drop, length, get_or, Some, refl, sym, ap, ap₂, ◌∙◌, subst, inl, inr, arith, le-leb, get_or-set_same, get_or-set_other, true≢false, suc-mul, zero-mul}
+use Rattle.std.proofs.Common.{◌≡◌, ◌≢◌, ◌⊎◌, ℕ, suc, ◌+◌, ◌-◌, ◌*◌, ◌<◌, ◌≤◌, ◌^◌, Bool, true, false, ◌&&◌, not, nat_le, List, [], ◌∷◌, ◌++◌, set, take, drop, length, get_or, Some, refl, sym, ap, ap₂, ◌∙◌, subst, inl, inr, arith, le-leb, get_or-set_same, get_or-set_other, true≢false, suc-mul, zero-mul}
 use Rattle.std.specs.Prelude.{if◌then◌else◌, ◌↔◌}
 use Rattle.std.specs.List.{concat}
 use Rattle.std.specs.Int.{bit_at}
 use Rattle.std.proofs.Math.Seq.{take-add}
 use Rattle.std.proofs.lemmas.List.{ext_get_or, drop-drop}
 use Rattle.std.proofs.lemmas.List.Elements.{recursion_from_All}
-use Rattle.std.proofs.lemmas.Bool.{cases_eq, cases_lt, cases_Bool, and_left, and_right, and_from, lt-leb, false≢true}
-use Rattle.frag_model.specs.Fragments.{Shape, Equation, IsPiece, IsBlock, Meets, line_of}
+use Rattle.std.proofs.lemmas.Bool.{cases_eq, cases_Bool, and_left, and_right, and_from, lt-leb, false≢true}
+use Rattle.frag_model.specs.Fragments.{Shape, Equation, IsPiece, IsBlock, line_of}
 use Rattle.frag_model.specs.Gain.{is_sum}
-use Rattle.frag_model.proofs.Tables.{IsSum, IsSum-line, IsSum-from_test, test-from_IsSum}
+use Rattle.frag_model.proofs.Tables.{IsSum, IsSum-from_test, test-from_IsSum}
 use Rattle.frag_model.proofs.Uncoded.{line_of_piece}
-use Rattle.row_elimination.specs.declared.stages.Stage.{Stage}
 use Rattle.row_elimination.specs.declared.stages.Stage.TheVariants as stage
-use Rattle.row_elimination.specs.Places.{Place, free, piece, row, told, is_piece, is_row, pieces_held, rows_held, gained_held, lines_held, grown, FitsHeld}
+use Rattle.row_elimination.specs.Places.{Place, free, piece, row, told, is_piece, pieces_held, rows_held, gained_held, lines_held, grown, FitsHeld}
 use Rattle.row_elimination.specs.Inside.{IsReduced}
 use Rattle.row_elimination.specs.Storage.{chunk}
-use Rattle.row_elimination.specs.Steps.{Reduced, IsNew, Knows, Tells, Agrees, AgreesAll}
+use Rattle.row_elimination.specs.Steps.{IsNew, Knows, Tells, Agrees, AgreesAll}
 use Rattle.row_elimination.specs.Grid.{Grid, SameRoom}
 use Rattle.row_elimination.specs.Held.{Held, IsMarked, line_for, equation_for, IsLeft, is_new_piece, Takes, Receives, Completes, Contradicts, Overflows}
 use Rattle.row_elimination.specs.Taking.{held_of, IsReady, IsZero, stage_after, FedAs, DecidedAs}
@@ -196,6 +195,7 @@ is_fresh g n k p l part q h is le own = elim (cases_Bool (is_piece (get_or g.pla
       absurd (false≢true (sym (no_sum g.shape.nb_frag g.shape.frag_size g.places (line_of g.shape.nb_frag n) part p l q h.held h.left own)
       ∙ test-from_IsSum (line_of g.shape.nb_frag n) (lines_held g.places) sum))
 ]
+
 pub takes_new_piece : (g new : Grid) (n k p l : ℕ) (part q : List ℕ) → IsReady g n part l q → n ≡ suc k → n ≤ g.shape.nb_frag → p < g.shape.nb_frag → bit_at l p ≡ 1 → SameRoom g new
     → new.places ≡ set (grown p l q g.places) k (piece part) → Takes (held_of stage.Receiving g) (held_of stage.Receiving new) n part
 takes_new_piece g new n k p l part q h is le plt own room places =
@@ -213,10 +213,23 @@ takes_new_piece g new n k p l part q h is le plt own room places =
     takes old next n part h.held h.piece.sized room.shape room.area (subst (λ ps. Says g.shape g.places ps line part) (sym places) says)
     (marked_piece old next n k is (ap (λ ps. is_piece (get_or ps k free)) places ∙ set_here (grown p l q g.places) k part klt)
     (λ c ne. ap (λ ps. is_piece (get_or ps c free)) places ∙ set_kind (grown p l q g.places) k c part ne ∙ kind c))
-    (omega (arith, ap pieces_held places, settled_pieces g.shape (grown p l q g.places) k part known, new_or_not old n k is le, pieces_grown p l q g.places inside was,
-    one_false (is_piece (get_or g.places k free)) fresh, one_false (is_piece (get_or (grown p l q g.places) k free)) (kind k ∙ fresh)))
-    (omega (arith, ap rows_held places, settled_rows g.shape (grown p l q g.places) k part known, rows_grown p l q g.places inside was,
-    learned_row g.shape g.places k p l q part row_new known fresh, h.room))
+    (omega (
+      arith,
+      ap pieces_held places,
+      settled_pieces g.shape (grown p l q g.places) k part known,
+      new_or_not old n k is le,
+      pieces_grown p l q g.places inside was,
+      one_false (is_piece (get_or g.places k free)) fresh,
+      one_false (is_piece (get_or (grown p l q g.places) k free)) (kind k ∙ fresh),
+    ))
+    (omega (
+      arith,
+      ap rows_held places,
+      settled_rows g.shape (grown p l q g.places) k part known,
+      rows_grown p l q g.places inside was,
+      learned_row g.shape g.places k p l q part row_new known fresh,
+      h.room,
+    ))
 
 -- ---- the answers
 
@@ -315,10 +328,10 @@ completes g now new n part sized held t reduced full places room parts =
         b.0,
         (t.fits b.0).0 fits,
         (λ other left.
-          let f = (t.fits other).1 left in
-          ext_get_or [] other b.0 (long other f.shaped ∙ sym (long b.0 b.1)) (λ c lt.
-          let inside : c < nb = omega (arith, f.shaped.counted) in
-          pieces other f.shaped (agrees_from_fits now.shape now.places other f) c inside ∙ sym (pieces b.0 b.1 b.2 c inside))),
+            let f = (t.fits other).1 left in
+            ext_get_or [] other b.0 (long other f.shaped ∙ sym (long b.0 b.1)) (λ c lt.
+            let inside : c < nb = omega (arith, f.shaped.counted) in
+            pieces other f.shaped (agrees_from_fits now.shape now.places other f) c inside ∙ sym (pieces b.0 b.1 b.2 c inside))),
         ap (λ (s : Shape). take (s.nb_frag * s.frag_size) new.area) room.shape ∙ content,
       );
     }

@@ -1,20 +1,20 @@
 -- Blocks that fit what is held: there is one for each choice of the free pieces, and where none is free there is one alone.
-use Rattle.std.proofs.Common.{◌≡◌, ◌≢◌, ◌⊎◌, ℕ, zero, suc, ◌+◌, ◌<◌, ◌≤◌, ◌/◌, ◌%◌, ◌^◌, true, false, cond, ◌==◌, List, [], ◌∷◌, set, length, get_or, replicate, All, Option, Some, None, bit_xor, refl, sym, ap, ap₂, ◌∙◌, subst, inl, inr, arith, length-set, get_or-set_same, get_or-set_other, eqb-true}
+use Rattle.std.proofs.Common.{◌≡◌, ◌≢◌, ◌⊎◌, ℕ, zero, suc, ◌<◌, ◌≤◌, ◌/◌, ◌%◌, ◌^◌, true, false, cond, ◌==◌, List, [], ◌∷◌, set, length, get_or, replicate, All, Option, Some, None, bit_xor, refl, sym, ap, ◌∙◌, subst, inl, inr, arith, length-set, get_or-set_other, eqb-true}
 use Rattle.std.specs.List.{AllByRecursion}
 use Rattle.std.specs.Int.{bit_at}
-use Rattle.std.specs.Int.Bits.{xor_self, xor_zero_l, xor_zero_r, xor_assoc}
+use Rattle.std.specs.Int.Bits.{xor_self, xor_zero_l, xor_assoc}
 use Rattle.std.proofs.lemmas.Nat.{xor_comm}
-use Rattle.std.proofs.lemmas.Nat.Bits.{bit_at_lowest, bit_at-suc, bit_at-lt, bit_at-pow_same, bit_at-pow_other, bit_at_above, same_from_bits}
+use Rattle.std.proofs.lemmas.Nat.Bits.{bit_at_lowest, bit_at-suc, bit_at-pow_same, bit_at-pow_other, bit_at_above, same_from_bits}
 use Rattle.std.proofs.lemmas.Bool.{cases_Bool, cases_eq, cases_lt, eqb-false}
-use Rattle.std.proofs.lemmas.List.{length-replicate, get_or_past, get_or-replicate, ext_get_or}
+use Rattle.std.proofs.lemmas.List.{length-replicate, get_or-replicate, ext_get_or}
 use Rattle.std.proofs.lemmas.List.Elements.{All-set, All-get_or, All-from_get_or, recursion_from_All}
 use Rattle.frag_model.specs.Fragments.{Shape, Equation, IsPiece, IsBlock, Meets, xor_bytes, xor_all, pieces_at}
-use Rattle.frag_model.proofs.Parts.{xor_swap, byte_at, get_or-xor_all, length-xor_all, get_or-xor_bytes}
+use Rattle.frag_model.proofs.Parts.{xor_swap, byte_at, get_or-xor_all, get_or-xor_bytes}
 use Rattle.frag_model.proofs.Sums.{xor_back}
 use Rattle.frag_model.proofs.Uncoded.{xor_all_piece}
-use Rattle.row_elimination.specs.Places.{Place, free, piece, row, told, gained_held, FitsHeld}
+use Rattle.row_elimination.specs.Places.{Place, free, told, gained_held, FitsHeld}
 use Rattle.row_elimination.specs.Inside.{IsReduced}
-use Rattle.row_elimination.proofs.Agreeing.{Agrees, agrees_same, meets_from_agrees}
+use Rattle.row_elimination.proofs.Agreeing.{Agrees, meets_from_agrees}
 use Rattle.row_elimination.proofs.Telling.{Tells, AgreesAll, told_within, agrees_from_fits}
 use Rattle.row_elimination.proofs.Counting.{none_free}
 use Rattle.row_elimination.proofs.Reducing.{piece_xor}
@@ -191,12 +191,19 @@ two_fitting shape ps k t pos lt none =
     let r = fitting_with shape ps (same_pieces shape 0) t (same_pieces_block shape 0 (omega arith)) in
     let s = fitting_with shape ps (same_pieces shape 1) t (same_pieces_block shape 1 (omega arith)) in
     let first : (x : ℕ) → get_or (get_or (same_pieces shape x) k []) 0 0 ≡ x = λ x.
-    ap (λ p. get_or p 0 0) (get_or-replicate shape.nb_frag k (replicate size x) [] lt) ∙ get_or-replicate size 0 x 0 pos in
-    (r.0, s.0, r.1, r.2, s.1, s.2, λ e.
-      let zero_there : get_or (get_or r.0 k []) 0 0 ≡ 0 = ap (λ p. get_or p 0 0) (r.3 k none) ∙ first 0 in
-      let one_there : get_or (get_or s.0 k []) 0 0 ≡ 1 = ap (λ p. get_or p 0 0) (s.3 k none) ∙ first 1 in
-      let same : get_or (get_or r.0 k []) 0 0 ≡ get_or (get_or s.0 k []) 0 0 = ap (λ x. get_or (get_or x k []) 0 0) e in
-      omega arith)
+    ap (λ p. get_or p 0 0) (get_or-replicate shape.nb_frag k (replicate size x) [] lt) ∙ get_or-replicate size 0 x 0 pos in (
+      r.0,
+      s.0,
+      r.1,
+      r.2,
+      s.1,
+      s.2,
+      λ e.
+          let zero_there : get_or (get_or r.0 k []) 0 0 ≡ 0 = ap (λ p. get_or p 0 0) (r.3 k none) ∙ first 0 in
+          let one_there : get_or (get_or s.0 k []) 0 0 ≡ 1 = ap (λ p. get_or p 0 0) (s.3 k none) ∙ first 1 in
+          let same : get_or (get_or r.0 k []) 0 0 ≡ get_or (get_or s.0 k []) 0 0 = ap (λ x. get_or (get_or x k []) 0 0) e in
+          omega arith,
+    )
 
 -- ---- where no column is free
 

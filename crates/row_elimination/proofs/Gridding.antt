@@ -1,12 +1,12 @@
 -- What the fields of a table keep true when it takes something in.
-use Rattle.std.proofs.Common.{◌≡◌, ◌≢◌, ◌⊎◌, ℕ, suc, ◌+◌, ◌-◌, ◌*◌, ◌<◌, ◌≤◌, ◌^◌, Bool, true, false, List, length, get_or, set, take, drop, replicate, ◌++◌, [], ◌∷◌, zero, Option, Some, None, true≢false, refl, sym, ap, ap₂, ◌∙◌, subst, inl, inr, arith, length-take-le, length-set}
+use Rattle.std.proofs.Common.{◌≡◌, ◌≢◌, ◌⊎◌, ℕ, suc, ◌+◌, ◌*◌, ◌<◌, ◌≤◌, ◌^◌, Bool, false, List, length, get_or, set, take, drop, replicate, ◌++◌, [], ◌∷◌, zero, Option, Some, None, true≢false, refl, sym, ap, ◌∙◌, subst, inl, inr, arith, length-take-le, length-set}
 use Rattle.std.proofs.lemmas.Bool.{cases_eq, cases_lt}
 use Rattle.std.proofs.lemmas.List.{take_at, set-get_or, get_or-take, get_or_past, get_or-replicate, length-replicate, ext_get_or}
 use Rattle.frag_model.specs.Parity.{number_of}
 use Rattle.frag_model.specs.Fragments.{Shape, Equation}
 use Rattle.row_elimination.specs.declared.columns.Column.{Column}
 use Rattle.row_elimination.specs.declared.columns.Column.TheVariants.{Free, Piece, Row}
-use Rattle.row_elimination.specs.Places.{Place, free, piece, row, told, is_piece, is_row, pieces_held, rows_held, gained_held, grown, cleared}
+use Rattle.row_elimination.specs.Places.{Place, free, piece, told, is_piece, is_row, pieces_held, rows_held, gained_held, grown, cleared}
 use Rattle.row_elimination.specs.Inside.{IsReduced}
 use Rattle.row_elimination.specs.Storage.{chunk, place_in, places_in, part_in, IsStored, Slots}
 use Rattle.row_elimination.specs.Steps.{IsNew, Knows, Tells}

@@ -1,19 +1,17 @@
 -- What a new row makes of the places: the equations say what they said, and the new one.
-use Rattle.std.proofs.Common.{◌≡◌, ◌≢◌, ◌⊎◌, ℕ, suc, ◌+◌, ◌<◌, ◌≤◌, ◌^◌, true, false, cond, ◌==◌, List, [], ◌∷◌, map, set, length, get_or, Some, None, bit_xor, refl, sym, ap, ap₂, ◌∙◌, subst, inl, inr, arith, eqb-true, length-set}
-use Rattle.std.specs.Prelude.{if◌then◌else◌}
+use Rattle.std.proofs.Common.{◌≡◌, ◌≢◌, ◌⊎◌, ℕ, ◌<◌, ◌^◌, cond, ◌==◌, List, ◌∷◌, map, length, get_or, Some, bit_xor, refl, sym, ap, ap₂, ◌∙◌, subst, inl, inr, arith, eqb-true, length-set}
 use Rattle.std.specs.Int.{bit_at}
 use Rattle.std.proofs.lemmas.Nat.{xor_lt, xor_comm}
 use Rattle.std.proofs.lemmas.Nat.Bits.{bit_at_xor, bit_at-lt, bit_at-pow_other}
 use Rattle.std.proofs.lemmas.Bool.{cases_Bool, cases_eq, cases_lt, eqb-false}
 use Rattle.std.proofs.lemmas.List.{length-map, get_or-map, get_or_past, get_or-set_same, get_or-set_other}
 use Rattle.frag_model.specs.Fragments.{Equation, IsPiece, xor_bytes}
-use Rattle.frag_model.proofs.Members.{In}
 use Rattle.frag_model.proofs.Sums.{xor_back}
 use Rattle.frag_model.proofs.Tables.{IsSum, IsSum-line, IsSum-xor, IsSum-within}
 use Rattle.row_elimination.specs.Places.{Place, free, piece, row, told, lines_held, cleared, all_cleared, grown}
 use Rattle.row_elimination.specs.Inside.{IsReduced}
 use Rattle.row_elimination.proofs.Agreeing.{Agrees, agrees_xor, agrees_back}
-use Rattle.row_elimination.proofs.Telling.{Tells, AgreesAll, told-sum, told_within, In-lines, lines-In}
+use Rattle.row_elimination.proofs.Telling.{Tells, AgreesAll, told-sum, lines-In}
 use Rattle.row_elimination.proofs.Reducing.{piece_xor}
 pub use Rattle.row_elimination.specs.Steps.{IsNew}
 
@@ -196,8 +194,8 @@ pub agrees_grown : (cols size : ℕ) (ps : List Place) (p y : ℕ) (q : List ℕ
 agrees_grown cols size ps p y q b h all =
     let new : Agrees b y q = all p (record { line = y; part = q }) (new_tells cols size ps p y q h) in (
       λ c e k.
-      let r = tells_old cols size ps p y c q e (not_led cols size ps p y c q e h k) k in
-      agrees_changed b p y q e r.0 r.2 new (all c r.0 r.1),
+          let r = tells_old cols size ps p y c q e (not_led cols size ps p y c q e h k) k in
+          agrees_changed b p y q e r.0 r.2 new (all c r.0 r.1),
       new,
     )
 

@@ -1,5 +1,5 @@
 -- Places that say what other places and one equation say.
-use Rattle.std.proofs.Common.{◌≡◌, ◌≢◌, ◌⊎◌, ℕ, suc, ◌+◌, ◌-◌, ◌<◌, ◌≤◌, ◌^◌, Bool, true, false, cond, List, [], ◌∷◌, set, length, get_or, Some, bit_xor, refl, sym, ap, ap₂, ◌∙◌, subst, inl, inr, arith}
+use Rattle.std.proofs.Common.{◌≡◌, ◌≢◌, ℕ, ◌+◌, ◌<◌, ◌^◌, false, cond, List, ◌∷◌, set, length, get_or, Some, bit_xor, refl, sym, ap, ◌∙◌, subst, inl, inr, arith}
 use Rattle.std.specs.Prelude.{if◌then◌else◌}
 use Rattle.std.specs.Int.{bit_at}
 use Rattle.std.specs.Int.Bits.{xor_self, xor_zero_l}
@@ -14,11 +14,11 @@ use Rattle.frag_model.proofs.Tables.{IsSum, IsSum-zero, IsSum-xor, IsSum-from_te
 use Rattle.row_elimination.specs.Places.{Place, free, piece, row, told, lines_held, grown, gained_held}
 use Rattle.row_elimination.specs.Inside.{IsReduced}
 use Rattle.row_elimination.proofs.Agreeing.{Agrees, agrees_back, agrees_same}
-use Rattle.row_elimination.proofs.Telling.{Tells, AgreesAll, told_within, no_lead}
+use Rattle.row_elimination.proofs.Telling.{AgreesAll, no_lead}
 use Rattle.row_elimination.proofs.Reducing.{Reduced}
 use Rattle.row_elimination.proofs.Growing.{IsNew, grown_reduced, grown_agrees, agrees_grown, grown_sums, sums_grown, not_led}
 use Rattle.row_elimination.proofs.Settling.{Knows, settled_reduced, settled_agrees, agrees_settled, settled_sums, sums_settled, settled_gained}
-use Rattle.row_elimination.proofs.Counting.{one, one_true, one_false, rows_grown, pieces_grown}
+use Rattle.row_elimination.proofs.Counting.{rows_grown, pieces_grown}
 
 -- the new places say what the old ones say, and the equation
 pub record Says (shape : Shape) (old new : List Place) (line : ℕ) (part : List ℕ) : Type 0 where
@@ -120,9 +120,11 @@ says_grown shape ps line part p l q t h lt own =
     record {
       reduced = grown_reduced cols size ps p l q new;
       agrees = λ b all.
-          let r = agrees_grown cols size ps p l q b new all in
-          (r.0, agrees_back b line l part q (agrees_same b (bit_xor l line) (bit_xor line l) (xor_bytes q part) (xor_bytes part q) (xor_comm l line)
-            (λ i. get_or-xor_bytes q part i ∙ xor_comm (get_or q i 0) (get_or part i 0) ∙ sym (get_or-xor_bytes part q i)) (h.agrees b r.0)) r.1);
+          let r = agrees_grown cols size ps p l q b new all in (
+            r.0,
+            agrees_back b line l part q (agrees_same b (bit_xor l line) (bit_xor line l) (xor_bytes q part) (xor_bytes part q) (xor_comm l line)
+                (λ i. get_or-xor_bytes q part i ∙ xor_comm (get_or q i 0) (get_or part i 0) ∙ sym (get_or-xor_bytes part q i)) (h.agrees b r.0)) r.1,
+          );
       from = λ b all k. grown_agrees cols size ps p l q b new all (agrees_back b l line q part (h.agrees b all) k);
       to_sums = λ x k. elim (grown_sums cols size ps p l q x new k) [
         | inl j ↦ inl j

@@ -1,17 +1,16 @@
 -- Where a piece's own column leads an equation that says the piece, the place becomes the piece and says the same.
-use Rattle.std.proofs.Common.{◌≡◌, ◌≢◌, ◌⊎◌, ℕ, suc, ◌+◌, ◌<◌, ◌≤◌, ◌^◌, Bool, true, false, List, [], ◌∷◌, set, length, get_or, Some, bit_xor, refl, sym, ap, ap₂, ◌∙◌, subst, inl, inr, arith, length-set, get_or-set_same, get_or-set_other}
+use Rattle.std.proofs.Common.{◌≡◌, ◌≢◌, ℕ, ◌+◌, ◌<◌, ◌^◌, false, List, set, length, get_or, Some, bit_xor, refl, sym, ap, ap₂, ◌∙◌, subst, inl, inr, arith, length-set, get_or-set_same, get_or-set_other}
 use Rattle.std.specs.Int.{bit_at}
 use Rattle.std.proofs.lemmas.Nat.{pow_pos}
-use Rattle.std.proofs.lemmas.Nat.Bits.{bit_at_xor, bit_at-lt, bit_at-pow_same, bit_at-pow_other}
-use Rattle.std.proofs.lemmas.Bool.{cases_eq, cases_lt}
+use Rattle.std.proofs.lemmas.Nat.Bits.{bit_at_xor, bit_at-pow_same, bit_at-pow_other}
+use Rattle.std.proofs.lemmas.Bool.{cases_eq}
 use Rattle.std.proofs.lemmas.List.{ext_get_or}
-use Rattle.frag_model.specs.Fragments.{Shape, Equation, IsPiece}
+use Rattle.frag_model.specs.Fragments.{Shape, Equation}
 use Rattle.frag_model.proofs.Parts.{xor_same, byte_at}
 use Rattle.frag_model.proofs.Tables.{IsSum, IsSum-xor, IsSum-within}
 use Rattle.row_elimination.specs.Places.{Place, free, piece, row, told, lines_held, is_piece, is_row, rows_held, pieces_held, gained_held, cleared, grown}
 use Rattle.row_elimination.specs.Inside.{IsReduced}
-use Rattle.row_elimination.proofs.Agreeing.{Agrees}
-use Rattle.row_elimination.proofs.Telling.{Tells, AgreesAll, told-sum, told_within, lines-In, no_lead}
+use Rattle.row_elimination.proofs.Telling.{Tells, AgreesAll, told-sum, lines-In, no_lead}
 use Rattle.row_elimination.proofs.Blocks.{some_fitting}
 use Rattle.row_elimination.proofs.Counting.{one, one_true, one_false, rows_set, pieces_set, held_kind, is_piece-cleared}
 use Rattle.row_elimination.proofs.Growing.{IsNew, at_old, new_at}

@@ -1,5 +1,5 @@
 -- What a solver keeps true, and what its calls are given.
-use Rattle.std.proofs.Common.{◌≡◌, ◌≢◌, ◌⊎◌, ℕ, suc, ◌+◌, ◌*◌, ◌/◌, ◌<◌, ◌≤◌, ◌^◌, Bool, true, false, ◌&&◌, nat_le, List, length, get_or, replicate, refl, sym, ap, ◌∙◌, subst, inl, inr, arith, mul_left_comm}
+use Rattle.std.proofs.Common.{◌≡◌, ℕ, ◌+◌, ◌*◌, ◌/◌, ◌<◌, ◌≤◌, Bool, true, ◌&&◌, nat_le, List, length, get_or, replicate, refl, sym, ap, ◌∙◌, subst, inl, inr, arith, mul_left_comm}
 use Rattle.std.proofs.lemmas.Bool.{and_parts, leb-true, cases_lt}
 use Rattle.std.proofs.lemmas.Nat.{mul-le}
 use Rattle.frag_model.specs.Fragments.{Shape}
@@ -7,7 +7,7 @@ use Rattle.row_elimination.specs.declared.stages.Stage.{Stage}
 use Rattle.row_elimination.specs.declared.stages.Stage.TheVariants as stage
 use Rattle.row_elimination.specs.declared.stages.Fed.{Fed}
 use Rattle.row_elimination.specs.declared.stages.Fed.TheVariants as fed
-use Rattle.row_elimination.specs.Places.{Place, free, gained_held, FitsHeld}
+use Rattle.row_elimination.specs.Places.{free, gained_held}
 use Rattle.row_elimination.specs.Inside.{IsReduced}
 use Rattle.row_elimination.specs.Grid.{Grid, SameRoom}
 use Rattle.row_elimination.specs.Held.{Held, TwoFit, Receives, Completes, Contradicts, Overflows}

@@ -1,21 +1,20 @@
 -- A solver that stands for a list stands for it with one fragment more, or the verdict is the one that it answers.
-use Rattle.std.proofs.Common.{◌≡◌, ◌≢◌, ◌⊎◌, ℕ, zero, suc, ◌+◌, ◌-◌, ◌<◌, ◌≤◌, Bool, true, false, cond, ◌||◌, ◌&&◌, not, nat_le, All, List, [], ◌∷◌, map, length, get_or, replicate, bit_xor, refl, sym, ap, ap₂, ◌∙◌, subst, inl, inr, arith, le-leb}
+use Rattle.std.proofs.Common.{◌≡◌, ℕ, zero, suc, ◌+◌, ◌-◌, ◌<◌, ◌≤◌, Bool, true, false, ◌||◌, ◌&&◌, not, nat_le, All, List, [], ◌∷◌, map, get_or, replicate, bit_xor, refl, sym, ap, ap₂, ◌∙◌, subst, inl, inr, arith, le-leb}
 use Rattle.std.specs.Prelude.{if◌then◌else◌, ◌↔◌}
 use Rattle.std.specs.List.{concat}
-use Rattle.std.proofs.lemmas.Bool.{cases_lt, cases_Bool, and_left, and_right, and_from, lt-leb, false≢true}
+use Rattle.std.proofs.lemmas.Bool.{cases_lt, and_left, and_right, and_from, lt-leb, false≢true}
 use Rattle.std.proofs.lemmas.List.Elements.{All-nil, All-from_recursion, recursion_from_All}
-use Rattle.frag_model.specs.Fragments.{Heard, Shape, Equation, IsBlock, Meets, equation_of, line_of}
+use Rattle.frag_model.specs.Fragments.{Heard, Shape, Equation, Meets, equation_of, line_of}
 use Rattle.frag_model.specs.Gain.{is_sum, gain_of_lines, gain_of, direct_of, numbers_of, gain, direct, excess}
 use Rattle.frag_model.specs.Verdict.{Verdict, receiving, complete, no_rows, conflict, verdict, verdict_now, first_verdict, lacking, missing, missing_now, missing_next, FittingBlock, IsVerdictNow}
-use Rattle.frag_model.specs.Laws.{AreNumbered}
 use Rattle.frag_model.proofs.Members.{In}
 use Rattle.frag_model.proofs.Sums.{is_sum-cons}
 use Rattle.frag_model.proofs.Uncoded.{heard_or_new, direct_of-heard, direct_of-new}
 use Rattle.frag_model.proofs.Dimension.{direct_of-coded}
 use Rattle.frag_model.proofs.Verdicts.{verdict_now-right, IsVerdictNow-same}
 use Rattle.row_elimination.specs.declared.stages.Stage.TheVariants as stage
-use Rattle.row_elimination.specs.Places.{Place, free, told, equations_from, equations_held, lines_held, is_piece, is_row, pieces_held, rows_held, gained_held, FitsHeld}
-use Rattle.row_elimination.specs.Held.{Held, IsMarked, missing_of, line_for, equation_for, IsLeft, is_new_piece, Takes, Receives, Completes, Contradicts, Overflows, IsBegun}
+use Rattle.row_elimination.specs.Places.{Place, free, told, equations_from, equations_held, lines_held, is_piece, pieces_held, rows_held, gained_held, FitsHeld}
+use Rattle.row_elimination.specs.Held.{Held, missing_of, line_for, equation_for, IsLeft, is_new_piece, Takes, Receives, Completes, Contradicts, Overflows, IsBegun}
 use Rattle.row_elimination.specs.Stands.{StandsFor, FeedStands}
 use Rattle.row_elimination.proofs.Gridding.{free_everywhere, rows_none, gained_none}
 
@@ -294,6 +293,7 @@ begun held h =
       gained = none ∙ sym (none_gained held.shape);
       undecided = refl;
     }
+
 -- ---- the law
 
 pub feed_stands : FeedStands

@@ -1,16 +1,15 @@
 -- What the storage says of the places, column by column, and what the passes make of it.
 use Rattle.std.proofs.Common.{◌≡◌, ◌≢◌, ◌⊎◌, ℕ, zero, suc, ◌+◌, ◌*◌, ◌<◌, ◌≤◌, ◌^◌, Bool, true, false, cond, ◌==◌, List, [], ◌∷◌, length, get_or, set, Some, bit_xor, refl, sym, ap, ap₂, ◌∙◌, subst, inl, inr, arith, eq-eqb, ne_eqb}
-use Rattle.std.specs.Prelude.{if◌then◌else◌}
 use Rattle.std.specs.Int.{bit_at}
-use Rattle.std.proofs.lemmas.List.{ext_get_or, length-map}
-use Rattle.std.proofs.lemmas.Bool.{cases_eq, cases_lt}
-use Rattle.frag_model.specs.Fragments.{Equation, IsPiece, xor_bytes}
+use Rattle.std.proofs.lemmas.List.{ext_get_or}
+use Rattle.std.proofs.lemmas.Bool.{cases_eq}
+use Rattle.frag_model.specs.Fragments.{Equation, xor_bytes}
 use Rattle.frag_model.specs.Parity.{number_of}
 use Rattle.row_elimination.specs.declared.columns.Column.{Column}
 use Rattle.row_elimination.specs.declared.columns.Column.TheVariants.{Free, Piece, Row}
 use Rattle.row_elimination.specs.Places.{Place, free, piece, row, told, cleared, all_cleared}
 use Rattle.row_elimination.specs.Inside.{IsReduced}
-use Rattle.row_elimination.specs.Storage.{chunk, place_in, places_from, places_in, IsStored, TakesOut, Clears}
+use Rattle.row_elimination.specs.Storage.{chunk, place_in, places_from, places_in, TakesOut, Clears}
 use Rattle.row_elimination.proofs.Lines.{bit_on, bit_off, number_of-without}
 use Rattle.row_elimination.proofs.Chunks.{get_or-chunk}
 use Rattle.row_elimination.proofs.Growing.{at_all_cleared, length-all_cleared}

@@ -1,9 +1,9 @@
 -- The equations held, column by column.
-use Rattle.std.proofs.Common.{◌≡◌, ◌≢◌, ◌⊎◌, ℕ, zero, suc, ◌+◌, ◌-◌, ◌<◌, ◌≤◌, ◌^◌, true, false, cond, ◌==◌, List, [], ◌∷◌, ◌++◌, map, length, get_or, All, Option, Some, None, bit_xor, refl, sym, ap, ap₂, ◌∙◌, subst, inl, inr, arith}
+use Rattle.std.proofs.Common.{◌≡◌, ◌≢◌, ℕ, zero, suc, ◌+◌, ◌≤◌, ◌^◌, List, [], ◌∷◌, ◌++◌, map, length, get_or, Option, Some, None, bit_xor, refl, sym, ap, ◌∙◌, subst, inl, inr, arith}
 use Rattle.std.specs.Int.{bit_at}
 use Rattle.std.specs.List.{AllByRecursion}
 use Rattle.std.specs.Option.{option_to_list}
-use Rattle.std.proofs.lemmas.Nat.Bits.{bit_at_xor, bit_at-lt}
+use Rattle.std.proofs.lemmas.Nat.Bits.{bit_at_xor}
 use Rattle.std.proofs.lemmas.List.Elements.{All-from_recursion, recursion_from_All}
 use Rattle.std.proofs.lemmas.List.{get_or_past}
 use Rattle.frag_model.specs.Fragments.{Shape, Equation, IsPiece, IsBlock, Meets}
@@ -12,7 +12,7 @@ use Rattle.frag_model.proofs.Uncoded.{each-In, each-from_In}
 use Rattle.frag_model.proofs.Tables.{IsSum, IsSum-line, IsSum-without}
 use Rattle.row_elimination.specs.Places.{Place, free, piece, row, told, equations_from, equations_held, lines_held, FitsHeld}
 use Rattle.row_elimination.specs.Inside.{IsReduced}
-use Rattle.row_elimination.proofs.Agreeing.{Agrees, agrees_from_meets, meets_from_agrees}
+use Rattle.row_elimination.proofs.Agreeing.{agrees_from_meets, meets_from_agrees}
 pub use Rattle.row_elimination.specs.Steps.{Tells, AgreesAll}
 
 -- ---- membership

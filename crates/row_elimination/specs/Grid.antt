@@ -1,6 +1,6 @@
 -- The table as a value, and what its fields keep true.
 use Rattle.std.specs.Prelude.{◌≡◌, ℕ, ◌*◌, ◌<◌, ◌≤◌, ◌^◌, Bool, List, length, take}
-use Rattle.frag_model.specs.Fragments.{Shape, Equation}
+use Rattle.frag_model.specs.Fragments.{Shape}
 use Rattle.row_elimination.specs.declared.columns.Column.{Column}
 use Rattle.row_elimination.specs.Places.{Place, rows_held, gained_held}
 use Rattle.row_elimination.specs.Inside.{IsReduced}

@@ -1,5 +1,5 @@
 -- A solver as contracts see it, and what a fragment makes of it.
-use Rattle.std.specs.Prelude.{◌≡◌, ◌≢◌, ◌↔◌, ◌⊎◌, ℕ, suc, ◌+◌, ◌-◌, ◌*◌, ◌/◌, ◌<◌, ◌≤◌, Bool, true, false, ◌&&◌, not, nat_le, List, [], ◌∷◌, length, get_or, replicate, if◌then◌else◌}
+use Rattle.std.specs.Prelude.{◌≡◌, ◌≢◌, ◌↔◌, ◌⊎◌, ℕ, suc, ◌+◌, ◌-◌, ◌<◌, ◌≤◌, Bool, true, false, ◌&&◌, not, nat_le, List, ◌∷◌, get_or, replicate, if◌then◌else◌}
 use Rattle.std.specs.List.{concat}
 use Rattle.frag_model.specs.Fragments.{Shape, Equation, Meets, line_of}
 use Rattle.frag_model.specs.Gain.{is_sum}

@@ -1,13 +1,12 @@
 -- When a solver that receives stands for a list of heard fragments, newest first. Layers above need not open it: the law
 -- of the solver says of every list that it stands for what each answer of `feed` means.
-use Rattle.std.specs.Prelude.{◌≡◌, ◌↔◌, ℕ, suc, ◌+◌, ◌-◌, ◌<◌, ◌≤◌, List, [], ◌∷◌, map}
+use Rattle.std.specs.Prelude.{◌≡◌, ◌↔◌, ℕ, suc, ◌+◌, ◌<◌, ◌≤◌, List, [], ◌∷◌, map}
 use Rattle.std.specs.List.{concat}
-use Rattle.frag_model.specs.Fragments.{Heard, Shape, line_of, equation_of}
+use Rattle.frag_model.specs.Fragments.{Heard, line_of}
 use Rattle.frag_model.specs.Gain.{is_sum, numbers_of, gain, direct, excess}
 use Rattle.frag_model.specs.Verdict.{receiving, complete, no_rows, conflict, verdict, missing, FittingBlock}
 use Rattle.frag_model.specs.Laws.{AreNumbered}
 use Rattle.frag_model.specs.Members.{In}
-use Rattle.row_elimination.specs.declared.stages.Stage.TheVariants as stage
 use Rattle.row_elimination.specs.Places.{pieces_held, rows_held, gained_held, lines_held, FitsHeld}
 use Rattle.row_elimination.specs.Held.{Held, IsMarked, missing_of, Receives, Completes, Contradicts, Overflows, IsBegun}
 

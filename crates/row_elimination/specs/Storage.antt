@@ -1,13 +1,11 @@
 -- Where the places lie: pieces in the area, one behind the other; of each row the coefficients, one to a column, and the
 -- part in slots, one slot behind the other.
-use Rattle.std.specs.Prelude.{◌≡◌, ◌≢◌, ℕ, suc, ◌+◌, ◌*◌, ◌<◌, ◌≤◌, ◌^◌, Bool, List, [], ◌∷◌, length, take, drop, get_or, set, Some, bit_xor}
-use Rattle.std.specs.Int.{bit_at}
+use Rattle.std.specs.Prelude.{◌≡◌, ◌≢◌, ℕ, suc, ◌+◌, ◌*◌, ◌<◌, ◌≤◌, Bool, List, [], ◌∷◌, length, take, drop, get_or, set, Some, bit_xor}
 use Rattle.frag_model.specs.Fragments.{Equation, xor_bytes}
 use Rattle.frag_model.specs.Parity.{number_of}
 use Rattle.row_elimination.specs.declared.columns.Column.{Column}
 use Rattle.row_elimination.specs.declared.columns.Column.TheVariants.{Free, Piece, Row}
 use Rattle.row_elimination.specs.Places.{Place, free, piece, row, told, cleared}
-use Rattle.row_elimination.specs.Inside.{IsReduced}
 
 -- the k-th stretch of this size
 unfoldable pub chunk : {A : Type 0} → ℕ → ℕ → List A → List A

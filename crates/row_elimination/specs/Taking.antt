@@ -10,7 +10,7 @@ use Rattle.row_elimination.specs.Inside.{IsReduced}
 use Rattle.row_elimination.specs.Storage.{chunk}
 use Rattle.row_elimination.specs.Steps.{Reduced, Tells}
 use Rattle.row_elimination.specs.Grid.{Grid, SameRoom}
-use Rattle.row_elimination.specs.Held.{Held, Takes, Receives, Completes, Contradicts, Overflows}
+use Rattle.row_elimination.specs.Held.{Held, Receives, Completes, Contradicts, Overflows}
 
 -- a table at a stage
 abbrev pub held_of : Stage → Grid → Held

@@ -105,14 +105,7 @@ fn clear_column(
 }
 
 /// Adds a new row to the row in a slot, where that has the column `p`.
-fn clear_row(
-    coefs: &mut [bool],
-    cells: &mut [u8],
-    slot: u16,
-    p: usize,
-    line: &[bool],
-    part: &[u8],
-)
+fn clear_row(coefs: &mut [bool], cells: &mut [u8], slot: u16, p: usize, line: &[bool], part: &[u8])
     requires inside { p < length line.now }
     requires lines { slot * length line.now + length line.now ≤ length coefs.old }
     requires parts { slot * length part.now + length part.now ≤ length cells.old }

@@ -84,7 +84,13 @@ impl<const W: usize, const B: usize> Solver<W, B> {
     /// Begins a file of `nb_frag` pieces (1 to 1,024) of `frag_size` bytes (1 to 239), whose last `padding` bytes (fewer than
     /// `frag_size`) are no part of it, with `rows` rows for coded fragments (at most `nb_frag`). Where there is no room the
     /// solver stays as it was.
-    pub fn begin(&mut self, nb_frag: u16, frag_size: u8, padding: u8, rows: u16) -> Result<(), NoRoom>
+    pub fn begin(
+        &mut self,
+        nb_frag: u16,
+        frag_size: u8,
+        padding: u8,
+        rows: u16,
+    ) -> Result<(), NoRoom>
         requires some { 1 ≤ nb_frag }
         requires most { nb_frag ≤ 1024 }
         requires small { frag_size ≤ 239 }
@@ -176,3 +182,6 @@ fn stage_after(fed: Fed) -> Stage
         Fed::Conflict => Stage::Ended,
     }
 }
+
+#[cfg(test)]
+mod tests;

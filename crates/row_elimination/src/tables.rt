@@ -9,8 +9,8 @@ ghost use Rattle.row_elimination.specs.Storage.{chunk};
 ghost use Rattle.row_elimination.specs.Steps.{Reduced, IsNew, Knows, Tells};
 ghost use Rattle.row_elimination.specs.Grid.{Grid, SameRoom};
 
-use crate::columns::Column;
 use crate::additions::{add_piece, add_piece_and_row, add_row};
+use crate::columns::Column;
 use crate::entries::put_parts;
 use crate::passes::reduce;
 use std::alloc::{AllocError, Global};
@@ -87,6 +87,13 @@ impl Table {
         self.nb_frag
     }
 
+    /// How many bytes a piece has.
+    pub fn frag_size(&self) -> u8
+        ensures { result ≡ self.now.shape.frag_size }
+    {
+        self.frag_size
+    }
+
     /// How many pieces are still to be gained.
     pub fn missing(&self) -> u16
         ensures { result ≡ self.now.shape.nb_frag - gained_held self.now.places }
@@ -130,7 +137,15 @@ impl Table {
         ensures { self.new ≡ record self.old { places = grown p (number_of line.now) part.now self.old.places } }
     {
         let slot = self.spare[self.count as usize];
-        add_row(&mut self.columns, &mut self.coefs, &mut self.cells, slot, p, line, part);
+        add_row(
+            &mut self.columns,
+            &mut self.coefs,
+            &mut self.cells,
+            slot,
+            p,
+            line,
+            part,
+        );
         self.count += 1;
         self.gained += 1;
     }
@@ -146,7 +161,17 @@ impl Table {
         ensures places { self.new.places ≡ set (grown p (number_of line.now) part.now self.old.places) k (known piece.now) }
         ensures room { SameRoom self.old self.new }
     {
-        add_piece_and_row(&mut self.columns, &mut self.area, &mut self.coefs, &mut self.cells, k, piece, p, line, part);
+        add_piece_and_row(
+            &mut self.columns,
+            &mut self.area,
+            &mut self.coefs,
+            &mut self.cells,
+            k,
+            piece,
+            p,
+            line,
+            part,
+        );
         self.gained += 1;
     }
 
@@ -157,7 +182,13 @@ impl Table {
         ensures room { SameRoom self.old self.new }
     {
         if let Column::Row(slot) = self.columns[k] {
-            add_piece(&mut self.columns, self.nb_frag as usize, &mut self.area, k, piece);
+            add_piece(
+                &mut self.columns,
+                self.nb_frag as usize,
+                &mut self.area,
+                k,
+                piece,
+            );
             self.count -= 1;
             self.spare[self.count as usize] = slot;
         }
@@ -170,7 +201,12 @@ impl Table {
         ensures room { SameRoom self.old self.new }
     {
         let columns = &self.columns[..self.nb_frag as usize];
-        put_parts(columns, &mut self.area, &self.cells, self.frag_size as usize);
+        put_parts(
+            columns,
+            &mut self.area,
+            &self.cells,
+            self.frag_size as usize,
+        );
     }
 
     /// Holds nothing any more, and takes fragments of another file.

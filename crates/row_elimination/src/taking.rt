@@ -31,7 +31,7 @@ pub fn take(table: &mut Table, n: u16, part: &[u8], line: &mut [bool], rest: &mu
 {
     let columns = table.nb_frag() as usize;
     let line = &mut line[..columns];
-    let rest = &mut rest[..part.len()];
+    let rest = &mut rest[..table.frag_size() as usize];
     draw(n, line);
     rest.copy_from_slice(part);
     take_in(table, n, part, line, rest)

@@ -1,9 +1,9 @@
-use Rattle.std.proofs.Common.{◌≡◌, ℕ, List, Bool, length, take, drop, set, get_or, ◌∙◌, ap, sym, subst, arith, length-take-le}
+use Rattle.std.proofs.Common.{◌≡◌, List, length, take, drop, set, get_or, ◌∙◌, ap, sym, subst, arith, length-take-le}
 use Rattle.std.proofs.lemmas.List.{take_at}
 use Rattle.frag_model.specs.Parity.{number_of}
 use Rattle.row_elimination.specs.declared.columns.Column.{Column}
 use Rattle.row_elimination.specs.declared.columns.Column.TheVariants.{Free, Piece}
-use Rattle.row_elimination.specs.Places.{Place, piece}
+use Rattle.row_elimination.specs.Places.{piece}
 use Rattle.row_elimination.specs.Storage.{places_in, Slots, TakesOver}
 use Rattle.row_elimination.proofs.Adding.{swapped_slots, swapped_places}
 use Rattle.row_elimination.proofs.additions.add_piece_and_row.Goals as goal

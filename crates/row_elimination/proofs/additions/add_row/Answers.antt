@@ -1,4 +1,4 @@
-use Rattle.std.proofs.Common.{◌≡◌, List, length, take, drop, set, ◌∙◌, ap, length-take-le}
+use Rattle.std.proofs.Common.{◌≡◌, List, length, drop, set, ◌∙◌, ap, length-take-le}
 use Rattle.std.proofs.lemmas.List.{take_at}
 use Rattle.frag_model.specs.Parity.{number_of}
 use Rattle.row_elimination.specs.Places.{Place, row, grown}

@@ -1,4 +1,4 @@
-use Rattle.std.proofs.Common.{◌≡◌, ◌-◌, ◌^◌, ◌<◌, ℕ, length, subst, sym, ap, ◌∙◌, arith}
+use Rattle.std.proofs.Common.{◌-◌, length, sym, ap, ◌∙◌, arith}
 use Rattle.frag_model.specs.Fragments.{line_of}
 use Rattle.frag_model.proofs.Dimension.{line-lt}
 use Rattle.frag_model.proofs.Sums.{line_of_coded}

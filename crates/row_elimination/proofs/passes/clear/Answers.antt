@@ -1,4 +1,4 @@
-use Rattle.std.proofs.Common.{◌≡◌, ◌∙◌, length, refl, arith}
+use Rattle.std.proofs.Common.{◌∙◌, length, refl}
 use Rattle.frag_model.specs.Parity.{number_of}
 use Rattle.row_elimination.proofs.Storing.{clearing_begins, clearing_turn, clearing_ends}
 use Rattle.row_elimination.proofs.passes.clear.Goals as goal

@@ -1,4 +1,4 @@
-use Rattle.std.proofs.Common.{◌≡◌, ◌∙◌, ◌^◌, length, refl, subst, arith}
+use Rattle.std.proofs.Common.{◌≡◌, ◌∙◌, length, refl, subst, arith}
 use Rattle.frag_model.specs.Parity.{number_of}
 use Rattle.row_elimination.specs.Storage.{places_in}
 use Rattle.row_elimination.proofs.Lines.{number_of-lt}

@@ -1,4 +1,4 @@
-use Rattle.std.proofs.Common.{length, bit_xor, ◌∙◌, ap, sym}
+use Rattle.std.proofs.Common.{bit_xor, ◌∙◌, ap}
 use Rattle.frag_model.specs.Parity.{number_of}
 use Rattle.frag_model.specs.Fragments.{xor_bytes}
 use Rattle.row_elimination.proofs.Storing.{takes_free, takes_piece, takes_row}

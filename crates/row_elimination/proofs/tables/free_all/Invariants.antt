@@ -1,4 +1,4 @@
-use Rattle.std.proofs.Common.{◌≡◌, ℕ, ◌<◌, length, get_or}
+use Rattle.std.proofs.Common.{◌≡◌, ℕ, ◌<◌, get_or}
 use Rattle.row_elimination.specs.declared.columns.Column.TheVariants.{Free}
 use Rattle.row_elimination.proofs.tables.free_all.Given as goal
 

@@ -1,4 +1,4 @@
-use Rattle.std.proofs.Common.{◌≡◌, length, ◌∙◌, sym, arith, eqb-true}
+use Rattle.std.proofs.Common.{◌∙◌, sym, arith, eqb-true}
 use Rattle.frag_model.specs.Parity.{number_of}
 use Rattle.row_elimination.specs.Places.{rows_held}
 use Rattle.row_elimination.proofs.Lines.{bit_on}

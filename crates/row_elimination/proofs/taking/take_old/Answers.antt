@@ -1,4 +1,4 @@
-use Rattle.std.proofs.Common.{◌≡◌, ◌≢◌, ◌^◌, ℕ, suc, ◌-◌, ◌≤◌, refl, subst, arith}
+use Rattle.std.proofs.Common.{◌-◌, subst, arith}
 use Rattle.frag_model.specs.Parity.{number_of}
 use Rattle.row_elimination.specs.Taking.{IsReady}
 use Rattle.row_elimination.proofs.Answering.{conflict_is, sum_is, known_piece_is, knows_sum}

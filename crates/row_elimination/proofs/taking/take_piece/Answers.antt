@@ -1,7 +1,6 @@
-use Rattle.std.proofs.Common.{◌≡◌, ◌-◌, ◌<◌, ◌≤◌, ℕ, suc, List, length, set, arith}
+use Rattle.std.proofs.Common.{◌≡◌, ◌-◌, ◌<◌, ℕ, suc, set, arith}
 use Rattle.frag_model.specs.Parity.{number_of}
-use Rattle.row_elimination.specs.Places.{Place, piece, grown}
-use Rattle.row_elimination.specs.Inside.{IsReduced}
+use Rattle.row_elimination.specs.Places.{piece, grown}
 use Rattle.row_elimination.proofs.Lines.{bit_on}
 use Rattle.row_elimination.proofs.Saying.{is_new_row}
 use Rattle.row_elimination.proofs.Settling.{settled_reduced}

@@ -1,4 +1,4 @@
-use Rattle.std.proofs.Common.{◌≡◌, ◌<◌, ℕ, length, ap, arith}
+use Rattle.std.proofs.Common.{◌<◌, ℕ, ap, arith}
 use Rattle.frag_model.specs.Parity.{number_of}
 use Rattle.row_elimination.specs.Places.{grown}
 use Rattle.row_elimination.specs.Grid.{Grid}

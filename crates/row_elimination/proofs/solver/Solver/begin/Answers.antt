@@ -1,4 +1,4 @@
-use Rattle.std.proofs.Common.{◌≡◌, ◌*◌, ◌≤◌, ◌<◌, true, length, replicate, sym, ap, ◌∙◌, subst, arith}
+use Rattle.std.proofs.Common.{◌≡◌, ◌<◌, length, replicate, sym, ap, ◌∙◌, subst, arith}
 use Rattle.row_elimination.specs.Places.{gained_held, free}
 use Rattle.row_elimination.specs.Grid.{Grid}
 use Rattle.row_elimination.specs.Held.{Held}

@@ -1,5 +1,4 @@
-use Rattle.std.proofs.Common.{◌≡◌, List, Bool, ℕ, length, sym, ap, ◌∙◌, subst, arith}
-use Rattle.row_elimination.specs.declared.stages.Stage.{Stage}
+use Rattle.std.proofs.Common.{◌≡◌, List, Bool, ℕ, length, ap, ◌∙◌, subst}
 use Rattle.row_elimination.specs.declared.stages.Stage.TheVariants as stage
 use Rattle.row_elimination.specs.Held.{Held}
 use Rattle.row_elimination.specs.Room.{IsSolver}
@@ -14,9 +13,10 @@ invariant_of-self g c =
     let at : c.self.inside.stage ≡ stage.Receiving = ap (λ (h : Held). h.stage) c.self.view_is ∙ c.requires.receiving in
     let was : IsSolver g.row.W g.row.B c.self.inside.table stage.Receiving line part = subst (λ s. IsSolver g.row.W g.row.B c.self.inside.table s line part) at c.self.invariant in
     rw (
-    c.stage_after-self-inside.ensures,
-    written c.self.inside.line.len c.take-fed.new.line line (c.take-fed.auto.line ∙ c.deref_mut.ensures.len),
-    written c.self.inside.part.len c.take-fed.new.rest part (c.take-fed.auto.rest ∙ c.deref_mut-2.ensures.len))
+      c.stage_after-self-inside.ensures,
+      written c.self.inside.line.len c.take-fed.new.line line (c.take-fed.auto.line ∙ c.deref_mut.ensures.len),
+      written c.self.inside.part.len c.take-fed.new.rest part (c.take-fed.auto.rest ∙ c.deref_mut-2.ensures.len),
+    )
     (still_solver g.row.W g.row.B c.self.inside.table c.take-fed.new.table c.take-fed.result line c.take-fed.new.line part c.take-fed.new.rest was c.take-fed.ensures.room
     (c.take-fed.auto.line ∙ ap length c.deref_mut.ensures.value) (c.take-fed.auto.rest ∙ ap length c.deref_mut-2.ensures.value)
     (left_to_gain c.take-fed.result c.self.inside.table c.take-fed.new.table c.args.n c.args.part.now c.take-fed.ensures.fed c.take-fed.ensures.held))

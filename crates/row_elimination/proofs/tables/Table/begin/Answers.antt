@@ -1,4 +1,4 @@
-use Rattle.std.proofs.Common.{◌≡◌, ◌*◌, ◌≤◌, ℕ, List, Bool, length, get_or, take, replicate, refl, sym, ap, subst, ◌∙◌, arith}
+use Rattle.std.proofs.Common.{◌≡◌, ◌*◌, ◌≤◌, List, length, take, replicate, sym, ap, subst, ◌∙◌, arith}
 use Rattle.frag_model.specs.Fragments.{Shape}
 use Rattle.row_elimination.specs.declared.columns.Column.{Column}
 use Rattle.row_elimination.specs.Places.{Place, free}
@@ -13,8 +13,9 @@ invariant_of-self c =
     let lines : c.args.rows * c.args.nb_frag ≤ length c.self.inside.coefs.items = subst (λ (g : Grid). c.args.rows * c.args.nb_frag ≤ g.lines) (sym c.self.view_is) c.requires.lines in
     let parts : c.args.rows * c.args.frag_size ≤ length c.self.inside.cells.items = subst (λ (g : Grid). c.args.rows * c.args.frag_size ≤ g.parts) (sym c.self.view_is) c.requires.parts in
     rw (
-    written c.self.inside.columns.len c.free_all.new.columns c.self.inside.columns.items (c.free_all.auto.columns ∙ c.deref_mut.ensures.len),
-    written c.self.inside.spare.len c.count_up.new.spare c.self.inside.spare.items (c.count_up.auto.spare ∙ c.deref_mut-2.ensures.len))
+      written c.self.inside.columns.len c.free_all.new.columns c.self.inside.columns.items (c.free_all.auto.columns ∙ c.deref_mut.ensures.len),
+      written c.self.inside.spare.len c.count_up.new.spare c.self.inside.spare.items (c.count_up.auto.spare ∙ c.deref_mut-2.ensures.len),
+    )
     (begun c.args.nb_frag c.args.frag_size c.args.rows c.free_all.new.columns c.count_up.new.spare c.self.inside.area.items c.self.inside.coefs.items c.self.inside.cells.items c.requires.most c.requires.few
     (c.free_all.auto.columns ∙ ap length c.deref_mut.ensures.value ∙ c.self.invariant.columns_sized)
     (c.count_up.auto.spare ∙ ap length c.deref_mut-2.ensures.value ∙ c.self.invariant.spare_sized)

@@ -1,9 +1,7 @@
-use Rattle.std.proofs.Common.{◌≡◌, ℕ, List, Bool, length, get_or, take, refl, sym, ap, subst, ◌∙◌}
+use Rattle.std.proofs.Common.{◌≡◌, ℕ, length, get_or, take, ap, subst, ◌∙◌}
 use Rattle.frag_model.specs.Fragments.{Equation}
-use Rattle.row_elimination.specs.declared.columns.Column.{Column}
 use Rattle.row_elimination.specs.declared.columns.Column.TheVariants.{Free}
-use Rattle.row_elimination.specs.Places.{Place}
-use Rattle.row_elimination.specs.Storage.{chunk, part_in, places_in}
+use Rattle.row_elimination.specs.Storage.{chunk, part_in}
 use Rattle.row_elimination.specs.Steps.{Tells}
 use Rattle.row_elimination.specs.Grid.{Grid}
 use Rattle.row_elimination.proofs.Gridding.{written, finished, finished_places, finished_parts}

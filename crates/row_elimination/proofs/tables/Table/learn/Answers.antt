@@ -1,11 +1,11 @@
-use Rattle.std.proofs.Common.{◌≡◌, ◌≢◌, ◌+◌, ◌*◌, ◌<◌, ◌≤◌, ℕ, List, Bool, false, length, get_or, take, set, refl, sym, ap, subst, ◌∙◌, arith}
+use Rattle.std.proofs.Common.{◌≡◌, ℕ, List, Bool, false, length, get_or, take, set, sym, ap, subst, ◌∙◌, arith}
 use Rattle.frag_model.specs.Fragments.{Shape}
 use Rattle.frag_model.specs.Parity.{number_of}
 use Rattle.row_elimination.specs.declared.columns.Column.{Column}
 use Rattle.row_elimination.specs.Places.{Place, free, piece, is_piece, grown}
-use Rattle.row_elimination.specs.Storage.{places_in, IsStored, Slots}
+use Rattle.row_elimination.specs.Storage.{places_in, Slots}
 use Rattle.row_elimination.specs.Steps.{IsNew, Knows}
-use Rattle.row_elimination.specs.Grid.{Grid, IsGrid}
+use Rattle.row_elimination.specs.Grid.{Grid}
 use Rattle.row_elimination.proofs.Counting.{gained-le}
 use Rattle.row_elimination.proofs.Gridding.{stored, written, lead_free, learned_kind, learned}
 use Rattle.row_elimination.proofs.tables.Table.learn.Goals as goal
@@ -50,8 +50,13 @@ add_piece_and_row-requires-clause-lead c =
 
 pub overflow_add-self : goal.overflow_add-self
 overflow_add-self c =
-    omega (arith, c.self.invariant.gained_all, c.self.invariant.most, c.self.invariant.reduced.sized,
-    gained-le (places_in c.self.inside.nb_frag c.self.inside.frag_size c.self.inside.area.items c.self.inside.coefs.items c.self.inside.cells.items (take c.self.inside.nb_frag c.self.inside.columns.items)))
+    omega (
+      arith,
+      c.self.invariant.gained_all,
+      c.self.invariant.most,
+      c.self.invariant.reduced.sized,
+      gained-le (places_in c.self.inside.nb_frag c.self.inside.frag_size c.self.inside.area.items c.self.inside.coefs.items c.self.inside.cells.items (take c.self.inside.nb_frag c.self.inside.columns.items)),
+    )
 
 pub invariant_of-self : goal.invariant_of-self
 invariant_of-self c =
@@ -80,10 +85,11 @@ invariant_of-self c =
     ≡ set (grown c.args.p l part (places_in (length line) (length part) area coefs cells (take (length line) columns))) c.args.k (piece c.args.piece.now) =
     rw (← c.deref_mut.ensures.value, ← c.deref_mut-2.ensures.value, ← c.deref_mut-3.ensures.value, ← c.deref_mut-4.ensures.value) c.add_piece_and_row.ensures.places in
     rw (
-    written c.self.inside.columns.len c.add_piece_and_row.new.columns columns (c.add_piece_and_row.auto.columns ∙ c.deref_mut.ensures.len),
-    written c.self.inside.area.len c.add_piece_and_row.new.area area (c.add_piece_and_row.auto.area ∙ c.deref_mut-2.ensures.len),
-    written c.self.inside.coefs.len c.add_piece_and_row.new.coefs coefs (c.add_piece_and_row.auto.coefs ∙ c.deref_mut-3.ensures.len),
-    written c.self.inside.cells.len c.add_piece_and_row.new.cells cells (c.add_piece_and_row.auto.cells ∙ c.deref_mut-4.ensures.len))
+      written c.self.inside.columns.len c.add_piece_and_row.new.columns columns (c.add_piece_and_row.auto.columns ∙ c.deref_mut.ensures.len),
+      written c.self.inside.area.len c.add_piece_and_row.new.area area (c.add_piece_and_row.auto.area ∙ c.deref_mut-2.ensures.len),
+      written c.self.inside.coefs.len c.add_piece_and_row.new.coefs coefs (c.add_piece_and_row.auto.coefs ∙ c.deref_mut-3.ensures.len),
+      written c.self.inside.cells.len c.add_piece_and_row.new.cells cells (c.add_piece_and_row.auto.cells ∙ c.deref_mut-4.ensures.len),
+    )
     (learned nb size rows c.self.inside.count c.self.inside.gained c.args.k c.args.p columns c.add_piece_and_row.new.columns spare area c.add_piece_and_row.new.area coefs c.add_piece_and_row.new.coefs
     cells c.add_piece_and_row.new.cells line part c.args.piece.now c.self.invariant ln sz new_row known fresh
     (c.add_piece_and_row.auto.columns ∙ ap length c.deref_mut.ensures.value) (c.add_piece_and_row.auto.area ∙ ap length c.deref_mut-2.ensures.value)

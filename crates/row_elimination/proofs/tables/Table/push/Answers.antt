@@ -1,12 +1,12 @@
-use Rattle.std.proofs.Common.{◌≡◌, ◌≢◌, ◌+◌, ◌*◌, ◌<◌, ◌≤◌, ℕ, List, Bool, length, get_or, take, set, refl, sym, ap, subst, ◌∙◌, arith}
+use Rattle.std.proofs.Common.{◌≡◌, ◌<◌, ℕ, List, Bool, length, get_or, take, set, sym, ap, subst, ◌∙◌, arith}
 use Rattle.std.proofs.lemmas.Grind.{get_or_default_zero}
 use Rattle.frag_model.specs.Parity.{number_of}
 use Rattle.row_elimination.specs.declared.columns.Column.{Column}
-use Rattle.row_elimination.specs.declared.columns.Column.TheVariants.{Free, Row}
-use Rattle.row_elimination.specs.Places.{Place, rows_held, gained_held, grown}
-use Rattle.row_elimination.specs.Storage.{places_in, IsStored}
+use Rattle.row_elimination.specs.declared.columns.Column.TheVariants.{Row}
+use Rattle.row_elimination.specs.Places.{Place, rows_held, grown}
+use Rattle.row_elimination.specs.Storage.{places_in}
 use Rattle.row_elimination.specs.Steps.{IsNew}
-use Rattle.row_elimination.specs.Grid.{Grid, IsGrid}
+use Rattle.row_elimination.specs.Grid.{Grid}
 use Rattle.row_elimination.proofs.Counting.{gained-le}
 use Rattle.row_elimination.proofs.Gridding.{slot_lines, slot_parts, stored, written, pushed}
 use Rattle.row_elimination.proofs.tables.Table.push.Goals as goal
@@ -52,8 +52,13 @@ add_row-requires-clause-alone c =
 
 pub overflow_add-self-2 : goal.overflow_add-self-2
 overflow_add-self-2 c =
-    omega (arith, c.self.invariant.gained_all, c.self.invariant.most, c.self.invariant.reduced.sized,
-    gained-le (places_in c.self.inside.nb_frag c.self.inside.frag_size c.self.inside.area.items c.self.inside.coefs.items c.self.inside.cells.items (take c.self.inside.nb_frag c.self.inside.columns.items)))
+    omega (
+      arith,
+      c.self.invariant.gained_all,
+      c.self.invariant.most,
+      c.self.invariant.reduced.sized,
+      gained-le (places_in c.self.inside.nb_frag c.self.inside.frag_size c.self.inside.area.items c.self.inside.coefs.items c.self.inside.cells.items (take c.self.inside.nb_frag c.self.inside.columns.items)),
+    )
 
 pub invariant_of-self : goal.invariant_of-self
 invariant_of-self c =
@@ -83,9 +88,10 @@ invariant_of-self c =
     ≡ grown c.args.p (number_of line) part (places_in (length line) (length part) area coefs cells (take (length line) columns)) =
     rw (← c.deref_mut.ensures.value, ← c.deref_mut-2.ensures.value, ← c.deref_mut-3.ensures.value) (c.add_row.ensures.places area) in
     rw (
-    written c.self.inside.columns.len c.add_row.new.columns columns (c.add_row.auto.columns ∙ c.deref_mut.ensures.len),
-    written c.self.inside.coefs.len c.add_row.new.coefs coefs (c.add_row.auto.coefs ∙ c.deref_mut-2.ensures.len),
-    written c.self.inside.cells.len c.add_row.new.cells cells (c.add_row.auto.cells ∙ c.deref_mut-3.ensures.len))
+      written c.self.inside.columns.len c.add_row.new.columns columns (c.add_row.auto.columns ∙ c.deref_mut.ensures.len),
+      written c.self.inside.coefs.len c.add_row.new.coefs coefs (c.add_row.auto.coefs ∙ c.deref_mut-2.ensures.len),
+      written c.self.inside.cells.len c.add_row.new.cells cells (c.add_row.auto.cells ∙ c.deref_mut-3.ensures.len),
+    )
     (pushed nb size rows count c.self.inside.gained c.index-slot.result.now c.args.p columns c.add_row.new.columns spare area coefs c.add_row.new.coefs cells c.add_row.new.cells line part
     c.self.invariant ln sz slot new more
     (c.add_row.auto.columns ∙ ap length c.deref_mut.ensures.value) (c.add_row.auto.coefs ∙ ap length c.deref_mut-2.ensures.value) (c.add_row.auto.cells ∙ ap length c.deref_mut-3.ensures.value)

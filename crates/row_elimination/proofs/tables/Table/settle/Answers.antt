@@ -1,11 +1,11 @@
-use Rattle.std.proofs.Common.{◌≡◌, ◌≢◌, ◌+◌, ◌-◌, ◌*◌, ◌<◌, ◌≤◌, ℕ, List, Bool, false, length, get_or, take, set, refl, sym, ap, subst, ◌∙◌, arith}
+use Rattle.std.proofs.Common.{◌≡◌, ◌-◌, ◌≤◌, ℕ, List, Bool, length, get_or, take, set, sym, ap, subst, ◌∙◌, arith}
 use Rattle.frag_model.specs.Fragments.{Shape}
 use Rattle.row_elimination.specs.declared.columns.Column.{Column}
 use Rattle.row_elimination.specs.declared.columns.Column.TheVariants.{Free, Piece, Row}
-use Rattle.row_elimination.specs.Places.{Place, piece, rows_held}
+use Rattle.row_elimination.specs.Places.{Place, piece}
 use Rattle.row_elimination.specs.Storage.{places_in}
 use Rattle.row_elimination.specs.Steps.{Knows}
-use Rattle.row_elimination.specs.Grid.{Grid, IsGrid}
+use Rattle.row_elimination.specs.Grid.{Grid}
 use Rattle.row_elimination.proofs.Gridding.{written, column_read, settled_count, settled, settled_already}
 use Rattle.row_elimination.proofs.tables.Table.settle.Goals as goal
 
@@ -18,8 +18,11 @@ overflow_sub-self c =
     subst (λ (g : Grid). Knows g.shape g.places c.args.k c.args.piece.now) (sym c.self.view_is) c.requires.known in
     let at : get_or os c.args.k Free ≡ c.index.result.now =
     column_read columns c.self.inside.nb_frag c.args.k c.index.result.now known.inside (omega (arith, c.self.invariant.most, c.self.invariant.columns_sized)) c.index.ensures in
-    omega (arith, c.self.invariant.counted,
-    settled_count shape c.self.inside.area.items c.self.inside.coefs.items c.self.inside.cells.items os c.args.k c.in-Row.slot c.args.piece.now known (at ∙ c.in-Row.is))
+    omega (
+      arith,
+      c.self.invariant.counted,
+      settled_count shape c.self.inside.area.items c.self.inside.coefs.items c.self.inside.cells.items os c.args.k c.in-Row.slot c.args.piece.now known (at ∙ c.in-Row.is),
+    )
 
 pub invariant_of-self : goal.invariant_of-self
 invariant_of-self c =
@@ -48,8 +51,9 @@ invariant_of-self c =
     let told_here : places_in nb size c.add_piece.new.area coefs cells (take nb c.add_piece.new.columns) ≡ set ps c.args.k (piece part) =
     subst (λ n. places_in nb n c.add_piece.new.area coefs cells (take nb c.add_piece.new.columns) ≡ set (places_in nb n area coefs cells os) c.args.k (piece part)) known.piece.sized told in
     rw (
-    written c.self.inside.columns.len c.add_piece.new.columns columns (c.add_piece.auto.columns ∙ c.deref_mut.ensures.len),
-    written c.self.inside.area.len c.add_piece.new.area area (c.add_piece.auto.area ∙ c.deref_mut-in-Row.ensures.len))
+      written c.self.inside.columns.len c.add_piece.new.columns columns (c.add_piece.auto.columns ∙ c.deref_mut.ensures.len),
+      written c.self.inside.area.len c.add_piece.new.area area (c.add_piece.auto.area ∙ c.deref_mut-in-Row.ensures.len),
+    )
     (settled nb size rows count (count - 1) c.self.inside.gained c.args.k c.in-Row.slot columns c.add_piece.new.columns spare area c.add_piece.new.area coefs cells part
     c.self.invariant known is (omega arith)
     (c.add_piece.auto.columns ∙ ap length c.deref_mut.ensures.value) (c.add_piece.auto.area ∙ ap length c.deref_mut-in-Row.ensures.value) cols told_here)

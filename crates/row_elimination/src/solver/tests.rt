@@ -1,0 +1,269 @@
+//! Solvers over a few pieces of one byte, by worked rows and against plain sums of lines.
+
+use super::*;
+use frag_model::gains::{plain_excess, plain_gain, plain_line_of};
+use frag_model::lines::MAX_PARITY_INDEX;
+use std::process::Abort;
+use std::test::Fail;
+
+type SmallSolver = Solver<16, 64>;
+
+/// What a solver answers after fragments, and shows.
+#[derive(Clone, Copy)]
+struct Row<'a> {
+    rows: u16,
+    fragments: &'a [(u16, u8)],
+    answer: Fed,
+    missing: u16,
+    block: &'a [u8],
+}
+
+fn begun(rt: &impl Abort, alloc: Global, pieces: u16, rows: u16) -> Result<SmallSolver, Fail> {
+    assert!(rt; 1 <= pieces && pieces <= 64 && rows <= pieces);
+    let mut solver = SmallSolver::reserve(alloc, 64).expect(rt, "no memory");
+    assert!(rt; solver.begin(pieces, 1, 0, rows).is_ok());
+    Ok(solver)
+}
+
+fn feed(rt: &impl Abort, solver: &mut SmallSolver, n: u16, byte: u8) -> Fed {
+    assert_eq!(rt; solver.stage, Stage::Receiving);
+    assert!(rt; 1 <= n && n as u32 <= solver.table.nb_frag() as u32 + MAX_PARITY_INDEX as u32);
+    assert_eq!(rt; solver.table.frag_size(), 1);
+    solver.feed(n, &[byte])
+}
+
+fn shows(rt: &impl Abort, alloc: Global, pieces: u16, row: &Row) -> Result<(), Fail> {
+    let mut solver = begun(rt, alloc, pieces, row.rows)?;
+    let mut answer = Fed::Receiving;
+    for (n, byte) in row.fragments {
+        answer = feed(rt, &mut solver, *n, *byte);
+    }
+    assert_eq!(rt; answer, row.answer);
+    assert_eq!(rt; solver.missing(), row.missing);
+    if answer == Fed::Complete {
+        assert_eq!(rt; solver.stage, Stage::Complete);
+        assert_eq!(rt; solver.block(), row.block);
+    }
+    Ok(())
+}
+
+#[test]
+fn four_pieces(rt: HostRuntime) -> Result<(), Fail> {
+    let whole = [0x11, 0x22, 0x33, 0x44];
+    let rows = [
+        Row {
+            rows: 0,
+            fragments: &[(4, 0x44), (1, 0x11), (3, 0x33), (2, 0x22)],
+            answer: Fed::Complete,
+            missing: 0,
+            block: &whole,
+        },
+        Row {
+            rows: 2,
+            fragments: &[(1, 0x11), (3, 0x33), (7, 0x66), (8, 0x11)],
+            answer: Fed::Complete,
+            missing: 0,
+            block: &whole,
+        },
+        Row {
+            rows: 2,
+            fragments: &[(7, 0x66), (8, 0x11), (1, 0x11), (3, 0x33)],
+            answer: Fed::Complete,
+            missing: 0,
+            block: &whole,
+        },
+        Row {
+            rows: 2,
+            fragments: &[(1, 0x11), (5, 0x22), (6, 0x22)],
+            answer: Fed::Receiving,
+            missing: 2,
+            block: &[],
+        },
+        Row {
+            rows: 1,
+            fragments: &[(1, 0x11), (2, 0x22), (3, 0x33), (11, 0x44)],
+            answer: Fed::Complete,
+            missing: 0,
+            block: &whole,
+        },
+        Row {
+            rows: 1,
+            fragments: &[(7, 0x66), (8, 0x11)],
+            answer: Fed::NoRows,
+            missing: 3,
+            block: &[],
+        },
+        Row {
+            rows: 1,
+            fragments: &[(1, 0x11), (3, 0x33), (7, 0x66), (8, 0x11)],
+            answer: Fed::NoRows,
+            missing: 1,
+            block: &[],
+        },
+        Row {
+            rows: 0,
+            fragments: &[(1, 0x11), (1, 0x12)],
+            answer: Fed::Conflict,
+            missing: 3,
+            block: &[],
+        },
+        Row {
+            rows: 0,
+            fragments: &[(2, 0x22), (2, 0x22), (2, 0x22)],
+            answer: Fed::Receiving,
+            missing: 3,
+            block: &[],
+        },
+        Row {
+            rows: 2,
+            fragments: &[(11, 0x44), (4, 0x44), (5, 0x22), (6, 0x23)],
+            answer: Fed::Conflict,
+            missing: 2,
+            block: &[],
+        },
+    ];
+    for row in &rows {
+        shows(&rt, rt.alloc(), 4, row)?;
+    }
+    Ok(())
+}
+
+#[test]
+fn one_piece(rt: HostRuntime) -> Result<(), Fail> {
+    let rows = [
+        Row {
+            rows: 1,
+            fragments: &[(2, 0), (1, 0x5a)],
+            answer: Fed::Complete,
+            missing: 0,
+            block: &[0x5a],
+        },
+        Row {
+            rows: 1,
+            fragments: &[(2, 1)],
+            answer: Fed::Conflict,
+            missing: 1,
+            block: &[],
+        },
+    ];
+    for row in &rows {
+        shows(&rt, rt.alloc(), 1, row)?;
+    }
+    Ok(())
+}
+
+/// The byte of fragment `n` of a file whose piece `k` is `k + 1`.
+fn byte_of(rt: &impl Abort, pieces: u16, n: u16) -> u8 {
+    assert!(rt; 1 <= pieces && pieces <= 64);
+    assert!(rt; 1 <= n && n <= pieces + MAX_PARITY_INDEX);
+    let line = plain_line_of(pieces, n);
+    let mut byte = 0;
+    for k in 0..pieces {
+        if line >> k & 1 == 1 {
+            byte ^= (k + 1) as u8;
+        }
+    }
+    byte
+}
+
+/// What all sums of the lines of the numbers, newest first, lead to, and how many pieces they leave to be gained.
+fn by_sums(
+    rt: &impl Abort,
+    alloc: Global,
+    pieces: u16,
+    rows: u16,
+    numbers: &[u16],
+) -> Result<(Fed, usize), Fail> {
+    assert!(rt; 1 <= pieces && pieces <= 64);
+    let in_range = numbers
+        .iter()
+        .all(|n| 1 <= *n && *n <= pieces + MAX_PARITY_INDEX);
+    assert!(rt; in_range);
+    let excess = plain_excess(alloc, pieces, numbers)?;
+    let mut lines = Vec::new(alloc);
+    for n in numbers {
+        assert!(rt; 1 <= *n && *n <= pieces + MAX_PARITY_INDEX);
+        lines.push(plain_line_of(pieces, *n))?;
+    }
+    let gain = plain_gain(&lines);
+    let answer = if excess > rows as usize {
+        Fed::NoRows
+    } else if gain == pieces as usize {
+        Fed::Complete
+    } else {
+        Fed::Receiving
+    };
+    Ok((answer, (pieces as usize).saturating_sub(gain)))
+}
+
+/// Feeds the fragments with these numbers until something is decided.
+fn agrees(
+    rt: &impl Abort,
+    alloc: Global,
+    pieces: u16,
+    rows: u16,
+    numbers: &[u16],
+) -> Result<(), Fail> {
+    let mut solver = begun(rt, alloc, pieces, rows)?;
+    let mut heard = Vec::new(alloc);
+    for n in numbers {
+        let byte = byte_of(rt, pieces, *n);
+        let answer = feed(rt, &mut solver, *n, byte);
+        heard.insert(0, *n)?;
+        let (expected, missing) = by_sums(rt, alloc, pieces, rows, &heard)?;
+        assert_eq!(rt; answer, expected);
+        if answer == Fed::Receiving {
+            assert_eq!(rt; solver.missing() as usize, missing);
+        } else {
+            return Ok(());
+        }
+    }
+    Ok(())
+}
+
+#[test]
+fn answers_are_those_of_all_sums(rt: HostRuntime) -> Result<(), Fail> {
+    let table: [(u16, u16, &[u16]); 12] = [
+        (1, 0, &[2, 1]),
+        (1, 1, &[5, 2, 1]),
+        (2, 0, &[2, 2, 1]),
+        (2, 2, &[3, 4, 1, 2]),
+        (3, 1, &[4, 5, 6, 7, 1, 2, 3]),
+        (3, 3, &[4, 5, 6, 7, 8, 9]),
+        (4, 4, &[11, 5, 6, 7, 8, 9, 10]),
+        (5, 2, &[6, 1, 7, 2, 8, 3, 9, 4, 10, 5]),
+        (5, 5, &[10, 9, 8, 7, 6, 5, 4, 3, 2, 1]),
+        (8, 3, &[9, 10, 1, 2, 11, 3, 3, 4, 12, 5, 6, 7, 8]),
+        (8, 8, &[9, 10, 11, 12, 13, 14, 15, 16, 17, 18, 19, 20]),
+        (9, 4, &[1, 3, 5, 7, 9, 10, 11, 12, 13, 14, 2, 4]),
+    ];
+    for (pieces, rows, numbers) in &table {
+        agrees(&rt, rt.alloc(), *pieces, *rows, numbers)?;
+    }
+    Ok(())
+}
+
+#[test]
+fn room_is_needed_for_rows_and_for_pieces(rt: HostRuntime) -> Result<(), Fail> {
+    let alloc = rt.alloc();
+    let mut solver = Solver::<2, 10>::reserve(alloc, 20).expect(&rt, "no memory");
+    let table = [
+        (0, 0, 0, true),
+        (64, 0, 2, true),
+        (65, 0, 1, true),
+        (65, 0, 2, false),
+        (4, 5, 2, true),
+        (4, 5, 3, false),
+        (4, 6, 1, false),
+        (20, 1, 0, true),
+        (21, 1, 0, false),
+    ];
+    for (nb_frag, frag_size, rows, fits) in table {
+        assert!(rt; nb_frag <= 1024 && frag_size <= 239 && rows <= nb_frag);
+        assert_eq!(rt; solver.fits(nb_frag, frag_size, rows), fits);
+    }
+    assert_eq!(rt; solver.begin(4, 5, 4, 3), Err(NoRoom));
+    assert_eq!(rt; solver.begin(4, 5, 4, 2), Ok(()));
+    assert_eq!(rt; solver.missing(), 4);
+    Ok(())
+}
