@@ -1,16 +1,18 @@
 -- A solver that stands for a list stands for it with one fragment more, or the verdict is the one that it answers.
-use Rattle.std.proofs.Common.{◌≡◌, ℕ, zero, suc, ◌+◌, ◌-◌, ◌<◌, ◌≤◌, Bool, true, false, ◌||◌, ◌&&◌, not, nat_le, All, List, [], ◌∷◌, map, get_or, replicate, bit_xor, refl, sym, ap, ap₂, ◌∙◌, subst, inl, inr, arith, le-leb}
+use Rattle.std.proofs.Common.{◌≡◌, ℕ, zero, suc, ◌+◌, ◌-◌, ◌<◌, ◌≤◌, Bool, true, false, ◌||◌, ◌&&◌, not, nat_le, All, List, [], ◌∷◌, ◌++◌, map, get_or, replicate, bit_xor, refl, sym, ap, ap₂, ◌∙◌, subst, inl, inr, arith, le-leb}
 use Rattle.std.specs.Prelude.{if◌then◌else◌, ◌↔◌}
-use Rattle.std.specs.List.{concat}
+use Rattle.std.specs.List.{concat, AllByRecursion}
 use Rattle.std.proofs.lemmas.Bool.{cases_lt, and_left, and_right, and_from, lt-leb, false≢true}
 use Rattle.std.proofs.lemmas.List.Elements.{All-nil, All-from_recursion, recursion_from_All}
-use Rattle.frag_model.specs.Fragments.{Heard, Shape, Equation, Meets, equation_of, line_of}
+use Rattle.frag_model.specs.Fragments.{Heard, Shape, Equation, IsUncoded, Meets, equation_of, line_of}
 use Rattle.frag_model.specs.Gain.{is_sum, gain_of_lines, gain_of, direct_of, numbers_of, gain, direct, excess}
 use Rattle.frag_model.specs.Verdict.{Verdict, receiving, complete, no_rows, conflict, verdict, verdict_now, first_verdict, lacking, missing, missing_now, missing_next, FittingBlock, IsVerdictNow}
+use Rattle.frag_model.specs.Laws.{AreNumbered}
 use Rattle.frag_model.proofs.Members.{In}
 use Rattle.frag_model.proofs.Sums.{is_sum-cons}
 use Rattle.frag_model.proofs.Uncoded.{heard_or_new, direct_of-heard, direct_of-new}
 use Rattle.frag_model.proofs.Dimension.{direct_of-coded}
+use Rattle.frag_model.proofs.Enough.{enough_after}
 use Rattle.frag_model.proofs.Verdicts.{verdict_now-right, IsVerdictNow-same}
 use Rattle.row_elimination.specs.declared.stages.Stage.TheVariants as stage
 use Rattle.row_elimination.specs.Places.{Place, free, told, equations_from, equations_held, lines_held, is_piece, pieces_held, rows_held, gained_held, FitsHeld}
@@ -294,6 +296,15 @@ begun held h =
       undecided = refl;
     }
 
+-- ---- as many rows as there are pieces unheard are enough
+
+enough : (old new : Held) (f : Heard) (newer older : List Heard) → AllByRecursion (IsUncoded old.shape) older → old.shape.nb_frag ≤ direct old.shape older + old.shape.rows → AreNumbered (f ∷ newer)
+    → StandsFor old (newer ++ older) → Overflows old new f.number f.part → ⊥
+enough old new f newer older uncoded room numbered s r =
+    let most : excess old.shape (f ∷ (newer ++ older)) ≤ old.shape.rows = enough_after old.shape (f ∷ newer) older uncoded room numbered in
+    let over : excess old.shape (f ∷ (newer ++ older)) ≡ old.shape.rows + 1 = overflows_excess old new f (newer ++ older) s r in
+    omega (arith, most, over)
+
 -- ---- the law
 
 pub feed_stands : FeedStands
@@ -306,4 +317,5 @@ feed_stands = record {
       (d.0, d.1, d.2, d.3, whole_lacks new r.full);
   contradicts = contradicts;
   overflows = overflows;
+  enough = enough;
 }

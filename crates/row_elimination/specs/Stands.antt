@@ -1,8 +1,8 @@
 -- When a solver that receives stands for a list of heard fragments, newest first. Layers above need not open it: the law
 -- of the solver says of every list that it stands for what each answer of `feed` means.
-use Rattle.std.specs.Prelude.{◌≡◌, ◌↔◌, ℕ, suc, ◌+◌, ◌<◌, ◌≤◌, List, [], ◌∷◌, map}
-use Rattle.std.specs.List.{concat}
-use Rattle.frag_model.specs.Fragments.{Heard, line_of}
+use Rattle.std.specs.Prelude.{◌≡◌, ◌↔◌, ℕ, suc, ◌+◌, ◌<◌, ◌≤◌, List, [], ◌∷◌, ◌++◌, map}
+use Rattle.std.specs.List.{concat, AllByRecursion}
+use Rattle.frag_model.specs.Fragments.{Heard, IsUncoded, line_of}
 use Rattle.frag_model.specs.Gain.{is_sum, numbers_of, gain, direct, excess}
 use Rattle.frag_model.specs.Verdict.{receiving, complete, no_rows, conflict, verdict, missing, FittingBlock}
 use Rattle.frag_model.specs.Laws.{AreNumbered}
@@ -41,3 +41,6 @@ pub record FeedStands : Type 0 where
   -- exactly at one independent coded fragment more than there are rows
   pub overflows : (old new : Held) (f : Heard) (older : List Heard) → 1 ≤ f.number → StandsFor old older → Overflows old new f.number f.part
       → (verdict old.shape (f ∷ older) ≡ no_rows f.mark) × (missing old.shape (f ∷ older) ≡ missing_of new) × (excess old.shape (f ∷ older) ≡ old.shape.rows + 1)
+  -- which never comes where at most as many pieces as there are rows had not come uncoded before the first coded fragment
+  pub enough : (old new : Held) (f : Heard) (newer older : List Heard) → AllByRecursion (IsUncoded old.shape) older → old.shape.nb_frag ≤ direct old.shape older + old.shape.rows
+      → AreNumbered (f ∷ newer) → StandsFor old (newer ++ older) → Overflows old new f.number f.part → ⊥

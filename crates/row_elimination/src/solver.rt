@@ -82,8 +82,8 @@ impl<const W: usize, const B: usize> Solver<W, B> {
     }
 
     /// Begins a file of `nb_frag` pieces (1 to 1,024) of `frag_size` bytes (1 to 239), whose last `padding` bytes (fewer than
-    /// `frag_size`) are no part of it, with `rows` rows for coded fragments (at most `nb_frag`). Where there is no room the
-    /// solver stays as it was.
+    /// `frag_size`, so that one block alone fits exactly where one file alone does) are no part of it, with `rows` rows for
+    /// coded fragments (at most `nb_frag`). Where there is no room the solver stays as it was.
     pub fn begin(
         &mut self,
         nb_frag: u16,
