@@ -1,5 +1,2 @@
-pub mod Pieces
-pub mod Deciding
 pub mod Standing
 pub mod Calls
-pub mod Feeding

@@ -2,7 +2,6 @@ pub mod Setup
 pub mod Session
 pub mod Held
 pub mod Inside
-pub mod Pieces
 pub mod Shows
 pub mod Steps
 pub mod Stands

@@ -1,17 +1,18 @@
 -- A session as its history: its setup, and all fragments heard since, newest first.
 -- (TS004-1.0.0, FragSessionSetupReq, DataFragment and FragSessionStatusAns; the rest is this project's profile.)
-use Rattle.std.specs.Prelude.{ℕ, Bool, false, ◌||◌, not, ◌==◌, nat_lt, min, List, [], ◌∷◌, length, Option, Some, None, option_map, is_none, if◌then◌else◌}
+use Rattle.std.specs.Prelude.{ℕ, ◌+◌, Bool, true, false, ◌||◌, ◌&&◌, not, ◌==◌, nat_lt, min, List, [], ◌∷◌, length, Option, Some, None, option_map, is_none, if◌then◌else◌}
 use Rattle.std.specs.Int.{bit_at}
 use Rattle.frag_model.specs.Fragments.{Heard as Fragment, Shape, file_of}
 use Rattle.frag_model.specs.Verdict.{Verdict, receiving, complete, no_rows, conflict, verdict, missing}
 use Rattle.frag_session.specs.declared.setups.SetupReq.{SetupReq}
 use Rattle.frag_session.specs.declared.setups.Limits.{Limits}
-use Rattle.frag_session.specs.Setup.{setup_bits, same_setup}
+use Rattle.frag_session.specs.Setup.{Room, rows_of, setup_bits, same_setup}
 use Rattle.frag_session.specs.declared.answers.Via.{Via}
 use Rattle.frag_session.specs.declared.answers.Via.TheVariants as via
 use Rattle.frag_session.specs.declared.answers.Cause.{Cause}
 use Rattle.frag_session.specs.declared.answers.Cause.TheVariants as cause
 use Rattle.frag_session.specs.declared.answers.Heard.{Heard}
+use Rattle.frag_session.specs.declared.answers.StatusAns.{StatusAns}
 use Rattle.frag_session.specs.declared.answers.Heard.TheVariants as answer
 use Rattle.frag_session.specs.declared.answers.Verdict.{Verdict as Shown}
 use Rattle.frag_session.specs.declared.answers.Verdict.TheVariants as shown
@@ -26,7 +27,7 @@ pub record Session : Type 0 where
 
 -- a session that heard nothing yet
 unfoldable pub new_session : Limits → SetupReq → Session
-new_session limits req = record { setup = req; rows = min limits.rows req.nb_frag; heard = [] }
+new_session limits req = record { setup = req; rows = rows_of limits.rows req; heard = [] }
 
 -- a session stays at an equal request, and gives way to a new one at any other
 unfoldable pub renewed : Limits → Option Session → SetupReq → Session
@@ -34,8 +35,8 @@ renewed limits None req = new_session limits req
 renewed limits (Some s) req = if same_setup s.setup req then s else new_session limits req
 
 -- after a setup: with a refusal bit nothing changes
-unfoldable pub after_setup : Limits → ℕ → Option Session → SetupReq → Option Session
-after_setup limits area s req = if setup_bits limits area req == 0 then Some (renewed limits s req) else s
+unfoldable pub after_setup : Limits → Room → Option Session → SetupReq → Option Session
+after_setup limits room s req = if setup_bits limits room req == 0 then Some (renewed limits s req) else s
 
 -- ---- fragments
 
@@ -48,7 +49,7 @@ excludes mask (via.Group g) = bit_at mask g == 0
 unfoldable pub cause_of : SetupReq → Via → ℕ → List ℕ → Option Cause
 cause_of setup way n part =
     if excludes setup.mask way then Some cause.Group
-    else if n == 0 || nat_lt setup.nb_frag n then Some cause.Index
+    else if n == 0 || nat_lt (setup.nb_frag + 8380) n then Some cause.Index
     else if not (length part == setup.frag_size) then Some cause.Size
     else None
 
@@ -115,3 +116,33 @@ seen_of s = record {
 unfoldable pub view_of : Option Session → Option Seen
 view_of None = None
 view_of (Some s) = Some (seen_of s)
+
+-- ---- the answer to FragSessionStatusReq
+
+-- the memory did not suffice
+abbrev pub is_overflow : Shown → Bool
+is_overflow shown.Receiving = false
+is_overflow (shown.Complete mark) = false
+is_overflow (shown.NoRows mark) = true
+is_overflow (shown.Conflict mark) = false
+
+-- what is answered of what is seen; MissingFrag stays at the end of its 8 bits
+unfoldable pub status_by : Seen → ℕ → StatusAns
+status_by seen delay = record {
+  received = seen.received;
+  missing = min seen.missing 255;
+  norows = is_overflow seen.verdict;
+  delay = delay;
+}
+
+-- a session answers where all are asked, or a piece is missing; by a group only where its mask has that group
+abbrev pub answers : SetupReq → Seen → Via → Bool → Bool
+answers setup seen way all = not (excludes setup.mask way) && (all || nat_lt 0 seen.missing)
+
+unfoldable pub status_in : SetupReq → Seen → Via → Bool → Option StatusAns
+status_in setup seen way all = if answers setup seen way all then Some (status_by seen setup.delay) else None
+
+-- without a session there is no answer
+unfoldable pub status_of : Option Session → Via → Bool → Option StatusAns
+status_of None way all = None
+status_of (Some s) way all = status_in s.setup (seen_of s) way all

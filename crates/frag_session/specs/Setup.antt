@@ -1,15 +1,27 @@
 -- Setups: when one is refused, and when two are equal. (TS004-1.0.0, FragSessionSetupReq and FragSessionSetupAns.)
-use Rattle.std.specs.Prelude.{ℕ, ◌+◌, ◌*◌, Bool, false, ◌&&◌, ◌||◌, not, ◌==◌, nat_lt, nat_le, Option, Some, None, if◌then◌else◌}
+use Rattle.std.specs.Prelude.{ℕ, ◌+◌, min, Bool, false, ◌&&◌, ◌||◌, not, ◌==◌, nat_lt, nat_le, Option, Some, None, if◌then◌else◌}
 use Rattle.frag_session.specs.declared.setups.SetupReq.{SetupReq}
 use Rattle.frag_session.specs.declared.setups.Limits.{Limits}
+use Rattle.row_elimination.specs.Room.{has_room}
 
 -- a coding that is not TS004's, or numbers that make no file
 unfoldable pub wrong_coding : SetupReq → Bool
 wrong_coding req = not (req.algo == 0) || req.nb_frag == 0 || req.frag_size == 0 || nat_le req.frag_size req.padding
 
--- more than is ever kept, or more than the area has
-unfoldable pub too_large : ℕ → SetupReq → Bool
-too_large area req = nat_lt 1024 req.nb_frag || nat_lt 239 req.frag_size || nat_lt area (req.nb_frag * req.frag_size)
+-- what there is for a session: words and bytes for rows, and bytes for the file
+pub record Room : Type 0 where
+  pub words : ℕ
+  pub bytes : ℕ
+  pub area : ℕ
+
+-- the rows of a session: as many as are kept, and no more than there are pieces
+abbrev pub rows_of : ℕ → SetupReq → ℕ
+rows_of rows req = min rows req.nb_frag
+
+-- more than is ever kept, or more than there is room for
+unfoldable pub too_large : Room → ℕ → SetupReq → Bool
+too_large room rows req =
+    nat_lt 1024 req.nb_frag || nat_lt 239 req.frag_size || not (has_room room.words room.bytes room.area req.nb_frag req.frag_size (rows_of rows req))
 
 -- one descriptor alone is taken, and it is another
 unfoldable pub other_descriptor : Option ℕ → ℕ → Bool
@@ -20,10 +32,10 @@ other_descriptor (Some wanted) descriptor = not (descriptor == wanted)
 abbrev pub bit_where : Bool → ℕ → ℕ
 bit_where test value = if test then value else 0
 
--- all refusal bits of a request together, over an area of so many bytes
-unfoldable pub setup_bits : Limits → ℕ → SetupReq → ℕ
-setup_bits limits area req =
-    bit_where (wrong_coding req) 1 + bit_where (too_large area req) 2 + bit_where (nat_le limits.sessions req.index) 4
+-- all refusal bits of a request together
+unfoldable pub setup_bits : Limits → Room → SetupReq → ℕ
+setup_bits limits room req =
+    bit_where (wrong_coding req) 1 + bit_where (too_large room limits.rows req) 2 + bit_where (nat_le limits.sessions req.index) 4
     + bit_where (other_descriptor limits.descriptor req.descriptor) 8
 
 -- all eight fields are equal

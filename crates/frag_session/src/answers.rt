@@ -51,3 +51,16 @@ pub struct View<'a> {
     /// The file, and nothing unless it is complete.
     pub file: &'a [u8],
 }
+
+/// What FragSessionStatusAns says of a session (TS004-1.0.0).
+#[derive(Clone, Copy, Debug, PartialEq, Eq)]
+pub struct StatusAns {
+    /// NbFragReceived: fragments heard, repeats included, at most 16,383.
+    pub received: u16,
+    /// MissingFrag: pieces still to be gained, at most 255.
+    pub missing: u8,
+    /// Not enough matrix memory: there were more independent coded fragments than rows.
+    pub norows: bool,
+    /// BlockAckDelay of the setup, for answers to a request by multicast.
+    pub delay: u8,
+}

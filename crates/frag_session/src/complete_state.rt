@@ -1,6 +1,6 @@
 //! A session whose file is whole.
 
-ghost use Rattle.std.specs.Prelude.{◌≡◌};
+ghost use Rattle.std.specs.Prelude.{◌≡◌, ◌*◌, ◌<◌, ◌≤◌, length};
 ghost use Rattle.frag_session.specs.Held.{one_more};
 ghost use Rattle.frag_session.specs.Shows.{done_seen, seen};
 
@@ -8,45 +8,60 @@ use crate::answers::{Verdict, View};
 use crate::idle_state::Idle;
 use crate::receiving_state::one_more;
 use crate::setups::SetupReq;
-use crate::storage::Storage;
+use row_elimination::{Solver, Stage};
 use std::marker::Model;
 
 /// A session whose fragments fit one file alone.
 #[derive(Drop)]
-pub struct Complete {
-    pub(crate) storage: Storage,
-    pub(crate) setup: SetupReq,
-    pub(crate) rows: u16,
-    pub(crate) received: u16,
-    pub(crate) mark: u64,
+pub struct Complete<const W: usize, const B: usize> {
+    solver: Solver<W, B>,
+    setup: SetupReq,
+    received: u16,
+    mark: u64,
 }
 
-impl Model for Complete {
-    ghost use Rattle.std.specs.Prelude.{◌*◌, length, take};
+impl<const W: usize, const B: usize> Model for Complete<W, B> {
     ghost use Rattle.frag_session.specs.Held.{Done};
-    ghost use Rattle.frag_session.specs.Inside.{IsDecided};
+    ghost use Rattle.frag_session.specs.Inside.{IsComplete};
 
     ghost Value = { Done };
 
-    ghost view = { λ c. record {
-      setup = c.setup;
-      rows = c.rows;
-      received = c.received;
-      mark = c.mark;
-      content = take (c.setup.nb_frag * c.setup.frag_size) c.storage.bytes.items;
-      area = length c.storage.bytes.items;
-    } };
+    ghost view = { λ c. record { setup = c.setup; received = c.received; mark = c.mark; solver = c.solver } };
 
-    ghost invariant = { λ c. IsDecided c.storage.bytes.items c.storage.came.items c.setup c.received };
+    ghost invariant = { λ c. IsComplete c.solver c.setup c.received };
 }
 
-impl Complete {
-    /// Ends the session.
-    pub fn delete(self) -> Idle
-        ensures { result ≡ self.area }
+impl<const W: usize, const B: usize> Complete<W, B> {
+    /// A session that was decided at the mark.
+    pub(crate) fn decided(
+        solver: Solver<W, B>,
+        setup: SetupReq,
+        received: u16,
+        mark: u64,
+    ) -> Complete<W, B>
+        requires some { 1 ≤ setup.nb_frag }
+        requires nb_frag { solver.shape.nb_frag ≡ setup.nb_frag }
+        requires frag_size { solver.shape.frag_size ≡ setup.frag_size }
+        requires short { setup.padding < setup.frag_size }
+        requires counted { received ≤ 16383 }
+        requires stage { solver.stage ≡ Stage.Complete }
+        requires sized { length solver.content ≡ setup.nb_frag * setup.frag_size }
+        ensures { result ≡ record { setup = setup; received = received; mark = mark; solver = solver.entry } }
     {
-        let Complete { storage, .. } = self;
-        Idle { storage }
+        Complete {
+            solver,
+            setup,
+            received,
+            mark,
+        }
+    }
+
+    /// Ends the session.
+    pub fn delete(self) -> Idle<W, B>
+        ensures { result ≡ self.entry.solver.area }
+    {
+        let Complete { solver, .. } = self;
+        Idle { solver }
     }
 
     pub(crate) fn setup(&self) -> SetupReq
@@ -55,10 +70,11 @@ impl Complete {
         self.setup
     }
 
-    pub(crate) fn area(&self) -> u32
-        ensures { result ≡ self.now.area }
+    /// The solver that is kept.
+    pub(crate) fn solver(&self) -> &Solver<W, B>
+        ensures { result.now ≡ self.now.solver }
     {
-        self.storage.bytes.len() as u32
+        &self.solver
     }
 
     /// Counts one fragment more.
@@ -72,13 +88,14 @@ impl Complete {
     pub(crate) fn view(&self) -> View<'_>
         ensures { seen result ≡ done_seen self.now }
     {
-        let length = self.setup.nb_frag as usize * self.setup.frag_size as usize
-            - self.setup.padding as usize;
+        let block = self.solver.block();
         View {
             received: self.received,
             missing: 0,
             verdict: Verdict::Complete(self.mark),
-            file: &self.storage.bytes[..length],
+            file: block
+                .split_at(block.len() - self.setup.padding as usize)
+                .0,
         }
     }
 }

@@ -1,6 +1,7 @@
 //! A session whose fragments contradict one another.
 
-ghost use Rattle.std.specs.Prelude.{◌≡◌};
+ghost use Rattle.std.specs.Prelude.{◌≡◌, ◌≤◌};
+ghost use Rattle.row_elimination.specs.Held.{missing_of};
 ghost use Rattle.frag_session.specs.Held.{one_more};
 ghost use Rattle.frag_session.specs.Shows.{failed_seen, seen};
 
@@ -8,46 +9,57 @@ use crate::answers::{Verdict, View};
 use crate::idle_state::Idle;
 use crate::receiving_state::one_more;
 use crate::setups::SetupReq;
-use crate::storage::Storage;
+use row_elimination::Solver;
 use std::marker::Model;
 
 /// A session whose fragments fit no file.
 #[derive(Drop)]
-pub struct Conflicted {
-    pub(crate) storage: Storage,
-    pub(crate) setup: SetupReq,
-    pub(crate) rows: u16,
-    pub(crate) received: u16,
-    pub(crate) missing: u16,
-    pub(crate) mark: u64,
+pub struct Conflicted<const W: usize, const B: usize> {
+    solver: Solver<W, B>,
+    setup: SetupReq,
+    received: u16,
+    missing: u16,
+    mark: u64,
 }
 
-impl Model for Conflicted {
-    ghost use Rattle.std.specs.Prelude.{length};
+impl<const W: usize, const B: usize> Model for Conflicted<W, B> {
+    ghost use Rattle.std.specs.Prelude.{◌≤◌};
     ghost use Rattle.frag_session.specs.Held.{Failed};
-    ghost use Rattle.frag_session.specs.Inside.{IsDecided};
 
     ghost Value = { Failed };
 
-    ghost view = { λ c. record {
-      setup = c.setup;
-      rows = c.rows;
-      received = c.received;
-      missing = c.missing;
-      mark = c.mark;
-      area = length c.storage.bytes.items;
-    } };
+    ghost view = { λ c. record { setup = c.setup; received = c.received; missing = c.missing; mark = c.mark; solver = c.solver } };
 
-    ghost invariant = { λ c. IsDecided c.storage.bytes.items c.storage.came.items c.setup c.received };
+    ghost invariant = { λ c. c.received ≤ 16383 };
 }
 
-impl Conflicted {
-    /// Ends the session.
-    pub fn delete(self) -> Idle
-        ensures { result ≡ self.area }
+impl<const W: usize, const B: usize> Conflicted<W, B> {
+    /// A session that was decided at the mark; what is missing is what the solver lacks.
+    pub(crate) fn decided(
+        solver: Solver<W, B>,
+        setup: SetupReq,
+        received: u16,
+        mark: u64,
+    ) -> Conflicted<W, B>
+        requires { received ≤ 16383 }
+        ensures { result ≡ record { setup = setup; received = received; missing = missing_of solver.entry; mark = mark; solver = solver.entry } }
     {
-        let Conflicted { storage, .. } = self;
-        Idle { storage }
+        let missing = solver.missing();
+        Conflicted {
+            solver,
+            setup,
+            received,
+            missing,
+            mark,
+        }
+    }
+
+    /// Ends the session.
+    pub fn delete(self) -> Idle<W, B>
+        ensures { result ≡ self.entry.solver.area }
+    {
+        let Conflicted { solver, .. } = self;
+        Idle { solver }
     }
 
     pub(crate) fn setup(&self) -> SetupReq
@@ -56,10 +68,11 @@ impl Conflicted {
         self.setup
     }
 
-    pub(crate) fn area(&self) -> u32
-        ensures { result ≡ self.now.area }
+    /// The solver that is kept.
+    pub(crate) fn solver(&self) -> &Solver<W, B>
+        ensures { result.now ≡ self.now.solver }
     {
-        self.storage.bytes.len() as u32
+        &self.solver
     }
 
     /// Counts one fragment more.
@@ -77,7 +90,7 @@ impl Conflicted {
             received: self.received,
             missing: self.missing,
             verdict: Verdict::Conflict(self.mark),
-            file: &self.storage.bytes[..0],
+            file: &[],
         }
     }
 }

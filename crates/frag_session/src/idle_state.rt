@@ -1,74 +1,59 @@
-//! A slot's storage while no session lives.
+//! A slot's memory while no session lives.
 
 ghost use Rattle.std.specs.Prelude.{◌≡◌, ◌<◌, MatchResult, IfOk};
-ghost use Rattle.frag_session.specs.Setup.{setup_bits};
+ghost use Rattle.frag_session.specs.Setup.{Room, setup_bits};
 ghost use Rattle.frag_session.specs.Session.{new_session};
-ghost use Rattle.frag_session.specs.Held.{begun};
 ghost use Rattle.frag_session.specs.Stands.{Holds};
 
 use crate::receiving_state::Receiving;
-use crate::setups::{Limits, MAX_PIECES, SetupReq, refusal};
-use crate::storage::Storage;
-use std::alloc::Global;
+use crate::setups::{Limits, SetupReq, refusal, rows_of};
+use row_elimination::{NoRoom, Solver};
 use std::marker::Model;
 
-/// There was not enough memory.
-#[derive(Clone, Copy, Debug, PartialEq, Eq)]
-pub struct Memory;
-
-/// No session: the storage for one. A contract sees how many bytes it has.
+/// No session: the solver for one. A contract sees how many bytes its file area has.
 #[derive(Drop)]
-pub struct Idle {
-    pub(crate) storage: Storage,
+pub struct Idle<const W: usize, const B: usize> {
+    pub(crate) solver: Solver<W, B>,
 }
 
-impl Model for Idle {
-    ghost use Rattle.std.specs.Prelude.{ℕ, length};
-    ghost use Rattle.frag_session.specs.Inside.{IsStorage};
+impl<const W: usize, const B: usize> Model for Idle<W, B> {
+    ghost use Rattle.std.specs.Prelude.{ℕ};
 
     ghost Value = { ℕ };
 
-    ghost view = { λ i. length i.storage.bytes.items };
-
-    ghost invariant = { λ i. IsStorage i.storage.bytes.items i.storage.came.items };
+    ghost view = { λ i. i.solver.area };
 }
 
-impl Idle {
-    /// Takes the memory for files of up to `area` bytes.
-    pub fn reserve(alloc: Global, area: u32) -> Result<Idle, Memory>
-        ensures { IfOk result (λ idle. idle ≡ area) }
+impl<const W: usize, const B: usize> Idle<W, B> {
+    /// A place for sessions in the memory of a solver.
+    pub fn new(solver: Solver<W, B>) -> Idle<W, B>
+        ensures { result ≡ solver.entry.area }
     {
-        let Ok(bytes) = vec![in alloc; 0u8; area as usize] else {
-            return Err(Memory);
-        };
-        let Ok(came) = vec![in alloc; false; MAX_PIECES as usize] else {
-            return Err(Memory);
-        };
-        Ok(Idle {
-            storage: Storage { bytes, came },
-        })
+        Idle { solver }
     }
 
-    /// Begins a session with nothing heard, or gives the storage back with the refusal bits.
-    pub fn setup(self, req: SetupReq, limits: Limits) -> Result<Receiving, (Idle, u8)>
+    /// Begins a session with nothing heard, or gives the memory back with the refusal bits.
+    pub fn setup(self, req: SetupReq, limits: Limits) -> Result<Receiving<W, B>, (Idle<W, B>, u8)>
         ensures value { MatchResult result
-            (λ session. (setup_bits limits self req ≡ 0) × (session ≡ begun self limits req))
-            (λ refused. (refused.0 ≡ self) × (refused.1 ≡ setup_bits limits self req) × (0 < refused.1)) }
+            (λ session. (setup_bits limits (record { words = W; bytes = B; area = self.entry }) req ≡ 0) × (session.solver.area ≡ self.entry))
+            (λ refused. (refused.0 ≡ self.entry) × (refused.1 ≡ setup_bits limits (record { words = W; bytes = B; area = self.entry }) req) × (0 < refused.1)) }
         ensures stands { IfOk result (λ session. Holds session (new_session limits req)) }
     {
-        let bits = refusal(self.area(), req, limits);
+        let bits = refusal(&self.solver, req, limits);
         if bits != 0 {
             return Err((self, bits));
         }
-        let Idle { mut storage } = self;
-        storage.came.fill(false);
-        Ok(Receiving::begin(storage, req, limits.rows.min(req.nb_frag)))
+        let Idle { mut solver } = self;
+        match solver.begin(req.nb_frag, req.frag_size, req.padding, rows_of(limits.rows, req)) {
+            Ok(()) => Ok(Receiving::begin(solver, req)),
+            Err(NoRoom) => Err((Idle { solver }, 2)),
+        }
     }
 
-    /// The bytes of the file area.
-    pub fn area(&self) -> u32
-        ensures { result ≡ self.now }
+    /// The solver that is kept.
+    pub(crate) fn solver(&self) -> &Solver<W, B>
+        ensures { result.now.area ≡ self.now }
     {
-        self.storage.bytes.len() as u32
+        &self.solver
     }
 }

@@ -1,142 +1,101 @@
 //! A session whose file is not decided.
 
-ghost use Rattle.std.specs.Prelude.{◌≡◌, ◌≤◌, length, replicate, false, None, Some};
-ghost use Rattle.frag_session.specs.Inside.{IsRoom};
+ghost use Rattle.std.specs.Prelude.{◌≡◌, ◌+◌, ◌<◌, ◌≤◌, length};
+ghost use Rattle.row_elimination.specs.Held.{IsBegun};
 ghost use Rattle.frag_session.specs.Held.{one_more};
 ghost use Rattle.frag_session.specs.Session.{Session, followed};
 ghost use Rattle.frag_session.specs.Stands.{Holds, Stands};
-ghost use Rattle.frag_session.specs.Steps.{next_of, state_of};
+ghost use Rattle.frag_session.specs.Steps.{area_of, become};
 ghost use Rattle.frag_session.specs.Shows.{receiving_seen, seen};
 
 use crate::answers::{Verdict, View};
 use crate::complete_state::Complete;
 use crate::conflicted_state::Conflicted;
 use crate::idle_state::Idle;
+use crate::overflowed_state::Overflowed;
 use crate::setups::SetupReq;
-use crate::storage::{Storage, Told};
+use row_elimination::{Fed, Solver};
 use std::marker::Model;
 
 /// NbFragReceived has 14 bits, and stays at their end.
 pub const MAX_RECEIVED: u16 = 16383;
 
-/// A session that hears fragments. A contract sees its setup and the pieces that came.
+/// A session that hears fragments. A contract sees its setup and what its solver holds.
 #[derive(Drop)]
-pub struct Receiving {
-    storage: Storage,
+pub struct Receiving<const W: usize, const B: usize> {
+    solver: Solver<W, B>,
     setup: SetupReq,
-    rows: u16,
     received: u16,
-    known: u16,
 }
 
-impl Model for Receiving {
-    ghost use Rattle.std.specs.Prelude.{length, take};
-    ghost use Rattle.frag_session.specs.Held.{Held, pieces_in};
+impl<const W: usize, const B: usize> Model for Receiving<W, B> {
+    ghost use Rattle.frag_session.specs.Held.{Held};
     ghost use Rattle.frag_session.specs.Inside.{IsReceiving};
 
     ghost Value = { Held };
 
-    ghost view = { λ r. record {
-      setup = r.setup;
-      rows = r.rows;
-      pieces = pieces_in r.setup.frag_size r.storage.bytes.items (take r.setup.nb_frag r.storage.came.items);
-      received = r.received;
-      area = length r.storage.bytes.items;
-    } };
+    ghost view = { λ r. record { setup = r.setup; received = r.received; solver = r.solver } };
 
-    ghost invariant = { λ r. IsReceiving r.storage.bytes.items r.storage.came.items r.setup r.received r.known };
+    ghost invariant = { λ r. IsReceiving r.solver r.setup r.received };
 }
 
 /// What a session is after one more fragment.
 #[derive(Drop)]
-pub enum Next {
-    Receiving(Receiving),
-    Complete(Complete),
-    Conflicted(Conflicted),
+pub enum Next<const W: usize, const B: usize> {
+    Receiving(Receiving<W, B>),
+    Complete(Complete<W, B>),
+    Overflowed(Overflowed<W, B>),
+    Conflicted(Conflicted<W, B>),
 }
 
-impl Receiving {
-    /// A session that heard nothing.
-    pub(crate) fn begin(storage: Storage, setup: SetupReq, rows: u16) -> Receiving
-        requires lies { IsRoom storage.bytes.items storage.came.items setup }
-        requires none { storage.came.items ≡ replicate 1024 false }
-        ensures { result ≡ record { setup = setup; rows = rows; pieces = replicate setup.nb_frag None; received = 0; area = length storage.bytes.items } }
+impl<const W: usize, const B: usize> Receiving<W, B> {
+    /// A session that heard nothing, over a solver that has just begun.
+    pub(crate) fn begin(solver: Solver<W, B>, setup: SetupReq) -> Receiving<W, B>
+        requires begun { IsBegun solver }
+        requires nb_frag { solver.shape.nb_frag ≡ setup.nb_frag }
+        requires frag_size { solver.shape.frag_size ≡ setup.frag_size }
+        requires short { setup.padding < setup.frag_size }
+        ensures { result ≡ record { setup = setup; received = 0; solver = solver.entry } }
     {
         Receiving {
-            storage,
+            solver,
             setup,
-            rows,
             received: 0,
-            known: 0,
         }
     }
 
-    /// Hears fragment `n`, at the mark: it stands for what it stood for, followed by the fragment.
-    pub fn feed(self, n: u16, part: &[u8], mark: u64) -> Next
+    /// Hears fragment `n` (1 to NbFrag + 8,380), at the mark: it stands for what it stood for, followed by the fragment.
+    pub fn feed(self, n: u16, part: &[u8], mark: u64) -> Next<W, B>
         requires first { 1 ≤ n }
-        requires last { n ≤ self.setup.nb_frag }
+        requires last { n ≤ self.setup.nb_frag + 8380 }
         requires sized { length part.now ≡ self.setup.frag_size }
-        ensures value { result ≡ next_of self n part.now mark }
-        ensures stands { (s : Session) → Holds self s → Stands (state_of result) (Some (followed s n part.now mark)) }
-    {
-        self.hear(n, part, mark)
-    }
-
-    /// Hears fragment `n`, by what it tells of its piece.
-    fn hear(self, n: u16, part: &[u8], mark: u64) -> Next
-        requires first { 1 ≤ n }
-        requires last { n ≤ self.setup.nb_frag }
-        requires sized { length part.now ≡ self.setup.frag_size }
-        ensures { result ≡ next_of self n part.now mark }
+        ensures stands { (s : Session) → Holds self.entry s → Stands (become result) (Some (followed s n part.now mark)) }
+        ensures area { area_of (become result) ≡ self.entry.solver.area }
     {
         let Receiving {
-            mut storage,
+            mut solver,
             setup,
-            rows,
             received,
-            known,
         } = self;
-        let told = storage.learn(setup.nb_frag as usize, n as usize - 1, part);
         let received = one_more(received);
-        match told {
-            Told::Same => Next::Receiving(Receiving {
-                storage,
+        match solver.feed(n, part) {
+            Fed::Receiving => Next::Receiving(Receiving {
+                solver,
                 setup,
-                rows,
                 received,
-                known,
             }),
-            Told::Other => Next::Conflicted(Conflicted {
-                storage,
-                setup,
-                rows,
-                received,
-                missing: setup.nb_frag - known,
-                mark,
-            }),
-            Told::New if known + 1 < setup.nb_frag => Next::Receiving(Receiving {
-                storage,
-                setup,
-                rows,
-                received,
-                known: known + 1,
-            }),
-            Told::New => Next::Complete(Complete {
-                storage,
-                setup,
-                rows,
-                received,
-                mark,
-            }),
+            Fed::Complete => Next::Complete(Complete::decided(solver, setup, received, mark)),
+            Fed::NoRows => Next::Overflowed(Overflowed::decided(solver, setup, received, mark)),
+            Fed::Conflict => Next::Conflicted(Conflicted::decided(solver, setup, received, mark)),
         }
     }
 
     /// Ends the session.
-    pub fn delete(self) -> Idle
-        ensures { result ≡ self.area }
+    pub fn delete(self) -> Idle<W, B>
+        ensures { result ≡ self.entry.solver.area }
     {
-        let Receiving { storage, .. } = self;
-        Idle { storage }
+        let Receiving { solver, .. } = self;
+        Idle { solver }
     }
 
     pub(crate) fn setup(&self) -> SetupReq
@@ -145,10 +104,11 @@ impl Receiving {
         self.setup
     }
 
-    pub(crate) fn area(&self) -> u32
-        ensures { result ≡ self.now.area }
+    /// The solver that is kept.
+    pub(crate) fn solver(&self) -> &Solver<W, B>
+        ensures { result.now ≡ self.now.solver }
     {
-        self.storage.bytes.len() as u32
+        &self.solver
     }
 
     #[tactic(auto, unfolding(crate::specs::Shows::seen, crate::specs::Shows::receiving_seen))]
@@ -157,9 +117,9 @@ impl Receiving {
     {
         View {
             received: self.received,
-            missing: self.setup.nb_frag - self.known,
+            missing: self.solver.missing(),
             verdict: Verdict::Receiving,
-            file: &self.storage.bytes[..0],
+            file: &[],
         }
     }
 }

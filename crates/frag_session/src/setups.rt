@@ -1,7 +1,9 @@
 //! What a session's setup asks for, and when it is refused.
 
 ghost use Rattle.std.specs.Prelude.{◌≡◌, ◌≤◌, nat_le};
-ghost use Rattle.frag_session.specs.Setup.{wrong_coding, too_large, other_descriptor, bit_where, setup_bits, lives};
+ghost use Rattle.frag_session.specs.Setup.{Room, rows_of, wrong_coding, too_large, other_descriptor, bit_where, setup_bits, lives};
+
+use row_elimination::Solver;
 
 /// The most pieces of a file (this project's profile).
 pub const MAX_PIECES: u16 = 1024;
@@ -41,16 +43,28 @@ pub struct Limits {
     pub descriptor: Option<u32>,
 }
 
-/// All refusal bits of a setup, in a file area of `area` bytes; 0 where it is accepted.
+/// All refusal bits of a setup over the room that a solver has; 0 where it is accepted.
 #[tactic(auto, unfolding(crate::specs::Setup::setup_bits))]
-pub fn refusal(area: u32, req: SetupReq, limits: Limits) -> u8
-    ensures { result ≡ setup_bits limits area req }
+pub fn refusal<const W: usize, const B: usize>(
+    solver: &Solver<W, B>,
+    req: SetupReq,
+    limits: Limits,
+) -> u8
+    ensures { result ≡ setup_bits limits (record { words = W; bytes = B; area = solver.now.area }) req }
 {
     let coding = bit(has_wrong_coding(req), 1);
-    let size = bit(is_too_large(area, req), 2);
+    let size = bit(is_too_large(solver, req, limits.rows), 2);
     let index = bit(req.index >= limits.sessions, 4);
     let descriptor = bit(has_other_descriptor(limits.descriptor, req.descriptor), 8);
     coding + size + index + descriptor
+}
+
+/// The rows of a session: as many as are kept, and no more than there are pieces.
+pub fn rows_of(rows: u16, req: SetupReq) -> u16
+    ensures value { result ≡ rows_of rows req }
+    ensures few { result ≤ req.nb_frag }
+{
+    rows.min(req.nb_frag)
 }
 
 #[tactic(auto, unfolding(crate::specs::Setup::lives, crate::specs::Setup::same_setup))]
@@ -72,12 +86,16 @@ fn has_wrong_coding(req: SetupReq) -> bool
 }
 
 #[tactic(auto, unfolding(crate::specs::Setup::too_large))]
-fn is_too_large(area: u32, req: SetupReq) -> bool
-    ensures { result ≡ too_large area req }
+fn is_too_large<const W: usize, const B: usize>(
+    solver: &Solver<W, B>,
+    req: SetupReq,
+    rows: u16,
+) -> bool
+    ensures { result ≡ too_large (record { words = W; bytes = B; area = solver.now.area }) rows req }
 {
     req.nb_frag > MAX_PIECES
         || req.frag_size > MAX_FRAGMENT
-        || req.nb_frag as u32 * req.frag_size as u32 > area
+        || !solver.fits(req.nb_frag, req.frag_size, rows_of(rows, req))
 }
 
 #[tactic(auto, unfolding(crate::specs::Setup::other_descriptor))]

@@ -1,53 +1,59 @@
 //! A place for one session, in whatever state it is.
 
-ghost use Rattle.std.specs.Prelude.{◌≡◌, ◌<◌, ◌≢◌, Option, None, Some, length, option_map};
-ghost use Rattle.frag_session.specs.Setup.{setup_bits, lives};
-ghost use Rattle.frag_session.specs.Session.{Session, excludes, cause_of, drop_cause, answer_of, after_setup, after_fragment, view_of};
-ghost use Rattle.frag_session.specs.Held.{begun};
-ghost use Rattle.frag_session.specs.Steps.{area_of, session_setup, slot_cause, CanHear, fed, slot_seen};
+ghost use Rattle.std.specs.Prelude.{◌≡◌, ◌<◌, ◌≢◌, Option, None, Some, is_some, length, option_map};
+ghost use Rattle.frag_session.specs.Setup.{Room, setup_bits, lives};
+ghost use Rattle.frag_session.specs.Session.{Session, new_session, followed, excludes, cause_of, drop_cause, answer_of, after_setup, after_fragment, view_of, status_by, status_in, status_of, is_overflow};
+ghost use Rattle.frag_session.specs.Held.{idle};
+ghost use Rattle.frag_session.specs.Steps.{area_of, session_setup, slot_cause, kept, become, CanHear, slot_seen};
 ghost use Rattle.frag_session.specs.Shows.{seen};
 ghost use Rattle.frag_session.specs.Stands.{Stands};
 
-use crate::answers::{Cause, Heard, Via, View};
+use crate::answers::{Cause, Heard, StatusAns, Verdict, Via, View};
 use crate::complete_state::Complete;
 use crate::conflicted_state::Conflicted;
 use crate::idle_state::Idle;
+use crate::overflowed_state::Overflowed;
 use crate::receiving_state::{Next, Receiving};
 use crate::setups::{Limits, SetupReq, lives, refusal};
 use std::marker::Model;
 
+/// The highest parity index: a coded fragment is at most so far above the last piece (this project's profile).
+const MAX_PARITY_INDEX: u32 = 8380;
+
 /// What a slot holds.
 #[derive(Drop)]
-pub enum State {
-    Idle(Idle),
-    Receiving(Receiving),
-    Complete(Complete),
-    Conflicted(Conflicted),
+pub enum State<const W: usize, const B: usize> {
+    Idle(Idle<W, B>),
+    Receiving(Receiving<W, B>),
+    Complete(Complete<W, B>),
+    Overflowed(Overflowed<W, B>),
+    Conflicted(Conflicted<W, B>),
 }
 
 /// A place for one session. It stands for the session's setup and all fragments that it heard.
 #[derive(Drop)]
-pub struct Slot {
-    state: Option<State>,
+pub struct Slot<const W: usize, const B: usize> {
+    state: Option<State<W, B>>,
 }
 
-impl Model for Slot {
-    ghost use Rattle.std.specs.Prelude.{◌≡◌, true, is_some, unwrap_or};
-    ghost use Rattle.frag_session.specs.declared.slots.State.{State};
+impl<const W: usize, const B: usize> Model for Slot<W, B> {
+    ghost use Rattle.std.specs.Prelude.{◌≡◌, true, is_some};
+    ghost use Rattle.frag_session.specs.Held.{Kept};
+    ghost use Rattle.frag_session.specs.Steps.{kept_by};
 
-    ghost Value = { State };
+    ghost Value = { Kept };
 
-    ghost view = { λ s. unwrap_or s.state (State.Idle 0) };
+    ghost view = { λ s. kept_by s.state };
 
     ghost invariant = { λ s. is_some s.state ≡ true };
 }
 
-impl Slot {
+impl<const W: usize, const B: usize> Slot<W, B> {
     /// A slot without a session.
     #[tactic(auto, unfolding(crate::specs::Stands::Stands, crate::specs::Steps::area_of))]
-    pub fn new(idle: Idle) -> Slot
+    pub fn new(idle: Idle<W, B>) -> Slot<W, B>
         ensures stands { Stands result None }
-        ensures area { area_of result ≡ idle }
+        ensures area { area_of result ≡ idle.entry }
     {
         Slot {
             state: Some(State::Idle(idle)),
@@ -57,12 +63,12 @@ impl Slot {
     /// Answers FragSessionSetupReq with all refusal bits. Where there is none, a session that was made of
     /// an equal request stays, and any other gives way to a new one.
     pub fn setup(&mut self, req: SetupReq, limits: Limits) -> u8
-        ensures bits { result ≡ setup_bits limits (area_of self.old) req }
-        ensures stands { (s : Option Session) → Stands self.old s → Stands self.new (after_setup limits (area_of self.old) s req) }
+        ensures bits { result ≡ setup_bits limits (record { words = W; bytes = B; area = area_of self.old }) req }
+        ensures stands { (s : Option Session) → Stands self.old s → Stands self.new (after_setup limits (record { words = W; bytes = B; area = area_of self.old }) s req) }
         ensures refused { result ≢ 0 → self.new ≡ self.old }
         ensures area { area_of self.new ≡ area_of self.old }
     {
-        let bits = refusal(self.area(), req, limits);
+        let bits = self.refusal(req, limits);
         if bits == 0 && !lives(self.session(), req) {
             self.renew(req, limits);
         }
@@ -92,23 +98,56 @@ impl Slot {
         self.shown()
     }
 
-    /// Puts a new session in the place of whatever lived.
-    fn renew(&mut self, req: SetupReq, limits: Limits)
-        requires { setup_bits limits (area_of self.old) req ≡ 0 }
-        ensures { self.new ≡ State.Receiving (begun (area_of self.old) limits req) }
+    /// The answer to FragSessionStatusReq; None where there is no session, it came by a group that the session's mask does
+    /// not have, or it does not ask `all` and no piece is missing.
+    pub fn status(&self, via: Via, all: bool) -> Option<StatusAns>
+        ensures { (s : Option Session) → Stands self.now s → result ≡ status_of s via all }
+    {
+        match self.shown() {
+            None => None,
+            Some(view) => match self.session() {
+                None => None,
+                Some(setup) => status_in(setup, &view, via, all),
+            },
+        }
+    }
+
+    /// Ends the session; false exactly where there is none.
+    pub fn delete(&mut self) -> bool
+        ensures answer { (s : Option Session) → Stands self.old s → result ≡ is_some s }
+        ensures stands { Stands self.new None }
+        ensures area { area_of self.new ≡ area_of self.old }
+    {
+        let lived = self.session().is_some();
+        self.end();
+        lived
+    }
+
+    /// Ends the session, if there is one.
+    fn end(&mut self)
+        ensures { self.new ≡ idle (area_of self.old) }
     {
         if let Some(state) = self.state.take() {
-            self.state = Some(match cleared(state).setup(req, limits) {
-                Ok(receiving) => State::Receiving(receiving),
-                Err((idle, _)) => State::Idle(idle),
-            });
+            self.state = Some(ended(state));
+        }
+    }
+
+    /// Puts a new session in the place of whatever lived.
+    fn renew(&mut self, req: SetupReq, limits: Limits)
+        requires { setup_bits limits (record { words = W; bytes = B; area = area_of self.old }) req ≡ 0 }
+        ensures stands { Stands self.new (Some (new_session limits req)) }
+        ensures area { area_of self.new ≡ area_of self.old }
+    {
+        if let Some(state) = self.state.take() {
+            self.state = Some(renewed(state, req, limits));
         }
     }
 
     /// Hears a fragment that is not dropped.
     fn hear(&mut self, n: u16, part: &[u8], mark: u64)
         requires { CanHear self.old n part.now }
-        ensures { self.new ≡ fed self.old n part.now mark }
+        ensures stands { (s : Session) → Stands self.old (Some s) → Stands self.new (Some (followed s n part.now mark)) }
+        ensures area { area_of self.new ≡ area_of self.old }
     {
         if let Some(state) = self.state.take() {
             self.state = Some(fed(state, n, part, mark));
@@ -123,21 +162,23 @@ impl Slot {
         match &self.state {
             Some(State::Receiving(receiving)) => Some(receiving.view()),
             Some(State::Complete(complete)) => Some(complete.view()),
+            Some(State::Overflowed(overflowed)) => Some(overflowed.view()),
             Some(State::Conflicted(conflicted)) => Some(conflicted.view()),
             _ => None,
         }
     }
 
-    /// The bytes of the file area.
+    /// All refusal bits of a setup.
     #[tactic(auto, unfolding(crate::specs::Steps::area_of))]
-    fn area(&self) -> u32
-        ensures { result ≡ area_of self.now }
+    fn refusal(&self, req: SetupReq, limits: Limits) -> u8
+        ensures { result ≡ setup_bits limits (record { words = W; bytes = B; area = area_of self.now }) req }
     {
         match &self.state {
-            Some(State::Idle(idle)) => idle.area(),
-            Some(State::Receiving(receiving)) => receiving.area(),
-            Some(State::Complete(complete)) => complete.area(),
-            Some(State::Conflicted(conflicted)) => conflicted.area(),
+            Some(State::Idle(idle)) => refusal(idle.solver(), req, limits),
+            Some(State::Receiving(receiving)) => refusal(receiving.solver(), req, limits),
+            Some(State::Complete(complete)) => refusal(complete.solver(), req, limits),
+            Some(State::Overflowed(overflowed)) => refusal(overflowed.solver(), req, limits),
+            Some(State::Conflicted(conflicted)) => refusal(conflicted.solver(), req, limits),
             None => 0,
         }
     }
@@ -150,22 +191,48 @@ impl Slot {
         match &self.state {
             Some(State::Receiving(receiving)) => Some(receiving.setup()),
             Some(State::Complete(complete)) => Some(complete.setup()),
+            Some(State::Overflowed(overflowed)) => Some(overflowed.setup()),
             Some(State::Conflicted(conflicted)) => Some(conflicted.setup()),
             _ => None,
         }
     }
 }
 
-/// The storage of whatever lived.
+/// The memory of whatever lived.
 #[tactic(auto, unfolding(crate::specs::Steps::area_of))]
-fn cleared(state: State) -> Idle
-    ensures { result ≡ area_of state }
+fn cleared<const W: usize, const B: usize>(state: State<W, B>) -> Idle<W, B>
+    ensures { result ≡ area_of (kept state.entry) }
 {
     match state {
         State::Idle(idle) => idle,
         State::Receiving(receiving) => receiving.delete(),
         State::Complete(complete) => complete.delete(),
+        State::Overflowed(overflowed) => overflowed.delete(),
         State::Conflicted(conflicted) => conflicted.delete(),
+    }
+}
+
+/// The state without a session.
+#[tactic(auto, unfolding(crate::specs::Steps::area_of))]
+fn ended<const W: usize, const B: usize>(state: State<W, B>) -> State<W, B>
+    ensures { kept result ≡ idle (area_of (kept state.entry)) }
+{
+    State::Idle(cleared(state))
+}
+
+/// The state with a new session in the place of whatever lived.
+fn renewed<const W: usize, const B: usize>(
+    state: State<W, B>,
+    req: SetupReq,
+    limits: Limits,
+) -> State<W, B>
+    requires { setup_bits limits (record { words = W; bytes = B; area = area_of (kept state) }) req ≡ 0 }
+    ensures stands { Stands (kept result) (Some (new_session limits req)) }
+    ensures area { area_of (kept result) ≡ area_of (kept state.entry) }
+{
+    match cleared(state).setup(req, limits) {
+        Ok(receiving) => State::Receiving(receiving),
+        Err((idle, _)) => State::Idle(idle),
     }
 }
 
@@ -187,7 +254,7 @@ fn cause(setup: SetupReq, via: Via, n: u16, part: &[u8]) -> Option<Cause>
 {
     if excludes(setup.mask, via) {
         Some(Cause::Group)
-    } else if n == 0 || n > setup.nb_frag {
+    } else if n == 0 || u32::from(n) > u32::from(setup.nb_frag) + MAX_PARITY_INDEX {
         Some(Cause::Index)
     } else if part.len() != setup.frag_size as usize {
         Some(Cause::Size)
@@ -208,21 +275,26 @@ fn excludes(mask: u8, via: Via) -> bool
 }
 
 /// The state after a fragment that is heard.
-#[tactic(auto, unfolding(crate::specs::Steps::fed, crate::specs::Steps::state_of, crate::specs::Steps::CanHear))]
-fn fed(state: State, n: u16, part: &[u8], mark: u64) -> State
-    requires { CanHear state n part.now }
-    ensures { result ≡ fed state n part.now mark }
+fn fed<const W: usize, const B: usize>(
+    state: State<W, B>,
+    n: u16,
+    part: &[u8],
+    mark: u64,
+) -> State<W, B>
+    requires { CanHear (kept state) n part.now }
+    ensures stands { (s : Session) → Stands (kept state.entry) (Some s) → Stands (kept result) (Some (followed s n part.now mark)) }
+    ensures area { area_of (kept result) ≡ area_of (kept state.entry) }
 {
     match state {
         State::Idle(idle) => State::Idle(idle),
-        State::Receiving(receiving) => match receiving.feed(n, part, mark) {
-            Next::Receiving(receiving) => State::Receiving(receiving),
-            Next::Complete(complete) => State::Complete(complete),
-            Next::Conflicted(conflicted) => State::Conflicted(conflicted),
-        },
+        State::Receiving(receiving) => state_of(receiving.feed(n, part, mark)),
         State::Complete(mut complete) => {
             complete.count();
             State::Complete(complete)
+        }
+        State::Overflowed(mut overflowed) => {
+            overflowed.count();
+            State::Overflowed(overflowed)
         }
         State::Conflicted(mut conflicted) => {
             conflicted.count();
@@ -231,5 +303,51 @@ fn fed(state: State, n: u16, part: &[u8], mark: u64) -> State
     }
 }
 
-#[cfg(test)]
-mod tests;
+/// The state that a session has become.
+fn state_of<const W: usize, const B: usize>(next: Next<W, B>) -> State<W, B>
+    ensures { kept result ≡ become next.entry }
+{
+    match next {
+        Next::Receiving(receiving) => State::Receiving(receiving),
+        Next::Complete(complete) => State::Complete(complete),
+        Next::Overflowed(overflowed) => State::Overflowed(overflowed),
+        Next::Conflicted(conflicted) => State::Conflicted(conflicted),
+    }
+}
+
+/// The answer of a session with this setup, of which this is seen.
+#[tactic(auto, unfolding(crate::specs::Session::status_in, crate::specs::Shows::seen))]
+fn status_in(setup: SetupReq, view: &View, via: Via, all: bool) -> Option<StatusAns>
+    ensures { result ≡ status_in setup (seen view.now) via all }
+{
+    if excludes(setup.mask, via) || !all && view.missing == 0 {
+        return None;
+    }
+    Some(status(view, setup.delay))
+}
+
+/// The status of what is seen.
+#[tactic(auto, unfolding(crate::specs::Session::status_by, crate::specs::Shows::seen))]
+fn status(view: &View, delay: u8) -> StatusAns
+    ensures { result ≡ status_by (seen view.now) delay }
+{
+    StatusAns {
+        received: view.received,
+        missing: view.missing.min(255) as u8,
+        norows: is_overflow(view.verdict),
+        delay,
+    }
+}
+
+/// Whether the memory did not suffice.
+fn is_overflow(verdict: Verdict) -> bool
+    ensures { result ≡ is_overflow verdict }
+{
+    match verdict {
+        Verdict::NoRows(_) => true,
+        _ => false,
+    }
+}
+
+
+

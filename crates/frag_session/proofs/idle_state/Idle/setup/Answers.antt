@@ -1,29 +1,30 @@
-use Rattle.std.proofs.Common.{◌≡◌, length, false, replicate, sym, ap, ap₂, ◌∙◌, None}
-use Rattle.std.proofs.lemmas.List.{length-replicate}
+use Rattle.std.proofs.Common.{◌≡◌, Ok, ap, sym, ◌∙◌, lit≤, arith, true, rules}
+use Rattle.row_elimination.specs.Held.{Held as Solved}
+use Rattle.frag_model.specs.Fragments.{Shape}
 use Rattle.frag_session.specs.Setup.{setup_bits}
-use Rattle.frag_session.specs.Held.{begun}
-use Rattle.frag_session.proofs.Calls.{room_of, begun_stands}
+use Rattle.frag_session.proofs.Calls.{accepted, set_up_fine, room_for, begun_holds}
 use Rattle.frag_session.proofs.idle_state.Idle.setup.Goals as goal
 
--- no bit is set over the area of the storage
-no_bits : (c : goal.After-min) → setup_bits c.args.limits c.args.self c.args.req ≡ 0
-no_bits c = ap (λ a. setup_bits c.args.limits a c.args.req) (sym c.area.ensures) ∙ sym c.refusal-bits.ensures ∙ c.if-bits-ne0.false
+pub begin-requires : goal.begin-requires
+begin-requires g c =
+    let fine = accepted c.args.limits (record { words = g.row.W; bytes = g.row.B; area = c.self.inside.solver.area }) c.args.req (sym c.refusal-bits.ensures ∙ c.if-bits-ne0.false) in
+    let makes = set_up_fine c.args.req fine.0 in
+    let room = room_for _ c.args.limits.rows c.args.req fine.1 in
+    (lit≤ tt, (makes.some, (room.most, (room.small, (makes.short, c.rows_of.ensures.few)))))
 
-pub begin-requires-clause-none : goal.begin-requires-clause-none
-begin-requires-clause-none c = c.fill.ensures.items (λ y e. e) ∙ ap (λ n. replicate n false) (c.self.inside.storage.came.ok.0 ∙ c.self.invariant.columns)
+pub begin-requires-in-Ok : goal.begin-requires-in-Ok
+begin-requires-in-Ok g c =
+    let fine = accepted c.args.limits (record { words = g.row.W; bytes = g.row.B; area = c.self.inside.solver.area }) c.args.req (sym c.refusal-bits.ensures ∙ c.if-bits-ne0.false) in
+    let shape = c.in-Ok.ensures.shape in
+    (lit≤ tt, (lit≤ tt, (c.in-Ok.ensures.begun, (ap (λ (x : Shape). x.nb_frag) shape, (ap (λ (x : Shape). x.frag_size) shape, (set_up_fine c.args.req fine.0).short)))))
 
-pub begin-requires-clause-lies : goal.begin-requires-clause-lies
-begin-requires-clause-lies c =
-    room_of c.args.limits c.args.self c.args.req c.self.inside.storage.bytes.items c.fill.new.self.items (no_bits c) c.self.view_is
-    (record { area = c.self.invariant.area; columns = ap length (begin-requires-clause-none c) ∙ length-replicate 1024 false })
+pub returns-in-Ok-clause-stands : goal.returns-in-Ok-clause-stands
+returns-in-Ok-clause-stands g c =
+    let fine = accepted c.args.limits (record { words = g.row.W; bytes = g.row.B; area = c.self.inside.solver.area }) c.args.req (sym c.refusal-bits.ensures ∙ c.if-bits-ne0.false) in
+    rw c.begin-in-Ok.ensures (begun_holds c.args.limits c.args.req c.begin.new.self fine.0 c.in-Ok.ensures.begun (c.in-Ok.ensures.shape ∙ ap (λ n. let x : Shape = record { nb_frag = c.args.req.nb_frag; frag_size = c.args.req.frag_size; rows = n } in x) c.rows_of.ensures.value))
 
-pub returns-clause-value : goal.returns-clause-value
-unfolding begun
-returns-clause-value c = (
-  ap (λ a. setup_bits c.args.limits a c.args.req) (sym c.area.ensures) ∙ sym c.refusal-bits.ensures ∙ c.if-bits-ne0.false,
-  c.begin.ensures
-      ∙ ap₂ (λ r a. record { setup = c.args.req; rows = r; pieces = replicate c.args.req.nb_frag None; received = 0; area = a }) c.min.ensures c.self.view_is,
-)
-
-pub returns-clause-stands : goal.returns-clause-stands
-returns-clause-stands c = rw (returns-clause-value c).1 (begun_stands c.args.limits c.args.self c.args.req (returns-clause-value c).0)
+pub returns-in-Err-clause-value : goal.returns-in-Err-clause-value
+returns-in-Err-clause-value g c =
+    let fine = accepted c.args.limits (record { words = g.row.W; bytes = g.row.B; area = c.self.inside.solver.area }) c.args.req (sym c.refusal-bits.ensures ∙ c.if-bits-ne0.false) in
+    let room = room_for _ c.args.limits.rows c.args.req fine.1 in
+    absurd (let none = c.in-Err.ensures.room in let some = room.room_is in let rows = c.rows_of.ensures.value in cc)

@@ -1,10 +1,58 @@
-use Rattle.std.proofs.Common.{◌<◌, ◌^◌, arith}
-use Rattle.std.proofs.lemmas.List.Elements.{All-from_get_or}
-use Rattle.frag_session.proofs.Calls.{receiving_stands}
+use Rattle.std.proofs.Common.{◌≡◌, ◌*◌, length, refl, sym, ap, ap₂, subst, ◌∙◌, lit≤, rules}
+use Rattle.frag_model.specs.Fragments.{Shape}
+use Rattle.row_elimination.specs.Held.{Held as Solved}
+use Rattle.frag_session.specs.Held.{Kept, Held, one_more}
+use Rattle.frag_session.specs.Held as kept
+use Rattle.frag_session.specs.Session.{Session, followed}
+use Rattle.frag_session.specs.Steps.{area_of}
+use Rattle.frag_session.specs.Stands.{Holds, Stands}
+use Rattle.frag_session.proofs.Standing.{receives_holds, completes_whole, complete_sized, contradicts_failed, overflows_failed}
 use Rattle.frag_session.proofs.receiving_state.Receiving.feed.Goals as goal
 
-pub returns-clause-stands : goal.returns-clause-stands
-returns-clause-stands c = λ s k.
-    rw c.hear.ensures
-    (receiving_stands c.args.self s c.args.n c.args.part.now c.args.mark k c.requires.first c.requires.last c.requires.sized
-    (All-from_get_or (λ b. b < 2 ^ 8) c.args.part.now 0 (λ i lt. omega (arith, c.type_inv.part i))))
+pub decided-requires : goal.decided-requires
+decided-requires g c =
+    let r = c.feed.ensures.complete c.in-Complete.is in
+    let its = c.self.invariant.its in
+    let sized : length c.feed.new.self.content ≡ c.self.inside.setup.nb_frag * c.self.inside.setup.frag_size =
+        complete_sized _ _ c.args.n c.args.part.now r ∙ ap₂ (λ a b. a * b) its.nb_frag its.frag_size in
+    (lit≤ tt, (lit≤ tt, (its.some, (ap (λ (x : Shape). x.nb_frag) r.takes.shape ∙ its.nb_frag, (ap (λ (x : Shape). x.frag_size) r.takes.shape ∙ its.frag_size, (its.short, (c.one_more-received.ensures.most, (r.stage, sized))))))))
+
+pub returns-in-Receiving-clause-stands : goal.returns-in-Receiving-clause-stands
+unfolding Stands
+returns-in-Receiving-clause-stands g c = λ s k.
+    let here = subst (λ (h : Held). Holds h s) (sym c.self.view_is) k in
+    rw c.one_more-received.ensures.value (receives_holds _ s c.feed.new.self c.args.n c.args.part.now c.args.mark here c.requires.first (c.feed.ensures.receiving c.in-Receiving.is))
+
+pub returns-in-Receiving-clause-area : goal.returns-in-Receiving-clause-area
+unfolding area_of
+returns-in-Receiving-clause-area g c = c.feed.ensures.area ∙ ap (λ (h : Held). h.solver.area) c.self.view_is
+
+pub returns-in-Complete-clause-stands : goal.returns-in-Complete-clause-stands
+unfolding Stands
+returns-in-Complete-clause-stands g c = λ s k.
+    let here = subst (λ (h : Held). Holds h s) (sym c.self.view_is) k in
+    rw (c.decided.ensures, c.one_more-received.ensures.value) (completes_whole _ s c.feed.new.self c.args.n c.args.part.now c.args.mark here c.requires.first (c.feed.ensures.complete c.in-Complete.is))
+
+pub returns-in-Complete-clause-area : goal.returns-in-Complete-clause-area
+unfolding area_of
+returns-in-Complete-clause-area g c = rw c.decided.ensures (c.feed.ensures.area ∙ ap (λ (h : Held). h.solver.area) c.self.view_is)
+
+pub returns-in-NoRows-clause-stands : goal.returns-in-NoRows-clause-stands
+unfolding Stands
+returns-in-NoRows-clause-stands g c = λ s k.
+    let here = subst (λ (h : Held). Holds h s) (sym c.self.view_is) k in
+    rw (c.decided-in-NoRows.ensures, c.one_more-received.ensures.value) (overflows_failed _ s c.feed.new.self c.args.n c.args.part.now c.args.mark here c.requires.first (c.feed.ensures.no_rows c.in-NoRows.is))
+
+pub returns-in-NoRows-clause-area : goal.returns-in-NoRows-clause-area
+unfolding area_of
+returns-in-NoRows-clause-area g c = rw c.decided-in-NoRows.ensures (c.feed.ensures.area ∙ ap (λ (h : Held). h.solver.area) c.self.view_is)
+
+pub returns-in-Conflict-clause-stands : goal.returns-in-Conflict-clause-stands
+unfolding Stands
+returns-in-Conflict-clause-stands g c = λ s k.
+    let here = subst (λ (h : Held). Holds h s) (sym c.self.view_is) k in
+    rw (c.decided-in-Conflict.ensures, c.one_more-received.ensures.value) (contradicts_failed _ s c.feed.new.self c.args.n c.args.part.now c.args.mark here c.requires.first (c.feed.ensures.conflict c.in-Conflict.is))
+
+pub returns-in-Conflict-clause-area : goal.returns-in-Conflict-clause-area
+unfolding area_of
+returns-in-Conflict-clause-area g c = rw c.decided-in-Conflict.ensures (c.feed.ensures.area ∙ ap (λ (h : Held). h.solver.area) c.self.view_is)

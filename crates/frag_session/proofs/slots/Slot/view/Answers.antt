@@ -3,4 +3,4 @@ use Rattle.frag_session.proofs.Calls.{shows}
 use Rattle.frag_session.proofs.slots.Slot.view.Goals as goal
 
 pub returns : goal.returns
-returns c = λ s k. c.shown.ensures ∙ shows c.args.self.now s k
+returns g c = λ s k. c.shown.ensures ∙ shows c.args.self.now s k

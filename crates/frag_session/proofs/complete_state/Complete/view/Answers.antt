@@ -1,0 +1,6 @@
+use Rattle.std.proofs.Common.{◌≡◌, ◌*◌, length, suc-mul, arith, ap, ◌∙◌}
+use Rattle.frag_session.proofs.Standing.{room_for_padding}
+use Rattle.frag_session.proofs.complete_state.Complete.view.Goals as goal
+
+pub overflow_sub-block : goal.overflow_sub-block
+overflow_sub-block g c = room_for_padding _ _ _ _ c.self.invariant.its.some c.self.invariant.its.short (ap length c.block-block.ensures ∙ c.self.invariant.sized)

@@ -1,0 +1,16 @@
+use Rattle.std.proofs.Common.{is_some, ap, refl, ◌∙◌}
+use Rattle.frag_session.specs.Steps.{area_of}
+use Rattle.frag_session.specs.Stands.{Stands}
+use Rattle.frag_session.proofs.Calls.{lived}
+use Rattle.frag_session.proofs.slots.Slot.delete.Goals as goal
+
+pub returns-clause-answer : goal.returns-clause-answer
+returns-clause-answer g c = λ s k. c.is_some-lived.ensures ∙ ap is_some c.session.ensures ∙ lived c.args.self.now s k
+
+pub returns-clause-stands : goal.returns-clause-stands
+unfolding Stands
+returns-clause-stands g c = rw c.end.ensures tt
+
+pub returns-clause-area : goal.returns-clause-area
+unfolding area_of
+returns-clause-area g c = rw c.end.ensures refl

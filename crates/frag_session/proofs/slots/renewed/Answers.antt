@@ -1,0 +1,12 @@
+use Rattle.std.proofs.Common.{◌∙◌}
+use Rattle.frag_session.specs.Steps.{area_of}
+use Rattle.frag_session.specs.Stands.{Stands}
+use Rattle.frag_session.proofs.slots.renewed.Goals as goal
+
+pub returns-in-Ok-clause-stands : goal.returns-in-Ok-clause-stands
+unfolding Stands
+returns-in-Ok-clause-stands g c = c.in-Ok.ensures.stands
+
+pub returns-in-Ok-clause-area : goal.returns-in-Ok-clause-area
+unfolding area_of
+returns-in-Ok-clause-area g c = c.in-Ok.ensures.value.1 ∙ c.cleared.ensures

@@ -1,0 +1,96 @@
+//! A session whose rows did not suffice.
+
+ghost use Rattle.std.specs.Prelude.{◌≡◌, ◌≤◌};
+ghost use Rattle.row_elimination.specs.Held.{missing_of};
+ghost use Rattle.frag_session.specs.Held.{one_more};
+ghost use Rattle.frag_session.specs.Shows.{overflowed_seen, seen};
+
+use crate::answers::{Verdict, View};
+use crate::idle_state::Idle;
+use crate::receiving_state::one_more;
+use crate::setups::SetupReq;
+use row_elimination::Solver;
+use std::marker::Model;
+
+/// A session to which one independent coded fragment more came than it has rows.
+#[derive(Drop)]
+pub struct Overflowed<const W: usize, const B: usize> {
+    solver: Solver<W, B>,
+    setup: SetupReq,
+    received: u16,
+    missing: u16,
+    mark: u64,
+}
+
+impl<const W: usize, const B: usize> Model for Overflowed<W, B> {
+    ghost use Rattle.std.specs.Prelude.{◌≤◌};
+    ghost use Rattle.frag_session.specs.Held.{Failed};
+
+    ghost Value = { Failed };
+
+    ghost view = { λ c. record { setup = c.setup; received = c.received; missing = c.missing; mark = c.mark; solver = c.solver } };
+
+    ghost invariant = { λ c. c.received ≤ 16383 };
+}
+
+impl<const W: usize, const B: usize> Overflowed<W, B> {
+    /// A session that was decided at the mark; what is missing is what the solver lacks.
+    pub(crate) fn decided(
+        solver: Solver<W, B>,
+        setup: SetupReq,
+        received: u16,
+        mark: u64,
+    ) -> Overflowed<W, B>
+        requires { received ≤ 16383 }
+        ensures { result ≡ record { setup = setup; received = received; missing = missing_of solver.entry; mark = mark; solver = solver.entry } }
+    {
+        let missing = solver.missing();
+        Overflowed {
+            solver,
+            setup,
+            received,
+            missing,
+            mark,
+        }
+    }
+
+    /// Ends the session.
+    pub fn delete(self) -> Idle<W, B>
+        ensures { result ≡ self.entry.solver.area }
+    {
+        let Overflowed { solver, .. } = self;
+        Idle { solver }
+    }
+
+    pub(crate) fn setup(&self) -> SetupReq
+        ensures { result ≡ self.now.setup }
+    {
+        self.setup
+    }
+
+    /// The solver that is kept.
+    pub(crate) fn solver(&self) -> &Solver<W, B>
+        ensures { result.now ≡ self.now.solver }
+    {
+        &self.solver
+    }
+
+    /// Counts one fragment more.
+    pub(crate) fn count(&mut self)
+        ensures { self.new ≡ record self.old { received = one_more self.old.received } }
+    {
+        self.received = one_more(self.received);
+    }
+
+    #[tactic(auto, unfolding(crate::specs::Shows::seen, crate::specs::Shows::overflowed_seen))]
+    pub(crate) fn view(&self) -> View<'_>
+        ensures { seen result ≡ overflowed_seen self.now }
+    {
+        View {
+            received: self.received,
+            missing: self.missing,
+            verdict: Verdict::NoRows(self.mark),
+            file: &[],
+        }
+    }
+}
