@@ -7,7 +7,6 @@ pub mod DeviceLemmas
 pub mod Texts
 pub mod CauseLemmas
 pub mod WorldLemmas
-pub mod Canonical
 pub mod Outcomes
 pub mod SourceLines
 pub mod Playing

@@ -34,6 +34,7 @@ why_word why.Order = codes "order"
 why_word why.Range = codes "range"
 why_word why.Device = codes "device"
 why_word why.Unsent = codes "unsent"
+why_word why.Time = codes "time"
 
 -- a line is refused
 abbrev pub refused : LineFault → Answer

@@ -10,8 +10,8 @@ use Rattle.frag_model.specs.File.{FileFits, OneFileFits}
 use Rattle.frag_session.specs.declared.answers.Verdict.TheVariants as verdict
 use Rattle.frag_session.specs.Session.{Session, Seen, shape_of, seen_of}
 use Rattle.cast_wire.specs.declared.cmd.Cmd.TheVariants.{DataFragment}
-use Rattle.fuota_run.specs.declared.grammar.Command.TheVariants.{Cast}
-use Rattle.fuota_run.specs.declared.grammar.Command.{Command}
+use Rattle.package_grammar.specs.declared.command.Command.TheVariants.{Cast}
+use Rattle.package_grammar.specs.declared.command.Command.{Command}
 use Rattle.fuota_run.specs.declared.lines.Form.TheVariants.{Down}
 use Rattle.fuota_run.specs.declared.running.TheConstants.{IMAGE_LIMIT, SCRIPT_LIMIT}
 use Rattle.fuota_run.specs.declared.status.Status.TheVariants as status

@@ -4,8 +4,9 @@ use Rattle.std.specs.Prelude.{◌≡◌, ◌<◌, ◌≤◌, ℕ, ◌+◌, ◌-�
 use Rattle.std.specs.Int.{div_ceil}
 use Rattle.cast_wire.specs.declared.cmd.Cmd.{Cmd}
 use Rattle.cast_wire.specs.declared.cmd.Cmd.TheVariants.{FragSessionSetupReq, FragSessionSetupAns, DataFragment}
-use Rattle.fuota_run.specs.declared.grammar.Command.{Command}
-use Rattle.fuota_run.specs.declared.grammar.Command.TheVariants.{Cast, DevVersionReq, DevVersionAns}
+use Rattle.package_grammar.specs.declared.command.Command.{Command}
+use Rattle.package_grammar.specs.declared.command.Command.TheVariants.{Sync, Cast}
+use Rattle.sync_wire.specs.declared.cmd.Cmd.TheVariants.{DevVersionReq, DevVersionAns}
 use Rattle.fuota_run.specs.declared.server.Request.TheVariants.{Version, Fragments, Status}
 use Rattle.fuota_run.specs.declared.server.Stage.{Stage}
 use Rattle.fuota_run.specs.declared.server.Stage.TheVariants.{At, Refused}
@@ -50,7 +51,7 @@ setup_of image frag_size =
 
 -- the request of a stage, if there is one to send
 unfoldable pub asked : List ℕ → ℕ → Stage → Option Command
-asked image frag_size (At Version) = Some DevVersionReq
+asked image frag_size (At Version) = Some (Sync DevVersionReq)
 asked image frag_size (At Fragments) = Some (Cast (setup_of image frag_size))
 asked image frag_size (At Status) = None
 asked image frag_size (Refused request bits) = None
@@ -85,7 +86,7 @@ after_setup_answer index bits =
 
 -- the stage behind a command of an uplink: an answer moves its own stage alone
 unfoldable pub answered : List ℕ → Stage → Command → Stage
-answered image (At Version) (DevVersionAns firmware hardware) = after_version (hardware_of image) hardware
+answered image (At Version) (Sync (DevVersionAns firmware hardware)) = after_version (hardware_of image) hardware
 answered image (At Fragments) (Cast (FragSessionSetupAns index descriptor unsupported memory encoding)) =
     after_setup_answer index (worth descriptor 8 + worth unsupported 4 + worth memory 2 + worth encoding 1)
 answered image stage command = stage

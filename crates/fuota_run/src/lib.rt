@@ -8,7 +8,6 @@
 
 mod device;
 mod files;
-mod grammar;
 mod laws;
 mod lines;
 mod memory;
@@ -18,6 +17,7 @@ mod running;
 mod server;
 mod sink;
 mod source;
+mod spelling;
 mod status;
 mod system;
 mod world;

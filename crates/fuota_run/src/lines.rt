@@ -27,6 +27,10 @@ pub enum Form {
         key: Key,
         descriptor: Option<u32>,
     },
+    /// `at MS`: the time now, in milliseconds since the GPS epoch.
+    At {
+        time: u64,
+    },
     /// `ask D`: the server sends the request of the device's stage.
     Ask {
         device: u64,
@@ -207,6 +211,9 @@ pub fn read_form(line: &[u8]) -> Option<Form>
     } else if has_form(line, "device", 8) {
         let descriptor = hex_number(word(line, 7))?;
         device_form(line, Some(descriptor))
+    } else if has_form(line, "at", 2) {
+        let time = decimal(word(line, 1))?;
+        Some(Form::At { time })
     } else if has_form(line, "ask", 2) {
         let device = decimal(word(line, 1))?;
         Some(Form::Ask { device })

@@ -212,6 +212,7 @@ fn why_word(why: LineWhy) -> &'static str
         LineWhy::Range => "range",
         LineWhy::Device => "device",
         LineWhy::Unsent => "unsent",
+        LineWhy::Time => "time",
     }
 }
 

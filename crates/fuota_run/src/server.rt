@@ -1,14 +1,15 @@
 // The server of a campaign: what it asks and sends, and what an uplink moves.
-ghost use Rattle.std.specs.Prelude.{ℕ, List, OnOk, OnErr, IsOk, ◌≡◌, ◌+◌, ◌-◌, ◌*◌, ◌/◌, ◌<◌, ◌≤◌, Some, None, true, IsTrue, IfOk, IfSome, IfNone, length, min, take, drop, replicate, ◌++◌};
+ghost use Rattle.std.specs.Prelude.{ℕ, List, OnOk, OnErr, IsOk, ◌≡◌, ◌+◌, ◌-◌, ◌*◌, ◌/◌, ◌<◌, ◌≤◌, Some, None, true, IsTrue, IfOk, IfErr, IfSome, IfNone, length, min, take, drop, replicate, ◌++◌};
 ghost use Rattle.wire_base.specs.declared.refusal.Direction.{Direction};
-ghost use Rattle.fuota_run.specs.declared.grammar.Command.{Command};
-ghost use Rattle.fuota_run.specs.Commands.{IsDownlink, IsMessage, SpellsAll};
+ghost use Rattle.package_grammar.specs.declared.command.Command.{Command};
+ghost use Rattle.package_grammar.specs.Grammar.{SpellsTo, IsMessage, IsStop};
+ghost use Rattle.fuota_run.specs.Commands.{IsDownlink};
 ghost use Rattle.image_slots.specs.Image.{is_image, hardware_of, firmware_of};
 ghost use Rattle.fuota_run.specs.Server.{ServerState, fragments_of, padding_of, fragment_of, first_server, setup_of, asked, next_fragment, after_fragment, is_spent, answered, answered_all, after_version, after_setup_answer, worth};
 
-use crate::grammar::{Command, check, read_one};
 use cast_wire::{Cmd, FragmentBytes, MAX_FRAGMENT};
 use image_slots::{firmware, hardware};
+use package_grammar::{Command, check, read_one};
 use std::alloc::{AllocError, Global};
 use std::io::Read;
 use std::marker::Model;
@@ -127,7 +128,7 @@ impl Server {
         ensures sendable { IfSome result IsDownlink }
     {
         match self.stage {
-            Stage::At(Request::Version) => Some(Command::DevVersionReq),
+            Stage::At(Request::Version) => Some(Command::Sync(sync_wire::Cmd::DevVersionReq)),
             Stage::At(Request::Fragments) => Some(Command::Cast(Cmd::FragSessionSetupReq {
                 index: 0,
                 mask: 0,
@@ -154,6 +155,7 @@ impl Server {
         ensures taken { (cs : List Command) → IsMessage cs port Direction.Up payload.now → self.new ≡ record self.old { stage = answered_all self.old.image self.old.stage cs } }
         ensures message { OnOk result ((cs : List Command) × IsMessage cs port Direction.Up payload.now) }
         ensures only { (cs : List Command) → IsMessage cs port Direction.Up payload.now → IsOk result }
+        ensures stops { IfErr result (IsStop port Direction.Up payload.now) }
         ensures refused { OnErr result (self.new ≡ self.old) }
     {
         match check(port, Direction::Up, payload) {
@@ -169,7 +171,7 @@ impl Server {
     fn answer_from(&mut self, port: u8, payload: &[u8], at: u16)
         requires within { at ≤ length payload.now }
         requires fits { length payload.now ≤ 242 }
-        ensures { (cs : List Command) → SpellsAll cs port Direction.Up payload.now at → self.new ≡ record self.old { stage = answered_all self.old.image self.old.stage cs } }
+        ensures { (cs : List Command) → SpellsTo cs port Direction.Up payload.now at (length payload.now) → self.new ≡ record self.old { stage = answered_all self.old.image self.old.stage cs } }
     {
         if at as usize == payload.len() {
             return;
@@ -214,10 +216,10 @@ fn next_stage(image: &[u8], stage: Stage, command: &Command) -> Stage
     match (stage, command) {
         (
             Stage::At(Request::Version),
-            Command::DevVersionAns {
+            Command::Sync(sync_wire::Cmd::DevVersionAns {
                 hardware: found,
                 ..
-            },
+            }),
         ) => { after_version(hardware(image), *found) }
         (Stage::At(Request::Fragments), Command::Cast(cmd)) => after_setup_answer(image, cmd),
         _ => stage,
