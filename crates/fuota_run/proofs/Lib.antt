@@ -16,3 +16,4 @@ pub mod HeadlineImage
 pub mod HeadlineLines
 pub mod HeadlineHeard
 pub mod HeadlineLaw
+pub mod Payloads

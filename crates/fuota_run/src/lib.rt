@@ -6,6 +6,7 @@
 //! to the program above.
 #![tactic(auto)]
 
+mod decoding;
 mod device;
 mod files;
 mod laws;

@@ -1,18 +1,17 @@
 // The whole program: words, image and script in, one text and a status out.
-ghost use Rattle.std.specs.Prelude.{◌≡◌, ◌≢◌, ◌↔◌, ◌≤◌, ◌++◌, true, false, map, codes, string_bytes, IfOk, IfSome, length, ◌∷◌, ◌<◌, ◌==◌};
-ghost use Rattle.std.specs.List.{position};
+ghost use Rattle.std.specs.Prelude.{◌≡◌, ◌≢◌, ◌↔◌, ◌≤◌, ◌++◌, true, false, map, codes, string_bytes, IfOk, IfSome};
 ghost use Rattle.std.specs.Fmt.{decimal};
 ghost use Rattle.std.specs.Io.KnownBytes.{Appends};
 ghost use Rattle.fuota_run.specs.Outside.{HoldsName, HasRisen};
 ghost use Rattle.image_slots.specs.Image.{is_image};
 ghost use Rattle.fuota_run.specs.Answer.{answer, usage, begins_with_dash, word_at, is_form, why_word, refused, answer_of};
-ghost use Rattle.fuota_run.specs.Script.{lines_of};
 ghost use Rattle.fuota_run.specs.World.{campaign_of};
 ghost use Rattle.fuota_run.specs.Reply.{HoldsForm, IsPlayed, GivesScript, GivesCampaign, Gives, Says, IsReadUp, Ends, IsFinished};
 ghost use Rattle.fuota_run.specs.Replies.{answer_in, IsUnread};
 ghost use Rattle.fuota_run.specs.Texts.{seen_text};
 
 use crate::files::Files;
+use crate::lines::first_line;
 use crate::output::write_text;
 use crate::sink::Sink;
 use crate::source::{SourceError, read_source};
@@ -233,25 +232,6 @@ fn play(alloc: Global, image: &[u8], script: &[u8]) -> Result<Vec<u8>, WorldErro
         }
     }
     world.report(alloc)
-}
-
-/// The first line of the bytes, without its line feed, and what stands behind it.
-fn first_line(bytes: &[u8]) -> (&[u8], &[u8])
-    requires { 0 < length bytes.now }
-    ensures lines { lines_of bytes.now ≡ result.0.now ∷ lines_of result.1.now }
-    ensures shorter { length result.1.now < length bytes.now }
-{
-    match line_feed(bytes) {
-        Some(end) => (bytes.split_at(end).0, bytes.split_at(end + 1).1),
-        None => (bytes, &[]),
-    }
-}
-
-/// The place of the first line feed.
-fn line_feed(bytes: &[u8]) -> Option<usize>
-    ensures { result ≡ position (λ b. b == 10) bytes.now }
-{
-    bytes.iter().position(|b| *b == b'\n')
 }
 
 #[cfg(test)]

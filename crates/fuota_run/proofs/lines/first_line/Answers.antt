@@ -1,6 +1,6 @@
 use Rattle.std.proofs.Common.{sym, ◌∙◌}
 use Rattle.fuota_run.proofs.SourceLines.{line_found, line_whole}
-use Rattle.fuota_run.proofs.running.first_line.Goals as goal
+use Rattle.fuota_run.proofs.lines.first_line.Goals as goal
 
 pub returns-in-Some-clause-lines : goal.returns-in-Some-clause-lines
 returns-in-Some-clause-lines c =
