@@ -17,3 +17,4 @@ pub mod HeadlineLines
 pub mod HeadlineHeard
 pub mod HeadlineLaw
 pub mod Payloads
+pub mod CommandLine

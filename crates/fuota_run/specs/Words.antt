@@ -1,10 +1,11 @@
 -- The words of the command line, as clap takes them, and what they ask for. (This project's profile.)
-use Rattle.std.specs.Prelude.{◌≡◌, ℕ, Bool, false, ◌&&◌, nat_le, ◌==◌, if◌then◌else◌, List, [], ◌∷◌, length, codes, Option, Some, None, option_and_then}
+use Rattle.std.specs.Prelude.{◌≡◌, ℕ, Bool, true, false, ◌&&◌, nat_le, if◌then◌else◌, List, [], ◌∷◌, codes, Option, Some, None, option_and_then}
 use Rattle.std.specs.Str.{bytes_eq}
 use Rattle.wire_base.specs.declared.refusal.Direction.{Direction}
 use Rattle.wire_base.specs.declared.refusal.Direction.TheVariants.{Down, Up}
 use Rattle.clap.specs.declared.builder.command.Command.{Command}
-use Rattle.clap.specs.Words.{App, Shape, Row, Rule, Text, app_of, fields_of, fault_of, first_of, new_app, new_rule, subcommand_of, with_rule, with_subcommand}
+use Rattle.clap.specs.declared.builder.command.Command.TheViews.{out-Command}
+use Rattle.clap.specs.Words.{App, Kinds, Shape, Row, Rule, Text, app_of, fault_of, first_of, new_app, new_rule, subcommand_of, with_rule, with_subcommand}
 use Rattle.fuota_run.specs.declared.words.Asked.{Asked as Read}
 use Rattle.fuota_run.specs.declared.words.Asked.TheVariants as read
 use Rattle.fuota_run.specs.Script.{decimal_of, ◌>>=◌}
@@ -37,9 +38,14 @@ fuota = with_forms (new_app (codes "fuota")) (
     ∷ form (codes "generate") (codes "SEED" ∷ [])
     ∷ [])
 
+-- what was found, where there is no fault
+abbrev pub where_none : Kinds → Option (Text × List Row) → Option (Text × List Row)
+where_none [] found = found
+where_none (kind ∷ kinds) found = None
+
 -- where clap finds no fault in the words: the form that they name, with what was found for its words
 unfoldable pub parsed : List Text → Option (Text × List Row)
-parsed words = if length (fault_of fuota words) == 0 then subcommand_of fuota words else None
+parsed words = where_none (fault_of fuota words) (subcommand_of fuota words)
 
 -- ---- what is asked for
 
@@ -82,7 +88,7 @@ asked_by keyword rows =
 
 -- what the words ask for; none where they are no form
 unfoldable pub asked : List Text → Option Asked
-asked words = parsed words >>= (λ found. asked_by found.0 found.1)
+asked words = option_and_then (λ found. asked_by found.0 found.1) (parsed words)
 
 -- ---- as it is held
 
@@ -95,4 +101,4 @@ seen_asked (Some (read.Decode port direction file)) = Some (decode port directio
 -- a command as it is built so far
 pub record IsCommand (command : Command) (app : App) : Type 0 where
   pub shape : app_of command ≡ app
-  pub local : (fields_of command).has_globals ≡ false
+  pub local : (out-Command command).has_globals ≡ false

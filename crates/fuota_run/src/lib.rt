@@ -21,6 +21,7 @@ mod source;
 mod spelling;
 mod status;
 mod system;
+mod words;
 mod world;
 
 pub use files::{Failed, Files};

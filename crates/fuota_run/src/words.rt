@@ -4,7 +4,8 @@ ghost use Rattle.clap.specs.Words.{App, Row, app_of, first_of, first_value, foun
 ghost use Rattle.fuota_run.specs.Words.{IsCommand, positional, form, fuota, seen_asked, campaign_asked, decode_asked, asked_by, asked, port_of_word, direction_of_word};
 
 use crate::lines::decimal;
-use clap::{Arg, ArgMatches, Command, ErrorKind};
+use clap::error::ErrorKind;
+use clap::{Arg, ArgMatches, Command};
 use std::alloc::{AllocError, Global};
 use wire_base::Direction;
 
@@ -22,7 +23,6 @@ pub enum Asked<'a> {
 }
 
 /// What the words ask for, the first of them being the program's name; None exactly where they are no form.
-#[tactic(auto, unfolding(crate::specs::Words::asked, crate::specs::Words::parsed))]
 pub fn read_words<'a>(alloc: Global, words: &'a [String]) -> Result<Option<Asked<'a>>, AllocError>
     ensures { IfOk result (λ o. seen_asked o ≡ asked (map string_bytes words.now)) }
 {
@@ -40,7 +40,6 @@ pub fn read_words<'a>(alloc: Global, words: &'a [String]) -> Result<Option<Asked
 }
 
 /// The program and its forms.
-#[tactic(auto, unfolding(crate::specs::Words::fuota))]
 fn fuota<'a>(alloc: Global) -> Result<Command<'a>, AllocError>
     ensures { IfOk result (λ c. IsCommand c fuota) }
 {
@@ -97,7 +96,6 @@ fn asked_by<'a>(keyword: &str, found: &ArgMatches<'a>) -> Option<Asked<'a>>
     }
 }
 
-#[tactic(auto, using(clap::proofs::WalkLemmas::first_value-rows))]
 fn word_of<'a>(found: &ArgMatches<'a>, name: &str) -> Option<&'a str>
     ensures { option_map (λ w. w.now) result ≡ first_of name.now (rows_of (found_of found.now)) }
 {
