@@ -1,0 +1,4 @@
+pub mod Pieces
+pub mod Summing
+pub mod Filling
+pub mod Blocks

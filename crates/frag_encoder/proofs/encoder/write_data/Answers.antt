@@ -1,0 +1,25 @@
+use Rattle.std.proofs.Common.{◌<◌, ◌-◌, ℕ, List, length, replicate, ap, sym, ◌∙◌, arith}
+use Rattle.frag_model.proofs.Dimension.{line-lt}
+use Rattle.frag_model.proofs.Uncoded.{line_of_piece}
+use Rattle.frag_model.proofs.Sums.{line_of_coded}
+use Rattle.frag_encoder.specs.Encoding.{pieces_of}
+use Rattle.frag_encoder.proofs.Pieces.{one_piece, get_or-pieces, length-pieces, summed_over_zeros}
+use Rattle.frag_encoder.proofs.encoder.write_data.Goals as goal
+
+pub xor_line-requires-clause-line : goal.xor_line-requires-clause-line
+xor_line-requires-clause-line c = rw c.line_uncounted.ensures.line (line-lt (c.args.n - c.args.nb_frag) c.args.nb_frag)
+
+pub returns-then-n-nb_frag-clause-whole : goal.returns-then-n-nb_frag-clause-whole
+returns-then-n-nb_frag-clause-whole c =
+    let k : ℕ = c.args.n - 1 in
+    let block : List (List ℕ) = pieces_of c.args.nb_frag c.args.size c.args.bytes.now in
+    let inside : k < c.args.nb_frag = omega arith in
+    let there : k < length block = omega (arith, inside, length-pieces c.args.nb_frag c.args.size c.args.bytes.now) in
+    let piece = get_or-pieces k c.args.nb_frag c.args.size c.args.bytes.now inside ∙ sym c.piece_at.ensures.piece in
+    c.copy_from_slice.ensures.after
+    ∙ sym (one_piece c.args.size k _ block c.piece_at.result.now (line_of_piece c.args.nb_frag c.args.n c.if-n-nb_frag.true) there piece c.piece_at.ensures.size)
+
+pub returns-else-n-nb_frag-clause-whole : goal.returns-else-n-nb_frag-clause-whole
+returns-else-n-nb_frag-clause-whole c =
+    summed_over_zeros c.args.size c.args.nb_frag _ _ c.args.bytes.now c.fill.new.self c.xor_line.new.sum (c.fill.ensures.after (λ y e. e) ∙ ap (λ n. replicate n 0) c.requires.size)
+    (c.line_uncounted.ensures.line ∙ sym (line_of_coded c.args.nb_frag c.args.n c.if-n-nb_frag.false)) c.requires.bytes c.xor_line.ensures

@@ -1,0 +1,146 @@
+//! A file cut into pieces, and its fragments.
+
+ghost use Rattle.std.specs.Prelude.{◌≡◌, ◌↔◌, ◌+◌, ◌-◌, ◌*◌, ◌^◌, ◌<◌, ◌≤◌, ◌++◌, length, take, drop, replicate, Err, IsOk, OnOk, OnErr, IfOk};
+ghost use Rattle.frag_model.specs.Fragments.{line_of, pieces_at, xor_all};
+ghost use Rattle.frag_encoder.specs.Encoding.{Encoding, IsBadSize, nb_frag_of, padding_of, filled, pieces_of, data_of};
+
+use crate::answers::{Beyond, EncoderError};
+use crate::xoring::{piece_at, xor_line};
+use arrayvec::ArrayVec;
+use frag_model::lines::{MAX_PARITY_INDEX, MAX_PIECES};
+use parity_lines::line_uncounted;
+use std::alloc::{AllocError, Global};
+use std::marker::Model;
+
+/// The most bytes of a fragment that a payload has room for (TS004-1.0.0).
+pub const MAX_FRAGMENT: usize = 239;
+
+/// A file in pieces of one size, from which each of its fragments is made. It keeps a copy of the file.
+#[derive(Drop)]
+pub struct Encoder {
+    bytes: Vec<u8>,
+    frag_size: u8,
+    nb_frag: u16,
+    padding: u8,
+}
+
+impl Model for Encoder {
+    ghost use Rattle.std.specs.Prelude.{◌-◌, length, take};
+    ghost use Rattle.frag_encoder.specs.Encoding.{Encoding, IsFilled};
+
+    ghost Value = { Encoding };
+
+    ghost view = { λ e. record { file = take (length e.bytes.items - e.padding) e.bytes.items; frag_size = e.frag_size } };
+
+    ghost invariant = { λ e. IsFilled e.bytes.items e.frag_size e.nb_frag e.padding };
+}
+
+impl Encoder {
+    /// An encoder of the file in pieces of `frag_size` bytes. `BadSize` comes exactly where the file is empty, `frag_size` is 0
+    /// or above 239, or there are more than 1,024 pieces.
+    pub fn new(alloc: Global, file: &[u8], frag_size: u8) -> Result<Encoder, EncoderError>
+        ensures ok { IfOk result (λ e. e ≡ record { file = file.now; frag_size = frag_size }) }
+        ensures bad_size { (result ≡ Err EncoderError.BadSize) ↔ IsBadSize (length file.now) frag_size }
+    {
+        let size = frag_size as usize;
+        if file.is_empty() || size == 0 || size > MAX_FRAGMENT {
+            return Err(EncoderError::BadSize);
+        }
+        let nb_frag = file.len().div_ceil(size);
+        if nb_frag > MAX_PIECES as usize {
+            return Err(EncoderError::BadSize);
+        }
+        let padding = nb_frag * size - file.len();
+        match fill(alloc, file, padding) {
+            Ok(bytes) => Ok(Encoder {
+                bytes,
+                frag_size,
+                nb_frag: nb_frag as u16,
+                padding: padding as u8,
+            }),
+            Err(_) => Err(EncoderError::Memory),
+        }
+    }
+
+    /// How many pieces the file has, 1 to 1,024: its length over a piece's, rounded up.
+    pub fn nb_frag(&self) -> u16
+        ensures value { result ≡ nb_frag_of (length self.now.file) self.now.frag_size }
+        ensures some { 1 ≤ result }
+        ensures most { result ≤ MAX_PIECES }
+    {
+        self.nb_frag
+    }
+
+    /// How many zero bytes fill the last piece up, fewer than a piece has.
+    pub fn padding(&self) -> u8
+        ensures value { result ≡ padding_of (length self.now.file) self.now.frag_size }
+        ensures short { result < self.now.frag_size }
+    {
+        self.padding
+    }
+
+    /// Replaces what `out` holds by the data of fragment `n`: piece `n`, counted from 1, and behind the last piece the XOR of
+    /// the pieces in the line of coded fragment `n` (TS004-1.0.0). `Beyond`, with `out` as it was, comes exactly where `n` is 0
+    /// or more than 8,380 above the number of pieces.
+    pub fn fragment(&self, n: u16, out: &mut ArrayVec<u8, MAX_FRAGMENT>) -> Result<(), Beyond>
+        ensures within { IsOk result ↔ ((1 ≤ n) × (n ≤ nb_frag_of (length self.now.file) self.now.frag_size + MAX_PARITY_INDEX)) }
+        ensures part { OnOk result (out.new.items ≡ data_of self.now.file self.now.frag_size n) }
+        ensures size { OnOk result (length out.new.items ≡ self.now.frag_size) }
+        ensures piece { n ≤ nb_frag_of (length self.now.file) self.now.frag_size → OnOk result (out.new.items ≡
+            take self.now.frag_size (drop ((n - 1) * self.now.frag_size) (filled self.now.file self.now.frag_size))) }
+        ensures beyond { OnErr result (out.new ≡ out.old) }
+    {
+        if n == 0 || n > self.nb_frag + MAX_PARITY_INDEX {
+            return Err(Beyond);
+        }
+        let size = self.frag_size as usize;
+        let mut part = [0; MAX_FRAGMENT];
+        let part = &mut part[..size];
+        write_data(n, self.nb_frag, size, &self.bytes, part);
+        replace(out, part);
+        Ok(())
+    }
+}
+
+/// The file, and so many zeros behind it.
+fn fill(alloc: Global, file: &[u8], padding: usize) -> Result<Vec<u8>, AllocError>
+    requires { length file.now + padding < 2 ^ 63 }
+    ensures { IfOk result (λ bytes. bytes.items ≡ file.now ++ replicate padding 0) }
+{
+    let mut bytes = Vec::with_capacity(alloc, file.len() + padding)?;
+    bytes.extend_from_slice(file)?;
+    bytes.resize(file.len() + padding, 0)?;
+    Ok(bytes)
+}
+
+/// Replaces what `out` holds.
+fn replace(out: &mut ArrayVec<u8, MAX_FRAGMENT>, part: &[u8])
+    requires { length part.now ≤ MAX_FRAGMENT }
+    ensures { out.new.items ≡ part.now }
+{
+    out.clear();
+    let _ = out.try_extend_from_slice(part);
+}
+
+/// Writes the data of fragment `n` of pieces of `size` bytes.
+fn write_data(n: u16, nb_frag: u16, size: usize, bytes: &[u8], part: &mut [u8])
+    requires some { 1 ≤ nb_frag }
+    requires most { nb_frag ≤ MAX_PIECES }
+    requires first { 1 ≤ n }
+    requires last { n ≤ nb_frag + MAX_PARITY_INDEX }
+    requires size { length part.old ≡ size }
+    requires bytes { length bytes.now ≡ nb_frag * size }
+    ensures whole { part.new ≡ xor_all size (pieces_at (line_of nb_frag n) (pieces_of nb_frag size bytes.now)) }
+    ensures piece { n ≤ nb_frag → part.new ≡ take size (drop ((n - 1) * size) bytes.now) }
+{
+    if n <= nb_frag {
+        part.copy_from_slice(piece_at(bytes, size, n as usize - 1));
+    } else {
+        let columns = nb_frag as usize;
+        let mut words = [0; MAX_PIECES as usize / 64];
+        let line = &mut words[..columns.div_ceil(64)];
+        line_uncounted(n - nb_frag, nb_frag, line);
+        part.fill(0);
+        xor_line(line, columns, bytes, part);
+    }
+}

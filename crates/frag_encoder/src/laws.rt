@@ -1,0 +1,9 @@
+//! A law about the definitions, the contract of a function that does nothing.
+
+ghost use Rattle.frag_encoder.specs.Laws.{FragmentsAreTheFiles};
+
+/// The fragments of a file are those of one block, so that the block fits whatever is heard of them, and what is recovered
+/// from the block is the file.
+pub fn fragments_are_the_files()
+    ensures { FragmentsAreTheFiles }
+{}

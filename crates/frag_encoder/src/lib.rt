@@ -1,0 +1,16 @@
+//! The fragments of a file, as a server of LoRaWAN's fragmented data block transport sends them (TS004-1.0.0).
+//! For each number up to 8,380 above the number of pieces, `fragment` gives the data of the definition over the file filled
+//! up with zeros: the piece itself, or the XOR of the pieces in the coded fragment's line. Which fragments are sent, when,
+//! and to whom is left to the crates above.
+#![tactic(auto)]
+
+mod answers;
+mod encoder;
+pub mod laws;
+mod xoring;
+
+pub use answers::{Beyond, EncoderError};
+pub use encoder::{Encoder, MAX_FRAGMENT};
+
+#[cfg(test)]
+mod tests;

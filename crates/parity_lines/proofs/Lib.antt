@@ -1,0 +1,3 @@
+pub mod Reciprocal
+pub mod Columns
+pub mod Drawn

@@ -1,0 +1,17 @@
+//! The parity lines of LoRaWAN's fragmented data block transport (TS004-1.0.0, the parity matrix of its forward error
+//! correction code). For each number of a coded fragment and each number of columns, `line` gives the line of the
+//! definition in words of 64 bits, and draws just as many states of the register as the definition, never more than 25
+//! for each column wanted. What a line is for, the XOR of the pieces at its columns, is left to the crates above.
+#![tactic(auto)]
+
+mod lines;
+mod residues;
+mod steps;
+mod uncounted;
+
+pub use lines::{line, prbs23};
+pub use steps::Steps;
+pub use uncounted::line_uncounted;
+
+#[cfg(test)]
+mod tests;

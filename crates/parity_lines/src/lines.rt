@@ -1,0 +1,53 @@
+//! The columns of a line, drawn from the register.
+
+ghost use Rattle.std.specs.Prelude.{◌≡◌, ◌↔◌, ℕ, ◌+◌, ◌*◌, ◌/◌, ◌%◌, ◌^◌, ◌<◌, ◌≤◌, length, slice_index, All, IsBitSet};
+ghost use Rattle.frag_model.specs.Members.{In};
+ghost use Rattle.frag_model.specs.Parity.{prbs23, columns_drawn, line, draws};
+ghost use Rattle.parity_lines.specs.Words.{words_number};
+
+use crate::residues::{reciprocal_of, residue};
+use crate::steps::Steps;
+use frag_model::lines::{MAX_PARITY_INDEX, MAX_PIECES, plain_modulus};
+use std::sync::ledger::Ledger;
+
+/// The next state of the 23-bit register behind `x`: all bits move down by one, and the sum of bit 0 and bit 5 comes in
+/// as bit 22 (TS004-1.0.0). A state is below 2^23.
+pub fn prbs23(x: u32) -> u32
+    ensures { result ≡ prbs23 x }
+{
+    (x >> 1) + (((x & 1) ^ (x >> 5 & 1)) << 22)
+}
+
+/// Draws the line of coded fragment `n` over `cols` columns (TS004-1.0.0), one step for each state drawn. `n` is 1 to
+/// 8,380 and `cols` 1 to 1,024. Column c is bit c % 64 of word c / 64; every other bit of `out` becomes 0.
+pub fn line<L: Ledger>(n: u16, cols: u16, out: &mut [u64], steps: &mut Steps<L>)
+    requires first { 1 ≤ n }
+    requires last { n ≤ MAX_PARITY_INDEX }
+    requires some { 1 ≤ cols }
+    requires most { cols ≤ MAX_PIECES }
+    requires room { cols ≤ 64 * length out.old }
+    ensures line { words_number out.new ≡ line n cols }
+    ensures columns { (c : ℕ) → IsBitSet (slice_index out.new (c / 64)) (c % 64) ↔ In c (columns_drawn n cols) }
+    ensures words { All (λ w. w < 2 ^ 64) out.new }
+    ensures draws { steps.new ≡ steps.old + draws n cols }
+    ensures few { steps.new ≤ steps.old + 25 * (cols / 2) }
+{
+    out.fill(0);
+    let half = cols / 2;
+    let modulus = plain_modulus(cols);
+    let reciprocal = reciprocal_of(modulus);
+    let mut x = 1 + 1001 * n as u32;
+    let mut found = 0;
+    for turn in 0..25 * half {
+        if found == half {
+            return;
+        }
+        x = prbs23(x);
+        steps.tick();
+        let column = residue(x, modulus, reciprocal);
+        if column < cols {
+            out[column as usize / 64] |= 1 << (column % 64);
+            found += 1;
+        }
+    }
+}

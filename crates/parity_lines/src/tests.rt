@@ -1,0 +1,74 @@
+ghost use Rattle.std.specs.Prelude.{◌≤◌};
+
+use super::*;
+use frag_model::lines::{MAX_PARITY_INDEX, MAX_PIECES, plain_line};
+use std::test::*;
+
+#[test]
+fn the_register_moves_as_in_the_standard(rt: HostRuntime) -> Result<(), Fail> {
+    let table = [
+        (0, 0),
+        (1, 0x40_0000),
+        (1002, 4_194_805),
+        (0x20, 0x40_0010),
+        (0x21, 0x10),
+    ];
+    for (x, next) in &table {
+        assert_eq!(rt; prbs23(*x), *next);
+    }
+    Ok(())
+}
+
+#[test]
+fn lines_worked_out_by_hand(rt: HostRuntime) -> Result<(), Fail> {
+    let table: [(u16, u16, u64); 9] = [
+        (1, 1, 0),
+        (1, 2, 0b10),
+        (1, 4, 0b101),
+        (2, 4, 0b101),
+        (3, 4, 0b1010),
+        (4, 4, 0b110),
+        (5, 4, 0b1001),
+        (7, 4, 0b1000),
+        (9, 4, 0b1010),
+    ];
+    for (n, cols, word) in &table {
+        let (n, cols) = (*n, *cols);
+        assert!(rt; 1 <= n && n <= MAX_PARITY_INDEX && 1 <= cols && cols <= 4);
+        let mut out = [!0; 3];
+        line_uncounted(n, cols, &mut out);
+        assert_eq!(rt; out, [*word, 0, 0]);
+    }
+    Ok(())
+}
+
+/// Whether the words have the columns of the plain program, and no other bit.
+fn agrees(n: u16, cols: u16) -> bool
+    requires first { 1 ≤ n }
+    requires last { n ≤ MAX_PARITY_INDEX }
+    requires some { 1 ≤ cols }
+    requires most { cols ≤ MAX_PIECES }
+{
+    let mut columns = [false; 1024];
+    plain_line(n, cols, &mut columns[..cols as usize]);
+    let mut out = [!0; 16];
+    line_uncounted(n, cols, &mut out);
+    for (c, column) in columns.iter().enumerate() {
+        if (out[c / 64] >> (c % 64) & 1 == 1) != *column {
+            return false;
+        }
+    }
+    true
+}
+
+#[test]
+fn lines_as_the_plain_program_draws_them(rt: HostRuntime) -> Result<(), Fail> {
+    for cols in &[1, 2, 3, 5, 8, 63, 64, 65, 127, 128, 1000, 1023, 1024] {
+        for n in &[1, 2, 9, 4096, 8379, 8380] {
+            let (n, cols): (u16, u16) = (*n, *cols);
+            assert!(rt; 1 <= n && n <= MAX_PARITY_INDEX && 1 <= cols && cols <= MAX_PIECES);
+            assert!(rt; agrees(n, cols));
+        }
+    }
+    Ok(())
+}
