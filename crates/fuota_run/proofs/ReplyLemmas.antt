@@ -18,8 +18,18 @@ use Rattle.fuota_run.specs.Report.{report_of}
 use Rattle.fuota_run.specs.Words.{Asked, campaign, decode, asked}
 use Rattle.fuota_run.specs.Decode.{Decodes, IsDecoded}
 use Rattle.fuota_run.specs.Answer.{Answer, answer, read_fault, usage, image_refused, too_long, taken_text, played, decoded, script_answer, campaign_answer, IsDecodeAnswer, IsAnswer}
-use Rattle.fuota_run.specs.Reply.{Gives, Effects, Ends, AppendsAnswer, AppendsAnswerFront, GivesBy, GivesScript, GivesCampaign, GivesDecode, IsPlayed, IsTextOf, IsReply, IsCaused, Says, ends_source}
+use Rattle.fuota_run.specs.Reply.{HoldsAsked, HoldsForm, Gives, Effects, Ends, AppendsAnswer, AppendsAnswerFront, GivesBy, GivesScript, GivesCampaign, GivesDecode, IsPlayed, IsTextOf, IsReply, IsCaused, Says, ends_source}
 use Rattle.fuota_run.specs.Replies.{IsUnread, IsSaid}
+
+-- where nothing is told of the files, nothing is asked of their names
+none_asked : (what : Option Asked) → HoldsAsked None what
+none_asked None = tt
+none_asked (Some (campaign image script)) = (tt, tt)
+none_asked (Some (decode port dir file)) = tt
+
+pub holds_asked : (held : Option Held) (words : List (List ℕ)) → HoldsForm held words → HoldsAsked held (asked words)
+holds_asked None words holds = none_asked (asked words)
+holds_asked (Some h) words holds = holds
 
 -- a rise since later is a rise since earlier
 risen_before : (before between now : ℕ) → before ≤ between → HasRisen between now → HasRisen before now

@@ -20,8 +20,9 @@ HoldsAsked held None = ⊤
 HoldsAsked held (Some (campaign image script)) = HoldsName held image × HoldsName held script
 HoldsAsked held (Some (decode port direction file)) = HoldsName held file
 
-unfoldable pub HoldsForm : Option Held → List (List ℕ) → Type 0
-HoldsForm held words = HoldsAsked held (asked words)
+abbrev pub HoldsForm : Option Held → List (List ℕ) → Type 0
+HoldsForm None words = ⊤
+HoldsForm (Some held) words = HoldsAsked (Some held) (asked words)
 
 -- the report, or the first refused line, of this image and script
 abbrev pub IsPlayed : Result WorldState LineFault → Result (List ℕ) WorldError → Type 0

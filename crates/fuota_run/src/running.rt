@@ -75,7 +75,7 @@ pub fn run<F: Files, O: Sink>(alloc: Global, words: &[String], files: &mut F, ou
 }
 
 /// What the words say over the files.
-#[tactic(auto, unfolding(crate::specs::Reply::HoldsForm))]
+#[tactic(auto, using(crate::proofs::ReplyLemmas::holds_asked))]
 fn reply_to<F: Files>(alloc: Global, words: &[String], files: &mut F) -> Result<Reply, AllocError>
     requires { HoldsForm (F.held files.old) (map string_bytes words.now) }
     ensures reply { IfOk result (λ r. Says (Gives (F.held files.old) (asked (map string_bytes words.now)) (answer_in r)) (F.faults files.old) (F.faults files.new) (F.left files.new) (answer_in r)) }
