@@ -14,7 +14,7 @@ use Rattle.fuota_run.specs.World.{WorldState, campaign_of}
 use Rattle.fuota_run.specs.Report.{image_line, device_line, counts_line, verdict_text, session_text, session_line, report_text, report_lines, report_of_ends, report_of}
 use Rattle.fuota_run.specs.declared.status.Status.TheVariants as status
 use Rattle.fuota_run.specs.Outside.{Held}
-use Rattle.fuota_run.specs.Words.{Asked, campaign, asked}
+use Rattle.fuota_run.specs.Words.{Asked}
 use Rattle.fuota_run.specs.Answer.{Answer, answer, script_answer, campaign_answer, IsAnswerTo, IsAnswer}
 use Rattle.fuota_run.specs.Headline.{IsWhole, FirstAt, IsDecidedAtFirst, IsFragmentOf, FirstAlone, IsServed, HearsDelivered, IsRecovered, IsReported, IsCampaign, AreHandedIn, Headline}
 use Rattle.fuota_run.proofs.HeadlineMoments.{decided_at_first}

@@ -1,5 +1,5 @@
 -- Messages of several commands, read one at a time.
-use Rattle.std.proofs.Common.{◌≡◌, ◌≢◌, ℕ, ◌+◌, ◌≤◌, List, [], ◌∷◌, length, Result, Ok, Err, ◌++◌, map, refl, sym, ap, subst, ◌∙◌, lit≤, append_assoc, arith}
+use Rattle.std.proofs.Common.{◌≡◌, ◌≢◌, ℕ, ◌≤◌, List, [], ◌∷◌, length, Result, Ok, Err, ◌++◌, map, sym, ap, ◌∙◌, lit≤, append_assoc}
 use Rattle.std.proofs.lemmas.List.{map-append}
 use Rattle.std.specs.List.{AllByRecursion}
 use Rattle.wire_base.specs.declared.refusal.Direction.{Direction}

@@ -14,12 +14,7 @@ use std::alloc::{AllocError, Global};
 use wire_base::{Direction, MAX_PAYLOAD, Refusal, Why};
 
 /// The text of a file of hex payloads, or its first refused line.
-pub fn decode(
-    alloc: Global,
-    port: u8,
-    dir: Direction,
-    file: &[u8],
-) -> Result<Vec<u8>, WorldError>
+pub fn decode(alloc: Global, port: u8, dir: Direction, file: &[u8]) -> Result<Vec<u8>, WorldError>
     ensures { IsDecoded port dir file.now (seen_text result) }
 {
     let mut text = Vec::new(alloc);

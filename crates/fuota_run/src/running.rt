@@ -159,7 +159,6 @@ fn script<F: Files>(
     reply_with(alloc, play(alloc, image, &script))
 }
 
-
 /// The reply to `decode PORT DIR FILE`.
 fn payloads<F: Files>(
     alloc: Global,

@@ -216,10 +216,12 @@ fn next_stage(image: &[u8], stage: Stage, command: &Command) -> Stage
     match (stage, command) {
         (
             Stage::At(Request::Version),
-            Command::Sync(sync_wire::Cmd::DevVersionAns {
-                hardware: found,
-                ..
-            }),
+            Command::Sync(
+                sync_wire::Cmd::DevVersionAns {
+                    hardware: found,
+                    ..
+                },
+            ),
         ) => { after_version(hardware(image), *found) }
         (Stage::At(Request::Fragments), Command::Cast(cmd)) => after_setup_answer(image, cmd),
         _ => stage,

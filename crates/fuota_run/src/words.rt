@@ -13,7 +13,10 @@ use wire_base::Direction;
 #[derive(Clone, Copy, Debug)]
 pub enum Asked<'a> {
     /// `campaign IMAGE SCRIPT`: the report of a campaign.
-    Campaign { image: &'a str, script: &'a str },
+    Campaign {
+        image: &'a str,
+        script: &'a str,
+    },
     /// `decode PORT DIR FILE`: the text of a file of payloads; the port is 200 to 203.
     Decode {
         port: u8,
@@ -43,11 +46,23 @@ pub fn read_words<'a>(alloc: Global, words: &'a [String]) -> Result<Option<Asked
 fn fuota<'a>(alloc: Global) -> Result<Command<'a>, AllocError>
     ensures { IfOk result (λ c. IsCommand c fuota) }
 {
-    let campaign = taking(alloc, taking(alloc, Command::new(alloc, "campaign"), "IMAGE")?, "SCRIPT")?;
-    let recover = taking(alloc, taking(alloc, Command::new(alloc, "recover"), "IMAGE")?, "SCRIPT")?;
+    let campaign = taking(
+        alloc,
+        taking(alloc, Command::new(alloc, "campaign"), "IMAGE")?,
+        "SCRIPT",
+    )?;
+    let recover = taking(
+        alloc,
+        taking(alloc, Command::new(alloc, "recover"), "IMAGE")?,
+        "SCRIPT",
+    )?;
     let recover = taking(alloc, recover, "DEVICE")?;
     let replay = taking(alloc, Command::new(alloc, "replay"), "FILE")?;
-    let decode = taking(alloc, taking(alloc, Command::new(alloc, "decode"), "PORT")?, "DIR")?;
+    let decode = taking(
+        alloc,
+        taking(alloc, Command::new(alloc, "decode"), "PORT")?,
+        "DIR",
+    )?;
     let decode = taking(alloc, decode, "FILE")?;
     let generate = taking(alloc, Command::new(alloc, "generate"), "SEED")?;
     let program = offering(Command::new(alloc, "fuota"), campaign)?;
@@ -56,11 +71,7 @@ fn fuota<'a>(alloc: Global) -> Result<Command<'a>, AllocError>
 }
 
 /// The command, with one word more that must be there.
-fn taking<'a>(
-    alloc: Global,
-    command: Command<'a>,
-    name: &'a str,
-) -> Result<Command<'a>, AllocError>
+fn taking<'a>(alloc: Global, command: Command<'a>, name: &'a str) -> Result<Command<'a>, AllocError>
     ensures { (app : App) → IsCommand command.entry app → IfOk result (λ c. IsCommand c (with_rule app (positional name.entry.now))) }
 {
     command.arg(Arg::new(alloc, name).required(true))

@@ -1,6 +1,6 @@
 -- A canonical spelling is a message of its one command.
 use Rattle.std.proofs.lemmas.Nat.{ones_le_self}
-use Rattle.std.proofs.Common.{List, ◌++◌, Some, None, ◌≡◌, ℕ, ◌+◌, ◌≤◌, [], ◌∷◌, length, refl, append-nil, length-append, zero-add, lit≤, arith}
+use Rattle.std.proofs.Common.{◌++◌, Some, None, ℕ, ◌+◌, ◌≤◌, [], ◌∷◌, length, refl, append-nil, length-append, zero-add, lit≤, arith}
 use Rattle.wire_base.specs.declared.refusal.Direction.{Direction}
 use Rattle.wire_base.specs.Rows.{Lies, IsListed, PartsFit, spelling}
 use Rattle.wire_base.specs.Numbers.{number_bytes}

@@ -55,7 +55,10 @@ const SOUND: Outside<'static> = Outside {
 };
 
 fn files(alloc: Global, outside: &Outside) -> Result<MemFiles, Fail> {
-    let script = format!(in alloc; "{}{}{}", outside.start, outside.clock, outside.events)?.into_bytes();
+    let script = format!(in alloc;
+        "{}{}{}",
+        outside.start, outside.clock, outside.events
+    )?.into_bytes();
     let mut files = Vec::new(alloc);
     files.push((format!(in alloc; "image")?, outside.image.to_vec(alloc)?))?;
     files.push((format!(in alloc; "script")?, script))?;
@@ -174,7 +177,11 @@ fn payloads_are_decoded_line_by_line(rt: HostRuntime) -> Result<(), Fail> {
     let time = ["fuota", "decode", "202", "down", "script"];
     let versions = ["fuota", "decode", "203", "down", "--", "script"];
     let rows = [
-        (&time[..], "0105000000f3\n", "line 1\nAppTimeAns correction=5 token=3\nend\n"),
+        (
+            &time[..],
+            "0105000000f3\n",
+            "line 1\nAppTimeAns correction=5 token=3\nend\n",
+        ),
         (&time[..], "", "end\n"),
         (&DECODE[..], "020004", "line 1\nrefused 3 short\nend\n"),
         (&versions[..], "017f\n", "line 1\nrefused 1 unknown\nend\n"),
@@ -188,8 +195,22 @@ fn payloads_are_decoded_line_by_line(rt: HostRuntime) -> Result<(), Fail> {
         says(&rt, rt.alloc(), words, lines, Status::Done, text)?;
     }
     let refused = Status::ScriptRefused;
-    says(&rt, rt.alloc(), &DECODE, "00\n000\n", refused, "line 2 syntax\n")?;
-    says(&rt, rt.alloc(), &DECODE, "00\nzz", refused, "line 2 syntax\n")
+    says(
+        &rt,
+        rt.alloc(),
+        &DECODE,
+        "00\n000\n",
+        refused,
+        "line 2 syntax\n",
+    )?;
+    says(
+        &rt,
+        rt.alloc(),
+        &DECODE,
+        "00\nzz",
+        refused,
+        "line 2 syntax\n",
+    )
 }
 
 #[test]

@@ -1,4 +1,4 @@
-use Rattle.std.proofs.Common.{length, sym, ap, append-nil, ◌∙◌, List, ℕ, ◌++◌, codes}
+use Rattle.std.proofs.Common.{sym, ap, append-nil, ◌∙◌, List, ℕ, ◌++◌, codes}
 use Rattle.package_grammar.specs.Texts.{text_of}
 use Rattle.package_grammar.proofs.Messages.{none_left, first_read}
 use Rattle.fuota_run.specs.Decode.{commands_text}

@@ -1,6 +1,6 @@
-use Rattle.std.proofs.Common.{◌≡◌, List, ℕ, sym, ap, ◌∙◌, subst}
+use Rattle.std.proofs.Common.{◌≡◌, List, ℕ, subst}
 use Rattle.fuota_run.specs.World.{campaign_of}
-use Rattle.fuota_run.specs.Answer.{played, script_answer}
+use Rattle.fuota_run.specs.Answer.{script_answer}
 use Rattle.fuota_run.specs.Reply.{IsPlayed}
 use Rattle.fuota_run.specs.Replies.{answer_in}
 use Rattle.fuota_run.specs.Texts.{seen_text}

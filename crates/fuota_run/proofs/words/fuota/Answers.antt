@@ -1,7 +1,4 @@
-use Rattle.std.proofs.Common.{List, ℕ, codes, Result, IfOk}
-use Rattle.clap.specs.declared.builder.command.Command.{Command}
-use Rattle.clap.specs.Words.{app_of, new_app}
-use Rattle.fuota_run.specs.Words.{IsCommand, fuota}
+use Rattle.fuota_run.specs.Words.{fuota}
 use Rattle.fuota_run.proofs.words.fuota.Goals as goal
 
 pub returns : goal.returns
