@@ -332,6 +332,7 @@ fn reserved_bits_are_ignored_and_written_0(rt: HostRuntime) -> Result<(), Fail> 
 fn each_command_cut_short_is_refused_at_the_cut(rt: HostRuntime) -> Result<(), Fail> {
     for (port, dir, digits, text) in &COMMANDS {
         let bytes = bytes_of(rt.alloc(), digits);
+        assert!(rt; bytes.len() <= 242);
         let is_fragment = text.starts_with("DataFragment");
         for cut in 1..bytes.len() {
             let answer = if is_fragment && cut > 3 {
