@@ -1,5 +1,4 @@
 pub mod Named
-pub mod Fragments
 pub mod Writing
 pub mod ReplyLemmas
 pub mod Messages

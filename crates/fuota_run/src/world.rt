@@ -14,8 +14,9 @@ ghost use Rattle.fuota_run.specs.World.{WorldState, first_world, numbered, is_at
 use crate::device::{Device, DeviceConfig, Uplink};
 use crate::lines::{Form, read_form};
 use crate::report::report;
-use crate::server::{MAX_FRAGMENTS, Request, Server, Stage, fragments};
+use crate::server::{Request, Server, Stage};
 use crate::spelling::{port_of, spelled};
+use frag_model::lines::MAX_PIECES;
 use package_grammar::Command;
 use std::alloc::{AllocError, Global};
 use std::marker::Model;
@@ -587,5 +588,7 @@ fn is_frag_size(len: usize, frag_size: u64) -> bool
     requires { len ≤ 65536 }
     ensures { result ≡ is_frag_size len frag_size }
 {
-    1 <= frag_size && frag_size <= MAX_FRAG_SIZE && fragments(len, frag_size as u8) <= MAX_FRAGMENTS
+    1 <= frag_size
+        && frag_size <= MAX_FRAG_SIZE
+        && len.div_ceil(frag_size as usize) <= MAX_PIECES as usize
 }
