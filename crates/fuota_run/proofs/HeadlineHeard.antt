@@ -12,10 +12,11 @@ use Rattle.frag_session.specs.Setup.{setup_bits, same_setup}
 use Rattle.frag_session.specs.Session as sessions
 use Rattle.frag_session.specs.Session.{Session, new_session, renewed, after_setup, followed, after_fragment, drop_cause, excludes}
 use Rattle.fuota_run.specs.declared.device.TheConstants.{FILE_AREA}
-use Rattle.fuota_run.specs.declared.grammar.Command.{Command}
-use Rattle.fuota_run.specs.declared.grammar.Command.TheVariants.{Cast, DevVersionReq}
+use Rattle.package_grammar.specs.declared.command.Command.{Command}
+use Rattle.package_grammar.specs.declared.command.Command.TheVariants.{Sync, Cast}
+use Rattle.sync_wire.specs.declared.cmd.Cmd.TheVariants.{DevVersionReq}
 use Rattle.fuota_run.specs.declared.lines.Form.{Form}
-use Rattle.fuota_run.specs.declared.lines.Form.TheVariants.{Header, Image, Device, Ask, Frag, Down, Up, End}
+use Rattle.fuota_run.specs.declared.lines.Form.TheVariants.{Header, Image, Device, At, Ask, Frag, Down, Up, End}
 use Rattle.fuota_run.specs.declared.world.Place.{Place}
 use Rattle.fuota_run.specs.declared.world.Place.TheVariants as place
 use Rattle.fuota_run.specs.declared.world.LineWhy.{LineWhy}
@@ -237,8 +238,8 @@ down_hears image size lines sent last d s line payload device word (inl is) k li
     let one = delivered_one lines sent (last + 1) line payload device word s line_is form got in
     subst (λ (x : Command). DeviceHears image size lines sent (last + 1) (Some (after_command d x (last + 1)))) (sym is)
     (session_more lines sent (Cast (setup_of image size)) (Takes image size d) last d.session
-    (λ w. let e : Cast (setup_of image size) ≡ DevVersionReq = one (Cast (setup_of image size)) w ∙ is in absurd cc)
-    (λ f at w. let e : Cast (DataFragment 0 f.number f.part) ≡ DevVersionReq = one (Cast (DataFragment 0 f.number f.part)) (subst (λ (n : ℕ). Delivers lines sent n (Cast (DataFragment 0 f.number f.part))) at w) ∙ is in absurd cc) h)
+    (λ w. let e : Cast (setup_of image size) ≡ Sync DevVersionReq = one (Cast (setup_of image size)) w ∙ is in absurd cc)
+    (λ f at w. let e : Cast (DataFragment 0 f.number f.part) ≡ Sync DevVersionReq = one (Cast (DataFragment 0 f.number f.part)) (subst (λ (n : ℕ). Delivers lines sent n (Cast (DataFragment 0 f.number f.part))) at w) ∙ is in absurd cc) h)
 down_hears image size lines sent last d s line payload device word (inr (inl is)) k line_is form got h =
     let one = delivered_one lines sent (last + 1) line payload device word s line_is form got in
     subst (λ (x : Command). DeviceHears image size lines sent (last + 1) (Some (after_command d x (last + 1)))) (sym is)
@@ -346,6 +347,10 @@ form_full image lines sent more w line (Device id hw rows offset key descriptor)
     let before : DeviceHears image (size_of w.server) lines sent w.lines None = subst (λ (d : Option DeviceState). DeviceHears image (size_of w.server) lines sent w.lines d) none h.all in
     let after : DeviceHears image (size_of w.server) lines sent (w.lines + 1) None = quiet image (size_of w.server) lines sent w.lines None (no_delivery lines sent (w.lines + 1) line (Device id hw rows offset key descriptor) line_is form refl) before in
     record { ready = some_ready w.place _; all = λ t. after (Cast (setup_of image (size_of w.server))) }
+form_full image lines sent more w line (At time) k h is line_is form fine = record {
+  ready = events_ready w.place w.device h.ready (passes w (At time) fine).may;
+  all = quiet image (size_of w.server) lines sent w.lines w.device (no_delivery lines sent (w.lines + 1) line (At time) line_is form refl) h.all;
+}
 form_full image lines sent more w line (Ask device) k h is line_is form fine =
     sends_full image (size_of w.server) lines sent w (Some device) (request_of w.server) (events_ready w.place w.device h.ready (passes w (Ask device) fine).may)
     (quiet image (size_of w.server) lines sent w.lines w.device (no_delivery lines sent (w.lines + 1) line (Ask device) line_is form refl) h.all)
@@ -396,6 +401,7 @@ unfolding form_made
 form_grows w Header = no_more w.sent
 form_grows w (Image frag_size parity) = no_more w.sent
 form_grows w (Device id hw rows offset key descriptor) = no_more w.sent
+form_grows w (At time) = no_more w.sent
 form_grows w (Ask device) = sends_grows w (Some device) (request_of w.server)
 form_grows w Frag = sends_grows (record w { server = moved_on w.server }) None (fragment_from w.server)
 form_grows w (Down payload device word) = reaches_grows w w.device (numbered w.sent payload)

@@ -14,7 +14,8 @@ use Rattle.fuota_run.specs.World.{WorldState, campaign_of}
 use Rattle.fuota_run.specs.Report.{image_line, device_line, counts_line, verdict_text, session_text, session_line, report_text, report_lines, report_of_ends, report_of}
 use Rattle.fuota_run.specs.declared.status.Status.TheVariants as status
 use Rattle.fuota_run.specs.Outside.{Held}
-use Rattle.fuota_run.specs.Answer.{answer, script_answer, campaign_answer, answer_of}
+use Rattle.fuota_run.specs.Words.{Asked}
+use Rattle.fuota_run.specs.Answer.{Answer, answer, script_answer, campaign_answer, IsAnswerTo, IsAnswer}
 use Rattle.fuota_run.specs.Headline.{IsWhole, FirstAt, IsDecidedAtFirst, IsFragmentOf, FirstAlone, IsServed, HearsDelivered, IsRecovered, IsReported, IsCampaign, AreHandedIn, Headline}
 use Rattle.fuota_run.proofs.HeadlineMoments.{decided_at_first}
 use Rattle.fuota_run.proofs.HeadlineWorlds.{IsSetFor, campaign_session}
@@ -171,10 +172,11 @@ reported image script world server device session c =
 -- ---- the program's answer
 
 answered : (words : List (List ℕ)) (held : Held) (image script : List ℕ) (world : WorldState) → AreHandedIn words held image script → campaign_of image script ≡ Ok world
-    → answer_of words held ≡ answer status.Done (report_of world)
-unfolding answer_of campaign_answer script_answer
-answered words held image script world h is =
-    rw (h.form, h.image_held, le-ltb _ _ h.image_short, h.image_fine, h.script_held, le-ltb _ _ h.script_short, is) refl
+    → (a : Answer) → IsAnswer words held a → a ≡ answer status.Done (report_of world)
+unfolding IsAnswer campaign_answer script_answer
+answered words held image script world h is a given =
+    let here : a ≡ campaign_answer (held h.image_name) (held h.script_name) = subst (λ (o : Option Asked). IsAnswerTo o held a) h.form given in
+    here ∙ rw (h.image_held, le-ltb _ _ h.image_short, h.image_fine, h.script_held, le-ltb _ _ h.script_short, is) refl
 
 pub headline : Headline
 headline = record { served = served; delivered = delivered; recovered = recovered; reported = reported; answered = answered }

@@ -8,10 +8,10 @@ use Rattle.frag_session.specs.declared.answers.Via.TheVariants as via
 use Rattle.frag_session.specs.Setup.{setup_bits, same_setup}
 use Rattle.frag_session.specs.Session.{Session, new_session, renewed, after_setup, followed, after_fragment, drop_cause}
 use Rattle.fuota_run.specs.declared.device.TheConstants.{FILE_AREA}
-use Rattle.fuota_run.specs.declared.grammar.Command.{Command}
-use Rattle.fuota_run.specs.declared.grammar.Command.TheVariants.{Cast}
+use Rattle.package_grammar.specs.declared.command.Command.{Command}
+use Rattle.package_grammar.specs.declared.command.Command.TheVariants.{Cast}
 use Rattle.fuota_run.specs.declared.lines.Form.{Form}
-use Rattle.fuota_run.specs.declared.lines.Form.TheVariants.{Header, Image, Device, Ask, Frag, Down, Up, End}
+use Rattle.fuota_run.specs.declared.lines.Form.TheVariants.{Header, Image, Device, At, Ask, Frag, Down, Up, End}
 use Rattle.fuota_run.specs.declared.world.LineWhy.{LineWhy}
 use Rattle.fuota_run.specs.declared.world.LineFault.{LineFault}
 use Rattle.fuota_run.specs.Script.{form_of, lines_of}
@@ -201,6 +201,7 @@ unfolding form_made
 form_step image lines w line Header k h line_is form = record { came = all_later lines w.sent w.lines w.device h; counted = refl }
 form_step image lines w line (Image frag_size parity) k h line_is form = record { came = all_later lines w.sent w.lines w.device h; counted = refl }
 form_step image lines w line (Device id hw rows offset key descriptor) k h line_is form = record { came = tt; counted = refl }
+form_step image lines w line (At time) k h line_is form = record { came = all_later lines w.sent w.lines w.device h; counted = refl }
 form_step image lines w line (Ask device) k h line_is form =
     let r = sends_step lines w (Some device) (request_of w.server) h in record { came = r.came; counted = r.counted }
 form_step image lines w line Frag k h line_is form =

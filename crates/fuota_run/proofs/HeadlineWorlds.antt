@@ -10,10 +10,11 @@ use Rattle.frag_session.specs.Session.{Session, new_session, renewed, after_setu
 use Rattle.frag_session.specs.Stands.{IsSetUp}
 use Rattle.frag_session.proofs.Calls.{accepted, set_up_fine}
 use Rattle.fuota_run.specs.declared.device.TheConstants.{FILE_AREA}
-use Rattle.fuota_run.specs.declared.grammar.Command.{Command}
-use Rattle.fuota_run.specs.declared.grammar.Command.TheVariants.{Cast, DevVersionReq}
+use Rattle.package_grammar.specs.declared.command.Command.{Command}
+use Rattle.package_grammar.specs.declared.command.Command.TheVariants.{Sync, Cast}
+use Rattle.sync_wire.specs.declared.cmd.Cmd.TheVariants.{DevVersionReq}
 use Rattle.fuota_run.specs.declared.lines.Form.{Form}
-use Rattle.fuota_run.specs.declared.lines.Form.TheVariants.{Header, Image, Device, Ask, Frag, Down, Up, End}
+use Rattle.fuota_run.specs.declared.lines.Form.TheVariants.{Header, Image, Device, At as Time, Ask, Frag, Down, Up, End}
 use Rattle.fuota_run.specs.declared.server.Request.TheVariants.{Version, Fragments, Status}
 use Rattle.fuota_run.specs.declared.server.Stage.{Stage}
 use Rattle.fuota_run.specs.declared.server.Stage.TheVariants.{At, Refused}
@@ -112,7 +113,7 @@ heard_device image size d n part mark f k =
 -- a command that the server of the image sends
 abbrev pub IsSentOf : List ℕ → ℕ → Command → Type 0
 IsSentOf image size c =
-    (c ≡ DevVersionReq)
+    (c ≡ Sync DevVersionReq)
     ⊎ ((c ≡ Cast (setup_of image size))
     ⊎ ((n : ℕ) × (1 ≤ n) × (n ≤ fragments_of (length image) size) × (c ≡ Cast (DataFragment 0 n (fragment_of image size n)))))
 
@@ -287,6 +288,7 @@ form_keeps image w (Device id hw rows offset key descriptor) k fine = record {
   sent = k.sent;
   device = tt;
 }
+form_keeps image w (Time time) k fine = record { image_is = k.image_is; early = λ e. absurd e; server = k.server; sent = k.sent; device = k.device }
 form_keeps image w (Ask device) k fine = sends_keeps image w (Some device) (request_of w.server) k (request_sent image w.server k.server)
 form_keeps image w Frag k fine =
     let moved = moved_server image w.server k.server in

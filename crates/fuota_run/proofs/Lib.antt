@@ -1,5 +1,4 @@
 pub mod Named
-pub mod Fragments
 pub mod Writing
 pub mod ReplyLemmas
 pub mod Messages
@@ -7,7 +6,6 @@ pub mod DeviceLemmas
 pub mod Texts
 pub mod CauseLemmas
 pub mod WorldLemmas
-pub mod Canonical
 pub mod Outcomes
 pub mod SourceLines
 pub mod Playing
@@ -17,3 +15,5 @@ pub mod HeadlineImage
 pub mod HeadlineLines
 pub mod HeadlineHeard
 pub mod HeadlineLaw
+pub mod Payloads
+pub mod CommandLine

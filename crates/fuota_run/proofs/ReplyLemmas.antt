@@ -1,49 +1,66 @@
 -- What a source that was read, or was not, makes the program say.
-use Rattle.std.proofs.Common.{◌≡◌, ◌≢◌, inl, inr, ℕ, ◌+◌, ◌<◌, ◌≤◌, true, false, nat_lt, List, length, Option, None, Some, IsSome, IfSome, Result, Ok, Err, IfOk, refl, sym, ap, subst, ◌∙◌, arith}
+use Rattle.std.proofs.Common.{◌≡◌, ◌≢◌, ◌⊎◌, inl, inr, ℕ, ◌+◌, ◌<◌, ◌≤◌, true, false, nat_lt, List, length, Option, None, Some, IsSome, IfSome, Result, Ok, Err, IfOk, refl, sym, ap, subst, ◌∙◌, arith}
 use Rattle.std.proofs.lemmas.Bool.{lt-ltb, le-ltb}
 use Rattle.std.specs.Io.KnownBytes.{IsAtEnd, Appends}
 use Rattle.fuota_run.specs.declared.source.SourceError.{SourceError}
 use Rattle.fuota_run.specs.declared.source.SourceError.TheVariants as error
 use Rattle.fuota_run.specs.declared.status.Status.{Status}
 use Rattle.fuota_run.specs.declared.status.Status.TheVariants as status
-use Rattle.fuota_run.specs.Outside.{Held, HoldsName, HasRisen}
+use Rattle.fuota_run.specs.Outside.{Held, HoldsName, HasRisen, AppendsFront}
 use Rattle.fuota_run.specs.Source.{IsSource, IsTooLong}
 use Rattle.image_slots.specs.Image.{is_image}
 use Rattle.fuota_run.specs.World.{campaign_of}
-use Rattle.fuota_run.specs.Answer.{Answer, answer, usage, is_form, word_at, answer_of, image_refused, too_long, taken_text, played, script_answer, campaign_answer}
-use Rattle.fuota_run.specs.Reply.{Gives, Effects, Ends, AppendsAnswer, GivesBy, GivesScript, GivesCampaign, IsTextOf, IsReply, IsCaused, Says, ends_source}
-use Rattle.fuota_run.specs.Replies.{IsUnread}
+use Rattle.wire_base.specs.declared.refusal.Direction.{Direction}
+use Rattle.fuota_run.specs.declared.world.LineFault.{LineFault}
+use Rattle.fuota_run.specs.declared.world.WorldError.{WorldError}
+use Rattle.fuota_run.specs.declared.world.WorldError.TheVariants as world
+use Rattle.fuota_run.specs.Report.{report_of}
+use Rattle.fuota_run.specs.Words.{Asked, campaign, decode, asked}
+use Rattle.fuota_run.specs.Decode.{Decodes, IsDecoded}
+use Rattle.fuota_run.specs.Answer.{Answer, answer, read_fault, usage, image_refused, too_long, taken_text, played, decoded, script_answer, campaign_answer, IsDecodeAnswer, IsAnswer}
+use Rattle.fuota_run.specs.Reply.{HoldsAsked, HoldsForm, Gives, Effects, Ends, AppendsAnswer, AppendsAnswerFront, GivesBy, GivesScript, GivesCampaign, GivesDecode, IsPlayed, IsTextOf, IsReply, IsCaused, Says, ends_source}
+use Rattle.fuota_run.specs.Replies.{IsUnread, IsSaid}
+
+-- where nothing is told of the files, nothing is asked of their names
+none_asked : (what : Option Asked) → HoldsAsked None what
+none_asked None = tt
+none_asked (Some (campaign image script)) = (tt, tt)
+none_asked (Some (decode port dir file)) = tt
+
+pub holds_asked : (held : Option Held) (words : List (List ℕ)) → HoldsForm held words → HoldsAsked held (asked words)
+holds_asked None words holds = none_asked (asked words)
+holds_asked (Some h) words holds = holds
 
 -- a rise since later is a rise since earlier
 risen_before : (before between now : ℕ) → before ≤ between → HasRisen between now → HasRisen before now
 risen_before before between now kept risen = omega arith
 
 -- a source that is too long gives the answer that says so
-too_long_given : (held : Option Held) (name : List ℕ) (answer_for : Held → Option (List ℕ) → Answer) (limit : ℕ) → ((h : Held) (bytes : List ℕ) → limit < length bytes → answer_for h (Some bytes) ≡ too_long limit)
-    → HoldsName held name → IsTooLong held name limit → GivesBy held name answer_for (too_long limit)
-too_long_given None name answer_for limit says holds long = refl
-too_long_given (Some h) name answer_for limit says holds long = by_file (h name) refl holds long
+too_long_given : (held : Option Held) (name : List ℕ) (IsFor : Held → Option (List ℕ) → Answer → Type 0) (limit : ℕ) → ((h : Held) (bytes : List ℕ) → limit < length bytes → IsFor h (Some bytes) (too_long limit))
+    → HoldsName held name → IsTooLong held name limit → GivesBy held name IsFor (too_long limit)
+too_long_given None name IsFor limit says holds long = refl
+too_long_given (Some h) name IsFor limit says holds long = by_file (h name) refl holds long
   where
-    by_file : (file : Option (List ℕ)) → h name ≡ file → IsSome file → IfSome file (λ bytes. limit < length bytes) → too_long limit ≡ answer_for h (h name)
+    by_file : (file : Option (List ℕ)) → h name ≡ file → IsSome file → IfSome file (λ bytes. limit < length bytes) → IsFor h (h name) (too_long limit)
     by_file None is some long = absurd cc
-    by_file (Some bytes) is some long = sym (ap (λ (f : Option (List ℕ)). answer_for h f) is ∙ says h bytes long)
+    by_file (Some bytes) is some long = subst (λ (f : Option (List ℕ)). IsFor h f (too_long limit)) (sym is) (says h bytes long)
 
 -- what is said where a source was not read
-pub says_unread : (held : Option Held) (name : List ℕ) (answer_for : Held → Option (List ℕ) → Answer) (limit before now : ℕ) (left : Option (List ℕ)) (e : SourceError) (a : Answer)
-    → ((h : Held) (bytes : List ℕ) → limit < length bytes → answer_for h (Some bytes) ≡ too_long limit) → HoldsName held name
+pub says_unread : (held : Option Held) (name : List ℕ) (IsFor : Held → Option (List ℕ) → Answer → Type 0) (limit before now : ℕ) (left : Option (List ℕ)) (e : SourceError) (a : Answer)
+    → ((h : Held) (bytes : List ℕ) → limit < length bytes → IsFor h (Some bytes) (too_long limit)) → HoldsName held name
     → ((taken : ℕ) → e ≡ error.TooLong taken → IsTooLong held name limit) → ((taken : ℕ) → e ≡ error.TooLong taken → taken ≡ limit + 1) → (e ≡ error.Failed → HasRisen before now)
-    → IsUnread e a → Says (GivesBy held name answer_for a) before now left a × (a.status ≢ status.Usage)
-says_unread held name answer_for limit before now left error.Memory a says holds long taken failed is = absurd is
-says_unread held name answer_for limit before now left error.Failed a says holds long taken failed is = (
+    → IsUnread e a → Says (GivesBy held name IsFor a) before now left a × (a.status ≢ status.Usage)
+says_unread held name IsFor limit before now left error.Memory a says holds long taken failed is = absurd is
+says_unread held name IsFor limit before now left error.Failed a says holds long taken failed is = (
   record { reply = inr (is, failed refl); told = subst (λ (x : Answer). IsTextOf x.status x.text) (sym is) refl; caused = λ _. (failed refl, is); read_up = λ ends. absurd (let s = ap ends_source (ap (λ (x : Answer). x.status) is) in cc) },
   λ usage. let s = ap (λ (x : Answer). x.status) is in cc,
 )
-says_unread held name answer_for limit before now left (error.TooLong n) a says holds long taken failed is =
+says_unread held name IsFor limit before now left (error.TooLong n) a says holds long taken failed is =
     let count : n ≡ limit + 1 = taken n refl in
     let here : a ≡ too_long limit = is ∙ ap (λ m. answer (status.TooLong m) (taken_text m)) count in
     let s : a.status ≡ status.TooLong (limit + 1) = ap (λ (x : Answer). x.status) here in (
       record {
-        reply = inl (subst (λ (x : Answer). GivesBy held name answer_for x) (sym here) (too_long_given held name answer_for limit says holds (long n refl)));
+        reply = inl (subst (λ (x : Answer). GivesBy held name IsFor x) (sym here) (too_long_given held name IsFor limit says holds (long n refl)));
         told = subst (λ (x : Answer). IsTextOf x.status x.text) (sym here) refl;
         caused = λ fault. absurd cc;
         read_up = λ ends. absurd (let t = ap ends_source s in cc);
@@ -52,14 +69,14 @@ says_unread held name answer_for limit before now left (error.TooLong n) a says 
     )
 
 -- what is said where a source was read to its end
-pub says_source : (held : Option Held) (name : List ℕ) (answer_for : Held → Option (List ℕ) → Answer) (limit before now : ℕ) (left : Option (List ℕ)) (bytes : List ℕ) (a : Answer)
-    → IsSource held name limit bytes → ((h : Held) → a ≡ answer_for h (Some bytes)) → IsTextOf a.status a.text → a.status ≢ status.ReadFault → IsAtEnd left → Says (GivesBy held name answer_for a) before now left a
-says_source None name answer_for limit before now left bytes a source is text fine ends = record { reply = inl text; told = text; caused = λ fault. absurd (fine fault); read_up = λ _. ends }
-says_source (Some h) name answer_for limit before now left bytes a source is text fine ends =
-    record { reply = inl (is h ∙ ap (λ (f : Option (List ℕ)). answer_for h f) (sym source)); told = text; caused = λ fault. absurd (fine fault); read_up = λ _. ends }
+pub says_source : (held : Option Held) (name : List ℕ) (IsFor : Held → Option (List ℕ) → Answer → Type 0) (limit before now : ℕ) (left : Option (List ℕ)) (bytes : List ℕ) (a : Answer)
+    → IsSource held name limit bytes → ((h : Held) → IsFor h (Some bytes) a) → IsTextOf a.status a.text → a.status ≢ status.ReadFault → IsAtEnd left → Says (GivesBy held name IsFor a) before now left a
+says_source None name IsFor limit before now left bytes a source is text fine ends = record { reply = inl text; told = text; caused = λ fault. absurd (fine fault); read_up = λ _. ends }
+says_source (Some h) name IsFor limit before now left bytes a source is text fine ends =
+    record { reply = inl (subst (λ (f : Option (List ℕ)). IsFor h f a) (sym source) (is h)); told = text; caused = λ fault. absurd (fine fault); read_up = λ _. ends }
 
 -- a script that is too long
-pub script_long : (image script : List ℕ) → 1048576 < length script → script_answer image (Some script) ≡ too_long 1048576
+pub script_long : (image script : List ℕ) → 1048576 < length script → too_long 1048576 ≡ script_answer image (Some script)
 unfolding script_answer
 script_long image script long = let t : nat_lt 1048576 (length script) ≡ true = lt-ltb _ _ long in rw t refl
 
@@ -69,7 +86,7 @@ unfolding script_answer
 script_given image script a within is = let t : nat_lt 1048576 (length script) ≡ false = le-ltb _ _ within in rw t is
 
 -- an image that is too long
-pub image_long : (image : List ℕ) (script : Option (List ℕ)) → 65536 < length image → campaign_answer (Some image) script ≡ too_long 65536
+pub image_long : (image : List ℕ) (script : Option (List ℕ)) → 65536 < length image → too_long 65536 ≡ campaign_answer (Some image) script
 unfolding campaign_answer
 image_long image script long = let t : nat_lt 65536 (length image) ≡ true = lt-ltb _ _ long in rw t refl
 
@@ -105,42 +122,78 @@ says_behind held middle image_name script_name before between now left image a s
     replies (Some h) source (inl is) = inl (is ∙ image_given image (h script_name) within good ∙ ap (λ (i : Option (List ℕ)). campaign_answer i (h script_name)) (sym source))
     replies h source (inr fault) = inr (fault.0, risen_before before between now kept fault.1)
 
--- what is said where the words are no form
-pub says_usage : (held : Option Held) (words : List (List ℕ)) (before : ℕ) (left : Option (List ℕ)) (a : Answer) → is_form words ≡ false → a ≡ usage → Says (Gives held words a) before before left a
-unfolding answer_of
-says_usage held words before left a bad is =
+-- what is said where nothing is asked for
+pub says_usage : (held : Option Held) (before : ℕ) (left : Option (List ℕ)) (a : Answer) → a ≡ usage → Says (Gives held None a) before before left a
+says_usage held before left a is =
     let s : a.status ≡ status.Usage = ap (λ (x : Answer). x.status) is in
     let text = subst (λ (x : Answer). IsTextOf x.status x.text) (sym is) refl in
     record { reply = inl (given held); told = text; caused = λ fault. absurd cc; read_up = λ ends. absurd (let t = ap ends_source s in cc) }
   where
-    answered : (h : Held) → usage ≡ answer_of words h
-    answered h = rw bad refl
-
-    given : (h : Option Held) → Gives h words a
+    given : (h : Option Held) → Gives h None a
     given None = subst (λ (x : Answer). IsTextOf x.status x.text) (sym is) refl
-    given (Some h) = is ∙ answered h
+    given (Some h) = is
 
--- where they are one, it is what is said of its files
-pub says_form : (held : Option Held) (words : List (List ℕ)) (before now : ℕ) (left : Option (List ℕ)) (a : Answer) → is_form words ≡ true
-    → Says (GivesCampaign held (word_at words 2) (word_at words 3) a) before now left a → Says (Gives held words a) before now left a
-unfolding answer_of
-says_form held words before now left a good says = record { reply = replies held says.reply; told = says.told; caused = says.caused; read_up = says.read_up }
-  where
-    answered : (h : Held) → campaign_answer (h (word_at words 2)) (h (word_at words 3)) ≡ answer_of words h
-    answered h = rw good refl
+-- what is said of a form's files is said of the form
+pub says_campaign : (held : Option Held) (image script : List ℕ) (before now : ℕ) (left : Option (List ℕ)) (a : Answer)
+    → Says (GivesCampaign held image script a) before now left a → Says (Gives held (Some (campaign image script)) a) before now left a
+says_campaign None image script before now left a says = record { reply = says.reply; told = says.told; caused = says.caused; read_up = says.read_up }
+says_campaign (Some h) image script before now left a says = record { reply = says.reply; told = says.told; caused = says.caused; read_up = says.read_up }
 
-    replies : (h : Option Held) → IsReply (GivesCampaign h (word_at words 2) (word_at words 3) a) before now a → IsReply (Gives h words a) before now a
-    replies None (inl text) = inl text
-    replies (Some h) (inl is) = inl (is ∙ answered h)
-    replies h (inr fault) = inr fault
+pub says_decode : (held : Option Held) (port : ℕ) (dir : Direction) (file : List ℕ) (before now : ℕ) (left : Option (List ℕ)) (a : Answer)
+    → Says (GivesDecode held port dir file a) before now left a → Says (Gives held (Some (decode port dir file)) a) before now left a
+says_decode None port dir file before now left a says = record { reply = says.reply; told = says.told; caused = says.caused; read_up = says.read_up }
+says_decode (Some h) port dir file before now left a says = record { reply = says.reply; told = says.told; caused = says.caused; read_up = says.read_up }
+
+-- an answer that a whole file made
+pub record IsMade (a : Answer) : Type 0 where
+  pub told : IsTextOf a.status a.text
+  pub sound : a.status ≢ status.ReadFault
+  pub used : a.status ≢ status.Usage
+
+-- the answer with what a script made
+pub says_played : (image script : List ℕ) (r : Result (List ℕ) WorldError) (a : Answer) → IsPlayed (campaign_of image script) r → IsSaid r a → (a ≡ played (campaign_of image script)) × IsMade a
+says_played image script (Ok text) a made said =
+    let is : a ≡ answer status.Done (report_of made.0) = said ∙ ap (λ t. answer status.Done t) made.2 in (
+      is ∙ sym (ap played made.1),
+      subst IsMade (sym is) (record { told = inl (made.0, refl); sound = λ e. cc; used = λ e. cc }),
+    )
+says_played image script (Err (world.Line fault)) a made said = (
+  said ∙ sym (ap played made),
+  subst IsMade (sym said) (record { told = (fault, refl); sound = λ e. cc; used = λ e. cc }),
+)
+says_played image script (Err world.Memory) a made said = absurd said
+
+-- and with what a file of payloads made
+pub says_decoded : (port : ℕ) (dir : Direction) (file : List ℕ) (r : Result (List ℕ) WorldError) (a : Answer) → IsDecoded port dir file r → IsSaid r a
+    → ((said : Result (List ℕ) LineFault) × Decodes port dir file said × (a ≡ decoded said)) × IsMade a
+says_decoded port dir file (Ok text) a made said = (
+  (Ok text, made, said),
+  subst IsMade (sym said) (record { told = inr (port, dir, file, made); sound = λ e. cc; used = λ e. cc }),
+)
+says_decoded port dir file (Err (world.Line fault)) a made said = (
+  (Err fault, made, said),
+  subst IsMade (sym said) (record { told = (fault, refl); sound = λ e. cc; used = λ e. cc }),
+)
+says_decoded port dir file (Err world.Memory) a made said = absurd said
+
+-- a file of payloads that is too long
+pub file_long : (port : ℕ) (dir : Direction) (file : List ℕ) → 1048576 < length file → IsDecodeAnswer port dir (Some file) (too_long 1048576)
+unfolding IsDecodeAnswer
+file_long port dir file long = let t : nat_lt 1048576 (length file) ≡ true = lt-ltb _ _ long in rw t refl
+
+-- one within its limit
+pub file_given : (port : ℕ) (dir : Direction) (file : List ℕ) (a : Answer) → length file ≤ 1048576 → ((said : Result (List ℕ) LineFault) × Decodes port dir file said × (a ≡ decoded said))
+    → IsDecodeAnswer port dir (Some file) a
+unfolding IsDecodeAnswer
+file_given port dir file a within said = let t : nat_lt 1048576 (length file) ≡ false = le-ltb _ _ within in rw t said
 
 -- what is written of a reply
-appends_answer : (held : Option Held) (words : List (List ℕ)) (s : Status) (text : List ℕ) (old new : Option (List ℕ)) → Gives held words (answer s text) → IsTextOf s text → Appends old new text → AppendsAnswer held words s old new
+appends_answer : (held : Option Held) (words : List (List ℕ)) (s : Status) (text : List ℕ) (old new : Option (List ℕ)) → Gives held (asked words) (answer s text) → IsTextOf s text → Appends old new text → AppendsAnswer held words s old new
+unfolding IsAnswer
 appends_answer None words s text old new gives told appends = (text, told, appends)
-appends_answer (Some h) words s text old new gives told appends =
-    (ap (λ (x : Answer). x.status) gives, subst (λ (x : Answer). Appends old new x.text) gives appends)
+appends_answer (Some h) words s text old new gives told appends = (answer s text, gives, refl, appends)
 
-ends_by : (held : Option Held) (words : List (List ℕ)) (e : Effects) (s : Status) (text : List ℕ) → Gives held words (answer s text) → IsTextOf s text
+ends_by : (held : Option Held) (words : List (List ℕ)) (e : Effects) (s : Status) (text : List ℕ) → Gives held (asked words) (answer s text) → IsTextOf s text
     → IsCaused e.files_before e.files_after (answer s text) → Appends e.old e.new text → Ends held words e s
 ends_by held words e status.Done text gives told caused appends = appends_answer held words status.Done text e.old e.new gives told appends
 ends_by held words e status.Usage text gives told caused appends = appends_answer held words status.Usage text e.old e.new gives told appends
@@ -153,9 +206,31 @@ ends_by held words e status.WriteFault text gives told caused appends = absurd t
 ends_by held words e status.Memory text gives told caused appends = absurd told
 
 -- how a run ends whose text was written
-pub ends_written : (held : Option Held) (words : List (List ℕ)) (e : Effects) (left : Option (List ℕ)) (a : Answer) → Says (Gives held words a) e.files_before e.files_after left a → Appends e.old e.new a.text → Ends held words e a.status
+pub ends_written : (held : Option Held) (words : List (List ℕ)) (e : Effects) (left : Option (List ℕ)) (a : Answer) → Says (Gives held (asked words) a) e.files_before e.files_after left a → Appends e.old e.new a.text → Ends held words e a.status
 ends_written held words e left a says appends =
     elim says.reply [
       | inl gives ↦ ends_by held words e a.status a.text gives says.told says.caused appends
       | inr fault ↦ subst (λ (x : Answer). Ends held words e x.status) (sym fault.0) (fault.1, subst (λ (x : Answer). Appends e.old e.new x.text) fault.0 appends)
+    ]
+
+-- where no call failed and memory sufficed, what was written is an answer
+pub exact_of : (X Y : Type 0) (held : Option Held) (words : List (List ℕ)) (before now : ℕ) (left : Option (List ℕ)) (a : Answer) (old new : Option (List ℕ)) → Says (Gives held (asked words) a) before now left a → Appends old new a.text
+    → IfSome held (λ h. ¬ HasRisen before now → X → Y → AppendsAnswer (Some h) words a.status old new)
+unfolding IsAnswer
+exact_of X Y None words before now left a old new says appends = tt
+exact_of X Y (Some h) words before now left a old new says appends = λ quiet sound enough.
+    elim says.reply [
+      | inl gives ↦ (a, gives, refl, appends)
+      | inr fault ↦ absurd (quiet fault.1)
+    ]
+
+-- where writing failed, a front of it was
+pub front_of : (held : Option Held) (words : List (List ℕ)) (before now : ℕ) (left : Option (List ℕ)) (a : Answer) (old new : Option (List ℕ)) → Says (Gives held (asked words) a) before now left a → AppendsFront old new a.text
+    → AppendsAnswerFront held words old new ⊎ (HasRisen before now × AppendsFront old new read_fault.text)
+unfolding IsAnswer
+front_of None words before now left a old new says front = inl (a.status, a.text, says.told, front)
+front_of (Some h) words before now left a old new says front =
+    elim says.reply [
+      | inl gives ↦ inl (a, gives, front)
+      | inr fault ↦ inr (fault.1, subst (λ (x : Answer). AppendsFront old new x.text) fault.0 front)
     ]

@@ -5,8 +5,8 @@ use Rattle.std.proofs.lemmas.List.{map-append, length-map}
 use Rattle.fuota_run.proofs.Messages.{all_more}
 use Rattle.fuota_run.specs.declared.device.Uplink.{Uplink}
 use Rattle.cast_wire.specs.declared.cmd.Cmd.TheVariants.{PackageVersionReq, PackageVersionAns, FragSessionStatusReq, FragSessionStatusAns, FragSessionSetupReq, FragSessionSetupAns, FragSessionDeleteReq, FragSessionDeleteAns, DataFragment, McGroupStatusReq, McGroupStatusAns, McGroupSetupReq, McGroupSetupAns, McGroupDeleteReq, McGroupDeleteAns, McClassCSessionReq, McClassCSessionAns, McClassBSessionReq, McClassBSessionAns}
-use Rattle.fuota_run.specs.declared.grammar.Command.{Command}
-use Rattle.fuota_run.specs.declared.grammar.Command.TheVariants.{Cast, DevVersionReq, DevVersionAns}
+use Rattle.package_grammar.specs.declared.command.Command.{Command}
+use Rattle.package_grammar.specs.declared.command.Command.TheVariants.{Sync, Cast}
 use Rattle.fuota_run.specs.declared.lines.Form.{Form}
 use Rattle.fuota_run.specs.declared.world.WorldError.{WorldError}
 use Rattle.fuota_run.specs.declared.world.WorldError.TheVariants as error
@@ -37,7 +37,7 @@ same_sent (s ∷ ss) = ap (λ (r : List (Option ℕ)). s.to ∷ r) (same_sent ss
 pub same_circumstances : (h : HeldWorld) (w : WorldState) → StandsFor h w → circumstances_of w ≡ circumstances_in h
 unfolding circumstances_of
 same_circumstances h w stands =
-    rw (stands.lines, stands.place, stands.image, stands.server, same_device _ _ stands.device, stands.sent, stands.uplinks, same_sent w.sent, length-map w.uplinks uplink_of) refl
+    rw (stands.lines, stands.place, stands.time, stands.image, stands.server, same_device _ _ stands.device, stands.sent, stands.uplinks, same_sent w.sent, length-map w.uplinks uplink_of) refl
 
 -- a payload is sent in an event
 pub sends_stands : (h : HeldWorld) (w : WorldState) (server : Option ServerState) (to : Option ℕ) (c : Option Command) → StandsFor h w → IfSome c IsDownlink
@@ -46,6 +46,7 @@ sends_stands h w server to None stands fine = record {
   image = stands.image;
   lines = stands.lines;
   place = refl;
+  time = stands.time;
   server = refl;
   device = stands.device;
   sent = stands.sent;
@@ -59,6 +60,7 @@ sends_stands h w server to (Some c) stands fine =
       image = stands.image;
       lines = stands.lines;
       place = refl;
+      time = stands.time;
       server = refl;
       device = stands.device;
       sent = ap (λ (ss : List Sent). ss ++ sent_of s ∷ []) stands.sent ∙ sym (map-append sent_of w.sent (s ∷ []));
@@ -124,6 +126,7 @@ hears_stands h w number server after c stands is heard now =
       image = stands.image;
       lines = stands.lines;
       place = refl;
+      time = stands.time;
       server = ap (λ (s : ServerState). Some s) (sym now);
       device = stands.device;
       sent = stands.sent;
@@ -142,6 +145,7 @@ reaches_stands h w payload held d s ups stands device sent held_as empty more fi
       image = stands.image;
       lines = stands.lines;
       place = refl;
+      time = stands.time;
       server = stands.server;
       device = (held_as, empty);
       sent = stands.sent;
@@ -156,7 +160,7 @@ pub reaches_nothing : (h : HeldWorld) (w : WorldState) (payload : ℕ) → Stand
 reaches_nothing h w payload stands nothing = same w.device (numbered w.sent payload) nothing
   where
     plain : StandsFor (record h { place = place.Events }) (at_events w)
-    plain = record { image = stands.image; lines = stands.lines; place = refl; server = stands.server; device = stands.device; sent = stands.sent; uplinks = stands.uplinks; downs = stands.downs; ups = stands.ups }
+    plain = record { image = stands.image; lines = stands.lines; place = refl; time = stands.time; server = stands.server; device = stands.device; sent = stands.sent; uplinks = stands.uplinks; downs = stands.downs; ups = stands.ups }
 
     same : (d : Option DeviceState) (s : Option Sending) → ((d ≡ None) ⊎ (s ≡ None)) → StandsFor (record h { place = place.Events }) (at_events (reaches w d s))
     same None s none = plain
@@ -170,6 +174,7 @@ record_with_device h device w is stands = record {
   image = stands.image;
   lines = stands.lines;
   place = stands.place;
+  time = stands.time;
   server = stands.server;
   device = subst (λ (d : Option HeldDevice). DeviceStands d w.device) is stands.device;
   sent = stands.sent;
@@ -199,8 +204,7 @@ weight_one (Cast (McClassCSessionReq id time timeout freq dr)) = lit≤ tt
 weight_one (Cast (McClassCSessionAns id undefined freq_error dr_error start)) = lit≤ tt
 weight_one (Cast (McClassBSessionReq id time periodicity timeout freq dr)) = lit≤ tt
 weight_one (Cast (McClassBSessionAns id undefined freq_error dr_error start)) = lit≤ tt
-weight_one DevVersionReq = lit≤ tt
-weight_one (DevVersionAns firmware hardware) = lit≤ tt
+weight_one (Sync cmd) = lit≤ tt
 
 -- the answers of a device that held no uplink
 pub only_answers : (old : List Uplink) (cs : List Command) → old ≡ [] → old ++ map uplink_of (cs ++ []) ≡ map uplink_of cs
@@ -212,6 +216,7 @@ kept_stands h w k stands = record {
   image = stands.image;
   lines = stands.lines;
   place = stands.place;
+  time = stands.time;
   server = stands.server;
   device = stands.device;
   sent = stands.sent;

@@ -1,6 +1,5 @@
 -- The answer of the program: the status and the text that words and files determine, where nothing fails.
-use Rattle.std.specs.Prelude.{ℕ, ◌+◌, Bool, false, ◌&&◌, not, ◌==◌, nat_lt, if◌then◌else◌, List, [], ◌∷◌, ◌++◌, length, slice_get, unwrap_or, codes, Option, Some, None, Result, Ok, Err}
-use Rattle.std.specs.Str.{bytes_eq}
+use Rattle.std.specs.Prelude.{◌≡◌, ℕ, ◌+◌, Bool, true, false, nat_lt, if◌then◌else◌, List, ◌++◌, length, codes, Option, Some, None, Result, Ok, Err}
 use Rattle.std.specs.Fmt.{decimal}
 use Rattle.fuota_run.specs.declared.running.TheConstants.{IMAGE_LIMIT, SCRIPT_LIMIT}
 use Rattle.fuota_run.specs.declared.status.Status.{Status}
@@ -8,7 +7,10 @@ use Rattle.fuota_run.specs.declared.status.Status.TheVariants as status
 use Rattle.fuota_run.specs.declared.world.LineWhy.{LineWhy}
 use Rattle.fuota_run.specs.declared.world.LineWhy.TheVariants as why
 use Rattle.fuota_run.specs.declared.world.LineFault.{LineFault}
+use Rattle.wire_base.specs.declared.refusal.Direction.{Direction}
 use Rattle.fuota_run.specs.Outside.{Held}
+use Rattle.fuota_run.specs.Words.{Asked, campaign, decode, asked}
+use Rattle.fuota_run.specs.Decode.{Decodes}
 use Rattle.image_slots.specs.Image.{is_image}
 use Rattle.fuota_run.specs.World.{WorldState, campaign_of}
 use Rattle.fuota_run.specs.Report.{report_of}
@@ -34,6 +36,7 @@ why_word why.Order = codes "order"
 why_word why.Range = codes "range"
 why_word why.Device = codes "device"
 why_word why.Unsent = codes "unsent"
+why_word why.Time = codes "time"
 
 -- a line is refused
 abbrev pub refused : LineFault → Answer
@@ -71,21 +74,27 @@ campaign_answer (Some image) script =
     else if is_image image then script_answer image script
     else image_refused
 
--- the word at a place, counted from 0
-abbrev pub word_at : List (List ℕ) → ℕ → List ℕ
-word_at words k = unwrap_or (slice_get words k) []
+-- the text of a file of payloads, or its first refused line
+abbrev pub decoded : Result (List ℕ) LineFault → Answer
+decoded (Ok text) = answer status.Done text
+decoded (Err fault) = refused fault
 
--- a word that begins with a dash (45)
-abbrev pub begins_with_dash : List ℕ → Bool
-begins_with_dash [] = false
-begins_with_dash (b ∷ bs) = b == 45
+-- the answer to a file of payloads that was read: it is too long, or what is said of its lines
+abbrev pub IsFileAnswer : Bool → ℕ → Direction → List ℕ → Answer → Type 0
+IsFileAnswer true port direction file a = a ≡ too_long SCRIPT_LIMIT
+IsFileAnswer false port direction file a = (said : Result (List ℕ) LineFault) × Decodes port direction file said × (a ≡ decoded said)
 
--- the words are a form: `campaign IMAGE SCRIPT` behind the program's name, the last two not beginning with a dash
-unfoldable pub is_form : List (List ℕ) → Bool
-is_form words =
-    length words == 4 && bytes_eq (word_at words 1) (codes "campaign")
-    && not (begins_with_dash (word_at words 2)) && not (begins_with_dash (word_at words 3))
+-- the answer to `decode PORT DIR FILE`
+unfoldable pub IsDecodeAnswer : ℕ → Direction → Option (List ℕ) → Answer → Type 0
+IsDecodeAnswer port direction None a = a ≡ read_fault
+IsDecodeAnswer port direction (Some file) a = IsFileAnswer (nat_lt SCRIPT_LIMIT (length file)) port direction file a
 
--- the answer to the words over the files that are held
-unfoldable pub answer_of : List (List ℕ) → Held → Answer
-answer_of words held = if is_form words then campaign_answer (held (word_at words 2)) (held (word_at words 3)) else usage
+-- the answer to what is asked for, over the files that are held
+abbrev pub IsAnswerTo : Option Asked → Held → Answer → Type 0
+IsAnswerTo None held a = a ≡ usage
+IsAnswerTo (Some (campaign image script)) held a = a ≡ campaign_answer (held image) (held script)
+IsAnswerTo (Some (decode port direction file)) held a = IsDecodeAnswer port direction (held file) a
+
+-- the answer to the words
+unfoldable pub IsAnswer : List (List ℕ) → Held → Answer → Type 0
+IsAnswer words held a = IsAnswerTo (asked words) held a

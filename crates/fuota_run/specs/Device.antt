@@ -12,8 +12,9 @@ use Rattle.cast_wire.specs.declared.cmd.Cmd.TheVariants.{FragSessionSetupReq, Fr
 use Rattle.fuota_run.specs.declared.device.TheConstants.{FILE_AREA}
 use Rattle.fuota_run.specs.declared.device.Counts.{Counts}
 use Rattle.fuota_run.specs.declared.device.DeviceConfig.{DeviceConfig}
-use Rattle.fuota_run.specs.declared.grammar.Command.{Command}
-use Rattle.fuota_run.specs.declared.grammar.Command.TheVariants.{Cast, DevVersionReq, DevVersionAns}
+use Rattle.package_grammar.specs.declared.command.Command.{Command}
+use Rattle.package_grammar.specs.declared.command.Command.TheVariants.{Sync, Cast}
+use Rattle.sync_wire.specs.declared.cmd.Cmd.TheVariants.{DevVersionReq, DevVersionAns}
 use Rattle.image_slots.specs.declared.view.ImageState.{ImageState}
 use Rattle.image_slots.specs.declared.view.ImageState.TheVariants as image
 use Rattle.image_slots.specs.Image.{image_state}
@@ -109,7 +110,7 @@ after_command device command mark = device
 
 -- its answer, if it has one
 unfoldable pub answer_to : DeviceConfig → Command → List Command
-answer_to config DevVersionReq = DevVersionAns 0 config.hw ∷ []
+answer_to config (Sync DevVersionReq) = Sync (DevVersionAns 0 config.hw) ∷ []
 answer_to config (Cast (FragSessionSetupReq index mask nb_frag frag_size algo delay padding descriptor)) =
     setup_answer index (setup_bits (limits_of config) FILE_AREA
     (record { index = index; mask = mask; nb_frag = nb_frag; frag_size = frag_size; algo = algo; delay = delay; padding = padding; descriptor = descriptor })) ∷ []

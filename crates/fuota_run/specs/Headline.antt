@@ -10,14 +10,15 @@ use Rattle.frag_model.specs.File.{FileFits, OneFileFits}
 use Rattle.frag_session.specs.declared.answers.Verdict.TheVariants as verdict
 use Rattle.frag_session.specs.Session.{Session, Seen, shape_of, seen_of}
 use Rattle.cast_wire.specs.declared.cmd.Cmd.TheVariants.{DataFragment}
-use Rattle.fuota_run.specs.declared.grammar.Command.TheVariants.{Cast}
-use Rattle.fuota_run.specs.declared.grammar.Command.{Command}
+use Rattle.package_grammar.specs.declared.command.Command.TheVariants.{Cast}
+use Rattle.package_grammar.specs.declared.command.Command.{Command}
 use Rattle.fuota_run.specs.declared.lines.Form.TheVariants.{Down}
 use Rattle.fuota_run.specs.declared.running.TheConstants.{IMAGE_LIMIT, SCRIPT_LIMIT}
 use Rattle.fuota_run.specs.declared.status.Status.TheVariants as status
 use Rattle.fuota_run.specs.Outside.{Held}
 use Rattle.image_slots.specs.Image.{is_image}
-use Rattle.fuota_run.specs.Answer.{answer, is_form, word_at, answer_of}
+use Rattle.fuota_run.specs.Words.{campaign, asked}
+use Rattle.fuota_run.specs.Answer.{Answer, answer, IsAnswer}
 use Rattle.fuota_run.specs.Server.{ServerState, fragments_of, padding_of, fragment_of, setup_of}
 use Rattle.fuota_run.specs.Device.{DeviceState}
 use Rattle.fuota_run.specs.Script.{form_of, lines_of}
@@ -196,9 +197,11 @@ pub record IsCampaign (image script : List ℕ) (world : WorldState) (server : S
 
 -- the words and the files of a campaign: both files are within their limits, and the image is an image file
 pub record AreHandedIn (words : List (List ℕ)) (held : Held) (image script : List ℕ) : Type 0 where
-  pub form : is_form words ≡ true
-  pub image_held : held (word_at words 2) ≡ Some image
-  pub script_held : held (word_at words 3) ≡ Some script
+  pub image_name : List ℕ
+  pub script_name : List ℕ
+  pub form : asked words ≡ Some (campaign image_name script_name)
+  pub image_held : held image_name ≡ Some image
+  pub script_held : held script_name ≡ Some script
   pub image_short : length image ≤ IMAGE_LIMIT
   pub script_short : length script ≤ SCRIPT_LIMIT
   pub image_fine : is_image image ≡ true
@@ -219,4 +222,4 @@ pub record Headline : Type 0 where
       → IsCampaign image script world server device session → IsReported image world server device session
   -- and it is what the program answers
   pub answered : (words : List (List ℕ)) (held : Held) (image script : List ℕ) (world : WorldState) → AreHandedIn words held image script
-      → campaign_of image script ≡ Ok world → answer_of words held ≡ answer status.Done (report_of world)
+      → campaign_of image script ≡ Ok world → (a : Answer) → IsAnswer words held a → a ≡ answer status.Done (report_of world)

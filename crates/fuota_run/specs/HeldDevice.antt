@@ -5,9 +5,10 @@ use Rattle.frag_session.specs.Stands.{Stands}
 use Rattle.fuota_run.specs.declared.device.Counts.{Counts}
 use Rattle.fuota_run.specs.declared.device.DeviceConfig.{DeviceConfig}
 use Rattle.fuota_run.specs.declared.device.Uplink.{Uplink}
-use Rattle.fuota_run.specs.declared.grammar.Command.{Command}
+use Rattle.package_grammar.specs.declared.command.Command.{Command}
 use Rattle.image_slots.specs.declared.view.ImageState.{ImageState}
-use Rattle.fuota_run.specs.Commands.{port_of, canonical}
+use Rattle.package_grammar.specs.Grammar.{canonical}
+use Rattle.fuota_run.specs.Commands.{port_of}
 use Rattle.fuota_run.specs.Device.{DeviceState}
 
 -- a device without its history: what its slot holds, and the uplinks that are not yet taken

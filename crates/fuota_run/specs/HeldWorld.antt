@@ -2,12 +2,13 @@
 use Rattle.std.specs.Prelude.{◌≡◌, ℕ, ◌+◌, List, [], ◌∷◌, ◌++◌, length, map, Option, Some, None, is_some, Result, Ok, Err}
 use Rattle.std.specs.List.{AllByRecursion}
 use Rattle.fuota_run.specs.declared.device.Uplink.{Uplink}
-use Rattle.fuota_run.specs.declared.grammar.Command.{Command}
+use Rattle.package_grammar.specs.declared.command.Command.{Command}
 use Rattle.fuota_run.specs.declared.world.Place.{Place}
 use Rattle.fuota_run.specs.declared.world.Sent.{Sent}
 use Rattle.fuota_run.specs.declared.world.WorldError.{WorldError}
 use Rattle.fuota_run.specs.declared.world.WorldError.TheVariants as error
-use Rattle.fuota_run.specs.Commands.{port_of, canonical, IsDownlink, IsUplink}
+use Rattle.package_grammar.specs.Grammar.{canonical}
+use Rattle.fuota_run.specs.Commands.{port_of, IsDownlink, IsUplink}
 use Rattle.fuota_run.specs.HeldDevice.{HeldDevice, uplink_of}
 use Rattle.fuota_run.specs.HeldDevices.{DeviceStands}
 use Rattle.fuota_run.specs.Server.{ServerState}
@@ -19,6 +20,7 @@ pub record HeldWorld : Type 0 where
   pub image : List ℕ
   pub lines : ℕ
   pub place : Place
+  pub time : ℕ
   pub server : Option ServerState
   pub device : Option HeldDevice
   pub sent : List Sent
@@ -34,6 +36,7 @@ pub record StandsFor (held : HeldWorld) (world : WorldState) : Type 0 where
   pub image : world.image ≡ held.image
   pub lines : world.lines ≡ held.lines
   pub place : world.place ≡ held.place
+  pub time : world.time ≡ held.time
   pub server : world.server ≡ held.server
   pub device : DeviceStands held.device world.device
   pub sent : held.sent ≡ map sent_of world.sent
@@ -46,6 +49,7 @@ abbrev pub circumstances_in : HeldWorld → Circumstances
 circumstances_in held = record {
   lines = held.lines;
   place = held.place;
+  time = held.time;
   len = length held.image;
   has_device = is_some held.device;
   server = held.server;

@@ -8,6 +8,8 @@ pub mod Report
 pub mod Server
 pub mod Ranges
 pub mod World
+pub mod Words
+pub mod Decode
 pub mod Answer
 pub mod Reply
 pub mod Replies

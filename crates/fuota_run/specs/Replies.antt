@@ -1,10 +1,12 @@
 -- A reply of the program as an answer.
-use Rattle.std.specs.Prelude.{◌≡◌}
+use Rattle.std.specs.Prelude.{◌≡◌, ℕ, List, Result, Ok, Err}
 use Rattle.fuota_run.specs.declared.running.Reply.{Reply}
 use Rattle.fuota_run.specs.declared.source.SourceError.{SourceError}
 use Rattle.fuota_run.specs.declared.source.SourceError.TheVariants as error
 use Rattle.fuota_run.specs.declared.status.Status.TheVariants as status
-use Rattle.fuota_run.specs.Answer.{Answer, answer, read_fault, taken_text}
+use Rattle.fuota_run.specs.declared.world.WorldError.{WorldError}
+use Rattle.fuota_run.specs.declared.world.WorldError.TheVariants as world
+use Rattle.fuota_run.specs.Answer.{Answer, answer, read_fault, refused, taken_text}
 
 -- its status and its text
 abbrev pub answer_in : Reply → Answer
@@ -15,3 +17,9 @@ abbrev pub IsUnread : SourceError → Answer → Type 0
 IsUnread error.Memory a = ⊥
 IsUnread error.Failed a = a ≡ read_fault
 IsUnread (error.TooLong taken) a = a ≡ answer (status.TooLong taken) (taken_text taken)
+
+-- the answer with what a file made: its text, or its first refused line; for want of memory there is none
+abbrev pub IsSaid : Result (List ℕ) WorldError → Answer → Type 0
+IsSaid (Ok text) a = a ≡ answer status.Done text
+IsSaid (Err (world.Line fault)) a = a ≡ refused fault
+IsSaid (Err world.Memory) a = ⊥

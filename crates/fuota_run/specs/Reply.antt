@@ -1,30 +1,40 @@
 -- How a run of the program ends, and why: what each status says of the files and of the sink.
-use Rattle.std.specs.Prelude.{◌≡◌, ◌⊎◌, ℕ, Bool, true, false, List, ⊤, Option, None, Some, IsSome, Result, Ok, Err}
+use Rattle.std.specs.Prelude.{◌≡◌, ◌⊎◌, ℕ, Bool, true, false, List, ⊤, Option, None, Some, Result, Ok, Err}
 use Rattle.std.specs.Io.KnownBytes.{Keeps, Appends, IsAtEnd}
 use Rattle.fuota_run.specs.declared.status.Status.{Status}
 use Rattle.fuota_run.specs.declared.status.Status.TheVariants as status
 use Rattle.fuota_run.specs.declared.world.WorldError.{WorldError}
 use Rattle.fuota_run.specs.declared.world.WorldError.TheVariants as error
 use Rattle.fuota_run.specs.declared.world.LineFault.{LineFault}
-use Rattle.fuota_run.specs.Outside.{Held, HasRisen, AppendsFront}
+use Rattle.fuota_run.specs.Outside.{Held, HoldsName, HasRisen, AppendsFront}
 use Rattle.fuota_run.specs.World.{WorldState}
 use Rattle.fuota_run.specs.Report.{report_of}
-use Rattle.fuota_run.specs.Answer.{Answer, read_fault, usage, image_refused, refused, taken_text, is_form, word_at, script_answer, campaign_answer, answer_of}
+use Rattle.wire_base.specs.declared.refusal.Direction.{Direction}
+use Rattle.fuota_run.specs.Words.{Asked, campaign, decode, asked}
+use Rattle.fuota_run.specs.Decode.{Decodes}
+use Rattle.fuota_run.specs.Answer.{Answer, read_fault, usage, image_refused, refused, taken_text, script_answer, campaign_answer, IsDecodeAnswer, IsAnswerTo, IsAnswer}
 
--- where it is told what is held, and the words are a form, something is held under its file words
+-- where it is told what is held, something is held under the names of the files that are asked for
+abbrev pub HoldsAsked : Option Held → Option Asked → Type 0
+HoldsAsked held None = ⊤
+HoldsAsked held (Some (campaign image script)) = HoldsName held image × HoldsName held script
+HoldsAsked held (Some (decode port direction file)) = HoldsName held file
+
 abbrev pub HoldsForm : Option Held → List (List ℕ) → Type 0
 HoldsForm None words = ⊤
-HoldsForm (Some held) words = is_form words ≡ true → IsSome (held (word_at words 2)) × IsSome (held (word_at words 3))
+HoldsForm (Some held) words = HoldsAsked (Some held) (asked words)
 
 -- the report, or the first refused line, of this image and script
 abbrev pub IsPlayed : Result WorldState LineFault → Result (List ℕ) WorldError → Type 0
-IsPlayed campaign (Ok text) = (world : WorldState) × (campaign ≡ Ok world) × (text ≡ report_of world)
-IsPlayed campaign (Err (error.Line fault)) = campaign ≡ Err fault
-IsPlayed campaign (Err error.Memory) = ⊤
+IsPlayed outcome (Ok text) = (world : WorldState) × (outcome ≡ Ok world) × (text ≡ report_of world)
+IsPlayed outcome (Err (error.Line fault)) = outcome ≡ Err fault
+IsPlayed outcome (Err error.Memory) = ⊤
 
 -- what a status is written as, whatever is told of the files
 abbrev pub IsTextOf : Status → List ℕ → Type 0
-IsTextOf status.Done text = (world : WorldState) × (text ≡ report_of world)
+IsTextOf status.Done text =
+    ((world : WorldState) × (text ≡ report_of world))
+    ⊎ ((port : ℕ) × (direction : Direction) × (file : List ℕ) × Decodes port direction file (Ok text))
 IsTextOf status.Usage text = text ≡ usage.text
 IsTextOf status.ImageRefused text = text ≡ image_refused.text
 IsTextOf status.ScriptRefused text = (fault : LineFault) × (text ≡ (refused fault).text)
@@ -40,21 +50,24 @@ ends_source status.ImageRefused = true
 ends_source status.ScriptRefused = true
 ends_source s = false
 
--- where it is told what is held, this is the answer that the file under the name determines; where not, it is some answer
-abbrev pub GivesBy : Option Held → List ℕ → (Held → Option (List ℕ) → Answer) → Answer → Type 0
-GivesBy None name answer_for a = IsTextOf a.status a.text
-GivesBy (Some held) name answer_for a = a ≡ answer_for held (held name)
+-- where it is told what is held, the answer is one for the file under the name; where not, it is some answer
+abbrev pub GivesBy : Option Held → List ℕ → (Held → Option (List ℕ) → Answer → Type 0) → Answer → Type 0
+GivesBy None name IsFor a = IsTextOf a.status a.text
+GivesBy (Some held) name IsFor a = IsFor held (held name) a
 
 -- the answer behind an image file
 abbrev pub GivesScript : Option Held → List ℕ → List ℕ → Answer → Type 0
-GivesScript held image script a = GivesBy held script (λ h source. script_answer image source) a
+GivesScript held image script a = GivesBy held script (λ h source x. x ≡ script_answer image source) a
 
 abbrev pub GivesCampaign : Option Held → List ℕ → List ℕ → Answer → Type 0
-GivesCampaign held image script a = GivesBy held image (λ h source. campaign_answer source (h script)) a
+GivesCampaign held image script a = GivesBy held image (λ h source x. x ≡ campaign_answer source (h script)) a
 
-abbrev pub Gives : Option Held → List (List ℕ) → Answer → Type 0
-Gives None words a = IsTextOf a.status a.text
-Gives (Some held) words a = a ≡ answer_of words held
+abbrev pub GivesDecode : Option Held → ℕ → Direction → List ℕ → Answer → Type 0
+GivesDecode held port direction file a = GivesBy held file (λ h source x. IsDecodeAnswer port direction source x) a
+
+abbrev pub Gives : Option Held → Option Asked → Answer → Type 0
+Gives None what a = IsTextOf a.status a.text
+Gives (Some held) what a = IsAnswerTo what held a
 
 -- a reply is what is to be given, or that reading failed, and the count of faults rose
 abbrev pub IsReply : Type 0 → (before now : ℕ) → Answer → Type 0
@@ -77,15 +90,15 @@ pub record Says (gives : Type 0) (before now : ℕ) (left : Option (List ℕ)) (
 
 -- ---- the run as a whole
 
--- the status is the answer's, and its text was appended; where nothing is told of the files, a text of the status was
+-- the status is that of an answer, and its text was appended; where nothing is told of the files, a text of the status was
 abbrev pub AppendsAnswer : Option Held → List (List ℕ) → Status → Option (List ℕ) → Option (List ℕ) → Type 0
 AppendsAnswer None words s old new = (text : List ℕ) × IsTextOf s text × Appends old new text
-AppendsAnswer (Some held) words s old new = (s ≡ (answer_of words held).status) × Appends old new (answer_of words held).text
+AppendsAnswer (Some held) words s old new = (a : Answer) × IsAnswer words held a × (s ≡ a.status) × Appends old new a.text
 
--- a front of the answer's text was appended
+-- a front of an answer's text was appended
 abbrev pub AppendsAnswerFront : Option Held → List (List ℕ) → Option (List ℕ) → Option (List ℕ) → Type 0
 AppendsAnswerFront None words old new = (s : Status) × (text : List ℕ) × IsTextOf s text × AppendsFront old new text
-AppendsAnswerFront (Some held) words old new = AppendsFront old new (answer_of words held).text
+AppendsAnswerFront (Some held) words old new = (a : Answer) × IsAnswer words held a × AppendsFront old new a.text
 
 -- the counts of faults before and after, and the sink's bytes
 pub record Effects : Type 0 where

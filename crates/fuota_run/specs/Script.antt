@@ -6,7 +6,7 @@ use Rattle.std.specs.Str.{bytes_eq}
 use Rattle.std.specs.Int.{from_be_bytes, w32}
 use Rattle.hex.specs.Hex.{decode_sized}
 use Rattle.fuota_run.specs.declared.lines.Form.{Form}
-use Rattle.fuota_run.specs.declared.lines.Form.TheVariants.{Header, Image, Device, Ask, Frag, Down, Up, End}
+use Rattle.fuota_run.specs.declared.lines.Form.TheVariants.{Header, Image, Device, At, Ask, Frag, Down, Up, End}
 
 -- a list without its last member, where that is empty
 abbrev pub without_empty_last : List (List ℕ) → List (List ℕ)
@@ -97,6 +97,7 @@ form_of line =
     else if has_form line (codes "image") 3 then image_form line
     else if has_form line (codes "device") 7 then device_form line (Some None)
     else if has_form line (codes "device") 8 then device_form line (hex_number_of (word line 7) >>= (λ d. Some (Some d)))
+    else if has_form line (codes "at") 2 then decimal_of (word line 1) >>= (λ time. Some (At time))
     else if has_form line (codes "ask") 2 then decimal_of (word line 1) >>= (λ device. Some (Ask device))
     else if has_form line (codes "frag") 1 then Some Frag
     else if has_form line (codes "down") 3 then down_form line (Some 0)

@@ -1,15 +1,18 @@
 -- The server of a campaign: what it sends next, and what an uplink moves. (TS004-1.0.0 and TS006-1.0.0; the order of the
 -- stages is this project's profile.)
-use Rattle.std.specs.Prelude.{◌≡◌, ◌<◌, ◌≤◌, ℕ, ◌+◌, ◌-◌, ◌*◌, Bool, true, false, ◌==◌, nat_lt, if◌then◌else◌, List, [], ◌∷◌, ◌++◌, length, take, drop, replicate, Option, Some, None}
-use Rattle.std.specs.Int.{div_ceil}
+use Rattle.std.specs.Prelude.{◌≡◌, ◌<◌, ◌≤◌, ℕ, ◌+◌, ◌-◌, ◌*◌, Bool, true, false, ◌==◌, nat_lt, if◌then◌else◌, List, [], ◌∷◌, length, take, drop, Option, Some, None}
+use Rattle.frag_encoder.specs.Encoding.{Encoding, filled}
 use Rattle.cast_wire.specs.declared.cmd.Cmd.{Cmd}
 use Rattle.cast_wire.specs.declared.cmd.Cmd.TheVariants.{FragSessionSetupReq, FragSessionSetupAns, DataFragment}
-use Rattle.fuota_run.specs.declared.grammar.Command.{Command}
-use Rattle.fuota_run.specs.declared.grammar.Command.TheVariants.{Cast, DevVersionReq, DevVersionAns}
+use Rattle.package_grammar.specs.declared.command.Command.{Command}
+use Rattle.package_grammar.specs.declared.command.Command.TheVariants.{Sync, Cast}
+use Rattle.sync_wire.specs.declared.cmd.Cmd.TheVariants.{DevVersionReq, DevVersionAns}
 use Rattle.fuota_run.specs.declared.server.Request.TheVariants.{Version, Fragments, Status}
 use Rattle.fuota_run.specs.declared.server.Stage.{Stage}
 use Rattle.fuota_run.specs.declared.server.Stage.TheVariants.{At, Refused}
 use Rattle.image_slots.specs.Image.{is_image, hardware_of, firmware_of}
+-- the number of fragments of a file, and how many zero bytes fill the last one up
+pub use Rattle.frag_encoder.specs.Encoding.{nb_frag_of as fragments_of, padding_of}
 
 -- the image that the server sends, how it cuts it, where its device stands, and the fragment that is sent next
 pub record ServerState : Type 0 where
@@ -18,26 +21,20 @@ pub record ServerState : Type 0 where
   pub stage : Stage
   pub next : ℕ
 
--- the number of fragments: the file's length over the fragment's, rounded up
-abbrev pub fragments_of : ℕ → ℕ → ℕ
-fragments_of len frag_size = div_ceil len frag_size
-
--- how many zero bytes fill the last fragment up
-abbrev pub padding_of : ℕ → ℕ → ℕ
-padding_of len frag_size = fragments_of len frag_size * frag_size - len
-
 -- uncoded fragment n, from 1 on, of a file
 abbrev pub fragment_of : List ℕ → ℕ → ℕ → List ℕ
-fragment_of file frag_size n = take frag_size (drop ((n - 1) * frag_size) (file ++ replicate (padding_of (length file) frag_size) 0))
+fragment_of file frag_size n = take frag_size (drop ((n - 1) * frag_size) (filled file frag_size))
 
--- what holds of each server: it sends an image file in at most 1,024 fragments of 1 to 239 bytes, the next one from 1 on
-pub record IsServer (image : List ℕ) (frag_size next : ℕ) : Type 0 where
+-- what holds of each server: it sends an image file in at most 1,024 fragments of 1 to 239 bytes, the next one from 1 on, and
+-- its encoder is the image's
+pub record IsServer (image : List ℕ) (frag_size next : ℕ) (encoder : Encoding) : Type 0 where
   pub image_is : is_image image ≡ true
   pub some : 0 < frag_size
   pub fits : frag_size ≤ 239
   pub number : fragments_of (length image) frag_size ≤ 1024
   pub low : 1 ≤ next
   pub high : next ≤ fragments_of (length image) frag_size + 1
+  pub encodes : encoder ≡ record { file = image; frag_size = frag_size }
 
 -- the server at the start of a campaign
 abbrev pub first_server : List ℕ → ℕ → ServerState
@@ -50,7 +47,7 @@ setup_of image frag_size =
 
 -- the request of a stage, if there is one to send
 unfoldable pub asked : List ℕ → ℕ → Stage → Option Command
-asked image frag_size (At Version) = Some DevVersionReq
+asked image frag_size (At Version) = Some (Sync DevVersionReq)
 asked image frag_size (At Fragments) = Some (Cast (setup_of image frag_size))
 asked image frag_size (At Status) = None
 asked image frag_size (Refused request bits) = None
@@ -85,7 +82,7 @@ after_setup_answer index bits =
 
 -- the stage behind a command of an uplink: an answer moves its own stage alone
 unfoldable pub answered : List ℕ → Stage → Command → Stage
-answered image (At Version) (DevVersionAns firmware hardware) = after_version (hardware_of image) hardware
+answered image (At Version) (Sync (DevVersionAns firmware hardware)) = after_version (hardware_of image) hardware
 answered image (At Fragments) (Cast (FragSessionSetupAns index descriptor unsupported memory encoding)) =
     after_setup_answer index (worth descriptor 8 + worth unsupported 4 + worth memory 2 + worth encoding 1)
 answered image stage command = stage

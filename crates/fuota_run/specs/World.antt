@@ -1,17 +1,17 @@
 -- A campaign as its script tells it: which line is refused first, and what the others make. (This project's profile.)
 use Rattle.std.specs.Prelude.{ℕ, ◌+◌, ◌-◌, Bool, true, false, ◌&&◌, ◌||◌, not, ◌==◌, nat_lt, nat_le, if◌then◌else◌, List, [], ◌∷◌, ◌++◌, length, map, slice_get, Option, Some, None, is_some, Result, Ok, Err}
-use Rattle.fuota_run.specs.declared.grammar.Command.{Command}
+use Rattle.package_grammar.specs.declared.command.Command.{Command}
 use Rattle.fuota_run.specs.declared.lines.Form.{Form}
-use Rattle.fuota_run.specs.declared.lines.Form.TheVariants.{Header, Image, Device, Ask, Frag, Down, Up, End}
+use Rattle.fuota_run.specs.declared.lines.Form.TheVariants.{Header, Image, Device, At, Ask, Frag, Down, Up, End}
 use Rattle.fuota_run.specs.declared.server.Request.TheVariants.{Status}
 use Rattle.fuota_run.specs.declared.server.Stage.{Stage}
-use Rattle.fuota_run.specs.declared.server.Stage.TheVariants.{At}
+use Rattle.fuota_run.specs.declared.server.Stage.TheVariants as stage
 use Rattle.fuota_run.specs.declared.world.Place.{Place}
 use Rattle.fuota_run.specs.declared.world.Place.TheVariants as place
 use Rattle.fuota_run.specs.declared.world.LineWhy.{LineWhy}
 use Rattle.fuota_run.specs.declared.world.LineWhy.TheVariants as why
 use Rattle.fuota_run.specs.declared.world.LineFault.{LineFault}
-use Rattle.fuota_run.specs.declared.world.TheConstants.{MAX_LINES, MAX_LINE, MAX_ROWS}
+use Rattle.fuota_run.specs.declared.world.TheConstants.{MAX_LINES, MAX_LINE, MAX_ROWS, MAX_TIME}
 use Rattle.fuota_run.specs.Script.{form_of, lines_of}
 use Rattle.fuota_run.specs.Ranges.{is_word, is_frag_size}
 use Rattle.fuota_run.specs.Server.{ServerState, first_server, asked, is_spent, next_fragment, after_fragment, answered}
@@ -22,11 +22,12 @@ pub record Sending : Type 0 where
   pub to : Option ℕ
   pub command : Command
 
--- a campaign so far: its image, how many lines it had, what may come next, both ends, and the numbered payloads
+-- a campaign so far: its image, how many lines it had, what may come next, the time, both ends, and the numbered payloads
 pub record WorldState : Type 0 where
   pub image : List ℕ
   pub lines : ℕ
   pub place : Place
+  pub time : ℕ
   pub server : Option ServerState
   pub device : Option DeviceState
   pub sent : List Sending
@@ -34,7 +35,7 @@ pub record WorldState : Type 0 where
 
 -- before any line
 abbrev pub first_world : List ℕ → WorldState
-first_world image = record { image = image; lines = 0; place = place.Header; server = None; device = None; sent = []; uplinks = [] }
+first_world image = record { image = image; lines = 0; place = place.Header; time = 0; server = None; device = None; sent = []; uplinks = [] }
 
 -- the item with a number, counted from 1
 abbrev pub numbered : {A : Type 0} → List A → ℕ → Option A
@@ -59,6 +60,7 @@ abbrev pub is_allowed : Place → Bool → Form → Bool
 is_allowed here has_device Header = is_at here place.Header
 is_allowed here has_device (Image frag_size parity) = is_at here place.Image
 is_allowed here has_device (Device id hw rows offset key descriptor) = is_at here place.Devices
+is_allowed here has_device (At time) = takes_events here has_device
 is_allowed here has_device (Ask device) = takes_events here has_device
 is_allowed here has_device Frag = takes_events here has_device
 is_allowed here has_device (Down payload device word) = takes_events here has_device
@@ -70,6 +72,7 @@ abbrev pub is_in_range : ℕ → Bool → Form → Bool
 is_in_range len has_device (Image frag_size parity) = is_frag_size len frag_size && parity == 0
 is_in_range len has_device (Device id hw rows offset key descriptor) =
     not has_device && id == 1 && is_word hw && nat_le rows MAX_ROWS && is_word offset
+is_in_range len has_device (At time) = nat_le time MAX_TIME
 is_in_range len has_device (Down payload device word) = is_word word
 is_in_range len has_device form = true
 
@@ -97,10 +100,15 @@ has_come sent uplinks (Down payload device word) = was_sent sent payload device
 has_come sent uplinks (Up uplink) = nat_le 1 uplink && nat_le uplink uplinks
 has_come sent uplinks form = true
 
+-- the time that the form tells is over
+abbrev pub is_over : ℕ → Form → Bool
+is_over now (At time) = nat_lt time now
+is_over now form = false
+
 -- the server asks for the status, which it does not yet
 abbrev pub asks_status : Stage → Bool
-asks_status (At Status) = true
-asks_status stage = false
+asks_status (stage.At Status) = true
+asks_status other = false
 
 -- no fragment is left for a frag, or an ask comes at the status stage
 abbrev pub has_nothing : Option ServerState → Form → Bool
@@ -108,11 +116,12 @@ has_nothing (Some server) Frag = is_spent server
 has_nothing (Some server) (Ask device) = asks_status server.stage
 has_nothing server form = false
 
--- what the causes look at: how many lines there were, what may come next, the image's length, whether there is a device,
--- the server, to whom each payload was sent, and how many uplinks were made
+-- what the causes look at: how many lines there were, what may come next, the time, the image's length, whether there is
+-- a device, the server, to whom each payload was sent, and how many uplinks were made
 pub record Circumstances : Type 0 where
   pub lines : ℕ
   pub place : Place
+  pub time : ℕ
   pub len : ℕ
   pub has_device : Bool
   pub server : Option ServerState
@@ -123,6 +132,7 @@ unfoldable pub circumstances_of : WorldState → Circumstances
 circumstances_of world = record {
   lines = world.lines;
   place = world.place;
+  time = world.time;
   len = length world.image;
   has_device = is_some world.device;
   server = world.server;
@@ -137,6 +147,7 @@ form_cause now form =
     else if not (is_in_range now.len now.has_device form) then Some why.Range
     else if not (names_device form) then Some why.Device
     else if not (has_come now.sent now.uplinks form) then Some why.Unsent
+    else if is_over now.time form then Some why.Time
     else if has_nothing now.server form then Some why.Limit
     else None
 
@@ -190,6 +201,7 @@ form_made world Header = record world { place = place.Image }
 form_made world (Image frag_size parity) = record world { place = place.Devices; server = Some (first_server world.image frag_size) }
 form_made world (Device id hw rows offset key descriptor) =
     record world { device = Some (first_device (record { hw = hw; rows = rows; offset = offset; descriptor = descriptor })) }
+form_made world (At time) = at_events (record world { time = time })
 form_made world (Ask device) = at_events (sends world (Some device) (request_of world.server))
 form_made world Frag = at_events (sends (record world { server = moved_on world.server }) None (fragment_from world.server))
 form_made world (Down payload device word) = at_events (reaches world world.device (numbered world.sent payload))

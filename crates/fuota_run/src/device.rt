@@ -8,15 +8,17 @@ ghost use Rattle.frag_session.specs.Setup.{setup_bits};
 ghost use Rattle.frag_session.specs.Session.{Session, after_setup, view_of};
 ghost use Rattle.frag_session.specs.Stands.{Stands};
 ghost use Rattle.frag_session.specs.Shows.{seen};
-ghost use Rattle.fuota_run.specs.declared.grammar.Command.{Command};
-ghost use Rattle.fuota_run.specs.Commands.{IsValid, IsUplink, SpellsAll, IsMessage};
+ghost use Rattle.package_grammar.specs.declared.command.Command.{Command};
+ghost use Rattle.package_grammar.specs.Grammar.{IsValid, SpellsTo, IsMessage, IsStop};
+ghost use Rattle.fuota_run.specs.Commands.{IsUplink};
 ghost use Rattle.fuota_run.specs.Device.{DeviceState, first_device, limits_of, raised, after_data, after_heard, after_command, answer_to, weight, after_commands, answers_to, weights, setup_answer, has_bit, offered, is_complete, shows_file};
 
-use crate::grammar::{Command, check, port_of, read_one, spelled};
+use crate::spelling::{port_of, spelled};
 use arrayvec::ArrayVec;
 use cast_wire::Cmd;
 use frag_session::{Heard, Idle, Limits, Memory, SetupReq, Slot, Verdict, Via, View};
 use image_slots::{ImageState, ImageView};
+use package_grammar::{Command, check, read_one};
 use std::alloc::Global;
 use std::marker::Model;
 use wire_base::{Direction, Payload, Refusal};
@@ -132,6 +134,9 @@ impl Device {
         ensures sendable { (cs : List Command) → IsMessage cs port Direction.Down payload.now
             → length self.old.outbox + weights cs ≤ 8 → AllByRecursion IsUplink (answers_to self.old.config cs) }
         ensures full { (n : ℕ) → result ≡ Delivered.OutboxFull n → self.new ≡ record self.old { counts = record self.old.counts { full = raised self.old.counts.full } } }
+        ensures stops { (refusal : Refusal) → result ≡ Delivered.Refused refusal → IsStop port Direction.Down payload.now refusal }
+        ensures count { (n : ℕ) (cs : List Command) → result ≡ Delivered.OutboxFull n → IsMessage cs port Direction.Down payload.now
+            → (n ≡ length self.old.outbox + weights cs) × (8 < n) }
         ensures refused { (refusal : Refusal) → result ≡ Delivered.Refused refusal → self.new ≡ record self.old { counts = record self.old.counts { refused = raised self.old.counts.refused } } }
         ensures acted { (cs : List Command) → IsMessage cs port Direction.Down payload.now → length self.old.outbox + weights cs ≤ 8 → result ≡ Delivered.Done }
     {
@@ -152,12 +157,12 @@ impl Device {
     fn act_from(&mut self, port: u8, payload: &[u8], at: u16, mark: u64)
         requires within { at ≤ length payload.now }
         requires fits { length payload.now ≤ 242 }
-        requires room { (cs : List Command) × SpellsAll cs port Direction.Down payload.now at × (length self.old.outbox + weights cs ≤ 8) }
-        ensures done { (device : DeviceState) (cs : List Command) → StandsAs self.old device → SpellsAll cs port Direction.Down payload.now at
+        requires room { (cs : List Command) × SpellsTo cs port Direction.Down payload.now at (length payload.now) × (length self.old.outbox + weights cs ≤ 8) }
+        ensures done { (device : DeviceState) (cs : List Command) → StandsAs self.old device → SpellsTo cs port Direction.Down payload.now at (length payload.now)
             → StandsAs self.new (after_commands device cs mark) }
-        ensures answers { (cs : List Command) → SpellsAll cs port Direction.Down payload.now at
+        ensures answers { (cs : List Command) → SpellsTo cs port Direction.Down payload.now at (length payload.now)
             → self.new.outbox ≡ self.old.outbox ++ map uplink_of (answers_to self.old.config cs) }
-        ensures sendable { (cs : List Command) → SpellsAll cs port Direction.Down payload.now at → AllByRecursion IsUplink (answers_to self.old.config cs) }
+        ensures sendable { (cs : List Command) → SpellsTo cs port Direction.Down payload.now at (length payload.now) → AllByRecursion IsUplink (answers_to self.old.config cs) }
     {
         if at as usize == payload.len() {
             return;
@@ -179,10 +184,12 @@ impl Device {
         ensures config { self.new.config ≡ self.old.config }
     {
         match command {
-            Command::DevVersionReq => self.send(Command::DevVersionAns {
-                firmware: FIRST_FIRMWARE,
-                hardware: self.config.hw,
-            }),
+            Command::Sync(sync_wire::Cmd::DevVersionReq) => {
+                self.send(Command::Sync(sync_wire::Cmd::DevVersionAns {
+                    firmware: FIRST_FIRMWARE,
+                    hardware: self.config.hw,
+                }));
+            }
             Command::Cast(
                 Cmd::FragSessionSetupReq {
                     index,
@@ -289,13 +296,13 @@ impl Device {
 
     /// Puts an answer into the outbox.
     fn send(&mut self, answer: Command)
-        requires valid { IsValid answer }
+        requires sendable { IsUplink answer }
         requires room { length self.old.outbox < 8 }
         ensures { self.new ≡ record self.old { outbox = self.old.outbox ++ uplink_of answer ∷ [] } }
     {
         self.outbox.push(Uplink {
             port: port_of(&answer),
-            payload: spelled(&answer),
+            payload: spelled(&answer, Direction::Up),
         });
     }
 
@@ -352,7 +359,7 @@ fn is_complete(verdict: Verdict) -> bool
 fn setup_answer(index: u8, bits: u8) -> Command
     requires { index < 4 }
     ensures answer { result ≡ setup_answer index bits }
-    ensures valid { IsValid result }
+    ensures sendable { IsUplink result }
 {
     Command::Cast(Cmd::FragSessionSetupAns {
         index,
@@ -374,7 +381,7 @@ fn has_bit(bits: u8, place: u32) -> bool
 fn weight_from(port: u8, payload: &[u8], at: u16) -> u16
     requires within { at ≤ length payload.now }
     requires fits { length payload.now ≤ 242 }
-    ensures weight { (cs : List Command) → SpellsAll cs port Direction.Down payload.now at → result ≡ weights cs }
+    ensures weight { (cs : List Command) → SpellsTo cs port Direction.Down payload.now at (length payload.now) → result ≡ weights cs }
     ensures few { result + at ≤ length payload.now }
 {
     if at as usize == payload.len() {

@@ -6,9 +6,9 @@
 //! to the program above.
 #![tactic(auto)]
 
+mod decoding;
 mod device;
 mod files;
-mod grammar;
 mod laws;
 mod lines;
 mod memory;
@@ -18,8 +18,10 @@ mod running;
 mod server;
 mod sink;
 mod source;
+mod spelling;
 mod status;
 mod system;
+mod words;
 mod world;
 
 pub use files::{Failed, Files};

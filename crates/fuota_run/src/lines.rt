@@ -1,9 +1,9 @@
 // What a line of a script says: its words, and the form that they spell.
-ghost use Rattle.std.specs.Prelude.{◌≡◌, ◌-◌, ◌^◌, ◌==◌, IsTrue, Option, Some, length, min, slice_get};
+ghost use Rattle.std.specs.Prelude.{◌≡◌, ◌-◌, ◌<◌, ◌^◌, ◌==◌, ◌∷◌, IsTrue, Option, Some, length, min, slice_get};
 ghost use Rattle.std.specs.Option.{option_map};
-ghost use Rattle.std.specs.List.{slice_split, list_all};
+ghost use Rattle.std.specs.List.{slice_split, list_all, position};
 ghost use Rattle.std.specs.Char.{is_ascii_digit};
-ghost use Rattle.fuota_run.specs.Script.{word, has_form, is_decimal, decimal_number, decimal_of, key_of, hex_number_of, device_form, image_form, down_form, form_of};
+ghost use Rattle.fuota_run.specs.Script.{lines_of, word, has_form, is_decimal, decimal_number, decimal_of, key_of, hex_number_of, device_form, image_form, down_form, form_of};
 
 /// An AES-128 key.
 pub type Key = [u8; 16];
@@ -27,6 +27,10 @@ pub enum Form {
         key: Key,
         descriptor: Option<u32>,
     },
+    /// `at MS`: the time now, in milliseconds since the GPS epoch.
+    At {
+        time: u64,
+    },
     /// `ask D`: the server sends the request of the device's stage.
     Ask {
         device: u64,
@@ -45,6 +49,25 @@ pub enum Form {
     },
     /// `end`
     End,
+}
+
+/// The first line of the bytes, without its line feed, and what stands behind it.
+pub fn first_line(bytes: &[u8]) -> (&[u8], &[u8])
+    requires { 0 < length bytes.now }
+    ensures lines { lines_of bytes.now ≡ result.0.now ∷ lines_of result.1.now }
+    ensures shorter { length result.1.now < length bytes.now }
+{
+    match line_feed(bytes) {
+        Some(end) => (bytes.split_at(end).0, bytes.split_at(end + 1).1),
+        None => (bytes, &[]),
+    }
+}
+
+/// The place of the first line feed.
+fn line_feed(bytes: &[u8]) -> Option<usize>
+    ensures { result ≡ position (λ b. b == 10) bytes.now }
+{
+    bytes.iter().position(|b| *b == b'\n')
 }
 
 /// The word at a place, counted from 0, if there is one.
@@ -113,7 +136,7 @@ fn decimal_number(digits: &[u8]) -> u64
 
 /// The decimal that a word spells.
 #[tactic(auto, unfolding(crate::specs::Script::decimal_of))]
-fn decimal(digits: &[u8]) -> Option<u64>
+pub fn decimal(digits: &[u8]) -> Option<u64>
     ensures { result ≡ decimal_of digits.now }
 {
     if is_decimal(digits) {
@@ -207,6 +230,9 @@ pub fn read_form(line: &[u8]) -> Option<Form>
     } else if has_form(line, "device", 8) {
         let descriptor = hex_number(word(line, 7))?;
         device_form(line, Some(descriptor))
+    } else if has_form(line, "at", 2) {
+        let time = decimal(word(line, 1))?;
+        Some(Form::At { time })
     } else if has_form(line, "ask", 2) {
         let device = decimal(word(line, 1))?;
         Some(Form::Ask { device })

@@ -106,8 +106,8 @@ fn bytes_in(files: &[(String, Vec<u8>)], place: Option<usize>) -> &[u8]
 }
 
 impl MemFiles {
-    /// Files by name, and the numbers of the calls that fail, counted from 1. No two names are equal;
-    /// of equal ones the first is the file.
+    /// Files by name, and the numbers of the calls that fail, counted from 1. Where two names are equal,
+    /// the first of them is the file of that name.
     pub fn new(files: Vec<(String, Vec<u8>)>, fails: Vec<u64>) -> Self
         ensures files { result.files.items ≡ files.items }
         ensures unchosen { result.place ≡ None }

@@ -1,30 +1,33 @@
-// The whole program: words, image and script in, one text and a status out.
-ghost use Rattle.std.specs.Prelude.{◌≡◌, ◌≢◌, ◌↔◌, ◌≤◌, ◌++◌, true, false, map, codes, string_bytes, IfOk, IfSome, length, ◌∷◌, ◌<◌, ◌==◌};
-ghost use Rattle.std.specs.List.{position};
+// The whole program: words and files in, one text and a status out.
+ghost use Rattle.std.specs.Prelude.{◌≡◌, ◌≢◌, ◌↔◌, ◌≤◌, ◌++◌, true, false, map, codes, string_bytes, IfOk, IfSome};
 ghost use Rattle.std.specs.Fmt.{decimal};
 ghost use Rattle.std.specs.Io.KnownBytes.{Appends};
 ghost use Rattle.fuota_run.specs.Outside.{HoldsName, HasRisen};
 ghost use Rattle.image_slots.specs.Image.{is_image};
-ghost use Rattle.fuota_run.specs.Answer.{answer, usage, begins_with_dash, word_at, is_form, why_word, refused, answer_of};
-ghost use Rattle.fuota_run.specs.Script.{lines_of};
+ghost use Rattle.fuota_run.specs.Words.{asked, seen_asked};
+ghost use Rattle.fuota_run.specs.Answer.{answer, why_word, refused};
 ghost use Rattle.fuota_run.specs.World.{campaign_of};
-ghost use Rattle.fuota_run.specs.Reply.{HoldsForm, IsPlayed, GivesScript, GivesCampaign, Gives, Says, IsReadUp, Ends, IsFinished};
-ghost use Rattle.fuota_run.specs.Replies.{answer_in, IsUnread};
+ghost use Rattle.fuota_run.specs.Reply.{HoldsForm, HoldsAsked, IsPlayed, GivesScript, GivesCampaign, GivesDecode, Gives, Says, IsReadUp, Ends, AppendsAnswer, IsFinished};
+ghost use Rattle.fuota_run.specs.Replies.{answer_in, IsUnread, IsSaid};
 ghost use Rattle.fuota_run.specs.Texts.{seen_text};
 
+use crate::decoding::decode;
 use crate::files::Files;
+use crate::lines::first_line;
 use crate::output::write_text;
 use crate::sink::Sink;
 use crate::source::{SourceError, read_source};
 use crate::status::Status;
+use crate::words::{Asked, read_words};
 use crate::world::{LineFault, LineWhy, World, WorldError};
 use image_slots::is_image;
 use std::alloc::{AllocError, Global};
+use wire_base::Direction;
 
 /// The most bytes of an image source.
 const IMAGE_LIMIT: u32 = 65_536;
 
-/// The most bytes of a script source.
+/// The most bytes of a script, and of a file of payloads.
 const SCRIPT_LIMIT: u32 = 1_048_576;
 
 /// What is written where the words are no form.
@@ -38,14 +41,16 @@ struct Reply {
     text: Vec<u8>,
 }
 
-/// Runs the program: `words` begin with its name, `campaign IMAGE SCRIPT` is the one form so far.
+/// Runs the program: `words` begin with its name, and the forms so far are `campaign IMAGE SCRIPT` and
+/// `decode PORT DIR FILE`.
 /// The whole text stands in memory before its first byte is written.
 pub fn run<F: Files, O: Sink>(alloc: Global, words: &[String], files: &mut F, out: &mut O) -> Status
     requires { HoldsForm (F.held files.old) (map string_bytes words.now) }
 
-    // Where it is told what the files hold, no count of faults rose and memory sufficed, status and text are the answer's.
+    // Where it is told what the files hold, no count of faults rose and memory sufficed, status and text are those of the
+    // answer to the words.
     ensures exact { IfSome (F.held files.old) (λ held. ¬ HasRisen (F.faults files.old) (F.faults files.new) → ¬ HasRisen (O.faults out.old) (O.faults out.new) → result ≢ Status.Memory
-        → (result ≡ (answer_of (map string_bytes words.now) held).status) × Appends (O.written out.old) (O.written out.new) (answer_of (map string_bytes words.now) held).text) }
+        → AppendsAnswer (Some held) (map string_bytes words.now) result (O.written out.old) (O.written out.new)) }
 
     // What each status says, whatever failed.
     ensures ends { Ends (F.held files.old) (map string_bytes words.now) (record {
@@ -56,7 +61,7 @@ pub fn run<F: Files, O: Sink>(alloc: Global, words: &[String], files: &mut F, ou
       old = O.written out.old;
       new = O.written out.new;
     }) result }
-    ensures usage { result ≡ Status.Usage → is_form (map string_bytes words.now) ≡ false }
+    ensures usage { result ≡ Status.Usage → asked (map string_bytes words.now) ≡ None }
     ensures finished { IsFinished result (O.finished out.new) }
     ensures whole { IsReadUp result (F.left files.new) }
 {
@@ -70,45 +75,34 @@ pub fn run<F: Files, O: Sink>(alloc: Global, words: &[String], files: &mut F, ou
 }
 
 /// What the words say over the files.
+#[tactic(auto, using(crate::proofs::ReplyLemmas::holds_asked))]
 fn reply_to<F: Files>(alloc: Global, words: &[String], files: &mut F) -> Result<Reply, AllocError>
     requires { HoldsForm (F.held files.old) (map string_bytes words.now) }
-    ensures reply { IfOk result (λ r. Says (Gives (F.held files.old) (map string_bytes words.now) (answer_in r)) (F.faults files.old) (F.faults files.new) (F.left files.new) (answer_in r)) }
-    ensures usage { IfOk result (λ r. (r.status ≡ Status.Usage) ↔ (is_form (map string_bytes words.now) ≡ false)) }
+    ensures reply { IfOk result (λ r. Says (Gives (F.held files.old) (asked (map string_bytes words.now)) (answer_in r)) (F.faults files.old) (F.faults files.new) (F.left files.new) (answer_in r)) }
+    ensures usage { IfOk result (λ r. (r.status ≡ Status.Usage) ↔ (asked (map string_bytes words.now) ≡ None)) }
     ensures kept { F.faults files.old ≤ F.faults files.new }
 {
-    if !is_campaign(words) {
-        return say(alloc, Status::Usage, USAGE);
-    }
-    campaign(alloc, files, word_at(words, 2), word_at(words, 3))
-}
-
-/// Whether the words are `campaign IMAGE SCRIPT`, the last two not beginning with a dash.
-#[tactic(auto, unfolding(crate::specs::Answer::is_form))]
-fn is_campaign(words: &[String]) -> bool
-    ensures { result ≡ is_form (map string_bytes words.now) }
-{
-    words.len() == 4
-        && word_at(words, 1) == "campaign"
-        && !begins_with_dash(word_at(words, 2).as_bytes())
-        && !begins_with_dash(word_at(words, 3).as_bytes())
-}
-
-/// The word at a place, counted from 0; empty where there is none.
-fn word_at(words: &[String], place: usize) -> &str
-    ensures { result.now ≡ word_at (map string_bytes words.now) place }
-{
-    match words.get(place) {
-        Some(word) => word.as_str(),
-        None => "",
+    match read_words(alloc, words) {
+        Ok(what) => reply_for(alloc, what, files),
+        Err(error) => Err(error),
     }
 }
 
-fn begins_with_dash(word: &[u8]) -> bool
-    ensures { result ≡ begins_with_dash word.now }
+/// What is said over the files to what is asked for.
+fn reply_for<F: Files>(
+    alloc: Global,
+    what: Option<Asked>,
+    files: &mut F,
+) -> Result<Reply, AllocError>
+    requires { HoldsAsked (F.held files.old) (seen_asked what) }
+    ensures reply { IfOk result (λ r. Says (Gives (F.held files.old) (seen_asked what.entry) (answer_in r)) (F.faults files.old) (F.faults files.new) (F.left files.new) (answer_in r)) }
+    ensures usage { IfOk result (λ r. (r.status ≡ Status.Usage) ↔ (seen_asked what.entry ≡ None)) }
+    ensures kept { F.faults files.old ≤ F.faults files.new }
 {
-    match word {
-        [] => false,
-        [first, ..] => *first == b'-',
+    match what {
+        None => say(alloc, Status::Usage, USAGE),
+        Some(Asked::Campaign { image, script }) => campaign(alloc, files, image, script),
+        Some(Asked::Decode { port, dir, file }) => payloads(alloc, files, port, dir, file),
     }
 }
 
@@ -162,14 +156,27 @@ fn script<F: Files>(
         Ok(script) => script,
         Err(error) => return unread(alloc, error),
     };
-    match play(alloc, image, &script) {
-        Ok(text) => Ok(Reply {
-            status: Status::Done,
-            text,
-        }),
-        Err(WorldError::Memory) => Err(AllocError),
-        Err(WorldError::Line(fault)) => refused(alloc, fault),
-    }
+    reply_with(alloc, play(alloc, image, &script))
+}
+
+/// The reply to `decode PORT DIR FILE`.
+fn payloads<F: Files>(
+    alloc: Global,
+    files: &mut F,
+    port: u8,
+    dir: Direction,
+    name: &str,
+) -> Result<Reply, AllocError>
+    requires { HoldsName (F.held files.old) name.now }
+    ensures reply { IfOk result (λ r. Says (GivesDecode (F.held files.old) port dir name.now (answer_in r)) (F.faults files.old) (F.faults files.new) (F.left files.new) (answer_in r)) }
+    ensures usage { IfOk result (λ r. r.status ≢ Status.Usage) }
+    ensures kept { F.faults files.old ≤ F.faults files.new }
+{
+    let file = match read_source(alloc, files, name, SCRIPT_LIMIT) {
+        Ok(file) => file,
+        Err(error) => return unread(alloc, error),
+    };
+    reply_with(alloc, decode(alloc, port, dir, &file))
 }
 
 /// The reply for a source that was not read.
@@ -183,6 +190,20 @@ fn unread(alloc: Global, error: SourceError) -> Result<Reply, AllocError>
             status: Status::TooLong(taken),
             text: format!(in alloc; "too long {taken}\n")?.into_bytes(),
         }),
+    }
+}
+
+/// The reply with the text that a file made, or for its first refused line.
+fn reply_with(alloc: Global, said: Result<Vec<u8>, WorldError>) -> Result<Reply, AllocError>
+    ensures { IfOk result (λ r. IsSaid (seen_text said) (answer_in r)) }
+{
+    match said {
+        Ok(text) => Ok(Reply {
+            status: Status::Done,
+            text,
+        }),
+        Err(WorldError::Memory) => Err(AllocError),
+        Err(WorldError::Line(fault)) => refused(alloc, fault),
     }
 }
 
@@ -212,6 +233,7 @@ fn why_word(why: LineWhy) -> &'static str
         LineWhy::Range => "range",
         LineWhy::Device => "device",
         LineWhy::Unsent => "unsent",
+        LineWhy::Time => "time",
     }
 }
 
@@ -232,25 +254,6 @@ fn play(alloc: Global, image: &[u8], script: &[u8]) -> Result<Vec<u8>, WorldErro
         }
     }
     world.report(alloc)
-}
-
-/// The first line of the bytes, without its line feed, and what stands behind it.
-fn first_line(bytes: &[u8]) -> (&[u8], &[u8])
-    requires { 0 < length bytes.now }
-    ensures lines { lines_of bytes.now ≡ result.0.now ∷ lines_of result.1.now }
-    ensures shorter { length result.1.now < length bytes.now }
-{
-    match line_feed(bytes) {
-        Some(end) => (bytes.split_at(end).0, bytes.split_at(end + 1).1),
-        None => (bytes, &[]),
-    }
-}
-
-/// The place of the first line feed.
-fn line_feed(bytes: &[u8]) -> Option<usize>
-    ensures { result ≡ position (λ b. b == 10) bytes.now }
-{
-    bytes.iter().position(|b| *b == b'\n')
 }
 
 #[cfg(test)]

@@ -1,21 +1,20 @@
 // The server of a campaign: what it asks and sends, and what an uplink moves.
-ghost use Rattle.std.specs.Prelude.{ℕ, List, OnOk, OnErr, IsOk, ◌≡◌, ◌+◌, ◌-◌, ◌*◌, ◌/◌, ◌<◌, ◌≤◌, Some, None, true, IsTrue, IfOk, IfSome, IfNone, length, min, take, drop, replicate, ◌++◌};
+ghost use Rattle.std.specs.Prelude.{List, OnOk, OnErr, IsOk, ◌≡◌, ◌<◌, ◌≤◌, true, IfOk, IfErr, IfSome, length};
 ghost use Rattle.wire_base.specs.declared.refusal.Direction.{Direction};
-ghost use Rattle.fuota_run.specs.declared.grammar.Command.{Command};
-ghost use Rattle.fuota_run.specs.Commands.{IsDownlink, IsMessage, SpellsAll};
+ghost use Rattle.package_grammar.specs.declared.command.Command.{Command};
+ghost use Rattle.package_grammar.specs.Grammar.{SpellsTo, IsMessage, IsStop};
+ghost use Rattle.fuota_run.specs.Commands.{IsDownlink};
 ghost use Rattle.image_slots.specs.Image.{is_image, hardware_of, firmware_of};
 ghost use Rattle.fuota_run.specs.Server.{ServerState, fragments_of, padding_of, fragment_of, first_server, setup_of, asked, next_fragment, after_fragment, is_spent, answered, answered_all, after_version, after_setup_answer, worth};
 
-use crate::grammar::{Command, check, read_one};
-use cast_wire::{Cmd, FragmentBytes, MAX_FRAGMENT};
+use arrayvec::ArrayVec;
+use cast_wire::{Cmd, FragmentBytes};
+use frag_encoder::{Beyond, Encoder, EncoderError};
 use image_slots::{firmware, hardware};
+use package_grammar::{Command, check, read_one};
 use std::alloc::{AllocError, Global};
-use std::io::Read;
 use std::marker::Model;
 use wire_base::{Direction, Refusal};
-
-/// The most fragments of a file (this project's profile).
-pub const MAX_FRAGMENTS: usize = 1024;
 
 /// What the server asks of a device: a row of its table.
 #[derive(Clone, Copy, Debug, PartialEq, Eq)]
@@ -37,11 +36,12 @@ pub enum Stage {
     Refused { request: Request, bits: u8 },
 }
 
-/// The server: the image that it sends, how it cuts it, and where its device stands.
+/// The server: the image that it sends, the encoder that cuts it, and where its device stands.
 #[derive(Drop)]
 pub struct Server {
     image: Vec<u8>,
     frag_size: u8,
+    encoder: Encoder,
     stage: Stage,
     next: u16,
 }
@@ -54,16 +54,7 @@ impl Model for Server {
 
     ghost view = { λ s. record { image = s.image.items; frag_size = s.frag_size; stage = s.stage; next = s.next } };
 
-    ghost invariant = { λ s. IsServer s.image.items s.frag_size s.next };
-}
-
-/// The number of fragments of so many bytes that a file is cut into.
-pub fn fragments(len: usize, frag_size: u8) -> usize
-    requires some { 0 < frag_size }
-    requires fits { len ≤ 65536 }
-    ensures { result ≡ fragments_of len frag_size }
-{
-    len.div_ceil(usize::from(frag_size))
+    ghost invariant = { λ s. IsServer s.image.items s.frag_size s.next s.encoder };
 }
 
 #[tactic(auto, using(image_slots::proofs::ImageLemmas::image_bounds))]
@@ -76,12 +67,17 @@ impl Server {
         requires number { fragments_of (length image.now) frag_size ≤ 1024 }
         ensures { IfOk result (λ s. s ≡ first_server image.now frag_size) }
     {
-        Ok(Server {
-            image: image.to_vec(alloc)?,
-            frag_size,
-            stage: Stage::At(Request::Version),
-            next: 1,
-        })
+        match Encoder::new(alloc, image, frag_size) {
+            Ok(encoder) => Ok(Server {
+                image: image.to_vec(alloc)?,
+                frag_size,
+                encoder,
+                stage: Stage::At(Request::Version),
+                next: 1,
+            }),
+            Err(EncoderError::Memory) => Err(AllocError),
+            Err(EncoderError::BadSize) => unreachable!(),
+        }
     }
 
     /// The image that is sent.
@@ -102,15 +98,14 @@ impl Server {
     pub fn nb_frag(&self) -> u16
         ensures { result ≡ fragments_of (length self.now.image) self.now.frag_size }
     {
-        fragments(self.image.len(), self.frag_size) as u16
+        self.encoder.nb_frag()
     }
 
     /// The zero bytes that fill the last fragment up.
     pub fn padding(&self) -> u8
         ensures { result ≡ padding_of (length self.now.image) self.now.frag_size }
     {
-        let sent = usize::from(self.nb_frag()) * usize::from(self.frag_size);
-        (sent - self.image.len()) as u8
+        self.encoder.padding()
     }
 
     /// Where the device stands.
@@ -127,7 +122,7 @@ impl Server {
         ensures sendable { IfSome result IsDownlink }
     {
         match self.stage {
-            Stage::At(Request::Version) => Some(Command::DevVersionReq),
+            Stage::At(Request::Version) => Some(Command::Sync(sync_wire::Cmd::DevVersionReq)),
             Stage::At(Request::Fragments) => Some(Command::Cast(Cmd::FragSessionSetupReq {
                 index: 0,
                 mask: 0,
@@ -154,6 +149,7 @@ impl Server {
         ensures taken { (cs : List Command) → IsMessage cs port Direction.Up payload.now → self.new ≡ record self.old { stage = answered_all self.old.image self.old.stage cs } }
         ensures message { OnOk result ((cs : List Command) × IsMessage cs port Direction.Up payload.now) }
         ensures only { (cs : List Command) → IsMessage cs port Direction.Up payload.now → IsOk result }
+        ensures stops { IfErr result (IsStop port Direction.Up payload.now) }
         ensures refused { OnErr result (self.new ≡ self.old) }
     {
         match check(port, Direction::Up, payload) {
@@ -169,7 +165,7 @@ impl Server {
     fn answer_from(&mut self, port: u8, payload: &[u8], at: u16)
         requires within { at ≤ length payload.now }
         requires fits { length payload.now ≤ 242 }
-        ensures { (cs : List Command) → SpellsAll cs port Direction.Up payload.now at → self.new ≡ record self.old { stage = answered_all self.old.image self.old.stage cs } }
+        ensures { (cs : List Command) → SpellsTo cs port Direction.Up payload.now at (length payload.now) → self.new ≡ record self.old { stage = answered_all self.old.image self.old.stage cs } }
     {
         if at as usize == payload.len() {
             return;
@@ -187,11 +183,11 @@ impl Server {
         ensures moved { self.new ≡ after_fragment self.old }
         ensures sendable { IfSome result IsDownlink }
     {
-        if self.next > self.nb_frag() {
+        if self.is_spent() {
             return None;
         }
         let n = self.next;
-        let bytes = fragment(&self.image, self.frag_size, n);
+        let bytes = uncoded(&self.encoder, n);
         self.next += 1;
         Some(Command::Cast(Cmd::DataFragment { index: 0, n, bytes }))
     }
@@ -214,10 +210,12 @@ fn next_stage(image: &[u8], stage: Stage, command: &Command) -> Stage
     match (stage, command) {
         (
             Stage::At(Request::Version),
-            Command::DevVersionAns {
-                hardware: found,
-                ..
-            },
+            Command::Sync(
+                sync_wire::Cmd::DevVersionAns {
+                    hardware: found,
+                    ..
+                },
+            ),
         ) => { after_version(hardware(image), *found) }
         (Stage::At(Request::Fragments), Command::Cast(cmd)) => after_setup_answer(image, cmd),
         _ => stage,
@@ -271,27 +269,16 @@ fn after_setup_answer(image: &[u8], cmd: &Cmd) -> Stage
     }
 }
 
-/// Uncoded fragment n, from 1 on, of a file.
-fn fragment(file: &[u8], frag_size: u8, n: u16) -> FragmentBytes
+/// Uncoded fragment n, from 1 on, of the encoder's file.
+fn uncoded(encoder: &Encoder, n: u16) -> FragmentBytes
     requires first { 1 ≤ n }
-    requires some { 0 < frag_size }
-    requires fits { frag_size ≤ 239 }
-    requires last { n ≤ fragments_of (length file.now) frag_size }
-    requires short { length file.now ≤ 65536 }
-    ensures { result ≡ fragment_of file.now frag_size n }
+    requires last { n ≤ fragments_of (length encoder.now.file) encoder.now.frag_size }
+    ensures value { result ≡ fragment_of encoder.now.file encoder.now.frag_size n }
+    ensures size { length result ≡ encoder.now.frag_size }
 {
-    let size = usize::from(frag_size);
-    let start = (usize::from(n) - 1) * size;
-    let bytes = buffered(file.split_at(start).1);
-    FragmentBytes::from_slice(bytes.split_at(size).0)
-}
-
-/// The front of some bytes, and zeros behind where they end.
-fn buffered(bytes: &[u8]) -> [u8; MAX_FRAGMENT]
-    ensures { let n = min (length bytes.now) 239 in result ≡ take n bytes.now ++ drop n (replicate 239 0) }
-{
-    let mut buffer = [0; MAX_FRAGMENT];
-    let mut rest = bytes;
-    let _taken = rest.read(&mut buffer);
-    buffer
+    let mut part = ArrayVec::new();
+    match encoder.fragment(n, &mut part) {
+        Ok(()) => FragmentBytes::from_slice(part.as_slice()),
+        Err(Beyond) => unreachable!(),
+    }
 }

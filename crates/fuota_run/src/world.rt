@@ -3,28 +3,33 @@ ghost use Rattle.std.specs.Prelude.{◌≡◌, ◌≤◌, ◌<◌, ◌+◌, ◌^
 ghost use Rattle.std.specs.Option.{option_map};
 ghost use Rattle.image_slots.specs.Image.{is_image};
 ghost use Rattle.fuota_run.specs.Ranges.{is_frag_size, is_word};
-ghost use Rattle.fuota_run.specs.Commands.{IsValid, IsDownlink};
+ghost use Rattle.fuota_run.specs.Commands.{IsDownlink};
 ghost use Rattle.fuota_run.specs.Device.{DeviceState, first_device};
 ghost use Rattle.fuota_run.specs.Report.{report_of_ends};
 ghost use Rattle.fuota_run.specs.Server.{first_server};
 ghost use Rattle.fuota_run.specs.Script.{form_of};
 ghost use Rattle.fuota_run.specs.HeldDevices.{DeviceStands};
-ghost use Rattle.fuota_run.specs.World.{WorldState, first_world, numbered, is_at, is_allowed, takes_events, is_in_range, names_device, was_sent, has_come, has_nothing, form_cause, cause_of, request_of, fragment_from, moved_on, reaches, hears, at_events, form_made, one_line_more};
+ghost use Rattle.fuota_run.specs.World.{WorldState, first_world, numbered, is_at, is_allowed, takes_events, is_in_range, names_device, was_sent, has_come, is_over, has_nothing, form_cause, cause_of, request_of, fragment_from, moved_on, reaches, hears, at_events, form_made, one_line_more};
 
 use crate::device::{Device, DeviceConfig, Uplink};
-use crate::grammar::{Command, port_of, spelled};
 use crate::lines::{Form, read_form};
 use crate::report::report;
-use crate::server::{MAX_FRAGMENTS, Request, Server, Stage, fragments};
+use crate::server::{Request, Server, Stage};
+use crate::spelling::{port_of, spelled};
+use frag_model::lines::MAX_PIECES;
+use package_grammar::Command;
 use std::alloc::{AllocError, Global};
 use std::marker::Model;
-use wire_base::Payload;
+use wire_base::{Direction, Payload};
 
 /// The most lines of a script.
 pub const MAX_LINES: u32 = 20_000;
 
 /// The most bytes of a line.
 pub const MAX_LINE: usize = 600;
+
+/// The latest time of a script, in milliseconds: the last one of the GPS second 2^32 - 1.
+const MAX_TIME: u64 = 4_294_967_295_999;
 
 /// The most rows that a device is given.
 const MAX_ROWS: u64 = 64;
@@ -47,6 +52,8 @@ pub enum LineWhy {
     Device,
     /// The payload was not sent to that device, or the uplink was not made.
     Unsent,
+    /// The time that it tells is over.
+    Time,
 }
 
 /// The first refused line, counted from 1, and its first cause.
@@ -99,6 +106,7 @@ pub struct World {
     image: Vec<u8>,
     lines: u32,
     place: Place,
+    time: u64,
     server: Option<Server>,
     device: Option<Device>,
     sent: Vec<Sent>,
@@ -112,7 +120,7 @@ impl Model for World {
 
     ghost Value = { HeldWorld };
 
-    ghost view = { λ w. record { image = w.image.items; lines = w.lines; place = w.place; server = w.server; device = w.device; sent = w.sent.items; uplinks = w.uplinks.items; kept = w.kept } };
+    ghost view = { λ w. record { image = w.image.items; lines = w.lines; place = w.place; time = w.time; server = w.server; device = w.device; sent = w.sent.items; uplinks = w.uplinks.items; kept = w.kept } };
 
     ghost invariant = { λ w. IsWorld w.image.items w.lines };
 }
@@ -134,6 +142,7 @@ impl World {
             image: image.to_vec(alloc)?,
             lines: 0,
             place: Place::Header,
+            time: 0,
             server: None,
             device: None,
             sent: Vec::new(alloc),
@@ -215,6 +224,9 @@ impl World {
         if !has_come(&self.sent, self.uplinks.len(), form) {
             return Some(LineWhy::Unsent);
         }
+        if is_over(self.time, form) {
+            return Some(LineWhy::Time);
+        }
         if has_nothing(&self.server, form) {
             return Some(LineWhy::Limit);
         }
@@ -278,6 +290,11 @@ impl World {
                 offset: *offset as u32,
                 descriptor: *descriptor,
             }),
+            Form::At { time } => {
+                self.place = Place::Events;
+                self.time = *time;
+                Ok(())
+            }
             Form::Ask { device } => self.ask(*device),
             Form::Frag => self.frag(),
             Form::Down { payload, .. } => self.down(*payload),
@@ -358,7 +375,7 @@ impl World {
 
     /// Numbers a payload of the server's.
     fn send(&mut self, to: Option<u64>, command: &Command) -> Result<(), AllocError>
-        requires { IsValid command.now }
+        requires { IsDownlink command.now }
         ensures taken { OnOk result (self.new ≡ sending self.old to (Some command.now)) }
         ensures kept { self.new.kept ≡ self.old.kept }
         ensures lines { self.new.lines ≡ self.old.lines }
@@ -366,7 +383,7 @@ impl World {
         let sent = Sent {
             to,
             port: port_of(command),
-            payload: spelled(command),
+            payload: spelled(command, Direction::Down),
         };
         match self.sent.push(sent) {
             Ok(()) => Ok(()),
@@ -492,6 +509,7 @@ fn is_in_range(len: usize, has_device: bool, form: &Form) -> bool
             offset,
             ..
         } => !has_device && *id == 1 && is_word(*hw) && *rows <= MAX_ROWS && is_word(*offset),
+        Form::At { time } => *time <= MAX_TIME,
         Form::Down { word, .. } => is_word(*word),
         _ => true,
     }
@@ -537,6 +555,16 @@ fn was_sent(sent: &[Sent], payload: u64, device: u64) -> bool
     }
 }
 
+/// Whether the time that the form tells, if it tells one, is over.
+fn is_over(now: u64, form: &Form) -> bool
+    ensures { result ≡ is_over now form.now }
+{
+    match form {
+        Form::At { time } => *time < now,
+        _ => false,
+    }
+}
+
 /// Whether a `frag` has no fragment left, or an `ask` comes at the status stage.
 fn has_nothing(server: &Option<Server>, form: &Form) -> bool
     ensures { result ≡ has_nothing server.now form.now }
@@ -560,5 +588,7 @@ fn is_frag_size(len: usize, frag_size: u64) -> bool
     requires { len ≤ 65536 }
     ensures { result ≡ is_frag_size len frag_size }
 {
-    1 <= frag_size && frag_size <= MAX_FRAG_SIZE && fragments(len, frag_size as u8) <= MAX_FRAGMENTS
+    1 <= frag_size
+        && frag_size <= MAX_FRAG_SIZE
+        && len.div_ceil(frag_size as usize) <= MAX_PIECES as usize
 }

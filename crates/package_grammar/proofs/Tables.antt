@@ -19,7 +19,7 @@ use Rattle.package_grammar.specs.declared.command.Command.TheVariants.{Sync, Cas
 use Rattle.package_grammar.specs.Grammar.{row, Spells, IsPort, IsKnown, IsRefused, place_of, HasCause}
 
 -- the ports of a command of the one table, and of the other
-sync_port : (cmd : SyncCmd) (port : ℕ) (dir : Direction) → IsListed (sync.row cmd) port dir → (202 ≤ port) × (port ≤ 203)
+pub sync_port : (cmd : SyncCmd) (port : ℕ) (dir : Direction) → IsListed (sync.row cmd) port dir → (202 ≤ port) × (port ≤ 203)
 sync_port s.PackageVersionReq port dir listed = elim listed.port_is [ inl is ↦ (omega (arith, is), omega (arith, is)) | inr is ↦ (omega (arith, is), omega (arith, is)) ]
 sync_port (s.PackageVersionAns a b) port dir listed = elim listed.port_is [ inl is ↦ (omega (arith, is), omega (arith, is)) | inr is ↦ (omega (arith, is), omega (arith, is)) ]
 sync_port (s.AppTimeReq a b c) port dir listed = (omega (arith, listed.port_is), omega (arith, listed.port_is))
@@ -38,7 +38,7 @@ sync_port (s.DevUpgradeImageAns a b) port dir listed = (omega (arith, listed.por
 sync_port (s.DevDeleteImageReq a) port dir listed = (omega (arith, listed.port_is), omega (arith, listed.port_is))
 sync_port (s.DevDeleteImageAns a) port dir listed = (omega (arith, listed.port_is), omega (arith, listed.port_is))
 
-cast_port : (cmd : CastCmd) (port : ℕ) (dir : Direction) → IsListed (cast.row cmd) port dir → (200 ≤ port) × (port ≤ 201)
+pub cast_port : (cmd : CastCmd) (port : ℕ) (dir : Direction) → IsListed (cast.row cmd) port dir → (200 ≤ port) × (port ≤ 201)
 cast_port c.PackageVersionReq port dir listed = elim listed.port_is [ inl is ↦ (omega (arith, is), omega (arith, is)) | inr is ↦ (omega (arith, is), omega (arith, is)) ]
 cast_port (c.PackageVersionAns a b) port dir listed = elim listed.port_is [ inl is ↦ (omega (arith, is), omega (arith, is)) | inr is ↦ (omega (arith, is), omega (arith, is)) ]
 cast_port (c.FragSessionStatusReq a b) port dir listed = (omega (arith, listed.port_is), omega (arith, listed.port_is))

@@ -8,6 +8,7 @@
 
 mod checking;
 mod command;
+mod laws;
 mod reading;
 mod showing;
 mod showing_cast;
@@ -17,6 +18,7 @@ mod writing;
 
 pub use checking::check;
 pub use command::{Command, Downlink, To, valid};
+pub use laws::written_is_message;
 pub use reading::read_one;
 pub use showing::show;
 pub use writing::write_one;

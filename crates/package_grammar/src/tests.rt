@@ -1,9 +1,10 @@
 //! The message examples, and the texts of commands as they are read.
 
 use super::*;
+use std::alloc::Global;
 use std::process::Abort;
 use std::test::Fail;
-use wire_base::{Direction, Refusal, Why};
+use wire_base::{Direction, Payload, Refusal, Why};
 
 const LONG: [u8; 243] = [0; 243];
 
@@ -45,99 +46,350 @@ fn messages_are_counted_or_stop(rt: HostRuntime) {
     }
 }
 
-/// The bytes are one command with this text, and it is written with them where no reserved bit is set.
-fn reads(
+/// A command of each row of the tables: port, direction, its canonical bytes in hex, its text.
+const COMMANDS: [(u8, Direction, &str, &str); 40] = [
+    (200, Direction::Down, "00", "PackageVersionReq"),
+    (
+        200,
+        Direction::Up,
+        "000201",
+        "PackageVersionAns id=2 version=1",
+    ),
+    (201, Direction::Down, "00", "PackageVersionReq"),
+    (
+        201,
+        Direction::Up,
+        "000301",
+        "PackageVersionAns id=3 version=1",
+    ),
+    (202, Direction::Down, "00", "PackageVersionReq"),
+    (
+        202,
+        Direction::Up,
+        "000101",
+        "PackageVersionAns id=1 version=1",
+    ),
+    (203, Direction::Down, "00", "PackageVersionReq"),
+    (
+        203,
+        Direction::Up,
+        "000401",
+        "PackageVersionAns id=4 version=1",
+    ),
+    (
+        202,
+        Direction::Up,
+        "0107ca9a3b1e",
+        "AppTimeReq time=1000000007 required=1 token=14",
+    ),
+    (
+        202,
+        Direction::Down,
+        "01ffffffff0f",
+        "AppTimeAns correction=-1 token=15",
+    ),
+    (
+        202,
+        Direction::Down,
+        "020b",
+        "DeviceAppTimePeriodicityReq period=11",
+    ),
+    (
+        202,
+        Direction::Up,
+        "0201ffffffff",
+        "DeviceAppTimePeriodicityAns unsupported=1 time=4294967295",
+    ),
+    (202, Direction::Down, "0307", "ForceDeviceResyncReq count=7"),
+    (
+        201,
+        Direction::Down,
+        "0105",
+        "FragSessionStatusReq index=2 all=1",
+    ),
+    (
+        201,
+        Direction::Up,
+        "01e8c3ff01",
+        "FragSessionStatusAns index=3 received=1000 missing=255 norows=1",
+    ),
+    (
+        201,
+        Direction::Down,
+        "021e04010d2b0544332211",
+        "FragSessionSetupReq index=1 mask=14 nbfrag=260 fragsize=13 algo=5 delay=3 padding=5 descriptor=11223344",
+    ),
+    (
+        201,
+        Direction::Up,
+        "0249",
+        "FragSessionSetupAns index=1 bits=9",
+    ),
+    (201, Direction::Down, "0303", "FragSessionDeleteReq index=3"),
+    (
+        201,
+        Direction::Up,
+        "0306",
+        "FragSessionDeleteAns index=2 missing=1",
+    ),
+    (
+        201,
+        Direction::Down,
+        "080580aabb",
+        "DataFragment index=2 n=5 bytes=aabb",
+    ),
+    (200, Direction::Down, "010a", "McGroupStatusReq mask=10"),
+    (
+        200,
+        Direction::Up,
+        "012500443322110288776655",
+        "McGroupStatusAns total=2 mask=5 groups=0:11223344,2:55667788",
+    ),
+    (
+        200,
+        Direction::Down,
+        "020304030201000102030405060708090a0b0c0d0e0f0500000070110100",
+        "McGroupSetupReq id=3 addr=01020304 key=000102030405060708090a0b0c0d0e0f min=5 max=70000",
+    ),
+    (200, Direction::Up, "0206", "McGroupSetupAns id=2 error=1"),
+    (200, Direction::Down, "0301", "McGroupDeleteReq id=1"),
+    (
+        200,
+        Direction::Up,
+        "0307",
+        "McGroupDeleteAns id=3 undefined=1",
+    ),
+    (
+        200,
+        Direction::Down,
+        "0402006d7c4d0cc8858405",
+        "McClassCSessionReq id=2 time=1300000000 timeout=12 freq=8685000 dr=5",
+    ),
+    (
+        200,
+        Direction::Up,
+        "04000a0000",
+        "McClassCSessionAns id=0 bits=0 start=10",
+    ),
+    (
+        200,
+        Direction::Down,
+        "0501800000007fd2ad8403",
+        "McClassBSessionReq id=1 time=128 periodicity=7 timeout=15 freq=8695250 dr=3",
+    ),
+    (
+        200,
+        Direction::Up,
+        "051d",
+        "McClassBSessionAns id=1 bits=28 start=-",
+    ),
+    (203, Direction::Down, "01", "DevVersionReq"),
+    (
+        203,
+        Direction::Up,
+        "010200000001000000",
+        "DevVersionAns fw=2 hw=1",
+    ),
+    (
+        203,
+        Direction::Down,
+        "02ffffffff",
+        "DevRebootTimeReq time=4294967295",
+    ),
+    (
+        203,
+        Direction::Up,
+        "02005ed0b2",
+        "DevRebootTimeAns time=3000000000",
+    ),
+    (
+        203,
+        Direction::Down,
+        "03ffffff",
+        "DevRebootCountdownReq count=16777215",
+    ),
+    (
+        203,
+        Direction::Up,
+        "033c0000",
+        "DevRebootCountdownAns count=60",
+    ),
+    (203, Direction::Down, "04", "DevUpgradeImageReq"),
+    (
+        203,
+        Direction::Up,
+        "040302010000",
+        "DevUpgradeImageAns status=3 next=258",
+    ),
+    (
+        203,
+        Direction::Down,
+        "0507000000",
+        "DevDeleteImageReq version=7",
+    ),
+    (203, Direction::Up, "0503", "DevDeleteImageAns bits=3"),
+];
+
+/// Commands with all their reserved bits set, and as they are written.
+const RESERVED: [(u8, Direction, &str, &str); 23] = [
+    (202, Direction::Up, "0100000000ff", "01000000001f"),
+    (202, Direction::Down, "0100000000f3", "010000000003"),
+    (202, Direction::Down, "02fb", "020b"),
+    (202, Direction::Up, "02ff00000000", "020100000000"),
+    (202, Direction::Down, "03f9", "0301"),
+    (201, Direction::Down, "01fd", "0105"),
+    (201, Direction::Up, "01000000fe", "0100000000"),
+    (
+        201,
+        Direction::Down,
+        "02c0010001c00000000000",
+        "0200010001000000000000",
+    ),
+    (201, Direction::Up, "0279", "0249"),
+    (201, Direction::Down, "03fc", "0300"),
+    (201, Direction::Up, "03fa", "0302"),
+    (200, Direction::Down, "01f3", "0103"),
+    (200, Direction::Up, "0191fc44332211", "01110044332211"),
+    (
+        200,
+        Direction::Down,
+        "02fd00000000000000000000000000000000000000000000000000000000",
+        "020100000000000000000000000000000000000000000000000000000000",
+    ),
+    (200, Direction::Up, "02fa", "0202"),
+    (200, Direction::Down, "03fe", "0302"),
+    (200, Direction::Up, "03f9", "0301"),
+    (
+        200,
+        Direction::Down,
+        "04fc00000000f100000000",
+        "0400000000000100000000",
+    ),
+    (200, Direction::Up, "04e3000000", "0403000000"),
+    (
+        200,
+        Direction::Down,
+        "05fc000000008000000000",
+        "0500000000000000000000",
+    ),
+    (200, Direction::Up, "05f4", "0514"),
+    (203, Direction::Up, "04fe", "0402"),
+    (203, Direction::Up, "05fd", "0501"),
+];
+
+fn bytes_of(alloc: Global, digits: &str) -> Vec<u8> {
+    match hex::decode(alloc, digits.as_bytes()) {
+        Ok(bytes) => bytes,
+        Err(_) => Vec::new(alloc),
+    }
+}
+
+/// The text of the command that the bytes are, which is written with the canonical bytes.
+fn text_and_bytes(
     rt: &impl Abort,
-    alloc: std::alloc::Global,
+    alloc: Global,
     port: u8,
     dir: Direction,
     bytes: &[u8],
-    text: &str,
-) -> Result<(), Fail> {
-    assert!(rt; !bytes.is_empty());
-    match read_one(port, dir, bytes, 0) {
-        Ok((command, next)) => {
+    canonical: &[u8],
+) -> Result<Vec<u8>, Fail> {
+    let mut text = Vec::new(alloc);
+    let mut out = Payload::new();
+    if !bytes.is_empty() {
+        if let Ok((command, next)) = read_one(port, dir, bytes, 0) {
             assert!(rt; next as usize == bytes.len());
-            let mut shown = Vec::new(alloc);
-            show(&command, &mut shown)?;
-            assert_eq!(rt; shown.as_slice(), text.as_bytes());
+            assert!(rt; write_one(port, dir, &command, &mut out) == Ok(()));
+            show(&command, &mut text)?;
         }
-        Err(_) => assert!(rt; false),
+    }
+    assert_eq!(rt; out.as_slice(), canonical);
+    Ok(text)
+}
+
+#[test]
+fn each_command_is_read_written_and_shown(rt: HostRuntime) -> Result<(), Fail> {
+    for (port, dir, digits, text) in &COMMANDS {
+        let bytes = bytes_of(rt.alloc(), digits);
+        let shown = text_and_bytes(&rt, rt.alloc(), *port, *dir, &bytes, &bytes)?;
+        assert_eq!(rt; shown.as_slice(), text.as_bytes());
     }
     Ok(())
 }
 
 #[test]
-fn commands_are_shown_as_they_are_read(rt: HostRuntime) -> Result<(), Fail> {
-    use Direction::*;
+fn reserved_bits_are_ignored_and_written_0(rt: HostRuntime) -> Result<(), Fail> {
+    for (port, dir, digits, canonical) in &RESERVED {
+        let bytes = bytes_of(rt.alloc(), digits);
+        let written = bytes_of(rt.alloc(), canonical);
+        assert!(rt; bytes.as_slice() != written.as_slice());
+        let _text = text_and_bytes(&rt, rt.alloc(), *port, *dir, &bytes, &written)?;
+    }
+    Ok(())
+}
+
+/// A fragment's front is a fragment, once it has a byte of it.
+#[test]
+fn each_command_cut_short_is_refused_at_the_cut(rt: HostRuntime) -> Result<(), Fail> {
+    for (port, dir, digits, text) in &COMMANDS {
+        let bytes = bytes_of(rt.alloc(), digits);
+        assert!(rt; bytes.len() <= 242);
+        let is_fragment = text.starts_with("DataFragment");
+        for cut in 1..bytes.len() {
+            let answer = if is_fragment && cut > 3 {
+                Ok(1)
+            } else {
+                stop(cut as u16, Why::Short)
+            };
+            assert!(rt; check(*port, *dir, bytes.split_at(cut).0) == answer);
+        }
+    }
+    Ok(())
+}
+
+/// Other values than the table's: negative, absent, none, all.
+#[test]
+fn values_have_their_texts(rt: HostRuntime) -> Result<(), Fail> {
     let rows = [
         (
             202,
-            Down,
-            &[0x01, 0x05, 0x00, 0x00, 0x00, 0xf3][..],
+            Direction::Down,
+            "0105000000f3",
             "AppTimeAns correction=5 token=3",
         ),
         (
             202,
-            Down,
-            &[0x01, 0xff, 0xff, 0xff, 0xff, 0x0f][..],
-            "AppTimeAns correction=-1 token=15",
+            Direction::Down,
+            "010000008000",
+            "AppTimeAns correction=-2147483648 token=0",
         ),
         (
             200,
-            Up,
-            &[
-                0x01, 0x25, 0x00, 0x44, 0x33, 0x22, 0x11, 0x02, 0x88, 0x77, 0x66, 0x55,
-            ][..],
-            "McGroupStatusAns total=2 mask=5 groups=0:11223344,2:55667788",
-        ),
-        (
-            200,
-            Up,
-            &[0x01, 0x00][..],
+            Direction::Up,
+            "0100",
             "McGroupStatusAns total=0 mask=0 groups=-",
         ),
         (
             200,
-            Up,
-            &[0x04, 0x1c][..],
+            Direction::Up,
+            "041c",
             "McClassCSessionAns id=0 bits=28 start=-",
         ),
         (
-            200,
-            Up,
-            &[0x04, 0x00, 0x0a, 0x00, 0x00][..],
-            "McClassCSessionAns id=0 bits=0 start=10",
-        ),
-        (
             203,
-            Up,
-            &[0x04, 0x02][..],
+            Direction::Up,
+            "0402",
             "DevUpgradeImageAns status=2 next=-",
         ),
-        (
-            201,
-            Up,
-            &[0x02, 0x49][..],
-            "FragSessionSetupAns index=1 bits=9",
-        ),
-        (
-            201,
-            Down,
-            &[
-                0x02, 0x1e, 0x04, 0x01, 0x0d, 0x2b, 0x05, 0x44, 0x33, 0x22, 0x11,
-            ][..],
-            "FragSessionSetupReq index=1 mask=14 nbfrag=260 fragsize=13 algo=5 delay=3 padding=5 descriptor=11223344",
-        ),
-        (
-            201,
-            Down,
-            &[0x08, 0x05, 0x80, 0xaa, 0xbb][..],
-            "DataFragment index=2 n=5 bytes=aabb",
-        ),
     ];
-    for (port, dir, bytes, text) in &rows {
-        reads(&rt, rt.alloc(), *port, *dir, bytes, text)?;
+    for (port, dir, digits, text) in &rows {
+        let bytes = bytes_of(rt.alloc(), digits);
+        let mut shown = Vec::new(rt.alloc());
+        if !bytes.is_empty() {
+            if let Ok((command, _next)) = read_one(*port, *dir, &bytes, 0) {
+                show(&command, &mut shown)?;
+            }
+        }
+        assert_eq!(rt; shown.as_slice(), text.as_bytes());
     }
     Ok(())
 }

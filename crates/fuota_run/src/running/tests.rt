@@ -1,4 +1,8 @@
 //! Whole runs over files and a sink in memory, and the first steps over those of the system.
+ghost use Rattle.std.specs.Prelude.{Some, IsTrue, is_some, map, string_bytes};
+ghost use Rattle.fuota_run.specs.Memory.{held_by};
+ghost use Rattle.fuota_run.specs.Reply.{HoldsAsked};
+ghost use Rattle.fuota_run.specs.Words.{seen_asked};
 
 use super::*;
 use crate::memory::{MemFiles, MemSink};
@@ -22,13 +26,18 @@ const EVENTS: &str =
 const REPORT: &str =
     "fuota report 1\nimage 52 fragments 4 size 13 padding 0 parity 0\ndevice 1 status clock 0 token 0 running 0 next valid 2\ncounts deaf 0 refused 0 full 0 dropped 0\nsession 0 received 5 missing 0 complete at 18 same\nend\n";
 
+const REPORT_LATER: &str =
+    "fuota report 1\nimage 52 fragments 4 size 13 padding 0 parity 0\ndevice 1 status clock 0 token 0 running 0 next valid 2\ncounts deaf 0 refused 0 full 0 dropped 0\nsession 0 received 5 missing 0 complete at 19 same\nend\n";
+
 const WORDS: [&str; 4] = ["fuota", "campaign", "image", "script"];
 
-/// What stands outside a run: its files, the number of the call that fails on each side (0 for none),
-/// and the room of its sink.
+/// What stands outside a run: its two files, the second one in three parts, the number of the call that fails on each
+/// side (0 for none), and the room of its sink.
 #[derive(Clone, Copy)]
 struct Outside<'a> {
     image: &'a [u8],
+    start: &'static str,
+    clock: &'static str,
     events: &'static str,
     read_fails: u64,
     write_fails: u64,
@@ -37,6 +46,8 @@ struct Outside<'a> {
 
 const SOUND: Outside<'static> = Outside {
     image: &IMAGE,
+    start: START,
+    clock: "",
     events: EVENTS,
     read_fails: 0,
     write_fails: 0,
@@ -44,7 +55,10 @@ const SOUND: Outside<'static> = Outside {
 };
 
 fn files(alloc: Global, outside: &Outside) -> Result<MemFiles, Fail> {
-    let script = format!(in alloc; "{START}{}", outside.events)?.into_bytes();
+    let script = format!(in alloc;
+        "{}{}{}",
+        outside.start, outside.clock, outside.events
+    )?.into_bytes();
     let mut files = Vec::new(alloc);
     files.push((format!(in alloc; "image")?, outside.image.to_vec(alloc)?))?;
     files.push((format!(in alloc; "script")?, script))?;
@@ -58,10 +72,21 @@ fn run_held(
     files: &mut MemFiles,
     sink: &mut MemSink,
 ) -> Option<Status> {
-    if is_campaign(words) && !(files.holds(word_at(words, 2)) && files.holds(word_at(words, 3))) {
-        return None;
+    match read_words(alloc, words) {
+        Ok(what) if all_held(files, what) => Some(run(alloc, words, files, sink)),
+        _ => None,
     }
-    Some(run(alloc, words, files, sink))
+}
+
+/// Whether there are files of all names that are asked for.
+fn all_held(files: &MemFiles, what: Option<Asked>) -> bool
+    ensures { IsTrue result → HoldsAsked (Some (held_by (map (λ f. (string_bytes f.0, f.1.items)) files.now.files.items))) (seen_asked what.entry) }
+{
+    match what {
+        None => true,
+        Some(Asked::Campaign { image, script }) => files.holds(image) && files.holds(script),
+        Some(Asked::Decode { file, .. }) => files.holds(file),
+    }
 }
 
 fn ends(
@@ -126,6 +151,105 @@ fn a_run_ends_with_its_status_and_text(rt: HostRuntime) -> Result<(), Fail> {
         Status::WriteFault,
         &REPORT[..20],
     )
+}
+
+/// Runs the words over these lines as the second file.
+fn says(
+    rt: &impl Abort,
+    alloc: Global,
+    words: &[&str],
+    lines: &'static str,
+    status: Status,
+    text: &str,
+) -> Result<(), Fail> {
+    let outside = Outside {
+        start: lines,
+        events: "",
+        ..SOUND
+    };
+    ends(rt, alloc, words, &outside, status, text)
+}
+
+const DECODE: [&str; 5] = ["fuota", "decode", "201", "down", "script"];
+
+#[test]
+fn payloads_are_decoded_line_by_line(rt: HostRuntime) -> Result<(), Fail> {
+    let time = ["fuota", "decode", "202", "down", "script"];
+    let versions = ["fuota", "decode", "203", "down", "--", "script"];
+    let rows = [
+        (
+            &time[..],
+            "0105000000f3\n",
+            "line 1\nAppTimeAns correction=5 token=3\nend\n",
+        ),
+        (&time[..], "", "end\n"),
+        (&DECODE[..], "020004", "line 1\nrefused 3 short\nend\n"),
+        (&versions[..], "017f\n", "line 1\nrefused 1 unknown\nend\n"),
+        (
+            &DECODE[..],
+            "\n00010A\n",
+            "line 1\nline 2\nPackageVersionReq\nFragSessionStatusReq index=1 all=0\nend\n",
+        ),
+    ];
+    for (words, lines, text) in &rows {
+        says(&rt, rt.alloc(), words, lines, Status::Done, text)?;
+    }
+    let refused = Status::ScriptRefused;
+    says(
+        &rt,
+        rt.alloc(),
+        &DECODE,
+        "00\n000\n",
+        refused,
+        "line 2 syntax\n",
+    )?;
+    says(
+        &rt,
+        rt.alloc(),
+        &DECODE,
+        "00\nzz",
+        refused,
+        "line 2 syntax\n",
+    )
+}
+
+#[test]
+fn words_that_are_no_form_are_usage(rt: HostRuntime) -> Result<(), Fail> {
+    let rows = [
+        &["fuota", "decode", "204", "down", "script"][..],
+        &["fuota", "decode", "0201", "down", "script"][..],
+        &["fuota", "decode", "201", "Down", "script"][..],
+        &["fuota", "decode", "201", "down"][..],
+        &["fuota", "--", "decode", "201", "down", "script"][..],
+        &["fuota", "help"][..],
+        &["fuota", "campaign", "--help"][..],
+        &["fuota", "replay", "script"][..],
+        &["fuota"][..],
+    ];
+    for words in &rows {
+        says(&rt, rt.alloc(), words, "", Status::Usage, USAGE)?;
+    }
+    Ok(())
+}
+
+#[test]
+fn the_time_never_goes_back(rt: HostRuntime) -> Result<(), Fail> {
+    let later = Outside {
+        clock: "at 1000\n",
+        ..SOUND
+    };
+    let back = Outside {
+        clock: "at 1000\nat 999\n",
+        ..SOUND
+    };
+    let far = Outside {
+        clock: "at 4294967296000\n",
+        ..SOUND
+    };
+    ends(&rt, rt.alloc(), &WORDS, &later, Status::Done, REPORT_LATER)?;
+    let refused = Status::ScriptRefused;
+    ends(&rt, rt.alloc(), &WORDS, &back, refused, "line 5 time\n")?;
+    ends(&rt, rt.alloc(), &WORDS, &far, refused, "line 4 range\n")
 }
 
 #[test]

@@ -1,5 +1,6 @@
 use Rattle.std.proofs.Common.{refl}
-use Rattle.fuota_run.proofs.Messages.{none_left, first_read, none_read}
+use Rattle.package_grammar.proofs.Messages.{none_left, first_read}
+use Rattle.fuota_run.proofs.Messages.{nothing_read}
 use Rattle.fuota_run.proofs.device.+weight_from.Goals as goal
 
 pub returns-then-at-payload-clause-weight : goal.returns-then-at-payload-clause-weight
@@ -12,4 +13,4 @@ returns-in-Ok-clause-weight t c = λ cs all.
 
 pub returns-in-Err-clause-weight : goal.returns-in-Err-clause-weight
 returns-in-Err-clause-weight t c = λ cs all.
-    absurd (none_read _ _ _ _ _ _ cs c.if-at-payload.false (λ d end. c.read_one.ensures.only d end c.requires.fits) c.in-Err.is all)
+    absurd (nothing_read _ _ _ _ _ _ cs c.if-at-payload.false (λ d end. c.read_one.ensures.only d end c.requires.fits) c.in-Err.is all)

@@ -3,7 +3,8 @@ use Rattle.std.proofs.lemmas.List.{length-map}
 use Rattle.fuota_run.specs.Device.{after_commands, answer_to, answers_to, weights}
 use Rattle.fuota_run.specs.Commands.{IsUplink}
 use Rattle.fuota_run.specs.HeldDevice.{uplink_of}
-use Rattle.fuota_run.proofs.Messages.{none_left, first_read, none_read, answers_fit, answers_on, all_more}
+use Rattle.package_grammar.proofs.Messages.{none_left, first_read}
+use Rattle.fuota_run.proofs.Messages.{nothing_read, answers_fit, answers_on, all_more}
 use Rattle.fuota_run.proofs.device.Device.+act_from.Goals as goal
 
 pub returns-then-at-payload-clause-done : goal.returns-then-at-payload-clause-done
@@ -41,11 +42,11 @@ returns-in-Ok-clause-answers t c = λ cs all.
 
 pub returns-in_default-clause-done : goal.returns-in_default-clause-done
 returns-in_default-clause-done t c = λ device cs stands all.
-    absurd (none_read _ _ _ _ _ _ cs c.if-at-payload.false (λ d end. c.read_one.ensures.only d end c.requires.fits) c.in_default.is all)
+    absurd (nothing_read _ _ _ _ _ _ cs c.if-at-payload.false (λ d end. c.read_one.ensures.only d end c.requires.fits) c.in_default.is all)
 
 pub returns-in_default-clause-answers : goal.returns-in_default-clause-answers
 returns-in_default-clause-answers t c = λ cs all.
-    absurd (none_read _ _ _ _ _ _ cs c.if-at-payload.false (λ d end. c.read_one.ensures.only d end c.requires.fits) c.in_default.is all)
+    absurd (nothing_read _ _ _ _ _ _ cs c.if-at-payload.false (λ d end. c.read_one.ensures.only d end c.requires.fits) c.in_default.is all)
 
 pub returns-then-at-payload-clause-sendable : goal.returns-then-at-payload-clause-sendable
 unfolding answers_to
@@ -59,4 +60,4 @@ returns-in-Ok-clause-sendable t c = λ cs all.
 
 pub returns-in_default-clause-sendable : goal.returns-in_default-clause-sendable
 returns-in_default-clause-sendable t c = λ cs all.
-    absurd (none_read _ _ _ _ _ _ cs c.if-at-payload.false (λ d end. c.read_one.ensures.only d end c.requires.fits) c.in_default.is all)
+    absurd (nothing_read _ _ _ _ _ _ cs c.if-at-payload.false (λ d end. c.read_one.ensures.only d end c.requires.fits) c.in_default.is all)

@@ -1,6 +1,7 @@
 use Rattle.std.proofs.Common.{refl}
 use Rattle.fuota_run.specs.Server.{answered_all}
-use Rattle.fuota_run.proofs.Messages.{none_left, first_read, none_read}
+use Rattle.package_grammar.proofs.Messages.{none_left, first_read}
+use Rattle.fuota_run.proofs.Messages.{nothing_read}
 use Rattle.fuota_run.proofs.server.Server.+answer_from.Goals as goal
 
 pub returns-then-at-payload : goal.returns-then-at-payload
@@ -15,4 +16,4 @@ returns-in-Ok t c = λ cs all.
 
 pub returns-in_default : goal.returns-in_default
 returns-in_default t c = λ cs all.
-    absurd (none_read _ _ _ _ _ _ cs c.if-at-payload.false (λ d end. c.read_one.ensures.only d end c.requires.fits) c.in_default.is all)
+    absurd (nothing_read _ _ _ _ _ _ cs c.if-at-payload.false (λ d end. c.read_one.ensures.only d end c.requires.fits) c.in_default.is all)

@@ -1,16 +1,17 @@
 use Rattle.std.proofs.Common.{◌≡◌, ℕ, ◌+◌, ◌≤◌, length, List, [], ◌∷◌, ◌++◌, map, inr, sym, ap, subst, ◌∙◌, append-nil, arith}
 use Rattle.wire_base.specs.declared.refusal.Direction.TheVariants.{Down}
-use Rattle.fuota_run.specs.declared.grammar.Command.{Command}
+use Rattle.package_grammar.specs.declared.command.Command.{Command}
 use Rattle.std.specs.List.{AllByRecursion}
 use Rattle.fuota_run.specs.declared.device.DeviceConfig.{DeviceConfig}
 use Rattle.fuota_run.specs.declared.device.Uplink.{Uplink}
 use Rattle.fuota_run.specs.declared.world.Sent.{Sent}
-use Rattle.fuota_run.specs.Commands.{IsDownlink, IsUplink, IsMessage}
+use Rattle.package_grammar.specs.Grammar.{IsMessage}
+use Rattle.fuota_run.specs.Commands.{IsDownlink, IsUplink}
 use Rattle.fuota_run.specs.Device.{weights, after_commands, answers_to, answer_to, after_command}
 use Rattle.fuota_run.specs.HeldDevice.{HeldDevice, StandsAs, uplink_of}
 use Rattle.fuota_run.specs.HeldWorld.{HeldWorld, StandsFor, sent_of}
 use Rattle.fuota_run.specs.World.{Sending, numbered}
-use Rattle.fuota_run.proofs.Canonical.{message_of}
+use Rattle.package_grammar.proofs.Written.{message_of}
 use Rattle.fuota_run.proofs.Outcomes.{on_ok, on_ok_then}
 use Rattle.fuota_run.proofs.WorldLemmas.{numbered-map, numbered-map_none, all_numbered, device_there, weight_one, only_answers, record_with_device, reaches_stands, reaches_nothing}
 use Rattle.fuota_run.proofs.world.World.down.Goals as goal
@@ -29,7 +30,7 @@ returns-clause-taken c = on_ok c.take_uplinks.result (λ ok. λ world stands.
     let is = sym (ap (λ (ss : List Sent). numbered ss c.args.payload) (c.deref.ensures.value ∙ here.sent)) ∙ sym c.in-Some-numbered.ensures in
     let found = numbered-map sent_of world.sent c.args.payload sent is in
     let fine = all_numbered (λ (s : Sending). IsDownlink s.command) world.sent c.args.payload found.0 here.downs found.1 in
-    let spelled = message_of found.0.command Down fine.valid fine.listed in
+    let spelled = message_of found.0.command _ Down fine.valid fine.listed in
     let port = subst (λ (s : Sent). IsMessage (found.0.command ∷ []) s.port Down s.payload) found.2 spelled in
     let message = subst (λ (bytes : List ℕ). IsMessage (found.0.command ∷ []) sent.port Down bytes) (sym c.as_slice.ensures.value) port in
     let there = device_there _ _ c.in-Some.device here.device c.in-Some.is in

@@ -1,0 +1,104 @@
+-- The words of the command line, as clap takes them, and what they ask for. (This project's profile.)
+use Rattle.std.specs.Prelude.{◌≡◌, ℕ, true, false, ◌&&◌, nat_le, if◌then◌else◌, List, [], ◌∷◌, codes, Option, Some, None, option_and_then}
+use Rattle.std.specs.Str.{bytes_eq}
+use Rattle.wire_base.specs.declared.refusal.Direction.{Direction}
+use Rattle.wire_base.specs.declared.refusal.Direction.TheVariants.{Down, Up}
+use Rattle.clap.specs.declared.builder.command.Command.{Command}
+use Rattle.clap.specs.declared.builder.command.Command.TheViews.{out-Command}
+use Rattle.clap.specs.Words.{App, Kinds, Shape, Row, Rule, Text, app_of, fault_of, first_of, new_app, new_rule, subcommand_of, with_rule, with_subcommand}
+use Rattle.fuota_run.specs.declared.words.Asked.{Asked as Read}
+use Rattle.fuota_run.specs.declared.words.Asked.TheVariants as read
+use Rattle.fuota_run.specs.Script.{decimal_of, ◌>>=◌}
+
+-- ---- the command
+
+-- a word that stands at its place and must be there
+abbrev pub positional : Text → Rule
+positional name = record (new_rule name) { required = true }
+
+-- a form: its keyword, and the words behind it
+abbrev pub with_words : App → List Text → App
+with_words app [] = app
+with_words app (name ∷ names) = with_words (with_rule app (positional name)) names
+
+abbrev pub form : Text → List Text → Shape
+form keyword names = (with_words (new_app keyword) names).top
+
+abbrev pub with_forms : App → List Shape → App
+with_forms app [] = app
+with_forms app (one ∷ more) = with_forms (with_subcommand app one) more
+
+-- the program and its five forms, which take no options
+unfoldable pub fuota : App
+fuota = with_forms (new_app (codes "fuota")) (
+    form (codes "campaign") (codes "IMAGE" ∷ codes "SCRIPT" ∷ [])
+    ∷ form (codes "recover") (codes "IMAGE" ∷ codes "SCRIPT" ∷ codes "DEVICE" ∷ [])
+    ∷ form (codes "replay") (codes "FILE" ∷ [])
+    ∷ form (codes "decode") (codes "PORT" ∷ codes "DIR" ∷ codes "FILE" ∷ [])
+    ∷ form (codes "generate") (codes "SEED" ∷ [])
+    ∷ [])
+
+-- what was found, where there is no fault
+abbrev pub where_none : Kinds → Option (Text × List Row) → Option (Text × List Row)
+where_none [] found = found
+where_none (kind ∷ kinds) found = None
+
+-- where clap finds no fault in the words: the form that they name, with what was found for its words
+unfoldable pub parsed : List Text → Option (Text × List Row)
+parsed words = where_none (fault_of fuota words) (subcommand_of fuota words)
+
+-- ---- what is asked for
+
+-- the report of the campaign of an image and a script, or the text of a file of payloads
+pub data Asked : Type 0 where
+  campaign : (image script : List ℕ) → Asked
+  decode : (port : ℕ) (direction : Direction) (file : List ℕ) → Asked
+
+-- a decimal from 200 to 203
+abbrev pub port_by : ℕ → Option ℕ
+port_by port = if nat_le 200 port && nat_le port 203 then Some port else None
+
+abbrev pub port_of_word : Text → Option ℕ
+port_of_word word = decimal_of word >>= port_by
+
+abbrev pub direction_of_word : Text → Option Direction
+direction_of_word word = if bytes_eq word (codes "down") then Some Down else if bytes_eq word (codes "up") then Some Up else None
+
+abbrev pub campaign_asked : List Row → Option Asked
+campaign_asked rows = do
+  image ← first_of (codes "IMAGE") rows
+  script ← first_of (codes "SCRIPT") rows
+  Some (campaign image script)
+
+abbrev pub decode_asked : List Row → Option Asked
+decode_asked rows = do
+  port_word ← first_of (codes "PORT") rows
+  port ← port_of_word port_word
+  direction_word ← first_of (codes "DIR") rows
+  direction ← direction_of_word direction_word
+  file ← first_of (codes "FILE") rows
+  Some (decode port direction file)
+
+-- the forms that are there so far: `campaign` and `decode`
+unfoldable pub asked_by : Text → List Row → Option Asked
+asked_by keyword rows =
+    if bytes_eq keyword (codes "campaign") then campaign_asked rows
+    else if bytes_eq keyword (codes "decode") then decode_asked rows
+    else None
+
+-- what the words ask for; none where they are no form
+unfoldable pub asked : List Text → Option Asked
+asked words = option_and_then (λ found. asked_by found.0 found.1) (parsed words)
+
+-- ---- as it is held
+
+-- the same with the words as they were handed in
+abbrev pub seen_asked : Option Read → Option Asked
+seen_asked None = None
+seen_asked (Some (read.Campaign image script)) = Some (campaign image.now script.now)
+seen_asked (Some (read.Decode port direction file)) = Some (decode port direction file.now)
+
+-- a command as it is built so far
+pub record IsCommand (command : Command) (app : App) : Type 0 where
+  pub shape : app_of command ≡ app
+  pub local : (out-Command command).has_globals ≡ false

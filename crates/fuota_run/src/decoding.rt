@@ -1,0 +1,169 @@
+// What `decode` says of a file of payloads, one a line.
+ghost use Rattle.std.specs.Prelude.{◌≡◌, ◌⊎◌, ℕ, ◌+◌, ◌<◌, ◌≤◌, List, ◌++◌, length, codes, string_bytes, Ok, IfOk, IfErr, OnOk};
+ghost use Rattle.std.specs.Fmt.{decimal};
+ghost use Rattle.package_grammar.specs.declared.command.Command.{Command};
+ghost use Rattle.package_grammar.specs.Grammar.{SpellsTo};
+ghost use Rattle.fuota_run.specs.Texts.{seen_text};
+ghost use Rattle.fuota_run.specs.Decode.{payload_of, commands_text, stop_word, stop_text, IsShown, numbered_text, IsDecoded, IsLineRefused};
+
+use crate::lines::first_line;
+use crate::world::{LineFault, LineWhy, MAX_LINE, MAX_LINES, WorldError};
+use hex::FromHexError;
+use package_grammar::{check, read_one, show};
+use std::alloc::{AllocError, Global};
+use wire_base::{Direction, MAX_PAYLOAD, Refusal, Why};
+
+/// The text of a file of hex payloads, or its first refused line.
+pub fn decode(alloc: Global, port: u8, dir: Direction, file: &[u8]) -> Result<Vec<u8>, WorldError>
+    ensures { IsDecoded port dir file.now (seen_text result) }
+{
+    let mut text = Vec::new(alloc);
+    let mut lines = 0u32;
+    let mut rest = file;
+    while !rest.is_empty() {
+        let (line, behind) = first_line(rest);
+        match decode_line(alloc, port, dir, lines, line, &mut text) {
+            Ok(()) => {
+                lines += 1;
+                rest = behind;
+            }
+            Err(error) => return Err(error),
+        }
+    }
+    match text.extend_from_slice(b"end\n") {
+        Ok(()) => Ok(text),
+        Err(_) => Err(WorldError::Memory),
+    }
+}
+
+/// Writes the number of a line, which comes after so many, and what its payload says; or the line is refused.
+fn decode_line(
+    alloc: Global,
+    port: u8,
+    dir: Direction,
+    lines: u32,
+    line: &[u8],
+    text: &mut Vec<u8>,
+) -> Result<(), WorldError>
+    requires { lines ≤ 20000 }
+    ensures shown { OnOk result ((payload : List ℕ) × (payload_of lines line.now ≡ Ok payload)
+        × ((shown : List ℕ) × IsShown port dir payload shown × (text.new.items ≡ text.old.items ++ numbered_text (lines + 1) shown))) }
+    ensures few { OnOk result (lines < 20000) }
+    ensures refused { IfErr result (IsLineRefused lines line.now) }
+{
+    let payload = match read_payload(alloc, lines, line) {
+        Ok(payload) => payload,
+        Err(error) => return Err(error),
+    };
+    match show_numbered(alloc, port, dir, lines + 1, &payload, text) {
+        Ok(()) => Ok(()),
+        Err(_) => Err(WorldError::Memory),
+    }
+}
+
+/// The payload of a line that comes after so many.
+#[tactic(auto, unfolding(crate::specs::Decode::payload_of, crate::specs::Decode::payload_by))]
+fn read_payload(alloc: Global, lines: u32, line: &[u8]) -> Result<Vec<u8>, WorldError>
+    requires { lines ≤ 20000 }
+    ensures payload { IfOk result (λ payload. payload_of lines line.now ≡ Ok payload.items) }
+    ensures few { OnOk result (lines < 20000) }
+    ensures refused { IfErr result (IsLineRefused lines line.now) }
+{
+    if lines >= MAX_LINES || line.len() > MAX_LINE {
+        return Err(refused(lines, LineWhy::Limit));
+    }
+    match hex::decode(alloc, line) {
+        Ok(payload) if payload.len() > MAX_PAYLOAD => Err(refused(lines, LineWhy::Limit)),
+        Ok(payload) => Ok(payload),
+        Err(FromHexError::OutOfMemory) => Err(WorldError::Memory),
+        Err(_) => Err(refused(lines, LineWhy::Syntax)),
+    }
+}
+
+/// The refusal of a line that comes after so many.
+fn refused(lines: u32, why: LineWhy) -> WorldError
+    requires { lines ≤ 20000 }
+    ensures { result ≡ WorldError.Line (record { line = lines + 1; why = why }) }
+{
+    WorldError::Line(LineFault {
+        line: lines + 1,
+        why,
+    })
+}
+
+/// Writes a line's number, and what its payload says.
+fn show_numbered(
+    alloc: Global,
+    port: u8,
+    dir: Direction,
+    number: u32,
+    payload: &[u8],
+    text: &mut Vec<u8>,
+) -> Result<(), AllocError>
+    ensures { OnOk result ((shown : List ℕ) × IsShown port dir payload.now shown × (text.new.items ≡ text.old.items ++ numbered_text number shown)) }
+{
+    let head = format!(in alloc; "line {number}\n")?;
+    text.extend_from_slice(head.as_bytes())?;
+    show_payload(alloc, port, dir, payload, text)
+}
+
+/// Writes the commands of a payload, each on a line, or where and why reading stops.
+fn show_payload(
+    alloc: Global,
+    port: u8,
+    dir: Direction,
+    payload: &[u8],
+    text: &mut Vec<u8>,
+) -> Result<(), AllocError>
+    ensures { OnOk result ((shown : List ℕ) × IsShown port dir payload.now shown × (text.new.items ≡ text.old.items ++ shown)) }
+{
+    match check(port, dir, payload) {
+        Ok(_) => show_from(port, dir, payload, 0, text),
+        Err(refusal) => {
+            let line = stop_line(alloc, refusal.at, stop_word(refusal.why))?;
+            text.extend_from_slice(line.as_bytes())
+        }
+    }
+}
+
+/// Writes the commands of a payload from a place on.
+fn show_from(
+    port: u8,
+    dir: Direction,
+    payload: &[u8],
+    at: u16,
+    text: &mut Vec<u8>,
+) -> Result<(), AllocError>
+    requires within { at ≤ length payload.now }
+    requires fits { length payload.now ≤ 242 }
+    ensures { OnOk result ((cs : List Command) → SpellsTo cs port dir payload.now at (length payload.now) → text.new.items ≡ text.old.items ++ commands_text cs) }
+{
+    if at as usize == payload.len() {
+        return Ok(());
+    }
+    match read_one(port, dir, payload, at) {
+        Ok((command, next)) => {
+            show(&command, text)?;
+            text.extend_from_slice(b"\n")?;
+            show_from(port, dir, payload, next, text)
+        }
+        Err(_) => Ok(()),
+    }
+}
+
+fn stop_line(alloc: Global, at: u16, why: &str) -> Result<String, AllocError>
+    ensures { IfOk result (λ text. string_bytes text ≡ codes "refused " ++ decimal at ++ (codes " " ++ why.now ++ codes "\n")) }
+{
+    format!(in alloc; "refused {at} {why}\n")
+}
+
+fn stop_word(why: Why) -> &'static str
+    ensures { result.now ≡ stop_word why }
+{
+    match why {
+        Why::Port => "port",
+        Why::UnknownCommand => "unknown",
+        Why::Short => "short",
+        Why::TooLong => "long",
+    }
+}

@@ -1,0 +1,156 @@
+// The words of the command line: what they ask for, as clap takes them.
+ghost use Rattle.std.specs.Prelude.{◌≡◌, ◌≤◌, List, ℕ, Option, option_map, option_and_then, map, string_bytes, IfOk, IfSome, codes};
+ghost use Rattle.clap.specs.Words.{App, Row, app_of, first_of, first_value, found_of, new_app, rows_of, subcommand_rows_of, with_rule, with_subcommand};
+ghost use Rattle.fuota_run.specs.Words.{IsCommand, positional, form, fuota, seen_asked, campaign_asked, decode_asked, asked_by, asked, port_of_word, direction_of_word};
+
+use crate::lines::decimal;
+use clap::error::ErrorKind;
+use clap::{Arg, ArgMatches, Command};
+use std::alloc::{AllocError, Global};
+use wire_base::Direction;
+
+/// What the words ask for.
+#[derive(Clone, Copy, Debug)]
+pub enum Asked<'a> {
+    /// `campaign IMAGE SCRIPT`: the report of a campaign.
+    Campaign {
+        image: &'a str,
+        script: &'a str,
+    },
+    /// `decode PORT DIR FILE`: the text of a file of payloads; the port is 200 to 203.
+    Decode {
+        port: u8,
+        dir: Direction,
+        file: &'a str,
+    },
+}
+
+/// What the words ask for, the first of them being the program's name; None exactly where they are no form.
+pub fn read_words<'a>(alloc: Global, words: &'a [String]) -> Result<Option<Asked<'a>>, AllocError>
+    ensures { IfOk result (λ o. seen_asked o ≡ asked (map string_bytes words.now)) }
+{
+    let command = fuota(alloc)?;
+    match command.try_get_matches_from(words) {
+        Ok(matches) => Ok(found_in(&matches)),
+        Err(error) => {
+            if error.kind() == ErrorKind::OutOfMemory {
+                Err(AllocError)
+            } else {
+                Ok(None)
+            }
+        }
+    }
+}
+
+/// The program and its forms.
+fn fuota<'a>(alloc: Global) -> Result<Command<'a>, AllocError>
+    ensures { IfOk result (λ c. IsCommand c fuota) }
+{
+    let campaign = taking(
+        alloc,
+        taking(alloc, Command::new(alloc, "campaign"), "IMAGE")?,
+        "SCRIPT",
+    )?;
+    let recover = taking(
+        alloc,
+        taking(alloc, Command::new(alloc, "recover"), "IMAGE")?,
+        "SCRIPT",
+    )?;
+    let recover = taking(alloc, recover, "DEVICE")?;
+    let replay = taking(alloc, Command::new(alloc, "replay"), "FILE")?;
+    let decode = taking(
+        alloc,
+        taking(alloc, Command::new(alloc, "decode"), "PORT")?,
+        "DIR",
+    )?;
+    let decode = taking(alloc, decode, "FILE")?;
+    let generate = taking(alloc, Command::new(alloc, "generate"), "SEED")?;
+    let program = offering(Command::new(alloc, "fuota"), campaign)?;
+    let program = offering(offering(program, recover)?, replay)?;
+    offering(offering(program, decode)?, generate)
+}
+
+/// The command, with one word more that must be there.
+fn taking<'a>(alloc: Global, command: Command<'a>, name: &'a str) -> Result<Command<'a>, AllocError>
+    ensures { (app : App) → IsCommand command.entry app → IfOk result (λ c. IsCommand c (with_rule app (positional name.entry.now))) }
+{
+    command.arg(Arg::new(alloc, name).required(true))
+}
+
+/// The command, with one form more.
+fn offering<'a>(command: Command<'a>, form: Command<'a>) -> Result<Command<'a>, AllocError>
+    ensures { (app sub : App) → IsCommand command.entry app → IsCommand form.entry sub → IfOk result (λ c. IsCommand c (with_subcommand app sub.top)) }
+{
+    command.subcommand(form)
+}
+
+/// What was found: the form that was named, and the words behind it.
+fn found_in<'a>(matches: &ArgMatches<'a>) -> Option<Asked<'a>>
+    ensures { seen_asked result ≡ option_and_then (λ found. asked_by found.0 found.1) (subcommand_rows_of matches.now) }
+{
+    match matches.subcommand() {
+        Some((keyword, found)) => asked_by(keyword, found),
+        None => None,
+    }
+}
+
+#[tactic(auto, unfolding(crate::specs::Words::asked_by))]
+fn asked_by<'a>(keyword: &str, found: &ArgMatches<'a>) -> Option<Asked<'a>>
+    ensures { seen_asked result ≡ asked_by keyword.now (rows_of (found_of found.now)) }
+{
+    if keyword == "campaign" {
+        campaign_asked(found)
+    } else if keyword == "decode" {
+        decode_asked(found)
+    } else {
+        None
+    }
+}
+
+fn word_of<'a>(found: &ArgMatches<'a>, name: &str) -> Option<&'a str>
+    ensures { option_map (λ w. w.now) result ≡ first_of name.now (rows_of (found_of found.now)) }
+{
+    found.get_str(name)
+}
+
+fn campaign_asked<'a>(found: &ArgMatches<'a>) -> Option<Asked<'a>>
+    ensures { seen_asked result ≡ campaign_asked (rows_of (found_of found.now)) }
+{
+    let image = word_of(found, "IMAGE")?;
+    let script = word_of(found, "SCRIPT")?;
+    Some(Asked::Campaign { image, script })
+}
+
+fn decode_asked<'a>(found: &ArgMatches<'a>) -> Option<Asked<'a>>
+    ensures { seen_asked result ≡ decode_asked (rows_of (found_of found.now)) }
+{
+    let port = port_of_word(word_of(found, "PORT")?)?;
+    let dir = direction_of_word(word_of(found, "DIR")?)?;
+    let file = word_of(found, "FILE")?;
+    Some(Asked::Decode { port, dir, file })
+}
+
+/// The port that a word spells, 200 to 203.
+fn port_of_word(word: &str) -> Option<u8>
+    ensures { result ≡ port_of_word word.now }
+{
+    let port = decimal(word.as_bytes())?;
+    if 200 <= port && port <= 203 {
+        Some(port as u8)
+    } else {
+        None
+    }
+}
+
+/// The direction that a word spells.
+fn direction_of_word(word: &str) -> Option<Direction>
+    ensures { result ≡ direction_of_word word.now }
+{
+    if word == "down" {
+        Some(Direction::Down)
+    } else if word == "up" {
+        Some(Direction::Up)
+    } else {
+        None
+    }
+}
