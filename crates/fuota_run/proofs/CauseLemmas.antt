@@ -17,8 +17,8 @@ ranged : (now : Circumstances) (form : Form) → form_cause now form ≡ None �
 unfolding form_cause
 ranged now form fine = (passed _ _ _ (passed _ _ _ fine).1).0
 
-pub fine_image : (now : Circumstances) (frag_size parity : ℕ) → form_cause now (Image frag_size parity) ≡ None → is_frag_size now.len frag_size ≡ true
-fine_image now frag_size parity fine = (and_parts _ _ (ranged now (Image frag_size parity) fine)).0
+pub fine_image : (now : Circumstances) (frag_size parity : ℕ) → form_cause now (Image frag_size parity) ≡ None → (is_frag_size now.len frag_size ≡ true) × (parity ≤ 512)
+fine_image now frag_size parity fine = let both = and_parts _ _ (ranged now (Image frag_size parity) fine) in (both.0, leb-true _ _ both.1)
 
 pub frag_size_small : (len frag_size : ℕ) → is_frag_size len frag_size ≡ true → frag_size ≤ 239
 frag_size_small len frag_size h = leb-true _ _ (and_parts _ _ (and_parts _ _ h).0).1

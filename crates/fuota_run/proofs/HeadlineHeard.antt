@@ -11,7 +11,6 @@ use Rattle.frag_session.specs.declared.answers.Cause.{Cause}
 use Rattle.frag_session.specs.Setup.{setup_bits, same_setup}
 use Rattle.frag_session.specs.Session as sessions
 use Rattle.frag_session.specs.Session.{Session, new_session, renewed, after_setup, followed, after_fragment, drop_cause, excludes}
-use Rattle.fuota_run.specs.declared.device.TheConstants.{FILE_AREA}
 use Rattle.package_grammar.specs.declared.command.Command.{Command}
 use Rattle.package_grammar.specs.declared.command.Command.TheVariants.{Sync, Cast}
 use Rattle.sync_wire.specs.declared.cmd.Cmd.TheVariants.{DevVersionReq}
@@ -23,13 +22,16 @@ use Rattle.fuota_run.specs.declared.world.LineWhy.{LineWhy}
 use Rattle.fuota_run.specs.declared.world.LineWhy.TheVariants as why
 use Rattle.fuota_run.specs.declared.world.LineFault.{LineFault}
 use Rattle.fuota_run.specs.Script.{form_of, lines_of}
+use Rattle.frag_model.specs.Fragments.{line_of}
+use Rattle.frag_encoder.specs.Encoding.{data_of, block_of, filled}
+use Rattle.frag_encoder.proofs.Pieces.{pieces_sized, sized_sum}
+use Rattle.frag_encoder.proofs.Blocks.{filled_whole}
 use Rattle.fuota_run.specs.Server.{ServerState, fragments_of, padding_of, fragment_of, setup_of}
-use Rattle.fuota_run.specs.Device.{DeviceState, limits_of, after_command, after_data, after_heard, with_fragment, with_drop}
+use Rattle.fuota_run.specs.Device.{DeviceState, room, limits_of, after_command, after_data, after_heard, with_fragment, with_drop}
 use Rattle.fuota_run.specs.World.{WorldState, Sending, first_world, numbered, takes_events, is_allowed, is_in_range, names_device, was_sent, has_come, circumstances_of, form_cause, form_cause_of, cause_of, sends, request_of, fragment_from, moved_on, reaches, form_made, form_made_of, one_line_more, after_line, judged, line_read, lines_read, ended, campaign_of}
 use Rattle.fuota_run.specs.Headline.{IsFragmentOf, Delivers, WasDelivered}
 use Rattle.fuota_run.proofs.WorldLemmas.{all_numbered, numbered-map}
 use Rattle.fuota_run.proofs.HeadlineWorlds.{setup_req, IsSetFor, IsDeviceFor, IsSentOf, size_of, moved_server, hears_server, Keeps, at_image, allowed, cause_by, ended_by, if_some}
-use Rattle.fuota_run.proofs.HeadlineImage.{filled, filled_long}
 use Rattle.fuota_run.proofs.HeadlineLines.{numbered_more, numbered_next, Reads, line_reads, first_reads, campaign_reads}
 
 -- ---- what a session is to have heard
@@ -49,7 +51,7 @@ SessionHears lines sent setup Takes last (Some s) = Takes × HeardAll lines sent
 
 -- the device takes the setup
 abbrev Takes : List ℕ → ℕ → DeviceState → Type 0
-Takes image size d = setup_bits (limits_of d.config) FILE_AREA (setup_req image size) ≡ 0
+Takes image size d = setup_bits (limits_of d.config) room (setup_req image size) ≡ 0
 
 abbrev DeviceHears : List ℕ → ℕ → List (List ℕ) → List Sending → ℕ → Option DeviceState → Type 0
 DeviceHears image size lines sent last None = (c : Command) → NotYet lines sent c last
@@ -129,48 +131,38 @@ stays_same : (limits : Limits) (s : Session) (req : SetupReq) → s.setup ≡ re
 unfolding renewed
 stays_same limits s req is = ap (λ (b : Bool). cond b s (new_session limits req)) (ap (λ (r : SetupReq). same_setup r req) is ∙ same_self req)
 
-setup_taken : (image : List ℕ) (size : ℕ) (lines : List (List ℕ)) (sent : List Sending) (last : ℕ) (limits : Limits) (s : Option Session) → setup_bits limits FILE_AREA (setup_req image size) ≡ 0
+setup_taken : (image : List ℕ) (size : ℕ) (lines : List (List ℕ)) (sent : List Sending) (last : ℕ) (limits : Limits) (s : Option Session) → setup_bits limits room (setup_req image size) ≡ 0
     → IfSome s (IsSetFor image size) → ((f : Fragment) → f.mark ≡ last + 1 → WasDelivered lines sent f → ⊥)
-    → SessionHears lines sent (Cast (setup_of image size)) (setup_bits limits FILE_AREA (setup_req image size) ≡ 0) last s
-    → SessionHears lines sent (Cast (setup_of image size)) (setup_bits limits FILE_AREA (setup_req image size) ≡ 0) (last + 1) (Some (renewed limits s (setup_req image size)))
+    → SessionHears lines sent (Cast (setup_of image size)) (setup_bits limits room (setup_req image size) ≡ 0) last s
+    → SessionHears lines sent (Cast (setup_of image size)) (setup_bits limits room (setup_req image size) ≡ 0) (last + 1) (Some (renewed limits s (setup_req image size)))
 setup_taken image size lines sent last limits None takes k no_fragment h =
     (takes, λ f n d later le w. absurd (elim (up_to f.mark last le) [ inl old ↦ h takes n (omega (arith, later, old)) d | inr is ↦ no_fragment f is w ]))
 setup_taken image size lines sent last limits (Some s) takes k no_fragment h =
     let more : HeardAll lines sent (Cast (setup_of image size)) (last + 1) s.heard = heard_more lines sent (Cast (setup_of image size)) last s.heard s.heard (λ f is w. absurd (no_fragment f is w)) (λ f m. m) h.1 in
     (takes, subst (λ (x : Session). HeardAll lines sent (Cast (setup_of image size)) (last + 1) x.heard) (sym (stays_same limits s (setup_req image size) k.setup)) more)
 
-setup_by : (image : List ℕ) (size : ℕ) (lines : List (List ℕ)) (sent : List Sending) (last : ℕ) (limits : Limits) (s : Option Session) (b : Bool) → (setup_bits limits FILE_AREA (setup_req image size) == 0) ≡ b
+setup_by : (image : List ℕ) (size : ℕ) (lines : List (List ℕ)) (sent : List Sending) (last : ℕ) (limits : Limits) (s : Option Session) (b : Bool) → (setup_bits limits room (setup_req image size) == 0) ≡ b
     → IfSome s (IsSetFor image size) → ((f : Fragment) → f.mark ≡ last + 1 → WasDelivered lines sent f → ⊥)
-    → SessionHears lines sent (Cast (setup_of image size)) (setup_bits limits FILE_AREA (setup_req image size) ≡ 0) last s
-    → SessionHears lines sent (Cast (setup_of image size)) (setup_bits limits FILE_AREA (setup_req image size) ≡ 0) (last + 1) (cond b (Some (renewed limits s (setup_req image size))) s)
+    → SessionHears lines sent (Cast (setup_of image size)) (setup_bits limits room (setup_req image size) ≡ 0) last s
+    → SessionHears lines sent (Cast (setup_of image size)) (setup_bits limits room (setup_req image size) ≡ 0) (last + 1) (cond b (Some (renewed limits s (setup_req image size))) s)
 setup_by image size lines sent last limits s true is k no_fragment h = setup_taken image size lines sent last limits s (eqb-true _ _ is) k no_fragment h
 setup_by image size lines sent last limits None false is k no_fragment h = λ t. absurd (eqb-false _ _ is t)
 setup_by image size lines sent last limits (Some s) false is k no_fragment h = absurd (eqb-false _ _ is h.0)
 
 setup_hears : (image : List ℕ) (size : ℕ) (lines : List (List ℕ)) (sent : List Sending) (last : ℕ) (limits : Limits) (s : Option Session)
     → IfSome s (IsSetFor image size) → ((f : Fragment) → f.mark ≡ last + 1 → WasDelivered lines sent f → ⊥)
-    → SessionHears lines sent (Cast (setup_of image size)) (setup_bits limits FILE_AREA (setup_req image size) ≡ 0) last s
-    → SessionHears lines sent (Cast (setup_of image size)) (setup_bits limits FILE_AREA (setup_req image size) ≡ 0) (last + 1) (after_setup limits FILE_AREA s (setup_req image size))
+    → SessionHears lines sent (Cast (setup_of image size)) (setup_bits limits room (setup_req image size) ≡ 0) last s
+    → SessionHears lines sent (Cast (setup_of image size)) (setup_bits limits room (setup_req image size) ≡ 0) (last + 1) (after_setup limits room s (setup_req image size))
 unfolding after_setup
 setup_hears image size lines sent last limits s k no_fragment h = setup_by image size lines sent last limits s _ refl k no_fragment h
 
 -- ---- a fragment
 
 -- a fragment of the image has its size
-place_within : (n q size total : ℕ) → 1 ≤ n → total ≡ (n + q) * size → (n - 1) * size + size ≤ total
-place_within zero q size total first is = absurd (omega arith)
-place_within (suc k) q size total first is =
-    let back : suc k - 1 ≡ k = omega arith in
-    subst (λ (m : ℕ). m * size + size ≤ total) (sym back) (omega (arith, is, add-mul (suc k) q size, suc-mul k size))
-
-fragment_sized : (image : List ℕ) (size n : ℕ) → 0 < size → 1 ≤ n → n ≤ fragments_of (length image) size → length (fragment_of image size n) ≡ size
-unfolding filled
-fragment_sized image size n some first last =
-    let xs : List ℕ = image ++ replicate (padding_of (length image) size) 0 in
-    let long : length xs ≡ fragments_of (length image) size * size = filled_long image size some in
-    let count : fragments_of (length image) size ≡ n + (fragments_of (length image) size - n) = omega (arith, last) in
-    let fits : (n - 1) * size + size ≤ length xs = place_within n (fragments_of (length image) size - n) size (length xs) first (long ∙ ap (λ (m : ℕ). m * size) count) in
-    omega (arith, length-take size (drop ((n - 1) * size) xs), length-drop ((n - 1) * size) xs, fits)
+fragment_sized : (image : List ℕ) (size n : ℕ) → 0 < size → length (fragment_of image size n) ≡ size
+unfolding data_of
+fragment_sized image size n some =
+    sized_sum size (line_of (fragments_of (length image) size) n) (block_of image size) (pieces_sized (fragments_of (length image) size) size (filled image size) (filled_whole image size some))
 
 not_dropped : (image : List ℕ) (size : ℕ) (s : Session) (n : ℕ) (part : List ℕ) (mark : ℕ) → IsSetFor image size s → IsFragmentOf image size (record { number = n; part = part; mark = mark })
     → drop_cause (Some s) via.Unicast n part ≡ None
@@ -178,9 +170,9 @@ unfolding drop_cause sessions.cause_of excludes
 not_dropped image size s n part mark k f =
     let count : s.setup.nb_frag ≡ fragments_of (length image) size = ap (λ (r : SetupReq). r.nb_frag) k.setup in
     let cut : s.setup.frag_size ≡ size = ap (λ (r : SetupReq). r.frag_size) k.setup in
-    let sized : length part ≡ s.setup.frag_size = ap length f.part ∙ fragment_sized image size n k.makes.sized f.first f.last ∙ sym cut in
+    let sized : length part ≡ s.setup.frag_size = ap length f.part ∙ fragment_sized image size n k.makes.sized ∙ sym cut in
     let some : (n == 0) ≡ false = ne_eqb n 0 (omega (arith, f.first)) in
-    let within : nat_lt s.setup.nb_frag n ≡ false = le-ltb s.setup.nb_frag n (omega (arith, count, f.last)) in
+    let within : nat_lt (s.setup.nb_frag + 8380) n ≡ false = le-ltb (s.setup.nb_frag + 8380) n (omega (arith, count, f.last)) in
     let whole : (length part == s.setup.frag_size) ≡ true = eq-eqb _ _ sized in
     rw (some, within, whole) refl
 

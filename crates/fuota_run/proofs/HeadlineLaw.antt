@@ -16,13 +16,13 @@ use Rattle.fuota_run.specs.declared.status.Status.TheVariants as status
 use Rattle.fuota_run.specs.Outside.{Held}
 use Rattle.fuota_run.specs.Words.{Asked}
 use Rattle.fuota_run.specs.Answer.{Answer, answer, script_answer, campaign_answer, IsAnswerTo, IsAnswer}
-use Rattle.fuota_run.specs.Headline.{IsWhole, FirstAt, IsDecidedAtFirst, IsFragmentOf, FirstAlone, IsServed, HearsDelivered, IsRecovered, IsReported, IsCampaign, AreHandedIn, Headline}
+use Rattle.fuota_run.specs.Headline.{IsWhole, FirstAt, WholeAt, IsDecidedAtFirst, IsFragmentOf, IsServed, HearsDelivered, IsRecovered, IsReported, IsCampaign, AreHandedIn, Headline}
 use Rattle.fuota_run.proofs.HeadlineMoments.{decided_at_first}
 use Rattle.fuota_run.proofs.HeadlineWorlds.{IsSetFor, campaign_session}
 use Rattle.fuota_run.proofs.HeadlineLines.{campaign_came}
 use Rattle.fuota_run.proofs.HeadlineHeard.{campaign_hears}
 use Rattle.fuota_run.specs.Script.{lines_of}
-use Rattle.fuota_run.proofs.HeadlineImage.{IsShapeFor, image_fits, alone_is_image, has_room, open_where_none, none_where_open, behind}
+use Rattle.fuota_run.proofs.HeadlineImage.{IsShapeFor, image_fits, alone_is_image, behind}
 
 -- the session's shape is the image's
 shape_for : (image : List ℕ) (size : ℕ) (s : Session) → All (λ b. b < 2 ^ 8) image → IsSetFor image size s → IsShapeFor image (shape_of s) s.setup.padding × ((shape_of s).frag_size ≡ size)
@@ -43,27 +43,6 @@ shape_for image size s bytes k =
       cut,
     )
 
--- the moments are the same: no row is wanted, and two files fit until one does
-alone_from : (image : List ℕ) (shape : Shape) (padding : ℕ) (heard : List Fragment) (mark : ℕ) (file : List ℕ) → FirstAt shape padding (IsWhole shape padding file) heard mark → FirstAlone shape padding file heard mark
-alone_from image shape padding heard mark file at =
-    (at.0, at.1, at.2, record { parted = at.3.parted; marked = at.3.marked; before = none_where_open shape padding at.2 at.3.before; now = at.3.now.alone })
-
-alone_to : (image : List ℕ) (shape : Shape) (padding : ℕ) (heard : List Fragment) (mark : ℕ) (file : List ℕ) → IsShapeFor image shape padding → AllByRecursion (IsFragmentOf image shape.frag_size) heard
-    → FirstAlone shape padding file heard mark → FirstAt shape padding (IsWhole shape padding file) heard mark
-alone_to image shape padding heard mark file h all at =
-    let from : AllByRecursion (IsFragmentOf image shape.frag_size) (at.1 ∷ at.2) =
-    behind (IsFragmentOf image shape.frag_size) at.0 (at.1 ∷ at.2) (subst (AllByRecursion (IsFragmentOf image shape.frag_size)) at.3.parted all) in (
-      at.0,
-      at.1,
-      at.2,
-      record {
-        parted = at.3.parted;
-        marked = at.3.marked;
-        before = open_where_none image shape padding at.2 h from.1 at.3.before;
-        now = record { room = has_room image shape padding (at.1 ∷ at.2) h from; alone = at.3.now };
-      },
-    )
-
 only_image : (image : List ℕ) (shape : Shape) (padding : ℕ) (heard newer older : List Fragment) (file : List ℕ) → IsShapeFor image shape padding → AllByRecursion (IsFragmentOf image shape.frag_size) heard
     → heard ≡ newer ++ older → OneFileFits shape padding older file → file ≡ image
 only_image image shape padding heard newer older file h all parted one =
@@ -75,24 +54,11 @@ recovered_by image s h all =
     let padding : ℕ = s.setup.padding in
     let decided : IsDecidedAtFirst s = decided_at_first s h.makes in
     record {
-      complete = λ mark. (
-        λ is. let at = (decided.complete mark).0 is in (at.0, alone_from image shape padding s.heard mark at.0 at.1),
-        λ at. (decided.complete mark).1 (at.0, alone_to image shape padding s.heard mark at.0 h all at.1),
-      );
+      decided = decided;
       alone = λ newer older file parted one. only_image image shape padding s.heard newer older file h all parted one;
       shown = λ mark is.
           let at = (decided.complete mark).0 is in
           decided.file mark at.0 at.1 ∙ only_image image shape padding s.heard at.1.0 (at.1.1 ∷ at.1.2) at.0 h all at.1.3.parted at.1.3.now.alone;
-      receiving = (
-        λ is. none_where_open shape padding s.heard (decided.receiving.0 is),
-        λ none. decided.receiving.1 (open_where_none image shape padding s.heard h all none),
-      );
-      rows = λ mark is.
-          let at = (decided.no_rows mark).0 is in
-          let from = behind (IsFragmentOf image shape.frag_size) at.0 (at.1 ∷ at.2) (subst (AllByRecursion (IsFragmentOf image shape.frag_size)) at.3.parted all) in
-          let room = has_room image shape padding (at.1 ∷ at.2) h from in
-          let over = at.3.now.over in
-          absurd (omega (arith, room, over));
       agrees = λ mark is.
           let at = (decided.conflict mark).0 is in
           let from = behind (IsFragmentOf image shape.frag_size) at.0 (at.1 ∷ at.2) (subst (AllByRecursion (IsFragmentOf image shape.frag_size)) at.3.parted all) in
@@ -139,16 +105,19 @@ report_is world server device session s d e =
 line_is : (sent : List ℕ) (seen : Seen) (v : Verdict) → seen.verdict ≡ v → session_line sent (Some seen) ≡ session_text seen.received seen.missing (verdict_text v (bytes_eq seen.file sent))
 line_is sent seen v is = ap (λ (x : Verdict). session_text seen.received seen.missing (verdict_text x (bytes_eq seen.file sent))) is
 
--- a session is complete or receiving, where it never has another verdict
-seen_cases : (v : Verdict) → ((mark : ℕ) → v ≢ verdict.NoRows mark) → ((mark : ℕ) → v ≢ verdict.Conflict mark) → ((mark : ℕ) × (v ≡ verdict.Complete mark)) ⊎ (v ≡ verdict.Receiving)
-seen_cases verdict.Receiving rows agrees = inr refl
-seen_cases (verdict.Complete mark) rows agrees = inl (mark, refl)
-seen_cases (verdict.NoRows mark) rows agrees = absurd (rows mark refl)
-seen_cases (verdict.Conflict mark) rows agrees = absurd (agrees mark refl)
+-- a session is complete, without rows or receiving, where there never is a conflict
+abbrev Cases : Verdict → Type 0
+Cases v = ((mark : ℕ) × (v ≡ verdict.Complete mark)) ⊎ (((mark : ℕ) × (v ≡ verdict.NoRows mark)) ⊎ (v ≡ verdict.Receiving))
 
-first_of_image : (image : List ℕ) (s : Session) → IsRecovered image s → (mark : ℕ) (file : List ℕ) → FirstAlone (shape_of s) s.setup.padding file s.heard mark → FirstAlone (shape_of s) s.setup.padding image s.heard mark
-first_of_image image s r mark file at =
-    subst (λ (f : List ℕ). FirstAlone (shape_of s) s.setup.padding f s.heard mark) (r.alone at.0 (at.1 ∷ at.2) file at.3.parted at.3.now) at
+seen_cases : (v : Verdict) → ((mark : ℕ) → v ≢ verdict.Conflict mark) → Cases v
+seen_cases verdict.Receiving agrees = inr (inr refl)
+seen_cases (verdict.Complete mark) agrees = inl (mark, refl)
+seen_cases (verdict.NoRows mark) agrees = inr (inl (mark, refl))
+seen_cases (verdict.Conflict mark) agrees = absurd (agrees mark refl)
+
+whole_of_image : (image : List ℕ) (s : Session) → IsRecovered image s → (mark : ℕ) (file : List ℕ) → FirstAt (shape_of s) s.setup.padding (IsWhole (shape_of s) s.setup.padding file) s.heard mark → WholeAt image s mark
+whole_of_image image s r mark file at =
+    subst (λ (f : List ℕ). FirstAt (shape_of s) s.setup.padding (IsWhole (shape_of s) s.setup.padding f) s.heard mark) (r.alone at.0 (at.1 ∷ at.2) file at.3.parted at.3.now.alone) at
 
 reported : (image script : List ℕ) (world : WorldState) (server : ServerState) (device : DeviceState) (session : Session) → IsCampaign image script world server device session → IsReported image world server device session
 reported image script world server device session c =
@@ -158,15 +127,19 @@ reported image script world server device session c =
     let text = report_is world server device session c.server_is c.device_is c.session_is in
     let whole : List ℕ → List ℕ = λ line. report_text (image_line server) (device_line server.stage device) (counts_line device.counts) line in
     record {
-      cases = elim (seen_cases seen.verdict r.rows r.agrees) [
-        | inl is ↦ let at = (r.complete is.0).0 is.1 in inl (is.0, first_of_image image session r is.0 at.0 at.1)
-        | inr is ↦ inr (r.receiving.0 is)
+      cases = elim (seen_cases seen.verdict r.agrees) [
+        | inl is ↦ let at = (r.decided.complete is.0).0 is.1 in inl (is.0, whole_of_image image session r is.0 at.0 at.1)
+        | inr other ↦ inr (elim other [
+          | inl is ↦ inl (is.0, (r.decided.no_rows is.0).0 is.1)
+          | inr is ↦ inr (r.decided.receiving.0 is)
+        ])
       ];
-      complete = λ line file at.
-          let is = (r.complete line).1 (file, at) in
+      complete = λ line at.
+          let is = (r.decided.complete line).1 (image, at) in
           let same : bytes_eq seen.file server.image ≡ true = (bytes_eq-Decides seen.file server.image).1 (r.shown line is ∙ sym k.0) in
           text ∙ ap whole (line_is server.image seen (verdict.Complete line) is ∙ ap (λ b. session_text seen.received seen.missing (verdict_text (verdict.Complete line) b)) same);
-      receiving = λ none. text ∙ ap whole (line_is server.image seen verdict.Receiving (r.receiving.1 none));
+      no_rows = λ line at. text ∙ ap whole (line_is server.image seen (verdict.NoRows line) ((r.decided.no_rows line).1 at));
+      receiving = λ stays. text ∙ ap whole (line_is server.image seen verdict.Receiving (r.decided.receiving.1 stays));
     }
 
 -- ---- the program's answer

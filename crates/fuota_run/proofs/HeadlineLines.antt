@@ -5,9 +5,8 @@ use Rattle.frag_model.specs.Fragments.{Heard as Fragment}
 use Rattle.frag_session.specs.declared.setups.SetupReq.{SetupReq}
 use Rattle.frag_session.specs.declared.setups.Limits.{Limits}
 use Rattle.frag_session.specs.declared.answers.Via.TheVariants as via
-use Rattle.frag_session.specs.Setup.{setup_bits, same_setup}
+use Rattle.frag_session.specs.Setup.{Room, setup_bits, same_setup}
 use Rattle.frag_session.specs.Session.{Session, new_session, renewed, after_setup, followed, after_fragment, drop_cause}
-use Rattle.fuota_run.specs.declared.device.TheConstants.{FILE_AREA}
 use Rattle.package_grammar.specs.declared.command.Command.{Command}
 use Rattle.package_grammar.specs.declared.command.Command.TheVariants.{Cast}
 use Rattle.fuota_run.specs.declared.lines.Form.{Form}
@@ -16,7 +15,7 @@ use Rattle.fuota_run.specs.declared.world.LineWhy.{LineWhy}
 use Rattle.fuota_run.specs.declared.world.LineFault.{LineFault}
 use Rattle.fuota_run.specs.Script.{form_of, lines_of}
 use Rattle.fuota_run.specs.Server.{fragment_of, setup_of}
-use Rattle.fuota_run.specs.Device.{DeviceState, limits_of, after_command, after_data, after_heard}
+use Rattle.fuota_run.specs.Device.{DeviceState, room, limits_of, after_command, after_data, after_heard}
 use Rattle.fuota_run.specs.World.{WorldState, Sending, first_world, numbered, circumstances_of, form_cause_of, cause_of, sends, request_of, fragment_from, moved_on, reaches, form_made, form_made_of, after_line, judged, line_read, lines_read, ended, campaign_of}
 use Rattle.fuota_run.specs.Headline.{Delivers, WasDelivered, CameInOrder}
 use Rattle.fuota_run.proofs.WorldLemmas.{all_numbered}
@@ -117,10 +116,10 @@ setup_by : (lines : List (List ℕ)) (sent : List Sending) (last : ℕ) (limits 
 setup_by lines sent last limits s req true d h = renewed_came lines sent last limits s req d h
 setup_by lines sent last limits s req false d h = h
 
-setup_came : (lines : List (List ℕ)) (sent : List Sending) (last : ℕ) (limits : Limits) (area : ℕ) (s : Option Session) (req : SetupReq) → Delivers lines sent last (command_of req) → IfSome s (SessionCame lines sent last)
-    → IfSome (after_setup limits area s req) (SessionCame lines sent last)
+setup_came : (lines : List (List ℕ)) (sent : List Sending) (last : ℕ) (limits : Limits) (here : Room) (s : Option Session) (req : SetupReq) → Delivers lines sent last (command_of req) → IfSome s (SessionCame lines sent last)
+    → IfSome (after_setup limits here s req) (SessionCame lines sent last)
 unfolding after_setup
-setup_came lines sent last limits area s req d h = setup_by lines sent last limits s req (setup_bits limits area req == 0) d h
+setup_came lines sent last limits here s req d h = setup_by lines sent last limits s req (setup_bits limits here req == 0) d h
 
 followed_came : (lines : List (List ℕ)) (sent : List Sending) (n : ℕ) (s : Option Session) (number : ℕ) (part : List ℕ) → WasDelivered lines sent (record { number = number; part = part; mark = n + 1 })
     → IfSome s (SessionCame lines sent n) → IfSome (option_map (λ x. followed x number part (n + 1)) s) (SessionCame lines sent (n + 1))
@@ -160,7 +159,7 @@ command_came image size lines sent n d s line payload device word (inl is) line_
 command_came image size lines sent n d s line payload device word (inr (inl is)) line_is form got h =
     let same : s ≡ record { to = s.to; command = Cast (setup_of image size) } = ap (λ (c : Command). let r : Sending = record { to = s.to; command = c } in r) is in
     subst (λ (x : Command). DeviceCame lines sent (n + 1) (after_command d x (n + 1))) (sym is)
-    (setup_came lines sent (n + 1) (limits_of d.config) FILE_AREA d.session (setup_req image size)
+    (setup_came lines sent (n + 1) (limits_of d.config) room d.session (setup_req image size)
     (line, payload, device, word, s.to, record { line_is = line_is; form = form; payload_is = got ∙ ap (λ (x : Sending). Some x) same }) (device_later lines sent n d h))
 command_came image size lines sent n d s line payload device word (inr (inr f)) line_is form got h =
     let same : s ≡ record { to = s.to; command = Cast (DataFragment 0 f.0 (fragment_of image size f.0)) } = ap (λ (c : Command). let r : Sending = record { to = s.to; command = c } in r) f.3 in

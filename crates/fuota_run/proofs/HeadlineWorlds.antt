@@ -5,11 +5,10 @@ use Rattle.cast_wire.specs.declared.cmd.Cmd.TheVariants.{DataFragment}
 use Rattle.frag_session.specs.declared.setups.SetupReq.{SetupReq}
 use Rattle.frag_session.specs.declared.setups.Limits.{Limits}
 use Rattle.frag_session.specs.declared.answers.Via.TheVariants as via
-use Rattle.frag_session.specs.Setup.{setup_bits, same_setup}
+use Rattle.frag_session.specs.Setup.{Room, setup_bits, same_setup}
 use Rattle.frag_session.specs.Session.{Session, new_session, renewed, after_setup, followed, after_fragment, drop_cause}
 use Rattle.frag_session.specs.Stands.{IsSetUp}
 use Rattle.frag_session.proofs.Calls.{accepted, set_up_fine}
-use Rattle.fuota_run.specs.declared.device.TheConstants.{FILE_AREA}
 use Rattle.package_grammar.specs.declared.command.Command.{Command}
 use Rattle.package_grammar.specs.declared.command.Command.TheVariants.{Sync, Cast}
 use Rattle.sync_wire.specs.declared.cmd.Cmd.TheVariants.{DevVersionReq}
@@ -25,9 +24,10 @@ use Rattle.fuota_run.specs.declared.world.LineFault.{LineFault}
 use Rattle.image_slots.specs.Image.{firmware_of}
 use Rattle.fuota_run.specs.Script.{form_of, lines_of}
 use Rattle.fuota_run.specs.Server.{ServerState, fragments_of, padding_of, fragment_of, setup_of, asked, is_spent, next_fragment}
-use Rattle.fuota_run.specs.Device.{DeviceState, limits_of, after_command, after_data, after_heard}
+use Rattle.fuota_run.specs.Device.{DeviceState, room, limits_of, after_command, after_data, after_heard}
 use Rattle.fuota_run.specs.World.{WorldState, Sending, first_world, numbered, is_at, is_allowed, circumstances_of, form_cause, form_cause_of, cause_of, sends, request_of, fragment_from, moved_on, reaches, hears, at_events, form_made, form_made_of, after_line, judged, line_read, lines_read, ended, campaign_of}
 use Rattle.fuota_run.specs.Headline.{IsFragmentOf}
+use Rattle.fuota_run.proofs.CauseLemmas.{fine_image}
 use Rattle.fuota_run.proofs.Messages.{all_more}
 use Rattle.fuota_run.proofs.WorldLemmas.{all_numbered}
 
@@ -67,16 +67,16 @@ unfolding renewed
 renewed_set image size limits None makes k = fresh image size limits makes
 renewed_set image size limits (Some s) makes k = renewed_by image size limits s (same_setup s.setup (setup_req image size)) makes k
 
-setup_by : (image : List ℕ) (size : ℕ) (limits : Limits) (area : ℕ) (s : Option Session) (b : Bool) → (setup_bits limits area (setup_req image size) == 0) ≡ b → IfSome s (IsSetFor image size)
+setup_by : (image : List ℕ) (size : ℕ) (limits : Limits) (here : Room) (s : Option Session) (b : Bool) → (setup_bits limits here (setup_req image size) == 0) ≡ b → IfSome s (IsSetFor image size)
     → IfSome (cond b (Some (renewed limits s (setup_req image size))) s) (IsSetFor image size)
-setup_by image size limits area s true is k =
-    renewed_set image size limits s (set_up_fine (setup_req image size) (accepted limits area (setup_req image size) (eqb-true _ _ is)).0) k
-setup_by image size limits area s false is k = k
+setup_by image size limits here s true is k =
+    renewed_set image size limits s (set_up_fine (setup_req image size) (accepted limits here (setup_req image size) (eqb-true _ _ is)).0) k
+setup_by image size limits here s false is k = k
 
-setup_set : (image : List ℕ) (size : ℕ) (limits : Limits) (area : ℕ) (s : Option Session) → IfSome s (IsSetFor image size)
-    → IfSome (after_setup limits area s (setup_req image size)) (IsSetFor image size)
+setup_set : (image : List ℕ) (size : ℕ) (limits : Limits) (here : Room) (s : Option Session) → IfSome s (IsSetFor image size)
+    → IfSome (after_setup limits here s (setup_req image size)) (IsSetFor image size)
 unfolding after_setup
-setup_set image size limits area s k = setup_by image size limits area s _ refl k
+setup_set image size limits here s k = setup_by image size limits here s _ refl k
 
 followed_set : (image : List ℕ) (size : ℕ) (s : Option Session) (n : ℕ) (part : List ℕ) (mark : ℕ) → IsFragmentOf image size (record { number = n; part = part; mark = mark })
     → IfSome s (IsSetFor image size) → IfSome (option_map (λ x. followed x n part mark) s) (IsSetFor image size)
@@ -115,13 +115,13 @@ abbrev pub IsSentOf : List ℕ → ℕ → Command → Type 0
 IsSentOf image size c =
     (c ≡ Sync DevVersionReq)
     ⊎ ((c ≡ Cast (setup_of image size))
-    ⊎ ((n : ℕ) × (1 ≤ n) × (n ≤ fragments_of (length image) size) × (c ≡ Cast (DataFragment 0 n (fragment_of image size n)))))
+    ⊎ ((n : ℕ) × (1 ≤ n) × (n ≤ fragments_of (length image) size + 8380) × (c ≡ Cast (DataFragment 0 n (fragment_of image size n)))))
 
 command_device : (image : List ℕ) (size : ℕ) (d : DeviceState) (c : Command) (mark : ℕ) → IsSentOf image size c → IsDeviceFor image size d → IsDeviceFor image size (after_command d c mark)
 unfolding after_command
 command_device image size d c mark (inl is) k = subst (λ (x : Command). IsDeviceFor image size (after_command d x mark)) (sym is) k
 command_device image size d c mark (inr (inl is)) k =
-    subst (λ (x : Command). IsDeviceFor image size (after_command d x mark)) (sym is) (setup_set image size (limits_of d.config) FILE_AREA d.session k)
+    subst (λ (x : Command). IsDeviceFor image size (after_command d x mark)) (sym is) (setup_set image size (limits_of d.config) room d.session k)
 command_device image size d c mark (inr (inr f)) k =
     subst (λ (x : Command). IsDeviceFor image size (after_command d x mark)) (sym f.3)
     (heard_device image size d f.0 (fragment_of image size f.0) mark (record { first = f.1; last = f.2; part = refl }) k)
@@ -132,6 +132,7 @@ command_device image size d c mark (inr (inr f)) k =
 pub record IsServerOf (image : List ℕ) (s : ServerState) : Type 0 where
   pub image_is : s.image ≡ image
   pub next : 1 ≤ s.next
+  pub few : s.parity ≤ 512
 
 -- how many bytes a fragment has
 abbrev pub size_of : Option ServerState → ℕ
@@ -150,22 +151,22 @@ request_sent image None k = tt
 request_sent image (Some s) k =
     subst (λ (i : List ℕ). IfSome (asked i s.frag_size s.stage) (IsSentOf image s.frag_size)) (sym k.image_is) (asked_sent image s.frag_size s.stage)
 
-next_by : (image : List ℕ) (size next : ℕ) (b : Bool) → nat_lt (fragments_of (length image) size) next ≡ b → 1 ≤ next
+next_by : (image : List ℕ) (size parity next : ℕ) (b : Bool) → nat_lt (fragments_of (length image) size + parity) next ≡ b → 1 ≤ next → parity ≤ 512
     → IfSome (cond b None (Some (Cast (DataFragment 0 next (fragment_of image size next))))) (IsSentOf image size)
-next_by image size next true is from = tt
-next_by image size next false is from = inr (inr (next, from, ltb-false _ _ is, refl))
+next_by image size parity next true is from few = tt
+next_by image size parity next false is from few = let last = ltb-false _ _ is in inr (inr (next, from, omega (arith, last, few), refl))
 
 fragment_sent : (image : List ℕ) (s : Option ServerState) → IfSome s (IsServerOf image) → IfSome (fragment_from s) (IsSentOf image (size_of s))
 unfolding next_fragment
 fragment_sent image None k = tt
 fragment_sent image (Some s) k =
-    subst (λ (i : List ℕ). IfSome (cond (nat_lt (fragments_of (length i) s.frag_size) s.next) None (Some (Cast (DataFragment 0 s.next (fragment_of i s.frag_size s.next))))) (IsSentOf image s.frag_size))
-    (sym k.image_is) (next_by image s.frag_size s.next _ refl k.next)
+    subst (λ (i : List ℕ). IfSome (cond (nat_lt (fragments_of (length i) s.frag_size + s.parity) s.next) None (Some (Cast (DataFragment 0 s.next (fragment_of i s.frag_size s.next))))) (IsSentOf image s.frag_size))
+    (sym k.image_is) (next_by image s.frag_size s.parity s.next _ refl k.next k.few)
 
 moved_by : (image : List ℕ) (s : ServerState) (b : Bool) → IsServerOf image s
     → IsServerOf image (cond b s (record s { next = s.next + 1 })) × ((cond b s (record s { next = s.next + 1 })).frag_size ≡ s.frag_size)
 moved_by image s true k = (k, refl)
-moved_by image s false k = (record { image_is = k.image_is; next = omega (arith, k.next) }, refl)
+moved_by image s false k = (record { image_is = k.image_is; next = omega (arith, k.next); few = k.few }, refl)
 
 pub moved_server : (image : List ℕ) (s : Option ServerState) → IfSome s (IsServerOf image) → IfSome (moved_on s) (IsServerOf image) × (size_of (moved_on s) ≡ size_of s)
 moved_server image None k = (tt, refl)
@@ -174,7 +175,7 @@ moved_server image (Some s) k = moved_by image s (is_spent s) k
 pub hears_server : (image : List ℕ) (s : Option ServerState) (c : Option Command) → IfSome s (IsServerOf image) → IfSome (hears s c) (IsServerOf image) × (size_of (hears s c) ≡ size_of s)
 hears_server image None c k = (tt, refl)
 hears_server image (Some s) None k = (k, refl)
-hears_server image (Some s) (Some c) k = (record { image_is = k.image_is; next = k.next }, refl)
+hears_server image (Some s) (Some c) k = (record { image_is = k.image_is; next = k.next; few = k.few }, refl)
 
 -- ---- a campaign
 
@@ -277,7 +278,7 @@ form_keeps image w (Image frag_size parity) k fine =
     record {
       image_is = k.image_is;
       early = λ e. was;
-      server = record { image_is = k.image_is; next = omega arith };
+      server = record { image_is = k.image_is; next = omega arith; few = (fine_image (circumstances_of w) frag_size parity fine).1 };
       sent = subst (λ (ss : List Sending). AreSentOf image frag_size ss) (sym was.0) tt;
       device = subst (λ (d : Option DeviceState). IfSome d (IsDeviceFor image frag_size)) (sym was.1) tt;
     }

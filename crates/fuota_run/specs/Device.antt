@@ -6,10 +6,10 @@ use Rattle.frag_session.specs.declared.setups.Limits.{Limits}
 use Rattle.frag_session.specs.declared.answers.Via.TheVariants as via
 use Rattle.frag_session.specs.declared.answers.Verdict.{Verdict}
 use Rattle.frag_session.specs.declared.answers.Verdict.TheVariants as verdict
-use Rattle.frag_session.specs.Setup.{setup_bits}
+use Rattle.frag_session.specs.Setup.{Room, setup_bits}
 use Rattle.frag_session.specs.Session.{Session, Seen, after_setup, after_fragment, drop_cause, view_of}
 use Rattle.cast_wire.specs.declared.cmd.Cmd.TheVariants.{FragSessionSetupReq, FragSessionSetupAns, DataFragment}
-use Rattle.fuota_run.specs.declared.device.TheConstants.{FILE_AREA}
+use Rattle.fuota_run.specs.declared.device.TheConstants.{FILE_AREA, ROW_WORDS, ROW_BYTES}
 use Rattle.fuota_run.specs.declared.device.Counts.{Counts}
 use Rattle.fuota_run.specs.declared.device.DeviceConfig.{DeviceConfig}
 use Rattle.package_grammar.specs.declared.command.Command.{Command}
@@ -38,6 +38,10 @@ first_device config = record {
 -- a counter stops at its type's end
 abbrev pub raised : ℕ → ℕ
 raised n = min (n + 1) (2 ^ 64 - 1)
+
+-- what a device has for a session
+abbrev pub room : Room
+room = record { words = ROW_WORDS; bytes = ROW_BYTES; area = FILE_AREA }
 
 -- what a device lets its sessions be: there is one, of index 0
 abbrev pub limits_of : DeviceConfig → Limits
@@ -102,7 +106,7 @@ after_data device index n part mark = if index == 0 then after_heard device n pa
 unfoldable pub after_command : DeviceState → Command → ℕ → DeviceState
 after_command device (Cast (FragSessionSetupReq index mask nb_frag frag_size algo delay padding descriptor)) mark =
     record device {
-      session = after_setup (limits_of device.config) FILE_AREA device.session
+      session = after_setup (limits_of device.config) room device.session
           (record { index = index; mask = mask; nb_frag = nb_frag; frag_size = frag_size; algo = algo; delay = delay; padding = padding; descriptor = descriptor });
     }
 after_command device (Cast (DataFragment index n part)) mark = after_data device index n part mark
@@ -112,7 +116,7 @@ after_command device command mark = device
 unfoldable pub answer_to : DeviceConfig → Command → List Command
 answer_to config (Sync DevVersionReq) = Sync (DevVersionAns 0 config.hw) ∷ []
 answer_to config (Cast (FragSessionSetupReq index mask nb_frag frag_size algo delay padding descriptor)) =
-    setup_answer index (setup_bits (limits_of config) FILE_AREA
+    setup_answer index (setup_bits (limits_of config) room
     (record { index = index; mask = mask; nb_frag = nb_frag; frag_size = frag_size; algo = algo; delay = delay; padding = padding; descriptor = descriptor })) ∷ []
 answer_to config command = []
 

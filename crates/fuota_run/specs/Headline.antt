@@ -1,6 +1,6 @@
 -- The headline in the field's own words: when a session is decided, what is then known, and of which file.
 -- (TS004-1.0.0 leaves recovery to the device; when it ends, and how, is this project's profile.)
-use Rattle.std.specs.Prelude.{◌≡◌, ◌≢◌, ◌↔◌, ◌⊎◌, ℕ, ◌-◌, ◌^◌, ◌<◌, ◌≤◌, List, [], ◌∷◌, ◌++◌, length, All, codes, true, Option, Some, Ok}
+use Rattle.std.specs.Prelude.{◌≡◌, ◌≢◌, ◌↔◌, ◌⊎◌, ℕ, ◌+◌, ◌-◌, ◌^◌, ◌<◌, ◌≤◌, List, [], ◌∷◌, ◌++◌, length, All, codes, true, Option, Some, Ok}
 use Rattle.std.specs.List.{AllByRecursion}
 use Rattle.std.specs.Fmt.{decimal}
 use Rattle.frag_model.specs.Fragments.{Heard as Fragment, Shape}
@@ -19,6 +19,7 @@ use Rattle.fuota_run.specs.Outside.{Held}
 use Rattle.image_slots.specs.Image.{is_image}
 use Rattle.fuota_run.specs.Words.{campaign, asked}
 use Rattle.fuota_run.specs.Answer.{Answer, answer, IsAnswer}
+use Rattle.frag_model.specs.declared.lines.TheConstants.{MAX_PARITY_INDEX}
 use Rattle.fuota_run.specs.Server.{ServerState, fragments_of, padding_of, fragment_of, setup_of}
 use Rattle.fuota_run.specs.Device.{DeviceState}
 use Rattle.fuota_run.specs.Script.{form_of, lines_of}
@@ -98,26 +99,11 @@ FirstMoment = (s : Session) → MakesFile (shape_of s) s.setup.padding → IsDec
 
 -- ---- in a campaign
 
--- a fragment that the server cut from the image
+-- a fragment of the image, uncoded or coded
 pub record IsFragmentOf (image : List ℕ) (frag_size : ℕ) (f : Fragment) : Type 0 where
   pub first : 1 ≤ f.number
-  pub last : f.number ≤ fragments_of (length image) frag_size
+  pub last : f.number ≤ fragments_of (length image) frag_size + MAX_PARITY_INDEX
   pub part : f.part ≡ fragment_of image frag_size f.number
-
--- no file fits alone
-abbrev pub NoFileAlone : Shape → ℕ → List Fragment → Type 0
-NoFileAlone shape padding heard = (file : List ℕ) → OneFileFits shape padding heard file → ⊥
-
--- after f, which has this mark, this file alone fits; before f no file did
-pub record IsFirstAlone (shape : Shape) (padding : ℕ) (file : List ℕ) (heard : List Fragment) (mark : ℕ) (newer : List Fragment) (f : Fragment) (older : List Fragment) : Type 0 where
-  pub parted : heard ≡ newer ++ f ∷ older
-  pub marked : f.mark ≡ mark
-  pub before : AfterEach (NoFileAlone shape padding) older
-  pub now : OneFileFits shape padding (f ∷ older) file
-
--- the fragment with this mark is the first after which one file alone fits, and that file is this one
-abbrev pub FirstAlone : Shape → ℕ → List ℕ → List Fragment → ℕ → Type 0
-FirstAlone shape padding file heard mark = (newer : List Fragment) × (f : Fragment) × (older : List Fragment) × IsFirstAlone shape padding file heard mark newer f older
 
 -- the session is the one that the server sets up for the image, and hears nothing but the image's fragments
 pub record IsServed (image : List ℕ) (server : ServerState) (session : Session) : Type 0 where
@@ -155,16 +141,13 @@ pub record HearsDelivered (image : List ℕ) (lines : List (List ℕ)) (world : 
 
 -- what is seen of the session in a campaign, where the image is known
 pub record IsRecovered (image : List ℕ) (s : Session) : Type 0 where
-  -- complete at the first fragment after which one file alone fits
-  pub complete : (mark : ℕ) → ((seen_of s).verdict ≡ verdict.Complete mark) ↔ ((file : List ℕ) × FirstAlone (shape_of s) s.setup.padding file s.heard mark)
+  -- it is decided at the first fragment after which one file alone fits, or independent coded fragments exceed the rows
+  pub decided : IsDecidedAtFirst s
   -- a file that alone fits what was heard by then is the image
   pub alone : (newer older : List Fragment) (file : List ℕ) → s.heard ≡ newer ++ older → OneFileFits (shape_of s) s.setup.padding older file → file ≡ image
   -- and the image is what is shown then
   pub shown : (mark : ℕ) → (seen_of s).verdict ≡ verdict.Complete mark → (seen_of s).file ≡ image
-  -- until then it is receiving
-  pub receiving : ((seen_of s).verdict ≡ verdict.Receiving) ↔ AfterEach (NoFileAlone (shape_of s) s.setup.padding) s.heard
-  -- rows never run out, and there is no conflict
-  pub rows : (mark : ℕ) → (seen_of s).verdict ≢ verdict.NoRows mark
+  -- there is no conflict
   pub agrees : (mark : ℕ) → (seen_of s).verdict ≢ verdict.Conflict mark
 
 -- the report in which this is said of the session's verdict
@@ -176,16 +159,31 @@ report_saying server device seen words =
 abbrev pub complete_words : ℕ → List ℕ
 complete_words line = codes "complete at " ++ decimal line ++ codes " same"
 
+-- what is said of one whose rows did not suffice
+abbrev pub no_rows_words : ℕ → List ℕ
+no_rows_words line = codes "norows at " ++ decimal line
+
+-- the image is the one file that fits, from the fragment with this mark on, and until then it was open
+abbrev pub WholeAt : List ℕ → Session → ℕ → Type 0
+WholeAt image s mark = FirstAt (shape_of s) s.setup.padding (IsWhole (shape_of s) s.setup.padding image) s.heard mark
+
+-- the fragment with this mark is one independent coded fragment too many, and until then the file was open
+abbrev pub OverAt : Session → ℕ → Type 0
+OverAt s mark = FirstAt (shape_of s) s.setup.padding (Overflows (shape_of s) s.setup.padding) s.heard mark
+
+-- the file is open after each fragment
+abbrev pub StaysOpen : Session → Type 0
+StaysOpen s = AfterEach (IsOpen (shape_of s) s.setup.padding) s.heard
+
 -- what the report says of the session
 pub record IsReported (image : List ℕ) (world : WorldState) (server : ServerState) (device : DeviceState) (s : Session) : Type 0 where
-  -- some fragment is the first after which one file alone fits, the image; or there is none yet
-  pub cases : ((line : ℕ) × FirstAlone (shape_of s) s.setup.padding image s.heard line) ⊎ AfterEach (NoFileAlone (shape_of s) s.setup.padding) s.heard
+  -- some fragment is the first after which one file alone fits, the image; or one exceeds the rows first; or it is open yet
+  pub cases : ((line : ℕ) × WholeAt image s line) ⊎ (((line : ℕ) × OverAt s line) ⊎ StaysOpen s)
   -- where there is one, the report names its line
-  pub complete : (line : ℕ) (file : List ℕ) → FirstAlone (shape_of s) s.setup.padding file s.heard line
-      → report_of world ≡ report_saying server device (seen_of s) (complete_words line)
+  pub complete : (line : ℕ) → WholeAt image s line → report_of world ≡ report_saying server device (seen_of s) (complete_words line)
+  pub no_rows : (line : ℕ) → OverAt s line → report_of world ≡ report_saying server device (seen_of s) (no_rows_words line)
   -- and until then says so
-  pub receiving : AfterEach (NoFileAlone (shape_of s) s.setup.padding) s.heard
-      → report_of world ≡ report_saying server device (seen_of s) (codes "receiving")
+  pub receiving : StaysOpen s → report_of world ≡ report_saying server device (seen_of s) (codes "receiving")
 
 -- a campaign whose device has a session: the image's bytes, the script, how it ends, and both ends
 pub record IsCampaign (image script : List ℕ) (world : WorldState) (server : ServerState) (device : DeviceState) (session : Session) : Type 0 where
@@ -214,7 +212,7 @@ pub record Headline : Type 0 where
   -- it hears what the script delivers
   pub delivered : (image script : List ℕ) (world : WorldState) (server : ServerState) (device : DeviceState) (session : Session)
       → IsCampaign image script world server device session → HearsDelivered image (lines_of script) world server session
-  -- it is complete exactly when one file alone fits, the image
+  -- it is complete exactly when one file alone fits, the image, unless the rows are exceeded first
   pub recovered : (image script : List ℕ) (world : WorldState) (server : ServerState) (device : DeviceState) (session : Session)
       → IsCampaign image script world server device session → IsRecovered image session
   -- the report says so

@@ -1,6 +1,6 @@
 -- What a device keeps, and when it stands for one that has heard a list of fragments.
 use Rattle.std.specs.Prelude.{◌≡◌, List, [], ◌∷◌, Option, Some, None}
-use Rattle.frag_session.specs.declared.slots.State.{State}
+use Rattle.frag_session.specs.Held.{Kept}
 use Rattle.frag_session.specs.Stands.{Stands}
 use Rattle.fuota_run.specs.declared.device.Counts.{Counts}
 use Rattle.fuota_run.specs.declared.device.DeviceConfig.{DeviceConfig}
@@ -14,7 +14,7 @@ use Rattle.fuota_run.specs.Device.{DeviceState}
 -- a device without its history: what its slot holds, and the uplinks that are not yet taken
 pub record HeldDevice : Type 0 where
   pub config : DeviceConfig
-  pub slot : State
+  pub slot : Kept
   pub next : ImageState
   pub counts : Counts
   pub outbox : List Uplink

@@ -16,17 +16,18 @@ use Rattle.fuota_run.specs.Server.{ServerState, fragments_of, padding_of}
 use Rattle.fuota_run.specs.Device.{DeviceState}
 use Rattle.fuota_run.specs.World.{WorldState}
 
-abbrev pub image_text : (size fragments frag_size padding : ℕ) → List ℕ
-image_text size fragments frag_size padding =
+abbrev pub image_text : (size fragments frag_size padding parity : ℕ) → List ℕ
+image_text size fragments frag_size padding parity =
     codes "image " ++ decimal size
     ++ (codes " fragments " ++ decimal fragments
     ++ (codes " size " ++ decimal frag_size
-    ++ (codes " padding " ++ decimal padding ++ codes " parity 0\n")))
+    ++ (codes " padding " ++ decimal padding
+    ++ (codes " parity " ++ decimal parity ++ codes "\n"))))
 
 abbrev pub image_line : ServerState → List ℕ
 image_line server =
     image_text (length server.image) (fragments_of (length server.image) server.frag_size) server.frag_size
-    (padding_of (length server.image) server.frag_size)
+    (padding_of (length server.image) server.frag_size) server.parity
 
 abbrev pub request_word : Request → List ℕ
 request_word Version = codes "version"

@@ -1,7 +1,7 @@
 -- The server of a campaign: what it sends next, and what an uplink moves. (TS004-1.0.0 and TS006-1.0.0; the order of the
 -- stages is this project's profile.)
-use Rattle.std.specs.Prelude.{◌≡◌, ◌<◌, ◌≤◌, ℕ, ◌+◌, ◌-◌, ◌*◌, Bool, true, false, ◌==◌, nat_lt, if◌then◌else◌, List, [], ◌∷◌, length, take, drop, Option, Some, None}
-use Rattle.frag_encoder.specs.Encoding.{Encoding, filled}
+use Rattle.std.specs.Prelude.{◌≡◌, ◌<◌, ◌≤◌, ℕ, ◌+◌, Bool, true, false, ◌==◌, nat_lt, if◌then◌else◌, List, [], ◌∷◌, length, Option, Some, None}
+use Rattle.frag_encoder.specs.Encoding.{Encoding}
 use Rattle.cast_wire.specs.declared.cmd.Cmd.{Cmd}
 use Rattle.cast_wire.specs.declared.cmd.Cmd.TheVariants.{FragSessionSetupReq, FragSessionSetupAns, DataFragment}
 use Rattle.package_grammar.specs.declared.command.Command.{Command}
@@ -11,34 +11,33 @@ use Rattle.fuota_run.specs.declared.server.Request.TheVariants.{Version, Fragmen
 use Rattle.fuota_run.specs.declared.server.Stage.{Stage}
 use Rattle.fuota_run.specs.declared.server.Stage.TheVariants.{At, Refused}
 use Rattle.image_slots.specs.Image.{is_image, hardware_of, firmware_of}
--- the number of fragments of a file, and how many zero bytes fill the last one up
-pub use Rattle.frag_encoder.specs.Encoding.{nb_frag_of as fragments_of, padding_of}
+-- the number of uncoded fragments of a file, how many zero bytes fill the last one up, and fragment n of the file
+pub use Rattle.frag_encoder.specs.Encoding.{nb_frag_of as fragments_of, padding_of, data_of as fragment_of}
 
--- the image that the server sends, how it cuts it, where its device stands, and the fragment that is sent next
+-- the image that the server sends, how it cuts it, how many coded fragments follow, where its device stands, and the fragment
+-- that is sent next
 pub record ServerState : Type 0 where
   pub image : List ℕ
   pub frag_size : ℕ
+  pub parity : ℕ
   pub stage : Stage
   pub next : ℕ
 
--- uncoded fragment n, from 1 on, of a file
-abbrev pub fragment_of : List ℕ → ℕ → ℕ → List ℕ
-fragment_of file frag_size n = take frag_size (drop ((n - 1) * frag_size) (filled file frag_size))
-
--- what holds of each server: it sends an image file in at most 1,024 fragments of 1 to 239 bytes, the next one from 1 on, and
--- its encoder is the image's
-pub record IsServer (image : List ℕ) (frag_size next : ℕ) (encoder : Encoding) : Type 0 where
+-- what holds of each server: it sends an image file in at most 1,024 uncoded fragments of 1 to 239 bytes and at most 512
+-- coded ones, the next one from 1 on, and its encoder is the image's
+pub record IsServer (image : List ℕ) (frag_size parity next : ℕ) (encoder : Encoding) : Type 0 where
   pub image_is : is_image image ≡ true
   pub some : 0 < frag_size
   pub fits : frag_size ≤ 239
   pub number : fragments_of (length image) frag_size ≤ 1024
   pub low : 1 ≤ next
-  pub high : next ≤ fragments_of (length image) frag_size + 1
+  pub few : parity ≤ 512
+  pub high : next ≤ fragments_of (length image) frag_size + parity + 1
   pub encodes : encoder ≡ record { file = image; frag_size = frag_size }
 
 -- the server at the start of a campaign
-abbrev pub first_server : List ℕ → ℕ → ServerState
-first_server image frag_size = record { image = image; frag_size = frag_size; stage = At Version; next = 1 }
+abbrev pub first_server : List ℕ → ℕ → ℕ → ServerState
+first_server image frag_size parity = record { image = image; frag_size = frag_size; parity = parity; stage = At Version; next = 1 }
 
 -- the session that the server sets up: index 0, no group, and the firmware version as what the file is
 abbrev pub setup_of : List ℕ → ℕ → Cmd
@@ -52,11 +51,15 @@ asked image frag_size (At Fragments) = Some (Cast (setup_of image frag_size))
 asked image frag_size (At Status) = None
 asked image frag_size (Refused request bits) = None
 
+-- the number of the last fragment that is sent
+abbrev pub last_of : ServerState → ℕ
+last_of server = fragments_of (length server.image) server.frag_size + server.parity
+
 -- all fragments were sent
 abbrev pub is_spent : ServerState → Bool
-is_spent server = nat_lt (fragments_of (length server.image) server.frag_size) server.next
+is_spent server = nat_lt (last_of server) server.next
 
--- the next uncoded fragment, as session 0 is sent it; none behind the last
+-- the next fragment, as session 0 is sent it; none behind the last
 unfoldable pub next_fragment : ServerState → Option Command
 next_fragment server =
     if is_spent server then None

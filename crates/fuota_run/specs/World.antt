@@ -11,7 +11,7 @@ use Rattle.fuota_run.specs.declared.world.Place.TheVariants as place
 use Rattle.fuota_run.specs.declared.world.LineWhy.{LineWhy}
 use Rattle.fuota_run.specs.declared.world.LineWhy.TheVariants as why
 use Rattle.fuota_run.specs.declared.world.LineFault.{LineFault}
-use Rattle.fuota_run.specs.declared.world.TheConstants.{MAX_LINES, MAX_LINE, MAX_ROWS, MAX_TIME}
+use Rattle.fuota_run.specs.declared.world.TheConstants.{MAX_LINES, MAX_LINE, MAX_ROWS, MAX_TIME, MAX_PARITY}
 use Rattle.fuota_run.specs.Script.{form_of, lines_of}
 use Rattle.fuota_run.specs.Ranges.{is_word, is_frag_size}
 use Rattle.fuota_run.specs.Server.{ServerState, first_server, asked, is_spent, next_fragment, after_fragment, answered}
@@ -67,9 +67,9 @@ is_allowed here has_device (Down payload device word) = takes_events here has_de
 is_allowed here has_device (Up uplink) = takes_events here has_device
 is_allowed here has_device End = takes_events here has_device
 
--- each number of the form is in its range; there is one device so far, and no coded fragment
+-- each number of the form is in its range; there is one device so far
 abbrev pub is_in_range : ℕ → Bool → Form → Bool
-is_in_range len has_device (Image frag_size parity) = is_frag_size len frag_size && parity == 0
+is_in_range len has_device (Image frag_size parity) = is_frag_size len frag_size && nat_le parity MAX_PARITY
 is_in_range len has_device (Device id hw rows offset key descriptor) =
     not has_device && id == 1 && is_word hw && nat_le rows MAX_ROWS && is_word offset
 is_in_range len has_device (At time) = nat_le time MAX_TIME
@@ -198,7 +198,7 @@ at_events world = record world { place = place.Events }
 -- the campaign behind a form that is not refused
 unfoldable pub form_made : WorldState → Form → WorldState
 form_made world Header = record world { place = place.Image }
-form_made world (Image frag_size parity) = record world { place = place.Devices; server = Some (first_server world.image frag_size) }
+form_made world (Image frag_size parity) = record world { place = place.Devices; server = Some (first_server world.image frag_size parity) }
 form_made world (Device id hw rows offset key descriptor) =
     record world { device = Some (first_device (record { hw = hw; rows = rows; offset = offset; descriptor = descriptor })) }
 form_made world (At time) = at_events (record world { time = time })

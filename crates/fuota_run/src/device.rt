@@ -11,20 +11,27 @@ ghost use Rattle.frag_session.specs.Shows.{seen};
 ghost use Rattle.package_grammar.specs.declared.command.Command.{Command};
 ghost use Rattle.package_grammar.specs.Grammar.{IsValid, SpellsTo, IsMessage, IsStop};
 ghost use Rattle.fuota_run.specs.Commands.{IsUplink};
-ghost use Rattle.fuota_run.specs.Device.{DeviceState, first_device, limits_of, raised, after_data, after_heard, after_command, answer_to, weight, after_commands, answers_to, weights, setup_answer, has_bit, offered, is_complete, shows_file};
+ghost use Rattle.fuota_run.specs.Device.{DeviceState, room, first_device, limits_of, raised, after_data, after_heard, after_command, answer_to, weight, after_commands, answers_to, weights, setup_answer, has_bit, offered, is_complete, shows_file};
 
 use crate::spelling::{port_of, spelled};
 use arrayvec::ArrayVec;
 use cast_wire::Cmd;
-use frag_session::{Heard, Idle, Limits, Memory, SetupReq, Slot, Verdict, Via, View};
+use frag_session::{Heard, Idle, Limits, SetupReq, Slot, Verdict, Via, View};
 use image_slots::{ImageState, ImageView};
 use package_grammar::{Command, check, read_one};
+use row_elimination::{Memory, Solver};
 use std::alloc::Global;
 use std::marker::Model;
 use wire_base::{Direction, Payload, Refusal};
 
 /// The bytes of the file area: NbFrag * FragSize of a session is at most this.
 pub const FILE_AREA: u32 = 65_774;
+
+/// The words of 64 coefficients that are kept for rows: 64 rows of 1,024 columns.
+pub const ROW_WORDS: usize = 1024;
+
+/// The bytes that are kept for rows: 64 rows of 239 bytes.
+pub const ROW_BYTES: usize = 15_296;
 
 /// How many uplinks a device holds before they are taken.
 pub const OUTBOX: usize = 8;
@@ -85,7 +92,7 @@ pub struct Counts {
 #[derive(Drop)]
 pub struct Device {
     config: DeviceConfig,
-    slot: Slot,
+    slot: Slot<ROW_WORDS, ROW_BYTES>,
     next: ImageState,
     counts: Counts,
     outbox: ArrayVec<Uplink, OUTBOX>,
@@ -113,7 +120,7 @@ impl Device {
     {
         Ok(Device {
             config,
-            slot: Slot::new(Idle::reserve(alloc, FILE_AREA)?),
+            slot: Slot::new(Idle::new(Solver::reserve(alloc, FILE_AREA)?)),
             next: ImageState::None,
             counts: Counts {
                 deaf: 0,
@@ -223,8 +230,8 @@ impl Device {
         requires index { req.index < 4 }
         requires room { length self.old.outbox < 8 }
         ensures stands { (device : DeviceState) → StandsAs self.old device
-            → StandsAs self.new (record device { session = after_setup (limits_of device.config) FILE_AREA device.session req }) }
-        ensures answers { self.new.outbox ≡ self.old.outbox ++ uplink_of (setup_answer req.index (setup_bits (limits_of self.old.config) FILE_AREA req)) ∷ [] }
+            → StandsAs self.new (record device { session = after_setup (limits_of device.config) room device.session req }) }
+        ensures answers { self.new.outbox ≡ self.old.outbox ++ uplink_of (setup_answer req.index (setup_bits (limits_of self.old.config) room req)) ∷ [] }
         ensures config { self.new.config ≡ self.old.config }
     {
         let limits = Limits {

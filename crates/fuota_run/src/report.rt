@@ -64,6 +64,7 @@ fn image_line(alloc: Global, server: &Server) -> Result<String, AllocError>
         server.nb_frag(),
         server.frag_size(),
         server.padding(),
+        server.parity(),
     )
 }
 
@@ -73,11 +74,12 @@ fn image_text(
     fragments: u16,
     frag_size: u8,
     padding: u8,
+    parity: u16,
 ) -> Result<String, AllocError>
-    ensures { IfOk result (λ text. string_bytes text ≡ image_text size fragments frag_size padding) }
+    ensures { IfOk result (λ text. string_bytes text ≡ image_text size fragments frag_size padding parity) }
 {
     format!(in alloc;
-        "image {size} fragments {fragments} size {frag_size} padding {padding} parity 0\n"
+        "image {size} fragments {fragments} size {frag_size} padding {padding} parity {parity}\n"
     )
 }
 

@@ -1,5 +1,5 @@
 // The server of a campaign: what it asks and sends, and what an uplink moves.
-ghost use Rattle.std.specs.Prelude.{List, OnOk, OnErr, IsOk, ◌≡◌, ◌<◌, ◌≤◌, true, IfOk, IfErr, IfSome, length};
+ghost use Rattle.std.specs.Prelude.{◌+◌, List, OnOk, OnErr, IsOk, ◌≡◌, ◌<◌, ◌≤◌, true, IfOk, IfErr, IfSome, length};
 ghost use Rattle.wire_base.specs.declared.refusal.Direction.{Direction};
 ghost use Rattle.package_grammar.specs.declared.command.Command.{Command};
 ghost use Rattle.package_grammar.specs.Grammar.{SpellsTo, IsMessage, IsStop};
@@ -41,6 +41,7 @@ pub enum Stage {
 pub struct Server {
     image: Vec<u8>,
     frag_size: u8,
+    parity: u16,
     encoder: Encoder,
     stage: Stage,
     next: u16,
@@ -52,25 +53,32 @@ impl Model for Server {
 
     ghost Value = { ServerState };
 
-    ghost view = { λ s. record { image = s.image.items; frag_size = s.frag_size; stage = s.stage; next = s.next } };
+    ghost view = { λ s. record { image = s.image.items; frag_size = s.frag_size; parity = s.parity; stage = s.stage; next = s.next } };
 
-    ghost invariant = { λ s. IsServer s.image.items s.frag_size s.next s.encoder };
+    ghost invariant = { λ s. IsServer s.image.items s.frag_size s.parity s.next s.encoder };
 }
 
 #[tactic(auto, using(image_slots::proofs::ImageLemmas::image_bounds))]
 impl Server {
     /// The server at the start of a campaign.
-    pub fn new(alloc: Global, frag_size: u8, image: &[u8]) -> Result<Self, AllocError>
+    pub fn new(
+        alloc: Global,
+        frag_size: u8,
+        parity: u16,
+        image: &[u8],
+    ) -> Result<Self, AllocError>
         requires image { is_image image.now ≡ true }
         requires some { 0 < frag_size }
         requires fits { frag_size ≤ 239 }
         requires number { fragments_of (length image.now) frag_size ≤ 1024 }
-        ensures { IfOk result (λ s. s ≡ first_server image.now frag_size) }
+        requires few { parity ≤ 512 }
+        ensures { IfOk result (λ s. s ≡ first_server image.now frag_size parity) }
     {
         match Encoder::new(alloc, image, frag_size) {
             Ok(encoder) => Ok(Server {
                 image: image.to_vec(alloc)?,
                 frag_size,
+                parity,
                 encoder,
                 stage: Stage::At(Request::Version),
                 next: 1,
@@ -94,18 +102,25 @@ impl Server {
         self.frag_size
     }
 
-    /// The number of fragments, 1 to 1,024.
+    /// The number of uncoded fragments, 1 to 1,024.
     pub fn nb_frag(&self) -> u16
         ensures { result ≡ fragments_of (length self.now.image) self.now.frag_size }
     {
         self.encoder.nb_frag()
     }
 
-    /// The zero bytes that fill the last fragment up.
+    /// The zero bytes that fill the last uncoded fragment up.
     pub fn padding(&self) -> u8
         ensures { result ≡ padding_of (length self.now.image) self.now.frag_size }
     {
         self.encoder.padding()
+    }
+
+    /// The coded fragments that follow the uncoded ones, 0 to 512.
+    pub fn parity(&self) -> u16
+        ensures { result ≡ self.now.parity }
+    {
+        self.parity
     }
 
     /// Where the device stands.
@@ -141,7 +156,7 @@ impl Server {
     pub fn is_spent(&self) -> bool
         ensures { result ≡ is_spent self.now }
     {
-        self.next > self.nb_frag()
+        self.next > self.nb_frag() + self.parity
     }
 
     /// Takes the commands of an uplink in order, or none where reading stops.
@@ -187,7 +202,7 @@ impl Server {
             return None;
         }
         let n = self.next;
-        let bytes = uncoded(&self.encoder, n);
+        let bytes = encoded(&self.encoder, n);
         self.next += 1;
         Some(Command::Cast(Cmd::DataFragment { index: 0, n, bytes }))
     }
@@ -269,10 +284,10 @@ fn after_setup_answer(image: &[u8], cmd: &Cmd) -> Stage
     }
 }
 
-/// Uncoded fragment n, from 1 on, of the encoder's file.
-fn uncoded(encoder: &Encoder, n: u16) -> FragmentBytes
+/// Fragment n, from 1 on, of the encoder's file.
+fn encoded(encoder: &Encoder, n: u16) -> FragmentBytes
     requires first { 1 ≤ n }
-    requires last { n ≤ fragments_of (length encoder.now.file) encoder.now.frag_size }
+    requires last { n ≤ fragments_of (length encoder.now.file) encoder.now.frag_size + 8380 }
     ensures value { result ≡ fragment_of encoder.now.file encoder.now.frag_size n }
     ensures size { length result ≡ encoder.now.frag_size }
 {

@@ -31,6 +31,9 @@ pub const MAX_LINE: usize = 600;
 /// The latest time of a script, in milliseconds: the last one of the GPS second 2^32 - 1.
 const MAX_TIME: u64 = 4_294_967_295_999;
 
+/// The most coded fragments that a server sends.
+const MAX_PARITY: u64 = 512;
+
 /// The most rows that a device is given.
 const MAX_ROWS: u64 = 64;
 
@@ -277,7 +280,7 @@ impl World {
                 self.place = Place::Image;
                 Ok(())
             }
-            Form::Image { frag_size, .. } => self.set_image(*frag_size as u8),
+            Form::Image { frag_size, parity } => self.set_image(*frag_size as u8, *parity as u16),
             Form::Device {
                 hw,
                 rows,
@@ -309,13 +312,14 @@ impl World {
         }
     }
 
-    fn set_image(&mut self, frag_size: u8) -> Result<(), AllocError>
-        requires { IsTrue (is_frag_size (length self.old.image) frag_size) }
-        ensures taken { OnOk result (self.new ≡ record self.old { place = Place.Devices; server = Some (first_server self.old.image frag_size) }) }
+    fn set_image(&mut self, frag_size: u8, parity: u16) -> Result<(), AllocError>
+        requires size { IsTrue (is_frag_size (length self.old.image) frag_size) }
+        requires few { parity ≤ 512 }
+        ensures taken { OnOk result (self.new ≡ record self.old { place = Place.Devices; server = Some (first_server self.old.image frag_size parity) }) }
         ensures kept { self.new.kept ≡ self.old.kept }
         ensures lines { self.new.lines ≡ self.old.lines }
     {
-        match Server::new(self.alloc, frag_size, &self.image) {
+        match Server::new(self.alloc, frag_size, parity, &self.image) {
             Ok(server) => {
                 self.server = Some(server);
                 self.place = Place::Devices;
@@ -501,7 +505,9 @@ fn is_in_range(len: usize, has_device: bool, form: &Form) -> bool
     ensures { result ≡ is_in_range len has_device form.now }
 {
     match form {
-        Form::Image { frag_size, parity } => is_frag_size(len, *frag_size) && *parity == 0,
+        Form::Image { frag_size, parity } => {
+            is_frag_size(len, *frag_size) && *parity <= MAX_PARITY
+        }
         Form::Device {
             id,
             hw,

@@ -1,6 +1,6 @@
 use Rattle.std.proofs.Common.{◌≡◌, Bool, sym, ap, subst, ◌∙◌}
 use Rattle.frag_session.specs.declared.answers.Via.TheVariants as via
-use Rattle.frag_session.specs.declared.slots.State.{State}
+use Rattle.frag_session.specs.Held.{Kept}
 use Rattle.frag_session.specs.Session.{after_fragment, view_of}
 use Rattle.frag_session.specs.Stands.{Stands}
 use Rattle.fuota_run.specs.declared.device.Counts.{Counts}
@@ -13,7 +13,7 @@ use Rattle.fuota_run.proofs.device.Device.hear.Goals as goal
 
 pub returns-in-Fed-clause-stands : goal.returns-in-Fed-clause-stands
 returns-in-Fed-clause-stands c = λ device stands.
-    let slot = subst (λ (s : State). Stands s device.session) (ap (λ (h : HeldDevice). h.slot) (sym c.self.view_is)) stands.slot in
+    let slot = subst (λ (s : Kept). Stands s device.session) (ap (λ (h : HeldDevice). h.slot) (sym c.self.view_is)) stands.slot in
     let fed = heard_fed device c.args.n c.args.bytes.now c.args.mark (sym c.in-Fed.is ∙ c.fragment.ensures.answer device.session slot) in
     let config : device.config ≡ c.self.inside.config = stands.config ∙ ap (λ (h : HeldDevice). h.config) (sym c.self.view_is) in
     let next : device.next ≡ c.self.inside.next = stands.next ∙ ap (λ (h : HeldDevice). h.next) (sym c.self.view_is) in
@@ -33,7 +33,7 @@ returns-in-Fed-clause-stands c = λ device stands.
 
 pub returns-in-Dropped-clause-stands : goal.returns-in-Dropped-clause-stands
 returns-in-Dropped-clause-stands c = λ device stands.
-    let slot = subst (λ (s : State). Stands s device.session) (ap (λ (h : HeldDevice). h.slot) (sym c.self.view_is)) stands.slot in
+    let slot = subst (λ (s : Kept). Stands s device.session) (ap (λ (h : HeldDevice). h.slot) (sym c.self.view_is)) stands.slot in
     let dropped = heard_dropped device c.args.n c.args.bytes.now c.args.mark c.in-Dropped.field-0 (sym c.in-Dropped.is ∙ c.fragment.ensures.answer device.session slot) in
     let kept : c.fragment.new.self ≡ c.self.inside.slot = c.fragment.ensures.dropped (λ fed. let d = c.in-Dropped.is in cc) in
     let config : device.config ≡ c.self.inside.config = stands.config ∙ ap (λ (h : HeldDevice). h.config) (sym c.self.view_is) in

@@ -12,11 +12,17 @@ use Rattle.fuota_run.proofs.world.World.carry_out.Goals as goal
 pub overflow_cast-frag_size : goal.overflow_cast-frag_size
 overflow_cast-frag_size c =
     let fine = fine_image (circumstances_in c.args.self.now) c.in-Image.frag_size c.in-Image.parity (ap (λ (f : Form). form_cause (circumstances_in c.args.self.now) f) (sym c.in-Image.is) ∙ c.requires.fine) in
-    omega (arith, frag_size_small (circumstances_in c.args.self.now).len c.in-Image.frag_size fine)
+    omega (arith, frag_size_small (circumstances_in c.args.self.now).len c.in-Image.frag_size fine.0)
+
+pub overflow_cast-parity : goal.overflow_cast-parity
+overflow_cast-parity c =
+    let fine = fine_image (circumstances_in c.args.self.now) c.in-Image.frag_size c.in-Image.parity (ap (λ (f : Form). form_cause (circumstances_in c.args.self.now) f) (sym c.in-Image.is) ∙ c.requires.fine) in
+    omega (arith, fine.1)
 
 pub set_image-requires : goal.set_image-requires
 set_image-requires c =
-    fine_image (circumstances_in c.args.self.now) c.in-Image.frag_size c.in-Image.parity (ap (λ (f : Form). form_cause (circumstances_in c.args.self.now) f) (sym c.in-Image.is) ∙ c.requires.fine)
+    let fine = fine_image (circumstances_in c.args.self.now) c.in-Image.frag_size c.in-Image.parity (ap (λ (f : Form). form_cause (circumstances_in c.args.self.now) f) (sym c.in-Image.is) ∙ c.requires.fine) in
+    record { size = fine.0; few = fine.1 }
 
 pub overflow_cast-hw : goal.overflow_cast-hw
 overflow_cast-hw c =
