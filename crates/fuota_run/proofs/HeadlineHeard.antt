@@ -1,5 +1,5 @@
 -- Each fragment that a line delivers after the setup was delivered is heard.
-use Rattle.std.proofs.Common.{◌≡◌, ◌⊎◌, inl, inr, ℕ, zero, suc, ◌+◌, ◌-◌, ◌*◌, ◌<◌, ◌≤◌, Bool, true, false, cond, not, ◌==◌, nat_lt, List, [], ◌∷◌, ◌++◌, map, length, drop, replicate, slice_get, Option, None, Some, IfSome, is_some, is_none, option_map, Result, Ok, Err, IfOk, append-nil, append_assoc, refl, sym, ap, ◌∙◌, subst, arith, eq-eqb, ne_eqb, eqb-true, le-ltb, length-drop, length-take, add-mul, suc-mul, true≢false}
+use Rattle.std.proofs.Common.{◌≡◌, ◌⊎◌, inl, inr, ℕ, zero, suc, ◌+◌, ◌-◌, ◌<◌, ◌≤◌, Bool, true, false, cond, not, ◌==◌, nat_lt, List, [], ◌∷◌, ◌++◌, map, length, drop, slice_get, Option, None, Some, IfSome, is_some, is_none, option_map, Result, Ok, Err, IfOk, append-nil, append_assoc, refl, sym, ap, ◌∙◌, subst, arith, eq-eqb, ne_eqb, eqb-true, le-ltb, length-drop, true≢false}
 use Rattle.std.proofs.lemmas.Bool.{cases_lt, eqb-false, and_parts}
 use Rattle.cast_wire.specs.declared.cmd.Cmd.TheVariants.{DataFragment}
 use Rattle.frag_model.specs.Fragments.{Heard as Fragment}
@@ -26,7 +26,7 @@ use Rattle.frag_model.specs.Fragments.{line_of}
 use Rattle.frag_encoder.specs.Encoding.{data_of, block_of, filled}
 use Rattle.frag_encoder.proofs.Pieces.{pieces_sized, sized_sum}
 use Rattle.frag_encoder.proofs.Blocks.{filled_whole}
-use Rattle.fuota_run.specs.Server.{ServerState, fragments_of, padding_of, fragment_of, setup_of}
+use Rattle.fuota_run.specs.Server.{ServerState, fragments_of, fragment_of, setup_of}
 use Rattle.fuota_run.specs.Device.{DeviceState, room, limits_of, after_command, after_data, after_heard, with_fragment, with_drop}
 use Rattle.fuota_run.specs.World.{WorldState, Sending, first_world, numbered, takes_events, is_allowed, is_in_range, names_device, was_sent, has_come, circumstances_of, form_cause, form_cause_of, cause_of, sends, request_of, fragment_from, moved_on, reaches, form_made, form_made_of, one_line_more, after_line, judged, line_read, lines_read, ended, campaign_of}
 use Rattle.fuota_run.specs.Headline.{IsFragmentOf, Delivers, WasDelivered}

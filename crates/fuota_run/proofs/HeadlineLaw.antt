@@ -1,5 +1,5 @@
 -- The headline: what is seen of the session in each campaign, and what the report says of it.
-use Rattle.std.proofs.Common.{◌≡◌, ◌≢◌, ◌⊎◌, inl, inr, ℕ, ◌<◌, ◌^◌, true, List, ◌∷◌, ◌++◌, length, All, Option, Some, Ok, le-ltb, refl, sym, ap, ◌∙◌, subst, arith, bytes_eq}
+use Rattle.std.proofs.Common.{◌≡◌, ◌≢◌, ◌⊎◌, inl, inr, ℕ, ◌<◌, ◌^◌, true, List, ◌∷◌, ◌++◌, length, All, Option, Some, Ok, le-ltb, refl, sym, ap, ◌∙◌, subst, bytes_eq}
 use Rattle.std.specs.List.{AllByRecursion}
 use Rattle.std.proofs.lemmas.Slice.Eq.{bytes_eq-Decides}
 use Rattle.frag_model.specs.Fragments.{Heard as Fragment, Shape}

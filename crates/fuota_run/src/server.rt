@@ -61,12 +61,7 @@ impl Model for Server {
 #[tactic(auto, using(image_slots::proofs::ImageLemmas::image_bounds))]
 impl Server {
     /// The server at the start of a campaign.
-    pub fn new(
-        alloc: Global,
-        frag_size: u8,
-        parity: u16,
-        image: &[u8],
-    ) -> Result<Self, AllocError>
+    pub fn new(alloc: Global, frag_size: u8, parity: u16, image: &[u8]) -> Result<Self, AllocError>
         requires image { is_image image.now ≡ true }
         requires some { 0 < frag_size }
         requires fits { frag_size ≤ 239 }

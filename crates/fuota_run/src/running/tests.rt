@@ -232,6 +232,80 @@ fn words_that_are_no_form_are_usage(rt: HostRuntime) -> Result<(), Fail> {
     Ok(())
 }
 
+const FOUR_ROWS: &str =
+    "fuota 1\nimage 13 4\ndevice 1 c 1 4 0 00000000000000000000000000000000\nat 1000\n";
+
+const ONE_ROW: &str =
+    "fuota 1\nimage 13 4\ndevice 1 c 1 1 0 00000000000000000000000000000000\nat 1000\n";
+
+/// Of four pieces and four coded fragments the first and third piece and the third and fourth coded one arrive.
+const CODED: &str =
+    "ask 1\ndown 1 1\nup 1\nask 1\ndown 2 1\nup 2\nfrag\nfrag\nfrag\nfrag\nfrag\nfrag\nfrag\nfrag\ndown 3 1\ndown 5 1\ndown 9 1\ndown 10 1\nend\n";
+
+const NINE: &str =
+    "ask 1\ndown 1 1\nup 1\nask 1\ndown 2 1\nup 2\nfrag\nfrag\nfrag\nfrag\nfrag\nfrag\nfrag\nfrag\nfrag\nend\n";
+
+const WHOLE: &str =
+    "fuota report 1\nimage 52 fragments 4 size 13 padding 0 parity 4\ndevice 1 status clock 0 token 0 running 0 next valid 2\ncounts deaf 0 refused 0 full 0 dropped 0\nsession 0 received 4 missing 0 complete at 22 same\nend\n";
+
+const NO_ROWS: &str =
+    "fuota report 1\nimage 52 fragments 4 size 13 padding 0 parity 4\ndevice 1 status clock 0 token 0 running 0 next none\ncounts deaf 0 refused 0 full 0 dropped 0\nsession 0 received 4 missing 1 norows at 22\nend\n";
+
+#[test]
+fn coded_fragments_complete_a_file_or_exceed_the_rows(rt: HostRuntime) -> Result<(), Fail> {
+    let rows = [
+        (FOUR_ROWS, CODED, Status::Done, WHOLE),
+        (ONE_ROW, CODED, Status::Done, NO_ROWS),
+        (FOUR_ROWS, NINE, Status::ScriptRefused, "line 19 limit\n"),
+        (FOUR_ROWS, "", Status::ScriptRefused, "line 5 syntax\n"),
+        (
+            FOUR_ROWS,
+            "down 1 1\n",
+            Status::ScriptRefused,
+            "line 5 unsent\n",
+        ),
+        (
+            FOUR_ROWS,
+            "at 999\n",
+            Status::ScriptRefused,
+            "line 5 time\n",
+        ),
+        (
+            FOUR_ROWS,
+            "ask 2\n",
+            Status::ScriptRefused,
+            "line 5 device\n",
+        ),
+        (
+            "fuota 1\nimage 240 4\n",
+            "",
+            Status::ScriptRefused,
+            "line 2 range\n",
+        ),
+        (
+            "fuota 1\nimage 13 513\n",
+            "",
+            Status::ScriptRefused,
+            "line 2 range\n",
+        ),
+        (
+            "fuota 1\nimage 13 512\n",
+            "",
+            Status::ScriptRefused,
+            "line 3 syntax\n",
+        ),
+    ];
+    for (start, events, status, text) in &rows {
+        let outside = Outside {
+            start,
+            events,
+            ..SOUND
+        };
+        ends(&rt, rt.alloc(), &WORDS, &outside, *status, text)?;
+    }
+    Ok(())
+}
+
 #[test]
 fn the_time_never_goes_back(rt: HostRuntime) -> Result<(), Fail> {
     let later = Outside {
