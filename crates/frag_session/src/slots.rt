@@ -351,3 +351,6 @@ fn is_overflow(verdict: Verdict) -> bool
 
 
 
+
+#[cfg(test)]
+mod tests;
