@@ -44,7 +44,12 @@ impl<const W: usize, const B: usize> Idle<W, B> {
             return Err((self, bits));
         }
         let Idle { mut solver } = self;
-        match solver.begin(req.nb_frag, req.frag_size, req.padding, rows_of(limits.rows, req)) {
+        match solver.begin(
+            req.nb_frag,
+            req.frag_size,
+            req.padding,
+            rows_of(limits.rows, req),
+        ) {
             Ok(()) => Ok(Receiving::begin(solver, req)),
             Err(NoRoom) => Err((Idle { solver }, 2)),
         }

@@ -349,8 +349,5 @@ fn is_overflow(verdict: Verdict) -> bool
     }
 }
 
-
-
-
 #[cfg(test)]
 mod tests;

@@ -1,7 +1,5 @@
-use Rattle.std.proofs.Common.{◌≡◌, Ok, ap, sym, ◌∙◌, lit≤, arith, true, rules}
-use Rattle.row_elimination.specs.Held.{Held as Solved}
+use Rattle.std.proofs.Common.{ap, sym, ◌∙◌, lit≤}
 use Rattle.frag_model.specs.Fragments.{Shape}
-use Rattle.frag_session.specs.Setup.{setup_bits}
 use Rattle.frag_session.proofs.Calls.{accepted, set_up_fine, room_for, begun_holds}
 use Rattle.frag_session.proofs.idle_state.Idle.setup.Goals as goal
 
