@@ -56,6 +56,116 @@ const WHOLE: Row = Row {
     ..NOTHING
 };
 
+/// Sessions of four pieces: a verdict comes at the fragment that decides, and stays while more are counted.
+const FOUR_PIECES: [Row; 13] = [
+    Row {
+        fragments: &[(4, 0x44), (1, 0x11), (3, 0x33), (2, 0x22)],
+        ..WHOLE
+    },
+    Row {
+        rows: 2,
+        fragments: &[(1, 0x11), (3, 0x33), (7, 0x66), (8, 0x11)],
+        ..WHOLE
+    },
+    Row {
+        rows: 2,
+        fragments: &[(7, 0x66), (8, 0x11), (1, 0x11), (3, 0x33)],
+        ..WHOLE
+    },
+    Row {
+        rows: 2,
+        fragments: &[(1, 0x11), (5, 0x22), (6, 0x22)],
+        received: 3,
+        missing: 2,
+        ..NOTHING
+    },
+    Row {
+        rows: 1,
+        fragments: &[(1, 0x11), (2, 0x22), (3, 0x33), (11, 0x44)],
+        ..WHOLE
+    },
+    Row {
+        rows: 1,
+        fragments: &[(7, 0x66), (8, 0x11)],
+        received: 2,
+        missing: 3,
+        verdict: Verdict::NoRows(4),
+        ..NOTHING
+    },
+    Row {
+        rows: 1,
+        fragments: &[(1, 0x11), (3, 0x33), (7, 0x66), (8, 0x11)],
+        received: 4,
+        missing: 1,
+        verdict: Verdict::NoRows(6),
+        ..NOTHING
+    },
+    Row {
+        fragments: &[(1, 0x11), (1, 0x12)],
+        received: 2,
+        missing: 3,
+        verdict: Verdict::Conflict(4),
+        ..NOTHING
+    },
+    Row {
+        fragments: &[(2, 0x22), (2, 0x22), (2, 0x22)],
+        received: 3,
+        missing: 3,
+        ..NOTHING
+    },
+    Row {
+        fragments: &[(7, 0x66)],
+        received: 1,
+        verdict: Verdict::NoRows(3),
+        ..NOTHING
+    },
+    Row {
+        rows: 1,
+        fragments: &[(7, 0x66), (8, 0x11), (1, 0x11), (3, 0x33)],
+        received: 4,
+        missing: 3,
+        verdict: Verdict::NoRows(4),
+        ..NOTHING
+    },
+    Row {
+        fragments: &[(1, 0x11), (1, 0x12), (1, 0x11), (2, 0x22)],
+        received: 4,
+        missing: 3,
+        verdict: Verdict::Conflict(4),
+        ..NOTHING
+    },
+    Row {
+        fragments: &[(3, 0x33), (1, 0x11), (4, 0x44), (2, 0x22), (1, 0x12)],
+        received: 5,
+        ..WHOLE
+    },
+];
+
+/// One piece that a coded fragment, whose line is empty, told nothing of.
+const ONE_PIECE: Row = Row {
+    fragments: &[(2, 0), (1, 0x5a)],
+    received: 2,
+    verdict: Verdict::Complete(4),
+    file: &[0x5a],
+    ..WHOLE
+};
+
+/// Sessions of one piece.
+const ONE_PIECE_ROWS: [Row; 3] = [
+    ONE_PIECE,
+    Row {
+        rows: 1,
+        ..ONE_PIECE
+    },
+    Row {
+        fragments: &[(2, 1)],
+        received: 1,
+        missing: 1,
+        verdict: Verdict::Conflict(3),
+        ..NOTHING
+    },
+];
+
 fn reserved<const W: usize, const B: usize>(
     rt: &impl Abort,
     alloc: Global,
@@ -97,124 +207,14 @@ fn follows(rt: &impl Abort, alloc: Global, nb_frag: u16, row: &Row) {
 
 #[test]
 fn verdicts_come_at_the_fragment_that_decides(rt: HostRuntime) {
-    let rows = [
-        Row {
-            fragments: &[(4, 0x44), (1, 0x11), (3, 0x33), (2, 0x22)],
-            ..WHOLE
-        },
-        Row {
-            rows: 2,
-            fragments: &[(1, 0x11), (3, 0x33), (7, 0x66), (8, 0x11)],
-            ..WHOLE
-        },
-        Row {
-            rows: 2,
-            fragments: &[(7, 0x66), (8, 0x11), (1, 0x11), (3, 0x33)],
-            ..WHOLE
-        },
-        Row {
-            rows: 2,
-            fragments: &[(1, 0x11), (5, 0x22), (6, 0x22)],
-            received: 3,
-            missing: 2,
-            ..NOTHING
-        },
-        Row {
-            rows: 1,
-            fragments: &[(1, 0x11), (2, 0x22), (3, 0x33), (11, 0x44)],
-            ..WHOLE
-        },
-        Row {
-            rows: 1,
-            fragments: &[(7, 0x66), (8, 0x11)],
-            received: 2,
-            missing: 3,
-            verdict: Verdict::NoRows(4),
-            ..NOTHING
-        },
-        Row {
-            rows: 1,
-            fragments: &[(1, 0x11), (3, 0x33), (7, 0x66), (8, 0x11)],
-            received: 4,
-            missing: 1,
-            verdict: Verdict::NoRows(6),
-            ..NOTHING
-        },
-        Row {
-            fragments: &[(1, 0x11), (1, 0x12)],
-            received: 2,
-            missing: 3,
-            verdict: Verdict::Conflict(4),
-            ..NOTHING
-        },
-        Row {
-            fragments: &[(2, 0x22), (2, 0x22), (2, 0x22)],
-            received: 3,
-            missing: 3,
-            ..NOTHING
-        },
-        Row {
-            fragments: &[(7, 0x66)],
-            received: 1,
-            verdict: Verdict::NoRows(3),
-            ..NOTHING
-        },
-    ];
-    for row in &rows {
-        follows(&rt, rt.alloc(), 4, row);
-    }
-}
-
-#[test]
-fn a_verdict_stays_while_fragments_are_counted(rt: HostRuntime) {
-    let rows = [
-        Row {
-            rows: 1,
-            fragments: &[(7, 0x66), (8, 0x11), (1, 0x11), (3, 0x33)],
-            received: 4,
-            missing: 3,
-            verdict: Verdict::NoRows(4),
-            ..NOTHING
-        },
-        Row {
-            fragments: &[(1, 0x11), (1, 0x12), (1, 0x11), (2, 0x22)],
-            received: 4,
-            missing: 3,
-            verdict: Verdict::Conflict(4),
-            ..NOTHING
-        },
-        Row {
-            fragments: &[(3, 0x33), (1, 0x11), (4, 0x44), (2, 0x22), (1, 0x12)],
-            received: 5,
-            ..WHOLE
-        },
-    ];
-    for row in &rows {
+    for row in &FOUR_PIECES {
         follows(&rt, rt.alloc(), 4, row);
     }
 }
 
 #[test]
 fn over_one_piece_coded_lines_are_empty(rt: HostRuntime) {
-    let whole = Row {
-        fragments: &[(2, 0), (1, 0x5a)],
-        received: 2,
-        verdict: Verdict::Complete(4),
-        file: &[0x5a],
-        ..WHOLE
-    };
-    let rows = [
-        Row { rows: 1, ..whole },
-        whole,
-        Row {
-            fragments: &[(2, 1)],
-            received: 1,
-            missing: 1,
-            verdict: Verdict::Conflict(3),
-            ..NOTHING
-        },
-    ];
-    for row in &rows {
+    for row in &ONE_PIECE_ROWS {
         follows(&rt, rt.alloc(), 1, row);
     }
 }
