@@ -32,11 +32,12 @@ impl<const W: usize, const B: usize> Idle<W, B> {
         Idle { solver }
     }
 
-    /// Begins a session with nothing heard, or gives the memory back with the refusal bits.
+    /// Begins a session with nothing heard, or gives the memory back with all refusal bits (see `Slot::setup`).
     pub fn setup(self, req: SetupReq, limits: Limits) -> Result<Receiving<W, B>, (Idle<W, B>, u8)>
-        ensures value { MatchResult result
-            (λ session. (setup_bits limits (record { words = W; bytes = B; area = self.entry }) req ≡ 0) × (session.solver.area ≡ self.entry))
-            (λ refused. (refused.0 ≡ self.entry) × (refused.1 ≡ setup_bits limits (record { words = W; bytes = B; area = self.entry }) req) × (0 < refused.1)) }
+        ensures bits { MatchResult result
+            (λ session. setup_bits limits (record { words = W; bytes = B; area = self.entry }) req ≡ 0)
+            (λ refused. (refused.1 ≡ setup_bits limits (record { words = W; bytes = B; area = self.entry }) req) × (0 < refused.1)) }
+        ensures area { MatchResult result (λ session. session.solver.area ≡ self.entry) (λ refused. refused.0 ≡ self.entry) }
         ensures stands { IfOk result (λ session. Holds session (new_session limits req)) }
     {
         let bits = refusal(&self.solver, req, limits);

@@ -64,7 +64,8 @@ impl<const W: usize, const B: usize> Receiving<W, B> {
         }
     }
 
-    /// Hears fragment `n` (1 to NbFrag + 8,380), at the mark: it stands for what it stood for, followed by the fragment.
+    /// Hears fragment `n` (1 to NbFrag + 8,380) of FragSize bytes, at the mark: it stands for what it stood for, followed by
+    /// the fragment. A session that this decides takes no more of them.
     pub fn feed(self, n: u16, part: &[u8], mark: u64) -> Next<W, B>
         requires first { 1 ≤ n }
         requires last { n ≤ self.setup.nb_frag + 8380 }
