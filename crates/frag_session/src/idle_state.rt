@@ -1,6 +1,7 @@
 //! A slot's memory while no session lives.
 
 ghost use Rattle.std.specs.Prelude.{◌≡◌, ◌<◌, MatchResult, IfOk};
+ghost use Rattle.row_elimination.specs.Held.{TwoFit};
 ghost use Rattle.frag_session.specs.Setup.{Room, setup_bits};
 ghost use Rattle.frag_session.specs.Session.{new_session};
 ghost use Rattle.frag_session.specs.Stands.{Holds};
@@ -39,6 +40,7 @@ impl<const W: usize, const B: usize> Idle<W, B> {
             (λ refused. (refused.1 ≡ setup_bits limits (record { words = W; bytes = B; area = self.entry }) req) × (0 < refused.1)) }
         ensures area { MatchResult result (λ session. session.solver.area ≡ self.entry) (λ refused. refused.0 ≡ self.entry) }
         ensures stands { IfOk result (λ session. Holds session (new_session limits req)) }
+        ensures two { IfOk result (λ session. TwoFit session.solver) }
     {
         let bits = refusal(&self.solver, req, limits);
         if bits != 0 {

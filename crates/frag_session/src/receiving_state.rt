@@ -4,7 +4,7 @@ ghost use Rattle.std.specs.Prelude.{◌≡◌, ◌+◌, ◌<◌, ◌≤◌, leng
 ghost use Rattle.row_elimination.specs.Held.{IsBegun};
 ghost use Rattle.frag_session.specs.Held.{one_more};
 ghost use Rattle.frag_session.specs.Session.{Session, followed};
-ghost use Rattle.frag_session.specs.Stands.{Holds, Stands};
+ghost use Rattle.frag_session.specs.Stands.{Holds, IsOpen, Stands};
 ghost use Rattle.frag_session.specs.Steps.{area_of, become};
 ghost use Rattle.frag_session.specs.Shows.{receiving_seen, seen};
 
@@ -71,6 +71,7 @@ impl<const W: usize, const B: usize> Receiving<W, B> {
         requires last { n ≤ self.setup.nb_frag + 8380 }
         requires sized { length part.now ≡ self.setup.frag_size }
         ensures stands { (s : Session) → Holds self.entry s → Stands (become result) (Some (followed s n part.now mark)) }
+        ensures two { IsOpen (become result) }
         ensures area { area_of (become result) ≡ self.entry.solver.area }
     {
         let Receiving {

@@ -2,7 +2,7 @@ use Rattle.std.proofs.Common.{◌≡◌, ◌*◌, length, sym, ap, ap₂, subst,
 use Rattle.frag_model.specs.Fragments.{Shape}
 use Rattle.frag_session.specs.Held.{Held}
 use Rattle.frag_session.specs.Steps.{area_of}
-use Rattle.frag_session.specs.Stands.{Holds, Stands}
+use Rattle.frag_session.specs.Stands.{Holds, IsOpen, Stands}
 use Rattle.frag_session.proofs.Standing.{receives_holds, completes_whole, complete_sized, contradicts_failed, overflows_failed}
 use Rattle.frag_session.proofs.receiving_state.Receiving.feed.Goals as goal
 
@@ -53,3 +53,19 @@ returns-in-Conflict-clause-stands g c = λ s k.
 pub returns-in-Conflict-clause-area : goal.returns-in-Conflict-clause-area
 unfolding area_of
 returns-in-Conflict-clause-area g c = rw c.decided-in-Conflict.ensures (c.feed.ensures.area ∙ ap (λ (h : Held). h.solver.area) c.self.view_is)
+
+pub returns-in-Receiving-clause-two : goal.returns-in-Receiving-clause-two
+unfolding IsOpen
+returns-in-Receiving-clause-two g c = (c.feed.ensures.receiving c.in-Receiving.is).two
+
+pub returns-in-Complete-clause-two : goal.returns-in-Complete-clause-two
+unfolding IsOpen
+returns-in-Complete-clause-two g c = tt
+
+pub returns-in-NoRows-clause-two : goal.returns-in-NoRows-clause-two
+unfolding IsOpen
+returns-in-NoRows-clause-two g c = tt
+
+pub returns-in-Conflict-clause-two : goal.returns-in-Conflict-clause-two
+unfolding IsOpen
+returns-in-Conflict-clause-two g c = tt
