@@ -15,10 +15,8 @@ use crate::idle_state::Idle;
 use crate::overflowed_state::Overflowed;
 use crate::receiving_state::{Next, Receiving};
 use crate::setups::{Limits, SetupReq, lives, refusal};
+use frag_model::lines::MAX_PARITY_INDEX;
 use std::marker::Model;
-
-/// The highest parity index: a coded fragment is at most so far above the last piece (this project's profile).
-const MAX_PARITY_INDEX: u32 = 8380;
 
 /// What a slot holds.
 #[derive(Drop)]
@@ -257,7 +255,7 @@ fn cause(setup: SetupReq, via: Via, n: u16, part: &[u8]) -> Option<Cause>
 {
     if excludes(setup.mask, via) {
         Some(Cause::Group)
-    } else if n == 0 || u32::from(n) > u32::from(setup.nb_frag) + MAX_PARITY_INDEX {
+    } else if n == 0 || u32::from(n) > u32::from(setup.nb_frag) + u32::from(MAX_PARITY_INDEX) {
         Some(Cause::Index)
     } else if part.len() != setup.frag_size as usize {
         Some(Cause::Size)
