@@ -1,5 +1,5 @@
 -- Each call of a slot, on every history that it stands for.
-use Rattle.std.proofs.Common.{◌≡◌, ◌≢◌, ℕ, ◌+◌, ◌-◌, ◌*◌, ◌<◌, ◌≤◌, Bool, true, false, cond, not, ◌==◌, nat_lt, nat_le, ◌||◌, ◌&&◌, List, [], length, take, Option, Some, None, is_none, is_some, option_map, refl, sym, ap, ap₂, ◌∙◌, subst, arith, true≢false, ltb-false, eqb-true, eq-eqb, ne_eqb}
+use Rattle.std.proofs.Common.{◌≡◌, ◌≢◌, ℕ, ◌+◌, ◌-◌, ◌*◌, ◌<◌, ◌≤◌, Bool, true, false, cond, not, ◌==◌, nat_lt, nat_le, ◌||◌, List, [], length, take, Option, Some, None, is_none, is_some, option_map, refl, sym, ap, ap₂, ◌∙◌, subst, arith, true≢false, ltb-false, eqb-true, eq-eqb, ne_eqb}
 use Rattle.std.specs.List.{concat}
 use Rattle.std.proofs.lemmas.Bool.{or_parts, eqb-false, leb-false, not-false}
 use Rattle.frag_model.specs.Fragments.{Shape, file_of}
@@ -12,7 +12,6 @@ use Rattle.frag_session.specs.declared.setups.Limits.{Limits}
 use Rattle.frag_session.specs.declared.answers.Via.{Via}
 use Rattle.frag_session.specs.declared.answers.Cause.{Cause}
 use Rattle.frag_session.specs.declared.answers.Cause.TheVariants as cause
-use Rattle.frag_session.specs.declared.answers.StatusAns.{StatusAns}
 use Rattle.frag_session.specs.declared.answers.Verdict.{Verdict as Shown}
 use Rattle.frag_session.specs.declared.answers.Verdict.TheVariants as shown
 use Rattle.frag_session.specs.Setup.{Room, rows_of, setup_bits, bit_where, wrong_coding, too_large, other_descriptor, same_setup, lives}
@@ -20,7 +19,7 @@ use Rattle.frag_session.specs.Session.{Session, Seen, shape_of, followed, receiv
 use Rattle.frag_session.specs.Held as kept
 use Rattle.frag_session.specs.Held.{Kept, Held}
 use Rattle.frag_session.specs.Shows.{receiving_seen, done_seen, failed_seen, overflowed_seen}
-use Rattle.frag_session.specs.Steps.{area_of, session_setup, slot_cause, slot_seen, CanHear}
+use Rattle.frag_session.specs.Steps.{session_setup, slot_cause, slot_seen, CanHear}
 use Rattle.frag_session.specs.Stands.{IsSetUp, Holds, Stands}
 use Rattle.frag_session.proofs.Standing.{setup_kept, no_setup_kept}
 

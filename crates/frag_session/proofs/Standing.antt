@@ -1,17 +1,15 @@
 -- What one fragment more makes of what is kept stands for what it makes of each history.
-use Rattle.std.proofs.Common.{◌≡◌, ℕ, zero, suc, suc-mul, ◌+◌, ◌*◌, ◌<◌, ◌≤◌, List, [], ◌∷◌, length, Option, Some, None, refl, sym, ap, ap₂, ◌∙◌, subst, arith}
-use Rattle.std.specs.List.{concat}
+use Rattle.std.proofs.Common.{◌≡◌, ℕ, zero, suc, suc-mul, ◌*◌, ◌<◌, ◌≤◌, List, ◌∷◌, length, Some, None, refl, sym, ap, ◌∙◌, arith}
 use Rattle.frag_model.specs.Fragments.{Heard as Fragment, Shape}
 use Rattle.frag_model.specs.Verdict.{Verdict, complete, no_rows, conflict, verdict, verdict_now, first_verdict, missing, missing_now, missing_next, lacking}
 use Rattle.frag_model.proofs.Files.{length-block}
-use Rattle.row_elimination.specs.Held.{Held as Solved, missing_of, IsBegun, Receives, Completes, Contradicts, Overflows}
+use Rattle.row_elimination.specs.Held.{Held as Solved, missing_of, Receives, Completes, Contradicts, Overflows}
 use Rattle.row_elimination.proofs.Standing.{feed_stands}
-use Rattle.frag_session.specs.declared.setups.SetupReq.{SetupReq}
 use Rattle.frag_session.specs.Session.{Session, shape_of, followed, received_count}
 use Rattle.frag_session.specs.Held as kept
 use Rattle.frag_session.specs.Held.{Kept, Held, Done, Failed, one_more}
 use Rattle.frag_session.specs.Steps.{session_setup}
-use Rattle.frag_session.specs.Stands.{IsSetUp, Holds, IsWhole, IsFailed, IsOverflowed, Stands}
+use Rattle.frag_session.specs.Stands.{Holds, IsWhole, IsFailed, IsOverflowed, Stands}
 
 count_more : (received : ℕ) (heard : List Fragment) (f : Fragment) → received ≡ received_count (length heard) → one_more received ≡ received_count (length (f ∷ heard))
 unfolding one_more
@@ -44,16 +42,18 @@ pub completes_whole : (h : Held) (s : Session) (new : Solved) (n : ℕ) (part : 
 unfolding followed shape_of
 completes_whole h s new n part mark k first r =
     let f : Fragment = fragment n part mark in
-    let told = feed_stands.completes h.solver new f s.heard first k.stands r in
-    (told.0, record {
-      setup = k.setup;
-      fine = k.fine;
-      received = count_more h.received s.heard f k.received;
-      decided = ap (λ (x : Shape). verdict x (f ∷ s.heard)) (sym k.shape) ∙ told.1;
-      content = sym told.2;
-      sized = complete_sized h.solver new n part r ∙ ap (λ (x : Shape). x.nb_frag * x.frag_size) k.shape;
-      nothing = ap (λ (x : Shape). missing x (f ∷ s.heard)) (sym k.shape) ∙ told.3;
-    })
+    let told = feed_stands.completes h.solver new f s.heard first k.stands r in (
+      told.0,
+      record {
+        setup = k.setup;
+        fine = k.fine;
+        received = count_more h.received s.heard f k.received;
+        decided = ap (λ (x : Shape). verdict x (f ∷ s.heard)) (sym k.shape) ∙ told.1;
+        content = sym told.2;
+        sized = complete_sized h.solver new n part r ∙ ap (λ (x : Shape). x.nb_frag * x.frag_size) k.shape;
+        nothing = ap (λ (x : Shape). missing x (f ∷ s.heard)) (sym k.shape) ∙ told.3;
+      },
+    )
 
 -- no file fits
 pub contradicts_failed : (h : Held) (s : Session) (new : Solved) (n : ℕ) (part : List ℕ) (mark : ℕ) → Holds h s → 1 ≤ n → Contradicts h.solver new n part

@@ -2,6 +2,7 @@
 use Rattle.std.specs.Prelude.{◌≡◌, ℕ, ◌*◌, ◌<◌, ◌≤◌, List, length, Option, Some, None}
 use Rattle.std.specs.List.{concat}
 use Rattle.frag_model.specs.Verdict.{complete, no_rows, conflict, verdict, missing}
+use Rattle.row_elimination.specs.Held.{TwoFit}
 use Rattle.row_elimination.specs.Stands.{StandsFor}
 use Rattle.frag_session.specs.declared.setups.SetupReq.{SetupReq}
 use Rattle.frag_session.specs.Held as kept
@@ -60,3 +61,11 @@ Stands (kept.overflowed f) None = ⊥
 Stands (kept.overflowed f) (Some s) = IsOverflowed f s
 Stands (kept.conflicted f) None = ⊥
 Stands (kept.conflicted f) (Some s) = IsFailed f s
+
+-- a session hears on only while two different blocks fit what it holds
+unfoldable pub IsOpen : Kept → Type 0
+IsOpen (kept.idle area) = Unit {0}
+IsOpen (kept.receiving h) = TwoFit h.solver
+IsOpen (kept.complete d) = Unit {0}
+IsOpen (kept.overflowed f) = Unit {0}
+IsOpen (kept.conflicted f) = Unit {0}

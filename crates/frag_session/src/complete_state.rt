@@ -93,9 +93,7 @@ impl<const W: usize, const B: usize> Complete<W, B> {
             received: self.received,
             missing: 0,
             verdict: Verdict::Complete(self.mark),
-            file: block
-                .split_at(block.len() - self.setup.padding as usize)
-                .0,
+            file: block.split_at(block.len() - self.setup.padding as usize).0,
         }
     }
 }

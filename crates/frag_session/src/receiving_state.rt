@@ -4,7 +4,7 @@ ghost use Rattle.std.specs.Prelude.{◌≡◌, ◌+◌, ◌<◌, ◌≤◌, leng
 ghost use Rattle.row_elimination.specs.Held.{IsBegun};
 ghost use Rattle.frag_session.specs.Held.{one_more};
 ghost use Rattle.frag_session.specs.Session.{Session, followed};
-ghost use Rattle.frag_session.specs.Stands.{Holds, Stands};
+ghost use Rattle.frag_session.specs.Stands.{Holds, IsOpen, Stands};
 ghost use Rattle.frag_session.specs.Steps.{area_of, become};
 ghost use Rattle.frag_session.specs.Shows.{receiving_seen, seen};
 
@@ -64,12 +64,14 @@ impl<const W: usize, const B: usize> Receiving<W, B> {
         }
     }
 
-    /// Hears fragment `n` (1 to NbFrag + 8,380), at the mark: it stands for what it stood for, followed by the fragment.
+    /// Hears fragment `n` (1 to NbFrag + 8,380) of FragSize bytes, at the mark: it stands for what it stood for, followed by
+    /// the fragment. A session that this decides takes no more of them.
     pub fn feed(self, n: u16, part: &[u8], mark: u64) -> Next<W, B>
         requires first { 1 ≤ n }
         requires last { n ≤ self.setup.nb_frag + 8380 }
         requires sized { length part.now ≡ self.setup.frag_size }
         ensures stands { (s : Session) → Holds self.entry s → Stands (become result) (Some (followed s n part.now mark)) }
+        ensures two { IsOpen (become result) }
         ensures area { area_of (become result) ≡ self.entry.solver.area }
     {
         let Receiving {

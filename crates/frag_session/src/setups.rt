@@ -3,10 +3,8 @@
 ghost use Rattle.std.specs.Prelude.{◌≡◌, ◌≤◌, nat_le};
 ghost use Rattle.frag_session.specs.Setup.{Room, rows_of, wrong_coding, too_large, other_descriptor, bit_where, setup_bits, lives};
 
+use frag_model::lines::MAX_PIECES;
 use row_elimination::Solver;
-
-/// The most pieces of a file (this project's profile).
-pub const MAX_PIECES: u16 = 1024;
 
 /// The most bytes of a fragment, so that one fits a payload of 242 bytes.
 pub const MAX_FRAGMENT: u8 = 239;

@@ -15,10 +15,8 @@ use crate::idle_state::Idle;
 use crate::overflowed_state::Overflowed;
 use crate::receiving_state::{Next, Receiving};
 use crate::setups::{Limits, SetupReq, lives, refusal};
+use frag_model::lines::MAX_PARITY_INDEX;
 use std::marker::Model;
-
-/// The highest parity index: a coded fragment is at most so far above the last piece (this project's profile).
-const MAX_PARITY_INDEX: u32 = 8380;
 
 /// What a slot holds.
 #[derive(Drop)]
@@ -60,8 +58,9 @@ impl<const W: usize, const B: usize> Slot<W, B> {
         }
     }
 
-    /// Answers FragSessionSetupReq with all refusal bits. Where there is none, a session that was made of
-    /// an equal request stays, and any other gives way to a new one.
+    /// Answers FragSessionSetupReq (TS004-1.0.0) with all refusal bits: 1 for a coding that is not the standard's or numbers
+    /// that make no file, 2 for more than there is room for, 4 for an index that is not there, 8 for another descriptor.
+    /// Where there is none, a session that was made of an equal request stays, and any other gives way to a new one.
     pub fn setup(&mut self, req: SetupReq, limits: Limits) -> u8
         ensures bits { result ≡ setup_bits limits (record { words = W; bytes = B; area = area_of self.old }) req }
         ensures stands { (s : Option Session) → Stands self.old s → Stands self.new (after_setup limits (record { words = W; bytes = B; area = area_of self.old }) s req) }
@@ -75,7 +74,9 @@ impl<const W: usize, const B: usize> Slot<W, B> {
         bits
     }
 
-    /// Hears fragment `n`, or drops it for the first cause that holds.
+    /// Hears the data of fragment `n` (TS004-1.0.0, DataFragment), or drops it for the first cause that holds: no session
+    /// lives, it came by a group that the mask has not, `n` is 0 or more than 8,380 above NbFrag, or `part` has not FragSize
+    /// bytes. A verdict is shown with the mark of the fragment that brought it, and stays.
     pub fn fragment(&mut self, via: Via, n: u16, part: &[u8], mark: u64) -> Heard
         ensures answer { (s : Option Session) → Stands self.old s → result ≡ answer_of (drop_cause s via n part.now) }
         ensures stands { (s : Option Session) → Stands self.old s → Stands self.new (after_fragment s via n part.now mark) }
@@ -98,8 +99,8 @@ impl<const W: usize, const B: usize> Slot<W, B> {
         self.shown()
     }
 
-    /// The answer to FragSessionStatusReq; None where there is no session, it came by a group that the session's mask does
-    /// not have, or it does not ask `all` and no piece is missing.
+    /// The answer to FragSessionStatusReq (TS004-1.0.0; `all` is its Participants bit); None where there is no session, it
+    /// came by a group that the session's mask does not have, or it does not ask `all` and no piece is missing.
     pub fn status(&self, via: Via, all: bool) -> Option<StatusAns>
         ensures { (s : Option Session) → Stands self.now s → result ≡ status_of s via all }
     {
@@ -112,7 +113,7 @@ impl<const W: usize, const B: usize> Slot<W, B> {
         }
     }
 
-    /// Ends the session; false exactly where there is none.
+    /// Ends the session, as FragSessionDeleteReq asks (TS004-1.0.0); false exactly where there is none.
     pub fn delete(&mut self) -> bool
         ensures answer { (s : Option Session) → Stands self.old s → result ≡ is_some s }
         ensures stands { Stands self.new None }
@@ -254,7 +255,7 @@ fn cause(setup: SetupReq, via: Via, n: u16, part: &[u8]) -> Option<Cause>
 {
     if excludes(setup.mask, via) {
         Some(Cause::Group)
-    } else if n == 0 || u32::from(n) > u32::from(setup.nb_frag) + MAX_PARITY_INDEX {
+    } else if n == 0 || u32::from(n) > u32::from(setup.nb_frag) + u32::from(MAX_PARITY_INDEX) {
         Some(Cause::Index)
     } else if part.len() != setup.frag_size as usize {
         Some(Cause::Size)
@@ -349,5 +350,5 @@ fn is_overflow(verdict: Verdict) -> bool
     }
 }
 
-
-
+#[cfg(test)]
+mod tests;

@@ -9,4 +9,4 @@ returns-in-Ok-clause-stands g c = c.in-Ok.ensures.stands
 
 pub returns-in-Ok-clause-area : goal.returns-in-Ok-clause-area
 unfolding area_of
-returns-in-Ok-clause-area g c = c.in-Ok.ensures.value.1 ∙ c.cleared.ensures
+returns-in-Ok-clause-area g c = c.in-Ok.ensures.area ∙ c.cleared.ensures

@@ -1,4 +1,4 @@
-use Rattle.std.proofs.Common.{◌≡◌, ◌*◌, length, suc-mul, arith, ap, ◌∙◌}
+use Rattle.std.proofs.Common.{length, ap, ◌∙◌}
 use Rattle.frag_session.proofs.Standing.{room_for_padding}
 use Rattle.frag_session.proofs.complete_state.Complete.view.Goals as goal
 

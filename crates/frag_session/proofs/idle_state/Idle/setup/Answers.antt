@@ -1,7 +1,5 @@
-use Rattle.std.proofs.Common.{◌≡◌, Ok, ap, sym, ◌∙◌, lit≤, arith, true, rules}
-use Rattle.row_elimination.specs.Held.{Held as Solved}
+use Rattle.std.proofs.Common.{ap, sym, ◌∙◌, lit≤}
 use Rattle.frag_model.specs.Fragments.{Shape}
-use Rattle.frag_session.specs.Setup.{setup_bits}
 use Rattle.frag_session.proofs.Calls.{accepted, set_up_fine, room_for, begun_holds}
 use Rattle.frag_session.proofs.idle_state.Idle.setup.Goals as goal
 
@@ -23,8 +21,8 @@ returns-in-Ok-clause-stands g c =
     let fine = accepted c.args.limits (record { words = g.row.W; bytes = g.row.B; area = c.self.inside.solver.area }) c.args.req (sym c.refusal-bits.ensures ∙ c.if-bits-ne0.false) in
     rw c.begin-in-Ok.ensures (begun_holds c.args.limits c.args.req c.begin.new.self fine.0 c.in-Ok.ensures.begun (c.in-Ok.ensures.shape ∙ ap (λ n. let x : Shape = record { nb_frag = c.args.req.nb_frag; frag_size = c.args.req.frag_size; rows = n } in x) c.rows_of.ensures.value))
 
-pub returns-in-Err-clause-value : goal.returns-in-Err-clause-value
-returns-in-Err-clause-value g c =
+pub returns-in-Err-clause-bits : goal.returns-in-Err-clause-bits
+returns-in-Err-clause-bits g c =
     let fine = accepted c.args.limits (record { words = g.row.W; bytes = g.row.B; area = c.self.inside.solver.area }) c.args.req (sym c.refusal-bits.ensures ∙ c.if-bits-ne0.false) in
     let room = room_for _ c.args.limits.rows c.args.req fine.1 in
     absurd (let none = c.in-Err.ensures.room in let some = room.room_is in let rows = c.rows_of.ensures.value in cc)

@@ -1,11 +1,8 @@
-use Rattle.std.proofs.Common.{◌≡◌, ◌*◌, length, refl, sym, ap, ap₂, subst, ◌∙◌, lit≤, rules}
+use Rattle.std.proofs.Common.{◌≡◌, ◌*◌, length, sym, ap, ap₂, subst, ◌∙◌, lit≤}
 use Rattle.frag_model.specs.Fragments.{Shape}
-use Rattle.row_elimination.specs.Held.{Held as Solved}
-use Rattle.frag_session.specs.Held.{Kept, Held, one_more}
-use Rattle.frag_session.specs.Held as kept
-use Rattle.frag_session.specs.Session.{Session, followed}
+use Rattle.frag_session.specs.Held.{Held}
 use Rattle.frag_session.specs.Steps.{area_of}
-use Rattle.frag_session.specs.Stands.{Holds, Stands}
+use Rattle.frag_session.specs.Stands.{Holds, IsOpen, Stands}
 use Rattle.frag_session.proofs.Standing.{receives_holds, completes_whole, complete_sized, contradicts_failed, overflows_failed}
 use Rattle.frag_session.proofs.receiving_state.Receiving.feed.Goals as goal
 
@@ -14,7 +11,7 @@ decided-requires g c =
     let r = c.feed.ensures.complete c.in-Complete.is in
     let its = c.self.invariant.its in
     let sized : length c.feed.new.self.content ≡ c.self.inside.setup.nb_frag * c.self.inside.setup.frag_size =
-        complete_sized _ _ c.args.n c.args.part.now r ∙ ap₂ (λ a b. a * b) its.nb_frag its.frag_size in
+    complete_sized _ _ c.args.n c.args.part.now r ∙ ap₂ (λ a b. a * b) its.nb_frag its.frag_size in
     (lit≤ tt, (lit≤ tt, (its.some, (ap (λ (x : Shape). x.nb_frag) r.takes.shape ∙ its.nb_frag, (ap (λ (x : Shape). x.frag_size) r.takes.shape ∙ its.frag_size, (its.short, (c.one_more-received.ensures.most, (r.stage, sized))))))))
 
 pub returns-in-Receiving-clause-stands : goal.returns-in-Receiving-clause-stands
@@ -56,3 +53,19 @@ returns-in-Conflict-clause-stands g c = λ s k.
 pub returns-in-Conflict-clause-area : goal.returns-in-Conflict-clause-area
 unfolding area_of
 returns-in-Conflict-clause-area g c = rw c.decided-in-Conflict.ensures (c.feed.ensures.area ∙ ap (λ (h : Held). h.solver.area) c.self.view_is)
+
+pub returns-in-Receiving-clause-two : goal.returns-in-Receiving-clause-two
+unfolding IsOpen
+returns-in-Receiving-clause-two g c = (c.feed.ensures.receiving c.in-Receiving.is).two
+
+pub returns-in-Complete-clause-two : goal.returns-in-Complete-clause-two
+unfolding IsOpen
+returns-in-Complete-clause-two g c = tt
+
+pub returns-in-NoRows-clause-two : goal.returns-in-NoRows-clause-two
+unfolding IsOpen
+returns-in-NoRows-clause-two g c = tt
+
+pub returns-in-Conflict-clause-two : goal.returns-in-Conflict-clause-two
+unfolding IsOpen
+returns-in-Conflict-clause-two g c = tt

@@ -6,9 +6,11 @@ use Rattle.frag_session.proofs.Calls.{answer_same, dropped_stands, heard_stands,
 use Rattle.frag_session.proofs.slots.Slot.fragment.Goals as goal
 
 pub hear-requires : goal.hear-requires
-hear-requires g c = (lit≤ tt,
-    can_hear_kept c.args.self.now c.args.via c.args.n c.args.part.now
-    (c.in-None.ensures ∙ ap (λ (o : Option SetupReq). slot_cause o c.args.via c.args.n c.args.part.now) c.session.ensures))
+hear-requires g c = (
+  lit≤ tt,
+  can_hear_kept c.args.self.now c.args.via c.args.n c.args.part.now
+      (c.in-None.ensures ∙ ap (λ (o : Option SetupReq). slot_cause o c.args.via c.args.n c.args.part.now) c.session.ensures),
+)
 
 pub returns-in-Some-clause-answer : goal.returns-in-Some-clause-answer
 unfolding answer_of

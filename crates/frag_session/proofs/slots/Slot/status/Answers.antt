@@ -1,5 +1,4 @@
 use Rattle.std.proofs.Common.{sym, ◌∙◌}
-use Rattle.frag_session.specs.Shows.{seen}
 use Rattle.frag_session.proofs.Calls.{status_shown, status_unseen, status_unkept}
 use Rattle.frag_session.proofs.slots.Slot.status.Goals as goal
 
