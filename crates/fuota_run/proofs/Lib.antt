@@ -17,3 +17,4 @@ pub mod HeadlineHeard
 pub mod HeadlineLaw
 pub mod Payloads
 pub mod CommandLine
+pub mod OneAnswer

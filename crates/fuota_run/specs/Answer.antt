@@ -98,3 +98,7 @@ IsAnswerTo (Some (decode port direction file)) held a = IsDecodeAnswer port dire
 -- the answer to the words
 unfoldable pub IsAnswer : List (List ℕ) → Held → Answer → Type 0
 IsAnswer words held a = IsAnswerTo (asked words) held a
+
+-- no words have two answers over the files that are held
+abbrev pub HasOneReply : Type 0
+HasOneReply = (words : List (List ℕ)) (held : Held) (one other : Answer) → IsAnswer words held one → IsAnswer words held other → one ≡ other

@@ -77,6 +77,11 @@ DecodesFrom port direction lines text (line ∷ rest) answer =
 unfoldable pub Decodes : ℕ → Direction → List ℕ → Result (List ℕ) LineFault → Type 0
 Decodes port direction file answer = DecodesFrom port direction 0 [] (lines_of file) answer
 
+-- no file has two answers
+abbrev pub HasOneAnswer : Type 0
+HasOneAnswer = (port : ℕ) (direction : Direction) (file : List ℕ) (one other : Result (List ℕ) LineFault)
+    → Decodes port direction file one → Decodes port direction file other → one ≡ other
+
 -- the same of what was computed, which may be that memory was wanting
 abbrev pub IsDecoded : ℕ → Direction → List ℕ → Result (List ℕ) WorldError → Type 0
 IsDecoded port direction file (Ok text) = Decodes port direction file (Ok text)

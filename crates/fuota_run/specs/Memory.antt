@@ -1,5 +1,5 @@
 -- Files in memory: what a list of named files holds, and which calls of a schedule fail.
-use Rattle.std.specs.Prelude.{◌≡◌, ◌<◌, ℕ, ◌+◌, ◌-◌, ◌^◌, min, List, [], ◌∷◌, Option, None, Some, if◌then◌else◌, map, get_or}
+use Rattle.std.specs.Prelude.{◌≡◌, ◌<◌, ℕ, ◌+◌, ◌-◌, ◌^◌, min, List, [], ◌∷◌, Option, None, Some, if◌then◌else◌, map, get_or, Result, Ok, Err}
 use Rattle.std.specs.Str.{bytes_eq}
 
 -- a name, and the bytes that it holds
@@ -19,6 +19,11 @@ bytes_at files (Some i) = get_or (map (λ f. f.1) files) i []
 -- the number of the call that comes after so many
 abbrev pub next_call : ℕ → ℕ
 next_call calls = min (calls + 1) (2 ^ 64 - 1)
+
+-- the count of faults behind a call: one more where it failed
+abbrev pub faults_after : {T E : Type 0} → Result T E → ℕ → ℕ
+faults_after (Ok done) faults = faults
+faults_after (Err failed) faults = next_call faults
 
 -- a sink has no room for any byte of a piece that is not empty
 abbrev pub IsFull : (room held piece : ℕ) → Type 0

@@ -1,6 +1,6 @@
 -- What is told of files and of a sink, and when one of their calls may fail.
 use Rattle.std.specs.Io.KnownBytes.{Appends}
-use Rattle.std.specs.Prelude.{◌≡◌, ℕ, ◌+◌, ◌-◌, ◌^◌, ◌≤◌, ◌<◌, min, List, ◌++◌, take, ⊤, Option, None, Some, IsSome, Result, OnErr, MatchResult}
+use Rattle.std.specs.Prelude.{◌≡◌, ℕ, ◌+◌, ◌-◌, ◌^◌, ◌≤◌, ◌<◌, min, List, ◌++◌, take, ⊤, Option, None, Some, IsSome, Result, OnOk, OnErr, MatchResult}
 
 -- what each name holds: nothing, or its bytes
 abbrev pub Held : Type 0
@@ -20,9 +20,9 @@ IsWhole (Some held) name left = left ≡ held name
 abbrev pub HasRisen : ℕ → ℕ → Type 0
 HasRisen before now = min (before + 1) (2 ^ 64 - 1) ≤ now
 
--- a failure comes only where the count of faults rose in this call; the count never falls
+-- a failure comes only where the count of faults rose in this call; the count never falls, and a call that is Ok leaves it
 abbrev pub HasCause : {T E : Type 0} → ℕ → ℕ → Result T E → Type 0
-HasCause before now r = OnErr r (HasRisen before now) × (before ≤ now)
+HasCause before now r = OnErr r (HasRisen before now) × (before ≤ now) × OnOk r (now ≡ before)
 
 -- what a call of `read` does to the bytes that are left: it consumes those that it gives, and gives none exactly at the end
 abbrev pub AtMost : {E : Type 0} → Result ℕ E → ℕ → Type 0

@@ -123,6 +123,17 @@ Ends held words e status.ImageRefused = AppendsAnswer held words status.ImageRef
 Ends held words e status.ScriptRefused = AppendsAnswer held words status.ScriptRefused e.old e.new
 Ends held words e (status.TooLong taken) = AppendsAnswer held words (status.TooLong taken) e.old e.new
 
+-- what is answered to words that are no form, unless writing failed or memory was wanting
+abbrev pub IsNoForm : Status → Type 0
+IsNoForm status.Usage = ⊤
+IsNoForm status.WriteFault = ⊤
+IsNoForm status.Memory = ⊤
+IsNoForm status.Done = ⊥
+IsNoForm status.ImageRefused = ⊥
+IsNoForm status.ScriptRefused = ⊥
+IsNoForm status.ReadFault = ⊥
+IsNoForm (status.TooLong taken) = ⊥
+
 -- the sink's last call was a finish that was Ok, but where writing failed or memory was wanting
 abbrev pub IsFinished : Status → Bool → Type 0
 IsFinished status.WriteFault finished = ⊤

@@ -146,6 +146,8 @@ impl Device {
             → (n ≡ length self.old.outbox + weights cs) × (8 < n) }
         ensures refused { (refusal : Refusal) → result ≡ Delivered.Refused refusal → self.new ≡ record self.old { counts = record self.old.counts { refused = raised self.old.counts.refused } } }
         ensures acted { (cs : List Command) → IsMessage cs port Direction.Down payload.now → length self.old.outbox + weights cs ≤ 8 → result ≡ Delivered.Done }
+        ensures only { result ≡ Delivered.Done → (cs : List Command) × IsMessage cs port Direction.Down payload.now × (length self.old.outbox + weights cs ≤ 8) }
+        ensures whole { (n : ℕ) → result ≡ Delivered.OutboxFull n → (cs : List Command) × IsMessage cs port Direction.Down payload.now }
     {
         if let Err(refusal) = check(port, Direction::Down, payload) {
             self.counts.refused = self.counts.refused.saturating_add(1);

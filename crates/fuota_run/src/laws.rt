@@ -1,5 +1,7 @@
 //! Laws about the definitions, each the contract of a function that does nothing.
 
+ghost use Rattle.fuota_run.specs.Answer.{HasOneReply};
+ghost use Rattle.fuota_run.specs.Decode.{HasOneAnswer};
 ghost use Rattle.fuota_run.specs.Headline.{FirstMoment, Headline};
 
 /// A session is decided by the first heard fragment after which its file is no longer open: it is whole
@@ -13,4 +15,14 @@ pub fn first_moment()
 /// report says so.
 pub fn headline()
     ensures { Headline }
+{}
+
+/// A file of payloads has one answer on a port and in a direction: one text, or one first refused line.
+pub fn decode_has_one_answer()
+    ensures { HasOneAnswer }
+{}
+
+/// Words have one answer over the files that are held: one status, and one text.
+pub fn run_has_one_answer()
+    ensures { HasOneReply }
 {}

@@ -25,7 +25,7 @@ mod words;
 mod world;
 
 pub use files::{Failed, Files};
-pub use laws::{first_moment, headline};
+pub use laws::{decode_has_one_answer, first_moment, headline, run_has_one_answer};
 pub use lines::{Form, Key};
 pub use memory::{MemFiles, MemSink};
 pub use running::run;

@@ -3,7 +3,7 @@ ghost use Rattle.std.specs.Prelude.{◌≡◌, ◌≢◌, ℕ, ◌+◌, ◌-◌,
 ghost use Rattle.std.specs.Bool.{OnTrue, OnFalse};
 ghost use Rattle.std.specs.Io.KnownBytes.{Keeps, ReadConsumes, WriteAppends};
 ghost use Rattle.fuota_run.specs.Outside.{HoldsName, IsWhole, HasCause, HasRisen, AtMost, TakesSome};
-ghost use Rattle.fuota_run.specs.Memory.{held_by, bytes_at, next_call, IsFull};
+ghost use Rattle.fuota_run.specs.Memory.{held_by, bytes_at, next_call, faults_after, IsFull};
 
 use crate::files::{Failed, Files};
 use crate::sink::Sink;
@@ -36,6 +36,7 @@ impl Schedule {
         ensures counted { self.new.calls ≡ next_call self.old.calls }
         ensures schedule { self.new.fails.items ≡ self.old.fails.items }
         ensures risen { OnTrue result (HasRisen self.old.faults self.new.faults) }
+        ensures one { OnTrue result (self.new.faults ≡ next_call self.old.faults) }
         ensures same { OnFalse result (self.new.faults ≡ self.old.faults) }
         ensures kept { self.old.faults ≤ self.new.faults }
     {
@@ -50,6 +51,7 @@ impl Schedule {
     /// Counts a fault.
     fn raise(&mut self)
         ensures risen { HasRisen self.old.faults self.new.faults }
+        ensures one { self.new.faults ≡ next_call self.old.faults }
         ensures kept { self.old.faults ≤ self.new.faults }
         ensures calls { self.new.calls ≡ self.old.calls }
         ensures schedule { self.new.fails.items ≡ self.old.fails.items }
@@ -83,6 +85,7 @@ fn place_of(files: &[(String, Vec<u8>)], name: &str) -> Option<usize>
 
 /// Reads on behind the first bytes, and says how many were read.
 fn read_from(bytes: &[u8], from: usize, buf: &mut [u8]) -> usize
+    ensures count { result ≡ min (length bytes.now - from) (length buf.new) }
     ensures within { result ≤ length buf.new }
     ensures taken { drop from bytes.now ≡ take result buf.new ++ drop (from + result) bytes.now }
     ensures end { result ≡ 0 → 0 < length buf.new → drop (from + result) bytes.now ≡ [] }
@@ -145,6 +148,7 @@ impl Files for MemFiles {
         ensures chosen { is_some self.new.place ≡ is_ok result }
         ensures held { self.new.files.items ≡ self.old.files.items }
         ensures cause { HasCause self.old.schedule.faults self.new.schedule.faults result }
+        ensures faults { self.new.schedule.faults ≡ faults_after result self.old.schedule.faults }
         ensures listed { IsErr result ↔ Contains self.old.schedule.fails.items (next_call self.old.schedule.calls) }
         ensures counted { self.new.schedule.calls ≡ next_call self.old.schedule.calls }
         ensures schedule { self.new.schedule.fails.items ≡ self.old.schedule.fails.items }
@@ -161,10 +165,13 @@ impl Files for MemFiles {
     fn read(&mut self, buf: &mut [u8]) -> Result<usize, Failed>
         requires { is_some self.old.place ≡ true }
         ensures within { AtMost result (length buf.new) }
+        // As many as there are and the buffer takes.
+        ensures most { IfOk result (λ n. n ≡ min (length (bytes_at (map (λ f. (string_bytes f.0, f.1.items)) self.old.files.items) self.old.place) - self.old.from) (length buf.new)) }
         ensures bytes { ReadConsumes (Some (drop self.old.from (bytes_at (map (λ f. (string_bytes f.0, f.1.items)) self.old.files.items) self.old.place))) (Some (drop self.new.from (bytes_at (map (λ f. (string_bytes f.0, f.1.items)) self.new.files.items) self.new.place))) result buf.new }
         ensures chosen { is_some self.new.place ≡ true }
         ensures held { self.new.files.items ≡ self.old.files.items }
         ensures cause { HasCause self.old.schedule.faults self.new.schedule.faults result }
+        ensures faults { self.new.schedule.faults ≡ faults_after result self.old.schedule.faults }
         ensures listed { IsErr result ↔ Contains self.old.schedule.fails.items (next_call self.old.schedule.calls) }
         ensures counted { self.new.schedule.calls ≡ next_call self.old.schedule.calls }
         ensures schedule { self.new.schedule.fails.items ≡ self.old.schedule.fails.items }
@@ -227,6 +234,7 @@ impl Sink for MemSink {
         ensures bytes { WriteAppends (Some self.old.bytes.items) (Some self.new.bytes.items) result piece.now }
         ensures unfinished { self.new.finished ≡ false }
         ensures cause { HasCause self.old.schedule.faults self.new.schedule.faults result }
+        ensures faults { self.new.schedule.faults ≡ faults_after result self.old.schedule.faults }
         ensures listed { IsErr result ↔ Contains self.old.schedule.fails.items (next_call self.old.schedule.calls) ⊎ IsFull self.old.room (vec_len self.old.bytes) (length piece.now) }
         ensures taken { IfOk result (λ n. n ≡ min (self.old.room - vec_len self.old.bytes) (length piece.now)) }
         ensures counted { self.new.schedule.calls ≡ next_call self.old.schedule.calls }
@@ -252,6 +260,7 @@ impl Sink for MemSink {
         ensures bytes { Keeps (Some self.old.bytes.items) (Some self.new.bytes.items) }
         ensures finished { self.new.finished ≡ is_ok result }
         ensures cause { HasCause self.old.schedule.faults self.new.schedule.faults result }
+        ensures faults { self.new.schedule.faults ≡ faults_after result self.old.schedule.faults }
         ensures listed { IsErr result ↔ Contains self.old.schedule.fails.items (next_call self.old.schedule.calls) }
         ensures counted { self.new.schedule.calls ≡ next_call self.old.schedule.calls }
         ensures schedule { (self.new.schedule.fails.items ≡ self.old.schedule.fails.items) × (self.new.room ≡ self.old.room) }

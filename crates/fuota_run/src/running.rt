@@ -7,7 +7,7 @@ ghost use Rattle.image_slots.specs.Image.{is_image};
 ghost use Rattle.fuota_run.specs.Words.{asked, seen_asked};
 ghost use Rattle.fuota_run.specs.Answer.{answer, why_word, refused};
 ghost use Rattle.fuota_run.specs.World.{campaign_of};
-ghost use Rattle.fuota_run.specs.Reply.{HoldsForm, HoldsAsked, IsPlayed, GivesScript, GivesCampaign, GivesDecode, Gives, Says, IsReadUp, Ends, AppendsAnswer, IsFinished};
+ghost use Rattle.fuota_run.specs.Reply.{HoldsForm, HoldsAsked, IsPlayed, GivesScript, GivesCampaign, GivesDecode, Gives, Says, IsReadUp, Ends, AppendsAnswer, IsNoForm, IsFinished};
 ghost use Rattle.fuota_run.specs.Replies.{answer_in, IsUnread, IsSaid};
 ghost use Rattle.fuota_run.specs.Texts.{seen_text};
 
@@ -61,7 +61,9 @@ pub fn run<F: Files, O: Sink>(alloc: Global, words: &[String], files: &mut F, ou
       old = O.written out.old;
       new = O.written out.new;
     }) result }
+    // Words that are no form are answered so, and no others.
     ensures usage { result ≡ Status.Usage → asked (map string_bytes words.now) ≡ None }
+    ensures no_form { asked (map string_bytes words.now) ≡ None → IsNoForm result }
     ensures finished { IsFinished result (O.finished out.new) }
     ensures whole { IsReadUp result (F.left files.new) }
 {

@@ -1,3 +1,4 @@
 pub mod Tables
 pub mod Messages
 pub mod Written
+pub mod Answers

@@ -1,6 +1,6 @@
 -- The commands of the four packages (TS003, TS004, TS005 and TS006, 1.0.0), each with its row of the standard's tables;
 -- what a payload of several says, and where reading it stops.
-use Rattle.std.specs.Prelude.{◌≡◌, ◌<◌, ◌≤◌, ◌⊎◌, ℕ, List, [], ◌∷◌, length}
+use Rattle.std.specs.Prelude.{◌≡◌, ◌<◌, ◌≤◌, ◌⊎◌, ℕ, List, [], ◌∷◌, length, Result, Ok, Err}
 use Rattle.wire_base.specs.declared.refusal.Direction.{Direction}
 use Rattle.wire_base.specs.declared.payload.TheConstants.{MAX_PAYLOAD}
 use Rattle.wire_base.specs.declared.refusal.Refusal.{Refusal}
@@ -108,3 +108,8 @@ IsStop port direction bytes refusal =
     ((¬ IsPort port) × (refusal.why ≡ Port) × (refusal.at ≡ 0))
     ⊎ ((IsPort port × (MAX_PAYLOAD < length bytes) × (refusal.why ≡ TooLong) × (refusal.at ≡ MAX_PAYLOAD))
     ⊎ (IsRead port bytes × StopsFrom port direction bytes 0 refusal))
+
+-- what reading a payload answers: its commands, or where and why it stops
+abbrev pub IsReading : ℕ → Direction → List ℕ → Result (List Command) Refusal → Type 0
+IsReading port direction bytes (Ok cs) = IsMessage cs port direction bytes
+IsReading port direction bytes (Err refusal) = IsStop port direction bytes refusal

@@ -18,7 +18,7 @@ mod writing;
 
 pub use checking::check;
 pub use command::{Command, Downlink, To, valid};
-pub use laws::written_is_message;
+pub use laws::{reading_has_one_answer, written_is_message};
 pub use reading::read_one;
 pub use showing::show;
 pub use writing::write_one;
