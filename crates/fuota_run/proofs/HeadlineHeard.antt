@@ -27,7 +27,7 @@ use Rattle.frag_encoder.specs.Encoding.{data_of, block_of, filled}
 use Rattle.frag_encoder.proofs.Pieces.{pieces_sized, sized_sum}
 use Rattle.frag_encoder.proofs.Blocks.{filled_whole}
 use Rattle.fuota_run.specs.Server.{ServerState, fragments_of, fragment_of, setup_of}
-use Rattle.fuota_run.specs.Device.{DeviceState, room, limits_of, after_command, after_data, after_heard, with_fragment, with_drop}
+use Rattle.fuota_run.specs.Device.{DeviceState, room, limits_of, after_command, after_data, with_fragment, with_drop}
 use Rattle.fuota_run.specs.World.{WorldState, Sending, first_world, numbered, takes_events, is_allowed, is_in_range, names_device, was_sent, has_come, circumstances_of, form_cause, form_cause_of, cause_of, sends, request_of, fragment_from, moved_on, reaches, form_made, form_made_of, one_line_more, after_line, judged, line_read, lines_read, ended, campaign_of}
 use Rattle.fuota_run.specs.Headline.{IsFragmentOf, Delivers, WasDelivered}
 use Rattle.fuota_run.proofs.WorldLemmas.{all_numbered, numbered-map}
@@ -55,7 +55,7 @@ Takes image size d = setup_bits (limits_of d.config) room (setup_req image size)
 
 abbrev DeviceHears : List ℕ → ℕ → List (List ℕ) → List Sending → ℕ → Option DeviceState → Type 0
 DeviceHears image size lines sent last None = (c : Command) → NotYet lines sent c last
-DeviceHears image size lines sent last (Some d) = SessionHears lines sent (Cast (setup_of image size)) (Takes image size d) last d.session
+DeviceHears image size lines sent last (Some d) = SessionHears lines sent (Cast (setup_of image size)) (Takes image size d) last d.sessions.first
 
 -- ---- one more line
 
@@ -89,7 +89,7 @@ quiet : (image : List ℕ) (size : ℕ) (lines : List (List ℕ)) (sent : List S
     → DeviceHears image size lines sent last d → DeviceHears image size lines sent (last + 1) d
 quiet image size lines sent last None none h = λ c. not_yet_more lines sent c last (none c) (h c)
 quiet image size lines sent last (Some d) none h =
-    session_more lines sent (Cast (setup_of image size)) (Takes image size d) last d.session (none (Cast (setup_of image size)))
+    session_more lines sent (Cast (setup_of image size)) (Takes image size d) last d.sessions.first (none (Cast (setup_of image size)))
     (λ f is w. none (Cast (DataFragment 0 f.number f.part)) (subst (λ (k : ℕ). Delivers lines sent k (Cast (DataFragment 0 f.number f.part))) is w)) h
 
 -- ---- what a line delivers
@@ -205,20 +205,20 @@ dropped_same : (s : Option Session) (n : ℕ) (part : List ℕ) (mark : ℕ) →
 unfolding after_fragment
 dropped_same s n part mark is = ap (λ (b : Bool). cond b (option_map (λ x. followed x n part mark) s) s) is
 
-data_by : (image : List ℕ) (size : ℕ) (lines : List (List ℕ)) (sent : List Sending) (last : ℕ) (d : DeviceState) (n : ℕ) (part : List ℕ) (b : Bool) → is_none (drop_cause d.session via.Unicast n part) ≡ b
-    → SessionHears lines sent (Cast (setup_of image size)) (Takes image size d) (last + 1) (after_fragment d.session via.Unicast n part (last + 1))
-    → DeviceHears image size lines sent (last + 1) (Some (cond b (with_fragment d (after_fragment d.session via.Unicast n part (last + 1))) (with_drop d)))
+data_by : (image : List ℕ) (size : ℕ) (lines : List (List ℕ)) (sent : List Sending) (last : ℕ) (d : DeviceState) (n : ℕ) (part : List ℕ) (b : Bool) → is_none (drop_cause d.sessions.first via.Unicast n part) ≡ b
+    → SessionHears lines sent (Cast (setup_of image size)) (Takes image size d) (last + 1) (after_fragment d.sessions.first via.Unicast n part (last + 1))
+    → DeviceHears image size lines sent (last + 1) (Some (cond b (with_fragment d 0 (after_fragment d.sessions.first via.Unicast n part (last + 1))) (with_drop d)))
 data_by image size lines sent last d n part true is now = now
 data_by image size lines sent last d n part false is now =
-    subst (λ (x : Option Session). SessionHears lines sent (Cast (setup_of image size)) (Takes image size d) (last + 1) x) (dropped_same d.session n part (last + 1) is) now
+    subst (λ (x : Option Session). SessionHears lines sent (Cast (setup_of image size)) (Takes image size d) (last + 1) x) (dropped_same d.sessions.first n part (last + 1) is) now
 
 data_hears : (image : List ℕ) (size : ℕ) (lines : List (List ℕ)) (sent : List Sending) (last : ℕ) (d : DeviceState) (n : ℕ) (part : List ℕ)
     → IsFragmentOf image size (record { number = n; part = part; mark = last + 1 }) → IsDeviceFor image size d → (Delivers lines sent (last + 1) (Cast (setup_of image size)) → ⊥)
     → ((f : Fragment) → f.mark ≡ last + 1 → WasDelivered lines sent f → f ≡ record { number = n; part = part; mark = last + 1 })
     → DeviceHears image size lines sent last (Some d) → DeviceHears image size lines sent (last + 1) (Some (after_data d 0 n part (last + 1)))
-unfolding after_data after_heard
+unfolding after_data
 data_hears image size lines sent last d n part f k no_setup one h =
-    data_by image size lines sent last d n part _ refl (fragment_hears image size lines sent last (Takes image size d) d.session n part f k no_setup one h)
+    data_by image size lines sent last d n part _ refl (fragment_hears image size lines sent last (Takes image size d) d.sessions.first n part f k.0 no_setup one h)
 
 -- ---- a down
 
@@ -229,13 +229,13 @@ unfolding after_command
 down_hears image size lines sent last d s line payload device word (inl is) k line_is form got h =
     let one = delivered_one lines sent (last + 1) line payload device word s line_is form got in
     subst (λ (x : Command). DeviceHears image size lines sent (last + 1) (Some (after_command d x (last + 1)))) (sym is)
-    (session_more lines sent (Cast (setup_of image size)) (Takes image size d) last d.session
+    (session_more lines sent (Cast (setup_of image size)) (Takes image size d) last d.sessions.first
     (λ w. let e : Cast (setup_of image size) ≡ Sync DevVersionReq = one (Cast (setup_of image size)) w ∙ is in absurd cc)
     (λ f at w. let e : Cast (DataFragment 0 f.number f.part) ≡ Sync DevVersionReq = one (Cast (DataFragment 0 f.number f.part)) (subst (λ (n : ℕ). Delivers lines sent n (Cast (DataFragment 0 f.number f.part))) at w) ∙ is in absurd cc) h)
 down_hears image size lines sent last d s line payload device word (inr (inl is)) k line_is form got h =
     let one = delivered_one lines sent (last + 1) line payload device word s line_is form got in
     subst (λ (x : Command). DeviceHears image size lines sent (last + 1) (Some (after_command d x (last + 1)))) (sym is)
-    (setup_hears image size lines sent last (limits_of d.config) d.session k
+    (setup_hears image size lines sent last (limits_of d.config) d.sessions.first k.0
     (λ f at w. let e : Cast (DataFragment 0 f.number f.part) ≡ Cast (setup_of image size) = one (Cast (DataFragment 0 f.number f.part)) (subst (λ (n : ℕ). Delivers lines sent n (Cast (DataFragment 0 f.number f.part))) at w) ∙ is in absurd cc) h)
 down_hears image size lines sent last d s line payload device word (inr (inr f)) k line_is form got h =
     let one = delivered_one lines sent (last + 1) line payload device word s line_is form got in
@@ -474,7 +474,7 @@ within xs n x is = by_place (n == 0) refl is
 
 -- so it is in each accepted campaign
 pub campaign_hears : (image script : List ℕ) (world : WorldState) (server : ServerState) (device : DeviceState) (session : Session) → campaign_of image script ≡ Ok world → world.server ≡ Some server
-    → world.device ≡ Some device → device.session ≡ Some session → (f : Fragment) (n : ℕ) → Delivers (lines_of script) world.sent n (Cast (setup_of image server.frag_size)) → n < f.mark
+    → world.device ≡ Some device → device.sessions.first ≡ Some session → (f : Fragment) (n : ℕ) → Delivers (lines_of script) world.sent n (Cast (setup_of image server.frag_size)) → n < f.mark
     → WasDelivered (lines_of script) world.sent f → In f session.heard
 campaign_hears image script world server device session is s d e f n setup later w =
     let lines : List (List ℕ) = lines_of script in

@@ -1,5 +1,5 @@
 -- The headline: what is seen of the session in each campaign, and what the report says of it.
-use Rattle.std.proofs.Common.{◌≡◌, ◌≢◌, ◌⊎◌, inl, inr, ℕ, ◌<◌, ◌^◌, true, List, ◌∷◌, ◌++◌, length, All, Option, Some, Ok, le-ltb, refl, sym, ap, ◌∙◌, subst, bytes_eq}
+use Rattle.std.proofs.Common.{◌≡◌, ◌≢◌, ◌⊎◌, inl, inr, ℕ, ◌<◌, ◌^◌, true, List, ◌∷◌, ◌++◌, length, All, Option, Some, Ok, le-ltb, refl, sym, ap, ◌∙◌, subst, append-nil, bytes_eq}
 use Rattle.std.specs.List.{AllByRecursion}
 use Rattle.std.proofs.lemmas.Slice.Eq.{bytes_eq-Decides}
 use Rattle.frag_model.specs.Fragments.{Heard as Fragment, Shape}
@@ -9,16 +9,17 @@ use Rattle.frag_session.specs.declared.answers.Verdict.TheVariants as verdict
 use Rattle.frag_session.specs.declared.setups.SetupReq.{SetupReq}
 use Rattle.frag_session.specs.Session.{Session, Seen, shape_of, seen_of, view_of}
 use Rattle.fuota_run.specs.Server.{ServerState, fragments_of, padding_of}
+use Rattle.fuota_run.specs.Sessions.{Sessions}
 use Rattle.fuota_run.specs.Device.{DeviceState}
 use Rattle.fuota_run.specs.World.{WorldState, campaign_of}
-use Rattle.fuota_run.specs.Report.{image_line, device_line, counts_line, verdict_text, session_text, session_line, report_text, report_lines, report_of_ends, report_of}
+use Rattle.fuota_run.specs.Report.{image_line, device_line, counts_line, verdict_text, session_text, session_line, session_lines, report_text, report_lines, report_of_ends, report_of}
 use Rattle.fuota_run.specs.declared.status.Status.TheVariants as status
 use Rattle.fuota_run.specs.Outside.{Held}
 use Rattle.fuota_run.specs.Words.{Asked}
 use Rattle.fuota_run.specs.Answer.{Answer, answer, script_answer, campaign_answer, IsAnswerTo, IsAnswer}
 use Rattle.fuota_run.specs.Headline.{IsWhole, FirstAt, WholeAt, IsDecidedAtFirst, IsFragmentOf, IsServed, HearsDelivered, IsRecovered, IsReported, IsCampaign, AreHandedIn, Headline}
 use Rattle.fuota_run.proofs.HeadlineMoments.{decided_at_first}
-use Rattle.fuota_run.proofs.HeadlineWorlds.{IsSetFor, campaign_session}
+use Rattle.fuota_run.proofs.HeadlineWorlds.{IsSetFor, HasNoMore, campaign_session, campaign_alone}
 use Rattle.fuota_run.proofs.HeadlineLines.{campaign_came}
 use Rattle.fuota_run.proofs.HeadlineHeard.{campaign_hears}
 use Rattle.fuota_run.specs.Script.{lines_of}
@@ -93,17 +94,22 @@ recovered image script world server device session c =
     let shape = shape_for image server.frag_size session c.bytes k.1 in
     recovered_by image session shape.0 (subst (λ (n : ℕ). AllByRecursion (IsFragmentOf image n) session.heard) (sym shape.1) k.1.heard)
 
--- the report over a session
-report_is : (world : WorldState) (server : ServerState) (device : DeviceState) (session : Session) → world.server ≡ Some server → world.device ≡ Some device → device.session ≡ Some session
-    → report_of world ≡ report_text (image_line server) (device_line server.stage device) (counts_line device.counts) (session_line server.image (Some (seen_of session)))
-unfolding report_of report_lines view_of
-report_is world server device session s d e =
+-- the report over a device that has no session but the first
+alone_lines : (sent : List ℕ) (all : Sessions) (session : Session) → all.first ≡ Some session → HasNoMore all → session_lines sent all ≡ session_line sent 0 (Some (seen_of session))
+unfolding view_of
+alone_lines sent all session is none = rw (is, none.second, none.third, none.fourth) (append-nil _)
+
+report_is : (world : WorldState) (server : ServerState) (device : DeviceState) (session : Session) → world.server ≡ Some server → world.device ≡ Some device → device.sessions.first ≡ Some session
+    → HasNoMore device.sessions
+    → report_of world ≡ report_text (image_line server) (device_line server.stage device) (counts_line device.counts) (session_line server.image 0 (Some (seen_of session)))
+unfolding report_of report_lines
+report_is world server device session s d e none =
     ap (λ (x : Option ServerState). report_of_ends x world.device) s
     ∙ ap (λ (x : Option DeviceState). report_of_ends (Some server) x) d
-    ∙ ap (λ (x : Option Session). report_text (image_line server) (device_line server.stage device) (counts_line device.counts) (session_line server.image (view_of x))) e
+    ∙ ap (report_text (image_line server) (device_line server.stage device) (counts_line device.counts)) (alone_lines server.image device.sessions session e none)
 
-line_is : (sent : List ℕ) (seen : Seen) (v : Verdict) → seen.verdict ≡ v → session_line sent (Some seen) ≡ session_text seen.received seen.missing (verdict_text v (bytes_eq seen.file sent))
-line_is sent seen v is = ap (λ (x : Verdict). session_text seen.received seen.missing (verdict_text x (bytes_eq seen.file sent))) is
+line_is : (sent : List ℕ) (seen : Seen) (v : Verdict) → seen.verdict ≡ v → session_line sent 0 (Some seen) ≡ session_text 0 seen.received seen.missing (verdict_text v (bytes_eq seen.file sent))
+line_is sent seen v is = ap (λ (x : Verdict). session_text 0 seen.received seen.missing (verdict_text x (bytes_eq seen.file sent))) is
 
 -- a session is complete, without rows or receiving, where there never is a conflict
 abbrev Cases : Verdict → Type 0
@@ -124,7 +130,7 @@ reported image script world server device session c =
     let k = set_for image script world server device session c in
     let r = recovered image script world server device session c in
     let seen : Seen = seen_of session in
-    let text = report_is world server device session c.server_is c.device_is c.session_is in
+    let text = report_is world server device session c.server_is c.device_is c.session_is (campaign_alone image script world device c.accepted c.device_is) in
     let whole : List ℕ → List ℕ = λ line. report_text (image_line server) (device_line server.stage device) (counts_line device.counts) line in
     record {
       cases = elim (seen_cases seen.verdict r.agrees) [
@@ -137,7 +143,7 @@ reported image script world server device session c =
       complete = λ line at.
           let is = (r.decided.complete line).1 (image, at) in
           let same : bytes_eq seen.file server.image ≡ true = (bytes_eq-Decides seen.file server.image).1 (r.shown line is ∙ sym k.0) in
-          text ∙ ap whole (line_is server.image seen (verdict.Complete line) is ∙ ap (λ b. session_text seen.received seen.missing (verdict_text (verdict.Complete line) b)) same);
+          text ∙ ap whole (line_is server.image seen (verdict.Complete line) is ∙ ap (λ b. session_text 0 seen.received seen.missing (verdict_text (verdict.Complete line) b)) same);
       no_rows = λ line at. text ∙ ap whole (line_is server.image seen (verdict.NoRows line) ((r.decided.no_rows line).1 at));
       receiving = λ stays. text ∙ ap whole (line_is server.image seen verdict.Receiving (r.decided.receiving.1 stays));
     }

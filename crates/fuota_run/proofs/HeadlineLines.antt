@@ -15,7 +15,7 @@ use Rattle.fuota_run.specs.declared.world.LineWhy.{LineWhy}
 use Rattle.fuota_run.specs.declared.world.LineFault.{LineFault}
 use Rattle.fuota_run.specs.Script.{form_of, lines_of}
 use Rattle.fuota_run.specs.Server.{fragment_of, setup_of}
-use Rattle.fuota_run.specs.Device.{DeviceState, room, limits_of, after_command, after_data, after_heard}
+use Rattle.fuota_run.specs.Device.{DeviceState, room, limits_of, after_command, after_data}
 use Rattle.fuota_run.specs.World.{WorldState, Sending, first_world, numbered, circumstances_of, form_cause_of, cause_of, sends, request_of, fragment_from, moved_on, reaches, form_made, form_made_of, after_line, judged, line_read, lines_read, ended, campaign_of}
 use Rattle.fuota_run.specs.Headline.{Delivers, WasDelivered, CameInOrder}
 use Rattle.fuota_run.proofs.WorldLemmas.{all_numbered}
@@ -82,11 +82,11 @@ SessionCame lines sent last s = CameInOrder lines sent (command_of s.setup) last
 
 -- what a device's session heard
 abbrev DeviceCame : List (List ℕ) → List Sending → ℕ → DeviceState → Type 0
-DeviceCame lines sent last d = IfSome d.session (SessionCame lines sent last)
+DeviceCame lines sent last d = IfSome d.sessions.first (SessionCame lines sent last)
 
 device_later : (lines : List (List ℕ)) (sent : List Sending) (n : ℕ) (d : DeviceState) → DeviceCame lines sent n d → DeviceCame lines sent (n + 1) d
 device_later lines sent n d h =
-    some_weaker (SessionCame lines sent n) (SessionCame lines sent (n + 1)) d.session (λ s c. later lines sent (command_of s.setup) n (n + 1) s.heard (omega arith) c) h
+    some_weaker (SessionCame lines sent n) (SessionCame lines sent (n + 1)) d.sessions.first (λ s c. later lines sent (command_of s.setup) n (n + 1) s.heard (omega arith) c) h
 
 all_later : (lines : List (List ℕ)) (sent : List Sending) (n : ℕ) (d : Option DeviceState) → IfSome d (DeviceCame lines sent n) → IfSome d (DeviceCame lines sent (n + 1))
 all_later lines sent n d h = some_weaker (DeviceCame lines sent n) (DeviceCame lines sent (n + 1)) d (device_later lines sent n) h
@@ -94,7 +94,7 @@ all_later lines sent n d h = some_weaker (DeviceCame lines sent n) (DeviceCame l
 all_more_sent : (lines : List (List ℕ)) (sent more : List Sending) (n : ℕ) (d : Option DeviceState) → IfSome d (DeviceCame lines sent n) → IfSome d (DeviceCame lines (sent ++ more) n)
 all_more_sent lines sent more n d h =
     some_weaker (DeviceCame lines sent n) (DeviceCame lines (sent ++ more) n) d
-    (λ x c. some_weaker (SessionCame lines sent n) (SessionCame lines (sent ++ more) n) x.session (λ s i. more_sent lines sent more (command_of s.setup) n s.heard i) c) h
+    (λ x c. some_weaker (SessionCame lines sent n) (SessionCame lines (sent ++ more) n) x.sessions.first (λ s i. more_sent lines sent more (command_of s.setup) n s.heard i) c) h
 
 -- ---- a command
 
@@ -146,9 +146,9 @@ device_by lines sent last heard dropped false h k = k
 
 data_came : (lines : List (List ℕ)) (sent : List Sending) (n : ℕ) (d : DeviceState) (number : ℕ) (part : List ℕ) → WasDelivered lines sent (record { number = number; part = part; mark = n + 1 })
     → DeviceCame lines sent n d → DeviceCame lines sent (n + 1) (after_data d 0 number part (n + 1))
-unfolding after_data after_heard
+unfolding after_data
 data_came lines sent n d number part f h =
-    device_by lines sent (n + 1) _ _ (is_none (drop_cause d.session via.Unicast number part)) (fragment_came lines sent n d.session number part f h) (device_later lines sent n d h)
+    device_by lines sent (n + 1) _ _ (is_none (drop_cause d.sessions.first via.Unicast number part)) (fragment_came lines sent n d.sessions.first number part f h) (device_later lines sent n d h)
 
 -- a payload that the server sent reaches the device by this line
 command_came : (image : List ℕ) (size : ℕ) (lines : List (List ℕ)) (sent : List Sending) (n : ℕ) (d : DeviceState) (s : Sending) (line : List ℕ) (payload device word : ℕ) → IsSentOf image size s.command
@@ -159,7 +159,7 @@ command_came image size lines sent n d s line payload device word (inl is) line_
 command_came image size lines sent n d s line payload device word (inr (inl is)) line_is form got h =
     let same : s ≡ record { to = s.to; command = Cast (setup_of image size) } = ap (λ (c : Command). let r : Sending = record { to = s.to; command = c } in r) is in
     subst (λ (x : Command). DeviceCame lines sent (n + 1) (after_command d x (n + 1))) (sym is)
-    (setup_came lines sent (n + 1) (limits_of d.config) room d.session (setup_req image size)
+    (setup_came lines sent (n + 1) (limits_of d.config) room d.sessions.first (setup_req image size)
     (line, payload, device, word, s.to, record { line_is = line_is; form = form; payload_is = got ∙ ap (λ (x : Sending). Some x) same }) (device_later lines sent n d h))
 command_came image size lines sent n d s line payload device word (inr (inr f)) line_is form got h =
     let same : s ≡ record { to = s.to; command = Cast (DataFragment 0 f.0 (fragment_of image size f.0)) } = ap (λ (c : Command). let r : Sending = record { to = s.to; command = c } in r) f.3 in
@@ -256,11 +256,11 @@ campaign_reads image script world is =
     (all_read image (lines_of script) (Ok (first_world image)) (lines_of script) (first_reads image (lines_of script))) is
 
 -- so it is in each accepted campaign
-pub campaign_came : (image script : List ℕ) (world : WorldState) (device : DeviceState) (session : Session) (size : ℕ) → campaign_of image script ≡ Ok world → world.device ≡ Some device → device.session ≡ Some session
+pub campaign_came : (image script : List ℕ) (world : WorldState) (device : DeviceState) (session : Session) (size : ℕ) → campaign_of image script ≡ Ok world → world.device ≡ Some device → device.sessions.first ≡ Some session
     → session.setup ≡ setup_req image size → CameInOrder (lines_of script) world.sent (Cast (setup_of image size)) world.lines session.heard
 campaign_came image script world device session size is d s setup =
     let r = campaign_reads image script world is in
     let came : SessionCame (lines_of script) world.sent world.lines session =
-    if_some (SessionCame (lines_of script) world.sent world.lines) device.session session s
+    if_some (SessionCame (lines_of script) world.sent world.lines) device.sessions.first session s
     (if_some (DeviceCame (lines_of script) world.sent world.lines) world.device device d r.came) in
     subst (λ (x : SetupReq). CameInOrder (lines_of script) world.sent (command_of x) world.lines session.heard) setup came

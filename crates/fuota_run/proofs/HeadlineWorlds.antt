@@ -24,7 +24,9 @@ use Rattle.fuota_run.specs.declared.world.LineFault.{LineFault}
 use Rattle.image_slots.specs.Image.{firmware_of}
 use Rattle.fuota_run.specs.Script.{form_of, lines_of}
 use Rattle.fuota_run.specs.Server.{ServerState, fragments_of, padding_of, fragment_of, setup_of, asked, is_spent, next_fragment}
-use Rattle.fuota_run.specs.Device.{DeviceState, room, limits_of, after_command, after_data, after_heard}
+use Rattle.fuota_run.specs.Commands.{Upward}
+use Rattle.fuota_run.specs.Sessions.{Sessions, with_session}
+use Rattle.fuota_run.specs.Device.{DeviceState, room, limits_of, after_command, after_data}
 use Rattle.fuota_run.specs.World.{WorldState, Sending, first_world, numbered, is_at, is_allowed, circumstances_of, form_cause, form_cause_of, cause_of, sends, request_of, fragment_from, moved_on, reaches, hears, at_events, form_made, form_made_of, after_line, judged, line_read, lines_read, ended, campaign_of}
 use Rattle.fuota_run.specs.Headline.{IsFragmentOf}
 use Rattle.fuota_run.proofs.CauseLemmas.{fine_image}
@@ -96,9 +98,19 @@ fragment_set image size s n part mark f k = heard_by image size s n part mark (i
 
 -- ---- a device
 
+-- there is no session but the first
+pub record HasNoMore (all : Sessions) : Type 0 where
+  pub second : all.second ≡ None
+  pub third : all.third ≡ None
+  pub fourth : all.fourth ≡ None
+
 -- its session, if it has one, is the server's
 abbrev pub IsDeviceFor : List ℕ → ℕ → DeviceState → Type 0
-IsDeviceFor image size d = IfSome d.session (IsSetFor image size)
+IsDeviceFor image size d = IfSome d.sessions.first (IsSetFor image size) × HasNoMore d.sessions
+
+-- so it is with another first session
+no_more : (all : Sessions) (s : Option Session) → HasNoMore all → HasNoMore (with_session all 0 s)
+no_more all s h = record { second = h.second; third = h.third; fourth = h.fourth }
 
 device_by : (image : List ℕ) (size : ℕ) (d heard dropped : DeviceState) (b : Bool) → IsDeviceFor image size heard → IsDeviceFor image size dropped → IsDeviceFor image size (cond b heard dropped)
 device_by image size d heard dropped true h k = h
@@ -106,9 +118,9 @@ device_by image size d heard dropped false h k = k
 
 heard_device : (image : List ℕ) (size : ℕ) (d : DeviceState) (n : ℕ) (part : List ℕ) (mark : ℕ) → IsFragmentOf image size (record { number = n; part = part; mark = mark })
     → IsDeviceFor image size d → IsDeviceFor image size (after_data d 0 n part mark)
-unfolding after_data after_heard
+unfolding after_data
 heard_device image size d n part mark f k =
-    device_by image size d _ _ (is_none (drop_cause d.session via.Unicast n part)) (fragment_set image size d.session n part mark f k) k
+    device_by image size d _ _ (is_none (drop_cause d.sessions.first via.Unicast n part)) (fragment_set image size d.sessions.first n part mark f k.0, no_more d.sessions (after_fragment d.sessions.first via.Unicast n part mark) k.1) k
 
 -- a command that the server of the image sends
 abbrev pub IsSentOf : List ℕ → ℕ → Command → Type 0
@@ -121,7 +133,8 @@ command_device : (image : List ℕ) (size : ℕ) (d : DeviceState) (c : Command)
 unfolding after_command
 command_device image size d c mark (inl is) k = subst (λ (x : Command). IsDeviceFor image size (after_command d x mark)) (sym is) k
 command_device image size d c mark (inr (inl is)) k =
-    subst (λ (x : Command). IsDeviceFor image size (after_command d x mark)) (sym is) (setup_set image size (limits_of d.config) room d.session k)
+    subst (λ (x : Command). IsDeviceFor image size (after_command d x mark)) (sym is)
+    (setup_set image size (limits_of d.config) room d.sessions.first k.0, no_more d.sessions (after_setup (limits_of d.config) room d.sessions.first (setup_req image size)) k.1)
 command_device image size d c mark (inr (inr f)) k =
     subst (λ (x : Command). IsDeviceFor image size (after_command d x mark)) (sym f.3)
     (heard_device image size d f.0 (fragment_of image size f.0) mark (record { first = f.1; last = f.2; part = refl }) k)
@@ -172,7 +185,7 @@ pub moved_server : (image : List ℕ) (s : Option ServerState) → IfSome s (IsS
 moved_server image None k = (tt, refl)
 moved_server image (Some s) k = moved_by image s (is_spent s) k
 
-pub hears_server : (image : List ℕ) (s : Option ServerState) (c : Option Command) → IfSome s (IsServerOf image) → IfSome (hears s c) (IsServerOf image) × (size_of (hears s c) ≡ size_of s)
+pub hears_server : (image : List ℕ) (s : Option ServerState) (c : Option Upward) → IfSome s (IsServerOf image) → IfSome (hears s c) (IsServerOf image) × (size_of (hears s c) ≡ size_of s)
 hears_server image None c k = (tt, refl)
 hears_server image (Some s) None k = (k, refl)
 hears_server image (Some s) (Some c) k = (record { image_is = k.image_is; next = k.next; few = k.few }, refl)
@@ -287,7 +300,7 @@ form_keeps image w (Device id hw rows offset key descriptor) k fine = record {
   early = λ e. absurd (at_devices w.place (allowed w (Device id hw rows offset key descriptor) fine).1 e);
   server = k.server;
   sent = k.sent;
-  device = tt;
+  device = (tt, record { second = refl; third = refl; fourth = refl });
 }
 form_keeps image w (Time time) k fine = record { image_is = k.image_is; early = λ e. absurd e; server = k.server; sent = k.sent; device = k.device }
 form_keeps image w (Ask device) k fine = sends_keeps image w (Some device) (request_of w.server) k (request_sent image w.server k.server)
@@ -347,11 +360,17 @@ if_some P (Some y) x is h = let same : y ≡ x = cc in subst P same h
 
 -- so its server and session are the image's
 pub campaign_session : (image script : List ℕ) (world : WorldState) (server : ServerState) (device : DeviceState) (session : Session) → campaign_of image script ≡ Ok world
-    → world.server ≡ Some server → world.device ≡ Some device → device.session ≡ Some session → (server.image ≡ image) × IsSetFor image server.frag_size session
+    → world.server ≡ Some server → world.device ≡ Some device → device.sessions.first ≡ Some session → (server.image ≡ image) × IsSetFor image server.frag_size session
 campaign_session image script world server device session is s d e =
     let k = campaign_keeps image script world is in
     let size : size_of world.server ≡ server.frag_size = ap size_of s in
     let its = if_some (IsDeviceFor image (size_of world.server)) world.device device d k.device in (
       (if_some (IsServerOf image) world.server server s k.server).image_is,
-      subst (λ (n : ℕ). IsSetFor image n session) size (if_some (IsSetFor image (size_of world.server)) device.session session e its),
+      subst (λ (n : ℕ). IsSetFor image n session) size (if_some (IsSetFor image (size_of world.server)) device.sessions.first session e its.0),
     )
+
+-- and the device has no other
+pub campaign_alone : (image script : List ℕ) (world : WorldState) (device : DeviceState) → campaign_of image script ≡ Ok world → world.device ≡ Some device → HasNoMore device.sessions
+campaign_alone image script world device is d =
+    let k = campaign_keeps image script world is in
+    let its = if_some (IsDeviceFor image (size_of world.server)) world.device device d k.device in its.1

@@ -18,46 +18,6 @@ pub nothing_read : (port : ℕ) (dir : Direction) (bytes : List ℕ) (at : ℕ) 
     → ((d : Command) (end : ℕ) → Spells d port dir bytes at end → r ≡ Ok (d, end)) → r ≡ Err e → SpellsTo cs port dir bytes at (length bytes) → ⊥
 nothing_read port dir bytes at r e cs inside only is all = none_read port dir bytes at cs inside (none_spelled port dir bytes at r e only is) all
 
--- a command has no more answers than it weighs
-pub answers_fit : (config : DeviceConfig) (c : Command) → length (answer_to config c) ≤ weight c
-unfolding answer_to
-answers_fit config (Cast PackageVersionReq) = lit≤ tt
-answers_fit config (Cast (PackageVersionAns identifier version)) = lit≤ tt
-answers_fit config (Cast (FragSessionStatusReq index all)) = lit≤ tt
-answers_fit config (Cast (FragSessionStatusAns index received missing norows)) = lit≤ tt
-answers_fit config (Cast (FragSessionSetupReq index mask nb_frag frag_size algo delay padding descriptor)) = lit≤ tt
-answers_fit config (Cast (FragSessionSetupAns index descriptor unsupported memory encoding)) = lit≤ tt
-answers_fit config (Cast (FragSessionDeleteReq index)) = lit≤ tt
-answers_fit config (Cast (FragSessionDeleteAns index missing)) = lit≤ tt
-answers_fit config (Cast (DataFragment index n part)) = lit≤ tt
-answers_fit config (Cast (McGroupStatusReq mask)) = lit≤ tt
-answers_fit config (Cast (McGroupStatusAns total mask groups)) = lit≤ tt
-answers_fit config (Cast (McGroupSetupReq id addr key min max)) = lit≤ tt
-answers_fit config (Cast (McGroupSetupAns id error)) = lit≤ tt
-answers_fit config (Cast (McGroupDeleteReq id)) = lit≤ tt
-answers_fit config (Cast (McGroupDeleteAns id undefined)) = lit≤ tt
-answers_fit config (Cast (McClassCSessionReq id time timeout freq dr)) = lit≤ tt
-answers_fit config (Cast (McClassCSessionAns id undefined freq_error dr_error start)) = lit≤ tt
-answers_fit config (Cast (McClassBSessionReq id time periodicity timeout freq dr)) = lit≤ tt
-answers_fit config (Cast (McClassBSessionAns id undefined freq_error dr_error start)) = lit≤ tt
-answers_fit config (Sync s.PackageVersionReq) = lit≤ tt
-answers_fit config (Sync (s.PackageVersionAns identifier version)) = lit≤ tt
-answers_fit config (Sync (s.AppTimeReq time required token)) = lit≤ tt
-answers_fit config (Sync (s.AppTimeAns correction token)) = lit≤ tt
-answers_fit config (Sync (s.DeviceAppTimePeriodicityReq period)) = lit≤ tt
-answers_fit config (Sync (s.DeviceAppTimePeriodicityAns unsupported time)) = lit≤ tt
-answers_fit config (Sync (s.ForceDeviceResyncReq count)) = lit≤ tt
-answers_fit config (Sync s.DevVersionReq) = lit≤ tt
-answers_fit config (Sync (s.DevVersionAns firmware hardware)) = lit≤ tt
-answers_fit config (Sync (s.DevRebootTimeReq time)) = lit≤ tt
-answers_fit config (Sync (s.DevRebootTimeAns time)) = lit≤ tt
-answers_fit config (Sync (s.DevRebootCountdownReq count)) = lit≤ tt
-answers_fit config (Sync (s.DevRebootCountdownAns count)) = lit≤ tt
-answers_fit config (Sync s.DevUpgradeImageReq) = lit≤ tt
-answers_fit config (Sync (s.DevUpgradeImageAns status next)) = lit≤ tt
-answers_fit config (Sync (s.DevDeleteImageReq version)) = lit≤ tt
-answers_fit config (Sync (s.DevDeleteImageAns errors)) = lit≤ tt
-
 -- answers are numbered one behind another
 pub answers_on : {A B : Type 0} (f : A → B) (old : List B) (one more : List A) → (old ++ map f one) ++ map f more ≡ old ++ map f (one ++ more)
 answers_on f old one more = append_assoc old (map f one) (map f more) ∙ ap (λ w. old ++ w) (sym (map-append f one more))

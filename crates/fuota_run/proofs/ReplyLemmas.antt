@@ -1,6 +1,7 @@
 -- What a source that was read, or was not, makes the program say.
-use Rattle.std.proofs.Common.{◌≡◌, ◌≢◌, ◌⊎◌, inl, inr, ℕ, ◌+◌, ◌<◌, ◌≤◌, true, false, nat_lt, List, length, Option, None, Some, IsSome, IfSome, Result, Ok, Err, IfOk, refl, sym, ap, subst, ◌∙◌, arith}
+use Rattle.std.proofs.Common.{◌≡◌, ◌≢◌, ◌⊎◌, inl, inr, ℕ, ◌+◌, ◌<◌, ◌≤◌, true, false, nat_lt, List, [], length, replicate, Option, None, Some, IsSome, IfSome, Result, Ok, Err, IfOk, refl, sym, ap, subst, ◌∙◌, arith}
 use Rattle.std.proofs.lemmas.Bool.{lt-ltb, le-ltb}
+use Rattle.std.proofs.lemmas.List.{length-replicate}
 use Rattle.std.specs.Io.KnownBytes.{IsAtEnd, Appends}
 use Rattle.fuota_run.specs.declared.source.SourceError.{SourceError}
 use Rattle.fuota_run.specs.declared.source.SourceError.TheVariants as error
@@ -38,7 +39,9 @@ risen_before before between now kept risen = omega arith
 -- a source that is too long gives the answer that says so
 too_long_given : (held : Option Held) (name : List ℕ) (IsFor : Held → Option (List ℕ) → Answer → Type 0) (limit : ℕ) → ((h : Held) (bytes : List ℕ) → limit < length bytes → IsFor h (Some bytes) (too_long limit))
     → HoldsName held name → IsTooLong held name limit → GivesBy held name IsFor (too_long limit)
-too_long_given None name IsFor limit says holds long = refl
+too_long_given None name IsFor limit says holds long =
+    let more : limit < length (replicate {A = ℕ} (limit + 1) 0) = omega (arith, length-replicate {A = ℕ} (limit + 1) 0) in
+    ((λ _. []), replicate (limit + 1) 0, says (λ _. Some []) (replicate (limit + 1) 0) more)
 too_long_given (Some h) name IsFor limit says holds long = by_file (h name) refl holds long
   where
     by_file : (file : Option (List ℕ)) → h name ≡ file → IsSome file → IfSome file (λ bytes. limit < length bytes) → IsFor h (h name) (too_long limit)
@@ -71,7 +74,7 @@ says_unread held name IsFor limit before now left (error.TooLong n) a says holds
 -- what is said where a source was read to its end
 pub says_source : (held : Option Held) (name : List ℕ) (IsFor : Held → Option (List ℕ) → Answer → Type 0) (limit before now : ℕ) (left : Option (List ℕ)) (bytes : List ℕ) (a : Answer)
     → IsSource held name limit bytes → ((h : Held) → IsFor h (Some bytes) a) → IsTextOf a.status a.text → a.status ≢ status.ReadFault → IsAtEnd left → Says (GivesBy held name IsFor a) before now left a
-says_source None name IsFor limit before now left bytes a source is text fine ends = record { reply = inl text; told = text; caused = λ fault. absurd (fine fault); read_up = λ _. ends }
+says_source None name IsFor limit before now left bytes a source is text fine ends = record { reply = inl ((λ _. []), bytes, is (λ _. Some [])); told = text; caused = λ fault. absurd (fine fault); read_up = λ _. ends }
 says_source (Some h) name IsFor limit before now left bytes a source is text fine ends =
     record { reply = inl (subst (λ (f : Option (List ℕ)). IsFor h f a) (sym source) (is h)); told = text; caused = λ fault. absurd (fine fault); read_up = λ _. ends }
 
@@ -118,7 +121,7 @@ says_behind held middle image_name script_name before between now left image a s
     }
   where
     replies : (h : Option Held) → IsSource h image_name 65536 image → IsReply (GivesScript h image script_name a) between now a → IsReply (GivesCampaign h image_name script_name a) before now a
-    replies None source (inl text) = inl text
+    replies None source (inl given) = inl ((λ _. given.1), image, given.2 ∙ image_given image (Some given.1) within good)
     replies (Some h) source (inl is) = inl (is ∙ image_given image (h script_name) within good ∙ ap (λ (i : Option (List ℕ)). campaign_answer i (h script_name)) (sym source))
     replies h source (inr fault) = inr (fault.0, risen_before before between now kept fault.1)
 
@@ -130,18 +133,28 @@ says_usage held before left a is =
     record { reply = inl (given held); told = text; caused = λ fault. absurd cc; read_up = λ ends. absurd (let t = ap ends_source s in cc) }
   where
     given : (h : Option Held) → Gives h None a
-    given None = subst (λ (x : Answer). IsTextOf x.status x.text) (sym is) refl
+    given None = is
     given (Some h) = is
 
 -- what is said of a form's files is said of the form
 pub says_campaign : (held : Option Held) (image script : List ℕ) (before now : ℕ) (left : Option (List ℕ)) (a : Answer)
     → Says (GivesCampaign held image script a) before now left a → Says (Gives held (Some (campaign image script)) a) before now left a
-says_campaign None image script before now left a says = record { reply = says.reply; told = says.told; caused = says.caused; read_up = says.read_up }
+says_campaign None image script before now left a says = record {
+  reply = elim says.reply [ inl given ↦ inl (given.1, given.0 script, given.2) | inr fault ↦ inr fault ];
+  told = says.told;
+  caused = says.caused;
+  read_up = says.read_up;
+}
 says_campaign (Some h) image script before now left a says = record { reply = says.reply; told = says.told; caused = says.caused; read_up = says.read_up }
 
 pub says_decode : (held : Option Held) (port : ℕ) (dir : Direction) (file : List ℕ) (before now : ℕ) (left : Option (List ℕ)) (a : Answer)
     → Says (GivesDecode held port dir file a) before now left a → Says (Gives held (Some (decode port dir file)) a) before now left a
-says_decode None port dir file before now left a says = record { reply = says.reply; told = says.told; caused = says.caused; read_up = says.read_up }
+says_decode None port dir file before now left a says = record {
+  reply = elim says.reply [ inl given ↦ inl (given.1, given.2) | inr fault ↦ inr fault ];
+  told = says.told;
+  caused = says.caused;
+  read_up = says.read_up;
+}
 says_decode (Some h) port dir file before now left a says = record { reply = says.reply; told = says.told; caused = says.caused; read_up = says.read_up }
 
 -- an answer that a whole file made
@@ -190,7 +203,7 @@ file_given port dir file a within said = let t : nat_lt 1048576 (length file) �
 -- what is written of a reply
 appends_answer : (held : Option Held) (words : List (List ℕ)) (s : Status) (text : List ℕ) (old new : Option (List ℕ)) → Gives held (asked words) (answer s text) → IsTextOf s text → Appends old new text → AppendsAnswer held words s old new
 unfolding IsAnswer
-appends_answer None words s text old new gives told appends = (text, told, appends)
+appends_answer None words s text old new gives told appends = (text, gives, appends)
 appends_answer (Some h) words s text old new gives told appends = (answer s text, gives, refl, appends)
 
 ends_by : (held : Option Held) (words : List (List ℕ)) (e : Effects) (s : Status) (text : List ℕ) → Gives held (asked words) (answer s text) → IsTextOf s text
@@ -228,7 +241,11 @@ exact_of X Y (Some h) words before now left a old new says appends = λ quiet so
 pub front_of : (held : Option Held) (words : List (List ℕ)) (before now : ℕ) (left : Option (List ℕ)) (a : Answer) (old new : Option (List ℕ)) → Says (Gives held (asked words) a) before now left a → AppendsFront old new a.text
     → AppendsAnswerFront held words old new ⊎ (HasRisen before now × AppendsFront old new read_fault.text)
 unfolding IsAnswer
-front_of None words before now left a old new says front = inl (a.status, a.text, says.told, front)
+front_of None words before now left a old new says front =
+    elim says.reply [
+      | inl gives ↦ inl (a, gives, front)
+      | inr fault ↦ inr (fault.1, subst (λ (x : Answer). AppendsFront old new x.text) fault.0 front)
+    ]
 front_of (Some h) words before now left a old new says front =
     elim says.reply [
       | inl gives ↦ inl (a, gives, front)

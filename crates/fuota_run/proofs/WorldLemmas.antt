@@ -1,5 +1,5 @@
 -- Worlds that stand for campaigns, step by step.
-use Rattle.std.proofs.Common.{◌≡◌, ◌⊎◌, inl, inr, ℕ, ◌+◌, ◌-◌, ◌≤◌, lit≤, append-nil, Bool, true, false, cond, ◌==◌, List, [], ◌∷◌, ◌++◌, map, Option, None, Some, is_some, IfSome, Result, Ok, Err, OnOk, IfErr, slice_get, zero, suc, refl, sym, ap, subst, ◌∙◌}
+use Rattle.std.proofs.Common.{◌≡◌, ◌⊎◌, inl, inr, ℕ, ◌+◌, ◌-◌, ◌≤◌, lit≤, append-nil, Bool, true, false, cond, ◌==◌, List, [], ◌∷◌, ◌++◌, map, Option, None, Some, is_some, IfSome, Result, Ok, Err, OnOk, IfErr, slice_get, zero, suc, refl, sym, ap, subst, ◌∙◌, arith}
 use Rattle.std.specs.List.{AllByRecursion}
 use Rattle.std.proofs.lemmas.List.{map-append, length-map}
 use Rattle.fuota_run.proofs.Messages.{all_more}
@@ -7,13 +7,15 @@ use Rattle.fuota_run.specs.declared.device.Uplink.{Uplink}
 use Rattle.cast_wire.specs.declared.cmd.Cmd.TheVariants.{PackageVersionReq, PackageVersionAns, FragSessionStatusReq, FragSessionStatusAns, FragSessionSetupReq, FragSessionSetupAns, FragSessionDeleteReq, FragSessionDeleteAns, DataFragment, McGroupStatusReq, McGroupStatusAns, McGroupSetupReq, McGroupSetupAns, McGroupDeleteReq, McGroupDeleteAns, McClassCSessionReq, McClassCSessionAns, McClassBSessionReq, McClassBSessionAns}
 use Rattle.package_grammar.specs.declared.command.Command.{Command}
 use Rattle.package_grammar.specs.declared.command.Command.TheVariants.{Sync, Cast}
+use Rattle.sync_wire.specs.declared.cmd.Cmd.TheVariants as s
+use Rattle.package_grammar.specs.Grammar.{IsValid}
 use Rattle.fuota_run.specs.declared.lines.Form.{Form}
 use Rattle.fuota_run.specs.declared.world.WorldError.{WorldError}
 use Rattle.fuota_run.specs.declared.world.WorldError.TheVariants as error
 use Rattle.fuota_run.specs.Script.{form_of}
 use Rattle.fuota_run.specs.declared.world.Place.TheVariants as place
 use Rattle.fuota_run.specs.declared.world.Sent.{Sent}
-use Rattle.fuota_run.specs.Commands.{IsDownlink, IsUplink}
+use Rattle.fuota_run.specs.Commands.{Upward, port_of, IsDownlink, IsUplink}
 use Rattle.fuota_run.specs.Device.{DeviceState, weight, after_command, answer_to}
 use Rattle.fuota_run.specs.HeldDevice.{HeldDevice, StandsAs, uplink_of}
 use Rattle.fuota_run.specs.HeldDevices.{DeviceStands}
@@ -118,10 +120,10 @@ device_there (Some k) (Some d) h stands is =
     (d, refl, subst (λ (x : HeldDevice). StandsAs x d) same stands.0, subst (λ (x : HeldDevice). x.outbox ≡ []) same stands.1)
 
 -- an answer reaches the server
-pub hears_stands : (h : HeldWorld) (w : WorldState) (number : ℕ) (server after : ServerState) (c : Command) → StandsFor h w → h.server ≡ Some server → numbered w.uplinks number ≡ Some c
-    → after ≡ record server { stage = answered server.image server.stage c }
+pub hears_stands : (h : HeldWorld) (w : WorldState) (number : ℕ) (server after : ServerState) (u : Upward) → StandsFor h w → h.server ≡ Some server → numbered w.uplinks number ≡ Some u
+    → after ≡ record server { stage = answered server.image server.stage u.command }
     → StandsFor (record h { place = place.Events; server = Some after }) (at_events (record w { server = hears w.server (numbered w.uplinks number) }))
-hears_stands h w number server after c stands is heard now =
+hears_stands h w number server after u stands is heard now =
     rw (heard, stands.server, is) (record {
       image = stands.image;
       lines = stands.lines;
@@ -137,8 +139,8 @@ hears_stands h w number server after c stands is heard now =
 
 -- a payload reaches the device
 pub reaches_stands : (h : HeldWorld) (w : WorldState) (payload : ℕ) (held : HeldDevice) (d : DeviceState) (s : Sending) (ups : List Uplink) → StandsFor h w → w.device ≡ Some d
-    → numbered w.sent payload ≡ Some s → StandsAs held (after_command d s.command (w.lines + 1)) → held.outbox ≡ [] → ups ≡ h.uplinks ++ map uplink_of (answer_to d.config s.command)
-    → AllByRecursion IsUplink (answer_to d.config s.command)
+    → numbered w.sent payload ≡ Some s → StandsAs held (after_command d s.command (w.lines + 1)) → held.outbox ≡ [] → ups ≡ h.uplinks ++ map uplink_of (answer_to d (port_of s.command) s.command)
+    → AllByRecursion IsUplink (answer_to d (port_of s.command) s.command)
     → StandsFor (record h { place = place.Events; device = Some held; uplinks = ups }) (at_events (reaches w w.device (numbered w.sent payload)))
 reaches_stands h w payload held d s ups stands device sent held_as empty more fine =
     rw (device, sent) (record {
@@ -149,9 +151,9 @@ reaches_stands h w payload held d s ups stands device sent held_as empty more fi
       server = stands.server;
       device = (held_as, empty);
       sent = stands.sent;
-      uplinks = more ∙ ap (λ (us : List Uplink). us ++ map uplink_of (answer_to d.config s.command)) stands.uplinks ∙ sym (map-append uplink_of w.uplinks (answer_to d.config s.command));
+      uplinks = more ∙ ap (λ (us : List Uplink). us ++ map uplink_of (answer_to d (port_of s.command) s.command)) stands.uplinks ∙ sym (map-append uplink_of w.uplinks (answer_to d (port_of s.command) s.command));
       downs = stands.downs;
-      ups = all_more IsUplink w.uplinks (answer_to d.config s.command) stands.ups fine;
+      ups = all_more IsUplink w.uplinks (answer_to d (port_of s.command) s.command) stands.ups fine;
     })
 
 -- a payload that was not sent, or a campaign without a device, changes nothing but the place
@@ -183,31 +185,47 @@ record_with_device h device w is stands = record {
   ups = stands.ups;
 }
 
--- a command makes one uplink at most
-pub weight_one : (c : Command) → weight c ≤ 1
-weight_one (Cast PackageVersionReq) = lit≤ tt
-weight_one (Cast (PackageVersionAns identifier version)) = lit≤ tt
-weight_one (Cast (FragSessionStatusReq index all)) = lit≤ tt
-weight_one (Cast (FragSessionStatusAns index received missing norows)) = lit≤ tt
-weight_one (Cast (FragSessionSetupReq index mask nb_frag frag_size algo delay padding descriptor)) = lit≤ tt
-weight_one (Cast (FragSessionSetupAns index descriptor unsupported memory encoding)) = lit≤ tt
-weight_one (Cast (FragSessionDeleteReq index)) = lit≤ tt
-weight_one (Cast (FragSessionDeleteAns index missing)) = lit≤ tt
-weight_one (Cast (DataFragment index n part)) = lit≤ tt
-weight_one (Cast (McGroupStatusReq mask)) = lit≤ tt
-weight_one (Cast (McGroupStatusAns total mask groups)) = lit≤ tt
-weight_one (Cast (McGroupSetupReq id addr key min max)) = lit≤ tt
-weight_one (Cast (McGroupSetupAns id error)) = lit≤ tt
-weight_one (Cast (McGroupDeleteReq id)) = lit≤ tt
-weight_one (Cast (McGroupDeleteAns id undefined)) = lit≤ tt
-weight_one (Cast (McClassCSessionReq id time timeout freq dr)) = lit≤ tt
-weight_one (Cast (McClassCSessionAns id undefined freq_error dr_error start)) = lit≤ tt
-weight_one (Cast (McClassBSessionReq id time periodicity timeout freq dr)) = lit≤ tt
-weight_one (Cast (McClassBSessionAns id undefined freq_error dr_error start)) = lit≤ tt
-weight_one (Sync cmd) = lit≤ tt
+-- a valid command makes eight uplinks at most
+pub weight_fits : (c : Command) → IsValid c → weight c ≤ 8
+weight_fits (Cast PackageVersionReq) fine = lit≤ tt
+weight_fits (Cast (PackageVersionAns identifier version)) fine = lit≤ tt
+weight_fits (Cast (FragSessionStatusReq index all)) fine = lit≤ tt
+weight_fits (Cast (FragSessionStatusAns index received missing norows)) fine = lit≤ tt
+weight_fits (Cast (FragSessionSetupReq index mask nb_frag frag_size algo delay padding descriptor)) fine = lit≤ tt
+weight_fits (Cast (FragSessionSetupAns index descriptor unsupported memory encoding)) fine = lit≤ tt
+weight_fits (Cast (FragSessionDeleteReq index)) fine = lit≤ tt
+weight_fits (Cast (FragSessionDeleteAns index missing)) fine = lit≤ tt
+weight_fits (Cast (DataFragment index n part)) fine = lit≤ tt
+weight_fits (Cast (McGroupStatusReq mask)) fine = lit≤ tt
+weight_fits (Cast (McGroupStatusAns total mask groups)) fine = lit≤ tt
+weight_fits (Cast (McGroupSetupReq id addr key min max)) fine = lit≤ tt
+weight_fits (Cast (McGroupSetupAns id error)) fine = lit≤ tt
+weight_fits (Cast (McGroupDeleteReq id)) fine = lit≤ tt
+weight_fits (Cast (McGroupDeleteAns id undefined)) fine = lit≤ tt
+weight_fits (Cast (McClassCSessionReq id time timeout freq dr)) fine = lit≤ tt
+weight_fits (Cast (McClassCSessionAns id undefined freq_error dr_error start)) fine = lit≤ tt
+weight_fits (Cast (McClassBSessionReq id time periodicity timeout freq dr)) fine = lit≤ tt
+weight_fits (Cast (McClassBSessionAns id undefined freq_error dr_error start)) fine = lit≤ tt
+weight_fits (Sync s.PackageVersionReq) fine = lit≤ tt
+weight_fits (Sync (s.PackageVersionAns identifier version)) fine = lit≤ tt
+weight_fits (Sync (s.AppTimeReq time required token)) fine = lit≤ tt
+weight_fits (Sync (s.AppTimeAns correction token)) fine = lit≤ tt
+weight_fits (Sync (s.DeviceAppTimePeriodicityReq period)) fine = lit≤ tt
+weight_fits (Sync (s.DeviceAppTimePeriodicityAns unsupported time)) fine = lit≤ tt
+weight_fits (Sync (s.ForceDeviceResyncReq count)) fine = omega (arith, fine.fields.0)
+weight_fits (Sync s.DevVersionReq) fine = lit≤ tt
+weight_fits (Sync (s.DevVersionAns firmware hardware)) fine = lit≤ tt
+weight_fits (Sync (s.DevRebootTimeReq time)) fine = lit≤ tt
+weight_fits (Sync (s.DevRebootTimeAns time)) fine = lit≤ tt
+weight_fits (Sync (s.DevRebootCountdownReq count)) fine = lit≤ tt
+weight_fits (Sync (s.DevRebootCountdownAns count)) fine = lit≤ tt
+weight_fits (Sync s.DevUpgradeImageReq) fine = lit≤ tt
+weight_fits (Sync (s.DevUpgradeImageAns status next)) fine = lit≤ tt
+weight_fits (Sync (s.DevDeleteImageReq version)) fine = lit≤ tt
+weight_fits (Sync (s.DevDeleteImageAns errors)) fine = lit≤ tt
 
 -- the answers of a device that held no uplink
-pub only_answers : (old : List Uplink) (cs : List Command) → old ≡ [] → old ++ map uplink_of (cs ++ []) ≡ map uplink_of cs
+pub only_answers : (old : List Uplink) (cs : List Upward) → old ≡ [] → old ++ map uplink_of (cs ++ []) ≡ map uplink_of cs
 only_answers old cs empty = rw (empty, append-nil cs) refl
 
 -- what is kept of a fault says nothing of the campaign

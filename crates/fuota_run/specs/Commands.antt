@@ -1,5 +1,6 @@
--- The commands that a campaign sends, and on which port. (TS004-1.0.0 on port 201, TS006-1.0.0 on port 203.)
-use Rattle.std.specs.Prelude.{ℕ}
+-- The commands that a campaign sends, and on which port. (TS004-1.0.0 on port 201, TS006-1.0.0 on port 203; identifiers of
+-- packages by all four standards.)
+use Rattle.std.specs.Prelude.{ℕ, ◌==◌, if◌then◌else◌}
 use Rattle.wire_base.specs.declared.refusal.Direction.TheVariants.{Down, Up}
 use Rattle.wire_base.specs.Rows.{IsListed}
 use Rattle.package_grammar.specs.declared.command.Command.{Command}
@@ -11,11 +12,27 @@ abbrev pub port_of : Command → ℕ
 port_of (Sync cmd) = 203
 port_of (Cast cmd) = 201
 
--- a valid command that the server sends, and one that a device sends
+-- a valid command that the server sends
 pub record IsDownlink (c : Command) : Type 0 where
   pub valid : IsValid c
   pub listed : IsListed (row c) (port_of c) Down
 
-pub record IsUplink (c : Command) : Type 0 where
-  pub valid : IsValid c
-  pub listed : IsListed (row c) (port_of c) Up
+-- an answer on its way to the server, on the port of what it answers
+pub record Upward : Type 0 where
+  pub port : ℕ
+  pub command : Command
+
+abbrev pub upward : ℕ → Command → Upward
+upward port command = record { port = port; command = command }
+
+pub record IsUplink (u : Upward) : Type 0 where
+  pub valid : IsValid u.command
+  pub listed : IsListed (row u.command) u.port Up
+
+-- the identifier of the package of a port
+abbrev pub identifier_of : ℕ → ℕ
+identifier_of port =
+    if port == 200 then 2
+    else if port == 201 then 3
+    else if port == 202 then 1
+    else 4

@@ -153,7 +153,7 @@ pub record IsRecovered (image : List ℕ) (s : Session) : Type 0 where
 -- the report in which this is said of the session's verdict
 abbrev pub report_saying : ServerState → DeviceState → Seen → List ℕ → List ℕ
 report_saying server device seen words =
-    report_text (image_line server) (device_line server.stage device) (counts_line device.counts) (session_text seen.received seen.missing words)
+    report_text (image_line server) (device_line server.stage device) (counts_line device.counts) (session_text 0 seen.received seen.missing words)
 
 -- what is said of a session that is complete from a line on, with the server's image as its file
 abbrev pub complete_words : ℕ → List ℕ
@@ -191,7 +191,7 @@ pub record IsCampaign (image script : List ℕ) (world : WorldState) (server : S
   pub accepted : campaign_of image script ≡ Ok world
   pub server_is : world.server ≡ Some server
   pub device_is : world.device ≡ Some device
-  pub session_is : device.session ≡ Some session
+  pub session_is : device.sessions.first ≡ Some session
 
 -- the words and the files of a campaign: both files are within their limits, and the image is an image file
 pub record AreHandedIn (words : List (List ℕ)) (held : Held) (image script : List ℕ) : Type 0 where

@@ -1,34 +1,32 @@
 -- What a device keeps, and when it stands for one that has heard a list of fragments.
 use Rattle.std.specs.Prelude.{◌≡◌, List, [], ◌∷◌, Option, Some, None}
-use Rattle.frag_session.specs.Held.{Kept}
-use Rattle.frag_session.specs.Stands.{Stands}
 use Rattle.fuota_run.specs.declared.device.Counts.{Counts}
 use Rattle.fuota_run.specs.declared.device.DeviceConfig.{DeviceConfig}
 use Rattle.fuota_run.specs.declared.device.Uplink.{Uplink}
-use Rattle.package_grammar.specs.declared.command.Command.{Command}
 use Rattle.image_slots.specs.declared.view.ImageState.{ImageState}
 use Rattle.package_grammar.specs.Grammar.{canonical}
-use Rattle.fuota_run.specs.Commands.{port_of}
+use Rattle.fuota_run.specs.Commands.{Upward}
+use Rattle.fuota_run.specs.Sessions.{KeptSessions, SessionsStand}
 use Rattle.fuota_run.specs.Device.{DeviceState}
 
--- a device without its history: what its slot holds, and the uplinks that are not yet taken
+-- a device without its history: what its places hold, and the uplinks that are not yet taken
 pub record HeldDevice : Type 0 where
   pub config : DeviceConfig
-  pub slot : Kept
+  pub places : KeptSessions
   pub next : ImageState
   pub counts : Counts
   pub outbox : List Uplink
 
--- the slot stands for the session, and all else is equal
+-- the places stand for the sessions, and all else is equal
 pub record StandsAs (held : HeldDevice) (device : DeviceState) : Type 0 where
-  pub slot : Stands held.slot device.session
+  pub places : SessionsStand held.places device.sessions
   pub config : device.config ≡ held.config
   pub next : device.next ≡ held.next
   pub counts : device.counts ≡ held.counts
 
 -- an answer as it is sent
-abbrev pub uplink_of : Command → Uplink
-uplink_of c = record { port = port_of c; payload = canonical c }
+abbrev pub uplink_of : Upward → Uplink
+uplink_of u = record { port = u.port; payload = canonical u.command }
 
 -- the oldest uplink that is held was taken; none where none is held
 abbrev pub TakesUplink : HeldDevice → HeldDevice → Option Uplink → Type 0

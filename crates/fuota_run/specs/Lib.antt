@@ -3,6 +3,7 @@ pub mod Source
 pub mod Memory
 pub mod Script
 pub mod Commands
+pub mod Sessions
 pub mod Device
 pub mod Report
 pub mod Server

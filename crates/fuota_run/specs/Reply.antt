@@ -12,7 +12,7 @@ use Rattle.fuota_run.specs.Report.{report_of}
 use Rattle.wire_base.specs.declared.refusal.Direction.{Direction}
 use Rattle.fuota_run.specs.Words.{Asked, campaign, decode, asked}
 use Rattle.fuota_run.specs.Decode.{Decodes}
-use Rattle.fuota_run.specs.Answer.{Answer, read_fault, usage, image_refused, refused, taken_text, script_answer, campaign_answer, IsDecodeAnswer, IsAnswerTo, IsAnswer}
+use Rattle.fuota_run.specs.Answer.{Answer, answer, read_fault, usage, image_refused, refused, taken_text, script_answer, campaign_answer, IsDecodeAnswer, IsAnswerTo, IsAnswer}
 
 -- where it is told what is held, something is held under the names of the files that are asked for
 abbrev pub HoldsAsked : Option Held → Option Asked → Type 0
@@ -50,9 +50,9 @@ ends_source status.ImageRefused = true
 ends_source status.ScriptRefused = true
 ends_source s = false
 
--- where it is told what is held, the answer is one for the file under the name; where not, it is some answer
+-- where it is told what is held, the answer is one for the file under the name; where not, it is one for some bytes
 abbrev pub GivesBy : Option Held → List ℕ → (Held → Option (List ℕ) → Answer → Type 0) → Answer → Type 0
-GivesBy None name IsFor a = IsTextOf a.status a.text
+GivesBy None name IsFor a = (bytes_of : List ℕ → List ℕ) × (source : List ℕ) × IsFor (λ n. Some (bytes_of n)) (Some source) a
 GivesBy (Some held) name IsFor a = IsFor held (held name) a
 
 -- the answer behind an image file
@@ -65,8 +65,14 @@ GivesCampaign held image script a = GivesBy held image (λ h source x. x ≡ cam
 abbrev pub GivesDecode : Option Held → ℕ → Direction → List ℕ → Answer → Type 0
 GivesDecode held port direction file a = GivesBy held file (λ h source x. IsDecodeAnswer port direction source x) a
 
+-- the answer to what is asked for, whatever bytes the files have
+abbrev pub IsAnswerToSome : Option Asked → Answer → Type 0
+IsAnswerToSome None a = a ≡ usage
+IsAnswerToSome (Some (campaign image_name script_name)) a = (image : List ℕ) × (script : List ℕ) × (a ≡ campaign_answer (Some image) (Some script))
+IsAnswerToSome (Some (decode port direction name)) a = (file : List ℕ) × IsDecodeAnswer port direction (Some file) a
+
 abbrev pub Gives : Option Held → Option Asked → Answer → Type 0
-Gives None what a = IsTextOf a.status a.text
+Gives None what a = IsAnswerToSome what a
 Gives (Some held) what a = IsAnswerTo what held a
 
 -- a reply is what is to be given, or that reading failed, and the count of faults rose
@@ -90,14 +96,14 @@ pub record Says (gives : Type 0) (before now : ℕ) (left : Option (List ℕ)) (
 
 -- ---- the run as a whole
 
--- the status is that of an answer, and its text was appended; where nothing is told of the files, a text of the status was
+-- the status is that of the answer, and its text was appended; where nothing is told of the files, of an answer to some bytes
 abbrev pub AppendsAnswer : Option Held → List (List ℕ) → Status → Option (List ℕ) → Option (List ℕ) → Type 0
-AppendsAnswer None words s old new = (text : List ℕ) × IsTextOf s text × Appends old new text
+AppendsAnswer None words s old new = (text : List ℕ) × IsAnswerToSome (asked words) (answer s text) × Appends old new text
 AppendsAnswer (Some held) words s old new = (a : Answer) × IsAnswer words held a × (s ≡ a.status) × Appends old new a.text
 
 -- a front of an answer's text was appended
 abbrev pub AppendsAnswerFront : Option Held → List (List ℕ) → Option (List ℕ) → Option (List ℕ) → Type 0
-AppendsAnswerFront None words old new = (s : Status) × (text : List ℕ) × IsTextOf s text × AppendsFront old new text
+AppendsAnswerFront None words old new = (a : Answer) × IsAnswerToSome (asked words) a × AppendsFront old new a.text
 AppendsAnswerFront (Some held) words old new = (a : Answer) × IsAnswer words held a × AppendsFront old new a.text
 
 -- the counts of faults before and after, and the sink's bytes

@@ -13,6 +13,7 @@ use Rattle.fuota_run.specs.declared.server.Request.TheVariants.{Version, Fragmen
 use Rattle.fuota_run.specs.declared.server.Stage.{Stage}
 use Rattle.fuota_run.specs.declared.server.Stage.TheVariants.{At, Refused}
 use Rattle.fuota_run.specs.Server.{ServerState, fragments_of, padding_of}
+use Rattle.fuota_run.specs.Sessions.{Sessions}
 use Rattle.fuota_run.specs.Device.{DeviceState}
 use Rattle.fuota_run.specs.World.{WorldState}
 
@@ -70,16 +71,25 @@ verdict_text (verdict.Complete line) same = codes "complete at " ++ decimal line
 verdict_text (verdict.NoRows line) same = codes "norows at " ++ decimal line
 verdict_text (verdict.Conflict line) same = codes "conflict at " ++ decimal line
 
-abbrev pub session_text : (received missing : ℕ) (verdict : List ℕ) → List ℕ
-session_text received missing verdict =
-    codes "session 0 received " ++ decimal received
+abbrev pub session_text : (index received missing : ℕ) (verdict : List ℕ) → List ℕ
+session_text index received missing verdict =
+    codes "session " ++ decimal index
+    ++ (codes " received " ++ decimal received
     ++ (codes " missing " ++ decimal missing
-    ++ (codes " " ++ verdict ++ codes "\n"))
+    ++ (codes " " ++ verdict ++ codes "\n")))
 
 -- nothing of a session that is not there; same where the file is the server's image
-abbrev pub session_line : List ℕ → Option Seen → List ℕ
-session_line sent None = []
-session_line sent (Some seen) = session_text seen.received seen.missing (verdict_text seen.verdict (bytes_eq seen.file sent))
+abbrev pub session_line : List ℕ → ℕ → Option Seen → List ℕ
+session_line sent index None = []
+session_line sent index (Some seen) = session_text index seen.received seen.missing (verdict_text seen.verdict (bytes_eq seen.file sent))
+
+-- a line for each session that there is, by its index
+abbrev pub session_lines : List ℕ → Sessions → List ℕ
+session_lines sent all =
+    session_line sent 0 (view_of all.first)
+    ++ (session_line sent 1 (view_of all.second)
+    ++ (session_line sent 2 (view_of all.third)
+    ++ session_line sent 3 (view_of all.fourth)))
 
 -- the lines of a report
 abbrev pub report_text : (image device counts session : List ℕ) → List ℕ
@@ -90,7 +100,7 @@ report_text image device counts session =
 unfoldable pub report_lines : ServerState → DeviceState → List ℕ
 report_lines server device =
     report_text (image_line server) (device_line server.stage device) (counts_line device.counts)
-    (session_line server.image (view_of device.session))
+    (session_lines server.image device.sessions)
 
 -- nothing before there are both
 abbrev pub report_of_ends : Option ServerState → Option DeviceState → List ℕ

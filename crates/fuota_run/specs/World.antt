@@ -15,6 +15,7 @@ use Rattle.fuota_run.specs.declared.world.TheConstants.{MAX_LINES, MAX_LINE, MAX
 use Rattle.fuota_run.specs.Script.{form_of, lines_of}
 use Rattle.fuota_run.specs.Ranges.{is_word, is_frag_size}
 use Rattle.fuota_run.specs.Server.{ServerState, first_server, asked, is_spent, next_fragment, after_fragment, answered}
+use Rattle.fuota_run.specs.Commands.{Upward, port_of}
 use Rattle.fuota_run.specs.Device.{DeviceState, first_device, after_command, answer_to}
 
 -- a payload that the server sent: to one device or to any
@@ -31,7 +32,7 @@ pub record WorldState : Type 0 where
   pub server : Option ServerState
   pub device : Option DeviceState
   pub sent : List Sending
-  pub uplinks : List Command
+  pub uplinks : List Upward
 
 -- before any line
 abbrev pub first_world : List ℕ → WorldState
@@ -184,13 +185,13 @@ moved_on (Some server) = Some (after_fragment server)
 -- a command reaches the device, whose answers are numbered; the mark is the line
 abbrev pub reaches : WorldState → Option DeviceState → Option Sending → WorldState
 reaches world (Some device) (Some sending) =
-    record world { device = Some (after_command device sending.command (world.lines + 1)); uplinks = world.uplinks ++ answer_to device.config sending.command }
+    record world { device = Some (after_command device sending.command (world.lines + 1)); uplinks = world.uplinks ++ answer_to device (port_of sending.command) sending.command }
 reaches world device sending = world
 
 -- an answer reaches the server
-abbrev pub hears : Option ServerState → Option Command → Option ServerState
-hears (Some server) (Some command) = Some (record server { stage = answered server.image server.stage command })
-hears server command = server
+abbrev pub hears : Option ServerState → Option Upward → Option ServerState
+hears (Some server) (Some answer) = Some (record server { stage = answered server.image server.stage answer.command })
+hears server answer = server
 
 abbrev pub at_events : WorldState → WorldState
 at_events world = record world { place = place.Events }

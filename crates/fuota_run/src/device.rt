@@ -1,37 +1,33 @@
 // One device of a campaign: it checks a payload whole, acts on its commands and answers them.
-ghost use Rattle.std.specs.Prelude.{◌≡◌, ◌≢◌, ◌+◌, ◌-◌, ◌<◌, ◌≤◌, ℕ, List, [], ◌∷◌, ◌++◌, map, length, Option, None, Some, IfOk, option_map};
+ghost use Rattle.std.specs.Prelude.{◌≡◌, ◌≢◌, ◌+◌, ◌-◌, ◌<◌, ◌≤◌, ℕ, List, [], ◌∷◌, ◌++◌, map, length, Option, None, Some, IfOk, option_map, ◌*◌, is_none};
 ghost use Rattle.std.specs.List.{AllByRecursion};
 ghost use Rattle.wire_base.specs.declared.refusal.Direction.{Direction};
 ghost use Rattle.wire_base.specs.declared.refusal.Refusal.{Refusal};
 ghost use Rattle.frag_session.specs.declared.setups.SetupReq.{SetupReq};
 ghost use Rattle.frag_session.specs.Setup.{setup_bits};
-ghost use Rattle.frag_session.specs.Session.{Session, after_setup, view_of};
-ghost use Rattle.frag_session.specs.Stands.{Stands};
+ghost use Rattle.frag_session.specs.declared.answers.Via.{Via};
+ghost use Rattle.frag_session.specs.Session.{after_setup, status_of, view_of};
 ghost use Rattle.frag_session.specs.Shows.{seen};
 ghost use Rattle.package_grammar.specs.declared.command.Command.{Command};
-ghost use Rattle.package_grammar.specs.Grammar.{IsValid, SpellsTo, IsMessage, IsStop};
-ghost use Rattle.fuota_run.specs.Commands.{IsUplink};
-ghost use Rattle.fuota_run.specs.Device.{DeviceState, room, first_device, limits_of, raised, after_data, after_heard, after_command, answer_to, weight, after_commands, answers_to, weights, setup_answer, has_bit, offered, is_complete, shows_file};
+ghost use Rattle.cast_wire.specs.declared.cmd.Cmd.TheVariants.{FragSessionStatusAns, FragSessionDeleteAns};
+ghost use Rattle.sync_wire.specs.declared.cmd.Cmd.TheVariants.{DevVersionAns};
+ghost use Rattle.wire_base.specs.Rows.{IsListed};
+ghost use Rattle.package_grammar.specs.Grammar.{row, IsValid, SpellsTo, IsMessage, IsStop};
+ghost use Rattle.fuota_run.specs.Commands.{IsUplink, Upward, upward, identifier_of};
+ghost use Rattle.fuota_run.specs.Sessions.{Sessions, session_at, with_session, SessionsStand};
+ghost use Rattle.fuota_run.specs.Device.{DeviceState, room, first_device, limits_of, raised, after_data, after_command, status_answers, answer_to, weight, after_commands, answers_to, weights, setup_answer, has_bit, offered, is_complete, shows_file};
 
-use crate::spelling::{port_of, spelled};
+use crate::sessions::{Places, SESSIONS};
+use crate::spelling::spelled;
 use arrayvec::ArrayVec;
 use cast_wire::Cmd;
-use frag_session::{Heard, Idle, Limits, SetupReq, Slot, Verdict, Via, View};
+use frag_session::{Heard, Limits, SetupReq, StatusAns, Verdict, View};
 use image_slots::{ImageState, ImageView};
 use package_grammar::{Command, check, read_one};
-use row_elimination::{Memory, Solver};
+use row_elimination::Memory;
 use std::alloc::Global;
 use std::marker::Model;
 use wire_base::{Direction, Payload, Refusal};
-
-/// The bytes of the file area: NbFrag * FragSize of a session is at most this.
-pub const FILE_AREA: u32 = 65_774;
-
-/// The words of 64 coefficients that are kept for rows: 64 rows of 1,024 columns.
-pub const ROW_WORDS: usize = 1024;
-
-/// The bytes that are kept for rows: 64 rows of 239 bytes.
-pub const ROW_BYTES: usize = 15_296;
 
 /// How many uplinks a device holds before they are taken.
 pub const OUTBOX: usize = 8;
@@ -88,26 +84,22 @@ pub struct Counts {
     pub dropped: u64,
 }
 
-/// A device with one session, of index 0.
+/// A device with its sessions.
 #[derive(Drop)]
 pub struct Device {
     config: DeviceConfig,
-    slot: Slot<ROW_WORDS, ROW_BYTES>,
+    places: Places,
     next: ImageState,
     counts: Counts,
     outbox: ArrayVec<Uplink, OUTBOX>,
 }
 
 impl Model for Device {
-    ghost use Rattle.std.specs.Prelude.{◌≡◌};
-    ghost use Rattle.frag_session.specs.Steps.{area_of};
     ghost use Rattle.fuota_run.specs.HeldDevice.{HeldDevice};
 
     ghost Value = { HeldDevice };
 
-    ghost view = { λ d. record { config = d.config; slot = d.slot; next = d.next; counts = d.counts; outbox = d.outbox.items } };
-
-    ghost invariant = { λ d. area_of d.slot ≡ 65774 };
+    ghost view = { λ d. record { config = d.config; places = d.places; next = d.next; counts = d.counts; outbox = d.outbox.items } };
 }
 
 impl Device {
@@ -120,7 +112,7 @@ impl Device {
     {
         Ok(Device {
             config,
-            slot: Slot::new(Idle::new(Solver::reserve(alloc, FILE_AREA)?)),
+            places: Places::reserve(alloc)?,
             next: ImageState::None,
             counts: Counts {
                 deaf: 0,
@@ -136,10 +128,10 @@ impl Device {
     pub fn deliver(&mut self, port: u8, payload: &[u8], mark: u64) -> Delivered
         ensures done { (device : DeviceState) (cs : List Command) → StandsAs self.old device → IsMessage cs port Direction.Down payload.now
             → length self.old.outbox + weights cs ≤ 8 → StandsAs self.new (after_commands device cs mark) }
-        ensures answers { (cs : List Command) → IsMessage cs port Direction.Down payload.now
-            → length self.old.outbox + weights cs ≤ 8 → self.new.outbox ≡ self.old.outbox ++ map uplink_of (answers_to self.old.config cs) }
-        ensures sendable { (cs : List Command) → IsMessage cs port Direction.Down payload.now
-            → length self.old.outbox + weights cs ≤ 8 → AllByRecursion IsUplink (answers_to self.old.config cs) }
+        ensures answers { (device : DeviceState) (cs : List Command) → StandsAs self.old device → IsMessage cs port Direction.Down payload.now
+            → length self.old.outbox + weights cs ≤ 8 → self.new.outbox ≡ self.old.outbox ++ map uplink_of (answers_to device port cs mark) }
+        ensures sendable { (device : DeviceState) (cs : List Command) → StandsAs self.old device → IsMessage cs port Direction.Down payload.now
+            → length self.old.outbox + weights cs ≤ 8 → AllByRecursion IsUplink (answers_to device port cs mark) }
         ensures full { (n : ℕ) → result ≡ Delivered.OutboxFull n → self.new ≡ record self.old { counts = record self.old.counts { full = raised self.old.counts.full } } }
         ensures stops { (refusal : Refusal) → result ≡ Delivered.Refused refusal → IsStop port Direction.Down payload.now refusal }
         ensures count { (n : ℕ) (cs : List Command) → result ≡ Delivered.OutboxFull n → IsMessage cs port Direction.Down payload.now
@@ -169,48 +161,79 @@ impl Device {
         requires room { (cs : List Command) × SpellsTo cs port Direction.Down payload.now at (length payload.now) × (length self.old.outbox + weights cs ≤ 8) }
         ensures done { (device : DeviceState) (cs : List Command) → StandsAs self.old device → SpellsTo cs port Direction.Down payload.now at (length payload.now)
             → StandsAs self.new (after_commands device cs mark) }
-        ensures answers { (cs : List Command) → SpellsTo cs port Direction.Down payload.now at (length payload.now)
-            → self.new.outbox ≡ self.old.outbox ++ map uplink_of (answers_to self.old.config cs) }
-        ensures sendable { (cs : List Command) → SpellsTo cs port Direction.Down payload.now at (length payload.now) → AllByRecursion IsUplink (answers_to self.old.config cs) }
+        ensures answers { (device : DeviceState) (cs : List Command) → StandsAs self.old device → SpellsTo cs port Direction.Down payload.now at (length payload.now)
+            → self.new.outbox ≡ self.old.outbox ++ map uplink_of (answers_to device port cs mark) }
+        ensures sendable { (device : DeviceState) (cs : List Command) → StandsAs self.old device → SpellsTo cs port Direction.Down payload.now at (length payload.now)
+            → AllByRecursion IsUplink (answers_to device port cs mark) }
     {
         if at as usize == payload.len() {
             return;
         }
         if let Ok((command, next)) = read_one(port, Direction::Down, payload, at) {
-            self.act(&command, mark);
+            self.act(port, &command, mark);
             self.act_from(port, payload, next, mark);
         }
     }
 
-    /// Acts on one command.
+    /// Acts on one command that came on this port.
     #[tactic(auto, unfolding(crate::specs::Device::after_command, crate::specs::Device::answer_to))]
-    fn act(&mut self, command: &Command, mark: u64)
+    fn act(&mut self, port: u8, command: &Command, mark: u64)
         requires valid { IsValid command.now }
+        requires listed { IsListed (row command.now) port Direction.Down }
         requires room { length self.old.outbox + weight command.now ≤ 8 }
         ensures stands { (device : DeviceState) → StandsAs self.old device → StandsAs self.new (after_command device command.now mark) }
-        ensures answers { self.new.outbox ≡ self.old.outbox ++ map uplink_of (answer_to self.old.config command.now) }
-        ensures sendable { AllByRecursion IsUplink (answer_to self.old.config command.now) }
-        ensures config { self.new.config ≡ self.old.config }
+        ensures answers { (device : DeviceState) → StandsAs self.old device → self.new.outbox ≡ self.old.outbox ++ map uplink_of (answer_to device port command.now) }
+        ensures sendable { (device : DeviceState) → StandsAs self.old device → AllByRecursion IsUplink (answer_to device port command.now) }
+        ensures few { length self.new.outbox ≤ length self.old.outbox + weight command.now }
     {
         match command {
-            Command::Sync(sync_wire::Cmd::DevVersionReq) => {
-                self.send(Command::Sync(sync_wire::Cmd::DevVersionAns {
-                    firmware: FIRST_FIRMWARE,
-                    hardware: self.config.hw,
-                }));
+            Command::Sync(sync_wire::Cmd::PackageVersionReq) => {
+                self.send(
+                    port,
+                    Command::Sync(sync_wire::Cmd::PackageVersionAns {
+                        identifier: identifier_of(port),
+                        version: 1,
+                    }),
+                );
             }
-            Command::Cast(
-                Cmd::FragSessionSetupReq {
-                    index,
-                    mask,
-                    nb_frag,
-                    frag_size,
-                    algo,
-                    delay,
-                    padding,
-                    descriptor,
-                },
-            ) => self.setup(SetupReq {
+            Command::Sync(sync_wire::Cmd::DevVersionReq) => self.version(),
+            Command::Cast(cmd) => self.act_on_fragments(port, cmd, mark),
+            _ => {}
+        }
+    }
+
+    /// Acts on one command of TS004 or TS005.
+    #[tactic(auto, unfolding(crate::specs::Device::after_command, crate::specs::Device::answer_to))]
+    fn act_on_fragments(&mut self, port: u8, cmd: &Cmd, mark: u64)
+        requires valid { IsValid (Command.Cast cmd.now) }
+        requires listed { IsListed (row (Command.Cast cmd.now)) port Direction.Down }
+        requires room { length self.old.outbox + weight (Command.Cast cmd.now) ≤ 8 }
+        ensures stands { (device : DeviceState) → StandsAs self.old device → StandsAs self.new (after_command device (Command.Cast cmd.now) mark) }
+        ensures answers { (device : DeviceState) → StandsAs self.old device → self.new.outbox ≡ self.old.outbox ++ map uplink_of (answer_to device port (Command.Cast cmd.now)) }
+        ensures sendable { (device : DeviceState) → StandsAs self.old device → AllByRecursion IsUplink (answer_to device port (Command.Cast cmd.now)) }
+        ensures few { length self.new.outbox ≤ length self.old.outbox + weight (Command.Cast cmd.now) }
+    {
+        match cmd {
+            Cmd::PackageVersionReq => {
+                self.send(
+                    port,
+                    Command::Cast(Cmd::PackageVersionAns {
+                        identifier: identifier_of(port),
+                        version: 1,
+                    }),
+                );
+            }
+            Cmd::FragSessionStatusReq { index, all } => self.status(*index, *all),
+            Cmd::FragSessionSetupReq {
+                index,
+                mask,
+                nb_frag,
+                frag_size,
+                algo,
+                delay,
+                padding,
+                descriptor,
+            } => self.setup(SetupReq {
                 index: *index,
                 mask: *mask,
                 nb_frag: *nb_frag,
@@ -220,54 +243,91 @@ impl Device {
                 padding: *padding,
                 descriptor: *descriptor,
             }),
-            Command::Cast(Cmd::DataFragment { index, n, bytes }) => {
+            Cmd::FragSessionDeleteReq { index } => self.delete(*index),
+            Cmd::DataFragment { index, n, bytes } => {
                 self.fragment(*index, *n, bytes.as_slice(), mark)
             }
             _ => {}
         }
     }
 
-    /// Sets session 0 up, or answers the refusal bits.
+    /// Answers the versions of what runs.
+    fn version(&mut self)
+        requires room { length self.old.outbox < 8 }
+        ensures stands { (device : DeviceState) → StandsAs self.old device → StandsAs self.new device }
+        ensures answers { (device : DeviceState) → StandsAs self.old device
+            → self.new.outbox ≡ self.old.outbox ++ uplink_of (upward 203 (Command.Sync (DevVersionAns 0 device.config.hw))) ∷ [] }
+        ensures sendable { (device : DeviceState) → StandsAs self.old device → IsUplink (upward 203 (Command.Sync (DevVersionAns 0 device.config.hw))) }
+        ensures few { length self.new.outbox ≤ length self.old.outbox + 1 }
+    {
+        let answer = version_answer(self.config.hw);
+        self.send(203, answer);
+    }
+
+    /// Answers what a session knows, if it answers.
+    fn status(&mut self, index: u8, all: bool)
+        requires index { index < 4 }
+        requires room { length self.old.outbox < 8 }
+        ensures stands { (device : DeviceState) → StandsAs self.old device → StandsAs self.new device }
+        ensures answers { (device : DeviceState) → StandsAs self.old device
+            → self.new.outbox ≡ self.old.outbox ++ map uplink_of (status_answers index (status_of (session_at device.sessions index) Via.Unicast all)) }
+        ensures sendable { (device : DeviceState) → StandsAs self.old device
+            → AllByRecursion IsUplink (status_answers index (status_of (session_at device.sessions index) Via.Unicast all)) }
+        ensures few { length self.new.outbox ≤ length self.old.outbox + 1 }
+    {
+        if let Some(status) = self.places.status(index, all) {
+            self.send(201, status_answer(index, status));
+        }
+    }
+
+    /// Ends a session, or answers that there is none.
+    fn delete(&mut self, index: u8)
+        requires index { index < 4 }
+        requires room { length self.old.outbox < 8 }
+        ensures stands { (device : DeviceState) → StandsAs self.old device
+            → StandsAs self.new (record device { sessions = with_session device.sessions index None }) }
+        ensures answers { (device : DeviceState) → StandsAs self.old device
+            → self.new.outbox ≡ self.old.outbox ++ uplink_of (upward 201 (Command.Cast (FragSessionDeleteAns index (is_none (session_at device.sessions index))))) ∷ [] }
+        ensures few { length self.new.outbox ≤ length self.old.outbox + 1 }
+    {
+        let lived = self.places.delete(index);
+        self.send(
+            201,
+            Command::Cast(Cmd::FragSessionDeleteAns {
+                index,
+                missing: !lived,
+            }),
+        );
+    }
+
+    /// Sets a session up, or answers the refusal bits.
     fn setup(&mut self, req: SetupReq)
         requires index { req.index < 4 }
         requires room { length self.old.outbox < 8 }
         ensures stands { (device : DeviceState) → StandsAs self.old device
-            → StandsAs self.new (record device { session = after_setup (limits_of device.config) room device.session req }) }
-        ensures answers { self.new.outbox ≡ self.old.outbox ++ uplink_of (setup_answer req.index (setup_bits (limits_of self.old.config) room req)) ∷ [] }
-        ensures config { self.new.config ≡ self.old.config }
+            → StandsAs self.new (record device { sessions = with_session device.sessions req.index (after_setup (limits_of device.config) room (session_at device.sessions req.index) req) }) }
+        ensures answers { (device : DeviceState) → StandsAs self.old device
+            → self.new.outbox ≡ self.old.outbox ++ uplink_of (upward 201 (setup_answer req.index (setup_bits (limits_of device.config) room req))) ∷ [] }
+        ensures few { length self.new.outbox ≤ length self.old.outbox + 1 }
     {
         let limits = Limits {
-            sessions: 1,
+            sessions: SESSIONS,
             rows: self.config.rows,
             descriptor: self.config.descriptor,
         };
-        let bits = self.slot.setup(req, limits);
-        self.send(setup_answer(req.index, bits));
+        let bits = self.places.setup(req.index, req, limits);
+        self.send(201, setup_answer(req.index, bits));
     }
 
-    /// Hears a fragment, or drops it.
-    #[tactic(auto, unfolding(crate::specs::Device::after_data))]
+    /// A session hears a fragment, or it is dropped.
     fn fragment(&mut self, index: u8, n: u16, bytes: &[u8], mark: u64)
+        requires index { index < 4 }
         ensures stands { (device : DeviceState) → StandsAs self.old device → StandsAs self.new (after_data device index n bytes.now mark) }
         ensures outbox { self.new.outbox ≡ self.old.outbox }
-        ensures config { self.new.config ≡ self.old.config }
     {
-        if index == 0 {
-            self.hear(n, bytes, mark);
-        } else {
-            self.drop_fragment();
-        }
-    }
-
-    /// Hears a fragment for session 0, or drops it.
-    fn hear(&mut self, n: u16, bytes: &[u8], mark: u64)
-        ensures stands { (device : DeviceState) → StandsAs self.old device → StandsAs self.new (after_heard device n bytes.now mark) }
-        ensures outbox { self.new.outbox ≡ self.old.outbox }
-        ensures config { self.new.config ≡ self.old.config }
-    {
-        let had_file = self.has_file();
-        match self.slot.fragment(Via::Unicast, n, bytes, mark) {
-            Heard::Fed => self.next = self.offered(had_file),
+        let had_file = self.has_file(index);
+        match self.places.fragment(index, n, bytes, mark) {
+            Heard::Fed => self.next = self.offered(index, had_file),
             Heard::Dropped(_) => self.drop_fragment(),
         }
     }
@@ -281,10 +341,11 @@ impl Device {
 
     /// What the next slot is behind a fragment: the file, where it has just become whole.
     #[tactic(auto, unfolding(frag_session::specs::Shows::seen))]
-    fn offered(&self, had_file: bool) -> ImageState
-        ensures { (session : Option Session) → Stands self.now.slot session → result ≡ offered self.now.next self.now.config.hw had_file (view_of session) }
+    fn offered(&self, index: u8, had_file: bool) -> ImageState
+        requires { index < 4 }
+        ensures { (all : Sessions) → SessionsStand self.now.places all → result ≡ offered self.now.next self.now.config.hw had_file (view_of (session_at all index)) }
     {
-        match self.slot.view() {
+        match self.places.view(index) {
             Some(view) if !had_file && is_complete(view.verdict) => {
                 ImageView::read(view.file, self.config.hw)
             }
@@ -292,26 +353,27 @@ impl Device {
         }
     }
 
-    /// Whether the session has its file.
+    /// Whether a session has its file.
     #[tactic(auto, unfolding(frag_session::specs::Shows::seen))]
-    fn has_file(&self) -> bool
-        ensures { (session : Option Session) → Stands self.now.slot session → result ≡ shows_file (view_of session) }
+    fn has_file(&self, index: u8) -> bool
+        requires { index < 4 }
+        ensures { (all : Sessions) → SessionsStand self.now.places all → result ≡ shows_file (view_of (session_at all index)) }
     {
-        match self.slot.view() {
+        match self.places.view(index) {
             Some(view) => is_complete(view.verdict),
             None => false,
         }
     }
 
     /// Puts an answer into the outbox.
-    fn send(&mut self, answer: Command)
-        requires sendable { IsUplink answer }
+    fn send(&mut self, port: u8, answer: Command)
+        requires sendable { IsUplink (upward port answer) }
         requires room { length self.old.outbox < 8 }
-        ensures { self.new ≡ record self.old { outbox = self.old.outbox ++ uplink_of answer ∷ [] } }
+        ensures { self.new ≡ record self.old { outbox = self.old.outbox ++ uplink_of (upward port answer) ∷ [] } }
     {
         self.outbox.push(Uplink {
-            port: port_of(&answer),
-            payload: spelled(&answer, Direction::Up),
+            port,
+            payload: spelled(&answer, port, Direction::Up),
         });
     }
 
@@ -325,11 +387,12 @@ impl Device {
         Some(self.outbox.remove(0))
     }
 
-    /// What session 0 shows; None exactly where there is none.
-    pub fn session(&self) -> Option<View<'_>>
-        ensures { (session : Option Session) → Stands self.now.slot session → option_map seen result ≡ view_of session }
+    /// What a session shows; None exactly where there is none.
+    pub fn session(&self, index: u8) -> Option<View<'_>>
+        requires { index < 4 }
+        ensures { (all : Sessions) → SessionsStand self.now.places all → option_map seen result ≡ view_of (session_at all index) }
     {
-        self.slot.view()
+        self.places.view(index)
     }
 
     /// What it is configured with.
@@ -364,11 +427,37 @@ fn is_complete(verdict: Verdict) -> bool
     }
 }
 
+/// The versions of what runs.
+fn version_answer(hardware: u32) -> Command
+    ensures answer { result ≡ Command.Sync (DevVersionAns 0 hardware) }
+    ensures sendable { IsUplink (upward 203 result) }
+{
+    Command::Sync(sync_wire::Cmd::DevVersionAns {
+        firmware: FIRST_FIRMWARE,
+        hardware,
+    })
+}
+
+/// The answer to a status request.
+fn status_answer(index: u8, status: StatusAns) -> Command
+    requires index { index < 4 }
+    requires few { status.received ≤ 16383 }
+    ensures answer { result ≡ Command.Cast (FragSessionStatusAns index status.received status.missing status.norows) }
+    ensures sendable { IsUplink (upward 201 result) }
+{
+    Command::Cast(Cmd::FragSessionStatusAns {
+        index,
+        received: status.received,
+        missing: status.missing,
+        norows: status.norows,
+    })
+}
+
 /// The answer to a setup, with all its refusal bits.
 fn setup_answer(index: u8, bits: u8) -> Command
     requires { index < 4 }
     ensures answer { result ≡ setup_answer index bits }
-    ensures sendable { IsUplink result }
+    ensures sendable { IsUplink (upward 201 result) }
 {
     Command::Cast(Cmd::FragSessionSetupAns {
         index,
@@ -386,12 +475,24 @@ fn has_bit(bits: u8, place: u32) -> bool
     bits >> place & 1 == 1
 }
 
+/// The identifier of the package of a port.
+fn identifier_of(port: u8) -> u8
+    ensures { result ≡ identifier_of port }
+{
+    match port {
+        200 => 2,
+        201 => 3,
+        202 => 1,
+        _ => 4,
+    }
+}
+
 /// How many uplinks the commands from a place on make at most.
 fn weight_from(port: u8, payload: &[u8], at: u16) -> u16
     requires within { at ≤ length payload.now }
     requires fits { length payload.now ≤ 242 }
     ensures weight { (cs : List Command) → SpellsTo cs port Direction.Down payload.now at (length payload.now) → result ≡ weights cs }
-    ensures few { result + at ≤ length payload.now }
+    ensures few { result + 7 * at ≤ 7 * length payload.now }
 {
     if at as usize == payload.len() {
         return 0;
@@ -404,11 +505,17 @@ fn weight_from(port: u8, payload: &[u8], at: u16) -> u16
 
 /// How many uplinks a command makes at most.
 fn weight(command: &Command) -> u16
+    requires { IsValid command.now }
     ensures weight { result ≡ weight command.now }
-    ensures one { result ≤ 1 }
+    ensures few { result ≤ 7 }
 {
     match command {
         Command::Cast(Cmd::DataFragment { .. }) => 0,
+        Command::Sync(sync_wire::Cmd::AppTimeAns { .. }) => 0,
+        Command::Sync(sync_wire::Cmd::ForceDeviceResyncReq { count }) => u16::from(*count),
         _ => 1,
     }
 }
+
+#[cfg(test)]
+mod tests;

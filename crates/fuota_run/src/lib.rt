@@ -16,6 +16,7 @@ mod output;
 mod report;
 mod running;
 mod server;
+mod sessions;
 mod sink;
 mod source;
 mod spelling;

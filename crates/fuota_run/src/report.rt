@@ -1,12 +1,12 @@
 // The report of a campaign, line by line.
-ghost use Rattle.std.specs.Prelude.{◌≡◌, ◌++◌, Option, Some, IfOk, codes, string_bytes};
+ghost use Rattle.std.specs.Prelude.{◌≡◌, ◌<◌, ◌++◌, Some, IfOk, codes, string_bytes};
 ghost use Rattle.std.specs.Fmt.{decimal};
-ghost use Rattle.frag_session.specs.Session.{Session, view_of};
-ghost use Rattle.frag_session.specs.Stands.{Stands};
+ghost use Rattle.frag_session.specs.Session.{view_of};
+ghost use Rattle.fuota_run.specs.Sessions.{Sessions, session_at, SessionsStand};
 ghost use Rattle.frag_session.specs.Shows.{seen};
 ghost use Rattle.fuota_run.specs.Device.{DeviceState};
 ghost use Rattle.fuota_run.specs.HeldDevice.{StandsAs};
-ghost use Rattle.fuota_run.specs.Report.{image_text, image_line, request_word, stage_text, next_text, device_text, counts_line, session_text, session_line, same_word, verdict_text, report_text, report_lines};
+ghost use Rattle.fuota_run.specs.Report.{image_text, image_line, request_word, stage_text, next_text, device_text, counts_line, session_text, session_line, session_lines, same_word, verdict_text, report_text, report_lines};
 
 use crate::device::{Counts, Device};
 use crate::server::{Request, Server, Stage};
@@ -21,7 +21,7 @@ pub fn report(alloc: Global, server: &Server, device: &Device) -> Result<Vec<u8>
     let image = image_line(alloc, server)?;
     let stand = device_line(alloc, server.stage(), device)?;
     let counts = counts_line(alloc, device.counts())?;
-    let session = session_part(alloc, server.image(), device)?;
+    let session = sessions_part(alloc, server.image(), device)?;
     let text = report_text(
         alloc,
         image.as_str(),
@@ -45,12 +45,47 @@ fn report_text(
     format!(in alloc; "fuota report 1\n{image}{device}{counts}{session}end\n")
 }
 
-/// The line of the session, if there is one.
-fn session_part(alloc: Global, sent: &[u8], device: &Device) -> Result<String, AllocError>
-    ensures { (session : Option Session) → Stands device.now.slot session → IfOk result (λ text. string_bytes text ≡ session_line sent.now (view_of session)) }
+/// The lines of the sessions that there are.
+fn sessions_part(alloc: Global, sent: &[u8], device: &Device) -> Result<String, AllocError>
+    ensures { (all : Sessions) → SessionsStand device.now.places all → IfOk result (λ text. string_bytes text ≡ session_lines sent.now all) }
 {
-    match device.session() {
-        Some(view) => session_line(alloc, sent, view),
+    let first = session_part(alloc, sent, device, 0)?;
+    let second = session_part(alloc, sent, device, 1)?;
+    let third = session_part(alloc, sent, device, 2)?;
+    let fourth = session_part(alloc, sent, device, 3)?;
+    sessions_text(
+        alloc,
+        first.as_str(),
+        second.as_str(),
+        third.as_str(),
+        fourth.as_str(),
+    )
+}
+
+fn sessions_text(
+    alloc: Global,
+    first: &str,
+    second: &str,
+    third: &str,
+    fourth: &str,
+) -> Result<String, AllocError>
+    ensures { IfOk result (λ text. string_bytes text ≡ first.now ++ (second.now ++ (third.now ++ fourth.now))) }
+{
+    format!(in alloc; "{first}{second}{third}{fourth}")
+}
+
+/// The line of a session, if there is one.
+fn session_part(
+    alloc: Global,
+    sent: &[u8],
+    device: &Device,
+    index: u8,
+) -> Result<String, AllocError>
+    requires { index < 4 }
+    ensures { (all : Sessions) → SessionsStand device.now.places all → IfOk result (λ text. string_bytes text ≡ session_line sent.now index (view_of (session_at all index))) }
+{
+    match device.session(index) {
+        Some(view) => session_line(alloc, sent, index, view),
         None => Ok(String::new(alloc)),
     }
 }
@@ -143,22 +178,23 @@ fn counts_line(alloc: Global, counts: Counts) -> Result<String, AllocError>
 }
 
 #[tactic(auto, unfolding(frag_session::specs::Shows::seen))]
-fn session_line(alloc: Global, sent: &[u8], view: View) -> Result<String, AllocError>
-    ensures { IfOk result (λ text. string_bytes text ≡ session_line sent.now (Some (seen view.entry))) }
+fn session_line(alloc: Global, sent: &[u8], index: u8, view: View) -> Result<String, AllocError>
+    ensures { IfOk result (λ text. string_bytes text ≡ session_line sent.now index (Some (seen view.entry))) }
 {
     let verdict = verdict_text(alloc, view.verdict, view.file == sent)?;
-    session_text(alloc, view.received, view.missing, verdict.as_str())
+    session_text(alloc, index, view.received, view.missing, verdict.as_str())
 }
 
 fn session_text(
     alloc: Global,
+    index: u8,
     received: u16,
     missing: u16,
     verdict: &str,
 ) -> Result<String, AllocError>
-    ensures { IfOk result (λ text. string_bytes text ≡ session_text received missing verdict.now) }
+    ensures { IfOk result (λ text. string_bytes text ≡ session_text index received missing verdict.now) }
 {
-    format!(in alloc; "session 0 received {received} missing {missing} {verdict}\n")
+    format!(in alloc; "session {index} received {received} missing {missing} {verdict}\n")
 }
 
 fn verdict_text(alloc: Global, verdict: Verdict, same: bool) -> Result<String, AllocError>

@@ -18,14 +18,14 @@ pub fn port_of(command: &Command) -> u8
     }
 }
 
-/// The canonical spelling of a command.
+/// The canonical spelling of a command that is sent on this port.
 #[tactic(auto, using(package_grammar::proofs::Written::fits))]
-pub fn spelled(command: &Command, dir: Direction) -> Payload
+pub fn spelled(command: &Command, port: u8, dir: Direction) -> Payload
     requires valid { IsValid command.now }
-    requires listed { IsListed (row command.now) (port_of command.now) dir }
+    requires listed { IsListed (row command.now) port dir }
     ensures { result ≡ canonical command.now }
 {
     let mut payload = Payload::new();
-    let _fits = write_one(port_of(command), dir, command, &mut payload);
+    let _fits = write_one(port, dir, command, &mut payload);
     payload
 }

@@ -387,7 +387,7 @@ impl World {
         let sent = Sent {
             to,
             port: port_of(command),
-            payload: spelled(command, Direction::Down),
+            payload: spelled(command, port_of(command), Direction::Down),
         };
         match self.sent.push(sent) {
             Ok(()) => Ok(()),

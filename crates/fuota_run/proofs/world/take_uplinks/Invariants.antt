@@ -5,7 +5,7 @@ abbrev pub invariant-loop-uplink : goal.invariant-loop-uplink
 invariant-loop-uplink l = record {
   taken : l.uplinks.items ++ l.device.outbox ≡ l.fn.uplinks.items ++ l.fn.device.outbox;
   config : l.device.config ≡ l.fn.device.config;
-  slot : l.device.slot ≡ l.fn.device.slot;
+  places : l.device.places ≡ l.fn.device.places;
   next : l.device.next ≡ l.fn.device.next;
   counts : l.device.counts ≡ l.fn.device.counts;
 }

@@ -1,10 +1,9 @@
-use Rattle.std.proofs.Common.{length, sym, ap, append-nil, arith, length-append}
-use Rattle.std.proofs.lemmas.List.{length-map}
-use Rattle.fuota_run.specs.Device.{after_commands, answer_to, answers_to, weights}
+use Rattle.std.proofs.Common.{sym, ap, append-nil, arith}
+use Rattle.fuota_run.specs.Device.{after_command, after_commands, answer_to, answers_to, weights}
 use Rattle.fuota_run.specs.Commands.{IsUplink}
 use Rattle.fuota_run.specs.HeldDevice.{uplink_of}
 use Rattle.package_grammar.proofs.Messages.{none_left, first_read}
-use Rattle.fuota_run.proofs.Messages.{nothing_read, answers_fit, answers_on, all_more}
+use Rattle.fuota_run.proofs.Messages.{nothing_read, answers_on, all_more}
 use Rattle.fuota_run.proofs.device.Device.+act_from.Goals as goal
 
 pub returns-then-at-payload-clause-done : goal.returns-then-at-payload-clause-done
@@ -13,7 +12,7 @@ returns-then-at-payload-clause-done t c = λ device cs stands all. rw (none_left
 
 pub returns-then-at-payload-clause-answers : goal.returns-then-at-payload-clause-answers
 unfolding answers_to
-returns-then-at-payload-clause-answers t c = λ cs all. rw (none_left cs _ _ _ _ c.if-at-payload.true all) (sym (append-nil _))
+returns-then-at-payload-clause-answers t c = λ device cs stands all. rw (none_left cs _ _ _ _ c.if-at-payload.true all) (sym (append-nil _))
 
 pub act-requires-clause-room : goal.act-requires-clause-room
 act-requires-clause-room t c =
@@ -25,8 +24,7 @@ pub act_from-requires : goal.act_from-requires
 act_from-requires t c =
     let room = c.requires.room in
     let first = first_read _ _ _ _ _ _ _ room.0 c.if-at-payload.false (λ d end. c.read_one.ensures.only d end c.requires.fits) c.in-Ok.is room.1 in
-    let grown = simp (length-append, length-map) at (ap length c.act.ensures.answers) in
-    (omega (arith, c.in-Ok.ensures.moves, c.in-Ok.ensures.within), (c.in-Ok.ensures.within, (c.requires.fits, (first.0, first.2, omega (arith, room.2, ap weights first.1, grown, answers_fit c.args.self.now.config c.in-Ok.command)))))
+    (omega (arith, c.in-Ok.ensures.moves, c.in-Ok.ensures.within), (c.in-Ok.ensures.within, (c.requires.fits, (first.0, first.2, omega (arith, room.2, ap weights first.1, c.act.ensures.few)))))
 
 pub returns-in-Ok-clause-done : goal.returns-in-Ok-clause-done
 unfolding after_commands
@@ -36,28 +34,29 @@ returns-in-Ok-clause-done t c = λ device cs stands all.
 
 pub returns-in-Ok-clause-answers : goal.returns-in-Ok-clause-answers
 unfolding answers_to
-returns-in-Ok-clause-answers t c = λ cs all.
+returns-in-Ok-clause-answers t c = λ device cs stands all.
     let first = first_read _ _ _ _ _ _ _ cs c.if-at-payload.false (λ d end. c.read_one.ensures.only d end c.requires.fits) c.in-Ok.is all in
-    rw (first.1, c.act_from.ensures.answers first.0 first.2, c.act.ensures.config, c.act.ensures.answers) (answers_on uplink_of c.args.self.now.outbox (answer_to c.args.self.now.config c.in-Ok.command) (answers_to c.args.self.now.config first.0))
+    rw (first.1, c.act_from.ensures.answers _ first.0 (c.act.ensures.stands device stands) first.2, c.act.ensures.answers device stands)
+    (answers_on uplink_of c.args.self.now.outbox (answer_to device c.args.port c.in-Ok.command) (answers_to (after_command device c.in-Ok.command c.args.mark) c.args.port first.0 c.args.mark))
 
 pub returns-in_default-clause-done : goal.returns-in_default-clause-done
 returns-in_default-clause-done t c = λ device cs stands all.
     absurd (nothing_read _ _ _ _ _ _ cs c.if-at-payload.false (λ d end. c.read_one.ensures.only d end c.requires.fits) c.in_default.is all)
 
 pub returns-in_default-clause-answers : goal.returns-in_default-clause-answers
-returns-in_default-clause-answers t c = λ cs all.
+returns-in_default-clause-answers t c = λ device cs stands all.
     absurd (nothing_read _ _ _ _ _ _ cs c.if-at-payload.false (λ d end. c.read_one.ensures.only d end c.requires.fits) c.in_default.is all)
 
 pub returns-then-at-payload-clause-sendable : goal.returns-then-at-payload-clause-sendable
 unfolding answers_to
-returns-then-at-payload-clause-sendable t c = λ cs all. rw (none_left cs _ _ _ _ c.if-at-payload.true all) tt
+returns-then-at-payload-clause-sendable t c = λ device cs stands all. rw (none_left cs _ _ _ _ c.if-at-payload.true all) tt
 
 pub returns-in-Ok-clause-sendable : goal.returns-in-Ok-clause-sendable
 unfolding answers_to
-returns-in-Ok-clause-sendable t c = λ cs all.
+returns-in-Ok-clause-sendable t c = λ device cs stands all.
     let first = first_read _ _ _ _ _ _ _ cs c.if-at-payload.false (λ d end. c.read_one.ensures.only d end c.requires.fits) c.in-Ok.is all in
-    rw first.1 (all_more IsUplink _ _ c.act.ensures.sendable (rw c.act.ensures.config at (c.act_from.ensures.sendable first.0 first.2)))
+    rw first.1 (all_more IsUplink _ _ (c.act.ensures.sendable device stands) (c.act_from.ensures.sendable _ first.0 (c.act.ensures.stands device stands) first.2))
 
 pub returns-in_default-clause-sendable : goal.returns-in_default-clause-sendable
-returns-in_default-clause-sendable t c = λ cs all.
+returns-in_default-clause-sendable t c = λ device cs stands all.
     absurd (nothing_read _ _ _ _ _ _ cs c.if-at-payload.false (λ d end. c.read_one.ensures.only d end c.requires.fits) c.in_default.is all)

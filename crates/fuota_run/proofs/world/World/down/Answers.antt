@@ -2,18 +2,17 @@ use Rattle.std.proofs.Common.{◌≡◌, ℕ, ◌+◌, ◌≤◌, length, List, 
 use Rattle.wire_base.specs.declared.refusal.Direction.TheVariants.{Down}
 use Rattle.package_grammar.specs.declared.command.Command.{Command}
 use Rattle.std.specs.List.{AllByRecursion}
-use Rattle.fuota_run.specs.declared.device.DeviceConfig.{DeviceConfig}
 use Rattle.fuota_run.specs.declared.device.Uplink.{Uplink}
 use Rattle.fuota_run.specs.declared.world.Sent.{Sent}
 use Rattle.package_grammar.specs.Grammar.{IsMessage}
-use Rattle.fuota_run.specs.Commands.{IsDownlink, IsUplink}
+use Rattle.fuota_run.specs.Commands.{Upward, port_of, IsDownlink, IsUplink}
 use Rattle.fuota_run.specs.Device.{weights, after_commands, answers_to, answer_to, after_command}
 use Rattle.fuota_run.specs.HeldDevice.{HeldDevice, StandsAs, uplink_of}
 use Rattle.fuota_run.specs.HeldWorld.{HeldWorld, StandsFor, sent_of}
 use Rattle.fuota_run.specs.World.{Sending, numbered}
 use Rattle.package_grammar.proofs.Written.{message_of}
 use Rattle.fuota_run.proofs.Outcomes.{on_ok, on_ok_then}
-use Rattle.fuota_run.proofs.WorldLemmas.{numbered-map, numbered-map_none, all_numbered, device_there, weight_one, only_answers, record_with_device, reaches_stands, reaches_nothing}
+use Rattle.fuota_run.proofs.WorldLemmas.{numbered-map, numbered-map_none, all_numbered, device_there, weight_fits, only_answers, record_with_device, reaches_stands, reaches_nothing}
 use Rattle.fuota_run.proofs.world.World.down.Goals as goal
 
 pub returns-in_default-numbered-clause-taken : goal.returns-in_default-numbered-clause-taken
@@ -36,20 +35,20 @@ returns-clause-taken c = on_ok c.take_uplinks.result (λ ok. λ world stands.
     let there = device_there _ _ c.in-Some.device here.device c.in-Some.is in
     let d = there.0 in
     let empty = there.3 in
-    let room : length c.in-Some.device.outbox + weights (found.0.command ∷ []) ≤ 8 = rw empty (omega (arith, weight_one found.0.command)) in
+    let room : length c.in-Some.device.outbox + weights (found.0.command ∷ []) ≤ 8 = rw empty (omega (arith, weight_fits found.0.command fine.valid)) in
     let acted = c.deliver-delivered.ensures.done d (found.0.command ∷ []) there.2 message room in
-    let answers = c.deliver-delivered.ensures.answers (found.0.command ∷ []) message room in
-    let sendable = c.deliver-delivered.ensures.sendable (found.0.command ∷ []) message room in
+    let answers = c.deliver-delivered.ensures.answers d (found.0.command ∷ []) there.2 message room in
+    let sendable = c.deliver-delivered.ensures.sendable d (found.0.command ∷ []) there.2 message room in
     let emptied = on_ok_then c.take_uplinks.result ok c.take_uplinks.ensures.device in
     let taken = on_ok_then c.take_uplinks.result ok c.take_uplinks.ensures.taken in
     let mark : c.from-mark.result + 1 ≡ world.lines + 1 = ap (λ (n : ℕ). n + 1) (c.from-mark.ensures ∙ sym here.lines) in
     let behind = subst (λ (m : ℕ). StandsAs c.deliver-delivered.new.self (after_command d found.0.command m)) mark acted in
-    let config = there.2.config in
+    let on : port_of found.0.command ≡ sent.port = ap (λ (s : Sent). s.port) found.2 in
     reaches_stands _ world c.args.payload c.take_uplinks.new.device d found.0 c.take_uplinks.new.uplinks.items here there.1 found.1
-    (rw emptied (record { slot = behind.slot; config = behind.config; next = behind.next; counts = behind.counts }))
+    (rw emptied (record { places = behind.places; config = behind.config; next = behind.next; counts = behind.counts }))
     (ap (λ (h : HeldDevice). h.outbox) emptied)
     (taken ∙ ap (λ (us : List Uplink). c.self.inside.uplinks.items ++ us)
-    (answers ∙ only_answers c.in-Some.device.outbox (answer_to c.in-Some.device.config found.0.command) empty
-    ∙ ap (λ (k : DeviceConfig). map uplink_of (answer_to k found.0.command)) (sym config)))
-    (subst (λ (k : DeviceConfig). AllByRecursion IsUplink (answer_to k found.0.command)) (sym config)
-    (subst (λ (us : List Command). AllByRecursion IsUplink us) (append-nil (answer_to c.in-Some.device.config found.0.command)) sendable)))
+    (answers ∙ only_answers c.in-Some.device.outbox (answer_to d sent.port found.0.command) empty
+    ∙ ap (λ (p : ℕ). map uplink_of (answer_to d p found.0.command)) (sym on)))
+    (subst (λ (p : ℕ). AllByRecursion IsUplink (answer_to d p found.0.command)) (sym on)
+    (subst (λ (us : List Upward). AllByRecursion IsUplink us) (append-nil (answer_to d sent.port found.0.command)) sendable)))

@@ -19,8 +19,8 @@ returns-clause-taken c = λ world stands.
     let is = sym (ap (λ (us : List Uplink). numbered us c.args.number) (c.deref.ensures.value ∙ here.uplinks)) ∙ sym c.in-Some-numbered.ensures in
     let found = numbered-map uplink_of world.uplinks c.args.number uplink is in
     let fine = all_numbered IsUplink world.uplinks c.args.number found.0 here.ups found.1 in
-    let sent = message_of found.0 _ Up fine.valid fine.listed in
-    let port = subst (λ (u : Uplink). IsMessage (found.0 ∷ []) u.port Up u.payload) found.2 sent in
-    let message = subst (λ (bytes : List ℕ). IsMessage (found.0 ∷ []) uplink.port Up bytes) (sym c.as_slice.ensures.value) port in
-    let after = c.uplink-refusal.ensures.taken (found.0 ∷ []) message in
+    let sent = message_of found.0.command _ Up fine.valid fine.listed in
+    let port = subst (λ (u : Uplink). IsMessage (found.0.command ∷ []) u.port Up u.payload) found.2 sent in
+    let message = subst (λ (bytes : List ℕ). IsMessage (found.0.command ∷ []) uplink.port Up bytes) (sym c.as_slice.ensures.value) port in
+    let after = c.uplink-refusal.ensures.taken (found.0.command ∷ []) message in
     hears_stands _ world c.args.number c.in-Some.server c.uplink-refusal.new.self found.0 here c.in-Some.is found.1 after
