@@ -460,7 +460,7 @@ campaign_full image script world is =
     all_full image (lines_of script) world (Ok (first_world image)) (lines_of script) (first_reads image (lines_of script), first_full image (lines_of script) world.sent) (ended_is _ world is)
 
 -- the lines of the script are those that were read
-within : (xs : List (List ℕ)) (n : ℕ) (x : List ℕ) → numbered xs n ≡ Some x → n ≤ length xs
+pub within : (xs : List (List ℕ)) (n : ℕ) (x : List ℕ) → numbered xs n ≡ Some x → n ≤ length xs
 within xs n x is = by_place (n == 0) refl is
   where
     there : (ys : List (List ℕ)) (k : ℕ) → slice_get ys k ≡ Some x → k < length ys

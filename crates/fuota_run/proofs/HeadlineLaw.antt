@@ -12,7 +12,7 @@ use Rattle.fuota_run.specs.Server.{ServerState, fragments_of, padding_of}
 use Rattle.fuota_run.specs.Sessions.{Sessions}
 use Rattle.fuota_run.specs.Device.{DeviceState}
 use Rattle.fuota_run.specs.World.{WorldState, campaign_of}
-use Rattle.fuota_run.specs.Report.{image_line, device_line, counts_line, verdict_text, session_text, session_line, session_lines, report_text, report_lines, report_of_ends, report_of}
+use Rattle.fuota_run.specs.Report.{image_line, device_line, counts_line, same_word, verdict_text, session_text, session_line, session_lines, report_text, report_lines, report_of_ends, report_of}
 use Rattle.fuota_run.specs.declared.status.Status.TheVariants as status
 use Rattle.fuota_run.specs.Outside.{Held}
 use Rattle.fuota_run.specs.Words.{Asked}
@@ -108,8 +108,8 @@ report_is world server device session s d e none =
     ∙ ap (λ (x : Option DeviceState). report_of_ends (Some server) x) d
     ∙ ap (report_text (image_line server) (device_line server.stage device) (counts_line device.counts)) (alone_lines server.image device.sessions session e none)
 
-line_is : (sent : List ℕ) (seen : Seen) (v : Verdict) → seen.verdict ≡ v → session_line sent 0 (Some seen) ≡ session_text 0 seen.received seen.missing (verdict_text v (bytes_eq seen.file sent))
-line_is sent seen v is = ap (λ (x : Verdict). session_text 0 seen.received seen.missing (verdict_text x (bytes_eq seen.file sent))) is
+line_is : (sent : List ℕ) (seen : Seen) (v : Verdict) → seen.verdict ≡ v → session_line sent 0 (Some seen) ≡ session_text 0 seen.received seen.missing (verdict_text v (same_word (bytes_eq seen.file sent)))
+line_is sent seen v is = ap (λ (x : Verdict). session_text 0 seen.received seen.missing (verdict_text x (same_word (bytes_eq seen.file sent)))) is
 
 -- a session is complete, without rows or receiving, where there never is a conflict
 abbrev Cases : Verdict → Type 0
@@ -143,7 +143,7 @@ reported image script world server device session c =
       complete = λ line at.
           let is = (r.decided.complete line).1 (image, at) in
           let same : bytes_eq seen.file server.image ≡ true = (bytes_eq-Decides seen.file server.image).1 (r.shown line is ∙ sym k.0) in
-          text ∙ ap whole (line_is server.image seen (verdict.Complete line) is ∙ ap (λ b. session_text 0 seen.received seen.missing (verdict_text (verdict.Complete line) b)) same);
+          text ∙ ap whole (line_is server.image seen (verdict.Complete line) is ∙ ap (λ b. session_text 0 seen.received seen.missing (verdict_text (verdict.Complete line) (same_word b))) same);
       no_rows = λ line at. text ∙ ap whole (line_is server.image seen (verdict.NoRows line) ((r.decided.no_rows line).1 at));
       receiving = λ stays. text ∙ ap whole (line_is server.image seen verdict.Receiving (r.decided.receiving.1 stays));
     }

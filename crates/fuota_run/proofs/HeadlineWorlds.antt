@@ -5,10 +5,9 @@ use Rattle.cast_wire.specs.declared.cmd.Cmd.TheVariants.{DataFragment}
 use Rattle.frag_session.specs.declared.setups.SetupReq.{SetupReq}
 use Rattle.frag_session.specs.declared.setups.Limits.{Limits}
 use Rattle.frag_session.specs.declared.answers.Via.TheVariants as via
-use Rattle.frag_session.specs.Setup.{Room, setup_bits, same_setup}
-use Rattle.frag_session.specs.Session.{Session, new_session, renewed, after_setup, followed, after_fragment, drop_cause}
+use Rattle.frag_session.specs.Setup.{Room}
+use Rattle.frag_session.specs.Session.{Session, new_session, after_setup, followed, after_fragment, drop_cause}
 use Rattle.frag_session.specs.Stands.{IsSetUp}
-use Rattle.frag_session.proofs.Calls.{accepted, set_up_fine}
 use Rattle.package_grammar.specs.declared.command.Command.{Command}
 use Rattle.package_grammar.specs.declared.command.Command.TheVariants.{Sync, Cast}
 use Rattle.sync_wire.specs.declared.cmd.Cmd.TheVariants.{DevVersionReq}
@@ -30,6 +29,7 @@ use Rattle.fuota_run.specs.Device.{DeviceState, room, limits_of, after_command, 
 use Rattle.fuota_run.specs.World.{WorldState, Sending, first_world, numbered, is_at, is_allowed, circumstances_of, form_cause, form_cause_of, cause_of, sends, request_of, fragment_from, moved_on, reaches, hears, at_events, form_made, form_made_of, after_line, judged, line_read, lines_read, ended, campaign_of}
 use Rattle.fuota_run.specs.Headline.{IsFragmentOf}
 use Rattle.fuota_run.proofs.CauseLemmas.{fine_image}
+use Rattle.fuota_run.proofs.SessionSteps.{setup_keeps, fragment_keeps}
 use Rattle.fuota_run.proofs.Messages.{all_more}
 use Rattle.fuota_run.proofs.WorldLemmas.{all_numbered}
 
@@ -58,43 +58,18 @@ fresh : (image : List ℕ) (size : ℕ) (limits : Limits) → IsSetUp (setup_req
 unfolding new_session
 fresh image size limits makes = record { setup = refl; makes = makes; heard = tt }
 
-renewed_by : (image : List ℕ) (size : ℕ) (limits : Limits) (s : Session) (b : Bool) → IsSetUp (setup_req image size) → IsSetFor image size s
-    → IsSetFor image size (cond b s (new_session limits (setup_req image size)))
-renewed_by image size limits s true makes k = k
-renewed_by image size limits s false makes k = fresh image size limits makes
-
-renewed_set : (image : List ℕ) (size : ℕ) (limits : Limits) (s : Option Session) → IsSetUp (setup_req image size) → IfSome s (IsSetFor image size)
-    → IsSetFor image size (renewed limits s (setup_req image size))
-unfolding renewed
-renewed_set image size limits None makes k = fresh image size limits makes
-renewed_set image size limits (Some s) makes k = renewed_by image size limits s (same_setup s.setup (setup_req image size)) makes k
-
-setup_by : (image : List ℕ) (size : ℕ) (limits : Limits) (here : Room) (s : Option Session) (b : Bool) → (setup_bits limits here (setup_req image size) == 0) ≡ b → IfSome s (IsSetFor image size)
-    → IfSome (cond b (Some (renewed limits s (setup_req image size))) s) (IsSetFor image size)
-setup_by image size limits here s true is k =
-    renewed_set image size limits s (set_up_fine (setup_req image size) (accepted limits here (setup_req image size) (eqb-true _ _ is)).0) k
-setup_by image size limits here s false is k = k
-
 setup_set : (image : List ℕ) (size : ℕ) (limits : Limits) (here : Room) (s : Option Session) → IfSome s (IsSetFor image size)
     → IfSome (after_setup limits here s (setup_req image size)) (IsSetFor image size)
-unfolding after_setup
-setup_set image size limits here s k = setup_by image size limits here s _ refl k
+setup_set image size limits here s k = setup_keeps (IsSetFor image size) limits here s (setup_req image size) (λ makes. fresh image size limits makes) k
 
-followed_set : (image : List ℕ) (size : ℕ) (s : Option Session) (n : ℕ) (part : List ℕ) (mark : ℕ) → IsFragmentOf image size (record { number = n; part = part; mark = mark })
-    → IfSome s (IsSetFor image size) → IfSome (option_map (λ x. followed x n part mark) s) (IsSetFor image size)
+followed_set : (image : List ℕ) (size : ℕ) (n : ℕ) (part : List ℕ) (mark : ℕ) → IsFragmentOf image size (record { number = n; part = part; mark = mark })
+    → (s : Session) → IsSetFor image size s → IsSetFor image size (followed s n part mark)
 unfolding followed
-followed_set image size None n part mark f k = tt
-followed_set image size (Some s) n part mark f k = record { setup = k.setup; makes = k.makes; heard = (f, k.heard) }
-
-heard_by : (image : List ℕ) (size : ℕ) (s : Option Session) (n : ℕ) (part : List ℕ) (mark : ℕ) (b : Bool) → IsFragmentOf image size (record { number = n; part = part; mark = mark })
-    → IfSome s (IsSetFor image size) → IfSome (cond b (option_map (λ x. followed x n part mark) s) s) (IsSetFor image size)
-heard_by image size s n part mark true f k = followed_set image size s n part mark f k
-heard_by image size s n part mark false f k = k
+followed_set image size n part mark f s k = record { setup = k.setup; makes = k.makes; heard = (f, k.heard) }
 
 fragment_set : (image : List ℕ) (size : ℕ) (s : Option Session) (n : ℕ) (part : List ℕ) (mark : ℕ) → IsFragmentOf image size (record { number = n; part = part; mark = mark })
     → IfSome s (IsSetFor image size) → IfSome (after_fragment s via.Unicast n part mark) (IsSetFor image size)
-unfolding after_fragment
-fragment_set image size s n part mark f k = heard_by image size s n part mark (is_none (drop_cause s via.Unicast n part)) f k
+fragment_set image size s n part mark f k = fragment_keeps (IsSetFor image size) s via.Unicast n part mark (followed_set image size n part mark f) k
 
 -- ---- a device
 

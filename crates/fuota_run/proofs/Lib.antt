@@ -9,12 +9,17 @@ pub mod WorldLemmas
 pub mod Outcomes
 pub mod SourceLines
 pub mod Playing
+pub mod SessionSteps
 pub mod HeadlineMoments
 pub mod HeadlineWorlds
 pub mod HeadlineImage
 pub mod HeadlineLines
 pub mod HeadlineHeard
 pub mod HeadlineLaw
+pub mod PayloadLines
 pub mod Payloads
+pub mod ReplayLines
 pub mod CommandLine
 pub mod OneAnswer
+pub mod ReplaySessions
+pub mod ReplayLaw

@@ -11,22 +11,22 @@ use Rattle.fuota_run.specs.Outside.{Held, HoldsName, HasRisen, AppendsFront}
 use Rattle.fuota_run.specs.Source.{IsSource, IsTooLong}
 use Rattle.image_slots.specs.Image.{is_image}
 use Rattle.fuota_run.specs.World.{campaign_of}
-use Rattle.wire_base.specs.declared.refusal.Direction.{Direction}
 use Rattle.fuota_run.specs.declared.world.LineFault.{LineFault}
 use Rattle.fuota_run.specs.declared.world.WorldError.{WorldError}
 use Rattle.fuota_run.specs.declared.world.WorldError.TheVariants as world
 use Rattle.fuota_run.specs.Report.{report_of}
-use Rattle.fuota_run.specs.Words.{Asked, campaign, decode, asked}
-use Rattle.fuota_run.specs.Decode.{Decodes, IsDecoded}
-use Rattle.fuota_run.specs.Answer.{Answer, answer, read_fault, usage, image_refused, too_long, taken_text, played, decoded, script_answer, campaign_answer, IsDecodeAnswer, IsAnswer}
-use Rattle.fuota_run.specs.Reply.{HoldsAsked, HoldsForm, Gives, Effects, Ends, AppendsAnswer, AppendsAnswerFront, GivesBy, GivesScript, GivesCampaign, GivesDecode, IsPlayed, IsTextOf, IsReply, IsCaused, Says, ends_source}
+use Rattle.fuota_run.specs.declared.words.FileForm.{FileForm}
+use Rattle.fuota_run.specs.Words.{Asked, campaign, payloads, asked}
+use Rattle.fuota_run.specs.PayloadLines.{Telling, IsTold}
+use Rattle.fuota_run.specs.Answer.{Answer, answer, read_fault, usage, image_refused, too_long, taken_text, played, tells, told, script_answer, campaign_answer, IsFileAnswer, IsAnswer}
+use Rattle.fuota_run.specs.Reply.{HoldsAsked, HoldsForm, Gives, Effects, Ends, AppendsAnswer, AppendsAnswerFront, GivesBy, GivesScript, GivesCampaign, GivesFile, IsPlayed, IsReplied, IsReply, IsCaused, Says, ends_source}
 use Rattle.fuota_run.specs.Replies.{IsUnread, IsSaid}
 
 -- where nothing is told of the files, nothing is asked of their names
 none_asked : (what : Option Asked) → HoldsAsked None what
 none_asked None = tt
 none_asked (Some (campaign image script)) = (tt, tt)
-none_asked (Some (decode port dir file)) = tt
+none_asked (Some (payloads what file)) = tt
 
 pub holds_asked : (held : Option Held) (words : List (List ℕ)) → HoldsForm held words → HoldsAsked held (asked words)
 holds_asked None words holds = none_asked (asked words)
@@ -55,7 +55,7 @@ pub says_unread : (held : Option Held) (name : List ℕ) (IsFor : Held → Optio
     → IsUnread e a → Says (GivesBy held name IsFor a) before now left a × (a.status ≢ status.Usage)
 says_unread held name IsFor limit before now left error.Memory a says holds long taken failed is = absurd is
 says_unread held name IsFor limit before now left error.Failed a says holds long taken failed is = (
-  record { reply = inr (is, failed refl); told = subst (λ (x : Answer). IsTextOf x.status x.text) (sym is) refl; caused = λ _. (failed refl, is); read_up = λ ends. absurd (let s = ap ends_source (ap (λ (x : Answer). x.status) is) in cc) },
+  record { reply = inr (is, failed refl); replied = subst (λ (x : Answer). IsReplied x.status) (sym is) tt; caused = λ _. (failed refl, is); read_up = λ ends. absurd (let s = ap ends_source (ap (λ (x : Answer). x.status) is) in cc) },
   λ usage. let s = ap (λ (x : Answer). x.status) is in cc,
 )
 says_unread held name IsFor limit before now left (error.TooLong n) a says holds long taken failed is =
@@ -64,7 +64,7 @@ says_unread held name IsFor limit before now left (error.TooLong n) a says holds
     let s : a.status ≡ status.TooLong (limit + 1) = ap (λ (x : Answer). x.status) here in (
       record {
         reply = inl (subst (λ (x : Answer). GivesBy held name IsFor x) (sym here) (too_long_given held name IsFor limit says holds (long n refl)));
-        told = subst (λ (x : Answer). IsTextOf x.status x.text) (sym here) refl;
+        replied = subst (λ (x : Answer). IsReplied x.status) (sym here) tt;
         caused = λ fault. absurd cc;
         read_up = λ ends. absurd (let t = ap ends_source s in cc);
       },
@@ -73,10 +73,10 @@ says_unread held name IsFor limit before now left (error.TooLong n) a says holds
 
 -- what is said where a source was read to its end
 pub says_source : (held : Option Held) (name : List ℕ) (IsFor : Held → Option (List ℕ) → Answer → Type 0) (limit before now : ℕ) (left : Option (List ℕ)) (bytes : List ℕ) (a : Answer)
-    → IsSource held name limit bytes → ((h : Held) → IsFor h (Some bytes) a) → IsTextOf a.status a.text → a.status ≢ status.ReadFault → IsAtEnd left → Says (GivesBy held name IsFor a) before now left a
-says_source None name IsFor limit before now left bytes a source is text fine ends = record { reply = inl ((λ _. []), bytes, is (λ _. Some [])); told = text; caused = λ fault. absurd (fine fault); read_up = λ _. ends }
+    → IsSource held name limit bytes → ((h : Held) → IsFor h (Some bytes) a) → IsReplied a.status → a.status ≢ status.ReadFault → IsAtEnd left → Says (GivesBy held name IsFor a) before now left a
+says_source None name IsFor limit before now left bytes a source is text fine ends = record { reply = inl ((λ _. []), bytes, is (λ _. Some [])); replied = text; caused = λ fault. absurd (fine fault); read_up = λ _. ends }
 says_source (Some h) name IsFor limit before now left bytes a source is text fine ends =
-    record { reply = inl (subst (λ (f : Option (List ℕ)). IsFor h f a) (sym source) (is h)); told = text; caused = λ fault. absurd (fine fault); read_up = λ _. ends }
+    record { reply = inl (subst (λ (f : Option (List ℕ)). IsFor h f a) (sym source) (is h)); replied = text; caused = λ fault. absurd (fine fault); read_up = λ _. ends }
 
 -- a script that is too long
 pub script_long : (image script : List ℕ) → 1048576 < length script → too_long 1048576 ≡ script_answer image (Some script)
@@ -115,7 +115,7 @@ says_behind held middle image_name script_name before between now left image a s
     let here = subst (λ (m : Option Held). Says (GivesScript m image script_name a) between now left a) same says in
     record {
       reply = replies held source here.reply;
-      told = here.told;
+      replied = here.replied;
       caused = λ fault. (risen_before before between now kept (here.caused fault).0, (here.caused fault).1);
       read_up = here.read_up;
     }
@@ -129,8 +129,8 @@ says_behind held middle image_name script_name before between now left image a s
 pub says_usage : (held : Option Held) (before : ℕ) (left : Option (List ℕ)) (a : Answer) → a ≡ usage → Says (Gives held None a) before before left a
 says_usage held before left a is =
     let s : a.status ≡ status.Usage = ap (λ (x : Answer). x.status) is in
-    let text = subst (λ (x : Answer). IsTextOf x.status x.text) (sym is) refl in
-    record { reply = inl (given held); told = text; caused = λ fault. absurd cc; read_up = λ ends. absurd (let t = ap ends_source s in cc) }
+    let text = subst (λ (x : Answer). IsReplied x.status) (sym is) tt in
+    record { reply = inl (given held); replied = text; caused = λ fault. absurd cc; read_up = λ ends. absurd (let t = ap ends_source s in cc) }
   where
     given : (h : Option Held) → Gives h None a
     given None = is
@@ -141,25 +141,25 @@ pub says_campaign : (held : Option Held) (image script : List ℕ) (before now :
     → Says (GivesCampaign held image script a) before now left a → Says (Gives held (Some (campaign image script)) a) before now left a
 says_campaign None image script before now left a says = record {
   reply = elim says.reply [ inl given ↦ inl (given.1, given.0 script, given.2) | inr fault ↦ inr fault ];
-  told = says.told;
+  replied = says.replied;
   caused = says.caused;
   read_up = says.read_up;
 }
-says_campaign (Some h) image script before now left a says = record { reply = says.reply; told = says.told; caused = says.caused; read_up = says.read_up }
+says_campaign (Some h) image script before now left a says = record { reply = says.reply; replied = says.replied; caused = says.caused; read_up = says.read_up }
 
-pub says_decode : (held : Option Held) (port : ℕ) (dir : Direction) (file : List ℕ) (before now : ℕ) (left : Option (List ℕ)) (a : Answer)
-    → Says (GivesDecode held port dir file a) before now left a → Says (Gives held (Some (decode port dir file)) a) before now left a
-says_decode None port dir file before now left a says = record {
+pub says_file : (held : Option Held) (what : FileForm) (file : List ℕ) (before now : ℕ) (left : Option (List ℕ)) (a : Answer)
+    → Says (GivesFile held (tells what) file a) before now left a → Says (Gives held (Some (payloads what file)) a) before now left a
+says_file None what file before now left a says = record {
   reply = elim says.reply [ inl given ↦ inl (given.1, given.2) | inr fault ↦ inr fault ];
-  told = says.told;
+  replied = says.replied;
   caused = says.caused;
   read_up = says.read_up;
 }
-says_decode (Some h) port dir file before now left a says = record { reply = says.reply; told = says.told; caused = says.caused; read_up = says.read_up }
+says_file (Some h) what file before now left a says = record { reply = says.reply; replied = says.replied; caused = says.caused; read_up = says.read_up }
 
 -- an answer that a whole file made
 pub record IsMade (a : Answer) : Type 0 where
-  pub told : IsTextOf a.status a.text
+  pub replied : IsReplied a.status
   pub sound : a.status ≢ status.ReadFault
   pub used : a.status ≢ status.Usage
 
@@ -168,45 +168,45 @@ pub says_played : (image script : List ℕ) (r : Result (List ℕ) WorldError) (
 says_played image script (Ok text) a made said =
     let is : a ≡ answer status.Done (report_of made.0) = said ∙ ap (λ t. answer status.Done t) made.2 in (
       is ∙ sym (ap played made.1),
-      subst IsMade (sym is) (record { told = inl (made.0, refl); sound = λ e. cc; used = λ e. cc }),
+      subst IsMade (sym is) (record { replied = tt; sound = λ e. cc; used = λ e. cc }),
     )
 says_played image script (Err (world.Line fault)) a made said = (
   said ∙ sym (ap played made),
-  subst IsMade (sym said) (record { told = (fault, refl); sound = λ e. cc; used = λ e. cc }),
+  subst IsMade (sym said) (record { replied = tt; sound = λ e. cc; used = λ e. cc }),
 )
 says_played image script (Err world.Memory) a made said = absurd said
 
 -- and with what a file of payloads made
-pub says_decoded : (port : ℕ) (dir : Direction) (file : List ℕ) (r : Result (List ℕ) WorldError) (a : Answer) → IsDecoded port dir file r → IsSaid r a
-    → ((said : Result (List ℕ) LineFault) × Decodes port dir file said × (a ≡ decoded said)) × IsMade a
-says_decoded port dir file (Ok text) a made said = (
+pub says_told : (Tells : Telling) (file : List ℕ) (r : Result (List ℕ) WorldError) (a : Answer) → IsTold Tells file r → IsSaid r a
+    → ((said : Result (List ℕ) LineFault) × Tells file said × (a ≡ told said)) × IsMade a
+says_told Tells file (Ok text) a made said = (
   (Ok text, made, said),
-  subst IsMade (sym said) (record { told = inr (port, dir, file, made); sound = λ e. cc; used = λ e. cc }),
+  subst IsMade (sym said) (record { replied = tt; sound = λ e. cc; used = λ e. cc }),
 )
-says_decoded port dir file (Err (world.Line fault)) a made said = (
+says_told Tells file (Err (world.Line fault)) a made said = (
   (Err fault, made, said),
-  subst IsMade (sym said) (record { told = (fault, refl); sound = λ e. cc; used = λ e. cc }),
+  subst IsMade (sym said) (record { replied = tt; sound = λ e. cc; used = λ e. cc }),
 )
-says_decoded port dir file (Err world.Memory) a made said = absurd said
+says_told Tells file (Err world.Memory) a made said = absurd said
 
 -- a file of payloads that is too long
-pub file_long : (port : ℕ) (dir : Direction) (file : List ℕ) → 1048576 < length file → IsDecodeAnswer port dir (Some file) (too_long 1048576)
-unfolding IsDecodeAnswer
-file_long port dir file long = let t : nat_lt 1048576 (length file) ≡ true = lt-ltb _ _ long in rw t refl
+pub file_long : (Tells : Telling) (file : List ℕ) → 1048576 < length file → IsFileAnswer Tells (Some file) (too_long 1048576)
+unfolding IsFileAnswer
+file_long Tells file long = let t : nat_lt 1048576 (length file) ≡ true = lt-ltb _ _ long in rw t refl
 
 -- one within its limit
-pub file_given : (port : ℕ) (dir : Direction) (file : List ℕ) (a : Answer) → length file ≤ 1048576 → ((said : Result (List ℕ) LineFault) × Decodes port dir file said × (a ≡ decoded said))
-    → IsDecodeAnswer port dir (Some file) a
-unfolding IsDecodeAnswer
-file_given port dir file a within said = let t : nat_lt 1048576 (length file) ≡ false = le-ltb _ _ within in rw t said
+pub file_given : (Tells : Telling) (file : List ℕ) (a : Answer) → length file ≤ 1048576 → ((said : Result (List ℕ) LineFault) × Tells file said × (a ≡ told said))
+    → IsFileAnswer Tells (Some file) a
+unfolding IsFileAnswer
+file_given Tells file a within said = let t : nat_lt 1048576 (length file) ≡ false = le-ltb _ _ within in rw t said
 
 -- what is written of a reply
-appends_answer : (held : Option Held) (words : List (List ℕ)) (s : Status) (text : List ℕ) (old new : Option (List ℕ)) → Gives held (asked words) (answer s text) → IsTextOf s text → Appends old new text → AppendsAnswer held words s old new
+appends_answer : (held : Option Held) (words : List (List ℕ)) (s : Status) (text : List ℕ) (old new : Option (List ℕ)) → Gives held (asked words) (answer s text) → IsReplied s → Appends old new text → AppendsAnswer held words s old new
 unfolding IsAnswer
 appends_answer None words s text old new gives told appends = (text, gives, appends)
 appends_answer (Some h) words s text old new gives told appends = (answer s text, gives, refl, appends)
 
-ends_by : (held : Option Held) (words : List (List ℕ)) (e : Effects) (s : Status) (text : List ℕ) → Gives held (asked words) (answer s text) → IsTextOf s text
+ends_by : (held : Option Held) (words : List (List ℕ)) (e : Effects) (s : Status) (text : List ℕ) → Gives held (asked words) (answer s text) → IsReplied s
     → IsCaused e.files_before e.files_after (answer s text) → Appends e.old e.new text → Ends held words e s
 ends_by held words e status.Done text gives told caused appends = appends_answer held words status.Done text e.old e.new gives told appends
 ends_by held words e status.Usage text gives told caused appends = appends_answer held words status.Usage text e.old e.new gives told appends
@@ -222,7 +222,7 @@ ends_by held words e status.Memory text gives told caused appends = absurd told
 pub ends_written : (held : Option Held) (words : List (List ℕ)) (e : Effects) (left : Option (List ℕ)) (a : Answer) → Says (Gives held (asked words) a) e.files_before e.files_after left a → Appends e.old e.new a.text → Ends held words e a.status
 ends_written held words e left a says appends =
     elim says.reply [
-      | inl gives ↦ ends_by held words e a.status a.text gives says.told says.caused appends
+      | inl gives ↦ ends_by held words e a.status a.text gives says.replied says.caused appends
       | inr fault ↦ subst (λ (x : Answer). Ends held words e x.status) (sym fault.0) (fault.1, subst (λ (x : Answer). Appends e.old e.new x.text) fault.0 appends)
     ]
 

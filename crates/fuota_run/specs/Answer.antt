@@ -4,13 +4,16 @@ use Rattle.std.specs.Fmt.{decimal}
 use Rattle.fuota_run.specs.declared.running.TheConstants.{IMAGE_LIMIT, SCRIPT_LIMIT}
 use Rattle.fuota_run.specs.declared.status.Status.{Status}
 use Rattle.fuota_run.specs.declared.status.Status.TheVariants as status
+use Rattle.fuota_run.specs.declared.words.FileForm.{FileForm}
+use Rattle.fuota_run.specs.declared.words.FileForm.TheVariants.{Replay, Decode}
 use Rattle.fuota_run.specs.declared.world.LineWhy.{LineWhy}
 use Rattle.fuota_run.specs.declared.world.LineWhy.TheVariants as why
 use Rattle.fuota_run.specs.declared.world.LineFault.{LineFault}
-use Rattle.wire_base.specs.declared.refusal.Direction.{Direction}
 use Rattle.fuota_run.specs.Outside.{Held}
-use Rattle.fuota_run.specs.Words.{Asked, campaign, decode, asked}
+use Rattle.fuota_run.specs.Words.{Asked, campaign, payloads, asked}
+use Rattle.fuota_run.specs.PayloadLines.{Telling}
 use Rattle.fuota_run.specs.Decode.{Decodes}
+use Rattle.fuota_run.specs.Replay.{Replays}
 use Rattle.image_slots.specs.Image.{is_image}
 use Rattle.fuota_run.specs.World.{WorldState, campaign_of}
 use Rattle.fuota_run.specs.Report.{report_of}
@@ -74,26 +77,31 @@ campaign_answer (Some image) script =
     else if is_image image then script_answer image script
     else image_refused
 
--- the text of a file of payloads, or its first refused line
-abbrev pub decoded : Result (List ℕ) LineFault → Answer
-decoded (Ok text) = answer status.Done text
-decoded (Err fault) = refused fault
+-- what each form tells of a file of payloads
+abbrev pub tells : FileForm → Telling
+tells Replay = Replays
+tells (Decode port direction) = Decodes port direction
 
--- the answer to a file of payloads that was read: it is too long, or what is said of its lines
-abbrev pub IsFileAnswer : Bool → ℕ → Direction → List ℕ → Answer → Type 0
-IsFileAnswer true port direction file a = a ≡ too_long SCRIPT_LIMIT
-IsFileAnswer false port direction file a = (said : Result (List ℕ) LineFault) × Decodes port direction file said × (a ≡ decoded said)
+-- the answer with what is told of a file of payloads: its text, or its first refused line
+abbrev pub told : Result (List ℕ) LineFault → Answer
+told (Ok text) = answer status.Done text
+told (Err fault) = refused fault
 
--- the answer to `decode PORT DIR FILE`
-unfoldable pub IsDecodeAnswer : ℕ → Direction → Option (List ℕ) → Answer → Type 0
-IsDecodeAnswer port direction None a = a ≡ read_fault
-IsDecodeAnswer port direction (Some file) a = IsFileAnswer (nat_lt SCRIPT_LIMIT (length file)) port direction file a
+-- the answer to a file of payloads that was read: it is too long, or what is told of it
+abbrev pub IsReadAnswer : Telling → Bool → List ℕ → Answer → Type 0
+IsReadAnswer Tells true file a = a ≡ too_long SCRIPT_LIMIT
+IsReadAnswer Tells false file a = (said : Result (List ℕ) LineFault) × Tells file said × (a ≡ told said)
+
+-- the answer to a form with one file of payloads
+unfoldable pub IsFileAnswer : Telling → Option (List ℕ) → Answer → Type 0
+IsFileAnswer Tells None a = a ≡ read_fault
+IsFileAnswer Tells (Some file) a = IsReadAnswer Tells (nat_lt SCRIPT_LIMIT (length file)) file a
 
 -- the answer to what is asked for, over the files that are held
 abbrev pub IsAnswerTo : Option Asked → Held → Answer → Type 0
 IsAnswerTo None held a = a ≡ usage
 IsAnswerTo (Some (campaign image script)) held a = a ≡ campaign_answer (held image) (held script)
-IsAnswerTo (Some (decode port direction file)) held a = IsDecodeAnswer port direction (held file) a
+IsAnswerTo (Some (payloads what file)) held a = IsFileAnswer (tells what) (held file) a
 
 -- the answer to the words
 unfoldable pub IsAnswer : List (List ℕ) → Held → Answer → Type 0

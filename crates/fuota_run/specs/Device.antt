@@ -92,6 +92,14 @@ with_fragment device index session = record {
 abbrev pub with_drop : DeviceState → DeviceState
 with_drop device = record device { counts = record device.counts { dropped = raised device.counts.dropped } }
 
+-- after a payload where reading stops
+abbrev pub with_refusal : DeviceState → DeviceState
+with_refusal device = record device { counts = record device.counts { refused = raised device.counts.refused } }
+
+-- after a message whose uplinks could be too many
+abbrev pub with_full : DeviceState → DeviceState
+with_full device = record device { counts = record device.counts { full = raised device.counts.full } }
+
 -- after any fragment
 unfoldable pub after_data : DeviceState → ℕ → ℕ → List ℕ → ℕ → DeviceState
 after_data device index n part mark =

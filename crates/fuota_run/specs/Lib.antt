@@ -10,10 +10,13 @@ pub mod Server
 pub mod Ranges
 pub mod World
 pub mod Words
+pub mod PayloadLines
 pub mod Decode
+pub mod Replay
 pub mod Answer
 pub mod Reply
 pub mod Replies
+pub mod Replayed
 pub mod HeldDevice
 pub mod HeldWorld
 pub mod Worlds
@@ -21,3 +24,4 @@ pub mod Texts
 pub mod HeldDevices
 pub mod Exit
 pub mod Headline
+pub mod ReplayHeadline

@@ -9,16 +9,15 @@ use Rattle.fuota_run.specs.declared.world.LineFault.{LineFault}
 use Rattle.fuota_run.specs.Outside.{Held, HoldsName, HasRisen, AppendsFront}
 use Rattle.fuota_run.specs.World.{WorldState}
 use Rattle.fuota_run.specs.Report.{report_of}
-use Rattle.wire_base.specs.declared.refusal.Direction.{Direction}
-use Rattle.fuota_run.specs.Words.{Asked, campaign, decode, asked}
-use Rattle.fuota_run.specs.Decode.{Decodes}
-use Rattle.fuota_run.specs.Answer.{Answer, answer, read_fault, usage, image_refused, refused, taken_text, script_answer, campaign_answer, IsDecodeAnswer, IsAnswerTo, IsAnswer}
+use Rattle.fuota_run.specs.Words.{Asked, campaign, payloads, asked}
+use Rattle.fuota_run.specs.PayloadLines.{Telling}
+use Rattle.fuota_run.specs.Answer.{Answer, answer, read_fault, usage, tells, script_answer, campaign_answer, IsFileAnswer, IsAnswerTo, IsAnswer}
 
 -- where it is told what is held, something is held under the names of the files that are asked for
 abbrev pub HoldsAsked : Option Held → Option Asked → Type 0
 HoldsAsked held None = ⊤
 HoldsAsked held (Some (campaign image script)) = HoldsName held image × HoldsName held script
-HoldsAsked held (Some (decode port direction file)) = HoldsName held file
+HoldsAsked held (Some (payloads what file)) = HoldsName held file
 
 abbrev pub HoldsForm : Option Held → List (List ℕ) → Type 0
 HoldsForm None words = ⊤
@@ -30,18 +29,11 @@ IsPlayed outcome (Ok text) = (world : WorldState) × (outcome ≡ Ok world) × (
 IsPlayed outcome (Err (error.Line fault)) = outcome ≡ Err fault
 IsPlayed outcome (Err error.Memory) = ⊤
 
--- what a status is written as, whatever is told of the files
-abbrev pub IsTextOf : Status → List ℕ → Type 0
-IsTextOf status.Done text =
-    ((world : WorldState) × (text ≡ report_of world))
-    ⊎ ((port : ℕ) × (direction : Direction) × (file : List ℕ) × Decodes port direction file (Ok text))
-IsTextOf status.Usage text = text ≡ usage.text
-IsTextOf status.ImageRefused text = text ≡ image_refused.text
-IsTextOf status.ScriptRefused text = (fault : LineFault) × (text ≡ (refused fault).text)
-IsTextOf status.ReadFault text = text ≡ read_fault.text
-IsTextOf status.WriteFault text = ⊥
-IsTextOf status.Memory text = ⊥
-IsTextOf (status.TooLong taken) text = text ≡ taken_text taken
+-- a status that has a text: all but these two
+abbrev pub IsReplied : Status → Type 0
+IsReplied status.WriteFault = ⊥
+IsReplied status.Memory = ⊥
+IsReplied s = ⊤
 
 -- with these statuses the file chosen last was read to its end
 abbrev pub ends_source : Status → Bool
@@ -62,14 +54,14 @@ GivesScript held image script a = GivesBy held script (λ h source x. x ≡ scri
 abbrev pub GivesCampaign : Option Held → List ℕ → List ℕ → Answer → Type 0
 GivesCampaign held image script a = GivesBy held image (λ h source x. x ≡ campaign_answer source (h script)) a
 
-abbrev pub GivesDecode : Option Held → ℕ → Direction → List ℕ → Answer → Type 0
-GivesDecode held port direction file a = GivesBy held file (λ h source x. IsDecodeAnswer port direction source x) a
+abbrev pub GivesFile : Option Held → Telling → List ℕ → Answer → Type 0
+GivesFile held Tells file a = GivesBy held file (λ h source x. IsFileAnswer Tells source x) a
 
 -- the answer to what is asked for, whatever bytes the files have
 abbrev pub IsAnswerToSome : Option Asked → Answer → Type 0
 IsAnswerToSome None a = a ≡ usage
 IsAnswerToSome (Some (campaign image_name script_name)) a = (image : List ℕ) × (script : List ℕ) × (a ≡ campaign_answer (Some image) (Some script))
-IsAnswerToSome (Some (decode port direction name)) a = (file : List ℕ) × IsDecodeAnswer port direction (Some file) a
+IsAnswerToSome (Some (payloads what name)) a = (file : List ℕ) × IsFileAnswer (tells what) (Some file) a
 
 abbrev pub Gives : Option Held → Option Asked → Answer → Type 0
 Gives None what a = IsAnswerToSome what a
@@ -90,7 +82,7 @@ IsReadUp s left = ends_source s ≡ true → IsAtEnd left
 -- all that is said of a reply
 pub record Says (gives : Type 0) (before now : ℕ) (left : Option (List ℕ)) (a : Answer) : Type 0 where
   pub reply : IsReply gives before now a
-  pub told : IsTextOf a.status a.text
+  pub replied : IsReplied a.status
   pub caused : IsCaused before now a
   pub read_up : IsReadUp a.status left
 

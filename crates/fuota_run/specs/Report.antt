@@ -62,14 +62,15 @@ counts_line counts =
     ++ (codes " dropped " ++ decimal counts.dropped ++ codes "\n")))
 
 abbrev pub same_word : Bool → List ℕ
-same_word true = codes "same"
-same_word false = codes "other"
+same_word true = codes " same"
+same_word false = codes " other"
 
-abbrev pub verdict_text : Verdict → Bool → List ℕ
-verdict_text verdict.Receiving same = codes "receiving"
-verdict_text (verdict.Complete line) same = codes "complete at " ++ decimal line ++ (codes " " ++ same_word same)
-verdict_text (verdict.NoRows line) same = codes "norows at " ++ decimal line
-verdict_text (verdict.Conflict line) same = codes "conflict at " ++ decimal line
+-- the verdict; of a whole file what stands behind the line may be more
+abbrev pub verdict_text : Verdict → (behind : List ℕ) → List ℕ
+verdict_text verdict.Receiving behind = codes "receiving"
+verdict_text (verdict.Complete line) behind = codes "complete at " ++ decimal line ++ behind
+verdict_text (verdict.NoRows line) behind = codes "norows at " ++ decimal line
+verdict_text (verdict.Conflict line) behind = codes "conflict at " ++ decimal line
 
 abbrev pub session_text : (index received missing : ℕ) (verdict : List ℕ) → List ℕ
 session_text index received missing verdict =
@@ -81,7 +82,7 @@ session_text index received missing verdict =
 -- nothing of a session that is not there; same where the file is the server's image
 abbrev pub session_line : List ℕ → ℕ → Option Seen → List ℕ
 session_line sent index None = []
-session_line sent index (Some seen) = session_text index seen.received seen.missing (verdict_text seen.verdict (bytes_eq seen.file sent))
+session_line sent index (Some seen) = session_text index seen.received seen.missing (verdict_text seen.verdict (same_word (bytes_eq seen.file sent)))
 
 -- a line for each session that there is, by its index
 abbrev pub session_lines : List ℕ → Sessions → List ℕ

@@ -8,6 +8,8 @@ use Rattle.clap.specs.declared.builder.command.Command.TheViews.{out-Command}
 use Rattle.clap.specs.Words.{App, Kinds, Shape, Row, Rule, Text, app_of, fault_of, first_of, new_app, new_rule, subcommand_of, with_rule, with_subcommand}
 use Rattle.fuota_run.specs.declared.words.Asked.{Asked as Read}
 use Rattle.fuota_run.specs.declared.words.Asked.TheVariants as read
+use Rattle.fuota_run.specs.declared.words.FileForm.{FileForm}
+use Rattle.fuota_run.specs.declared.words.FileForm.TheVariants.{Replay, Decode}
 use Rattle.fuota_run.specs.Script.{decimal_of, ◌>>=◌}
 
 -- ---- the command
@@ -49,10 +51,10 @@ parsed words = where_none (fault_of fuota words) (subcommand_of fuota words)
 
 -- ---- what is asked for
 
--- the report of the campaign of an image and a script, or the text of a file of payloads
+-- the report of the campaign of an image and a script, or what is told of a file of payloads
 pub data Asked : Type 0 where
   campaign : (image script : List ℕ) → Asked
-  decode : (port : ℕ) (direction : Direction) (file : List ℕ) → Asked
+  payloads : (what : FileForm) (file : List ℕ) → Asked
 
 -- a decimal from 200 to 203
 abbrev pub port_by : ℕ → Option ℕ
@@ -70,6 +72,11 @@ campaign_asked rows = do
   script ← first_of (codes "SCRIPT") rows
   Some (campaign image script)
 
+abbrev pub replay_asked : List Row → Option Asked
+replay_asked rows = do
+  file ← first_of (codes "FILE") rows
+  Some (payloads Replay file)
+
 abbrev pub decode_asked : List Row → Option Asked
 decode_asked rows = do
   port_word ← first_of (codes "PORT") rows
@@ -77,12 +84,13 @@ decode_asked rows = do
   direction_word ← first_of (codes "DIR") rows
   direction ← direction_of_word direction_word
   file ← first_of (codes "FILE") rows
-  Some (decode port direction file)
+  Some (payloads (Decode port direction) file)
 
--- the forms that are there so far: `campaign` and `decode`
+-- the forms that are there so far: `campaign`, `replay` and `decode`
 unfoldable pub asked_by : Text → List Row → Option Asked
 asked_by keyword rows =
     if bytes_eq keyword (codes "campaign") then campaign_asked rows
+    else if bytes_eq keyword (codes "replay") then replay_asked rows
     else if bytes_eq keyword (codes "decode") then decode_asked rows
     else None
 
@@ -96,7 +104,7 @@ asked words = option_and_then (λ found. asked_by found.0 found.1) (parsed words
 abbrev pub seen_asked : Option Read → Option Asked
 seen_asked None = None
 seen_asked (Some (read.Campaign image script)) = Some (campaign image.now script.now)
-seen_asked (Some (read.Decode port direction file)) = Some (decode port direction file.now)
+seen_asked (Some (read.Payloads what file)) = Some (payloads what file.now)
 
 -- a command as it is built so far
 pub record IsCommand (command : Command) (app : App) : Type 0 where

@@ -1,21 +1,22 @@
 // What `decode` says of a file of payloads, one a line.
-ghost use Rattle.std.specs.Prelude.{◌≡◌, ◌⊎◌, ℕ, ◌+◌, ◌<◌, ◌≤◌, List, ◌++◌, length, codes, string_bytes, Ok, IfOk, IfErr, OnOk};
+ghost use Rattle.std.specs.Prelude.{◌≡◌, ℕ, ◌+◌, ◌<◌, ◌≤◌, List, ◌++◌, length, codes, string_bytes, Ok, IfOk, IfErr, OnOk};
 ghost use Rattle.std.specs.Fmt.{decimal};
 ghost use Rattle.package_grammar.specs.declared.command.Command.{Command};
 ghost use Rattle.package_grammar.specs.Grammar.{SpellsTo};
 ghost use Rattle.fuota_run.specs.Texts.{seen_text};
-ghost use Rattle.fuota_run.specs.Decode.{payload_of, commands_text, stop_word, stop_text, IsShown, numbered_text, IsDecoded, IsLineRefused};
+ghost use Rattle.fuota_run.specs.PayloadLines.{payload_of, IsLineRefused, IsTold};
+ghost use Rattle.fuota_run.specs.Decode.{commands_text, stop_word, stop_text, IsShown, numbered_text, Decodes};
 
 use crate::lines::first_line;
-use crate::world::{LineFault, LineWhy, MAX_LINE, MAX_LINES, WorldError};
-use hex::FromHexError;
+use crate::payload_lines::read_payload;
+use crate::world::WorldError;
 use package_grammar::{check, read_one, show};
 use std::alloc::{AllocError, Global};
-use wire_base::{Direction, MAX_PAYLOAD, Refusal, Why};
+use wire_base::{Direction, Why};
 
 /// The text of a file of hex payloads, or its first refused line.
 pub fn decode(alloc: Global, port: u8, dir: Direction, file: &[u8]) -> Result<Vec<u8>, WorldError>
-    ensures { IsDecoded port dir file.now (seen_text result) }
+    ensures { IsTold (Decodes port dir) file.now (seen_text result) }
 {
     let mut text = Vec::new(alloc);
     let mut lines = 0u32;
@@ -59,36 +60,6 @@ fn decode_line(
         Ok(()) => Ok(()),
         Err(_) => Err(WorldError::Memory),
     }
-}
-
-/// The payload of a line that comes after so many.
-#[tactic(auto, unfolding(crate::specs::Decode::payload_of, crate::specs::Decode::payload_by))]
-fn read_payload(alloc: Global, lines: u32, line: &[u8]) -> Result<Vec<u8>, WorldError>
-    requires { lines ≤ 20000 }
-    ensures payload { IfOk result (λ payload. payload_of lines line.now ≡ Ok payload.items) }
-    ensures few { OnOk result (lines < 20000) }
-    ensures refused { IfErr result (IsLineRefused lines line.now) }
-{
-    if lines >= MAX_LINES || line.len() > MAX_LINE {
-        return Err(refused(lines, LineWhy::Limit));
-    }
-    match hex::decode(alloc, line) {
-        Ok(payload) if payload.len() > MAX_PAYLOAD => Err(refused(lines, LineWhy::Limit)),
-        Ok(payload) => Ok(payload),
-        Err(FromHexError::OutOfMemory) => Err(WorldError::Memory),
-        Err(_) => Err(refused(lines, LineWhy::Syntax)),
-    }
-}
-
-/// The refusal of a line that comes after so many.
-fn refused(lines: u32, why: LineWhy) -> WorldError
-    requires { lines ≤ 20000 }
-    ensures { result ≡ WorldError.Line (record { line = lines + 1; why = why }) }
-{
-    WorldError::Line(LineFault {
-        line: lines + 1,
-        why,
-    })
 }
 
 /// Writes a line's number, and what its payload says.

@@ -387,6 +387,13 @@ impl Device {
         Some(self.outbox.remove(0))
     }
 
+    /// Throws away all uplinks that are held.
+    pub fn drop_uplinks(&mut self)
+        ensures { self.new ≡ record self.old { outbox = [] } }
+    {
+        self.outbox.clear();
+    }
+
     /// What a session shows; None exactly where there is none.
     pub fn session(&self, index: u8) -> Option<View<'_>>
         requires { index < 4 }

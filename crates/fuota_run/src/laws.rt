@@ -3,6 +3,8 @@
 ghost use Rattle.fuota_run.specs.Answer.{HasOneReply};
 ghost use Rattle.fuota_run.specs.Decode.{HasOneAnswer};
 ghost use Rattle.fuota_run.specs.Headline.{FirstMoment, Headline};
+ghost use Rattle.fuota_run.specs.Replay.{ReplaysOnce};
+ghost use Rattle.fuota_run.specs.ReplayHeadline.{ReplayHeadline};
 
 /// A session is decided by the first heard fragment after which its file is no longer open: it is whole
 /// from the first one on after which one file alone fits, and shows that file.
@@ -15,6 +17,18 @@ pub fn first_moment()
 /// report says so.
 pub fn headline()
     ensures { Headline }
+{}
+
+/// Whatever payloads are replayed: each session hears what the lines carry, it is complete from the first heard
+/// fragment on after which one file alone fits, without rows from the first that is one independent coded fragment too
+/// many, in conflict from the first after which no file fits, and the text says so.
+pub fn replay_is_decided_at_first()
+    ensures { ReplayHeadline }
+{}
+
+/// A file of payloads is replayed in one way: one text, or one first refused line.
+pub fn replay_has_one_answer()
+    ensures { ReplaysOnce }
 {}
 
 /// A file of payloads has one answer on a port and in a direction: one text, or one first refused line.

@@ -13,6 +13,8 @@ mod laws;
 mod lines;
 mod memory;
 mod output;
+mod payload_lines;
+mod replaying;
 mod report;
 mod running;
 mod server;
@@ -26,7 +28,10 @@ mod words;
 mod world;
 
 pub use files::{Failed, Files};
-pub use laws::{decode_has_one_answer, first_moment, headline, run_has_one_answer};
+pub use laws::{
+    decode_has_one_answer, first_moment, headline, replay_has_one_answer,
+    replay_is_decided_at_first, run_has_one_answer,
+};
 pub use lines::{Form, Key};
 pub use memory::{MemFiles, MemSink};
 pub use running::run;

@@ -86,7 +86,7 @@ fn count_words(line: &[u8]) -> usize
 
 /// The word at a place, counted from 0; empty where there is none.
 #[tactic(auto, unfolding(crate::specs::Script::word, crate::specs::Script::words_of))]
-fn word(line: &[u8], place: usize) -> &[u8]
+pub fn word(line: &[u8], place: usize) -> &[u8]
     ensures { result.now ≡ word line.now place }
 {
     match nth_word(line, place) {
@@ -97,7 +97,7 @@ fn word(line: &[u8], place: usize) -> &[u8]
 
 /// Whether the line has so many words and the first is the keyword.
 #[tactic(auto, unfolding(crate::specs::Script::words_of))]
-fn has_form(line: &[u8], keyword: &str, count: usize) -> bool
+pub fn has_form(line: &[u8], keyword: &str, count: usize) -> bool
     ensures { result ≡ has_form line.now keyword.now count }
 {
     count_words(line) == count && word(line, 0) == keyword.as_bytes()

@@ -62,7 +62,8 @@ fn sessions_part(alloc: Global, sent: &[u8], device: &Device) -> Result<String, 
     )
 }
 
-fn sessions_text(
+/// The texts of four sessions, one behind another.
+pub fn sessions_text(
     alloc: Global,
     first: &str,
     second: &str,
@@ -165,7 +166,7 @@ fn next_text(alloc: Global, next: ImageState) -> Result<String, AllocError>
     }
 }
 
-fn counts_line(alloc: Global, counts: Counts) -> Result<String, AllocError>
+pub fn counts_line(alloc: Global, counts: Counts) -> Result<String, AllocError>
     ensures { IfOk result (λ text. string_bytes text ≡ counts_line counts) }
 {
     let Counts {
@@ -181,11 +182,11 @@ fn counts_line(alloc: Global, counts: Counts) -> Result<String, AllocError>
 fn session_line(alloc: Global, sent: &[u8], index: u8, view: View) -> Result<String, AllocError>
     ensures { IfOk result (λ text. string_bytes text ≡ session_line sent.now index (Some (seen view.entry))) }
 {
-    let verdict = verdict_text(alloc, view.verdict, view.file == sent)?;
+    let verdict = verdict_text(alloc, view.verdict, same_word(view.file == sent))?;
     session_text(alloc, index, view.received, view.missing, verdict.as_str())
 }
 
-fn session_text(
+pub fn session_text(
     alloc: Global,
     index: u8,
     received: u16,
@@ -197,25 +198,26 @@ fn session_text(
     format!(in alloc; "session {index} received {received} missing {missing} {verdict}\n")
 }
 
-fn verdict_text(alloc: Global, verdict: Verdict, same: bool) -> Result<String, AllocError>
-    ensures { IfOk result (λ text. string_bytes text ≡ verdict_text verdict same) }
+/// The verdict; of a whole file what stands behind its line may be more.
+pub fn verdict_text(alloc: Global, verdict: Verdict, behind: &str) -> Result<String, AllocError>
+    ensures { IfOk result (λ text. string_bytes text ≡ verdict_text verdict behind.now) }
 {
     match verdict {
         Verdict::Receiving => String::from_str(alloc, "receiving"),
-        Verdict::Complete(line) => complete_text(alloc, line, same_word(same)),
+        Verdict::Complete(line) => complete_text(alloc, line, behind),
         Verdict::NoRows(line) => format!(in alloc; "norows at {line}"),
         Verdict::Conflict(line) => format!(in alloc; "conflict at {line}"),
     }
 }
 
-fn complete_text(alloc: Global, line: u64, word: &str) -> Result<String, AllocError>
-    ensures { IfOk result (λ text. string_bytes text ≡ codes "complete at " ++ decimal line ++ (codes " " ++ word.now)) }
+fn complete_text(alloc: Global, line: u64, behind: &str) -> Result<String, AllocError>
+    ensures { IfOk result (λ text. string_bytes text ≡ codes "complete at " ++ decimal line ++ behind.now) }
 {
-    format!(in alloc; "complete at {line} {word}")
+    format!(in alloc; "complete at {line}{behind}")
 }
 
 fn same_word(same: bool) -> &'static str
     ensures { result.now ≡ same_word same }
 {
-    if same { "same" } else { "other" }
+    if same { " same" } else { " other" }
 }

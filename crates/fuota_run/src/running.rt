@@ -5,9 +5,10 @@ ghost use Rattle.std.specs.Io.KnownBytes.{Appends};
 ghost use Rattle.fuota_run.specs.Outside.{HoldsName, HasRisen};
 ghost use Rattle.image_slots.specs.Image.{is_image};
 ghost use Rattle.fuota_run.specs.Words.{asked, seen_asked};
-ghost use Rattle.fuota_run.specs.Answer.{answer, why_word, refused};
+ghost use Rattle.fuota_run.specs.PayloadLines.{IsTold};
+ghost use Rattle.fuota_run.specs.Answer.{answer, why_word, refused, tells};
 ghost use Rattle.fuota_run.specs.World.{campaign_of};
-ghost use Rattle.fuota_run.specs.Reply.{HoldsForm, HoldsAsked, IsPlayed, GivesScript, GivesCampaign, GivesDecode, Gives, Says, IsReadUp, Ends, AppendsAnswer, IsNoForm, IsFinished};
+ghost use Rattle.fuota_run.specs.Reply.{HoldsForm, HoldsAsked, IsPlayed, GivesScript, GivesCampaign, GivesFile, Gives, Says, IsReadUp, Ends, AppendsAnswer, IsNoForm, IsFinished};
 ghost use Rattle.fuota_run.specs.Replies.{answer_in, IsUnread, IsSaid};
 ghost use Rattle.fuota_run.specs.Texts.{seen_text};
 
@@ -15,14 +16,14 @@ use crate::decoding::decode;
 use crate::files::Files;
 use crate::lines::first_line;
 use crate::output::write_text;
+use crate::replaying::replay;
 use crate::sink::Sink;
 use crate::source::{SourceError, read_source};
 use crate::status::Status;
-use crate::words::{Asked, read_words};
+use crate::words::{Asked, FileForm, read_words};
 use crate::world::{LineFault, LineWhy, World, WorldError};
 use image_slots::is_image;
 use std::alloc::{AllocError, Global};
-use wire_base::Direction;
 
 /// The most bytes of an image source.
 const IMAGE_LIMIT: u32 = 65_536;
@@ -41,8 +42,8 @@ struct Reply {
     text: Vec<u8>,
 }
 
-/// Runs the program: `words` begin with its name, and the forms so far are `campaign IMAGE SCRIPT` and
-/// `decode PORT DIR FILE`.
+/// Runs the program: `words` begin with its name, and the forms so far are `campaign IMAGE SCRIPT`,
+/// `replay FILE` and `decode PORT DIR FILE`.
 /// The whole text stands in memory before its first byte is written.
 pub fn run<F: Files, O: Sink>(alloc: Global, words: &[String], files: &mut F, out: &mut O) -> Status
     requires { HoldsForm (F.held files.old) (map string_bytes words.now) }
@@ -104,7 +105,7 @@ fn reply_for<F: Files>(
     match what {
         None => say(alloc, Status::Usage, USAGE),
         Some(Asked::Campaign { image, script }) => campaign(alloc, files, image, script),
-        Some(Asked::Decode { port, dir, file }) => payloads(alloc, files, port, dir, file),
+        Some(Asked::Payloads { what, file }) => payloads(alloc, files, what, file),
     }
 }
 
@@ -161,16 +162,15 @@ fn script<F: Files>(
     reply_with(alloc, play(alloc, image, &script))
 }
 
-/// The reply to `decode PORT DIR FILE`.
+/// The reply to a form with one file of payloads.
 fn payloads<F: Files>(
     alloc: Global,
     files: &mut F,
-    port: u8,
-    dir: Direction,
+    what: FileForm,
     name: &str,
 ) -> Result<Reply, AllocError>
     requires { HoldsName (F.held files.old) name.now }
-    ensures reply { IfOk result (λ r. Says (GivesDecode (F.held files.old) port dir name.now (answer_in r)) (F.faults files.old) (F.faults files.new) (F.left files.new) (answer_in r)) }
+    ensures reply { IfOk result (λ r. Says (GivesFile (F.held files.old) (tells what) name.now (answer_in r)) (F.faults files.old) (F.faults files.new) (F.left files.new) (answer_in r)) }
     ensures usage { IfOk result (λ r. r.status ≢ Status.Usage) }
     ensures kept { F.faults files.old ≤ F.faults files.new }
 {
@@ -178,7 +178,17 @@ fn payloads<F: Files>(
         Ok(file) => file,
         Err(error) => return unread(alloc, error),
     };
-    reply_with(alloc, decode(alloc, port, dir, &file))
+    reply_with(alloc, tell(alloc, what, &file))
+}
+
+/// What is told of a file of payloads.
+fn tell(alloc: Global, what: FileForm, file: &[u8]) -> Result<Vec<u8>, WorldError>
+    ensures { IsTold (tells what) file.now (seen_text result) }
+{
+    match what {
+        FileForm::Replay => replay(alloc, file),
+        FileForm::Decode { port, dir } => decode(alloc, port, dir, file),
+    }
 }
 
 /// The reply for a source that was not read.

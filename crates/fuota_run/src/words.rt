@@ -1,7 +1,7 @@
 // The words of the command line: what they ask for, as clap takes them.
 ghost use Rattle.std.specs.Prelude.{◌≡◌, ◌≤◌, List, ℕ, Option, option_map, option_and_then, map, string_bytes, IfOk, IfSome, codes};
 ghost use Rattle.clap.specs.Words.{App, Row, app_of, first_of, first_value, found_of, new_app, rows_of, subcommand_rows_of, with_rule, with_subcommand};
-ghost use Rattle.fuota_run.specs.Words.{IsCommand, positional, form, fuota, seen_asked, campaign_asked, decode_asked, asked_by, asked, port_of_word, direction_of_word};
+ghost use Rattle.fuota_run.specs.Words.{IsCommand, positional, form, fuota, seen_asked, campaign_asked, replay_asked, decode_asked, asked_by, asked, port_of_word, direction_of_word};
 
 use crate::lines::decimal;
 use clap::error::ErrorKind;
@@ -13,16 +13,18 @@ use wire_base::Direction;
 #[derive(Clone, Copy, Debug)]
 pub enum Asked<'a> {
     /// `campaign IMAGE SCRIPT`: the report of a campaign.
-    Campaign {
-        image: &'a str,
-        script: &'a str,
-    },
-    /// `decode PORT DIR FILE`: the text of a file of payloads; the port is 200 to 203.
-    Decode {
-        port: u8,
-        dir: Direction,
-        file: &'a str,
-    },
+    Campaign { image: &'a str, script: &'a str },
+    /// A form with one file of payloads: what is told of it.
+    Payloads { what: FileForm, file: &'a str },
+}
+
+/// What is told of a file of payloads.
+#[derive(Clone, Copy, Debug)]
+pub enum FileForm {
+    /// `replay FILE`: where a device stands that hears them.
+    Replay,
+    /// `decode PORT DIR FILE`: their commands; the port is 200 to 203.
+    Decode { port: u8, dir: Direction },
 }
 
 /// What the words ask for, the first of them being the program's name; None exactly where they are no form.
@@ -100,6 +102,8 @@ fn asked_by<'a>(keyword: &str, found: &ArgMatches<'a>) -> Option<Asked<'a>>
 {
     if keyword == "campaign" {
         campaign_asked(found)
+    } else if keyword == "replay" {
+        replay_asked(found)
     } else if keyword == "decode" {
         decode_asked(found)
     } else {
@@ -121,13 +125,26 @@ fn campaign_asked<'a>(found: &ArgMatches<'a>) -> Option<Asked<'a>>
     Some(Asked::Campaign { image, script })
 }
 
+fn replay_asked<'a>(found: &ArgMatches<'a>) -> Option<Asked<'a>>
+    ensures { seen_asked result ≡ replay_asked (rows_of (found_of found.now)) }
+{
+    let file = word_of(found, "FILE")?;
+    Some(Asked::Payloads {
+        what: FileForm::Replay,
+        file,
+    })
+}
+
 fn decode_asked<'a>(found: &ArgMatches<'a>) -> Option<Asked<'a>>
     ensures { seen_asked result ≡ decode_asked (rows_of (found_of found.now)) }
 {
     let port = port_of_word(word_of(found, "PORT")?)?;
     let dir = direction_of_word(word_of(found, "DIR")?)?;
     let file = word_of(found, "FILE")?;
-    Some(Asked::Decode { port, dir, file })
+    Some(Asked::Payloads {
+        what: FileForm::Decode { port, dir },
+        file,
+    })
 }
 
 /// The port that a word spells, 200 to 203.

@@ -35,7 +35,7 @@ const MAX_TIME: u64 = 4_294_967_295_999;
 const MAX_PARITY: u64 = 512;
 
 /// The most rows that a device is given.
-const MAX_ROWS: u64 = 64;
+pub const MAX_ROWS: u64 = 64;
 
 /// The most bytes of a fragment.
 const MAX_FRAG_SIZE: u64 = 239;

@@ -36,7 +36,7 @@ const WORDS: [&str; 4] = ["fuota", "campaign", "image", "script"];
 #[derive(Clone, Copy)]
 struct Outside<'a> {
     image: &'a [u8],
-    start: &'static str,
+    start: &'a str,
     clock: &'static str,
     events: &'static str,
     read_fails: u64,
@@ -85,7 +85,7 @@ fn all_held(files: &MemFiles, what: Option<Asked>) -> bool
     match what {
         None => true,
         Some(Asked::Campaign { image, script }) => files.holds(image) && files.holds(script),
-        Some(Asked::Decode { file, .. }) => files.holds(file),
+        Some(Asked::Payloads { file, .. }) => files.holds(file),
     }
 }
 
@@ -158,7 +158,7 @@ fn says(
     rt: &impl Abort,
     alloc: Global,
     words: &[&str],
-    lines: &'static str,
+    lines: &str,
     status: Status,
     text: &str,
 ) -> Result<(), Fail> {
@@ -213,6 +213,118 @@ fn payloads_are_decoded_line_by_line(rt: HostRuntime) -> Result<(), Fail> {
     )
 }
 
+const REPLAY: [&str; 3] = ["fuota", "replay", "script"];
+
+/// The rows kept, the payloads behind a setup of four pieces, and what is said of the session; the pieces are 11 22 33 44.
+const REPLAYS: [(u8, &str, &str); 11] = [
+    (
+        0,
+        "08040044\n08010011\n08030033\n08020022\n",
+        "received 4 missing 0 complete at 6\nfile 11223344\n",
+    ),
+    (
+        2,
+        "08010011\n08030033\n08070066\n08080011\n",
+        "received 4 missing 0 complete at 6\nfile 11223344\n",
+    ),
+    (
+        2,
+        "08070066\n08080011\n08010011\n08030033\n",
+        "received 4 missing 0 complete at 6\nfile 11223344\n",
+    ),
+    (
+        2,
+        "08010011\n08050022\n08060022\n",
+        "received 3 missing 2 receiving\n",
+    ),
+    (
+        1,
+        "08010011\n08020022\n08030033\n080b0044\n",
+        "received 4 missing 0 complete at 6\nfile 11223344\n",
+    ),
+    (
+        1,
+        "08070066\n08080011\n",
+        "received 2 missing 3 norows at 4\n",
+    ),
+    (
+        1,
+        "08010011\n08030033\n08070066\n08080011\n",
+        "received 4 missing 1 norows at 6\n",
+    ),
+    (
+        0,
+        "08010011\n08010012\n",
+        "received 2 missing 3 conflict at 4\n",
+    ),
+    (
+        0,
+        "08020022\n08020022\n08020022\n",
+        "received 3 missing 3 receiving\n",
+    ),
+    (
+        0,
+        "08010011\n08020022\n0200040001000000000000\n08030033\n",
+        "received 3 missing 1 receiving\n",
+    ),
+    (
+        0,
+        "08010011\n08020022\n0200040001000000000000\n08030033\n0200040001000001000000\n",
+        "received 0 missing 4 receiving\n",
+    ),
+];
+
+#[test]
+fn payloads_are_replayed_to_a_device(rt: HostRuntime) -> Result<(), Fail> {
+    for (rows, payloads, session) in &REPLAYS {
+        let lines = format!(in rt.alloc();
+            "replay 1 {rows}\n0200040001000000000000\n{payloads}"
+        )?;
+        let text = format!(in rt.alloc();
+            "fuota replay 1\ncounts deaf 0 refused 0 full 0 dropped 0\nsession 0 {session}end\n"
+        )?;
+        says(
+            &rt,
+            rt.alloc(),
+            &REPLAY,
+            lines.as_str(),
+            Status::Done,
+            text.as_str(),
+        )?;
+    }
+    Ok(())
+}
+
+#[test]
+fn a_replay_counts_what_it_drops_and_names_a_refused_line(rt: HostRuntime) -> Result<(), Fail> {
+    let refused = Status::ScriptRefused;
+    let rows = [
+        (
+            "replay 1 0\n0200040001000000000000\n08000011\n0801001122\n08014011\n020004\n",
+            Status::Done,
+            "fuota replay 1\ncounts deaf 0 refused 1 full 0 dropped 3\nsession 0 received 0 missing 4 receiving\nend\n",
+        ),
+        (
+            "replay 1 1\n0200010001000000000000\n08020000\n0801005a",
+            Status::Done,
+            "fuota replay 1\ncounts deaf 0 refused 0 full 0 dropped 0\nsession 0 received 2 missing 0 complete at 4\nfile 5a\nend\n",
+        ),
+        (
+            "replay 1 64\n\n000000000000000000\n",
+            Status::Done,
+            "fuota replay 1\ncounts deaf 0 refused 0 full 1 dropped 0\nend\n",
+        ),
+        ("", refused, "line 1 syntax\n"),
+        ("replay 2 0\n", refused, "line 1 syntax\n"),
+        ("replay 1 65\n", refused, "line 1 range\n"),
+        ("replay 1 0\n0\n", refused, "line 2 syntax\n"),
+    ];
+    for (lines, status, text) in &rows {
+        says(&rt, rt.alloc(), &REPLAY, lines, *status, text)?;
+    }
+    Ok(())
+}
+
 #[test]
 fn words_that_are_no_form_are_usage(rt: HostRuntime) -> Result<(), Fail> {
     let rows = [
@@ -223,7 +335,9 @@ fn words_that_are_no_form_are_usage(rt: HostRuntime) -> Result<(), Fail> {
         &["fuota", "--", "decode", "201", "down", "script"][..],
         &["fuota", "help"][..],
         &["fuota", "campaign", "--help"][..],
-        &["fuota", "replay", "script"][..],
+        &["fuota", "replay"][..],
+        &["fuota", "replay", "script", "script"][..],
+        &["fuota", "generate", "1"][..],
         &["fuota"][..],
     ];
     for words in &rows {

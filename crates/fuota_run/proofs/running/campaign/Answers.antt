@@ -1,7 +1,7 @@
 use Rattle.std.proofs.Common.{rules, ◌≡◌, true, false, ℕ, List, refl, sym, ap, subst, ◌∙◌}
 use Rattle.image_slots.specs.Image.{is_image}
 use Rattle.fuota_run.specs.Answer.{Answer, campaign_answer}
-use Rattle.fuota_run.specs.Reply.{IsTextOf, Says, GivesScript}
+use Rattle.fuota_run.specs.Reply.{IsReplied, Says, GivesScript}
 use Rattle.fuota_run.specs.Replies.{answer_in}
 use Rattle.fuota_run.proofs.ReplyLemmas.{says_unread, says_source, says_behind, image_long, image_given_refused, if_ok_map}
 use Rattle.fuota_run.proofs.running.campaign.Goals as goal
@@ -20,7 +20,7 @@ returns-then-not-is_image-clause-reply g c = if_ok_map c.say.result (λ r is.
     let bad : is_image image ≡ false = ap is_image (sym c.deref.ensures.value) ∙ sym c.is_image.ensures.value ∙ search rules in
     says_source (g.F.Files.held c.args.files.now) c.args.image_name.now (λ h source a. a ≡ campaign_answer source (h c.args.script_name.now)) 65536 _ _ _ image (answer_in r)
     c.in-Ok.ensures.source (λ h. is ∙ image_given_refused image (h c.args.script_name.now) c.in-Ok.ensures.within bad)
-    (subst (λ (a : Answer). IsTextOf a.status a.text) (sym is) refl) (λ fault. let s = ap (λ (a : Answer). a.status) is in cc) c.in-Ok.ensures.end) c.say.ensures
+    (subst (λ (a : Answer). IsReplied a.status) (sym is) tt) (λ fault. let s = ap (λ (a : Answer). a.status) is in cc) c.in-Ok.ensures.end) c.say.ensures
 
 pub returns-clause-reply : goal.returns-clause-reply
 returns-clause-reply g c = if_ok_map c.script.result (λ r says.

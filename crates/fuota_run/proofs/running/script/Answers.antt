@@ -20,7 +20,7 @@ returns-clause-reply g c = if_ok_map c.reply_with.result (λ r said.
     let script = c.in-Ok.script.items in
     let made = says_played c.args.image.now script _ (answer_in r) (subst (λ (s : List ℕ). IsPlayed (campaign_of c.args.image.now s) (seen_text c.play.result)) c.deref.ensures.value c.play.ensures) said in
     says_source (g.F.Files.held c.args.files.now) c.args.name.now (λ h source a. a ≡ script_answer c.args.image.now source) 1048576 _ _ _ script (answer_in r)
-    c.in-Ok.ensures.source (λ h. script_given c.args.image.now script (answer_in r) c.in-Ok.ensures.within made.0) made.1.told made.1.sound c.in-Ok.ensures.end) c.reply_with.ensures
+    c.in-Ok.ensures.source (λ h. script_given c.args.image.now script (answer_in r) c.in-Ok.ensures.within made.0) made.1.replied made.1.sound c.in-Ok.ensures.end) c.reply_with.ensures
 
 pub returns-clause-usage : goal.returns-clause-usage
 returns-clause-usage g c = if_ok_map c.reply_with.result (λ r said.
