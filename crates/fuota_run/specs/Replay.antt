@@ -8,7 +8,7 @@ use Rattle.wire_base.specs.declared.refusal.Direction.TheVariants.{Down}
 use Rattle.package_grammar.specs.declared.command.Command.{Command}
 use Rattle.frag_session.specs.declared.answers.Verdict.{Verdict}
 use Rattle.frag_session.specs.declared.answers.Verdict.TheVariants as verdict
-use Rattle.frag_session.specs.Session.{Seen, view_of}
+use Rattle.frag_session.specs.Session.{Seen}
 use Rattle.fuota_run.specs.declared.world.LineWhy.{LineWhy}
 use Rattle.fuota_run.specs.declared.world.LineWhy.TheVariants as why
 use Rattle.fuota_run.specs.declared.world.LineFault.{LineFault}
@@ -16,7 +16,7 @@ use Rattle.fuota_run.specs.declared.world.TheConstants.{MAX_LINE, MAX_ROWS}
 use Rattle.fuota_run.specs.Script.{lines_of, word, has_form, decimal_of}
 use Rattle.fuota_run.specs.Sessions.{Sessions}
 use Rattle.fuota_run.specs.Device.{DeviceState, first_device, after_commands, weights, with_refusal, with_full}
-use Rattle.fuota_run.specs.Report.{counts_line, session_text, verdict_text}
+use Rattle.fuota_run.specs.Report.{counts_line, session_text, verdict_text, text_of_each}
 use Rattle.fuota_run.specs.PayloadLines.{ComesOf, TakesLines, told_by, TellsOnce}
 
 -- ---- the header
@@ -70,11 +70,7 @@ told_session index None = []
 told_session index (Some seen) = session_text index seen.received seen.missing (verdict_text seen.verdict []) ++ file_line seen.verdict seen.file
 
 abbrev pub told_sessions : Sessions → List ℕ
-told_sessions all =
-    told_session 0 (view_of all.first)
-    ++ (told_session 1 (view_of all.second)
-    ++ (told_session 2 (view_of all.third)
-    ++ told_session 3 (view_of all.fourth)))
+told_sessions all = text_of_each (λ index seen. told_session index seen) all
 
 -- the text over the device
 unfoldable pub replay_text : DeviceState → List ℕ

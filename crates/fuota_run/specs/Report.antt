@@ -84,13 +84,17 @@ abbrev pub session_line : List ℕ → ℕ → Option Seen → List ℕ
 session_line sent index None = []
 session_line sent index (Some seen) = session_text index seen.received seen.missing (verdict_text seen.verdict (same_word (bytes_eq seen.file sent)))
 
--- a line for each session that there is, by its index
+-- the text of each session, by its index
+abbrev pub text_of_each : (ℕ → Option Seen → List ℕ) → Sessions → List ℕ
+text_of_each text all =
+    text 0 (view_of all.first)
+    ++ (text 1 (view_of all.second)
+    ++ (text 2 (view_of all.third)
+    ++ text 3 (view_of all.fourth)))
+
+-- a line for each session that there is
 abbrev pub session_lines : List ℕ → Sessions → List ℕ
-session_lines sent all =
-    session_line sent 0 (view_of all.first)
-    ++ (session_line sent 1 (view_of all.second)
-    ++ (session_line sent 2 (view_of all.third)
-    ++ session_line sent 3 (view_of all.fourth)))
+session_lines sent all = text_of_each (λ index seen. session_line sent index seen) all
 
 -- the lines of a report
 abbrev pub report_text : (image device counts session : List ℕ) → List ℕ

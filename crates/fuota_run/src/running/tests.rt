@@ -34,9 +34,9 @@ const WORDS: [&str; 4] = ["fuota", "campaign", "image", "script"];
 /// What stands outside a run: its two files, the second one in three parts, the number of the call that fails on each
 /// side (0 for none), and the room of its sink.
 #[derive(Clone, Copy)]
-struct Outside<'a> {
+struct Outside<'a, 'b> {
     image: &'a [u8],
-    start: &'a str,
+    start: &'b str,
     clock: &'static str,
     events: &'static str,
     read_fails: u64,
@@ -44,7 +44,7 @@ struct Outside<'a> {
     room: u32,
 }
 
-const SOUND: Outside<'static> = Outside {
+const SOUND: Outside<'static, 'static> = Outside {
     image: &IMAGE,
     start: START,
     clock: "",
