@@ -277,9 +277,7 @@ const REPLAYS: [(u8, &str, &str); 11] = [
 #[test]
 fn payloads_are_replayed_to_a_device(rt: HostRuntime) -> Result<(), Fail> {
     for (rows, payloads, session) in &REPLAYS {
-        let lines = format!(in rt.alloc();
-            "replay 1 {rows}\n0200040001000000000000\n{payloads}"
-        )?;
+        let lines = format!(in rt.alloc(); "replay 1 {rows}\n0200040001000000000000\n{payloads}")?;
         let text = format!(in rt.alloc();
             "fuota replay 1\ncounts deaf 0 refused 0 full 0 dropped 0\nsession 0 {session}end\n"
         )?;
