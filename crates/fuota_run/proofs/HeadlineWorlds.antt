@@ -1,5 +1,5 @@
 -- What holds of each campaign: the device hears nothing but what the server sends.
-use Rattle.std.proofs.Common.{◌≡◌, ◌⊎◌, inl, inr, ℕ, ◌+◌, ◌≤◌, Bool, true, false, cond, not, ◌==◌, nat_lt, List, [], ◌∷◌, length, Option, None, Some, IfSome, is_none, option_map, Result, Ok, Err, IfOk, refl, sym, ap, subst, arith, eqb-true, ltb-false}
+use Rattle.std.proofs.Common.{◌≡◌, ◌⊎◌, inl, inr, ℕ, ◌+◌, ◌≤◌, Bool, true, false, cond, not, nat_lt, List, [], ◌∷◌, length, Option, None, Some, IfSome, is_none, Result, Ok, Err, IfOk, refl, sym, ap, subst, arith, ltb-false}
 use Rattle.std.specs.List.{AllByRecursion}
 use Rattle.cast_wire.specs.declared.cmd.Cmd.TheVariants.{DataFragment}
 use Rattle.frag_session.specs.declared.setups.SetupReq.{SetupReq}

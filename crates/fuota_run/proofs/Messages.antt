@@ -1,17 +1,12 @@
 -- Messages of several commands, read one at a time.
-use Rattle.std.proofs.Common.{◌≡◌, ◌≢◌, ℕ, ◌≤◌, List, [], ◌∷◌, length, Result, Ok, Err, ◌++◌, map, sym, ap, ◌∙◌, lit≤, append_assoc}
+use Rattle.std.proofs.Common.{◌≡◌, ◌≢◌, ℕ, List, [], ◌∷◌, length, Result, Ok, Err, ◌++◌, map, sym, ap, ◌∙◌, append_assoc}
 use Rattle.std.proofs.lemmas.List.{map-append}
 use Rattle.std.specs.List.{AllByRecursion}
 use Rattle.wire_base.specs.declared.refusal.Direction.{Direction}
 use Rattle.wire_base.specs.declared.refusal.Refusal.{Refusal}
 use Rattle.package_grammar.specs.declared.command.Command.{Command}
-use Rattle.cast_wire.specs.declared.cmd.Cmd.TheVariants.{PackageVersionReq, PackageVersionAns, FragSessionStatusReq, FragSessionStatusAns, FragSessionSetupReq, FragSessionSetupAns, FragSessionDeleteReq, FragSessionDeleteAns, DataFragment, McGroupStatusReq, McGroupStatusAns, McGroupSetupReq, McGroupSetupAns, McGroupDeleteReq, McGroupDeleteAns, McClassCSessionReq, McClassCSessionAns, McClassBSessionReq, McClassBSessionAns}
-use Rattle.fuota_run.specs.declared.device.DeviceConfig.{DeviceConfig}
-use Rattle.package_grammar.specs.declared.command.Command.TheVariants.{Sync, Cast}
-use Rattle.sync_wire.specs.declared.cmd.Cmd.TheVariants as s
 use Rattle.package_grammar.specs.Grammar.{Spells, SpellsTo}
 use Rattle.package_grammar.proofs.Messages.{none_spelled, none_read}
-use Rattle.fuota_run.specs.Device.{answer_to, weight}
 
 -- where nothing is read, no message goes on
 pub nothing_read : (port : ℕ) (dir : Direction) (bytes : List ℕ) (at : ℕ) (r : Result (Command × ℕ) Refusal) (e : Refusal) (cs : List Command) → at ≢ length bytes

@@ -8,7 +8,7 @@ use Rattle.package_grammar.proofs.Answers.{one_message, one_stop, no_stop}
 use Rattle.fuota_run.specs.declared.world.LineWhy.{LineWhy}
 use Rattle.fuota_run.specs.declared.world.LineFault.{LineFault}
 use Rattle.fuota_run.specs.Script.{lines_of}
-use Rattle.fuota_run.specs.PayloadLines.{payload_of, ComesOf, Step, BehindLine, TakesLines, told_by}
+use Rattle.fuota_run.specs.PayloadLines.{payload_of, ComesOf, Step, BehindLine, TakesLines}
 
 -- of a payload comes one thing
 pub comes_once : {X : Type 0} (port : ℕ) (dir : Direction) (payload : List ℕ) (f : List Command → X) (g : Refusal → X) (one other : X)

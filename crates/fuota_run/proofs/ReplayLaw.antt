@@ -1,5 +1,5 @@
 -- What `replay` says of each session, whoever made the payloads.
-use Rattle.std.proofs.Common.{◌≡◌, ℕ, ◌<◌, ◌≤◌, false, Bool, min, nat_lt, List, [], ◌∷◌, ◌++◌, length, Option, Some, IfSome, Result, Ok, le-ltb, refl, sym, ap, ◌∙◌, subst, append-nil, codes, arith}
+use Rattle.std.proofs.Common.{◌≡◌, ℕ, ◌≤◌, false, Bool, min, nat_lt, List, [], ◌∷◌, ◌++◌, length, Option, Some, IfSome, Result, Ok, le-ltb, ap, ◌∙◌, subst, append-nil, codes, arith}
 use Rattle.std.specs.Fmt.{decimal}
 use Rattle.frag_model.specs.Fragments.{Heard as Fragment}
 use Rattle.frag_session.specs.declared.answers.Verdict.{Verdict}

@@ -1,16 +1,16 @@
 -- What holds of the sessions of a device that hears a file of payloads: each was set up so that there is a file, and hears
 -- what the lines carry.
-use Rattle.std.proofs.Common.{◌≡◌, ℕ, ◌+◌, ◌-◌, ◌*◌, ◌/◌, ◌%◌, ◌^◌, ◌<◌, ◌≤◌, Bool, true, false, cond, ◌==◌, nat_le, min, List, [], ◌∷◌, length, drop, Option, None, Some, IfSome, is_none, Result, Ok, Err, refl, sym, ap, subst, ◌∙◌, inl, inr, arith, eqb-true}
+use Rattle.std.proofs.Common.{◌≡◌, ℕ, ◌+◌, ◌<◌, ◌≤◌, Bool, true, false, cond, ◌==◌, nat_le, min, List, [], ◌∷◌, length, drop, Option, None, Some, IfSome, is_none, Result, Ok, Err, refl, sym, subst, inl, inr, arith, eqb-true}
 use Rattle.std.proofs.lemmas.Bool.{eqb-false}
 use Rattle.wire_base.specs.declared.refusal.Direction.{Direction}
 use Rattle.wire_base.specs.declared.refusal.Direction.TheVariants.{Down}
-use Rattle.wire_base.specs.Numbers.{number_at, bits_of}
+use Rattle.wire_base.specs.Numbers.{bits_of}
 use Rattle.frag_model.specs.Fragments.{Heard as Fragment}
 use Rattle.frag_model.specs.Members.{In}
-use Rattle.cast_wire.specs.declared.cmd.Cmd.TheVariants.{PackageVersionReq, PackageVersionAns, FragSessionStatusReq, FragSessionStatusAns, FragSessionSetupReq, FragSessionSetupAns, FragSessionDeleteReq, FragSessionDeleteAns, DataFragment, McGroupStatusReq, McGroupStatusAns, McGroupSetupReq, McGroupSetupAns, McGroupDeleteReq, McGroupDeleteAns, McClassCSessionReq, McClassCSessionAns, McClassBSessionReq, McClassBSessionAns}
+use Rattle.cast_wire.specs.declared.cmd.Cmd.TheVariants.{FragSessionSetupReq, FragSessionDeleteReq, DataFragment}
 use Rattle.package_grammar.specs.declared.command.Command.{Command}
-use Rattle.package_grammar.specs.declared.command.Command.TheVariants.{Sync, Cast}
-use Rattle.package_grammar.specs.Grammar.{Spells, SpellsTo, IsMessage}
+use Rattle.package_grammar.specs.declared.command.Command.TheVariants.{Cast}
+use Rattle.package_grammar.specs.Grammar.{Spells, SpellsTo}
 use Rattle.frag_session.specs.declared.setups.SetupReq.{SetupReq}
 use Rattle.frag_session.specs.declared.setups.Limits.{Limits}
 use Rattle.frag_session.specs.declared.answers.Via.TheVariants as via
@@ -20,10 +20,10 @@ use Rattle.fuota_run.specs.declared.world.LineWhy.{LineWhy}
 use Rattle.fuota_run.specs.declared.world.LineFault.{LineFault}
 use Rattle.fuota_run.specs.World.{numbered}
 use Rattle.fuota_run.specs.Sessions.{Sessions, session_at, with_session}
-use Rattle.fuota_run.specs.Device.{DeviceState, room, limits_of, with_fragment, with_drop, with_refusal, with_full, after_data, after_command, after_commands, weights}
-use Rattle.fuota_run.specs.PayloadLines.{payload_of, Step, BehindLine, TakesLines}
+use Rattle.fuota_run.specs.Device.{DeviceState, room, limits_of, after_data, after_command, after_commands, weights}
+use Rattle.fuota_run.specs.PayloadLines.{payload_of, BehindLine, TakesLines}
 use Rattle.fuota_run.specs.Replay.{header_rows, replay_device, after_message, Hears, ReachesBehind, Reaches}
-use Rattle.fuota_run.specs.ReplayHeadline.{IsCarried, Carries, CameInTurn}
+use Rattle.fuota_run.specs.ReplayHeadline.{Carries, CameInTurn}
 use Rattle.fuota_run.proofs.SessionSteps.{setup_keeps, fragment_keeps}
 use Rattle.fuota_run.proofs.HeadlineLines.{numbered_next}
 

@@ -1,5 +1,5 @@
 -- The sessions of a device, by their index. (TS004-1.0.0 has four.)
-use Rattle.std.specs.Prelude.{◌≡◌, ℕ, ◌==◌, if◌then◌else◌, Option, Some, None}
+use Rattle.std.specs.Prelude.{◌≡◌, ℕ, ◌==◌, if◌then◌else◌, Option, None}
 use Rattle.frag_session.specs.Held.{Kept}
 use Rattle.frag_session.specs.Session.{Session}
 use Rattle.frag_session.specs.Stands.{Stands}

@@ -1,4 +1,4 @@
-use Rattle.std.proofs.Common.{rules, ◌≡◌, ◌≤◌, ◌+◌, true, List, ℕ, ◌++◌, ◌==◌, length, codes, arith}
+use Rattle.std.proofs.Common.{rules, ◌≡◌, ◌≤◌, ◌+◌, true, ◌++◌, ◌==◌, length, codes, arith}
 use Rattle.fuota_run.specs.Script.{lines_of}
 use Rattle.fuota_run.specs.Decode.{Writes}
 use Rattle.fuota_run.proofs.PayloadLines.{line_taken, none_left}

@@ -1,4 +1,4 @@
-use Rattle.std.proofs.Common.{◌≡◌, ◌≤◌, List, ℕ, [], Result, length}
+use Rattle.std.proofs.Common.{◌≡◌, ◌≤◌, [], Result, length}
 use Rattle.fuota_run.specs.declared.world.LineFault.{LineFault}
 use Rattle.fuota_run.specs.Script.{lines_of}
 use Rattle.fuota_run.specs.Device.{DeviceState}

@@ -1,5 +1,4 @@
 use Rattle.std.proofs.Common.{List, ℕ, ap, sym, ◌∙◌}
-use Rattle.frag_session.specs.Session.{view_of}
 use Rattle.fuota_run.specs.declared.device.Counts.{Counts}
 use Rattle.fuota_run.specs.Report.{report_lines, counts_line, session_lines}
 use Rattle.fuota_run.proofs.Texts.{report_same, device_line_same}

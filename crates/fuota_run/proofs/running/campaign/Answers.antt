@@ -1,4 +1,4 @@
-use Rattle.std.proofs.Common.{rules, ◌≡◌, true, false, ℕ, List, refl, sym, ap, subst, ◌∙◌}
+use Rattle.std.proofs.Common.{rules, ◌≡◌, true, false, ℕ, List, sym, ap, subst, ◌∙◌}
 use Rattle.image_slots.specs.Image.{is_image}
 use Rattle.fuota_run.specs.Answer.{Answer, campaign_answer}
 use Rattle.fuota_run.specs.Reply.{IsReplied, Says, GivesScript}

@@ -1,6 +1,5 @@
 use Rattle.std.proofs.Common.{◌≡◌, ℕ, ◌+◌, ◌≤◌, length, List, [], ◌∷◌, ◌++◌, map, inr, sym, ap, subst, ◌∙◌, append-nil, arith}
 use Rattle.wire_base.specs.declared.refusal.Direction.TheVariants.{Down}
-use Rattle.package_grammar.specs.declared.command.Command.{Command}
 use Rattle.std.specs.List.{AllByRecursion}
 use Rattle.fuota_run.specs.declared.device.Uplink.{Uplink}
 use Rattle.fuota_run.specs.declared.world.Sent.{Sent}
