@@ -29,7 +29,6 @@ pub enum State<const W: usize, const B: usize> {
 }
 
 /// A place for one session. It stands for the session's setup and all fragments that it heard.
-#[derive(Drop)]
 pub struct Slot<const W: usize, const B: usize> {
     state: Option<State<W, B>>,
 }
@@ -44,6 +43,13 @@ impl<const W: usize, const B: usize> Model for Slot<W, B> {
     ghost view = { λ s. kept_by s.state };
 
     ghost invariant = { λ s. is_some s.state ≡ true };
+}
+
+impl<const W: usize, const B: usize> Drop for Slot<W, B> {
+    /// Gives the memory of its solver back, in whichever state it is.
+    fn drop(self) {
+        let Slot { state: _ } = self;
+    }
 }
 
 impl<const W: usize, const B: usize> Slot<W, B> {

@@ -29,6 +29,7 @@ pub const SESSIONS: u8 = 4;
 type Place = Slot<ROW_WORDS, ROW_BYTES>;
 
 /// A place for each session, with all memory that it will ever need.
+#[derive(Drop)]
 pub struct Places {
     first: Place,
     second: Place,
@@ -44,18 +45,6 @@ impl Model for Places {
     ghost view = { λ p. record { first = p.first; second = p.second; third = p.third; fourth = p.fourth } };
 
     ghost invariant = { λ p. HaveArea (record { first = p.first; second = p.second; third = p.third; fourth = p.fourth }) 65774 };
-}
-
-impl Drop for Places {
-    /// Gives the memory of all places back, in a function of its own: a place may be in any of five states.
-    fn drop(self) {
-        let Places {
-            first: _,
-            second: _,
-            third: _,
-            fourth: _,
-        } = self;
-    }
 }
 
 impl Places {
