@@ -1,7 +1,7 @@
 // The words of the command line: what they ask for, as clap takes them.
-ghost use Rattle.std.specs.Prelude.{◌≡◌, ◌≤◌, List, ℕ, Option, option_map, option_and_then, map, string_bytes, IfOk, IfSome, codes};
+ghost use Rattle.std.specs.Prelude.{◌≡◌, ◌≤◌, List, [], ◌∷◌, ℕ, Option, option_map, option_and_then, map, string_bytes, IfOk, IfSome, codes};
 ghost use Rattle.clap.specs.Words.{App, Row, app_of, first_of, first_value, found_of, new_app, rows_of, subcommand_rows_of, with_rule, with_subcommand};
-ghost use Rattle.fuota_run.specs.Words.{IsCommand, positional, form, fuota, seen_asked, campaign_asked, replay_asked, decode_asked, asked_by, asked, port_of_word, direction_of_word};
+ghost use Rattle.fuota_run.specs.Words.{IsCommand, positional, form, with_words, fuota, seen_asked, campaign_asked, replay_asked, decode_asked, asked_by, asked, port_of_word, direction_of_word};
 
 use crate::lines::decimal;
 use clap::error::ErrorKind;
@@ -48,28 +48,46 @@ pub fn read_words<'a>(alloc: Global, words: &'a [String]) -> Result<Option<Asked
 fn fuota<'a>(alloc: Global) -> Result<Command<'a>, AllocError>
     ensures { IfOk result (λ c. IsCommand c fuota) }
 {
-    let campaign = taking(
-        alloc,
-        taking(alloc, Command::new(alloc, "campaign"), "IMAGE")?,
-        "SCRIPT",
-    )?;
-    let recover = taking(
-        alloc,
-        taking(alloc, Command::new(alloc, "recover"), "IMAGE")?,
-        "SCRIPT",
-    )?;
-    let recover = taking(alloc, recover, "DEVICE")?;
-    let replay = taking(alloc, Command::new(alloc, "replay"), "FILE")?;
-    let decode = taking(
-        alloc,
-        taking(alloc, Command::new(alloc, "decode"), "PORT")?,
-        "DIR",
-    )?;
-    let decode = taking(alloc, decode, "FILE")?;
-    let generate = taking(alloc, Command::new(alloc, "generate"), "SEED")?;
+    let campaign = of_two(alloc, "campaign", "IMAGE", "SCRIPT")?;
     let program = offering(Command::new(alloc, "fuota"), campaign)?;
-    let program = offering(offering(program, recover)?, replay)?;
-    offering(offering(program, decode)?, generate)
+    let recover = of_three(alloc, "recover", "IMAGE", "SCRIPT", "DEVICE")?;
+    let program = offering(program, recover)?;
+    let program = offering(program, of_one(alloc, "replay", "FILE")?)?;
+    let decode = of_three(alloc, "decode", "PORT", "DIR", "FILE")?;
+    let program = offering(program, decode)?;
+    offering(program, of_one(alloc, "generate", "SEED")?)
+}
+
+/// A form of one word.
+fn of_one<'a>(alloc: Global, keyword: &'a str, first: &'a str) -> Result<Command<'a>, AllocError>
+    ensures { IfOk result (λ c. IsCommand c (with_words (new_app keyword.entry.now) (first.entry.now ∷ []))) }
+{
+    taking(alloc, Command::new(alloc, keyword), first)
+}
+
+/// A form of two words.
+fn of_two<'a>(
+    alloc: Global,
+    keyword: &'a str,
+    first: &'a str,
+    second: &'a str,
+) -> Result<Command<'a>, AllocError>
+    ensures { IfOk result (λ c. IsCommand c (with_words (new_app keyword.entry.now) (first.entry.now ∷ second.entry.now ∷ []))) }
+{
+    taking(alloc, of_one(alloc, keyword, first)?, second)
+}
+
+/// A form of three words.
+fn of_three<'a>(
+    alloc: Global,
+    keyword: &'a str,
+    first: &'a str,
+    second: &'a str,
+    third: &'a str,
+) -> Result<Command<'a>, AllocError>
+    ensures { IfOk result (λ c. IsCommand c (with_words (new_app keyword.entry.now) (first.entry.now ∷ second.entry.now ∷ third.entry.now ∷ []))) }
+{
+    taking(alloc, of_two(alloc, keyword, first, second)?, third)
 }
 
 /// The command, with one word more that must be there.
