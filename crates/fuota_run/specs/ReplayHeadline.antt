@@ -67,7 +67,7 @@ pub record IsToldOf (index : ℕ) (s : Session) : Type 0 where
 
 -- whatever payloads are handed in
 pub record ReplayHeadline : Type 0 where
-  -- a session hears what the lines carry, each fragment at its line
+  -- a session hears nothing but what the lines carry, each fragment at its line
   pub heard : (file : List ℕ) (device : DeviceState) (index : ℕ) (s : Session) → IsReplayed file device index s
       → CameInTurn (lines_of file) index (length (lines_of file)) s.heard
   -- it is decided at the first fragment after which its file is no longer open

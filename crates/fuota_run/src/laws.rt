@@ -19,9 +19,9 @@ pub fn headline()
     ensures { Headline }
 {}
 
-/// Whatever payloads are replayed: each session hears what the lines carry, it is complete from the first heard
-/// fragment on after which one file alone fits, without rows from the first that is one independent coded fragment too
-/// many, in conflict from the first after which no file fits, and the text says so.
+/// Whatever payloads are replayed: each session hears nothing but what the lines carry, it is complete from the first
+/// heard fragment on after which one file alone fits, without rows from the first that is one independent coded
+/// fragment too many, in conflict from the first after which no file fits, and the text says so.
 pub fn replay_is_decided_at_first()
     ensures { ReplayHeadline }
 {}
