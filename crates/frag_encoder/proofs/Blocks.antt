@@ -4,7 +4,7 @@ use Rattle.std.specs.List.{concat, AllByRecursion}
 use Rattle.std.proofs.lemmas.Grind.{div_ceil_times}
 use Rattle.std.proofs.lemmas.List.{take-append-drop, take_at, length-replicate}
 use Rattle.std.proofs.lemmas.List.Elements.{All-from_recursion, All-take, All-drop, All-append, All-replicate}
-use Rattle.frag_model.specs.Fragments.{Heard, IsPiece, IsBlock, Meets, Fits, equation_of, file_of}
+use Rattle.frag_model.specs.Fragments.{Fragment, IsPiece, IsBlock, Meets, Fits, equation_of, file_of}
 use Rattle.frag_encoder.specs.Encoding.{nb_frag_of, padding_of, filled, pieces_of, block_of, data_of}
 use Rattle.frag_encoder.specs.Laws.{shape_of}
 use Rattle.frag_encoder.proofs.Pieces.{length-pieces}
@@ -58,7 +58,7 @@ block_recovered file frag_size rows some =
     ap₂ (λ n (bs : List ℕ). take n bs) len (concat-pieces (nb_frag_of (length file) frag_size) frag_size (filled file frag_size) (filled_whole file frag_size some))
     ∙ take_at file (replicate padding 0) (length file) refl
 
-pub block_fits : (file : List ℕ) (frag_size rows : ℕ) (heard : List Heard) → All (λ (f : Heard). f.part ≡ data_of file frag_size f.number) heard
+pub block_fits : (file : List ℕ) (frag_size rows : ℕ) (heard : List Fragment) → All (λ (f : Fragment). f.part ≡ data_of file frag_size f.number) heard
     → Fits (shape_of file frag_size rows) heard (block_of file frag_size)
 unfolding Meets equation_of data_of
 block_fits file frag_size rows heard h = λ k d lt. sym (h k d lt)

@@ -2,6 +2,7 @@
 use Rattle.std.specs.Prelude.{◌≡◌, ◌⊎◌, ℕ, zero, suc, ◌-◌, ◌*◌, ◌<◌, ◌≤◌, List, [], ◌∷◌, ◌++◌, length, take, drop, replicate}
 use Rattle.std.specs.Int.{div_ceil}
 use Rattle.frag_model.specs.Fragments.{line_of, pieces_at, xor_all}
+use Rattle.frag_model.specs.Limits.{max_frag_size, max_pieces}
 
 -- how many pieces of this size hold so many bytes: rounded up
 abbrev pub nb_frag_of : ℕ → ℕ → ℕ
@@ -35,14 +36,14 @@ pub record Encoding : Type 0 where
 
 -- no file of this length is encoded in pieces of this size (1 to 239 bytes fit a payload; 1,024 pieces are this project's profile)
 abbrev pub IsBadSize : ℕ → ℕ → Type 0
-IsBadSize len frag_size = (len ≡ 0) ⊎ (frag_size ≡ 0) ⊎ (239 < frag_size) ⊎ (1024 < nb_frag_of len frag_size)
+IsBadSize len frag_size = (len ≡ 0) ⊎ (frag_size ≡ 0) ⊎ (max_frag_size < frag_size) ⊎ (max_pieces < nb_frag_of len frag_size)
 
 -- what an encoder keeps: whole pieces, and which of their bytes fill the last one up
 pub record IsFilled (bytes : List ℕ) (frag_size nb_frag padding : ℕ) : Type 0 where
   pub some : 0 < frag_size
-  pub fits : frag_size ≤ 239
+  pub fits : frag_size ≤ max_frag_size
   pub first : 1 ≤ nb_frag
-  pub last : nb_frag ≤ 1024
+  pub last : nb_frag ≤ max_pieces
   pub whole : length bytes ≡ nb_frag * frag_size
   pub short : padding < frag_size
   pub zeros : bytes ≡ take (length bytes - padding) bytes ++ replicate padding 0

@@ -1,6 +1,6 @@
 -- A law about the fragments of a file. A function with an empty body has it as its contract.
 use Rattle.std.specs.Prelude.{◌≡◌, ℕ, ◌^◌, ◌<◌, List, length, All}
-use Rattle.frag_model.specs.Fragments.{Heard, Shape, IsBlock, Fits, file_of}
+use Rattle.frag_model.specs.Fragments.{Fragment, Shape, IsBlock, Fits, file_of}
 use Rattle.frag_encoder.specs.Encoding.{nb_frag_of, padding_of, block_of, data_of}
 
 -- what the setup for a file fixes, with so many rows on the device
@@ -16,5 +16,5 @@ pub record FragmentsAreTheFiles : Type 0 where
   pub recovered : (file : List ℕ) (frag_size rows : ℕ) → 0 < frag_size
       → file_of (padding_of (length file) frag_size) (shape_of file frag_size rows) (block_of file frag_size) ≡ file
   -- and it fits whatever was heard of the file's fragments
-  pub fits : (file : List ℕ) (frag_size rows : ℕ) (heard : List Heard) → All (λ (f : Heard). f.part ≡ data_of file frag_size f.number) heard
+  pub fits : (file : List ℕ) (frag_size rows : ℕ) (heard : List Fragment) → All (λ (f : Fragment). f.part ≡ data_of file frag_size f.number) heard
       → Fits (shape_of file frag_size rows) heard (block_of file frag_size)

@@ -6,7 +6,7 @@ use Rattle.std.proofs.lemmas.List.Elements.{All-from_recursion, recursion_from_A
 use Rattle.std.proofs.lemmas.Nat.{xor_lt}
 use Rattle.std.specs.Int.Bits.{xor_self, xor_zero_r}
 use Rattle.std.specs.List.{AllByRecursion, concat}
-use Rattle.frag_model.specs.Fragments.{Heard, Shape, IsPiece, IsBlock, Meets, Equation, equation_of, xor_all, pieces_at, file_of}
+use Rattle.frag_model.specs.Fragments.{Fragment, Shape, IsPiece, IsBlock, Meets, Equation, equation_of, xor_all, pieces_at, file_of}
 use Rattle.frag_model.specs.Verdict.{FittingBlock, OneBlockFits}
 use Rattle.frag_model.specs.File.{FileFits, OneFileFits}
 use Rattle.frag_model.proofs.Parts.{xor_swap, xor_kept, xor_same, byte_at, get_or-xor_all, length-xor_all}
@@ -112,7 +112,7 @@ mixed_meets size j bs cs e lt hb hc same mb mc =
     each_byte first zero = first
     each_byte first (suc i) = byte_at_other e.line i j bs cs same
 
-mixed_fits : (shape : Shape) (heard : List Heard) (j : ℕ) (bs cs : List (List ℕ)) → j < shape.frag_size
+mixed_fits : (shape : Shape) (heard : List Fragment) (j : ℕ) (bs cs : List (List ℕ)) → j < shape.frag_size
     → FittingBlock shape heard bs → FittingBlock shape heard cs → FittingBlock shape heard (mixed j bs cs)
 mixed_fits shape heard j bs cs lt fb fc =
     let hb = recursion_from_All (IsPiece shape.frag_size) bs fb.shaped.pieces in
@@ -204,7 +204,7 @@ length-block shape block h =
     ∙ ap (λ n. n * shape.frag_size) h.counted
 
 -- the file of a block that fits, fits
-file_fits : (shape : Shape) (padding : ℕ) (heard : List Heard) (block : List (List ℕ)) → 0 < shape.nb_frag → padding < shape.frag_size
+file_fits : (shape : Shape) (padding : ℕ) (heard : List Fragment) (block : List (List ℕ)) → 0 < shape.nb_frag → padding < shape.frag_size
     → FittingBlock shape heard block → FileFits shape padding heard (file_of padding shape block)
 unfolding file_of
 file_fits shape padding heard block some short fb =
@@ -218,7 +218,7 @@ file_fits shape padding heard block some short fb =
       },
     )
 
-pub one_file : (shape : Shape) (padding : ℕ) (heard : List Heard) (block : List (List ℕ)) → 0 < shape.nb_frag → padding < shape.frag_size
+pub one_file : (shape : Shape) (padding : ℕ) (heard : List Fragment) (block : List (List ℕ)) → 0 < shape.nb_frag → padding < shape.frag_size
     → OneBlockFits shape heard block → OneFileFits shape padding heard (file_of padding shape block)
 unfolding file_of
 one_file shape padding heard block some short h =
@@ -232,7 +232,7 @@ one_file shape padding heard block some short h =
           sym (take_at other f.0 n long) ∙ sym (ap (take n) joined);
     }
 
-pub one_block : (shape : Shape) (padding : ℕ) (heard : List Heard) (file : List ℕ) → 0 < shape.nb_frag → padding < shape.frag_size
+pub one_block : (shape : Shape) (padding : ℕ) (heard : List Fragment) (file : List ℕ) → 0 < shape.nb_frag → padding < shape.frag_size
     → OneFileFits shape padding heard file → (block : List (List ℕ)) × OneBlockFits shape heard block × (file ≡ file_of padding shape block)
 unfolding file_of
 one_block shape padding heard file some short h =

@@ -10,7 +10,7 @@ use Rattle.std.proofs.lemmas.Nat.Bits.{bit_at_xor, bit_at_lowest, bit_at-suc, bi
 use Rattle.std.proofs.lemmas.List.{ext_get_or, length-map}
 use Rattle.std.proofs.lemmas.List.Elements.{All-from_recursion, recursion_from_All, All-get_or, All-set}
 use Rattle.std.proofs.lemmas.Bool.{cases_lt, cases_Bool, eqb-false}
-use Rattle.frag_model.specs.Fragments.{Heard, Shape, IsPiece, Meets, Equation, equation_of, line_of, xor_all, pieces_at}
+use Rattle.frag_model.specs.Fragments.{Fragment, Shape, IsPiece, Meets, Equation, equation_of, line_of, xor_all, pieces_at}
 use Rattle.frag_model.specs.Gain.{gain_of, numbers_of, gain}
 use Rattle.frag_model.specs.Verdict.{FittingBlock, OneBlockFits}
 use Rattle.frag_model.specs.Laws.{AreNumbered}
@@ -223,21 +223,21 @@ flipped_meets size v n block e pos h long even meets =
 
 -- ---- below full gain
 
-flipped_fits : (shape : Shape) (heard : List Heard) (b : List (List ℕ)) (v : ℕ) → 0 < shape.frag_size → FittingBlock shape heard b
-    → ((g : Heard) → In g heard → parity shape.nb_frag (line_of shape.nb_frag g.number) v ≡ 0) → FittingBlock shape heard (flipped v b)
+flipped_fits : (shape : Shape) (heard : List Fragment) (b : List (List ℕ)) (v : ℕ) → 0 < shape.frag_size → FittingBlock shape heard b
+    → ((g : Fragment) → In g heard → parity shape.nb_frag (line_of shape.nb_frag g.number) v ≡ 0) → FittingBlock shape heard (flipped v b)
 unfolding equation_of
 flipped_fits shape heard b v pos fb even =
     let pieces = recursion_from_All (IsPiece shape.frag_size) b fb.shaped.pieces in
-    let was = recursion_from_All (λ (x : Heard). Meets shape.frag_size b (equation_of shape x)) heard fb.fitting in
+    let was = recursion_from_All (λ (x : Fragment). Meets shape.frag_size b (equation_of shape x)) heard fb.fitting in
     record {
       shaped = record {
         counted = length-flipped v b ∙ fb.shaped.counted;
         pieces = All-from_recursion (IsPiece shape.frag_size) (flipped v b) (flipped_pieces shape.frag_size v b pos pieces);
       };
-      fitting = All-from_recursion (λ (g : Heard). Meets shape.frag_size (flipped v b) (equation_of shape g)) heard
-          (each-from_In (λ (g : Heard). Meets shape.frag_size (flipped v b) (equation_of shape g)) heard (λ g m.
+      fitting = All-from_recursion (λ (g : Fragment). Meets shape.frag_size (flipped v b) (equation_of shape g)) heard
+          (each-from_In (λ (g : Fragment). Meets shape.frag_size (flipped v b) (equation_of shape g)) heard (λ g m.
           flipped_meets shape.frag_size v shape.nb_frag b (equation_of shape g) pos pieces fb.shaped.counted (even g m)
-          (each-In (λ (x : Heard). Meets shape.frag_size b (equation_of shape x)) g heard was m)));
+          (each-In (λ (x : Fragment). Meets shape.frag_size b (equation_of shape x)) g heard was m)));
     }
 
 flipped_differs : (size v k : ℕ) (b : List (List ℕ)) → 0 < size → AllByRecursion (IsPiece size) b → k < length b → bit_at v k ≡ 1 → flipped v b ≢ b
@@ -248,18 +248,18 @@ flipped_differs size v k b pos h lt set = λ e.
     omega arith
 
 -- another block fits
-pub another_fits : (shape : Shape) (heard : List Heard) (b : List (List ℕ)) → AreNumbered heard → 0 < shape.frag_size → FittingBlock shape heard b → gain shape heard < shape.nb_frag
+pub another_fits : (shape : Shape) (heard : List Fragment) (b : List (List ℕ)) → AreNumbered heard → 0 < shape.frag_size → FittingBlock shape heard b → gain shape heard < shape.nb_frag
     → (c : List (List ℕ)) × FittingBlock shape heard c × (c ≢ b)
 unfolding gain gain_of numbers_of heard_lines
 another_fits shape heard b numbered pos fb few =
     let cols : ℕ = shape.nb_frag in
     let ls : List ℕ = heard_lines shape heard in
-    let t = has_table cols ls (lines_within cols (map (λ (f : Heard). f.number) heard) (numbers_from_one heard numbered)) in
+    let t = has_table cols ls (lines_within cols (map (λ (f : Fragment). f.number) heard) (numbers_from_one heard numbered)) in
     let f = free_number cols (pivots_of t.0) (omega (arith, length-map t.0 (λ (r : Row). r.pivot), t.1.gained)) in (
       flipped (drawn f.0 t.0) b,
       flipped_fits shape heard b (drawn f.0 t.0) pos fb (λ g m.
           let line : IsSum (line_of cols g.number) ls =
-          IsSum-line (line_of cols g.number) ls (In-map (λ j. line_of cols j) g.number (map (λ (x : Heard). x.number) heard) (In-map (λ (x : Heard). x.number) g heard m)) in
+          IsSum-line (line_of cols g.number) ls (In-map (λ j. line_of cols j) g.number (map (λ (x : Fragment). x.number) heard) (In-map (λ (x : Fragment). x.number) g heard m)) in
           parity-sum cols f.0 (line_of cols g.number) t.0 f.1 t.1.table (t.1.from (line_of cols g.number) line)),
       flipped_differs shape.frag_size (drawn f.0 t.0) f.0 b pos (recursion_from_All (IsPiece shape.frag_size) b fb.shaped.pieces)
           (omega (arith, f.1, fb.shaped.counted)) (drawn-free f.0 t.0 f.2),
@@ -267,7 +267,7 @@ another_fits shape heard b numbered pos fb few =
 
 -- ---- where one block alone fits, gain is full
 
-pub full_gain : (shape : Shape) (heard : List Heard) (b : List (List ℕ)) → AreNumbered heard → 0 < shape.frag_size → OneBlockFits shape heard b → gain shape heard ≡ shape.nb_frag
+pub full_gain : (shape : Shape) (heard : List Fragment) (b : List (List ℕ)) → AreNumbered heard → 0 < shape.frag_size → OneBlockFits shape heard b → gain shape heard ≡ shape.nb_frag
 full_gain shape heard b numbered pos h = elim (cases_lt (gain shape heard) shape.nb_frag) [
   | inl few ↦ let other = another_fits shape heard b numbered pos h.fits few in absurd (other.2 (h.alone other.0 other.1))
   | inr le ↦ let most = gain-most shape heard numbered in omega arith

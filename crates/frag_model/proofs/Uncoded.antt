@@ -7,7 +7,7 @@ use Rattle.std.specs.Int.Bits.{xor_zero_r}
 use Rattle.std.proofs.lemmas.Bool.{or_left, or_right, or_from, or_cases, cases_eq, and_right, and_from}
 use Rattle.std.proofs.lemmas.Nat.Bits.{bit_at_xor, bit_at-pow_same, bit_at-pow_other, bit_at-zero}
 use Rattle.std.proofs.lemmas.List.Elements.{All-from_recursion, recursion_from_All}
-use Rattle.frag_model.specs.Fragments.{Heard, Shape, IsUncoded, IsPiece, IsBlock, Meets, equation_of, line_of, xor_bytes, xor_all, pieces_at}
+use Rattle.frag_model.specs.Fragments.{Fragment, Shape, IsUncoded, IsPiece, IsBlock, Meets, equation_of, line_of, xor_bytes, xor_all, pieces_at}
 use Rattle.frag_model.specs.Parity.{line}
 use Rattle.frag_model.specs.Gain.{sums, is_sum, gain_of_lines, gain_of, direct_of, numbers_of, gain, direct, excess}
 use Rattle.frag_model.specs.Verdict.{FittingBlock}
@@ -161,32 +161,32 @@ gain_is_direct nb_frag (n ∷ older) h =
 
 -- ---- the same over heard fragments
 
-numbers_of_pieces : (shape : Shape) (heard : List Heard) → AllByRecursion (IsUncoded shape) heard → AllByRecursion (IsPieceNumber shape.nb_frag) (numbers_of heard)
+numbers_of_pieces : (shape : Shape) (heard : List Fragment) → AllByRecursion (IsUncoded shape) heard → AllByRecursion (IsPieceNumber shape.nb_frag) (numbers_of heard)
 unfolding numbers_of
 numbers_of_pieces shape [] h = tt
 numbers_of_pieces shape (f ∷ heard) h = ((h.0.first, h.0.last), numbers_of_pieces shape heard h.1)
 
 -- a piece that came before gains nothing
-pub gain-heard : (shape : Shape) (f g : Heard) (older : List Heard) → In g older → g.number ≡ f.number → gain shape (f ∷ older) ≡ gain shape older
+pub gain-heard : (shape : Shape) (f g : Fragment) (older : List Fragment) → In g older → g.number ≡ f.number → gain shape (f ∷ older) ≡ gain shape older
 unfolding gain numbers_of
 gain-heard shape f g older m e =
-    gain_of-heard shape.nb_frag f.number (map (λ (x : Heard). x.number) older)
-    (subst (λ x. In x (map (λ (y : Heard). y.number) older)) e (In-map (λ (x : Heard). x.number) g older m))
+    gain_of-heard shape.nb_frag f.number (map (λ (x : Fragment). x.number) older)
+    (subst (λ x. In x (map (λ (y : Fragment). y.number) older)) e (In-map (λ (x : Fragment). x.number) g older m))
 
 -- a piece that did not gains one
-pub gain-new : (shape : Shape) (f : Heard) (older : List Heard) → IsUncoded shape f → AllByRecursion (IsUncoded shape) older
-    → ((g : Heard) → In g older → g.number ≡ f.number → ⊥) → gain shape (f ∷ older) ≡ gain shape older + 1
+pub gain-new : (shape : Shape) (f : Fragment) (older : List Fragment) → IsUncoded shape f → AllByRecursion (IsUncoded shape) older
+    → ((g : Fragment) → In g older → g.number ≡ f.number → ⊥) → gain shape (f ∷ older) ≡ gain shape older + 1
 unfolding gain numbers_of
 gain-new shape f older here others new =
-    gain_of-new shape.nb_frag f.number (map (λ (x : Heard). x.number) older) (here.first, here.last) (numbers_of_pieces shape older others)
-    (λ m. let r = In-map_from (λ (x : Heard). x.number) f.number older m in new r.0 r.1 (sym r.2))
+    gain_of-new shape.nb_frag f.number (map (λ (x : Fragment). x.number) older) (here.first, here.last) (numbers_of_pieces shape older others)
+    (λ m. let r = In-map_from (λ (x : Fragment). x.number) f.number older m in new r.0 r.1 (sym r.2))
 
 pub gain-none : (shape : Shape) → gain shape [] ≡ 0
 unfolding gain numbers_of gain_of gain_of_lines
 gain-none shape = refl
 
 -- uncoded fragments have no excess
-pub excess-uncoded : (shape : Shape) (heard : List Heard) → AllByRecursion (IsUncoded shape) heard → excess shape heard ≡ 0
+pub excess-uncoded : (shape : Shape) (heard : List Fragment) → AllByRecursion (IsUncoded shape) heard → excess shape heard ≡ 0
 unfolding excess gain direct
 excess-uncoded shape heard h =
     let e : gain_of shape.nb_frag (numbers_of heard) ≡ direct_of shape.nb_frag (numbers_of heard) = gain_is_direct shape.nb_frag (numbers_of heard) (numbers_of_pieces shape heard h) in
@@ -222,24 +222,24 @@ xor_all_piece size (suc k) line (p ∷ block) e lt h =
     ∙ xor_all_piece size k (line / 2) block half (omega arith) h.1
 
 -- a block that fits has the bytes of each uncoded fragment
-pub piece_from_fits : (shape : Shape) (heard : List Heard) (block : List (List ℕ)) (f : Heard) → FittingBlock shape heard block → In f heard → IsUncoded shape f
+pub piece_from_fits : (shape : Shape) (heard : List Fragment) (block : List (List ℕ)) (f : Fragment) → FittingBlock shape heard block → In f heard → IsUncoded shape f
     → get_or block (f.number - 1) [] ≡ f.part
 unfolding Meets equation_of
 piece_from_fits shape heard block f fb m u =
     let meets : Meets shape.frag_size block (equation_of shape f) =
-    each-In (λ (g : Heard). Meets shape.frag_size block (equation_of shape g)) f heard (recursion_from_All (λ (g : Heard). Meets shape.frag_size block (equation_of shape g)) heard fb.fitting) m in
+    each-In (λ (g : Fragment). Meets shape.frag_size block (equation_of shape g)) f heard (recursion_from_All (λ (g : Fragment). Meets shape.frag_size block (equation_of shape g)) heard fb.fitting) m in
     sym (xor_all_piece shape.frag_size (f.number - 1) (line_of shape.nb_frag f.number) block (line_of_piece shape.nb_frag f.number u.last)
     (omega (arith, fb.shaped.counted, u.first, u.last)) (recursion_from_All (IsPiece shape.frag_size) block fb.shaped.pieces))
     ∙ meets
 
 -- a block that has the bytes of each fits
-pub fits_from_pieces : (shape : Shape) (heard : List Heard) (block : List (List ℕ)) → IsBlock shape block → AllByRecursion (IsUncoded shape) heard
-    → ((f : Heard) → In f heard → get_or block (f.number - 1) [] ≡ f.part) → FittingBlock shape heard block
+pub fits_from_pieces : (shape : Shape) (heard : List Fragment) (block : List (List ℕ)) → IsBlock shape block → AllByRecursion (IsUncoded shape) heard
+    → ((f : Fragment) → In f heard → get_or block (f.number - 1) [] ≡ f.part) → FittingBlock shape heard block
 unfolding Meets equation_of
 fits_from_pieces shape heard block shaped uncoded told = record {
   shaped = shaped;
-  fitting = All-from_recursion (λ (g : Heard). Meets shape.frag_size block (equation_of shape g)) heard
-      (each-from_In (λ (g : Heard). Meets shape.frag_size block (equation_of shape g)) heard (λ f m.
+  fitting = All-from_recursion (λ (g : Fragment). Meets shape.frag_size block (equation_of shape g)) heard
+      (each-from_In (λ (g : Fragment). Meets shape.frag_size block (equation_of shape g)) heard (λ f m.
       let u : IsUncoded shape f = each-In (IsUncoded shape) f heard uncoded m in
       xor_all_piece shape.frag_size (f.number - 1) (line_of shape.nb_frag f.number) block (line_of_piece shape.nb_frag f.number u.last)
       (omega (arith, shaped.counted, u.first, u.last)) (recursion_from_All (IsPiece shape.frag_size) block shaped.pieces)

@@ -9,7 +9,7 @@ use Rattle.std.proofs.lemmas.Nat.Bits.{bit_at_xor, bit_at_lowest, bit_at-pow_sam
 use Rattle.std.proofs.lemmas.List.{ext_get_or, length-map}
 use Rattle.std.proofs.lemmas.List.Elements.{recursion_from_All, All-get_or}
 use Rattle.std.proofs.lemmas.Bool.{cases_eq, cases_lt}
-use Rattle.frag_model.specs.Fragments.{Heard, Shape, IsPiece, Meets, equation_of, line_of}
+use Rattle.frag_model.specs.Fragments.{Fragment, Shape, IsPiece, Meets, equation_of, line_of}
 use Rattle.frag_model.specs.Gain.{gain_of_lines, gain_of, numbers_of, gain}
 use Rattle.frag_model.specs.Verdict.{FittingBlock}
 use Rattle.frag_model.specs.Laws.{AreNumbered}
@@ -102,38 +102,38 @@ unit_sum cols k ls h full lt =
     let line : r.0.line ≡ 2 ^ k = full_row cols t.0 r.0 t.1.table all r.1 ∙ ap (λ j. 2 ^ j) (sym r.2) in
     t.1.to (2 ^ k) (subst (λ z. IsSum z (lines_of t.0)) line (IsSum-line r.0.line (lines_of t.0) (In-map (λ (q : Row). q.line) r.0 t.0 r.1)))
 
-unfoldable pub heard_lines : Shape → List Heard → List ℕ
-heard_lines shape heard = map (λ n. line_of shape.nb_frag n) (map (λ (f : Heard). f.number) heard)
+unfoldable pub heard_lines : Shape → List Fragment → List ℕ
+heard_lines shape heard = map (λ n. line_of shape.nb_frag n) (map (λ (f : Fragment). f.number) heard)
 
-pub numbers_from_one : (heard : List Heard) → AreNumbered heard → AllByRecursion (λ n. 1 ≤ n) (map (λ (f : Heard). f.number) heard)
+pub numbers_from_one : (heard : List Fragment) → AreNumbered heard → AllByRecursion (λ n. 1 ≤ n) (map (λ (f : Fragment). f.number) heard)
 numbers_from_one [] h = tt
 numbers_from_one (f ∷ heard) h = (h.0, numbers_from_one heard h.1)
 
 -- what a block that fits has at each line that was heard
-fits_line : (shape : Shape) (heard : List Heard) (block : List (List ℕ)) (f : Heard) (i : ℕ) → FittingBlock shape heard block → In f heard → byte_at (line_of shape.nb_frag f.number) i block ≡ get_or f.part i 0
+fits_line : (shape : Shape) (heard : List Fragment) (block : List (List ℕ)) (f : Fragment) (i : ℕ) → FittingBlock shape heard block → In f heard → byte_at (line_of shape.nb_frag f.number) i block ≡ get_or f.part i 0
 unfolding Meets equation_of
 fits_line shape heard block f i fb m =
     let meets : Meets shape.frag_size block (equation_of shape f) =
-    each-In (λ (g : Heard). Meets shape.frag_size block (equation_of shape g)) f heard (recursion_from_All (λ (g : Heard). Meets shape.frag_size block (equation_of shape g)) heard fb.fitting) m in
+    each-In (λ (g : Fragment). Meets shape.frag_size block (equation_of shape g)) f heard (recursion_from_All (λ (g : Fragment). Meets shape.frag_size block (equation_of shape g)) heard fb.fitting) m in
     sym (get_or-xor_all shape.frag_size (line_of shape.nb_frag f.number) i block) ∙ ap (λ p. get_or p i 0) meets
 
-same_line : (shape : Shape) (heard : List Heard) (b c : List (List ℕ)) (i l : ℕ) → FittingBlock shape heard b → FittingBlock shape heard c → In l (heard_lines shape heard) → byte_at l i b ≡ byte_at l i c
+same_line : (shape : Shape) (heard : List Fragment) (b c : List (List ℕ)) (i l : ℕ) → FittingBlock shape heard b → FittingBlock shape heard c → In l (heard_lines shape heard) → byte_at l i b ≡ byte_at l i c
 unfolding heard_lines
 same_line shape heard b c i l fb fc m =
-    let n = In-map_from (λ j. line_of shape.nb_frag j) l (map (λ (f : Heard). f.number) heard) m in
-    let f = In-map_from (λ (g : Heard). g.number) n.0 heard n.1 in
+    let n = In-map_from (λ j. line_of shape.nb_frag j) l (map (λ (f : Fragment). f.number) heard) m in
+    let f = In-map_from (λ (g : Fragment). g.number) n.0 heard n.1 in
     let is : l ≡ line_of shape.nb_frag f.0.number = n.2 ∙ ap (λ j. line_of shape.nb_frag j) f.2 in
     ap (λ z. byte_at z i b) is ∙ fits_line shape heard b f.0 i fb f.1 ∙ sym (ap (λ z. byte_at z i c) is ∙ fits_line shape heard c f.0 i fc f.1)
 
 piece_byte : (size k i : ℕ) (block : List (List ℕ)) → k < length block → AllByRecursion (IsPiece size) block → byte_at (2 ^ k) i block ≡ get_or (get_or block k []) i 0
 piece_byte size k i block lt h = sym (get_or-xor_all size (2 ^ k) i block) ∙ ap (λ p. get_or p i 0) (xor_all_piece size k (2 ^ k) block refl lt h)
 
-pub unique_at_full_gain : (shape : Shape) (heard : List Heard) (b c : List (List ℕ)) → AreNumbered heard → gain shape heard ≡ shape.nb_frag → FittingBlock shape heard b → FittingBlock shape heard c → c ≡ b
+pub unique_at_full_gain : (shape : Shape) (heard : List Fragment) (b c : List (List ℕ)) → AreNumbered heard → gain shape heard ≡ shape.nb_frag → FittingBlock shape heard b → FittingBlock shape heard c → c ≡ b
 unfolding gain gain_of numbers_of heard_lines
 unique_at_full_gain shape heard b c numbered full fb fc =
     let hb = recursion_from_All (IsPiece shape.frag_size) b fb.shaped.pieces in
     let hc = recursion_from_All (IsPiece shape.frag_size) c fc.shaped.pieces in
-    let within = lines_within shape.nb_frag (map (λ (f : Heard). f.number) heard) (numbers_from_one heard numbered) in
+    let within = lines_within shape.nb_frag (map (λ (f : Fragment). f.number) heard) (numbers_from_one heard numbered) in
     ext_get_or [] c b (fc.shaped.counted ∙ sym fb.shaped.counted) (λ k lt.
     let inside : k < shape.nb_frag = omega (arith, fc.shaped.counted) in
     let ltb : k < length b = omega (arith, fb.shaped.counted) in

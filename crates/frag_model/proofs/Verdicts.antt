@@ -6,24 +6,24 @@ use Rattle.std.proofs.lemmas.List.Sums.{AllPass-from_list_all, list_all-from_All
 use Rattle.std.proofs.lemmas.Slice.Eq.{bytes_eq-Decides, slice_eq-Decides}
 use Rattle.std.specs.List.{list_all, range_with_len, AllByRecursion}
 use lib.Pointwise.{pointwise}
-use Rattle.frag_model.specs.Fragments.{Heard, Shape, IsPiece, IsBlock, Meets, Fits, fits, equation_of, xor_all, pieces_at}
+use Rattle.frag_model.specs.Fragments.{Fragment, Shape, IsPiece, IsBlock, Meets, Fits, fits, equation_of, xor_all, pieces_at}
 use Rattle.frag_model.specs.Gain.{excess}
 use Rattle.frag_model.specs.Verdict.{Verdict, receiving, complete, no_rows, conflict, all_lists, all_blocks, fitting_blocks, verdict_from, verdict_now, first_verdict, verdict, FittingBlock, IsVerdictNow, IsVerdict}
 use Rattle.frag_model.proofs.Members.{In, In-filter, In-filter_from, list_all-In, list_all-fails, In-all_lists, In-all_lists_from, In-range, In-range_from}
 
 -- the test of fitting means fitting
-pub Fits-from_fits : (shape : Shape) (heard : List Heard) (block : List (List ℕ)) → fits shape heard block ≡ true → Fits shape heard block
+pub Fits-from_fits : (shape : Shape) (heard : List Fragment) (block : List (List ℕ)) → fits shape heard block ≡ true → Fits shape heard block
 unfolding fits Meets equation_of
 Fits-from_fits shape heard block h =
-    let p : Heard → Bool = λ f. bytes_eq (xor_all shape.frag_size (pieces_at (equation_of shape f).line block)) f.part in
+    let p : Fragment → Bool = λ f. bytes_eq (xor_all shape.frag_size (pieces_at (equation_of shape f).line block)) f.part in
     All-weaker (λ f. p f ≡ true) (λ f. Meets shape.frag_size block (equation_of shape f))
     (λ f e. (bytes_eq-Decides (xor_all shape.frag_size (pieces_at (equation_of shape f).line block)) f.part).0 e)
     heard (AllPass-from_list_all p heard h)
 
-pub fits-from_Fits : (shape : Shape) (heard : List Heard) (block : List (List ℕ)) → Fits shape heard block → fits shape heard block ≡ true
+pub fits-from_Fits : (shape : Shape) (heard : List Fragment) (block : List (List ℕ)) → Fits shape heard block → fits shape heard block ≡ true
 unfolding fits Meets equation_of
 fits-from_Fits shape heard block h =
-    let p : Heard → Bool = λ f. bytes_eq (xor_all shape.frag_size (pieces_at (equation_of shape f).line block)) f.part in
+    let p : Fragment → Bool = λ f. bytes_eq (xor_all shape.frag_size (pieces_at (equation_of shape f).line block)) f.part in
     list_all-from_AllPass p heard
     (All-weaker (λ f. Meets shape.frag_size block (equation_of shape f)) (λ f. p f ≡ true)
     (λ f e. (bytes_eq-Decides (xor_all shape.frag_size (pieces_at (equation_of shape f).line block)) f.part).1 e)
@@ -70,12 +70,12 @@ In-all_blocks_from shape block m =
     }
 
 -- the fitting blocks are the blocks that fit
-pub In-fitting_blocks : (shape : Shape) (heard : List Heard) (block : List (List ℕ)) → FittingBlock shape heard block → In block (fitting_blocks shape heard)
+pub In-fitting_blocks : (shape : Shape) (heard : List Fragment) (block : List (List ℕ)) → FittingBlock shape heard block → In block (fitting_blocks shape heard)
 unfolding fitting_blocks
 In-fitting_blocks shape heard block h =
     In-filter (fits shape heard) block (all_blocks shape) (In-all_blocks shape block h.shaped) (fits-from_Fits shape heard block h.fitting)
 
-pub In-fitting_blocks_from : (shape : Shape) (heard : List Heard) (block : List (List ℕ)) → In block (fitting_blocks shape heard) → FittingBlock shape heard block
+pub In-fitting_blocks_from : (shape : Shape) (heard : List Fragment) (block : List (List ℕ)) → In block (fitting_blocks shape heard) → FittingBlock shape heard block
 unfolding fitting_blocks
 In-fitting_blocks_from shape heard block m =
     let r = In-filter_from (fits shape heard) block (all_blocks shape) m in
@@ -86,7 +86,7 @@ same_blocks : (a b : List (List ℕ)) → Decides (pointwise bytes_eq a b) (a �
 same_blocks a b = slice_eq-Decides bytes_eq-Decides a b (pointwise bytes_eq a b) refl
 
 -- the verdict by cases on the fitting blocks is right
-from_right_alone : (shape : Shape) (heard : List Heard) (mark : ℕ) (b : List (List ℕ)) (others : List (List (List ℕ)))
+from_right_alone : (shape : Shape) (heard : List Fragment) (mark : ℕ) (b : List (List ℕ)) (others : List (List (List ℕ)))
     → excess shape heard ≤ shape.rows
     → ((c : List (List ℕ)) → FittingBlock shape heard c → In c (b ∷ others))
     → ((c : List (List ℕ)) → In c (b ∷ others) → FittingBlock shape heard c)
@@ -118,7 +118,7 @@ from_right_alone shape heard mark b others room to from false is =
       ),
     )
 
-from_right : (shape : Shape) (heard : List Heard) (mark : ℕ) (over : Bool) → nat_lt shape.rows (excess shape heard) ≡ over
+from_right : (shape : Shape) (heard : List Fragment) (mark : ℕ) (over : Bool) → nat_lt shape.rows (excess shape heard) ≡ over
     → (blocks : List (List (List ℕ)))
     → ((c : List (List ℕ)) → FittingBlock shape heard c → In c blocks)
     → ((c : List (List ℕ)) → In c blocks → FittingBlock shape heard c)
@@ -129,14 +129,14 @@ from_right shape heard mark true is (b ∷ others) to from = (refl, ltb-true _ _
 from_right shape heard mark false is (b ∷ others) to from =
     from_right_alone shape heard mark b others (ltb-false _ _ is) to from (list_all (pointwise bytes_eq b) others) refl
 
-pub verdict_now-right : (shape : Shape) (heard : List Heard) (mark : ℕ) → IsVerdictNow shape heard mark (verdict_now shape heard mark)
+pub verdict_now-right : (shape : Shape) (heard : List Fragment) (mark : ℕ) → IsVerdictNow shape heard mark (verdict_now shape heard mark)
 unfolding verdict_now
 verdict_now-right shape heard mark =
     from_right shape heard mark (nat_lt shape.rows (excess shape heard)) refl (fitting_blocks shape heard)
     (In-fitting_blocks shape heard) (In-fitting_blocks_from shape heard)
 
 -- two verdicts that are right now are one
-pub IsVerdictNow-same : (shape : Shape) (heard : List Heard) (mark : ℕ) (v w : Verdict) → IsVerdictNow shape heard mark v → IsVerdictNow shape heard mark w → v ≡ w
+pub IsVerdictNow-same : (shape : Shape) (heard : List Fragment) (mark : ℕ) (v w : Verdict) → IsVerdictNow shape heard mark v → IsVerdictNow shape heard mark w → v ≡ w
 unfolding IsVerdictNow
 IsVerdictNow-same shape heard mark (conflict at) (conflict at') h k = ap conflict (h.0 ∙ sym k.0)
 IsVerdictNow-same shape heard mark (conflict at) (no_rows at') h k = absurd (h.1 k.2.0 k.2.1)
@@ -157,21 +157,21 @@ IsVerdictNow-same shape heard mark receiving (complete at' c) h k =
     absurd (h.1.2.differ (k.2.alone h.1.0 h.1.2.one ∙ sym (k.2.alone h.1.1 h.1.2.other)))
 IsVerdictNow-same shape heard mark receiving receiving h k = refl
 
-first_right : (shape : Shape) (f : Heard) (older : List Heard) (v next : Verdict) → IsVerdict shape older v → IsVerdictNow shape (f ∷ older) f.mark next → IsVerdict shape (f ∷ older) (first_verdict v next)
+first_right : (shape : Shape) (f : Fragment) (older : List Fragment) (v next : Verdict) → IsVerdict shape older v → IsVerdictNow shape (f ∷ older) f.mark next → IsVerdict shape (f ∷ older) (first_verdict v next)
 unfolding IsVerdict first_verdict
 first_right shape f older receiving next h now = inr (h, now)
 first_right shape f older (complete at b) next h now = inl (h, λ e. cc)
 first_right shape f older (no_rows at) next h now = inl (h, λ e. cc)
 first_right shape f older (conflict at) next h now = inl (h, λ e. cc)
 
-pub verdict-right : (shape : Shape) (heard : List Heard) → IsVerdict shape heard (verdict shape heard)
+pub verdict-right : (shape : Shape) (heard : List Fragment) → IsVerdict shape heard (verdict shape heard)
 unfolding IsVerdict verdict
 verdict-right shape [] = refl
 verdict-right shape (f ∷ older) =
     first_right shape f older (verdict shape older) (verdict_now shape (f ∷ older) f.mark)
     (verdict-right shape older) (verdict_now-right shape (f ∷ older) f.mark)
 
-pub IsVerdict-same : (shape : Shape) (heard : List Heard) (v w : Verdict) → IsVerdict shape heard v → IsVerdict shape heard w → v ≡ w
+pub IsVerdict-same : (shape : Shape) (heard : List Fragment) (v w : Verdict) → IsVerdict shape heard v → IsVerdict shape heard w → v ≡ w
 unfolding IsVerdict
 IsVerdict-same shape [] v w h k = h ∙ sym k
 IsVerdict-same shape (f ∷ older) v w (inl h) (inl k) = IsVerdict-same shape older v w h.0 k.0

@@ -5,7 +5,7 @@ use Rattle.std.specs.List.{concat, list_all}
 use Rattle.frag_model.specs.Parity.{line}
 
 -- a fragment that was heard: its number from 1 on, its bytes, and the mark at which it came
-pub record Heard : Type 0 where
+pub record Fragment : Type 0 where
   pub number : ℕ
   pub part : List ℕ
   pub mark : ℕ
@@ -26,7 +26,7 @@ pub record Equation : Type 0 where
   pub part : List ℕ
 
 -- what a heard fragment says of the pieces
-unfoldable pub equation_of : Shape → Heard → Equation
+unfoldable pub equation_of : Shape → Fragment → Equation
 equation_of shape heard = record { line = line_of shape.nb_frag heard.number; part = heard.part }
 
 -- the XOR of two lists of bytes, place by place, the shorter one as if it went on with zeros
@@ -46,7 +46,7 @@ pub record IsBlock (shape : Shape) (block : List (List ℕ)) : Type 0 where
   pub pieces : All (IsPiece shape.frag_size) block
 
 -- an uncoded fragment of the shape: the number of a piece, and bytes for one
-pub record IsUncoded (shape : Shape) (f : Heard) : Type 0 where
+pub record IsUncoded (shape : Shape) (f : Fragment) : Type 0 where
   pub first : 1 ≤ f.number
   pub last : f.number ≤ shape.nb_frag
   pub piece : IsPiece shape.frag_size f.part
@@ -66,13 +66,13 @@ unfoldable pub Meets : ℕ → List (List ℕ) → Equation → Type 0
 Meets size block equation = xor_all size (pieces_at equation.line block) ≡ equation.part
 
 -- the block meets the equation of each fragment that was heard
-abbrev pub Fits : Shape → List Heard → List (List ℕ) → Type 0
-Fits shape heard block = All (λ (f : Heard). Meets shape.frag_size block (equation_of shape f)) heard
+abbrev pub Fits : Shape → List Fragment → List (List ℕ) → Type 0
+Fits shape heard block = All (λ (f : Fragment). Meets shape.frag_size block (equation_of shape f)) heard
 
 -- the same, as a test
-unfoldable pub fits : Shape → List Heard → List (List ℕ) → Bool
+unfoldable pub fits : Shape → List Fragment → List (List ℕ) → Bool
 fits shape heard block =
-    list_all (λ (f : Heard). bytes_eq (xor_all shape.frag_size (pieces_at (equation_of shape f).line block)) f.part) heard
+    list_all (λ (f : Fragment). bytes_eq (xor_all shape.frag_size (pieces_at (equation_of shape f).line block)) f.part) heard
 
 -- the recovered file: all bytes of the block but the padding at its end
 unfoldable pub file_of : ℕ → Shape → List (List ℕ) → List ℕ

@@ -1,7 +1,7 @@
 -- How much a list of heard fragments tells: gain, direct and excess, over the numbers heard, newest first.
 use Rattle.std.specs.Prelude.{ℕ, ◌+◌, ◌-◌, Bool, ◌&&◌, not, ◌==◌, nat_le, List, [], ◌∷◌, ◌++◌, map, bit_xor, if◌then◌else◌}
 use Rattle.std.specs.List.{list_any}
-use Rattle.frag_model.specs.Fragments.{Heard, Shape, line_of}
+use Rattle.frag_model.specs.Fragments.{Fragment, Shape, line_of}
 
 -- the XORs of all sublists of the lines, the empty one included
 unfoldable pub sums : List ℕ → List ℕ
@@ -27,17 +27,17 @@ direct_of nb_frag [] = 0
 direct_of nb_frag (n ∷ older) = direct_of nb_frag older + (if nat_le n nb_frag && not (list_any (λ m. m == n) older) then 1 else 0)
 
 -- the numbers that were heard
-unfoldable pub numbers_of : List Heard → List ℕ
-numbers_of heard = map (λ (f : Heard). f.number) heard
+unfoldable pub numbers_of : List Fragment → List ℕ
+numbers_of heard = map (λ (f : Fragment). f.number) heard
 
 -- gain of a list of heard fragments
-unfoldable pub gain : Shape → List Heard → ℕ
+unfoldable pub gain : Shape → List Fragment → ℕ
 gain shape heard = gain_of shape.nb_frag (numbers_of heard)
 
 -- the different pieces among them
-unfoldable pub direct : Shape → List Heard → ℕ
+unfoldable pub direct : Shape → List Fragment → ℕ
 direct shape heard = direct_of shape.nb_frag (numbers_of heard)
 
 -- how many independent coded fragments must be kept
-unfoldable pub excess : Shape → List Heard → ℕ
+unfoldable pub excess : Shape → List Fragment → ℕ
 excess shape heard = gain shape heard - direct shape heard

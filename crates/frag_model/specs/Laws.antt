@@ -3,54 +3,55 @@ use Rattle.std.specs.Prelude.{◌≡◌, ◌↔◌, ℕ, ◌+◌, ◌*◌, ◌/�
 use Rattle.std.specs.List.{AllByRecursion}
 use Rattle.frag_model.specs.Parity.{prbs23, residues, columns_drawn, line, draws}
 use Rattle.frag_model.specs.Gain.{gain_of, direct_of, gain, direct, excess}
-use Rattle.frag_model.specs.Fragments.{Heard, Shape, IsUncoded, file_of}
+use Rattle.frag_model.specs.Fragments.{Fragment, Shape, IsUncoded, file_of}
 use Rattle.frag_model.specs.Verdict.{Verdict, verdict, verdict_now, IsVerdict, IsVerdictNow, FittingBlock, OneBlockFits}
 use Rattle.frag_model.specs.File.{OneFileFits}
+use Rattle.frag_model.specs.Limits.{max_parity_index, max_pieces}
 
 -- of each list exactly one verdict is right, and it is the one that the function gives
 pub record ExactlyOneVerdict : Type 0 where
   -- on the list taken for itself
-  pub now : (shape : Shape) (heard : List Heard) (mark : ℕ) (v : Verdict) → IsVerdictNow shape heard mark v ↔ (v ≡ verdict_now shape heard mark)
+  pub now : (shape : Shape) (heard : List Fragment) (mark : ℕ) (v : Verdict) → IsVerdictNow shape heard mark v ↔ (v ≡ verdict_now shape heard mark)
   -- and where the first one stays
-  pub first : (shape : Shape) (heard : List Heard) (v : Verdict) → IsVerdict shape heard v ↔ (v ≡ verdict shape heard)
+  pub first : (shape : Shape) (heard : List Fragment) (v : Verdict) → IsVerdict shape heard v ↔ (v ≡ verdict shape heard)
 
 -- where the padding is shorter than a piece, one block alone fits exactly where one file alone fits
 pub record OneBlockIsOneFile : Type 0 where
   -- the block's file is then the one
-  pub file : (shape : Shape) (padding : ℕ) (heard : List Heard) (block : List (List ℕ)) → 0 < shape.nb_frag → padding < shape.frag_size
+  pub file : (shape : Shape) (padding : ℕ) (heard : List Fragment) (block : List (List ℕ)) → 0 < shape.nb_frag → padding < shape.frag_size
       → OneBlockFits shape heard block → OneFileFits shape padding heard (file_of padding shape block)
   -- and the file is that of the one block
-  pub block : (shape : Shape) (padding : ℕ) (heard : List Heard) (file : List ℕ) → 0 < shape.nb_frag → padding < shape.frag_size
+  pub block : (shape : Shape) (padding : ℕ) (heard : List Fragment) (file : List ℕ) → 0 < shape.nb_frag → padding < shape.frag_size
       → OneFileFits shape padding heard file → (block : List (List ℕ)) × OneBlockFits shape heard block × (file ≡ file_of padding shape block)
 
 -- fragment numbers begin with 1
-abbrev pub AreNumbered : List Heard → Type 0
-AreNumbered heard = AllByRecursion (λ (f : Heard). 1 ≤ f.number) heard
+abbrev pub AreNumbered : List Fragment → Type 0
+AreNumbered heard = AllByRecursion (λ (f : Fragment). 1 ≤ f.number) heard
 
 -- where some block fits, gain is full exactly where one block alone fits
 pub record FullGainIsUniqueness : Type 0 where
-  pub unique : (shape : Shape) (heard : List Heard) (block : List (List ℕ)) → AreNumbered heard
+  pub unique : (shape : Shape) (heard : List Fragment) (block : List (List ℕ)) → AreNumbered heard
       → gain shape heard ≡ shape.nb_frag → FittingBlock shape heard block → OneBlockFits shape heard block
-  pub full : (shape : Shape) (heard : List Heard) (block : List (List ℕ)) → AreNumbered heard → 0 < shape.frag_size
+  pub full : (shape : Shape) (heard : List Fragment) (block : List (List ℕ)) → AreNumbered heard → 0 < shape.frag_size
       → OneBlockFits shape heard block → gain shape heard ≡ shape.nb_frag
 
 -- how much is gained: no more than there are pieces, and no less than came uncoded, so that an excess is a whole number
 pub record GainIsBounded : Type 0 where
-  pub most : (shape : Shape) (heard : List Heard) → AreNumbered heard → gain shape heard ≤ shape.nb_frag
-  pub least : (shape : Shape) (heard : List Heard) → AreNumbered heard → direct shape heard ≤ gain shape heard
+  pub most : (shape : Shape) (heard : List Fragment) → AreNumbered heard → gain shape heard ≤ shape.nb_frag
+  pub least : (shape : Shape) (heard : List Fragment) → AreNumbered heard → direct shape heard ≤ gain shape heard
 
 -- where at most as many pieces as there are rows had not come uncoded before the first coded fragment, the excess never passes the rows
 pub record EnoughRowsForTheUnheard : Type 0 where
   -- before it there is none
-  pub before : (shape : Shape) (heard : List Heard) → AllByRecursion (IsUncoded shape) heard → excess shape heard ≡ 0
+  pub before : (shape : Shape) (heard : List Fragment) → AllByRecursion (IsUncoded shape) heard → excess shape heard ≡ 0
   -- and from it on there are rows enough
-  pub after : (shape : Shape) (newer older : List Heard) → AllByRecursion (IsUncoded shape) older → shape.nb_frag ≤ direct shape older + shape.rows
+  pub after : (shape : Shape) (newer older : List Fragment) → AllByRecursion (IsUncoded shape) older → shape.nb_frag ≤ direct shape older + shape.rows
       → AreNumbered newer → excess shape (newer ++ older) ≤ shape.rows
 
 -- every line has enough draws, for every number of a coded fragment and up to 1,024 columns
 pub record EveryLineHasEnoughDraws : Type 0 where
   -- half as many columns as there are, rounded down, are found among its residues, a column drawn twice counting twice
-  pub columns : (n cols : ℕ) → n ≤ 8380 → cols ≤ 1024 → length (columns_drawn n cols) ≡ cols / 2
+  pub columns : (n cols : ℕ) → n ≤ max_parity_index → cols ≤ max_pieces → length (columns_drawn n cols) ≡ cols / 2
   -- and the last of them in the 25 states for each
   pub draws : (n cols : ℕ) → draws n cols ≤ 25 * (cols / 2)
 

@@ -2,7 +2,7 @@
 use Rattle.std.specs.Prelude.{◌≡◌, ◌≢◌, ◌⊎◌, ℕ, zero, suc, ◌-◌, ◌<◌, ◌≤◌, Bool, nat_lt, List, [], ◌∷◌, map, filter, flat_map, bytes_eq, if◌then◌else◌}
 use Rattle.std.specs.List.{list_all, range_with_len}
 use lib.Pointwise.{pointwise}
-use Rattle.frag_model.specs.Fragments.{Heard, Shape, IsBlock, Fits, fits}
+use Rattle.frag_model.specs.Fragments.{Fragment, Shape, IsBlock, Fits, fits}
 use Rattle.frag_model.specs.Gain.{gain, excess}
 
 -- what is known of the file
@@ -26,7 +26,7 @@ unfoldable pub all_blocks : Shape → List (List (List ℕ))
 all_blocks shape = all_lists (all_lists (range_with_len 0 256) shape.frag_size) shape.nb_frag
 
 -- those that fit what was heard
-unfoldable pub fitting_blocks : Shape → List Heard → List (List (List ℕ))
+unfoldable pub fitting_blocks : Shape → List Fragment → List (List (List ℕ))
 fitting_blocks shape heard = filter (fits shape heard) (all_blocks shape)
 
 -- the verdict that the fitting blocks and too many independent coded fragments give, tried in this order
@@ -36,7 +36,7 @@ verdict_from mark overflows (block ∷ others) =
     if overflows then no_rows mark else if list_all (pointwise bytes_eq block) others then complete mark block else receiving
 
 -- the verdict on this list taken for itself, at a mark
-unfoldable pub verdict_now : Shape → List Heard → ℕ → Verdict
+unfoldable pub verdict_now : Shape → List Fragment → ℕ → Verdict
 verdict_now shape heard mark = verdict_from mark (nat_lt shape.rows (excess shape heard)) (fitting_blocks shape heard)
 
 -- a verdict that was reached stays, else the next one counts
@@ -47,12 +47,12 @@ first_verdict (no_rows mark) next = no_rows mark
 first_verdict (conflict mark) next = conflict mark
 
 -- the verdict: that of the first fragment at which there is one, and it stays
-unfoldable pub verdict : Shape → List Heard → Verdict
+unfoldable pub verdict : Shape → List Fragment → Verdict
 verdict shape [] = receiving
 verdict shape (f ∷ older) = first_verdict (verdict shape older) (verdict_now shape (f ∷ older) f.mark)
 
 -- how many pieces are still to be gained
-unfoldable pub lacking : Shape → List Heard → ℕ
+unfoldable pub lacking : Shape → List Fragment → ℕ
 lacking shape heard = shape.nb_frag - gain shape heard
 
 -- what is missing where this verdict comes now: nothing at a whole file, and where the fragment decided against it what was missing before
@@ -70,7 +70,7 @@ missing_next (no_rows mark) kept next = kept
 missing_next (conflict mark) kept next = kept
 
 -- the missing pieces
-unfoldable pub missing : Shape → List Heard → ℕ
+unfoldable pub missing : Shape → List Fragment → ℕ
 missing shape [] = shape.nb_frag
 missing shape (f ∷ older) =
     missing_next (verdict shape older) (missing shape older)
@@ -79,27 +79,27 @@ missing shape (f ∷ older) =
 -- ---- the same in the field's words: which blocks fit
 
 -- a block of the shape that fits what was heard
-pub record FittingBlock (shape : Shape) (heard : List Heard) (block : List (List ℕ)) : Type 0 where
+pub record FittingBlock (shape : Shape) (heard : List Fragment) (block : List (List ℕ)) : Type 0 where
   pub shaped : IsBlock shape block
   pub fitting : Fits shape heard block
 
 -- no block fits
-abbrev pub NoBlockFits : Shape → List Heard → Type 0
+abbrev pub NoBlockFits : Shape → List Fragment → Type 0
 NoBlockFits shape heard = (block : List (List ℕ)) → FittingBlock shape heard block → ⊥
 
 -- this block fits, and each that fits is it
-pub record OneBlockFits (shape : Shape) (heard : List Heard) (block : List (List ℕ)) : Type 0 where
+pub record OneBlockFits (shape : Shape) (heard : List Fragment) (block : List (List ℕ)) : Type 0 where
   pub fits : FittingBlock shape heard block
   pub alone : (other : List (List ℕ)) → FittingBlock shape heard other → other ≡ block
 
 -- two different blocks fit
-pub record TwoBlocksFit (shape : Shape) (heard : List Heard) (first second : List (List ℕ)) : Type 0 where
+pub record TwoBlocksFit (shape : Shape) (heard : List Fragment) (first second : List (List ℕ)) : Type 0 where
   pub one : FittingBlock shape heard first
   pub other : FittingBlock shape heard second
   pub differ : first ≢ second
 
 -- this verdict is right on this list taken for itself, at this mark
-unfoldable pub IsVerdictNow : Shape → List Heard → ℕ → Verdict → Type 0
+unfoldable pub IsVerdictNow : Shape → List Fragment → ℕ → Verdict → Type 0
 IsVerdictNow shape heard mark (conflict at) = (at ≡ mark) × NoBlockFits shape heard
 IsVerdictNow shape heard mark (no_rows at) =
     (at ≡ mark) × (shape.rows < excess shape heard) × ((block : List (List ℕ)) × FittingBlock shape heard block)
@@ -109,7 +109,7 @@ IsVerdictNow shape heard mark receiving =
     (excess shape heard ≤ shape.rows) × ((first : List (List ℕ)) × (second : List (List ℕ)) × TwoBlocksFit shape heard first second)
 
 -- the verdict is right: before any fragment there is none, one that was right stays, and else it is right now
-unfoldable pub IsVerdict : Shape → List Heard → Verdict → Type 0
+unfoldable pub IsVerdict : Shape → List Fragment → Verdict → Type 0
 IsVerdict shape [] v = v ≡ receiving
 IsVerdict shape (f ∷ older) v =
     (IsVerdict shape older v × (v ≢ receiving)) ⊎ (IsVerdict shape older receiving × IsVerdictNow shape (f ∷ older) f.mark v)

@@ -17,7 +17,7 @@ use Rattle.frag_session.specs.declared.answers.Verdict.TheVariants as shown
 use Rattle.frag_session.specs.Setup.{Room, rows_of, setup_bits, bit_where, wrong_coding, too_large, other_descriptor, same_setup, lives}
 use Rattle.frag_session.specs.Session.{Session, Seen, shape_of, followed, received_count, new_session, renewed, after_setup, excludes, cause_of, drop_cause, answer_of, after_fragment, seen_of, view_of, shown_verdict, shown_file, status_in, status_of}
 use Rattle.frag_session.specs.Held as kept
-use Rattle.frag_session.specs.Held.{Kept, Held}
+use Rattle.frag_session.specs.Held.{HeldSlot, Held}
 use Rattle.frag_session.specs.Shows.{receiving_seen, done_seen, failed_seen, overflowed_seen}
 use Rattle.frag_session.specs.Steps.{session_setup, slot_cause, slot_seen, CanHear}
 use Rattle.frag_session.specs.Stands.{IsSetUp, Holds, Stands}
@@ -78,7 +78,7 @@ begun_holds limits req solver fine begun shape = record {
 }
 
 -- a setup that is accepted where no session lives that is made of an equal request
-pub renews : (limits : Limits) (x new : Kept) (s : Option Session) (room : Room) (req : SetupReq) → setup_bits limits room req ≡ 0 → lives (session_setup x) req ≡ false → Stands x s
+pub renews : (limits : Limits) (x new : HeldSlot) (s : Option Session) (room : Room) (req : SetupReq) → setup_bits limits room req ≡ 0 → lives (session_setup x) req ≡ false → Stands x s
     → Stands new (Some (new_session limits req)) → Stands new (after_setup limits room s req)
 unfolding renewed lives after_setup
 renews limits x new None room req e other k begun =
@@ -89,7 +89,7 @@ renews limits x new (Some s) room req e other k begun =
     (subst (λ t. Stands new (Some (cond t s (new_session limits req)))) (sym apart) begun)
 
 -- one that is accepted where one does
-pub keeps : (limits : Limits) (x : Kept) (s : Option Session) (room : Room) (req : SetupReq) → setup_bits limits room req ≡ 0 → lives (session_setup x) req ≡ true → Stands x s
+pub keeps : (limits : Limits) (x : HeldSlot) (s : Option Session) (room : Room) (req : SetupReq) → setup_bits limits room req ≡ 0 → lives (session_setup x) req ≡ true → Stands x s
     → Stands x (after_setup limits room s req)
 unfolding renewed lives after_setup
 keeps limits x None room req e equal k = absurd (true≢false (sym equal ∙ ap (λ o. lives o req) (no_setup_kept x k)))
@@ -99,7 +99,7 @@ keeps limits x (Some s) room req e equal k =
     (subst (λ t. Stands x (Some (cond t s (new_session limits req)))) (sym same) k)
 
 -- one that is refused
-pub refuses : (limits : Limits) (x : Kept) (s : Option Session) (room : Room) (req : SetupReq) → setup_bits limits room req ≢ 0 → Stands x s → Stands x (after_setup limits room s req)
+pub refuses : (limits : Limits) (x : HeldSlot) (s : Option Session) (room : Room) (req : SetupReq) → setup_bits limits room req ≢ 0 → Stands x s → Stands x (after_setup limits room s req)
 unfolding after_setup
 refuses limits x s room req ne k = subst (λ t. Stands x (cond t (Some (renewed limits s req)) s)) (sym (ne_eqb _ _ ne)) k
 
@@ -120,23 +120,23 @@ can_hear setup way n part e =
     let some : n ≡ 0 → ⊥ = eqb-false n 0 r.0 in
     (omega arith, ltb-false _ _ r.1, eqb-true _ _ (not-false _ c.0))
 
-same_cause : (x : Kept) (s : Option Session) (way : Via) (n : ℕ) (part : List ℕ) → Stands x s → slot_cause (session_setup x) way n part ≡ drop_cause s way n part
+same_cause : (x : HeldSlot) (s : Option Session) (way : Via) (n : ℕ) (part : List ℕ) → Stands x s → slot_cause (session_setup x) way n part ≡ drop_cause s way n part
 unfolding slot_cause drop_cause
 same_cause x None way n part k = ap (λ o. slot_cause o way n part) (no_setup_kept x k)
 same_cause x (Some s) way n part k = ap (λ o. slot_cause o way n part) (setup_kept x s k)
 
-pub answer_same : (x : Kept) (s : Option Session) (way : Via) (n : ℕ) (part : List ℕ) (c : Option Cause) → Stands x s → c ≡ slot_cause (session_setup x) way n part → answer_of c ≡ answer_of (drop_cause s way n part)
+pub answer_same : (x : HeldSlot) (s : Option Session) (way : Via) (n : ℕ) (part : List ℕ) (c : Option Cause) → Stands x s → c ≡ slot_cause (session_setup x) way n part → answer_of c ≡ answer_of (drop_cause s way n part)
 answer_same x s way n part c k e = ap answer_of (e ∙ same_cause x s way n part k)
 
 -- a fragment that is dropped changes no history
-pub dropped_stands : (x : Kept) (s : Option Session) (way : Via) (n : ℕ) (part : List ℕ) (mark : ℕ) (c : Cause) → Stands x s → Some c ≡ slot_cause (session_setup x) way n part → Stands x (after_fragment s way n part mark)
+pub dropped_stands : (x : HeldSlot) (s : Option Session) (way : Via) (n : ℕ) (part : List ℕ) (mark : ℕ) (c : Cause) → Stands x s → Some c ≡ slot_cause (session_setup x) way n part → Stands x (after_fragment s way n part mark)
 unfolding after_fragment
 dropped_stands x s way n part mark c k e =
     let is : drop_cause s way n part ≡ Some c = sym (same_cause x s way n part k) ∙ sym e in
     subst (λ o. Stands x (cond (is_none o) (option_map (λ y. followed y n part mark) s) s)) (sym is) k
 
 -- one that is not follows each history
-pub heard_stands : (x new : Kept) (s : Option Session) (way : Via) (n : ℕ) (part : List ℕ) (mark : ℕ) → Stands x s → None ≡ slot_cause (session_setup x) way n part
+pub heard_stands : (x new : HeldSlot) (s : Option Session) (way : Via) (n : ℕ) (part : List ℕ) (mark : ℕ) → Stands x s → None ≡ slot_cause (session_setup x) way n part
     → ((y : Session) → Stands x (Some y) → Stands new (Some (followed y n part mark))) → Stands new (after_fragment s way n part mark)
 unfolding after_fragment drop_cause
 heard_stands x new None way n part mark k e heard =
@@ -147,7 +147,7 @@ heard_stands x new (Some s) way n part mark k e heard =
     subst (λ o. Stands new (cond (is_none o) (Some (followed s n part mark)) (Some s))) (sym is) (heard s k)
 
 -- what is held can take it
-pub can_hear_kept : (x : Kept) (way : Via) (n : ℕ) (part : List ℕ) → None ≡ slot_cause (session_setup x) way n part → CanHear x n part
+pub can_hear_kept : (x : HeldSlot) (way : Via) (n : ℕ) (part : List ℕ) → None ≡ slot_cause (session_setup x) way n part → CanHear x n part
 unfolding CanHear slot_cause session_setup
 can_hear_kept (kept.idle area) way n part e = tt
 can_hear_kept (kept.receiving h) way n part e = can_hear h.setup way n part (sym e)
@@ -163,7 +163,7 @@ seen_same r r' m m' v v' f f' er em ev ef =
     ap₂ (λ a b. Some (record { received = a; missing = b; verdict = v; file = f })) er em
     ∙ ap₂ (λ a b. Some (record { received = r'; missing = m'; verdict = a; file = b })) ev ef
 
-pub shows : (x : Kept) (s : Option Session) → Stands x s → slot_seen x ≡ view_of s
+pub shows : (x : HeldSlot) (s : Option Session) → Stands x s → slot_seen x ≡ view_of s
 unfolding Stands slot_seen view_of receiving_seen done_seen failed_seen overflowed_seen seen_of shown_verdict shown_file file_of shape_of
 shows (kept.idle area) None k = refl
 shows (kept.idle area) (Some s) k = absurd k
@@ -198,13 +198,13 @@ shows (kept.conflicted f) (Some s) k =
     (ap shown_verdict (sym k.decided)) (ap (λ v. shown_file s.setup.padding (shape_of s) v) (sym k.decided))
 
 -- a session lives where one is kept
-pub lived : (x : Kept) (s : Option Session) → Stands x s → is_some (session_setup x) ≡ is_some s
+pub lived : (x : HeldSlot) (s : Option Session) → Stands x s → is_some (session_setup x) ≡ is_some s
 lived x None k = ap is_some (no_setup_kept x k)
 lived x (Some s) k = ap is_some (setup_kept x s k)
 
 -- ---- the status
 
-pub status_shown : (x : Kept) (s : Option Session) (setup : SetupReq) (seen : Seen) (way : Via) (all : Bool) → Stands x s → slot_seen x ≡ Some seen → session_setup x ≡ Some setup
+pub status_shown : (x : HeldSlot) (s : Option Session) (setup : SetupReq) (seen : Seen) (way : Via) (all : Bool) → Stands x s → slot_seen x ≡ Some seen → session_setup x ≡ Some setup
     → status_in setup seen way all ≡ status_of s way all
 unfolding status_of view_of
 status_shown x None setup seen way all k sees keeps = let none = no_setup_kept x k in absurd cc
@@ -213,12 +213,12 @@ status_shown x (Some s) setup seen way all k sees keeps =
     let same_seen : seen_of s ≡ seen = let is = shows x (Some s) k in cc in
     ap₂ (λ a b. status_in a b way all) (sym same_setup) (sym same_seen)
 
-pub status_unseen : (x : Kept) (s : Option Session) (way : Via) (all : Bool) → Stands x s → slot_seen x ≡ None → status_of s way all ≡ None
+pub status_unseen : (x : HeldSlot) (s : Option Session) (way : Via) (all : Bool) → Stands x s → slot_seen x ≡ None → status_of s way all ≡ None
 unfolding status_of view_of
 status_unseen x None way all k sees = refl
 status_unseen x (Some s) way all k sees = let is = shows x (Some s) k in absurd cc
 
-pub status_unkept : (x : Kept) (s : Option Session) (way : Via) (all : Bool) → Stands x s → session_setup x ≡ None → status_of s way all ≡ None
+pub status_unkept : (x : HeldSlot) (s : Option Session) (way : Via) (all : Bool) → Stands x s → session_setup x ≡ None → status_of s way all ≡ None
 unfolding status_of
 status_unkept x None way all k keeps = refl
 status_unkept x (Some s) way all k keeps = let is = setup_kept x s k in absurd cc

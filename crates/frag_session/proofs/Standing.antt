@@ -1,13 +1,13 @@
 -- What one fragment more makes of what is kept stands for what it makes of each history.
 use Rattle.std.proofs.Common.{◌≡◌, ℕ, zero, suc, suc-mul, ◌*◌, ◌<◌, ◌≤◌, List, ◌∷◌, length, Some, None, refl, sym, ap, ◌∙◌, arith}
-use Rattle.frag_model.specs.Fragments.{Heard as Fragment, Shape}
+use Rattle.frag_model.specs.Fragments.{Fragment, Shape}
 use Rattle.frag_model.specs.Verdict.{Verdict, complete, no_rows, conflict, verdict, verdict_now, first_verdict, missing, missing_now, missing_next, lacking}
 use Rattle.frag_model.proofs.Files.{length-block}
 use Rattle.row_elimination.specs.Held.{Held as Solved, missing_of, Receives, Completes, Contradicts, Overflows}
 use Rattle.row_elimination.proofs.Standing.{feed_stands}
 use Rattle.frag_session.specs.Session.{Session, shape_of, followed, received_count}
 use Rattle.frag_session.specs.Held as kept
-use Rattle.frag_session.specs.Held.{Kept, Held, Done, Failed, one_more}
+use Rattle.frag_session.specs.Held.{HeldSlot, Held, Done, Failed, one_more}
 use Rattle.frag_session.specs.Steps.{session_setup}
 use Rattle.frag_session.specs.Stands.{Holds, IsWhole, IsFailed, IsOverflowed, Stands}
 
@@ -171,7 +171,7 @@ conflicted_counts x s n part mark k = failed_stays x s n part mark k
 -- ---- a slot
 
 -- what the slot keeps as setup is the session's
-pub setup_kept : (x : Kept) (s : Session) → Stands x (Some s) → session_setup x ≡ Some s.setup
+pub setup_kept : (x : HeldSlot) (s : Session) → Stands x (Some s) → session_setup x ≡ Some s.setup
 unfolding Stands session_setup
 setup_kept (kept.idle area) s k = absurd k
 setup_kept (kept.receiving h) s k = ap Some (sym k.setup)
@@ -179,7 +179,7 @@ setup_kept (kept.complete d) s k = ap Some (sym k.1.setup)
 setup_kept (kept.overflowed f) s k = ap Some (sym k.setup)
 setup_kept (kept.conflicted f) s k = ap Some (sym k.setup)
 
-pub no_setup_kept : (x : Kept) → Stands x None → session_setup x ≡ None
+pub no_setup_kept : (x : HeldSlot) → Stands x None → session_setup x ≡ None
 unfolding Stands session_setup
 no_setup_kept (kept.idle area) k = refl
 no_setup_kept (kept.receiving h) k = absurd k

@@ -2,6 +2,7 @@
 use Rattle.std.specs.Prelude.{ℕ, ◌+◌, min}
 use Rattle.row_elimination.specs.Held.{Held as Solved}
 use Rattle.frag_session.specs.declared.setups.SetupReq.{SetupReq}
+use Rattle.frag_session.specs.Limits.{max_received}
 
 -- a session that hears: how many fragments it heard, and what its solver holds
 pub record Held : Type 0 where
@@ -26,12 +27,12 @@ pub record Failed : Type 0 where
 
 -- one fragment more, up to the count's end
 unfoldable pub one_more : ℕ → ℕ
-one_more received = min (received + 1) 16383
+one_more received = min (received + 1) max_received
 
 -- what a slot keeps: the bytes of its file area while no session lives, or a session
-pub data Kept : Type 0 where
-  idle : (area : ℕ) → Kept
-  receiving : Held → Kept
-  complete : Done → Kept
-  overflowed : Failed → Kept
-  conflicted : Failed → Kept
+pub data HeldSlot : Type 0 where
+  idle : (area : ℕ) → HeldSlot
+  receiving : Held → HeldSlot
+  complete : Done → HeldSlot
+  overflowed : Failed → HeldSlot
+  conflicted : Failed → HeldSlot

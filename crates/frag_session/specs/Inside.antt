@@ -3,6 +3,7 @@ use Rattle.std.specs.Prelude.{◌≡◌, ℕ, ◌*◌, ◌<◌, ◌≤◌, lengt
 use Rattle.row_elimination.specs.declared.stages.Stage.TheVariants as stage
 use Rattle.row_elimination.specs.Held.{Held as Solved}
 use Rattle.frag_session.specs.declared.setups.SetupReq.{SetupReq}
+use Rattle.frag_session.specs.Limits.{max_received}
 
 -- the solver has the file of the setup
 pub record IsOf (solver : Solved) (setup : SetupReq) : Type 0 where
@@ -13,11 +14,11 @@ pub record IsOf (solver : Solved) (setup : SetupReq) : Type 0 where
 
 pub record IsReceiving (solver : Solved) (setup : SetupReq) (received : ℕ) : Type 0 where
   pub its : IsOf solver setup
-  pub counted : received ≤ 16383
+  pub counted : received ≤ max_received
   pub stage : solver.stage ≡ stage.Receiving
 
 pub record IsComplete (solver : Solved) (setup : SetupReq) (received : ℕ) : Type 0 where
   pub its : IsOf solver setup
-  pub counted : received ≤ 16383
+  pub counted : received ≤ max_received
   pub stage : solver.stage ≡ stage.Complete
   pub sized : length solver.content ≡ setup.nb_frag * setup.frag_size

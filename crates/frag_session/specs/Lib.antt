@@ -1,3 +1,4 @@
+pub mod Limits
 pub mod Setup
 pub mod Session
 pub mod Held
@@ -5,3 +6,4 @@ pub mod Inside
 pub mod Shows
 pub mod Steps
 pub mod Stands
+pub mod FirstMoment

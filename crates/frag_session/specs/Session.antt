@@ -2,7 +2,7 @@
 -- (TS004-1.0.0, FragSessionSetupReq, DataFragment and FragSessionStatusAns; the rest is this project's profile.)
 use Rattle.std.specs.Prelude.{ℕ, ◌+◌, Bool, true, false, ◌||◌, ◌&&◌, not, ◌==◌, nat_lt, min, List, [], ◌∷◌, length, Option, Some, None, option_map, is_none, if◌then◌else◌}
 use Rattle.std.specs.Int.{bit_at}
-use Rattle.frag_model.specs.Fragments.{Heard as Fragment, Shape, file_of}
+use Rattle.frag_model.specs.Fragments.{Fragment, Shape, file_of}
 use Rattle.frag_model.specs.Verdict.{Verdict, receiving, complete, no_rows, conflict, verdict, missing}
 use Rattle.frag_session.specs.declared.setups.SetupReq.{SetupReq}
 use Rattle.frag_session.specs.declared.setups.Limits.{Limits}
@@ -16,6 +16,8 @@ use Rattle.frag_session.specs.declared.answers.StatusAns.{StatusAns}
 use Rattle.frag_session.specs.declared.answers.Heard.TheVariants as answer
 use Rattle.frag_session.specs.declared.answers.Verdict.{Verdict as Shown}
 use Rattle.frag_session.specs.declared.answers.Verdict.TheVariants as shown
+use Rattle.frag_model.specs.Limits.{max_parity_index}
+use Rattle.frag_session.specs.Limits.{max_received}
 
 -- a session: what it was set up with, the rows kept for it, and the fragments that it heard
 pub record Session : Type 0 where
@@ -49,7 +51,7 @@ excludes mask (via.Group g) = bit_at mask g == 0
 unfoldable pub cause_of : SetupReq → Via → ℕ → List ℕ → Option Cause
 cause_of setup way n part =
     if excludes setup.mask way then Some cause.Group
-    else if n == 0 || nat_lt (setup.nb_frag + 8380) n then Some cause.Index
+    else if n == 0 || nat_lt (setup.nb_frag + max_parity_index) n then Some cause.Index
     else if not (length part == setup.frag_size) then Some cause.Size
     else None
 
@@ -101,7 +103,7 @@ pub record Seen : Type 0 where
 
 -- the count of fragments stays at the end of its 14 bits
 abbrev pub received_count : ℕ → ℕ
-received_count count = min count 16383
+received_count count = min count max_received
 
 -- what is seen of it: the count, the missing pieces, the verdict and the file
 unfoldable pub seen_of : Session → Seen

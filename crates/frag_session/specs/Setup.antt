@@ -3,6 +3,7 @@ use Rattle.std.specs.Prelude.{ℕ, ◌+◌, min, Bool, false, ◌&&◌, ◌||◌
 use Rattle.frag_session.specs.declared.setups.SetupReq.{SetupReq}
 use Rattle.frag_session.specs.declared.setups.Limits.{Limits}
 use Rattle.row_elimination.specs.Room.{has_room}
+use Rattle.frag_model.specs.Limits.{max_frag_size, max_pieces}
 
 -- a coding that is not TS004's, or numbers that make no file
 unfoldable pub wrong_coding : SetupReq → Bool
@@ -21,7 +22,7 @@ rows_of rows req = min rows req.nb_frag
 -- more than is ever kept, or more than there is room for
 unfoldable pub too_large : Room → ℕ → SetupReq → Bool
 too_large room rows req =
-    nat_lt 1024 req.nb_frag || nat_lt 239 req.frag_size || not (has_room room.words room.bytes room.area req.nb_frag req.frag_size (rows_of rows req))
+    nat_lt max_pieces req.nb_frag || nat_lt max_frag_size req.frag_size || not (has_room room.words room.bytes room.area req.nb_frag req.frag_size (rows_of rows req))
 
 -- one descriptor alone is taken, and it is another
 unfoldable pub other_descriptor : Option ℕ → ℕ → Bool

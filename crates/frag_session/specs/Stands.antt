@@ -6,7 +6,7 @@ use Rattle.row_elimination.specs.Held.{TwoFit}
 use Rattle.row_elimination.specs.Stands.{StandsFor}
 use Rattle.frag_session.specs.declared.setups.SetupReq.{SetupReq}
 use Rattle.frag_session.specs.Held as kept
-use Rattle.frag_session.specs.Held.{Kept, Held, Done, Failed}
+use Rattle.frag_session.specs.Held.{HeldSlot, Held, Done, Failed}
 use Rattle.frag_session.specs.Session.{Session, shape_of, received_count}
 
 -- the setup makes a file
@@ -50,7 +50,7 @@ pub record IsOverflowed (f : Failed) (s : Session) : Type 0 where
   pub kept : missing (shape_of s) s.heard ≡ f.missing
 
 -- what is kept stands for the session, or for none
-unfoldable pub Stands : Kept → Option Session → Type 0
+unfoldable pub Stands : HeldSlot → Option Session → Type 0
 Stands (kept.idle area) None = Unit {0}
 Stands (kept.idle area) (Some s) = ⊥
 Stands (kept.receiving h) None = ⊥
@@ -63,7 +63,7 @@ Stands (kept.conflicted f) None = ⊥
 Stands (kept.conflicted f) (Some s) = IsFailed f s
 
 -- a session hears on only while two different blocks fit what it holds
-unfoldable pub IsOpen : Kept → Type 0
+unfoldable pub IsOpen : HeldSlot → Type 0
 IsOpen (kept.idle area) = Unit {0}
 IsOpen (kept.receiving h) = TwoFit h.solver
 IsOpen (kept.complete d) = Unit {0}

@@ -8,31 +8,32 @@ use Rattle.frag_session.specs.declared.receiving_state.Next.{Next}
 use Rattle.frag_session.specs.declared.receiving_state.Next.TheVariants as next
 use Rattle.frag_session.specs.declared.slots.State.{State}
 use Rattle.frag_session.specs.declared.slots.State.TheVariants as state
-use Rattle.frag_session.specs.Held.{Kept, idle, receiving, complete, overflowed, conflicted}
+use Rattle.frag_session.specs.Held.{HeldSlot, idle, receiving, complete, overflowed, conflicted}
 use Rattle.frag_session.specs.Session.{cause_of, Seen}
 use Rattle.frag_session.specs.Shows.{receiving_seen, done_seen, failed_seen, overflowed_seen}
+use Rattle.frag_model.specs.Limits.{max_parity_index}
 
 -- a state as it is kept
-abbrev pub kept : {W B : ℕ} → State W B → Kept
+abbrev pub kept : {W B : ℕ} → State W B → HeldSlot
 kept (state.Idle area) = idle area
 kept (state.Receiving h) = receiving h
 kept (state.Complete d) = complete d
 kept (state.Overflowed f) = overflowed f
 kept (state.Conflicted f) = conflicted f
 
-abbrev pub kept_by : {W B : ℕ} → Option (State W B) → Kept
+abbrev pub kept_by : {W B : ℕ} → Option (State W B) → HeldSlot
 kept_by None = idle 0
 kept_by (Some s) = kept s
 
 -- what a session has become
-abbrev pub become : {W B : ℕ} → Next W B → Kept
+abbrev pub become : {W B : ℕ} → Next W B → HeldSlot
 become (next.Receiving h) = receiving h
 become (next.Complete d) = complete d
 become (next.Overflowed f) = overflowed f
 become (next.Conflicted f) = conflicted f
 
 -- the bytes of its file area
-unfoldable pub area_of : Kept → ℕ
+unfoldable pub area_of : HeldSlot → ℕ
 area_of (idle area) = area
 area_of (receiving h) = h.solver.area
 area_of (complete d) = d.solver.area
@@ -40,7 +41,7 @@ area_of (overflowed f) = f.solver.area
 area_of (conflicted f) = f.solver.area
 
 -- the setup of its session
-unfoldable pub session_setup : Kept → Option SetupReq
+unfoldable pub session_setup : HeldSlot → Option SetupReq
 session_setup (idle area) = None
 session_setup (receiving h) = Some h.setup
 session_setup (complete d) = Some d.setup
@@ -53,15 +54,15 @@ slot_cause None way n part = Some cause.NoSession
 slot_cause (Some setup) way n part = cause_of setup way n part
 
 -- the fragment has a number and the size that a session that hears takes
-unfoldable pub CanHear : Kept → ℕ → List ℕ → Type 0
+unfoldable pub CanHear : HeldSlot → ℕ → List ℕ → Type 0
 CanHear (idle area) n part = Unit {0}
-CanHear (receiving h) n part = (1 ≤ n) × (n ≤ h.setup.nb_frag + 8380) × (length part ≡ h.setup.frag_size)
+CanHear (receiving h) n part = (1 ≤ n) × (n ≤ h.setup.nb_frag + max_parity_index) × (length part ≡ h.setup.frag_size)
 CanHear (complete d) n part = Unit {0}
 CanHear (overflowed f) n part = Unit {0}
 CanHear (conflicted f) n part = Unit {0}
 
 -- what the slot shows
-unfoldable pub slot_seen : Kept → Option Seen
+unfoldable pub slot_seen : HeldSlot → Option Seen
 slot_seen (idle area) = None
 slot_seen (receiving h) = Some (receiving_seen h)
 slot_seen (complete d) = Some (done_seen d)

@@ -3,6 +3,7 @@
 ghost use Rattle.std.specs.Prelude.{◌≡◌, ◌*◌, ◌<◌, ◌≤◌, length};
 ghost use Rattle.frag_session.specs.Held.{one_more};
 ghost use Rattle.frag_session.specs.Shows.{done_seen, seen};
+ghost use Rattle.frag_session.specs.Limits.{max_received};
 
 use crate::answers::{Verdict, View};
 use crate::idle_state::Idle;
@@ -43,7 +44,7 @@ impl<const W: usize, const B: usize> Complete<W, B> {
         requires nb_frag { solver.shape.nb_frag ≡ setup.nb_frag }
         requires frag_size { solver.shape.frag_size ≡ setup.frag_size }
         requires short { setup.padding < setup.frag_size }
-        requires counted { received ≤ 16383 }
+        requires counted { received ≤ max_received }
         requires stage { solver.stage ≡ Stage.Complete }
         requires sized { length solver.content ≡ setup.nb_frag * setup.frag_size }
         ensures { result ≡ record { setup = setup; received = received; mark = mark; solver = solver.entry } }

@@ -4,6 +4,7 @@ ghost use Rattle.std.specs.Prelude.{◌≡◌, ◌≤◌};
 ghost use Rattle.row_elimination.specs.Held.{missing_of};
 ghost use Rattle.frag_session.specs.Held.{one_more};
 ghost use Rattle.frag_session.specs.Shows.{failed_seen, seen};
+ghost use Rattle.frag_session.specs.Limits.{max_received};
 
 use crate::answers::{Verdict, View};
 use crate::idle_state::Idle;
@@ -24,13 +25,14 @@ pub struct Conflicted<const W: usize, const B: usize> {
 
 impl<const W: usize, const B: usize> Model for Conflicted<W, B> {
     ghost use Rattle.std.specs.Prelude.{◌≤◌};
+    ghost use Rattle.frag_session.specs.Limits.{max_received};
     ghost use Rattle.frag_session.specs.Held.{Failed};
 
     ghost Value = { Failed };
 
     ghost view = { λ c. record { setup = c.setup; received = c.received; missing = c.missing; mark = c.mark; solver = c.solver } };
 
-    ghost invariant = { λ c. c.received ≤ 16383 };
+    ghost invariant = { λ c. c.received ≤ max_received };
 }
 
 impl<const W: usize, const B: usize> Conflicted<W, B> {
@@ -41,7 +43,7 @@ impl<const W: usize, const B: usize> Conflicted<W, B> {
         received: u16,
         mark: u64,
     ) -> Conflicted<W, B>
-        requires { received ≤ 16383 }
+        requires { received ≤ max_received }
         ensures { result ≡ record { setup = setup; received = received; missing = missing_of solver.entry; mark = mark; solver = solver.entry } }
     {
         let missing = solver.missing();

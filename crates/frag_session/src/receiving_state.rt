@@ -7,6 +7,7 @@ ghost use Rattle.frag_session.specs.Session.{Session, followed};
 ghost use Rattle.frag_session.specs.Stands.{Holds, IsOpen, Stands};
 ghost use Rattle.frag_session.specs.Steps.{area_of, become};
 ghost use Rattle.frag_session.specs.Shows.{receiving_seen, seen};
+ghost use Rattle.frag_model.specs.Limits.{max_parity_index};
 
 use crate::answers::{Verdict, View};
 use crate::complete_state::Complete;
@@ -68,7 +69,7 @@ impl<const W: usize, const B: usize> Receiving<W, B> {
     /// the fragment. A session that this decides takes no more of them.
     pub fn feed(self, n: u16, part: &[u8], mark: u64) -> Next<W, B>
         requires first { 1 ≤ n }
-        requires last { n ≤ self.setup.nb_frag + 8380 }
+        requires last { n ≤ self.setup.nb_frag + max_parity_index }
         requires sized { length part.now ≡ self.setup.frag_size }
         ensures stands { (s : Session) → Holds self.entry s → Stands (become result) (Some (followed s n part.now mark)) }
         ensures two { IsOpen (become result) }

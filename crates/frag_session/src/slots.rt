@@ -35,10 +35,10 @@ pub struct Slot<const W: usize, const B: usize> {
 
 impl<const W: usize, const B: usize> Model for Slot<W, B> {
     ghost use Rattle.std.specs.Prelude.{◌≡◌, true, is_some};
-    ghost use Rattle.frag_session.specs.Held.{Kept};
+    ghost use Rattle.frag_session.specs.Held.{HeldSlot};
     ghost use Rattle.frag_session.specs.Steps.{kept_by};
 
-    ghost Value = { Kept };
+    ghost Value = { HeldSlot };
 
     ghost view = { λ s. kept_by s.state };
 

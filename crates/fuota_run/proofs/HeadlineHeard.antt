@@ -2,7 +2,7 @@
 use Rattle.std.proofs.Common.{◌≡◌, ◌⊎◌, inl, inr, ℕ, zero, suc, ◌+◌, ◌-◌, ◌<◌, ◌≤◌, Bool, true, false, cond, not, ◌==◌, nat_lt, List, [], ◌∷◌, ◌++◌, map, length, drop, slice_get, Option, None, Some, IfSome, is_some, is_none, option_map, Result, Ok, Err, IfOk, append-nil, append_assoc, refl, sym, ap, ◌∙◌, subst, arith, eq-eqb, ne_eqb, eqb-true, le-ltb, length-drop, true≢false}
 use Rattle.std.proofs.lemmas.Bool.{cases_lt, eqb-false, and_parts}
 use Rattle.cast_wire.specs.declared.cmd.Cmd.TheVariants.{DataFragment}
-use Rattle.frag_model.specs.Fragments.{Heard as Fragment}
+use Rattle.frag_model.specs.Fragments.{Fragment}
 use Rattle.frag_model.specs.Members.{In}
 use Rattle.frag_session.specs.declared.setups.SetupReq.{SetupReq}
 use Rattle.frag_session.specs.declared.setups.Limits.{Limits}

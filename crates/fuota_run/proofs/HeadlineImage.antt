@@ -3,13 +3,14 @@ use Rattle.std.proofs.Common.{◌≡◌, ℕ, ◌<◌, ◌^◌, List, [], ◌∷
 use Rattle.std.specs.List.{AllByRecursion}
 use Rattle.std.proofs.lemmas.List.{length-replicate}
 use Rattle.std.proofs.lemmas.List.Elements.{All-from_recursion}
-use Rattle.frag_model.specs.Fragments.{Heard as Fragment, Shape, IsBlock, Fits}
+use Rattle.frag_model.specs.Fragments.{Fragment, Shape, IsBlock, Fits}
 use Rattle.frag_model.specs.File.{FileFits, OneFileFits}
 use Rattle.frag_encoder.specs.Encoding.{filled, block_of}
 use Rattle.frag_encoder.specs.Laws.{shape_of}
 use Rattle.frag_encoder.proofs.Blocks.{concat-pieces, filled_whole, block_shaped, block_fits}
 use Rattle.fuota_run.specs.Server.{fragments_of, padding_of, fragment_of}
-use Rattle.fuota_run.specs.Headline.{MakesFile, IsFragmentOf}
+use Rattle.frag_session.specs.FirstMoment.{MakesFile}
+use Rattle.fuota_run.specs.Headline.{IsFragmentOf}
 
 -- a shape in which the server's fragments of the image are heard
 pub record IsShapeFor (image : List ℕ) (shape : Shape) (padding : ℕ) : Type 0 where

@@ -2,7 +2,7 @@
 use Rattle.std.proofs.Common.{◌≡◌, ◌≢◌, ◌⊎◌, inl, inr, ℕ, ◌<◌, ◌^◌, true, List, ◌∷◌, ◌++◌, length, All, Option, Some, Ok, le-ltb, refl, sym, ap, ◌∙◌, subst, append-nil, bytes_eq}
 use Rattle.std.specs.List.{AllByRecursion}
 use Rattle.std.proofs.lemmas.Slice.Eq.{bytes_eq-Decides}
-use Rattle.frag_model.specs.Fragments.{Heard as Fragment, Shape}
+use Rattle.frag_model.specs.Fragments.{Fragment, Shape}
 use Rattle.frag_model.specs.File.{OneFileFits}
 use Rattle.frag_session.specs.declared.answers.Verdict.{Verdict}
 use Rattle.frag_session.specs.declared.answers.Verdict.TheVariants as verdict
@@ -17,8 +17,9 @@ use Rattle.fuota_run.specs.declared.status.Status.TheVariants as status
 use Rattle.fuota_run.specs.Outside.{Held}
 use Rattle.fuota_run.specs.Words.{Asked}
 use Rattle.fuota_run.specs.Answer.{Answer, answer, script_answer, campaign_answer, IsAnswerTo, IsAnswer}
-use Rattle.fuota_run.specs.Headline.{IsWhole, FirstAt, WholeAt, IsDecidedAtFirst, IsFragmentOf, IsServed, HearsDelivered, IsRecovered, IsReported, IsCampaign, AreHandedIn, Headline}
-use Rattle.fuota_run.proofs.HeadlineMoments.{decided_at_first}
+use Rattle.frag_session.specs.FirstMoment.{IsWhole, FirstAt, IsDecidedAtFirst}
+use Rattle.fuota_run.specs.Headline.{WholeAt, IsFragmentOf, IsServed, HearsDelivered, IsRecovered, IsReported, IsCampaign, AreHandedIn, Headline}
+use Rattle.frag_session.proofs.FirstMoments.{decided_at_first}
 use Rattle.fuota_run.proofs.HeadlineWorlds.{IsSetFor, HasNoMore, campaign_session, campaign_alone}
 use Rattle.fuota_run.proofs.HeadlineLines.{campaign_came}
 use Rattle.fuota_run.proofs.HeadlineHeard.{campaign_hears}

@@ -1,7 +1,7 @@
 -- Each heard fragment was delivered by the line whose number is its mark.
 use Rattle.std.proofs.Common.{◌≡◌, inl, inr, ℕ, zero, suc, ◌+◌, ◌-◌, ◌≤◌, Bool, true, false, cond, ◌==◌, List, [], ◌∷◌, ◌++◌, drop, slice_get, Option, None, Some, IfSome, is_none, option_map, Result, Ok, Err, IfOk, refl, sym, ap, ◌∙◌, subst, arith, ne_eqb}
 use Rattle.cast_wire.specs.declared.cmd.Cmd.TheVariants.{FragSessionSetupReq, DataFragment}
-use Rattle.frag_model.specs.Fragments.{Heard as Fragment}
+use Rattle.frag_model.specs.Fragments.{Fragment}
 use Rattle.frag_session.specs.declared.setups.SetupReq.{SetupReq}
 use Rattle.frag_session.specs.declared.setups.Limits.{Limits}
 use Rattle.frag_session.specs.declared.answers.Via.TheVariants as via

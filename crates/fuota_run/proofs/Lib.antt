@@ -10,7 +10,6 @@ pub mod Outcomes
 pub mod SourceLines
 pub mod Playing
 pub mod SessionSteps
-pub mod HeadlineMoments
 pub mod HeadlineWorlds
 pub mod HeadlineImage
 pub mod HeadlineLines

@@ -1,7 +1,7 @@
 -- What `replay` says of each session, whoever made the payloads.
 use Rattle.std.proofs.Common.{◌≡◌, ℕ, ◌≤◌, false, Bool, min, nat_lt, List, [], ◌∷◌, ◌++◌, length, Option, Some, IfSome, Result, Ok, le-ltb, ap, ◌∙◌, subst, append-nil, codes, arith}
 use Rattle.std.specs.Fmt.{decimal}
-use Rattle.frag_model.specs.Fragments.{Heard as Fragment}
+use Rattle.frag_model.specs.Fragments.{Fragment}
 use Rattle.frag_session.specs.declared.answers.Verdict.{Verdict}
 use Rattle.frag_session.specs.declared.answers.Verdict.TheVariants as verdict
 use Rattle.frag_session.specs.Session.{Session, Seen, shape_of, seen_of}
@@ -18,9 +18,9 @@ use Rattle.fuota_run.specs.Device.{DeviceState}
 use Rattle.fuota_run.specs.Report.{verdict_text, session_text}
 use Rattle.fuota_run.specs.PayloadLines.{told_by}
 use Rattle.fuota_run.specs.Replay.{Reaches, file_line, told_session, replay_text, Replays}
-use Rattle.fuota_run.specs.Headline.{MakesFile, IsDecidedAtFirst}
+use Rattle.frag_session.specs.FirstMoment.{MakesFile, IsDecidedAtFirst}
 use Rattle.fuota_run.specs.ReplayHeadline.{IsReplayed, CameInTurn, saying, IsToldOf, ReplayHeadline}
-use Rattle.fuota_run.proofs.HeadlineMoments.{decided_at_first}
+use Rattle.frag_session.proofs.FirstMoments.{decided_at_first}
 use Rattle.fuota_run.proofs.HeadlineHeard.{within}
 use Rattle.fuota_run.proofs.ReplayLines.{reaches_once}
 use Rattle.fuota_run.proofs.ReplaySessions.{IsFine, of_one, reaches_fine}

@@ -5,7 +5,7 @@ use Rattle.std.proofs.lemmas.Bool.{eqb-false}
 use Rattle.wire_base.specs.declared.refusal.Direction.{Direction}
 use Rattle.wire_base.specs.declared.refusal.Direction.TheVariants.{Down}
 use Rattle.wire_base.specs.Numbers.{bits_of}
-use Rattle.frag_model.specs.Fragments.{Heard as Fragment}
+use Rattle.frag_model.specs.Fragments.{Fragment}
 use Rattle.frag_model.specs.Members.{In}
 use Rattle.cast_wire.specs.declared.cmd.Cmd.TheVariants.{FragSessionSetupReq, FragSessionDeleteReq, DataFragment}
 use Rattle.package_grammar.specs.declared.command.Command.{Command}

@@ -4,7 +4,7 @@ use Rattle.std.specs.Prelude.{◌≡◌, ℕ, ◌-◌, ◌<◌, ◌≤◌, List,
 use Rattle.std.specs.Fmt.{decimal}
 use Rattle.hex.specs.Hex.{encode_lower}
 use Rattle.wire_base.specs.declared.refusal.Direction.TheVariants.{Down}
-use Rattle.frag_model.specs.Fragments.{Heard as Fragment}
+use Rattle.frag_model.specs.Fragments.{Fragment}
 use Rattle.frag_model.specs.Members.{In}
 use Rattle.frag_session.specs.Session.{Session, shape_of, seen_of}
 use Rattle.cast_wire.specs.declared.cmd.Cmd.TheVariants.{DataFragment}
@@ -24,7 +24,7 @@ use Rattle.fuota_run.specs.Device.{DeviceState}
 use Rattle.fuota_run.specs.Report.{session_text}
 use Rattle.fuota_run.specs.PayloadLines.{payload_of}
 use Rattle.fuota_run.specs.Replay.{Reaches, told_session, replay_text}
-use Rattle.fuota_run.specs.Headline.{AfterEach, IsOpen, IsWhole, Overflows, NoFileFits, FirstAt, IsDecidedAtFirst}
+use Rattle.frag_session.specs.FirstMoment.{AfterEach, IsOpen, IsWhole, Overflows, NoFileFits, FirstAt, IsDecidedAtFirst}
 
 -- the device behind a file has this session
 pub record IsReplayed (file : List ℕ) (device : DeviceState) (index : ℕ) (s : Session) : Type 0 where

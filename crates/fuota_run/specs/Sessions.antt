@@ -1,6 +1,6 @@
 -- The sessions of a device, by their index. (TS004-1.0.0 has four.)
 use Rattle.std.specs.Prelude.{◌≡◌, ℕ, ◌==◌, if◌then◌else◌, Option, None}
-use Rattle.frag_session.specs.Held.{Kept}
+use Rattle.frag_session.specs.Held.{HeldSlot}
 use Rattle.frag_session.specs.Session.{Session}
 use Rattle.frag_session.specs.Stands.{Stands}
 use Rattle.frag_session.specs.Steps.{area_of}
@@ -33,12 +33,12 @@ with_session all index session =
 -- ---- as they are kept
 
 pub record KeptSessions : Type 0 where
-  pub first : Kept
-  pub second : Kept
-  pub third : Kept
-  pub fourth : Kept
+  pub first : HeldSlot
+  pub second : HeldSlot
+  pub third : HeldSlot
+  pub fourth : HeldSlot
 
-abbrev pub kept_at : KeptSessions → ℕ → Kept
+abbrev pub kept_at : KeptSessions → ℕ → HeldSlot
 kept_at all index =
     if index == 0 then all.first
     else if index == 1 then all.second

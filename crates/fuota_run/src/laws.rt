@@ -2,15 +2,9 @@
 
 ghost use Rattle.fuota_run.specs.Answer.{HasOneReply};
 ghost use Rattle.fuota_run.specs.Decode.{HasOneAnswer};
-ghost use Rattle.fuota_run.specs.Headline.{FirstMoment, Headline};
+ghost use Rattle.fuota_run.specs.Headline.{Headline};
 ghost use Rattle.fuota_run.specs.Replay.{ReplaysOnce};
 ghost use Rattle.fuota_run.specs.ReplayHeadline.{ReplayHeadline};
-
-/// A session is decided by the first heard fragment after which its file is no longer open: it is whole
-/// from the first one on after which one file alone fits, and shows that file.
-pub fn first_moment()
-    ensures { FirstMoment }
-{}
 
 /// Whatever image and accepted script are handed in: the session hears what the script delivers, it is complete
 /// from the first heard fragment on after which one file alone fits, that file is the server's image, and the

@@ -29,7 +29,7 @@ mod world;
 
 pub use files::{Failed, Files};
 pub use laws::{
-    decode_has_one_answer, first_moment, headline, replay_has_one_answer,
+    decode_has_one_answer, headline, replay_has_one_answer,
     replay_is_decided_at_first, run_has_one_answer,
 };
 pub use lines::{Form, Key};

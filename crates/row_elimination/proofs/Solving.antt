@@ -12,7 +12,8 @@ use Rattle.row_elimination.specs.Inside.{IsReduced}
 use Rattle.row_elimination.specs.Grid.{Grid, SameRoom}
 use Rattle.row_elimination.specs.Held.{Held, TwoFit, Receives, Completes, Contradicts, Overflows}
 use Rattle.row_elimination.specs.Taking.{held_of, stage_after, FedAs}
-use Rattle.row_elimination.specs.Room.{words_for, has_room, IsSolver}
+use Rattle.row_elimination.specs.Room.{words_for, has_room}
+use Rattle.row_elimination.specs.SolverInside.{IsSolver}
 use Rattle.row_elimination.proofs.Telling.{fits_from_agrees}
 use Rattle.row_elimination.proofs.Blocks.{two_fitting, one_alone}
 use Rattle.row_elimination.proofs.Gridding.{none_reduced, free_everywhere, gained_none}

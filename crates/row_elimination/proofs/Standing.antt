@@ -4,7 +4,7 @@ use Rattle.std.specs.Prelude.{if◌then◌else◌, ◌↔◌}
 use Rattle.std.specs.List.{concat, AllByRecursion}
 use Rattle.std.proofs.lemmas.Bool.{cases_lt, and_left, and_right, and_from, lt-leb, false≢true}
 use Rattle.std.proofs.lemmas.List.Elements.{All-nil, All-from_recursion, recursion_from_All}
-use Rattle.frag_model.specs.Fragments.{Heard, Shape, Equation, IsUncoded, Meets, equation_of, line_of}
+use Rattle.frag_model.specs.Fragments.{Fragment, Shape, Equation, IsUncoded, Meets, equation_of, line_of}
 use Rattle.frag_model.specs.Gain.{is_sum, gain_of_lines, gain_of, direct_of, numbers_of, gain, direct, excess}
 use Rattle.frag_model.specs.Verdict.{Verdict, receiving, complete, no_rows, conflict, verdict, verdict_now, first_verdict, lacking, missing, missing_now, missing_next, FittingBlock, IsVerdictNow}
 use Rattle.frag_model.specs.Laws.{AreNumbered}
@@ -22,54 +22,54 @@ use Rattle.row_elimination.proofs.Gridding.{free_everywhere, rows_none, gained_n
 
 -- ---- one fragment more
 
-fits_more : (shape : Shape) (f : Heard) (older : List Heard) (b : List (List ℕ)) → FittingBlock shape (f ∷ older) b → FittingBlock shape older b × Meets shape.frag_size b (equation_of shape f)
+fits_more : (shape : Shape) (f : Fragment) (older : List Fragment) (b : List (List ℕ)) → FittingBlock shape (f ∷ older) b → FittingBlock shape older b × Meets shape.frag_size b (equation_of shape f)
 fits_more shape f older b h =
-    let P : Heard → Type 0 = λ g. Meets shape.frag_size b (equation_of shape g) in
+    let P : Fragment → Type 0 = λ g. Meets shape.frag_size b (equation_of shape g) in
     let r = recursion_from_All P (f ∷ older) h.fitting in
     (record { shaped = h.shaped; fitting = All-from_recursion P older r.1 }, r.0)
 
-more_fits : (shape : Shape) (f : Heard) (older : List Heard) (b : List (List ℕ)) → FittingBlock shape older b → Meets shape.frag_size b (equation_of shape f) → FittingBlock shape (f ∷ older) b
+more_fits : (shape : Shape) (f : Fragment) (older : List Fragment) (b : List (List ℕ)) → FittingBlock shape older b → Meets shape.frag_size b (equation_of shape f) → FittingBlock shape (f ∷ older) b
 more_fits shape f older b h m =
-    let P : Heard → Type 0 = λ g. Meets shape.frag_size b (equation_of shape g) in
+    let P : Fragment → Type 0 = λ g. Meets shape.frag_size b (equation_of shape g) in
     record { shaped = h.shaped; fitting = All-from_recursion P (f ∷ older) (m, recursion_from_All P older h.fitting) }
 
 -- the blocks left over are those that fit one fragment more
-left_fits : (old : Held) (f : Heard) (older : List Heard) (b : List (List ℕ)) → StandsFor old older → IsLeft old f.number f.part b → FittingBlock old.shape (f ∷ older) b
+left_fits : (old : Held) (f : Fragment) (older : List Fragment) (b : List (List ℕ)) → StandsFor old older → IsLeft old f.number f.part b → FittingBlock old.shape (f ∷ older) b
 unfolding equation_of equation_for
 left_fits old f older b s h = more_fits old.shape f older b ((s.fits b).1 h.fits) h.meets
 
-fits_left : (old : Held) (f : Heard) (older : List Heard) (b : List (List ℕ)) → StandsFor old older → FittingBlock old.shape (f ∷ older) b → IsLeft old f.number f.part b
+fits_left : (old : Held) (f : Fragment) (older : List Fragment) (b : List (List ℕ)) → StandsFor old older → FittingBlock old.shape (f ∷ older) b → IsLeft old f.number f.part b
 unfolding equation_of equation_for
 fits_left old f older b s h = let r = fits_more old.shape f older b h in record { fits = (s.fits b).0 r.0; meets = r.1 }
 
-more_lines : (shape : Shape) (f : Heard) (older : List Heard) → map (λ n. line_of shape.nb_frag n) (numbers_of (f ∷ older)) ≡ line_of shape.nb_frag f.number ∷ map (λ n. line_of shape.nb_frag n) (numbers_of older)
+more_lines : (shape : Shape) (f : Fragment) (older : List Fragment) → map (λ n. line_of shape.nb_frag n) (numbers_of (f ∷ older)) ≡ line_of shape.nb_frag f.number ∷ map (λ n. line_of shape.nb_frag n) (numbers_of older)
 unfolding numbers_of
 more_lines shape f older = refl
 
-gain_more : (shape : Shape) (f : Heard) (older : List Heard)
+gain_more : (shape : Shape) (f : Fragment) (older : List Fragment)
     → gain shape (f ∷ older) ≡ gain shape older + (if is_sum (line_of shape.nb_frag f.number) (map (λ n. line_of shape.nb_frag n) (numbers_of older)) then 0 else 1)
 unfolding gain gain_of gain_of_lines numbers_of
 gain_more shape f older = refl
 
 -- ---- direct, by what is marked
 
-direct_heard : (shape : Shape) (f : Heard) (older : List Heard) → In f.number (numbers_of older) → direct shape (f ∷ older) ≡ direct shape older
+direct_heard : (shape : Shape) (f : Fragment) (older : List Fragment) → In f.number (numbers_of older) → direct shape (f ∷ older) ≡ direct shape older
 unfolding direct numbers_of
-direct_heard shape f older m = direct_of-heard shape.nb_frag f.number (map (λ (g : Heard). g.number) older) m
+direct_heard shape f older m = direct_of-heard shape.nb_frag f.number (map (λ (g : Fragment). g.number) older) m
 
-direct_new : (shape : Shape) (f : Heard) (older : List Heard) → f.number ≤ shape.nb_frag → (In f.number (numbers_of older) → ⊥) → direct shape (f ∷ older) ≡ direct shape older + 1
+direct_new : (shape : Shape) (f : Fragment) (older : List Fragment) → f.number ≤ shape.nb_frag → (In f.number (numbers_of older) → ⊥) → direct shape (f ∷ older) ≡ direct shape older + 1
 unfolding direct numbers_of
-direct_new shape f older le new = direct_of-new shape.nb_frag f.number (map (λ (g : Heard). g.number) older) le new
+direct_new shape f older le new = direct_of-new shape.nb_frag f.number (map (λ (g : Fragment). g.number) older) le new
 
-direct_coded : (shape : Shape) (f : Heard) (older : List Heard) → shape.nb_frag < f.number → direct shape (f ∷ older) ≡ direct shape older
+direct_coded : (shape : Shape) (f : Fragment) (older : List Fragment) → shape.nb_frag < f.number → direct shape (f ∷ older) ≡ direct shape older
 unfolding direct numbers_of
-direct_coded shape f older lt = direct_of-coded shape.nb_frag f.number (map (λ (g : Heard). g.number) older) lt
+direct_coded shape f older lt = direct_of-coded shape.nb_frag f.number (map (λ (g : Fragment). g.number) older) lt
 
 is_false : (t : Bool) → (t ≡ true → ⊥) → t ≡ false
 is_false true h = absurd (h refl)
 is_false false h = refl
 
-direct_more : (old : Held) (f : Heard) (older : List Heard) → 1 ≤ f.number → StandsFor old older → direct old.shape (f ∷ older) ≡ direct old.shape older + (if is_new_piece old f.number then 1 else 0)
+direct_more : (old : Held) (f : Fragment) (older : List Fragment) → 1 ≤ f.number → StandsFor old older → direct old.shape (f ∷ older) ≡ direct old.shape older + (if is_new_piece old f.number then 1 else 0)
 unfolding is_new_piece
 direct_more old f older some s =
     let n : ℕ = f.number in
@@ -97,36 +97,36 @@ direct_more old f older some s =
 
 -- ---- what is gained
 
-gained_more : (old new : Held) (f : Heard) (older : List Heard) → StandsFor old older → Takes old new f.number f.part → gained_held new.places ≡ gain old.shape (f ∷ older)
+gained_more : (old new : Held) (f : Fragment) (older : List Fragment) → StandsFor old older → Takes old new f.number f.part → gained_held new.places ≡ gain old.shape (f ∷ older)
 gained_more old new f older s t =
     let extra : Bool → ℕ = λ u. if u then 0 else 1 in
     let same : extra (is_sum (line_of old.shape.nb_frag f.number) (map (λ n. line_of old.shape.nb_frag n) (numbers_of older))) ≡ extra (is_sum (line_for old f.number) (lines_held old.places)) =
     ap extra (s.sums (line_of old.shape.nb_frag f.number)) in
     omega (arith, t.gained, gain_more old.shape f older, s.gained, same)
 
-pieces_more : (old new : Held) (f : Heard) (older : List Heard) → 1 ≤ f.number → StandsFor old older → Takes old new f.number f.part → pieces_held new.places ≡ direct old.shape (f ∷ older)
+pieces_more : (old new : Held) (f : Fragment) (older : List Fragment) → 1 ≤ f.number → StandsFor old older → Takes old new f.number f.part → pieces_held new.places ≡ direct old.shape (f ∷ older)
 pieces_more old new f older some s t = omega (arith, t.pieces, direct_more old f older some s, s.direct)
 
-rows_more : (old new : Held) (f : Heard) (older : List Heard) → 1 ≤ f.number → StandsFor old older → Takes old new f.number f.part → rows_held new.places ≡ excess old.shape (f ∷ older)
+rows_more : (old new : Held) (f : Fragment) (older : List Fragment) → 1 ≤ f.number → StandsFor old older → Takes old new f.number f.part → rows_held new.places ≡ excess old.shape (f ∷ older)
 unfolding excess gained_held
 rows_more old new f older some s t =
     let all : pieces_held new.places + rows_held new.places ≡ gain old.shape (f ∷ older) = gained_more old new f older s t in
     omega (arith, all, pieces_more old new f older some s t)
 
-room_more : (old new : Held) (f : Heard) (older : List Heard) → 1 ≤ f.number → StandsFor old older → Takes old new f.number f.part → excess old.shape (f ∷ older) ≤ old.shape.rows
+room_more : (old new : Held) (f : Fragment) (older : List Fragment) → 1 ≤ f.number → StandsFor old older → Takes old new f.number f.part → excess old.shape (f ∷ older) ≤ old.shape.rows
 room_more old new f older some s t =
     let rows : new.shape.rows ≡ old.shape.rows = ap (λ (x : Shape). x.rows) t.shape in
     omega (arith, rows_more old new f older some s t, t.room, rows)
 
 -- ---- the verdict
 
-now_is : (shape : Shape) (f : Heard) (older : List Heard) (v : Verdict) → verdict shape older ≡ receiving → IsVerdictNow shape (f ∷ older) f.mark v → verdict shape (f ∷ older) ≡ v
+now_is : (shape : Shape) (f : Fragment) (older : List Fragment) (v : Verdict) → verdict shape older ≡ receiving → IsVerdictNow shape (f ∷ older) f.mark v → verdict shape (f ∷ older) ≡ v
 unfolding verdict first_verdict
 now_is shape f older v was right =
     ap (λ u. first_verdict u (verdict_now shape (f ∷ older) f.mark)) was
     ∙ IsVerdictNow-same shape (f ∷ older) f.mark (verdict_now shape (f ∷ older) f.mark) v (verdict_now-right shape (f ∷ older) f.mark) right
 
-missing_lacks : (shape : Shape) (heard : List Heard) → verdict shape heard ≡ receiving → missing shape heard ≡ lacking shape heard
+missing_lacks : (shape : Shape) (heard : List Fragment) → verdict shape heard ≡ receiving → missing shape heard ≡ lacking shape heard
 unfolding missing verdict first_verdict missing_next missing_now lacking gain gain_of gain_of_lines numbers_of
 missing_lacks shape [] e = omega arith
 missing_lacks shape (f ∷ older) e = by_older (verdict shape older) refl e
@@ -138,20 +138,20 @@ missing_lacks shape (f ∷ older) e = by_older (verdict shape older) refl e
     by_older (no_rows at) is k = absurd (cc)
     by_older (conflict at) is k = absurd (cc)
 
-missing_decides : (shape : Shape) (f : Heard) (older : List Heard) (v : Verdict) → verdict shape older ≡ receiving → verdict shape (f ∷ older) ≡ v
+missing_decides : (shape : Shape) (f : Fragment) (older : List Fragment) (v : Verdict) → verdict shape older ≡ receiving → verdict shape (f ∷ older) ≡ v
     → missing shape (f ∷ older) ≡ missing_now v (lacking shape (f ∷ older)) (lacking shape older)
 unfolding missing missing_next
 missing_decides shape f older v was is =
     ap (λ u. missing_next u (missing shape older) (missing_now (verdict shape (f ∷ older)) (lacking shape (f ∷ older)) (lacking shape older))) was
     ∙ ap (λ u. missing_now u (lacking shape (f ∷ older)) (lacking shape older)) is
 
-lacks : (held : Held) (heard : List Heard) → StandsFor held heard → missing held.shape heard ≡ missing_of held
+lacks : (held : Held) (heard : List Fragment) → StandsFor held heard → missing held.shape heard ≡ missing_of held
 unfolding lacking missing_of
 lacks held heard s = missing_lacks held.shape heard s.undecided ∙ ap (λ g. held.shape.nb_frag - g) (sym s.gained)
 
 -- ---- each answer
 
-receives_verdict : (old new : Held) (f : Heard) (older : List Heard) → 1 ≤ f.number → StandsFor old older → Receives old new f.number f.part → verdict old.shape (f ∷ older) ≡ receiving
+receives_verdict : (old new : Held) (f : Fragment) (older : List Fragment) → 1 ≤ f.number → StandsFor old older → Receives old new f.number f.part → verdict old.shape (f ∷ older) ≡ receiving
 unfolding IsVerdictNow
 receives_verdict old new f older some s r =
     let two = r.two in
@@ -159,7 +159,7 @@ receives_verdict old new f older some s r =
     now_is old.shape f older receiving s.undecided
     (room_more old new f older some s r.takes, (two.0, two.1, record { one = fit two.0 two.2; other = fit two.1 two.3; differ = two.4 }))
 
-receives : (old new : Held) (f : Heard) (older : List Heard) → 1 ≤ f.number → StandsFor old older → Receives old new f.number f.part → StandsFor new (f ∷ older)
+receives : (old new : Held) (f : Fragment) (older : List Fragment) → 1 ≤ f.number → StandsFor old older → Receives old new f.number f.part → StandsFor new (f ∷ older)
 unfolding numbers_of
 receives old new f older some s r =
     let t = r.takes in
@@ -193,7 +193,7 @@ receives old new f older some s r =
       undecided = ap (λ x. verdict x (f ∷ older)) e ∙ receives_verdict old new f older some s r;
     }
 
-completes : (old new : Held) (f : Heard) (older : List Heard) → 1 ≤ f.number → StandsFor old older → Completes old new f.number f.part
+completes : (old new : Held) (f : Fragment) (older : List Fragment) → 1 ≤ f.number → StandsFor old older → Completes old new f.number f.part
     → (block : List (List ℕ)) × (verdict old.shape (f ∷ older) ≡ complete f.mark block) × (new.content ≡ concat block) × (missing old.shape (f ∷ older) ≡ 0)
 unfolding IsVerdictNow missing_now
 completes old new f older some s r =
@@ -205,11 +205,11 @@ completes old new f older some s r =
     ) in
     (one.0, is, one.3, missing_decides old.shape f older (complete f.mark one.0) s.undecided is)
 
-kept_missing : (old new : Held) (older : List Heard) → StandsFor old older → new ≡ record old { stage = stage.Ended } → lacking old.shape older ≡ missing_of new
+kept_missing : (old new : Held) (older : List Fragment) → StandsFor old older → new ≡ record old { stage = stage.Ended } → lacking old.shape older ≡ missing_of new
 unfolding lacking missing_of
 kept_missing old new older s e = ap (λ g. old.shape.nb_frag - g) (sym s.gained) ∙ sym (ap missing_of e)
 
-contradicts : (old new : Held) (f : Heard) (older : List Heard) → 1 ≤ f.number → StandsFor old older → Contradicts old new f.number f.part
+contradicts : (old new : Held) (f : Fragment) (older : List Fragment) → 1 ≤ f.number → StandsFor old older → Contradicts old new f.number f.part
     → (verdict old.shape (f ∷ older) ≡ conflict f.mark) × (missing old.shape (f ∷ older) ≡ missing_of new)
 unfolding IsVerdictNow missing_now
 contradicts old new f older some s r =
@@ -217,7 +217,7 @@ contradicts old new f older some s r =
     now_is old.shape f older (conflict f.mark) s.undecided (refl, λ b h. r.none b (fits_left old f older b s h)) in
     (is, missing_decides old.shape f older (conflict f.mark) s.undecided is ∙ kept_missing old new older s r.kept)
 
-overflows_excess : (old new : Held) (f : Heard) (older : List Heard) → StandsFor old older → Overflows old new f.number f.part → excess old.shape (f ∷ older) ≡ old.shape.rows + 1
+overflows_excess : (old new : Held) (f : Fragment) (older : List Fragment) → StandsFor old older → Overflows old new f.number f.part → excess old.shape (f ∷ older) ≡ old.shape.rows + 1
 unfolding excess gained_held
 overflows_excess old new f older s r =
     let extra : Bool → ℕ = λ u. if u then 0 else 1 in
@@ -226,7 +226,7 @@ overflows_excess old new f older s r =
     let all : pieces_held old.places + rows_held old.places ≡ gain old.shape older = s.gained in
     omega (arith, more, gain_more old.shape f older, direct_coded old.shape f older r.coded, all, s.direct, r.rows)
 
-overflows : (old new : Held) (f : Heard) (older : List Heard) → 1 ≤ f.number → StandsFor old older → Overflows old new f.number f.part
+overflows : (old new : Held) (f : Fragment) (older : List Fragment) → 1 ≤ f.number → StandsFor old older → Overflows old new f.number f.part
     → (verdict old.shape (f ∷ older) ≡ no_rows f.mark) × (missing old.shape (f ∷ older) ≡ missing_of new) × (excess old.shape (f ∷ older) ≡ old.shape.rows + 1)
 unfolding IsVerdictNow missing_now
 overflows old new f older some s r =
@@ -298,7 +298,7 @@ begun held h =
 
 -- ---- as many rows as there are pieces unheard are enough
 
-enough : (old new : Held) (f : Heard) (newer older : List Heard) → AllByRecursion (IsUncoded old.shape) older → old.shape.nb_frag ≤ direct old.shape older + old.shape.rows → AreNumbered (f ∷ newer)
+enough : (old new : Held) (f : Fragment) (newer older : List Fragment) → AllByRecursion (IsUncoded old.shape) older → old.shape.nb_frag ≤ direct old.shape older + old.shape.rows → AreNumbered (f ∷ newer)
     → StandsFor old (newer ++ older) → Overflows old new f.number f.part → ⊥
 enough old new f newer older uncoded room numbered s r =
     let most : excess old.shape (f ∷ (newer ++ older)) ≤ old.shape.rows = enough_after old.shape (f ∷ newer) older uncoded room numbered in

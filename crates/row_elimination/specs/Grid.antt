@@ -5,6 +5,7 @@ use Rattle.row_elimination.specs.declared.columns.Column.{Column}
 use Rattle.row_elimination.specs.Places.{Place, rows_held, gained_held}
 use Rattle.row_elimination.specs.Inside.{IsReduced}
 use Rattle.row_elimination.specs.Storage.{places_in, Slots}
+use Rattle.frag_model.specs.Limits.{max_pieces}
 
 -- what is held, the bytes of the area, and how many coefficients and bytes the slots have in all
 pub record Grid : Type 0 where
@@ -16,10 +17,10 @@ pub record Grid : Type 0 where
 
 -- the fields of a table
 pub record IsGrid (nb_frag size rows count gained : ℕ) (columns : List Column) (spare area : List ℕ) (coefs : List Bool) (cells : List ℕ) : Type 0 where
-  pub most : nb_frag ≤ 1024
+  pub most : nb_frag ≤ max_pieces
   pub few : rows ≤ nb_frag
-  pub columns_sized : length columns ≡ 1024
-  pub spare_sized : length spare ≡ 1024
+  pub columns_sized : length columns ≡ max_pieces
+  pub spare_sized : length spare ≡ max_pieces
   pub area_sized : length area < 2 ^ 32
   pub room_area : nb_frag * size ≤ length area
   pub room_lines : rows * nb_frag ≤ length coefs

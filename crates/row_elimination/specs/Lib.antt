@@ -7,3 +7,4 @@ pub mod Steps
 pub mod Grid
 pub mod Taking
 pub mod Room
+pub mod SolverInside

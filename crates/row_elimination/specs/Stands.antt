@@ -2,7 +2,7 @@
 -- of the solver says of every list that it stands for what each answer of `feed` means.
 use Rattle.std.specs.Prelude.{◌≡◌, ◌↔◌, ℕ, suc, ◌+◌, ◌<◌, ◌≤◌, List, [], ◌∷◌, ◌++◌, map}
 use Rattle.std.specs.List.{concat, AllByRecursion}
-use Rattle.frag_model.specs.Fragments.{Heard, IsUncoded, line_of}
+use Rattle.frag_model.specs.Fragments.{Fragment, IsUncoded, line_of}
 use Rattle.frag_model.specs.Gain.{is_sum, numbers_of, gain, direct, excess}
 use Rattle.frag_model.specs.Verdict.{receiving, complete, no_rows, conflict, verdict, missing, FittingBlock}
 use Rattle.frag_model.specs.Laws.{AreNumbered}
@@ -10,7 +10,7 @@ use Rattle.frag_model.specs.Members.{In}
 use Rattle.row_elimination.specs.Places.{pieces_held, rows_held, gained_held, lines_held, FitsHeld}
 use Rattle.row_elimination.specs.Held.{Held, IsMarked, missing_of, Receives, Completes, Contradicts, Overflows, IsBegun}
 
-pub record StandsFor (held : Held) (heard : List Heard) : Type 0 where
+pub record StandsFor (held : Held) (heard : List Fragment) : Type 0 where
   pub numbered : AreNumbered heard
   -- the blocks that fit what is held are those that fit what was heard
   pub fits : (block : List (List ℕ)) → FittingBlock held.shape heard block ↔ FitsHeld held.shape held.places block
@@ -30,17 +30,17 @@ pub record FeedStands : Type 0 where
   -- a solver that has just begun stands for the empty list
   pub begun : (held : Held) → IsBegun held → StandsFor held []
   -- what is missing is what the list lacks
-  pub lacks : (held : Held) (heard : List Heard) → StandsFor held heard → missing held.shape heard ≡ missing_of held
+  pub lacks : (held : Held) (heard : List Fragment) → StandsFor held heard → missing held.shape heard ≡ missing_of held
   -- the rows held are the excess, and no more than there are
-  pub receives : (old new : Held) (f : Heard) (older : List Heard) → 1 ≤ f.number → StandsFor old older → Receives old new f.number f.part → StandsFor new (f ∷ older)
+  pub receives : (old new : Held) (f : Fragment) (older : List Fragment) → 1 ≤ f.number → StandsFor old older → Receives old new f.number f.part → StandsFor new (f ∷ older)
   -- the verdict names the block whose bytes lie in the area
-  pub completes : (old new : Held) (f : Heard) (older : List Heard) → 1 ≤ f.number → StandsFor old older → Completes old new f.number f.part
+  pub completes : (old new : Held) (f : Fragment) (older : List Fragment) → 1 ≤ f.number → StandsFor old older → Completes old new f.number f.part
       → (block : List (List ℕ)) × (verdict old.shape (f ∷ older) ≡ complete f.mark block) × (new.content ≡ concat block) × (missing old.shape (f ∷ older) ≡ 0) × (missing_of new ≡ 0)
-  pub contradicts : (old new : Held) (f : Heard) (older : List Heard) → 1 ≤ f.number → StandsFor old older → Contradicts old new f.number f.part
+  pub contradicts : (old new : Held) (f : Fragment) (older : List Fragment) → 1 ≤ f.number → StandsFor old older → Contradicts old new f.number f.part
       → (verdict old.shape (f ∷ older) ≡ conflict f.mark) × (missing old.shape (f ∷ older) ≡ missing_of new)
   -- exactly at one independent coded fragment more than there are rows
-  pub overflows : (old new : Held) (f : Heard) (older : List Heard) → 1 ≤ f.number → StandsFor old older → Overflows old new f.number f.part
+  pub overflows : (old new : Held) (f : Fragment) (older : List Fragment) → 1 ≤ f.number → StandsFor old older → Overflows old new f.number f.part
       → (verdict old.shape (f ∷ older) ≡ no_rows f.mark) × (missing old.shape (f ∷ older) ≡ missing_of new) × (excess old.shape (f ∷ older) ≡ old.shape.rows + 1)
   -- which never comes where at most as many pieces as there are rows had not come uncoded before the first coded fragment
-  pub enough : (old new : Held) (f : Heard) (newer older : List Heard) → AllByRecursion (IsUncoded old.shape) older → old.shape.nb_frag ≤ direct old.shape older + old.shape.rows
+  pub enough : (old new : Held) (f : Fragment) (newer older : List Fragment) → AllByRecursion (IsUncoded old.shape) older → old.shape.nb_frag ≤ direct old.shape older + old.shape.rows
       → AreNumbered (f ∷ newer) → StandsFor old (newer ++ older) → Overflows old new f.number f.part → ⊥

@@ -4,6 +4,7 @@ ghost use Rattle.std.specs.Prelude.{◌≡◌, ◌+◌, ◌*◌, ◌^◌, ◌<�
 ghost use Rattle.frag_model.specs.Fragments.{line_of};
 ghost use Rattle.frag_model.specs.Parity.{number_of};
 ghost use Rattle.parity_lines.specs.Words.{words_number};
+ghost use Rattle.frag_model.specs.Limits.{max_parity_index, max_pieces};
 
 use parity_lines::line_uncounted;
 
@@ -13,9 +14,9 @@ const LINE_WORDS: usize = 16;
 /// Marks the columns in the line of fragment `n`, `line` having as many coefficients as there are pieces.
 pub fn draw(n: u16, line: &mut [bool])
     requires some { 1 ≤ length line.old }
-    requires most { length line.old ≤ 1024 }
+    requires most { length line.old ≤ max_pieces }
     requires first { 1 ≤ n }
-    requires last { n ≤ length line.old + 8380 }
+    requires last { n ≤ length line.old + max_parity_index }
     ensures { number_of line.new ≡ line_of (length line.new) n }
 {
     let columns = line.len() as u16;

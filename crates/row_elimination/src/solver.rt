@@ -5,6 +5,7 @@ ghost use Rattle.frag_model.specs.Fragments.{Shape};
 ghost use Rattle.row_elimination.specs.Held.{missing_of, TwoFit, IsBegun, Receives, Completes, Contradicts, Overflows};
 ghost use Rattle.row_elimination.specs.Room.{has_room, words_for};
 ghost use Rattle.row_elimination.specs.Taking.{stage_after};
+ghost use Rattle.frag_model.specs.Limits.{max_frag_size, max_parity_index, max_pieces};
 
 use crate::stages::{Fed, Stage};
 use crate::tables::{MAX_PIECES, Table};
@@ -36,7 +37,7 @@ pub struct Solver<const W: usize, const B: usize> {
 impl<const W: usize, const B: usize> Model for Solver<W, B> {
     ghost use Rattle.row_elimination.specs.Held.{Held};
     ghost use Rattle.row_elimination.specs.Taking.{held_of};
-    ghost use Rattle.row_elimination.specs.Room.{IsSolver};
+    ghost use Rattle.row_elimination.specs.SolverInside.{IsSolver};
 
     ghost Value = { Held };
 
@@ -72,8 +73,8 @@ impl<const W: usize, const B: usize> Solver<W, B> {
     /// Whether there is room for a file of `nb_frag` pieces (at most 1,024) of `frag_size` bytes (at most 239) and for `rows`
     /// rows (at most `nb_frag`).
     pub fn fits(&self, nb_frag: u16, frag_size: u8, rows: u16) -> bool
-        requires most { nb_frag ≤ 1024 }
-        requires small { frag_size ≤ 239 }
+        requires most { nb_frag ≤ max_pieces }
+        requires small { frag_size ≤ max_frag_size }
         requires few { rows ≤ nb_frag }
         ensures { result ≡ has_room W B self.now.area nb_frag frag_size rows }
     {
@@ -92,8 +93,8 @@ impl<const W: usize, const B: usize> Solver<W, B> {
         rows: u16,
     ) -> Result<(), NoRoom>
         requires some { 1 ≤ nb_frag }
-        requires most { nb_frag ≤ 1024 }
-        requires small { frag_size ≤ 239 }
+        requires most { nb_frag ≤ max_pieces }
+        requires small { frag_size ≤ max_frag_size }
         requires short { padding < frag_size }
         requires few { rows ≤ nb_frag }
         ensures room { is_ok result ≡ has_room W B self.old.area nb_frag frag_size rows }
@@ -117,7 +118,7 @@ impl<const W: usize, const B: usize> Solver<W, B> {
     pub fn feed(&mut self, n: u16, part: &[u8]) -> Fed
         requires receiving { self.old.stage ≡ Stage.Receiving }
         requires first { 1 ≤ n }
-        requires last { n ≤ self.old.shape.nb_frag + 8380 }
+        requires last { n ≤ self.old.shape.nb_frag + max_parity_index }
         requires sized { length part.now ≡ self.old.shape.frag_size }
         ensures receiving { result ≡ Fed.Receiving → Receives self.old self.new n part.now }
         ensures complete { result ≡ Fed.Complete → Completes self.old self.new n part.now }
@@ -150,7 +151,7 @@ impl<const W: usize, const B: usize> Solver<W, B> {
 /// Whether so many rows of a file fit in so many words and bytes, and its pieces in the area.
 #[tactic(auto, unfolding(crate::specs::Room::has_room))]
 fn has_room(words: usize, bytes: usize, area: usize, nb_frag: u16, frag_size: u8, rows: u16) -> bool
-    requires most { nb_frag ≤ 1024 }
+    requires most { nb_frag ≤ max_pieces }
     requires few { rows ≤ nb_frag }
     ensures { result ≡ has_room words bytes area nb_frag frag_size rows }
 {
@@ -163,7 +164,7 @@ fn has_room(words: usize, bytes: usize, area: usize, nb_frag: u16, frag_size: u8
 /// How many words of 64 columns a row takes.
 #[tactic(auto, unfolding(crate::specs::Room::words_for))]
 fn words_for(nb_frag: u16) -> usize
-    requires { nb_frag ≤ 1024 }
+    requires { nb_frag ≤ max_pieces }
     ensures value { result ≡ words_for nb_frag }
     ensures most { result ≤ 16 }
 {

@@ -8,6 +8,7 @@ ghost use Rattle.row_elimination.specs.Inside.{IsReduced};
 ghost use Rattle.row_elimination.specs.Storage.{chunk};
 ghost use Rattle.row_elimination.specs.Steps.{Reduced, IsNew, Knows, Tells};
 ghost use Rattle.row_elimination.specs.Grid.{Grid, SameRoom};
+ghost use Rattle.frag_model.specs.Limits.{max_pieces};
 
 use crate::additions::{add_piece, add_piece_and_row, add_row};
 use crate::columns::Column;
@@ -211,7 +212,7 @@ impl Table {
 
     /// Holds nothing any more, and takes fragments of another file.
     pub fn begin(&mut self, nb_frag: u16, frag_size: u8, rows: u16)
-        requires most { nb_frag ≤ 1024 }
+        requires most { nb_frag ≤ max_pieces }
         requires few { rows ≤ nb_frag }
         requires area { nb_frag * frag_size ≤ length self.old.area }
         requires lines { rows * nb_frag ≤ self.old.lines }
@@ -239,7 +240,7 @@ fn free_all(columns: &mut [Column])
 
 /// Writes its own place to each.
 fn count_up(spare: &mut [u16])
-    requires { length spare.old ≤ 1024 }
+    requires { length spare.old ≤ max_pieces }
     ensures { (i : ℕ) → i < length spare.new → get_or spare.new i 0 ≡ i }
 {
     for i in 0..spare.len() {

@@ -10,6 +10,7 @@ ghost use Rattle.row_elimination.specs.Inside.{IsReduced};
 ghost use Rattle.row_elimination.specs.Grid.{SameRoom};
 ghost use Rattle.row_elimination.specs.Held.{Takes, Receives};
 ghost use Rattle.row_elimination.specs.Taking.{held_of, IsReady, IsZero, stage_after, FedAs, DecidedAs};
+ghost use Rattle.frag_model.specs.Limits.{max_parity_index, max_pieces};
 
 use crate::drawing::draw;
 use crate::stages::Fed;
@@ -18,12 +19,12 @@ use crate::tables::Table;
 /// Takes fragment `n` in, or answers why not. `line` and `rest` are room for a line and for the bytes of a piece.
 pub fn take(table: &mut Table, n: u16, part: &[u8], line: &mut [bool], rest: &mut [u8]) -> Fed
     requires columns { table.old.shape.nb_frag ≤ length line.old }
-    requires most { table.old.shape.nb_frag ≤ 1024 }
+    requires most { table.old.shape.nb_frag ≤ max_pieces }
     requires bytes { length part.now ≤ length rest.old }
     requires sized { length part.now ≡ table.old.shape.frag_size }
     requires some { 1 ≤ table.old.shape.frag_size }
     requires first { 1 ≤ n }
-    requires last { n ≤ table.old.shape.nb_frag + 8380 }
+    requires last { n ≤ table.old.shape.nb_frag + max_parity_index }
     requires more { gained_held table.old.places < table.old.shape.nb_frag }
     ensures fed { FedAs result (held_of stage.Receiving table.old) (held_of (stage_after result) table.new) n part.now }
     ensures room { SameRoom table.old table.new }

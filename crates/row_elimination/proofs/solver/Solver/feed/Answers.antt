@@ -1,7 +1,7 @@
 use Rattle.std.proofs.Common.{◌≡◌, List, Bool, ℕ, length, ap, ◌∙◌, subst}
 use Rattle.row_elimination.specs.declared.stages.Stage.TheVariants as stage
 use Rattle.row_elimination.specs.Held.{Held}
-use Rattle.row_elimination.specs.Room.{IsSolver}
+use Rattle.row_elimination.specs.SolverInside.{IsSolver}
 use Rattle.row_elimination.proofs.Gridding.{written}
 use Rattle.row_elimination.proofs.Solving.{still_solver, left_to_gain, fed_is, fed_receives, fed_completes, fed_overflows, fed_contradicts}
 use Rattle.row_elimination.proofs.solver.Solver.feed.Goals as goal

@@ -4,7 +4,7 @@ use Rattle.std.specs.List.{concat, list_all}
 use Rattle.std.proofs.lemmas.Bool.{false≢true}
 use Rattle.std.proofs.lemmas.List.{take-append-drop, take_at}
 use Rattle.std.proofs.lemmas.Slice.Eq.{bytes_eq-Decides}
-use Rattle.frag_model.specs.Fragments.{Heard as Fragment, Shape, file_of}
+use Rattle.frag_model.specs.Fragments.{Fragment, Shape, file_of}
 use Rattle.frag_model.specs.Verdict.{Verdict, receiving, complete, no_rows, conflict, verdict, fitting_blocks, FittingBlock, TwoBlocksFit, IsVerdictNow, IsVerdict}
 use Rattle.frag_model.specs.File.{FileFits, OneFileFits}
 use Rattle.frag_model.proofs.Members.{list_all-In, list_all-fails}
@@ -12,7 +12,7 @@ use Rattle.frag_model.proofs.Verdicts.{In-fitting_blocks, In-fitting_blocks_from
 use Rattle.frag_model.proofs.Files.{length-block, one_file, one_block}
 use Rattle.frag_session.specs.declared.answers.Verdict.TheVariants as shown
 use Rattle.frag_session.specs.Session.{Session, shape_of, seen_of, shown_verdict, shown_file}
-use Rattle.fuota_run.specs.Headline.{AfterEach, TwoFilesFit, NoFileFits, IsOpen, IsWhole, Overflows, FirstAt, MakesFile, IsDecidedAtFirst}
+use Rattle.frag_session.specs.FirstMoment.{AfterEach, TwoFilesFit, NoFileFits, IsOpen, IsWhole, Overflows, FirstAt, MakesFile, IsDecidedAtFirst}
 
 -- ---- files and blocks
 

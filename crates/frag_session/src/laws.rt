@@ -1,0 +1,9 @@
+//! Laws about the definitions, each the contract of a function that does nothing.
+
+ghost use Rattle.frag_session.specs.FirstMoment.{FirstMoment};
+
+/// A session is decided by the first heard fragment after which its file is no longer open: it is whole
+/// from the first one on after which one file alone fits, and shows that file.
+pub fn first_moment()
+    ensures { FirstMoment }
+{}
