@@ -1,0 +1,153 @@
+-- The form that a line spells (this project's profile): its first word says which, and so many words stand behind it.
+use Rattle.std.specs.Prelude.{ℕ, ◌&&◌, ◌==◌, if◌then◌else◌, List, length, codes, Option, Some, None}
+use Rattle.script_lines.specs.declared.forms.Class.{Class}
+use Rattle.script_lines.specs.declared.forms.Class.TheVariants as class
+use Rattle.script_lines.specs.declared.forms.Form.{Form}
+use Rattle.script_lines.specs.declared.forms.Form.TheVariants.{Header, Image, Group, WindowC, WindowB, Device, At, Wake, Ask, Frag, Status, Down, Up, End}
+use Rattle.script_lines.specs.Lines.{words_of, word, is_word}
+use Rattle.script_lines.specs.Numbers.{decimal_of, key_of, hex_number_of, ◌>>=◌}
+
+-- ---- words of a line
+
+-- the line has so many words, its keyword counted
+abbrev pub count_of : (line : List ℕ) → ℕ
+count_of line = length (words_of line)
+
+-- the decimal, the hex number, the key and the class at a place
+abbrev pub decimal_at : (line : List ℕ) → (k : ℕ) → Option ℕ
+decimal_at line k = decimal_of (word line k)
+
+abbrev pub hex_at : (line : List ℕ) → (k : ℕ) → Option ℕ
+hex_at line k = hex_number_of (word line k)
+
+abbrev pub key_at : (line : List ℕ) → (k : ℕ) → Option (List ℕ)
+key_at line k = key_of (word line k)
+
+abbrev pub class_at : (line : List ℕ) → (k : ℕ) → Option Class
+class_at line k =
+    if is_word line k (codes "a") then Some class.A
+    else if is_word line k (codes "c") then Some class.C
+    else None
+
+-- a form of its keyword alone
+abbrev pub alone : (line : List ℕ) → Form → Option Form
+alone line form = if count_of line == 1 then Some form else None
+
+-- a form of two words, with one decimal
+abbrev pub with_decimal : (line : List ℕ) → (ℕ → Form) → Option Form
+with_decimal line form = if count_of line == 2 then decimal_at line 1 >>= (λ n. Some (form n)) else None
+
+-- ---- the forms
+
+-- fuota 1
+abbrev pub header_form : List ℕ → Option Form
+header_form line = if count_of line == 2 && is_word line 1 (codes "1") then Some Header else None
+
+-- image FRAGSIZE PARITY
+abbrev pub image_words : List ℕ → Option Form
+image_words line = do
+  frag_size ← decimal_at line 1
+  parity ← decimal_at line 2
+  Some (Image frag_size parity)
+
+abbrev pub image_form : List ℕ → Option Form
+image_form line = if count_of line == 3 then image_words line else None
+
+-- group ADDR KEY MIN MAX
+abbrev pub group_words : List ℕ → Option Form
+group_words line = do
+  addr ← hex_at line 1
+  key ← key_at line 2
+  min ← decimal_at line 3
+  max ← decimal_at line 4
+  Some (Group addr key min max)
+
+abbrev pub group_form : List ℕ → Option Form
+group_form line = if count_of line == 5 then group_words line else None
+
+-- window c START TIMEOUT FREQ DR
+abbrev pub window_c_form : List ℕ → Option Form
+window_c_form line = do
+  start ← decimal_at line 2
+  timeout ← decimal_at line 3
+  freq ← decimal_at line 4
+  dr ← decimal_at line 5
+  Some (WindowC start timeout freq dr)
+
+-- window b START PERIODICITY TIMEOUT FREQ DR
+abbrev pub window_b_form : List ℕ → Option Form
+window_b_form line = do
+  start ← decimal_at line 2
+  periodicity ← decimal_at line 3
+  timeout ← decimal_at line 4
+  freq ← decimal_at line 5
+  dr ← decimal_at line 6
+  Some (WindowB start periodicity timeout freq dr)
+
+abbrev pub window_form : List ℕ → Option Form
+window_form line =
+    if count_of line == 6 && is_word line 1 (codes "c") then window_c_form line
+    else if count_of line == 7 && is_word line 1 (codes "b") then window_b_form line
+    else None
+
+-- device ID CLASS HW ROWS OFFSET KEY, with DESCRIPTOR behind it or none
+abbrev pub device_words : List ℕ → Option ℕ → Option Form
+device_words line descriptor = do
+  id ← decimal_at line 1
+  class ← class_at line 2
+  hw ← decimal_at line 3
+  rows ← decimal_at line 4
+  offset ← decimal_at line 5
+  key ← key_at line 6
+  Some (Device id class hw rows offset key descriptor)
+
+abbrev pub device_form : List ℕ → Option Form
+device_form line =
+    if count_of line == 7 then device_words line None
+    else if count_of line == 8 then hex_at line 7 >>= (λ descriptor. device_words line (Some descriptor))
+    else None
+
+-- at MS, wake D, ask D and up U
+abbrev pub at_form : List ℕ → Option Form
+at_form line = with_decimal line (λ time. At time)
+
+abbrev pub wake_form : List ℕ → Option Form
+wake_form line = with_decimal line (λ device. Wake device)
+
+abbrev pub ask_form : List ℕ → Option Form
+ask_form line = with_decimal line (λ device. Ask device)
+
+abbrev pub up_form : List ℕ → Option Form
+up_form line = with_decimal line (λ number. Up number)
+
+-- down S D, with WORD behind it or none, which is 0
+abbrev pub down_words : List ℕ → ℕ → Option Form
+down_words line random = do
+  number ← decimal_at line 1
+  device ← decimal_at line 2
+  Some (Down number device random)
+
+abbrev pub down_form : List ℕ → Option Form
+down_form line =
+    if count_of line == 3 then down_words line 0
+    else if count_of line == 4 then decimal_at line 3 >>= (λ random. down_words line random)
+    else None
+
+-- ---- the form that a line spells, if any
+
+unfoldable pub form_of : List ℕ → Option Form
+form_of line =
+    if is_word line 0 (codes "fuota") then header_form line
+    else if is_word line 0 (codes "image") then image_form line
+    else if is_word line 0 (codes "group") then group_form line
+    else if is_word line 0 (codes "window") then window_form line
+    else if is_word line 0 (codes "device") then device_form line
+    else if is_word line 0 (codes "at") then at_form line
+    else if is_word line 0 (codes "wake") then wake_form line
+    else if is_word line 0 (codes "ask") then ask_form line
+    else if is_word line 0 (codes "frag") then alone line Frag
+    else if is_word line 0 (codes "status") then alone line Status
+    else if is_word line 0 (codes "down") then down_form line
+    else if is_word line 0 (codes "up") then up_form line
+    else if is_word line 0 (codes "end") then alone line End
+    else None

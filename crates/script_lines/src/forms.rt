@@ -1,0 +1,86 @@
+//! The forms that the lines of a script have.
+
+/// An AES-128 key.
+pub type Key = [u8; 16];
+
+/// The CLASS of a device line.
+#[derive(Clone, Copy, Debug, PartialEq, Eq)]
+pub enum Class {
+    /// `a`
+    A,
+    /// `c`
+    C,
+}
+
+/// The form of a line of a script. Decimals are as they are written, those above 2^64 - 1 held as that: what they may be
+/// is `in_range`.
+#[derive(Clone, Copy, Debug, PartialEq, Eq)]
+pub enum Form {
+    /// `fuota 1`
+    Header,
+    /// `image FRAGSIZE PARITY`: bytes a fragment, and coded fragments beyond the uncoded ones.
+    Image {
+        frag_size: u64,
+        parity: u64,
+    },
+    /// `group ADDR KEY MIN MAX`: McAddr, McKey, and the frame counts from MIN to below MAX.
+    Group {
+        addr: u32,
+        key: Key,
+        min: u64,
+        max: u64,
+    },
+    /// `window c START TIMEOUT FREQ DR`: START in seconds of the devices' clocks, FREQ in 100 Hz.
+    WindowC {
+        start: u64,
+        timeout: u64,
+        freq: u64,
+        dr: u64,
+    },
+    /// `window b START PERIODICITY TIMEOUT FREQ DR`
+    WindowB {
+        start: u64,
+        periodicity: u64,
+        timeout: u64,
+        freq: u64,
+        dr: u64,
+    },
+    /// `device ID CLASS HW ROWS OFFSET KEY [DESCRIPTOR]`: OFFSET in seconds, KEY the GenAppKey.
+    Device {
+        id: u64,
+        class: Class,
+        hw: u64,
+        rows: u64,
+        offset: u64,
+        key: Key,
+        descriptor: Option<u32>,
+    },
+    /// `at MS`: the time now, in milliseconds since the GPS epoch.
+    At {
+        time: u64,
+    },
+    /// `wake D`: device D wakes.
+    Wake {
+        device: u64,
+    },
+    /// `ask D`: the server sends the request of the device's stage.
+    Ask {
+        device: u64,
+    },
+    /// `frag`: the server sends the next fragment.
+    Frag,
+    /// `status`: the server asks all devices for their status.
+    Status,
+    /// `down S D [WORD]`: sent payload S reaches device D, with a random word that is 0 where it is left out.
+    Down {
+        number: u64,
+        device: u64,
+        word: u64,
+    },
+    /// `up U`: uplink U reaches the server.
+    Up {
+        number: u64,
+    },
+    /// `end`
+    End,
+}

@@ -1,0 +1,20 @@
+//! The lines of a campaign's script (this project's profile): the stretches between line feeds, the form that a line
+//! spells, and the ranges of its numbers. `form` gives exactly the form that the bytes spell, None where they spell none,
+//! and `in_range` is the table of ranges. What a form makes of a campaign, and when it may come, is left to the world above.
+#![tactic(auto)]
+
+mod forms;
+mod lines;
+mod numbers;
+mod ranges;
+mod reading;
+#[cfg(test)]
+mod tests;
+mod words;
+
+pub use forms::{Class, Form, Key};
+pub use lines::first_line;
+pub use numbers::decimal;
+pub use ranges::in_range;
+pub use reading::form;
+pub use words::{count_words, is_word, word};

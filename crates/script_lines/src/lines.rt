@@ -1,0 +1,24 @@
+//! The lines of a source.
+
+ghost use Rattle.std.specs.Prelude.{◌≡◌, ◌<◌, ◌==◌, ◌∷◌, length};
+ghost use Rattle.std.specs.List.{position};
+ghost use Rattle.script_lines.specs.Lines.{lines_of};
+
+/// The first line of the bytes, without its line feed, and what stands behind it.
+pub fn first_line(bytes: &[u8]) -> (&[u8], &[u8])
+    requires { 0 < length bytes.now }
+    ensures lines { lines_of bytes.now ≡ result.0.now ∷ lines_of result.1.now }
+    ensures shorter { length result.1.now < length bytes.now }
+{
+    match line_feed(bytes) {
+        Some(end) => (bytes.split_at(end).0, bytes.split_at(end + 1).1),
+        None => (bytes, &[]),
+    }
+}
+
+/// The place of the first line feed.
+fn line_feed(bytes: &[u8]) -> Option<usize>
+    ensures { result ≡ position (λ b. b == 10) bytes.now }
+{
+    bytes.iter().position(|b| *b == b'\n')
+}

@@ -1,0 +1,79 @@
+//! The ranges of a form's numbers.
+
+ghost use Rattle.std.specs.Prelude.{◌≡◌};
+ghost use Rattle.script_lines.specs.Ranges.{in_range, is_u32, is_window, is_device};
+
+use crate::forms::Form;
+
+/// The latest time of a script, in milliseconds: the last one of the GPS second 2^32 - 1.
+const MAX_TIME: u64 = 4_294_967_295_999;
+
+/// The most coded fragments that a server sends.
+const MAX_PARITY: u64 = 512;
+
+/// The most bytes of a fragment.
+const MAX_FRAG_SIZE: u64 = 239;
+
+/// The most rows for coded fragments that a device is given.
+const MAX_ROWS: u64 = 64;
+
+/// The most devices of a script.
+const MAX_DEVICES: u64 = 64;
+
+/// Whether each number of the form is within its range. What depends on the image's length, and on which device comes next, is
+/// not looked at.
+#[tactic(auto, unfolding(crate::specs::Ranges::in_range))]
+pub fn in_range(form: &Form) -> bool
+    ensures { result ≡ in_range form.now }
+{
+    match *form {
+        Form::Image { frag_size, parity } => {
+            1 <= frag_size && frag_size <= MAX_FRAG_SIZE && parity <= MAX_PARITY
+        }
+        Form::Group { min, max, .. } => is_u32(min) && is_u32(max) && min < max,
+        Form::WindowC {
+            start,
+            timeout,
+            freq,
+            dr,
+        } => is_window(start, timeout, freq, dr),
+        Form::WindowB {
+            start,
+            periodicity,
+            timeout,
+            freq,
+            dr,
+        } => is_window(start, timeout, freq, dr) && periodicity <= 7,
+        Form::Device {
+            id,
+            hw,
+            rows,
+            offset,
+            ..
+        } => is_device(id, hw, rows, offset),
+        Form::At { time } => time <= MAX_TIME,
+        Form::Down { word, .. } => is_u32(word),
+        _ => true,
+    }
+}
+
+/// Whether a number is below 2^32.
+fn is_u32(n: u64) -> bool
+    ensures { result ≡ is_u32 n }
+{
+    n < 1 << 32
+}
+
+/// Whether a window's numbers are within their bits.
+fn is_window(start: u64, timeout: u64, freq: u64, dr: u64) -> bool
+    ensures { result ≡ is_window start timeout freq dr }
+{
+    is_u32(start) && timeout <= 15 && freq < 1 << 24 && dr <= 255
+}
+
+/// Whether a device's numbers are within their ranges.
+fn is_device(id: u64, hw: u64, rows: u64, offset: u64) -> bool
+    ensures { result ≡ is_device id hw rows offset }
+{
+    1 <= id && id <= MAX_DEVICES && is_u32(hw) && rows <= MAX_ROWS && is_u32(offset)
+}

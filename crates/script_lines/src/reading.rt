@@ -1,0 +1,271 @@
+//! The form that a line spells: its first word says which, and each form has a function of its own.
+
+ghost use Rattle.std.specs.Prelude.{◌≡◌};
+ghost use Rattle.std.specs.Str.{bytes_eq};
+ghost use Rattle.script_lines.specs.Forms.{form_of, alone, header_form, image_form, group_form, window_form, window_c_form, window_b_form, device_form, device_words, at_form, wake_form, ask_form, down_form, down_words, up_form, class_at};
+
+use crate::forms::{Class, Form};
+use crate::numbers::{decimal, hex_number, key};
+use crate::words::{count_words, is_word, word};
+
+/// The form that a line spells, None exactly where it spells none.
+#[tactic(auto, unfolding(crate::specs::Forms::form_of))]
+pub fn form(line: &[u8]) -> Option<Form>
+    ensures { result ≡ form_of line.now }
+{
+    let keyword = word(line, 0);
+    if is_keyword(keyword, "fuota") {
+        header_form(line)
+    } else if is_keyword(keyword, "image") {
+        image_form(line)
+    } else if is_keyword(keyword, "group") {
+        group_form(line)
+    } else if is_keyword(keyword, "window") {
+        window_form(line)
+    } else if is_keyword(keyword, "device") {
+        device_form(line)
+    } else if is_keyword(keyword, "at") {
+        at_form(line)
+    } else if is_keyword(keyword, "wake") {
+        wake_form(line)
+    } else if is_keyword(keyword, "ask") {
+        ask_form(line)
+    } else if is_keyword(keyword, "frag") {
+        alone(line, Form::Frag)
+    } else if is_keyword(keyword, "status") {
+        alone(line, Form::Status)
+    } else if is_keyword(keyword, "down") {
+        down_form(line)
+    } else if is_keyword(keyword, "up") {
+        up_form(line)
+    } else if is_keyword(keyword, "end") {
+        alone(line, Form::End)
+    } else {
+        None
+    }
+}
+
+/// Whether a word is this keyword.
+fn is_keyword(word: &[u8], keyword: &str) -> bool
+    ensures { result ≡ bytes_eq word.now keyword.now }
+{
+    word == keyword.as_bytes()
+}
+
+/// A form of its keyword alone.
+fn alone(line: &[u8], form: Form) -> Option<Form>
+    ensures { result ≡ alone line.now form }
+{
+    if count_words(line) == 1 {
+        Some(form)
+    } else {
+        None
+    }
+}
+
+/// `fuota 1`
+fn header_form(line: &[u8]) -> Option<Form>
+    ensures { result ≡ header_form line.now }
+{
+    if count_words(line) == 2 && is_word(line, 1, "1") {
+        Some(Form::Header)
+    } else {
+        None
+    }
+}
+
+/// `image FRAGSIZE PARITY`
+fn image_form(line: &[u8]) -> Option<Form>
+    ensures { result ≡ image_form line.now }
+{
+    if count_words(line) != 3 {
+        return None;
+    }
+    let frag_size = decimal(word(line, 1))?;
+    let parity = decimal(word(line, 2))?;
+    Some(Form::Image { frag_size, parity })
+}
+
+/// `group ADDR KEY MIN MAX`
+fn group_form(line: &[u8]) -> Option<Form>
+    ensures { result ≡ group_form line.now }
+{
+    if count_words(line) != 5 {
+        return None;
+    }
+    let addr = hex_number(word(line, 1))?;
+    let key = key(word(line, 2))?;
+    let min = decimal(word(line, 3))?;
+    let max = decimal(word(line, 4))?;
+    Some(Form::Group {
+        addr,
+        key,
+        min,
+        max,
+    })
+}
+
+/// `window c ..` or `window b ..`
+fn window_form(line: &[u8]) -> Option<Form>
+    ensures { result ≡ window_form line.now }
+{
+    let count = count_words(line);
+    if count == 6 && is_word(line, 1, "c") {
+        window_c_form(line)
+    } else if count == 7 && is_word(line, 1, "b") {
+        window_b_form(line)
+    } else {
+        None
+    }
+}
+
+/// `window c START TIMEOUT FREQ DR`
+fn window_c_form(line: &[u8]) -> Option<Form>
+    ensures { result ≡ window_c_form line.now }
+{
+    let start = decimal(word(line, 2))?;
+    let timeout = decimal(word(line, 3))?;
+    let freq = decimal(word(line, 4))?;
+    let dr = decimal(word(line, 5))?;
+    Some(Form::WindowC {
+        start,
+        timeout,
+        freq,
+        dr,
+    })
+}
+
+/// `window b START PERIODICITY TIMEOUT FREQ DR`
+fn window_b_form(line: &[u8]) -> Option<Form>
+    ensures { result ≡ window_b_form line.now }
+{
+    let start = decimal(word(line, 2))?;
+    let periodicity = decimal(word(line, 3))?;
+    let timeout = decimal(word(line, 4))?;
+    let freq = decimal(word(line, 5))?;
+    let dr = decimal(word(line, 6))?;
+    Some(Form::WindowB {
+        start,
+        periodicity,
+        timeout,
+        freq,
+        dr,
+    })
+}
+
+/// `device ID CLASS HW ROWS OFFSET KEY [DESCRIPTOR]`
+fn device_form(line: &[u8]) -> Option<Form>
+    ensures { result ≡ device_form line.now }
+{
+    match count_words(line) {
+        7 => device_words(line, None),
+        8 => {
+            let descriptor = hex_number(word(line, 7))?;
+            device_words(line, Some(descriptor))
+        }
+        _ => None,
+    }
+}
+
+fn device_words(line: &[u8], descriptor: Option<u32>) -> Option<Form>
+    ensures { result ≡ device_words line.now descriptor }
+{
+    let id = decimal(word(line, 1))?;
+    let class = class_at(line, 2)?;
+    let hw = decimal(word(line, 3))?;
+    let rows = decimal(word(line, 4))?;
+    let offset = decimal(word(line, 5))?;
+    let key = key(word(line, 6))?;
+    Some(Form::Device {
+        id,
+        class,
+        hw,
+        rows,
+        offset,
+        key,
+        descriptor,
+    })
+}
+
+/// The class that a word names.
+fn class_at(line: &[u8], place: usize) -> Option<Class>
+    ensures { result ≡ class_at line.now place }
+{
+    if is_word(line, place, "a") {
+        Some(Class::A)
+    } else if is_word(line, place, "c") {
+        Some(Class::C)
+    } else {
+        None
+    }
+}
+
+/// `at MS`
+fn at_form(line: &[u8]) -> Option<Form>
+    ensures { result ≡ at_form line.now }
+{
+    if count_words(line) != 2 {
+        return None;
+    }
+    let time = decimal(word(line, 1))?;
+    Some(Form::At { time })
+}
+
+/// `wake D`
+fn wake_form(line: &[u8]) -> Option<Form>
+    ensures { result ≡ wake_form line.now }
+{
+    if count_words(line) != 2 {
+        return None;
+    }
+    let device = decimal(word(line, 1))?;
+    Some(Form::Wake { device })
+}
+
+/// `ask D`
+fn ask_form(line: &[u8]) -> Option<Form>
+    ensures { result ≡ ask_form line.now }
+{
+    if count_words(line) != 2 {
+        return None;
+    }
+    let device = decimal(word(line, 1))?;
+    Some(Form::Ask { device })
+}
+
+/// `down S D [WORD]`
+fn down_form(line: &[u8]) -> Option<Form>
+    ensures { result ≡ down_form line.now }
+{
+    match count_words(line) {
+        3 => down_words(line, 0),
+        4 => {
+            let random = decimal(word(line, 3))?;
+            down_words(line, random)
+        }
+        _ => None,
+    }
+}
+
+fn down_words(line: &[u8], random: u64) -> Option<Form>
+    ensures { result ≡ down_words line.now random }
+{
+    let number = decimal(word(line, 1))?;
+    let device = decimal(word(line, 2))?;
+    Some(Form::Down {
+        number,
+        device,
+        word: random,
+    })
+}
+
+/// `up U`
+fn up_form(line: &[u8]) -> Option<Form>
+    ensures { result ≡ up_form line.now }
+{
+    if count_words(line) != 2 {
+        return None;
+    }
+    let number = decimal(word(line, 1))?;
+    Some(Form::Up { number })
+}

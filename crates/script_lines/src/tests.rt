@@ -1,0 +1,152 @@
+use crate::{Class, Form, form, in_range};
+
+/// Lines, the form that each spells, and whether its numbers are in their ranges.
+#[test]
+fn lines_spell_their_forms(rt: HostRuntime) {
+    let largest = u64::MAX;
+    let cases: [(&str, Option<Form>, bool); 27] = [
+        ("fuota 1", Some(Form::Header), true),
+        (
+            "image 13 4",
+            Some(Form::Image {
+                frag_size: 13,
+                parity: 4,
+            }),
+            true,
+        ),
+        (
+            "image 240 4",
+            Some(Form::Image {
+                frag_size: 240,
+                parity: 4,
+            }),
+            false,
+        ),
+        (
+            "image 0 4",
+            Some(Form::Image {
+                frag_size: 0,
+                parity: 4,
+            }),
+            false,
+        ),
+        (
+            "image 13 513",
+            Some(Form::Image {
+                frag_size: 13,
+                parity: 513,
+            }),
+            false,
+        ),
+        (
+            "at 4294967295999",
+            Some(Form::At {
+                time: 4_294_967_295_999,
+            }),
+            true,
+        ),
+        (
+            "at 4294967296000",
+            Some(Form::At {
+                time: 4_294_967_296_000,
+            }),
+            false,
+        ),
+        (
+            "at 18446744073709551616",
+            Some(Form::At { time: largest }),
+            false,
+        ),
+        ("wake 7", Some(Form::Wake { device: 7 }), true),
+        ("ask 0", Some(Form::Ask { device: 0 }), true),
+        ("frag", Some(Form::Frag), true),
+        ("status", Some(Form::Status), true),
+        (
+            "down 3 1",
+            Some(Form::Down {
+                number: 3,
+                device: 1,
+                word: 0,
+            }),
+            true,
+        ),
+        (
+            "down 3 1 20",
+            Some(Form::Down {
+                number: 3,
+                device: 1,
+                word: 20,
+            }),
+            true,
+        ),
+        (
+            "down 3 1 4294967296",
+            Some(Form::Down {
+                number: 3,
+                device: 1,
+                word: 4_294_967_296,
+            }),
+            false,
+        ),
+        ("up 2", Some(Form::Up { number: 2 }), true),
+        ("end", Some(Form::End), true),
+        ("fuota 2", None, true),
+        ("fuota 01", None, true),
+        ("end ", None, true),
+        ("end\r", None, true),
+        ("End", None, true),
+        ("down  3 1", None, true),
+        ("up -1", None, true),
+        ("at +1", None, true),
+        ("at 007", None, true),
+        ("", None, true),
+    ];
+    for (line, wanted, ranged) in cases {
+        let found = form(line.as_bytes());
+        assert!(rt; found == wanted);
+        if let Some(spelled) = found {
+            assert!(rt; in_range(&spelled) == ranged);
+        }
+    }
+}
+
+/// Keys, addresses and descriptors are hex digits of either case; CLASS is `a` or `c`.
+#[test]
+fn hex_words_are_read(rt: HostRuntime) {
+    let group = form(b"group 11223344 000102030405060708090A0B0c0d0e0f 0 10");
+    let key = [0, 1, 2, 3, 4, 5, 6, 7, 8, 9, 10, 11, 12, 13, 14, 15];
+    assert!(rt;
+        group
+            == Some(Form::Group {
+                addr: 0x1122_3344,
+                key,
+                min: 0,
+                max: 10
+            })
+    );
+    let device = form(b"device 1 a 2 64 5 00000000000000000000000000000000 00000002");
+    let wanted = Form::Device {
+        id: 1,
+        class: Class::A,
+        hw: 2,
+        rows: 64,
+        offset: 5,
+        key: [0; 16],
+        descriptor: Some(2),
+    };
+    assert!(rt; device == Some(wanted));
+    assert!(rt; form(b"device 1 b 2 64 5 00000000000000000000000000000000") == None);
+    assert!(rt; form(b"device 1 c 2 64 5 0000000000000000000000000000000") == None);
+    assert!(rt; form(b"group 1122334 00000000000000000000000000000000 0 10") == None);
+    let window = form(b"window b 1000 7 15 8695250 255");
+    let wanted = Form::WindowB {
+        start: 1000,
+        periodicity: 7,
+        timeout: 15,
+        freq: 8_695_250,
+        dr: 255,
+    };
+    assert!(rt; window == Some(wanted));
+    assert!(rt; form(b"window c 1000 0 8695250") == None);
+    assert!(rt; form(b"window c 1000 7 0 8695250 0") == None);
+}

@@ -1,0 +1,39 @@
+//! The words of a line: the stretches between its spaces.
+
+ghost use Rattle.std.specs.Prelude.{◌≡◌, ◌==◌, length, slice_get};
+ghost use Rattle.std.specs.Option.{option_map};
+ghost use Rattle.std.specs.List.{slice_split};
+ghost use Rattle.script_lines.specs.Lines.{words_of, word, is_word};
+
+/// How many words the line has: one more than it has spaces.
+#[tactic(auto, unfolding(crate::specs::Lines::words_of))]
+pub fn count_words(line: &[u8]) -> usize
+    ensures { result ≡ length (words_of line.now) }
+{
+    line.iter().filter(|b| **b == b' ').count() + 1
+}
+
+/// The word at a place, counted from 0, if there is one.
+fn nth_word(line: &[u8], place: usize) -> Option<&[u8]>
+    ensures { option_map (λ w. w.now) result ≡ slice_get (slice_split (λ b. b == 32) line.now) place }
+{
+    line.split(|b| *b == b' ').nth(place)
+}
+
+/// The word at a place, counted from 0; empty where there is none.
+#[tactic(auto, unfolding(crate::specs::Lines::word, crate::specs::Lines::words_of))]
+pub fn word(line: &[u8], place: usize) -> &[u8]
+    ensures { result.now ≡ word line.now place }
+{
+    match nth_word(line, place) {
+        Some(found) => found,
+        None => &[],
+    }
+}
+
+/// Whether the word at a place, counted from 0, is this one.
+pub fn is_word(line: &[u8], place: usize, wanted: &str) -> bool
+    ensures { result ≡ is_word line.now place wanted.now }
+{
+    word(line, place) == wanted.as_bytes()
+}
