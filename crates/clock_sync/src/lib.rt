@@ -1,0 +1,18 @@
+//! Clock synchronization (TS003-1.0.0), both ends.
+//! A device's time is true time and its offset, and the correction is the one signed number that mends it.
+//! Commands as bytes are left to `sync_wire`, and when a device asks to the crates above.
+#![tactic(auto)]
+
+mod clock;
+mod corrections;
+mod laws;
+
+pub use clock::{DeviceClock, Taken};
+pub use corrections::{answer_needed, correction};
+pub use laws::{
+    an_answer_corrects, congruent_by_a_multiple, correction_is_the_one, correction_mends_the_clock,
+    millis_are_of_the_seconds,
+};
+
+#[cfg(test)]
+mod tests;

@@ -1,0 +1,163 @@
+//! The groups of a device, by their ids.
+
+ghost use Rattle.std.specs.Prelude.{◌≡◌, ◌≢◌, ◌↔◌, ◌<◌, ◌≤◌, ℕ, length, replicate, Option, None, Some, IsTrue, is_some, count_by, slice_set};
+ghost use Rattle.cast_wire.specs.Table.{IsValid};
+ghost use Rattle.mc_group.specs.Groups.{max_groups, group_at, group_of, is_for, answer_for, status_answer};
+
+use crate::group::Group;
+use arrayvec::ArrayVec;
+use cast_wire::{Cmd, GroupAddress, GroupList, MAX_GROUPS};
+use mc_keys::{Key, kek, root_1_0, unwrap_key};
+use std::marker::Model;
+
+/// What becomes of a McGroupSetupReq.
+#[derive(Clone, Copy, Debug, PartialEq, Eq)]
+pub enum GroupAnswer {
+    /// The group is there.
+    Ok,
+    /// IDerror: the id isn't configured.
+    IdError,
+}
+
+/// What becomes of a McGroupDeleteReq.
+#[derive(Clone, Copy, Debug, PartialEq, Eq)]
+pub enum GroupEnd {
+    /// The group is there no more.
+    Ok,
+    /// McGroupUndefined: there was none.
+    Undefined,
+}
+
+/// The groups of a device. Contracts see the list of places, one for each id that is configured.
+#[derive(Debug, Drop)]
+pub struct GroupTable {
+    places: ArrayVec<Option<Group>, MAX_GROUPS>,
+}
+
+impl Model for GroupTable {
+    ghost use Rattle.std.specs.Prelude.{List, Option, ◌≤◌, length};
+    ghost use Rattle.mc_group.specs.declared.group.Group.{Group};
+
+    ghost Value = { List (Option Group) };
+
+    ghost view = { λ t. t.places.items };
+
+    ghost invariant = { λ t. length t.places.items ≤ 4 };
+}
+
+impl GroupTable {
+    /// A table for the ids below `number`, at most 4, without groups.
+    pub fn new(number: u8) -> Self
+        requires { number ≤ max_groups }
+        ensures { result ≡ replicate number None }
+    {
+        let mut places = ArrayVec::new();
+        for _ in 0..number {
+            places.push(None);
+        }
+        GroupTable { places }
+    }
+
+    /// Answers McGroupSetupReq: a group of frame counts from `min` to below `max` takes the place of what the id had.
+    /// Its key was wrapped for the device whose GenAppKey this is.
+    pub fn setup(
+        &mut self,
+        gen_app_key: &Key,
+        id: u8,
+        addr: u32,
+        wrapped: &Key,
+        min: u32,
+        max: u32,
+    ) -> GroupAnswer
+        ensures id_error { (result ≡ GroupAnswer.IdError) ↔ (length self.old ≤ id) }
+        ensures ok { result ≡ GroupAnswer.Ok
+            → self.new ≡ slice_set self.old id (Some (group_of gen_app_key.now addr wrapped.now min max)) }
+        ensures refused { result ≡ GroupAnswer.IdError → self.new ≡ self.old }
+    {
+        let id = id as usize;
+        if id >= self.places.len() {
+            return GroupAnswer::IdError;
+        }
+        let key = unwrap_key(&kek(&root_1_0(gen_app_key)), wrapped);
+        self.places[id] = Some(Group {
+            addr,
+            key,
+            min,
+            max,
+        });
+        GroupAnswer::Ok
+    }
+
+    /// Answers McGroupDeleteReq: the group of an id ends.
+    pub fn delete(&mut self, id: u8) -> GroupEnd
+        ensures undefined { (result ≡ GroupEnd.Undefined) ↔ (group_at self.old id ≡ None) }
+        ensures ok { result ≡ GroupEnd.Ok → self.new ≡ slice_set self.old id None }
+        ensures refused { result ≡ GroupEnd.Undefined → self.new ≡ self.old }
+    {
+        if self.get(id).is_none() {
+            return GroupEnd::Undefined;
+        }
+        self.places[id as usize] = None;
+        GroupEnd::Ok
+    }
+
+    /// The group of an id; None where the id is not configured or has none.
+    pub fn get(&self, id: u8) -> Option<Group>
+        ensures { result ≡ group_at self.now id }
+    {
+        if id as usize >= self.places.len() {
+            return None;
+        }
+        self.places[id as usize]
+    }
+
+    /// Whether a frame is for the group of an id: it is there with that McAddr, and the frame count is within its range.
+    pub fn accepts(&self, id: u8, addr: u32, count: u32) -> bool
+        ensures { result ≡ is_for (group_at self.now id) addr count }
+    {
+        match self.get(id) {
+            None => false,
+            Some(group) => group.addr == addr && group.min <= count && count < group.max,
+        }
+    }
+
+    /// McGroupStatusAns for the groups whose bits are set in a mask, in rising order of their ids.
+    pub fn status(&self, mask: u8) -> Cmd
+        ensures value { result ≡ status_answer self.now mask }
+        ensures valid { IsValid result }
+    {
+        let mut answered = 0u8;
+        let mut groups = GroupList::new();
+        for id in 0..4 {
+            if let Some(group) = self.answer_for(mask, id) {
+                answered += 1 << id;
+                groups.push(group);
+            }
+        }
+        Cmd::McGroupStatusAns {
+            total: self.count(),
+            mask: answered,
+            groups,
+        }
+    }
+
+    fn answer_for(&self, mask: u8, id: u8) -> Option<GroupAddress>
+        requires { id < 8 }
+        ensures { result ≡ answer_for self.now mask id }
+    {
+        if mask >> id & 1 == 0 {
+            return None;
+        }
+        self.get(id).map(|group| GroupAddress {
+            id,
+            addr: group.addr,
+        })
+    }
+
+    fn count(&self) -> u8
+        ensures value { result ≡ count_by is_some self.now }
+        ensures few { result ≤ max_groups }
+    {
+        self.places.iter().filter(|place| place.is_some()).count() as u8
+    }
+}
