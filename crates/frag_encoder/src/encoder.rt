@@ -62,6 +62,14 @@ impl Encoder {
         }
     }
 
+    /// The file.
+    pub fn file(&self) -> &[u8]
+        ensures { result.now ≡ self.now.file }
+    {
+        let end = self.bytes.len() - self.padding as usize;
+        &self.bytes[..end]
+    }
+
     /// How many pieces the file has, 1 to 1,024: its length over a piece's, rounded up.
     pub fn nb_frag(&self) -> u16
         ensures value { result ≡ nb_frag_of (length self.now.file) self.now.frag_size }

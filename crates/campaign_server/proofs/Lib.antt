@@ -1,0 +1,4 @@
+pub mod Wrapping
+pub mod Examples
+pub mod Plans
+pub mod Times

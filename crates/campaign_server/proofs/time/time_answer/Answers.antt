@@ -1,0 +1,18 @@
+use Rattle.std.proofs.Common.{◌≡◌, ap, ◌∙◌, sym}
+use Rattle.trial_reading.specs.HeldMessage.{HeldMessage}
+use Rattle.campaign_server.specs.Time.{time_answer_to, time_answer}
+use Rattle.campaign_server.specs.Asking.{by_unicast}
+use Rattle.campaign_server.specs.Sent.{down_of}
+use Rattle.campaign_server.proofs.Times.{answers_first, answers_later, answers_none}
+use Rattle.campaign_server.proofs.time.time_answer.Goals as goal
+
+pub returns-in-Some-time_answer_to : goal.returns-in-Some-time_answer_to
+returns-in-Some-time_answer_to c =
+    answers_first c.args.t c.loop-command.message c.next.new.self c.args.message.commands c.in-Some.command _ c.in-Some.ensures.takes c.loop-command.invariant c.in-Some-time_answer_to.ensures
+
+pub loop-command-preserved : goal.loop-command-preserved
+loop-command-preserved c =
+    answers_later c.args.t c.loop-command.message c.next.new.self c.args.message.commands c.in-Some.command c.in-Some.ensures.takes c.loop-command.invariant c.in_default-time_answer_to.ensures
+
+pub returns : goal.returns
+returns c = answers_none c.args.t c.loop-command.message.commands c.args.message.commands c.in_default.ensures.takes.0 c.loop-command.invariant

@@ -1,0 +1,99 @@
+-- Where an answer leads (TS004, TS005 and TS006, 1.0.0; the stages are this project's profile). A refusal is tried before
+-- what moves on, and both only for the index or id that was asked of.
+use Rattle.std.specs.Prelude.{ℕ, ◌+◌, Bool, true, false, ◌==◌, if◌then◌else◌, List, [], ◌∷◌, Option, Some, None, is_some}
+use Rattle.image_slots.specs.Image.{hardware_of, firmware_of}
+use Rattle.cast_wire.specs.declared.cmd.Cmd.TheVariants.{McGroupSetupAns, FragSessionSetupAns, McClassCSessionAns, McClassBSessionAns, FragSessionStatusAns}
+use Rattle.sync_wire.specs.declared.cmd.Cmd.TheVariants.{DevVersionAns, DevUpgradeImageAns, DevRebootCountdownAns}
+use Rattle.package_grammar.specs.declared.command.Command.{Command}
+use Rattle.package_grammar.specs.declared.command.Command.TheVariants.{Sync, Cast}
+use Rattle.campaign_server.specs.declared.plan.PlanWindow.{PlanWindow}
+use Rattle.campaign_server.specs.declared.plan.Kind.{Kind}
+use Rattle.campaign_server.specs.declared.plan.Kind.TheVariants as kind
+use Rattle.campaign_server.specs.declared.stage.Stage.{Stage}
+use Rattle.campaign_server.specs.declared.stage.Stage.TheVariants.{At, Updated, Refused}
+use Rattle.campaign_server.specs.declared.stage.Request.{Request}
+use Rattle.campaign_server.specs.declared.stage.Request.TheVariants.{Version, Group, Fragments, Window, Status, Image, Reboot, Check}
+use Rattle.campaign_server.specs.Plan.{Plan, session_index, group_id}
+
+-- a bit of a number, by its worth
+abbrev pub worth : Bool → ℕ → ℕ
+worth set n = if set then n else 0
+
+-- refused with bits, unless there is none
+abbrev pub unless_refused : Request → (bits : ℕ) → Stage → Stage
+unless_refused request bits moved = if bits == 0 then moved else Refused request bits
+
+-- an answer with another index or id moves nothing
+abbrev pub where_own : (own told : ℕ) → Request → Stage → Stage
+where_own own told request moved = if told == own then moved else At request
+
+-- ---- each answer
+
+-- 1 is other hardware than the image's; without a group its stages are left out
+abbrev pub after_version : Plan → (image : List ℕ) → (hardware : ℕ) → Stage
+after_version plan image hardware =
+    unless_refused Version (if hardware == hardware_of image then 0 else 1) (At (if is_some plan.group then Group else Fragments))
+
+-- 4 is IDerror
+abbrev pub after_group : (id : ℕ) → (error : Bool) → Stage
+after_group id error = where_own group_id id Group (unless_refused Group (worth error 4) (At Fragments))
+
+abbrev pub after_setup : Plan → (index bits : ℕ) → Stage
+after_setup plan index bits =
+    where_own session_index index Fragments (unless_refused Fragments bits (At (if is_some plan.group then Window else Status)))
+
+-- the answer of the plan's own class alone
+abbrev pub after_window : (own : Bool) → (id bits : ℕ) → Stage
+after_window own id bits = if own then where_own group_id id Window (unless_refused Window bits (At Status)) else At Window
+
+-- 1 is too little memory for the matrix; with fragments missing it stays
+abbrev pub after_status : (index missing : ℕ) → (norows : Bool) → Stage
+after_status index missing norows =
+    where_own session_index index Status (unless_refused Status (worth norows 1) (At (if missing == 0 then Image else Status)))
+
+-- 1 corrupt, 2 incompatible, 3 another version; 0 stays
+abbrev pub after_upgrade : (image : List ℕ) → (status : ℕ) → (next : Option ℕ) → Stage
+after_upgrade image status None = unless_refused Image status (At Image)
+after_upgrade image status (Some version) = if version == firmware_of image then At Reboot else Refused Image status
+
+abbrev pub after_check : (image : List ℕ) → (firmware : ℕ) → Stage
+after_check image firmware = if firmware == firmware_of image then Updated else At Check
+
+-- ---- the table
+
+abbrev pub is_class_c : Option PlanWindow → Bool
+is_class_c None = false
+is_class_c (Some window) = kind_is_c window.kind
+  where
+    kind_is_c : Kind → Bool
+    kind_is_c kind.C = true
+    kind_is_c (kind.B periodicity) = false
+
+abbrev pub is_class_b : Option PlanWindow → Bool
+is_class_b None = false
+is_class_b (Some window) = kind_is_b window.kind
+  where
+    kind_is_b : Kind → Bool
+    kind_is_b kind.C = false
+    kind_is_b (kind.B periodicity) = true
+
+-- the stage behind a command of an uplink: an answer moves its own stage alone
+unfoldable pub stage_after : Plan → (image : List ℕ) → Stage → Command → Stage
+stage_after plan image (At Version) (Sync (DevVersionAns firmware hardware)) = after_version plan image hardware
+stage_after plan image (At Group) (Cast (McGroupSetupAns id error)) = after_group id error
+stage_after plan image (At Fragments) (Cast (FragSessionSetupAns index descriptor unsupported memory encoding)) =
+    after_setup plan index (worth descriptor 8 + worth unsupported 4 + worth memory 2 + worth encoding 1)
+stage_after plan image (At Window) (Cast (McClassCSessionAns id undefined freq dr start)) =
+    after_window (is_class_c plan.window) id (worth undefined 16 + worth freq 8 + worth dr 4)
+stage_after plan image (At Window) (Cast (McClassBSessionAns id undefined freq dr start)) =
+    after_window (is_class_b plan.window) id (worth undefined 16 + worth freq 8 + worth dr 4)
+stage_after plan image (At Status) (Cast (FragSessionStatusAns index received missing norows)) = after_status index missing norows
+stage_after plan image (At Image) (Sync (DevUpgradeImageAns status next)) = after_upgrade image status next
+stage_after plan image (At Reboot) (Sync (DevRebootCountdownAns count)) = At Check
+stage_after plan image (At Check) (Sync (DevVersionAns firmware hardware)) = after_check image firmware
+stage_after plan image stage command = stage
+
+-- the stage behind the commands of an uplink, one after another
+unfoldable pub stage_after_all : Plan → (image : List ℕ) → Stage → List Command → Stage
+stage_after_all plan image stage [] = stage
+stage_after_all plan image stage (c ∷ cs) = stage_after_all plan image (stage_after plan image stage c) cs

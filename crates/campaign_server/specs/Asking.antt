@@ -1,0 +1,82 @@
+-- What the server asks of a device at each stage (TS004, TS005 and TS006, 1.0.0; the order is this project's profile).
+use Rattle.std.specs.Prelude.{ℕ, ◌^◌, true, List, length, Option, Some, None}
+use Rattle.frag_encoder.specs.Encoding.{nb_frag_of, padding_of}
+use Rattle.image_slots.specs.Image.{firmware_of}
+use Rattle.mc_keys.specs.Keys.{mc_root_key, mc_ke_key}
+use Rattle.cast_wire.specs.declared.cmd.Cmd.{Cmd}
+use Rattle.cast_wire.specs.declared.cmd.Cmd.TheVariants.{McGroupSetupReq, FragSessionSetupReq, McClassCSessionReq, McClassBSessionReq, FragSessionStatusReq}
+use Rattle.sync_wire.specs.declared.cmd.Cmd.TheVariants.{DevVersionReq, DevUpgradeImageReq, DevRebootCountdownReq}
+use Rattle.package_grammar.specs.declared.command.Command.{Command}
+use Rattle.package_grammar.specs.declared.command.Command.TheVariants.{Sync, Cast}
+use Rattle.package_grammar.specs.declared.command.To.TheVariants.{Unicast}
+use Rattle.campaign_server.specs.declared.plan.PlanGroup.{PlanGroup}
+use Rattle.campaign_server.specs.declared.plan.PlanWindow.{PlanWindow}
+use Rattle.campaign_server.specs.declared.plan.PlanDevice.{PlanDevice}
+use Rattle.campaign_server.specs.declared.plan.Kind.{Kind}
+use Rattle.campaign_server.specs.declared.plan.Kind.TheVariants as kind
+use Rattle.campaign_server.specs.declared.stage.Stage.{Stage}
+use Rattle.campaign_server.specs.declared.stage.Stage.TheVariants.{At, Updated, Refused}
+use Rattle.campaign_server.specs.declared.stage.Request.TheVariants.{Version, Group, Fragments, Window, Status, Image, Reboot, Check}
+use Rattle.campaign_server.specs.Plan.{Plan, session_index, group_id}
+use Rattle.campaign_server.specs.Wrapping.{wrapped_key}
+use Rattle.campaign_server.specs.Server.{ServerState, DownlinkCommand, numbered, ledger}
+
+-- ---- the requests
+
+-- the group, its key wrapped under the device's GenAppKey
+abbrev pub group_request : (gen_app_key : List ℕ) → PlanGroup → Cmd
+group_request gen_app_key group =
+    McGroupSetupReq group_id group.addr (wrapped_key (mc_ke_key (mc_root_key gen_app_key)) group.key) group.min group.max
+
+-- group 0 may feed the session where there is one
+abbrev pub mask_of : Option PlanGroup → ℕ
+mask_of None = 0
+mask_of (Some group) = 2 ^ group_id
+
+-- the session: BlockAckDelay 0, and the firmware version as what the file is
+abbrev pub fragments_request : Plan → (image : List ℕ) → Cmd
+fragments_request plan image =
+    let size = plan.frag_size in
+    let nb_frag = nb_frag_of (length image) size in
+    let padding = padding_of (length image) size in
+    FragSessionSetupReq session_index (mask_of plan.group) nb_frag size 0 0 padding (firmware_of image)
+
+abbrev pub window_request_of : PlanWindow → Kind → Cmd
+window_request_of window kind.C = McClassCSessionReq group_id window.start window.timeout window.freq window.dr
+window_request_of window (kind.B periodicity) = McClassBSessionReq group_id window.start periodicity window.timeout window.freq window.dr
+
+abbrev pub window_request : PlanWindow → Cmd
+window_request window = window_request_of window window.kind
+
+-- ---- the table
+
+abbrev pub cast_of : {A : Type 0} → (A → Cmd) → Option A → Option Command
+cast_of request None = None
+cast_of request (Some x) = Some (Cast (request x))
+
+-- the request of a stage, to a device with this GenAppKey; none at updated or refused
+unfoldable pub request_at : Plan → (image gen_app_key : List ℕ) → Stage → Option Command
+request_at plan image gen_app_key (At Version) = Some (Sync DevVersionReq)
+request_at plan image gen_app_key (At Group) = cast_of (λ group. group_request gen_app_key group) plan.group
+request_at plan image gen_app_key (At Fragments) = Some (Cast (fragments_request plan image))
+request_at plan image gen_app_key (At Window) = cast_of (λ window. window_request window) plan.window
+request_at plan image gen_app_key (At Status) = Some (Cast (FragSessionStatusReq session_index true))
+request_at plan image gen_app_key (At Image) = Some (Sync DevUpgradeImageReq)
+request_at plan image gen_app_key (At Reboot) = Some (Sync (DevRebootCountdownReq 0))
+request_at plan image gen_app_key (At Check) = Some (Sync DevVersionReq)
+request_at plan image gen_app_key Updated = None
+request_at plan image gen_app_key (Refused request bits) = None
+
+-- ---- the call
+
+abbrev pub command_for : Plan → (image : List ℕ) → Option PlanDevice → Option Stage → Option Command
+command_for plan image (Some device) (Some stage) = request_at plan image device.key stage
+command_for plan image device stage = None
+
+abbrev pub by_unicast : Option Command → Option DownlinkCommand
+by_unicast None = None
+by_unicast (Some command) = Some (record { to = Unicast; command = command })
+
+-- what the server asks of a device, by unicast
+unfoldable pub request_of : ServerState → (dev : ℕ) → Option DownlinkCommand
+request_of server dev = by_unicast (command_for server.plan server.image (numbered server.plan.devices dev) (ledger server dev))

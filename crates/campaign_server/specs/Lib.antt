@@ -1,0 +1,10 @@
+pub mod Plan
+pub mod Server
+pub mod Wrapping
+pub mod Asking
+pub mod Answers
+pub mod Fragments
+pub mod Time
+pub mod Uplinks
+pub mod Sent
+pub mod ServerInside

@@ -1,0 +1,57 @@
+-- A server of a campaign: what it is at a moment, and at its start (this project's profile).
+use Rattle.std.specs.Prelude.{ℕ, ◌-◌, ◌==◌, if◌then◌else◌, List, length, replicate, slice_get, slice_index_or, Option, Some, None}
+use Rattle.package_grammar.specs.declared.command.Command.{Command}
+use Rattle.package_grammar.specs.declared.command.To.{To}
+use Rattle.package_grammar.specs.declared.command.Downlink.{Downlink}
+use Rattle.package_grammar.specs.Grammar.{row, canonical}
+use Rattle.campaign_server.specs.declared.plan.PlanGroup.{PlanGroup}
+use Rattle.campaign_server.specs.declared.stage.Stage.{Stage}
+use Rattle.campaign_server.specs.declared.stage.Stage.TheVariants.{At}
+use Rattle.campaign_server.specs.declared.stage.Request.TheVariants.{Version}
+use Rattle.campaign_server.specs.Plan.{Plan}
+
+-- its plan and image; where each device stands; the number of the fragment that is sent next, and the group's next frame count
+pub record ServerState : Type 0 where
+  pub plan : Plan
+  pub image : List ℕ
+  pub stages : List Stage
+  pub next : ℕ
+  pub count : ℕ
+
+-- counts begin with the group's MIN
+abbrev pub first_count : Option PlanGroup → ℕ
+first_count None = 0
+first_count (Some group) = group.min
+
+-- at its start every device is at version
+abbrev pub first_server : List ℕ → Plan → ServerState
+first_server image plan = record {
+  plan = plan;
+  image = image;
+  stages = replicate (length plan.devices) (At Version);
+  next = 1;
+  count = first_count plan.group;
+}
+
+-- the item with a number, counted from 1
+abbrev pub numbered : {A : Type 0} → List A → (n : ℕ) → Option A
+numbered items n = if n == 0 then None else slice_get items (n - 1)
+
+-- where a device stands: the ledger
+abbrev pub ledger : ServerState → (dev : ℕ) → Option Stage
+ledger server dev = numbered server.stages dev
+
+-- ---- what it sends
+
+-- a command on its way to devices
+pub record DownlinkCommand : Type 0 where
+  pub to : To
+  pub command : Command
+
+-- the one port that the tables give a command of a campaign
+abbrev pub port_of : Command → ℕ
+port_of command = slice_index_or (row command).ports 0 0
+
+-- as it is sent: its bytes, with reserved bits 0
+abbrev pub downlink_of : DownlinkCommand → Downlink
+downlink_of down = record { to = down.to; port = port_of down.command; payload = canonical down.command }

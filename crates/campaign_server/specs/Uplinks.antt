@@ -1,0 +1,32 @@
+-- An uplink comes to the server.
+use Rattle.std.specs.Prelude.{ℕ, ◌-◌, List, slice_set, Option, Some, None, Result, Ok, Err}
+use Rattle.wire_base.specs.declared.refusal.Direction.TheVariants.{Up}
+use Rattle.wire_base.specs.declared.refusal.Refusal.{Refusal}
+use Rattle.package_grammar.specs.declared.command.Command.{Command}
+use Rattle.trial_reading.specs.Reading.{Reading, reading_of}
+use Rattle.campaign_server.specs.declared.stage.Stage.{Stage}
+use Rattle.campaign_server.specs.Server.{ServerState, DownlinkCommand, ledger}
+use Rattle.campaign_server.specs.Asking.{by_unicast}
+use Rattle.campaign_server.specs.Answers.{stage_after_all}
+use Rattle.campaign_server.specs.Time.{time_answer}
+
+-- the server behind an uplink, and what it answers
+pub record UplinkStep : Type 0 where
+  pub server : ServerState
+  pub answer : Result (Option DownlinkCommand) Refusal
+
+-- the device's stage behind the commands
+abbrev pub with_answers : ServerState → (dev : ℕ) → List Command → Option Stage → ServerState
+with_answers server dev cs None = server
+with_answers server dev cs (Some stage) =
+    let new = stage_after_all server.plan server.image stage cs in
+    record server { stages = slice_set server.stages (dev - 1) new }
+
+-- commands move the device's stage, and ask for the time; a refused payload changes nothing
+unfoldable pub read_uplink : ServerState → (dev t : ℕ) → Reading → UplinkStep
+read_uplink server dev t (Ok cs) =
+    record { server = with_answers server dev cs (ledger server dev); answer = Ok (by_unicast (time_answer t cs)) }
+read_uplink server dev t (Err refusal) = record { server = server; answer = Err refusal }
+
+unfoldable pub uplink_step : ServerState → (dev port : ℕ) → List ℕ → (t : ℕ) → UplinkStep
+uplink_step server dev port payload t = read_uplink server dev t (reading_of port Up payload)

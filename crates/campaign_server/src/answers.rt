@@ -1,0 +1,288 @@
+//! Where an answer leads.
+
+ghost use Rattle.std.specs.Prelude.{◌≡◌, ◌≤◌, ◌+◌, length};
+ghost use Rattle.package_grammar.specs.declared.command.Command.TheVariants.{Sync, Cast};
+ghost use Rattle.campaign_server.specs.Answers.{stage_after, stage_after_all, unless_refused, where_own, worth, after_version, after_group, after_setup, after_window, after_status, after_upgrade, after_check, is_class_c, is_class_b};
+ghost use Rattle.campaign_server.specs.declared.stage.Stage.TheVariants.{At};
+
+use crate::plan::{Kind, Plan, PlanWindow};
+use crate::stage::{Request, Stage};
+use cast_wire::Cmd;
+use image_slots::{firmware, hardware};
+use package_grammar::Command;
+use trial_reading::Message;
+
+/// The session's index and the group's id that are asked of.
+const SESSION_INDEX: u8 = 0;
+
+const GROUP_ID: u8 = 0;
+
+/// The stage behind the commands of an uplink, one after another.
+pub fn stage_after_all(plan: &Plan, image: &[u8], stage: Stage, mut message: Message) -> Stage
+    requires { 49 ≤ length image.now }
+    ensures { result ≡ stage_after_all plan.now image.now stage message.entry.commands }
+{
+    let mut at = stage;
+    while let Some(command) = message.next() {
+        at = stage_after(plan, image, at, &command);
+    }
+    at
+}
+
+/// The stage behind a command of an uplink: an answer moves its own stage alone.
+#[tactic(auto, unfolding(crate::specs::Answers::stage_after))]
+fn stage_after(plan: &Plan, image: &[u8], stage: Stage, command: &Command) -> Stage
+    requires { 49 ≤ length image.now }
+    ensures { result ≡ stage_after plan.now image.now stage command.now }
+{
+    match stage {
+        Stage::At(request) => match command {
+            Command::Sync(cmd) => after_sync(plan, image, request, cmd),
+            Command::Cast(cmd) => after_cast(plan, image, request, cmd),
+        },
+        _ => stage,
+    }
+}
+
+/// The stage behind a command of firmware management.
+#[tactic(auto, unfolding(crate::specs::Answers::stage_after))]
+fn after_sync(plan: &Plan, image: &[u8], request: Request, cmd: &sync_wire::Cmd) -> Stage
+    requires { 49 ≤ length image.now }
+    ensures { result ≡ stage_after plan.now image.now (At request) (Sync cmd.now) }
+{
+    match (request, *cmd) {
+        (Request::Version, sync_wire::Cmd::DevVersionAns { hardware, .. }) => {
+            after_version(plan, image, hardware)
+        }
+        (Request::Image, sync_wire::Cmd::DevUpgradeImageAns { status, next }) => {
+            after_upgrade(image, status, next)
+        }
+        (Request::Reboot, sync_wire::Cmd::DevRebootCountdownAns { .. }) => Stage::At(
+            Request::Check,
+        ),
+        (Request::Check, sync_wire::Cmd::DevVersionAns { firmware, .. }) => {
+            after_check(image, firmware)
+        }
+        _ => Stage::At(request),
+    }
+}
+
+/// The stage behind a command of fragments or multicast setup.
+#[tactic(auto, unfolding(crate::specs::Answers::stage_after))]
+fn after_cast(plan: &Plan, image: &[u8], request: Request, cmd: &Cmd) -> Stage
+    ensures { result ≡ stage_after plan.now image.now (At request) (Cast cmd.now) }
+{
+    match (request, cmd) {
+        (Request::Group, Cmd::McGroupSetupAns { id, error }) => after_group(*id, *error),
+        (
+            Request::Fragments,
+            Cmd::FragSessionSetupAns {
+                index,
+                wrong_descriptor,
+                index_unsupported,
+                no_memory,
+                encoding_unsupported,
+            },
+        ) => {
+            let bits = worth(*wrong_descriptor, 8)
+                + worth(*index_unsupported, 4)
+                + worth(*no_memory, 2)
+                + worth(*encoding_unsupported, 1);
+            after_setup(plan, *index, bits)
+        }
+        (
+            Request::Window,
+            Cmd::McClassCSessionAns {
+                id,
+                undefined,
+                freq_error,
+                dr_error,
+                ..
+            },
+        ) => {
+            let own = is_class_c(plan.window);
+            after_window(own, *id, window_bits(*undefined, *freq_error, *dr_error))
+        }
+        (
+            Request::Window,
+            Cmd::McClassBSessionAns {
+                id,
+                undefined,
+                freq_error,
+                dr_error,
+                ..
+            },
+        ) => {
+            let own = is_class_b(plan.window);
+            after_window(own, *id, window_bits(*undefined, *freq_error, *dr_error))
+        }
+        (
+            Request::Status,
+            Cmd::FragSessionStatusAns {
+                index,
+                missing,
+                norows,
+                ..
+            },
+        ) => after_status(*index, *missing, *norows),
+        _ => Stage::At(request),
+    }
+}
+
+// ---- each answer
+
+/// 1 is other hardware than the image's; without a group its stages are left out.
+fn after_version(plan: &Plan, image: &[u8], hardware_told: u32) -> Stage
+    requires { 49 ≤ length image.now }
+    ensures { result ≡ after_version plan.now image.now hardware_told }
+{
+    let bits = if hardware_told == hardware(image) {
+        0
+    } else {
+        1
+    };
+    let moved = match plan.group {
+        Some(_) => Stage::At(Request::Group),
+        None => Stage::At(Request::Fragments),
+    };
+    unless_refused(Request::Version, bits, moved)
+}
+
+/// 4 is IDerror.
+fn after_group(id: u8, error: bool) -> Stage
+    ensures { result ≡ after_group id error }
+{
+    let moved = unless_refused(
+        Request::Group,
+        worth(error, 4),
+        Stage::At(Request::Fragments),
+    );
+    where_own(GROUP_ID, id, Request::Group, moved)
+}
+
+fn after_setup(plan: &Plan, index: u8, bits: u8) -> Stage
+    ensures { result ≡ after_setup plan.now index bits }
+{
+    let next = match plan.group {
+        Some(_) => Stage::At(Request::Window),
+        None => Stage::At(Request::Status),
+    };
+    let moved = unless_refused(Request::Fragments, bits, next);
+    where_own(SESSION_INDEX, index, Request::Fragments, moved)
+}
+
+/// The answer of the plan's own class alone.
+fn after_window(own: bool, id: u8, bits: u8) -> Stage
+    ensures { result ≡ after_window own id bits }
+{
+    if !own {
+        return Stage::At(Request::Window);
+    }
+    let moved = unless_refused(Request::Window, bits, Stage::At(Request::Status));
+    where_own(GROUP_ID, id, Request::Window, moved)
+}
+
+/// 1 is too little memory for the matrix; with fragments missing it stays.
+fn after_status(index: u8, missing: u8, norows: bool) -> Stage
+    ensures { result ≡ after_status index missing norows }
+{
+    let next = if missing == 0 {
+        Stage::At(Request::Image)
+    } else {
+        Stage::At(Request::Status)
+    };
+    let moved = unless_refused(Request::Status, worth(norows, 1), next);
+    where_own(SESSION_INDEX, index, Request::Status, moved)
+}
+
+/// 1 corrupt, 2 incompatible, 3 another version; 0 stays.
+fn after_upgrade(image: &[u8], status: u8, next: Option<u32>) -> Stage
+    requires { 49 ≤ length image.now }
+    ensures { result ≡ after_upgrade image.now status next }
+{
+    match next {
+        None => unless_refused(Request::Image, status, Stage::At(Request::Image)),
+        Some(version) => {
+            if version == firmware(image) {
+                Stage::At(Request::Reboot)
+            } else {
+                Stage::Refused {
+                    request: Request::Image,
+                    bits: status,
+                }
+            }
+        }
+    }
+}
+
+fn after_check(image: &[u8], firmware_told: u32) -> Stage
+    requires { 49 ≤ length image.now }
+    ensures { result ≡ after_check image.now firmware_told }
+{
+    if firmware_told == firmware(image) {
+        Stage::Updated
+    } else {
+        Stage::At(Request::Check)
+    }
+}
+
+// ---- parts
+
+/// A bit of a number, by its worth.
+fn worth(set: bool, n: u8) -> u8
+    ensures { result ≡ worth set n }
+{
+    if set { n } else { 0 }
+}
+
+/// The three error bits of a class session's answer.
+fn window_bits(undefined: bool, freq: bool, dr: bool) -> u8
+    ensures { result ≡ worth undefined 16 + worth freq 8 + worth dr 4 }
+{
+    worth(undefined, 16) + worth(freq, 8) + worth(dr, 4)
+}
+
+/// Refused with bits, unless there is none.
+fn unless_refused(request: Request, bits: u8, moved: Stage) -> Stage
+    ensures { result ≡ unless_refused request bits moved }
+{
+    if bits == 0 {
+        moved
+    } else {
+        Stage::Refused { request, bits }
+    }
+}
+
+/// An answer with another index or id moves nothing.
+fn where_own(own: u8, told: u8, request: Request, moved: Stage) -> Stage
+    ensures { result ≡ where_own own told request moved }
+{
+    if told == own {
+        moved
+    } else {
+        Stage::At(request)
+    }
+}
+
+fn is_class_c(window: Option<PlanWindow>) -> bool
+    ensures { result ≡ is_class_c window }
+{
+    match window {
+        Some(PlanWindow { kind: Kind::C, .. }) => true,
+        _ => false,
+    }
+}
+
+fn is_class_b(window: Option<PlanWindow>) -> bool
+    ensures { result ≡ is_class_b window }
+{
+    match window {
+        Some(
+            PlanWindow {
+                kind: Kind::B { .. },
+                ..
+            },
+        ) => true,
+        _ => false,
+    }
+}

@@ -1,0 +1,189 @@
+//! What the server asks of a device at each stage.
+
+ghost use Rattle.std.specs.Prelude.{◌≡◌, ◌≤◌, Some, true, length};
+ghost use Rattle.package_grammar.specs.declared.command.Command.TheVariants.{Sync, Cast};
+ghost use Rattle.sync_wire.specs.declared.cmd.Cmd.TheVariants.{DevVersionReq, DevUpgradeImageReq, DevRebootCountdownReq};
+ghost use Rattle.cast_wire.specs.declared.cmd.Cmd.TheVariants.{FragSessionStatusReq};
+ghost use Rattle.campaign_server.specs.Plan.{session_index};
+ghost use Rattle.aes_block.specs.Cipher.{IsBlock};
+ghost use Rattle.mc_keys.specs.Keys.{mc_root_key, mc_ke_key};
+ghost use Rattle.campaign_server.specs.Asking.{request_at, by_unicast, group_request, mask_of, fragments_request, window_request};
+ghost use Rattle.campaign_server.specs.Wrapping.{wrapped_key};
+ghost use Rattle.campaign_server.specs.ServerInside.{IsCut, WindowFits};
+ghost use Rattle.campaign_server.specs.Sent.{down_of, unicast_of};
+
+use crate::plan::{Kind, Plan, PlanGroup, PlanWindow};
+use crate::spelling::unicast;
+use crate::stage::{Request, Stage};
+use cast_wire::{Cmd, FRAGMENT_PORT, MULTICAST_PORT};
+use frag_encoder::Encoder;
+use image_slots::firmware;
+use mc_keys::{Key, kek, root_1_0, wrap_key};
+use package_grammar::{Command, Downlink};
+use sync_wire::FIRMWARE_PORT;
+
+/// The session's index and the group's id, the same on every device.
+const SESSION_INDEX: u8 = 0;
+
+const GROUP_ID: u8 = 0;
+
+/// The request of a stage, to a device with this GenAppKey; None at updated and refused.
+#[tactic(auto, unfolding(crate::specs::Asking::request_at))]
+pub fn request(plan: &Plan, encoder: &Encoder, key: &Key, stage: Stage) -> Option<Downlink>
+    requires { IsCut plan.now encoder.now }
+    ensures { result ≡ down_of (by_unicast (request_at plan.now encoder.now.file key.now stage)) }
+{
+    match stage {
+        Stage::At(Request::Version) => Some(version_request()),
+        Stage::At(Request::Group) => match plan.group {
+            Some(group) => Some(group_request(key, &group)),
+            None => None,
+        },
+        Stage::At(Request::Fragments) => Some(fragments_request(plan, encoder)),
+        Stage::At(Request::Window) => match plan.window {
+            Some(window) => Some(window_request(&window)),
+            None => None,
+        },
+        Stage::At(Request::Status) => Some(status_request()),
+        Stage::At(Request::Image) => Some(image_request()),
+        Stage::At(Request::Reboot) => Some(reboot_request()),
+        Stage::At(Request::Check) => Some(version_request()),
+        Stage::Updated => None,
+        Stage::Refused { .. } => None,
+    }
+}
+
+fn version_request() -> Downlink
+    ensures { result ≡ unicast_of (Sync DevVersionReq) }
+{
+    unicast(FIRMWARE_PORT, Command::Sync(sync_wire::Cmd::DevVersionReq))
+}
+
+fn image_request() -> Downlink
+    ensures { result ≡ unicast_of (Sync DevUpgradeImageReq) }
+{
+    unicast(
+        FIRMWARE_PORT,
+        Command::Sync(sync_wire::Cmd::DevUpgradeImageReq),
+    )
+}
+
+fn reboot_request() -> Downlink
+    ensures { result ≡ unicast_of (Sync (DevRebootCountdownReq 0)) }
+{
+    unicast(
+        FIRMWARE_PORT,
+        Command::Sync(sync_wire::Cmd::DevRebootCountdownReq { count: 0 }),
+    )
+}
+
+fn status_request() -> Downlink
+    ensures { result ≡ unicast_of (Cast (FragSessionStatusReq session_index true)) }
+{
+    unicast(
+        FRAGMENT_PORT,
+        Command::Cast(Cmd::FragSessionStatusReq {
+            index: SESSION_INDEX,
+            all: true,
+        }),
+    )
+}
+
+/// McGroupSetupReq, the group's key wrapped under the device's GenAppKey.
+fn group_request(gen_app_key: &Key, group: &PlanGroup) -> Downlink
+    ensures { result ≡ unicast_of (Cast (group_request gen_app_key.now group.now)) }
+{
+    let _addr = group.addr;
+    let _min = group.min;
+    let _max = group.max;
+    unicast(
+        MULTICAST_PORT,
+        Command::Cast(Cmd::McGroupSetupReq {
+            id: GROUP_ID,
+            addr: group.addr,
+            key: wrapped(gen_app_key, &group.key),
+            min: group.min,
+            max: group.max,
+        }),
+    )
+}
+
+/// McKey_encrypted for a device with this GenAppKey.
+fn wrapped(gen_app_key: &Key, key: &Key) -> Key
+    ensures value { result ≡ wrapped_key (mc_ke_key (mc_root_key gen_app_key.now)) key.now }
+    ensures sized { length result ≡ 16 }
+{
+    let block = wrap_key(&kek(&root_1_0(gen_app_key)), key);
+    told_block(&block);
+    block
+}
+
+/// A key is a block of the cipher.
+fn told_block(block: &Key)
+    ensures { IsBlock block.now }
+{
+    let _first = first_byte(block);
+}
+
+fn first_byte(block: &Key) -> u8 {
+    block[0]
+}
+
+/// FragSessionSetupReq for the image.
+#[tactic(auto, using(image_slots::proofs::ImageLemmas::image_bounds))]
+fn fragments_request(plan: &Plan, encoder: &Encoder) -> Downlink
+    requires { IsCut plan.now encoder.now }
+    ensures { result ≡ unicast_of (Cast (fragments_request plan.now encoder.now.file)) }
+{
+    unicast(
+        FRAGMENT_PORT,
+        Command::Cast(Cmd::FragSessionSetupReq {
+            index: SESSION_INDEX,
+            mask: mask(plan.group),
+            nb_frag: encoder.nb_frag(),
+            frag_size: plan.frag_size,
+            algo: 0,
+            delay: 0,
+            padding: encoder.padding(),
+            descriptor: firmware(encoder.file()),
+        }),
+    )
+}
+
+/// Group 0 may feed the session where there is one.
+fn mask(group: Option<PlanGroup>) -> u8
+    ensures value { result ≡ mask_of group }
+    ensures few { result ≤ 1 }
+{
+    match group {
+        Some(_) => 1,
+        None => 0,
+    }
+}
+
+/// McClassCSessionReq or McClassBSessionReq.
+fn window_request(window: &PlanWindow) -> Downlink
+    requires { WindowFits (Some window.now) }
+    ensures { result ≡ unicast_of (Cast (window_request window.now)) }
+{
+    let _start = window.start;
+    let _dr = window.dr;
+    let cmd = match window.kind {
+        Kind::C => Cmd::McClassCSessionReq {
+            id: GROUP_ID,
+            time: window.start,
+            timeout: window.timeout,
+            freq: window.freq,
+            dr: window.dr,
+        },
+        Kind::B { periodicity } => Cmd::McClassBSessionReq {
+            id: GROUP_ID,
+            time: window.start,
+            periodicity,
+            timeout: window.timeout,
+            freq: window.freq,
+            dr: window.dr,
+        },
+    };
+    unicast(MULTICAST_PORT, Command::Cast(cmd))
+}

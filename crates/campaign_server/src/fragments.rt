@@ -1,0 +1,116 @@
+//! What the server sends to all devices: fragments, and status requests.
+
+ghost use Rattle.std.specs.Prelude.{◌≡◌, ◌≤◌, ◌+◌, length, true, false};
+ghost use Rattle.frag_encoder.specs.Encoding.{nb_frag_of, data_of};
+ghost use Rattle.package_grammar.specs.declared.command.Command.TheVariants.{Cast};
+ghost use Rattle.cast_wire.specs.declared.cmd.Cmd.TheVariants.{DataFragment, FragSessionStatusReq};
+ghost use Rattle.campaign_server.specs.Plan.{session_index};
+ghost use Rattle.campaign_server.specs.Server.{downlink_of};
+ghost use Rattle.campaign_server.specs.Fragments.{receivers, has_no_count, next_count};
+ghost use Rattle.campaign_server.specs.ServerInside.{IsCut, IsCount};
+
+use crate::plan::{Plan, PlanGroup};
+use crate::spelling::sent;
+use arrayvec::ArrayVec;
+use cast_wire::{Cmd, FRAGMENT_PORT, FragmentBytes};
+use frag_encoder::{Beyond, Encoder};
+use package_grammar::{Command, Downlink, To};
+
+/// The session's index, the same on every device.
+const SESSION_INDEX: u8 = 0;
+
+/// Why no fragment is sent.
+#[derive(Clone, Copy, Debug, PartialEq, Eq)]
+pub enum Spent {
+    /// All were sent.
+    Fragments,
+    /// The group's frame counts are used up.
+    Counts,
+}
+
+/// The group, with the next frame count; without one any device, as unicast.
+pub fn receivers(group: Option<PlanGroup>, count: u32) -> To
+    ensures { result ≡ receivers group count }
+{
+    match group {
+        Some(group) => To::Group {
+            addr: group.addr,
+            count,
+        },
+        None => To::Unicast,
+    }
+}
+
+/// Whether the group's frame counts are used up.
+pub fn has_no_count(group: Option<PlanGroup>, count: u32) -> bool
+    ensures { result ≡ has_no_count group count }
+{
+    match group {
+        Some(group) => count == group.max,
+        None => false,
+    }
+}
+
+/// The frame count behind this one.
+pub fn next_count(group: Option<PlanGroup>, count: u32) -> u32
+    requires within { IsCount group count }
+    requires more { has_no_count group count ≡ false }
+    ensures value { result ≡ next_count group count }
+    ensures within { IsCount group result }
+{
+    match group {
+        Some(_) => count + 1,
+        None => count,
+    }
+}
+
+/// Fragment n of the image.
+pub fn data_fragment(plan: &Plan, encoder: &Encoder, to: To, n: u16) -> Downlink
+    requires cut { IsCut plan.now encoder.now }
+    requires first { 1 ≤ n }
+    requires last { n ≤ nb_frag_of (length encoder.now.file) plan.now.frag_size + plan.now.parity }
+    ensures { result ≡ downlink_of (record {
+      to = to;
+      command = Cast (DataFragment session_index n (data_of encoder.now.file plan.now.frag_size n));
+    }) }
+{
+    let bytes = encoded(plan, encoder, n);
+    sent(
+        to,
+        FRAGMENT_PORT,
+        &Command::Cast(Cmd::DataFragment {
+            index: SESSION_INDEX,
+            n,
+            bytes,
+        }),
+    )
+}
+
+/// The bytes of fragment n.
+fn encoded(plan: &Plan, encoder: &Encoder, n: u16) -> FragmentBytes
+    requires cut { IsCut plan.now encoder.now }
+    requires first { 1 ≤ n }
+    requires last { n ≤ nb_frag_of (length encoder.now.file) plan.now.frag_size + plan.now.parity }
+    ensures value { result ≡ data_of encoder.now.file plan.now.frag_size n }
+    ensures size { length result ≡ plan.now.frag_size }
+{
+    let mut part = ArrayVec::new();
+    match encoder.fragment(n, &mut part) {
+        Ok(()) => FragmentBytes::from_slice(part.as_slice()),
+        Err(Beyond) => unreachable!(),
+    }
+}
+
+/// FragSessionStatusReq to all, answered by devices that miss a fragment.
+pub fn status_of_all(to: To) -> Downlink
+    ensures { result ≡ downlink_of (record { to = to; command = Cast (FragSessionStatusReq session_index false) }) }
+{
+    sent(
+        to,
+        FRAGMENT_PORT,
+        &Command::Cast(Cmd::FragSessionStatusReq {
+            index: SESSION_INDEX,
+            all: false,
+        }),
+    )
+}

@@ -1,0 +1,22 @@
+//! The server of a firmware campaign over LoRaWAN (TS003 to TS006, 1.0.0; the order of its stages is this project's profile).
+//! What it asks of each device, what it sends to all, and where an answer leads is one step function over a record that its
+//! contracts see: the plan, the image, a stage for each device, the next fragment and the group's next frame count.
+//! When anything is sent, and whether it arrives, is left to the caller.
+#![tactic(auto)]
+
+mod answers;
+mod asking;
+mod checks;
+mod fragments;
+mod laws;
+mod plan;
+mod server;
+mod spelling;
+mod stage;
+mod time;
+
+pub use fragments::Spent;
+pub use laws::wrapped_key_is_the_one;
+pub use plan::{Field, Kind, Plan, PlanDevice, PlanGroup, PlanWindow};
+pub use server::{Server, ServerError};
+pub use stage::{Request, Stage};

@@ -1,0 +1,271 @@
+//! The server of a campaign: its record, and its calls.
+
+ghost use Rattle.std.specs.Prelude.{◌≡◌, ◌↔◌, ◌≤◌, Err, IfOk, None, Some, length, replicate, true};
+ghost use Rattle.image_slots.specs.Image.{is_image};
+ghost use Rattle.frag_encoder.specs.Encoding.{nb_frag_of, padding_of};
+ghost use Rattle.campaign_server.specs.declared.plan.Field.{Field};
+ghost use Rattle.campaign_server.specs.declared.stage.Stage.TheVariants.{At};
+ghost use Rattle.campaign_server.specs.declared.stage.Request.TheVariants.{Version};
+ghost use Rattle.campaign_server.specs.Plan.{bad_field};
+ghost use Rattle.campaign_server.specs.Server.{first_server, first_count, numbered, ledger};
+ghost use Rattle.campaign_server.specs.Asking.{request_of};
+ghost use Rattle.campaign_server.specs.Fragments.{last_fragment, next_fragment, after_fragment, status_to_all, after_status_to_all};
+ghost use Rattle.campaign_server.specs.Uplinks.{uplink_step};
+ghost use Rattle.campaign_server.specs.ServerInside.{IsPlan};
+ghost use Rattle.campaign_server.specs.Sent.{down_of, result_of, answer_of};
+
+use crate::answers::stage_after_all;
+use crate::asking::request;
+use crate::checks::bad_field;
+use crate::fragments::{Spent, data_fragment, has_no_count, next_count, receivers, status_of_all};
+use crate::plan::{Field, Plan, PlanDevice, PlanGroup};
+use crate::stage::{Request, Stage};
+use crate::time::time_answer;
+use frag_encoder::{Encoder, EncoderError};
+use package_grammar::Downlink;
+use std::alloc::{AllocError, Global};
+use std::marker::Model;
+use trial_reading::Message;
+use wire_base::{Direction, Refusal};
+
+/// Why there is no server.
+#[derive(Clone, Copy, Debug, PartialEq, Eq)]
+pub enum ServerError {
+    Memory,
+    /// The first field of the plan that is wrong.
+    BadPlan(Field),
+}
+
+impl From<AllocError> for ServerError {
+    ghost use Rattle.campaign_server.specs.declared.server.ServerError.TheVariants.{Memory};
+    ghost use Rattle.std.specs.Prelude.{◌≡◌};
+
+    ghost from_gives = { λ _ e. e ≡ Memory };
+
+    fn from(_: AllocError) -> Self {
+        ServerError::Memory
+    }
+}
+
+/// The server of a campaign. Its memory is taken in `new`.
+#[derive(Drop)]
+pub struct Server {
+    plan: Plan,
+    encoder: Encoder,
+    stages: Vec<Stage>,
+    next: u16,
+    count: u32,
+}
+
+impl Model for Server {
+    ghost use Rattle.campaign_server.specs.Server.{ServerState};
+    ghost use Rattle.campaign_server.specs.ServerInside.{IsServer};
+
+    ghost Value = { ServerState };
+
+    ghost view = { λ s. record { plan = s.plan; image = s.encoder.file; stages = s.stages.items; next = s.next; count = s.count } };
+
+    ghost invariant = { λ s. IsServer s.plan s.encoder s.stages.items s.next s.count };
+}
+
+impl Server {
+    #[tactic(auto, using(crate::proofs::Plans::starts, image_slots::proofs::ImageLemmas::image_bounds))]
+    /// The server at the start of a campaign that sends this image, which is to be an image file: each device is at version.
+    /// `BadPlan` comes exactly where a field of the plan is wrong, and names the first.
+    pub fn new(alloc: Global, plan: Plan, image: &[u8]) -> Result<Server, ServerError>
+        requires { is_image image.now ≡ true }
+        ensures ok { IfOk result (λ s. s ≡ first_server image.now plan) }
+        ensures bad_plan { (field : Field)
+            → (result ≡ Err (ServerError.BadPlan field)) ↔ (bad_field (length image.now) plan ≡ Some field) }
+        ensures fine { IfOk result (λ s. bad_field (length image.now) plan ≡ None) }
+    {
+        if let Some(field) = bad_field(image.len(), &plan) {
+            return Err(ServerError::BadPlan(field));
+        }
+        let encoder = match cut(alloc, &plan, image) {
+            Ok(encoder) => encoder,
+            Err(_) => return Err(ServerError::Memory),
+        };
+        let stages = match first_stages(alloc, plan.devices.len()) {
+            Ok(stages) => stages,
+            Err(_) => return Err(ServerError::Memory),
+        };
+        let count = first_count(plan.group);
+        Ok(Server {
+            plan,
+            encoder,
+            stages,
+            next: 1,
+            count,
+        })
+    }
+
+    /// What the server asks of device `dev` now, by unicast; None exactly at updated and refused.
+    pub fn ask(&self, dev: u8) -> Option<Downlink>
+        requires first { 1 ≤ dev }
+        requires last { dev ≤ length self.now.plan.devices }
+        ensures { result ≡ down_of (request_of self.now dev) }
+    {
+        let device = device_of(&self.plan, dev);
+        let stage = numbered(&self.stages, dev);
+        request(&self.plan, &self.encoder, &device.key, stage)
+    }
+
+    #[tactic(auto, unfolding(crate::specs::Fragments::next_fragment, crate::specs::Fragments::after_fragment))]
+    /// The next fragment to all devices: by the group with its next frame count, else as unicast.
+    /// `Fragments` comes exactly where all were sent, and else `Counts` exactly where the next count is the group's MAX;
+    /// nothing changes then.
+    pub fn next_fragment(&mut self) -> Result<Downlink, Spent>
+        ensures sent { result ≡ result_of (next_fragment self.old) }
+        ensures moved { self.new ≡ after_fragment self.old }
+    {
+        if self.next > self.encoder.nb_frag() + self.plan.parity {
+            return Err(Spent::Fragments);
+        }
+        let group = self.plan.group;
+        if has_no_count(group, self.count) {
+            return Err(Spent::Counts);
+        }
+        let to = receivers(group, self.count);
+        let down = data_fragment(&self.plan, &self.encoder, to, self.next);
+        self.count = next_count(group, self.count);
+        self.next += 1;
+        Ok(down)
+    }
+
+    #[tactic(auto, unfolding(crate::specs::Fragments::status_to_all, crate::specs::Fragments::after_status_to_all))]
+    /// FragSessionStatusReq to all devices, answered by those that miss a fragment: by the group with its next frame count,
+    /// else as unicast. None exactly where that count is the group's MAX.
+    pub fn status_all(&mut self) -> Option<Downlink>
+        ensures sent { result ≡ down_of (status_to_all self.old) }
+        ensures moved { self.new ≡ after_status_to_all self.old }
+    {
+        let group = self.plan.group;
+        if has_no_count(group, self.count) {
+            return None;
+        }
+        let down = status_of_all(receivers(group, self.count));
+        self.count = next_count(group, self.count);
+        Some(down)
+    }
+
+    /// An uplink of device `dev` comes on a port, at `t` ms of true time: its commands move the device's stage in order, and
+    /// the first AppTimeReq that needs an answer gets one. A payload that is no message is refused and changes nothing.
+    pub fn uplink(
+        &mut self,
+        dev: u8,
+        port: u8,
+        payload: &[u8],
+        t: u64,
+    ) -> Result<Option<Downlink>, Refusal>
+        requires first { 1 ≤ dev }
+        requires last { dev ≤ length self.old.plan.devices }
+        ensures moved { self.new ≡ (uplink_step self.old dev port payload.now t).server }
+        ensures answer { result ≡ answer_of (uplink_step self.old dev port payload.now t).answer }
+    {
+        let message = match Message::read(port, Direction::Up, payload) {
+            Ok(message) => message,
+            Err(refusal) => return Err(refusal),
+        };
+        let answer = time_answer(t, message.again());
+        let stage = numbered(&self.stages, dev);
+        let moved = stage_after_all(&self.plan, self.encoder.file(), stage, message);
+        self.stages[dev as usize - 1] = moved;
+        Ok(answer)
+    }
+
+    /// Where device `dev` stands.
+    pub fn ledger(&self, dev: u8) -> Stage
+        requires first { 1 ≤ dev }
+        requires last { dev ≤ length self.now.plan.devices }
+        ensures { Some result ≡ ledger self.now dev }
+    {
+        numbered(&self.stages, dev)
+    }
+
+    /// The image that is sent.
+    pub fn image(&self) -> &[u8]
+        ensures { result.now ≡ self.now.image }
+    {
+        self.encoder.file()
+    }
+
+    /// Bytes a fragment.
+    pub fn frag_size(&self) -> u8
+        ensures { result ≡ self.now.plan.frag_size }
+    {
+        self.plan.frag_size
+    }
+
+    /// The number of uncoded fragments, 1 to 1,024.
+    pub fn nb_frag(&self) -> u16
+        ensures { result ≡ nb_frag_of (length self.now.image) self.now.plan.frag_size }
+    {
+        self.encoder.nb_frag()
+    }
+
+    /// The zero bytes that fill the last uncoded fragment up.
+    pub fn padding(&self) -> u8
+        ensures { result ≡ padding_of (length self.now.image) self.now.plan.frag_size }
+    {
+        self.encoder.padding()
+    }
+
+    /// The coded fragments that follow the uncoded ones, 0 to 512.
+    pub fn parity(&self) -> u16
+        ensures { result ≡ self.now.plan.parity }
+    {
+        self.plan.parity
+    }
+}
+
+/// The encoder of an image, cut as the plan says.
+fn cut(alloc: Global, plan: &Plan, image: &[u8]) -> Result<Encoder, AllocError>
+    requires image { is_image image.now ≡ true }
+    requires fine { IsPlan (length image.now) plan.now }
+    ensures { IfOk result (λ e. e ≡ record { file = image.now; frag_size = plan.now.frag_size }) }
+{
+    match Encoder::new(alloc, image, plan.frag_size) {
+        Ok(encoder) => Ok(encoder),
+        Err(EncoderError::Memory) => Err(AllocError),
+        Err(EncoderError::BadSize) => unreachable!(),
+    }
+}
+
+/// So many devices at version.
+fn first_stages(alloc: Global, count: usize) -> Result<Vec<Stage>, AllocError>
+    requires { count ≤ 64 }
+    ensures { IfOk result (λ stages. stages.items ≡ replicate count (At Version)) }
+{
+    let mut stages = Vec::new(alloc);
+    stages.resize(count, Stage::At(Request::Version))?;
+    Ok(stages)
+}
+
+/// Frame counts begin with the group's MIN.
+fn first_count(group: Option<PlanGroup>) -> u32
+    ensures { result ≡ first_count group }
+{
+    match group {
+        Some(group) => group.min,
+        None => 0,
+    }
+}
+
+/// The device with a number of the plan.
+fn device_of(plan: &Plan, dev: u8) -> PlanDevice
+    requires first { 1 ≤ dev }
+    requires last { dev ≤ length plan.now.devices }
+    ensures { numbered plan.now.devices dev ≡ Some result }
+{
+    numbered(&plan.devices, dev)
+}
+
+/// The item with a number, counted from 1.
+fn numbered<T: Copy>(items: &[T], dev: u8) -> T
+    requires first { 1 ≤ dev }
+    requires last { dev ≤ length items.now }
+    ensures { numbered items.now dev ≡ Some result }
+{
+    items[dev as usize - 1]
+}

@@ -1,0 +1,33 @@
+//! Where a device stands with its server.
+
+/// What the server asks of a device: a row of its table.
+#[derive(Clone, Copy, Debug, PartialEq, Eq)]
+pub enum Request {
+    /// DevVersionReq, for the hardware.
+    Version,
+    /// McGroupSetupReq.
+    Group,
+    /// FragSessionSetupReq.
+    Fragments,
+    /// McClassCSessionReq or McClassBSessionReq.
+    Window,
+    /// FragSessionStatusReq.
+    Status,
+    /// DevUpgradeImageReq.
+    Image,
+    /// DevRebootCountdownReq.
+    Reboot,
+    /// DevVersionReq, for the firmware.
+    Check,
+}
+
+/// Where a device stands with its server.
+#[derive(Clone, Copy, Debug, PartialEq, Eq)]
+pub enum Stage {
+    /// The answer to this request is what moves it on.
+    At(Request),
+    /// It runs the campaign's image.
+    Updated,
+    /// An answer refused the campaign, with these bits.
+    Refused { request: Request, bits: u8 },
+}
