@@ -3,3 +3,4 @@ pub mod Known
 pub mod Only
 pub mod Spellings
 pub mod Writes
+pub mod SetupBits

@@ -1,2 +1,4 @@
+pub mod Limits
 pub mod Table
+pub mod SetupRefusal
 pub mod Reading

@@ -1,4 +1,7 @@
+//! Groups that exist, as a McGroupStatusAns lists them.
+
 ghost use Rattle.std.specs.Prelude.{◌≡◌, ◌<◌, ◌≤◌, [], ◌∷◌, ◌++◌, length};
+ghost use Rattle.cast_wire.specs.Limits.{max_groups};
 
 use arrayvec::ArrayVec;
 use std::marker::Model;
@@ -23,13 +26,14 @@ pub struct GroupList {
 
 impl Model for GroupList {
     ghost use Rattle.std.specs.Prelude.{List, ◌≤◌, length};
+    ghost use Rattle.cast_wire.specs.Limits.{max_groups};
     ghost use Rattle.cast_wire.specs.declared.group_list.GroupAddress.{GroupAddress};
 
     ghost Value = { List GroupAddress };
 
     ghost view = { λ l. l.groups.items };
 
-    ghost invariant = { λ l. length l.groups.items ≤ 4 };
+    ghost invariant = { λ l. length l.groups.items ≤ max_groups };
 
     ghost inverse = { λ groups. record { groups = record { items = groups } } };
 }
@@ -46,7 +50,7 @@ impl GroupList {
 
     /// Puts a group at the end.
     pub fn push(&mut self, group: GroupAddress)
-        requires { length self.old < MAX_GROUPS }
+        requires { length self.old < max_groups }
         ensures { self.new ≡ self.old ++ group ∷ [] }
     {
         self.groups.push(group);
@@ -55,7 +59,7 @@ impl GroupList {
     /// The groups.
     pub fn as_slice(&self) -> &[GroupAddress]
         ensures value { result.now ≡ self.now }
-        ensures within { length result.now ≤ MAX_GROUPS }
+        ensures within { length result.now ≤ max_groups }
     {
         self.groups.as_slice()
     }

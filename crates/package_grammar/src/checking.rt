@@ -1,10 +1,11 @@
 //! A payload of several commands.
 ghost use Rattle.std.specs.Prelude.{◌≡◌, ◌+◌, ◌≤◌, ℕ, List, length, IfOk, OnOk, IfErr, Ok};
+ghost use Rattle.wire_base.specs.Payload.{max_payload};
 ghost use Rattle.package_grammar.specs.declared.command.Command.{Command};
 ghost use Rattle.package_grammar.specs.Grammar.{SpellsTo, IsMessage, StopsFrom, IsStop};
 
 use crate::reading::read_one;
-use wire_base::{Direction, MAX_PAYLOAD, Refusal, Why};
+use wire_base::{Direction, MAX_PAYLOAD, Refusal};
 
 /// The number of commands of a payload, or where and why reading stops.
 pub fn check(port: u8, dir: Direction, bytes: &[u8]) -> Result<u16, Refusal>
@@ -13,16 +14,10 @@ pub fn check(port: u8, dir: Direction, bytes: &[u8]) -> Result<u16, Refusal>
     ensures stops { IfErr result (IsStop port dir bytes.now) }
 {
     if port < 200 || port > 203 {
-        return Err(Refusal {
-            at: 0,
-            why: Why::Port,
-        });
+        return Err(Refusal::port());
     }
     if bytes.len() > MAX_PAYLOAD {
-        return Err(Refusal {
-            at: MAX_PAYLOAD as u16,
-            why: Why::TooLong,
-        });
+        return Err(Refusal::too_long());
     }
     check_from(port, dir, bytes, 0)
 }
@@ -30,7 +25,7 @@ pub fn check(port: u8, dir: Direction, bytes: &[u8]) -> Result<u16, Refusal>
 /// The number of commands from a place on, or where and why reading stops.
 fn check_from(port: u8, dir: Direction, bytes: &[u8], at: u16) -> Result<u16, Refusal>
     requires within { at ≤ length bytes.now }
-    requires fits { length bytes.now ≤ 242 }
+    requires fits { length bytes.now ≤ max_payload }
     ensures message { IfOk result (λ n. (cs : List Command) × SpellsTo cs port dir bytes.now at (length bytes.now) × (n ≡ length cs)) }
     ensures only { (cs : List Command) → SpellsTo cs port dir bytes.now at (length bytes.now) → result ≡ Ok (length cs) }
     ensures stops { IfErr result (StopsFrom port dir bytes.now at) }

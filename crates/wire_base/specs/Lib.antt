@@ -1,3 +1,5 @@
 pub mod Numbers
 pub mod Payload
 pub mod Rows
+pub mod Tables
+pub mod Found
