@@ -2,3 +2,4 @@ pub mod Limits
 pub mod Table
 pub mod SetupRefusal
 pub mod Reading
+pub mod Tests

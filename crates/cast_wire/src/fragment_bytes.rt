@@ -1,6 +1,6 @@
 //! The bytes of one fragment.
 
-ghost use Rattle.std.specs.Prelude.{◌≡◌, ◌≤◌, length};
+ghost use Rattle.std.specs.Prelude.{◌≡◌, ◌≤◌, ◌↔◌, length, IsTrue};
 ghost use Rattle.cast_wire.specs.Limits.{max_fragment};
 
 use arrayvec::ArrayVec;
@@ -29,6 +29,13 @@ impl Model for FragmentBytes {
 }
 
 impl FragmentBytes {
+    /// Whether these bytes make a fragment: there are at most `MAX_FRAGMENT`.
+    pub fn fits(bytes: &[u8]) -> bool
+        ensures { IsTrue result ↔ (length bytes.now ≤ max_fragment) }
+    {
+        bytes.len() <= MAX_FRAGMENT
+    }
+
     /// A fragment of these bytes.
     pub fn from_slice(bytes: &[u8]) -> Self
         requires { length bytes.now ≤ max_fragment }

@@ -84,10 +84,10 @@ cast_is_port : (port : ℕ) → cast.IsPort port → IsPort port
 cast_is_port port (inl is) = record { low = omega (arith, is); high = omega (arith, is) }
 cast_is_port port (inr is) = record { low = omega (arith, is); high = omega (arith, is) }
 
-sync_known : (port : ℕ) (dir : Direction) (cid : ℕ) → sync.IsKnown port dir cid → IsKnown port dir cid
+pub sync_known : (port : ℕ) (dir : Direction) (cid : ℕ) → sync.IsKnown port dir cid → IsKnown port dir cid
 sync_known port dir cid known = record { command = Sync known.command; listed = known.listed; cid_is = known.cid_is }
 
-cast_known : (port : ℕ) (dir : Direction) (cid : ℕ) → cast.IsKnown port dir cid → IsKnown port dir cid
+pub cast_known : (port : ℕ) (dir : Direction) (cid : ℕ) → cast.IsKnown port dir cid → IsKnown port dir cid
 cast_known port dir cid known = record { command = Cast known.command; listed = known.listed; cid_is = known.cid_is }
 
 of_sync : (port : ℕ) (dir : Direction) (cid : ℕ) (command : Command) → 202 ≤ port → IsListed (row command) port dir → (row command).cid ≡ cid → sync.IsKnown port dir cid

@@ -3,3 +3,4 @@ pub mod Payload
 pub mod Rows
 pub mod Tables
 pub mod Found
+pub mod Tests
