@@ -9,7 +9,8 @@ use Rattle.wire_base.specs.Rows.{PartsLie, PartsFit}
 use Rattle.cast_wire.specs.declared.group_list.GroupAddress.{GroupAddress}
 use Rattle.cast_wire.specs.declared.cmd.Cmd.TheVariants.{McGroupStatusAns}
 use Rattle.cast_wire.specs.Table.{group_parts, Spells, IsValid}
-use Rattle.cast_wire.specs.Reading.{field, groups_at}
+use Rattle.wire_base.specs.Found.{field}
+use Rattle.cast_wire.specs.Reading.{groups_at}
 
 abbrev group_of : (id addr : ℕ) → GroupAddress
 group_of id addr = record { id = id; addr = addr }

@@ -3,3 +3,5 @@ pub mod Known
 pub mod Only
 pub mod Spellings
 pub mod Writes
+pub mod SetupBits
+pub mod Tests

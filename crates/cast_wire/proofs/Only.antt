@@ -10,7 +10,8 @@ use Rattle.cast_wire.specs.declared.cmd.Cmd.{Cmd}
 use Rattle.cast_wire.specs.declared.cmd.Cmd.TheVariants.{PackageVersionReq, PackageVersionAns, FragSessionStatusReq, FragSessionStatusAns, FragSessionSetupReq, FragSessionSetupAns, FragSessionDeleteReq, FragSessionDeleteAns, DataFragment, McGroupStatusReq, McGroupStatusAns, McGroupSetupReq, McGroupSetupAns, McGroupDeleteReq, McGroupDeleteAns, McClassCSessionReq, McClassCSessionAns, McClassBSessionReq, McClassBSessionAns}
 use Rattle.cast_wire.specs.declared.group_list.GroupAddress.{GroupAddress}
 use Rattle.cast_wire.specs.Table.{row, IsWhole, Spells}
-use Rattle.cast_wire.specs.Reading.{field, fragment_down, fragment_up, group_down, group_up, reading}
+use Rattle.wire_base.specs.Found.{field}
+use Rattle.cast_wire.specs.Reading.{fragment_down, fragment_up, group_down, group_up, reading}
 use Rattle.cast_wire.proofs.GroupLists.{groups_known}
 
 -- the one answer that a reading leaves

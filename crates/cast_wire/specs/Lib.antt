@@ -1,2 +1,5 @@
+pub mod Limits
 pub mod Table
+pub mod SetupRefusal
 pub mod Reading
+pub mod Tests

@@ -3,26 +3,13 @@
 use Rattle.std.specs.Prelude.{ℕ, zero, suc, ◌+◌, ◌*◌, ◌||◌, Bool, ◌==◌, nat_le, if◌then◌else◌, List, [], ◌∷◌, length, drop, slice_range, count_ones, Option, Some, None}
 use Rattle.wire_base.specs.declared.refusal.Direction.{Direction}
 use Rattle.wire_base.specs.declared.refusal.Direction.TheVariants.{Down, Up}
-use Rattle.wire_base.specs.Numbers.{number_at, bits_of}
+use Rattle.wire_base.specs.Numbers.{number_at}
+use Rattle.wire_base.specs.Found.{Found, within, field, is_set}
 use Rattle.cast_wire.specs.declared.cmd.Cmd.{Cmd}
 use Rattle.cast_wire.specs.declared.cmd.Cmd.TheVariants.{PackageVersionReq, PackageVersionAns, FragSessionStatusReq, FragSessionStatusAns, FragSessionSetupReq, FragSessionSetupAns, FragSessionDeleteReq, FragSessionDeleteAns, DataFragment, McGroupStatusReq, McGroupStatusAns, McGroupSetupReq, McGroupSetupAns, McGroupDeleteReq, McGroupDeleteAns, McClassCSessionReq, McClassCSessionAns, McClassBSessionReq, McClassBSessionAns}
 use Rattle.cast_wire.specs.declared.group_list.GroupAddress.{GroupAddress}
 
-abbrev pub Found : Type 0
-Found = Option (Cmd × ℕ)
-
--- the command and the place behind it, where so many bytes are there; else nothing
-abbrev pub within : List ℕ → (at len : ℕ) → Cmd → Found
-within bytes at len cmd = if nat_le (at + len) (length bytes) then Some (cmd, at + len) else None
-
--- some bits of the number in so many bytes, and one of its bits
-abbrev pub field : List ℕ → (at width low count : ℕ) → ℕ
-field bytes at width low count = bits_of (number_at bytes at width) low count
-
-abbrev pub is_set : List ℕ → (at bit : ℕ) → Bool
-is_set bytes at bit = field bytes at 1 bit 1 == 1
-
-unfoldable pub fragment_down : List ℕ → ℕ → Found
+unfoldable pub fragment_down : List ℕ → ℕ → Found Cmd
 fragment_down bytes at =
     if number_at bytes at 1 == 0x00 then within bytes at 1 PackageVersionReq
     else if number_at bytes at 1 == 0x01 then within bytes at 2 (FragSessionStatusReq (field bytes (at + 1) 1 1 2) (is_set bytes (at + 1) 0))
@@ -32,7 +19,7 @@ fragment_down bytes at =
     else if number_at bytes at 1 == 0x08 then (if nat_le (at + 4) (length bytes) then Some (DataFragment (field bytes (at + 1) 2 14 2) (field bytes (at + 1) 2 0 14) (drop (at + 3) bytes), length bytes) else None)
     else None
 
-unfoldable pub fragment_up : List ℕ → ℕ → Found
+unfoldable pub fragment_up : List ℕ → ℕ → Found Cmd
 fragment_up bytes at =
     if number_at bytes at 1 == 0x00 then within bytes at 3 (PackageVersionAns (number_at bytes (at + 1) 1) (number_at bytes (at + 2) 1))
     else if number_at bytes at 1 == 0x01 then within bytes at 5 (FragSessionStatusAns (field bytes (at + 1) 2 14 2) (field bytes (at + 1) 2 0 14) (number_at bytes (at + 3) 1) (is_set bytes (at + 4) 0))
@@ -40,7 +27,7 @@ fragment_up bytes at =
     else if number_at bytes at 1 == 0x03 then within bytes at 2 (FragSessionDeleteAns (field bytes (at + 1) 1 0 2) (is_set bytes (at + 1) 2))
     else None
 
-unfoldable pub group_down : List ℕ → ℕ → Found
+unfoldable pub group_down : List ℕ → ℕ → Found Cmd
 group_down bytes at =
     if number_at bytes at 1 == 0x00 then within bytes at 1 PackageVersionReq
     else if number_at bytes at 1 == 0x01 then within bytes at 2 (McGroupStatusReq (field bytes (at + 1) 1 0 4))
@@ -56,13 +43,13 @@ groups_at bytes at zero = []
 groups_at bytes at (suc count) = record { id = field bytes at 1 0 2; addr = number_at bytes (at + 1) 4 } ∷ groups_at bytes (at + 5) count
 
 -- an answer with an error bit, or with TimeToStart
-abbrev pub with_start : List ℕ → ℕ → (Option ℕ → Cmd) → Found
+abbrev pub with_start : List ℕ → ℕ → (Option ℕ → Cmd) → Found Cmd
 with_start bytes at cmd =
     if is_set bytes (at + 1) 4 || is_set bytes (at + 1) 3 || is_set bytes (at + 1) 2
     then within bytes at 2 (cmd None)
     else within bytes at 5 (cmd (Some (number_at bytes (at + 2) 3)))
 
-unfoldable pub group_up : List ℕ → ℕ → Found
+unfoldable pub group_up : List ℕ → ℕ → Found Cmd
 group_up bytes at =
     if number_at bytes at 1 == 0x00 then within bytes at 3 (PackageVersionAns (number_at bytes (at + 1) 1) (number_at bytes (at + 2) 1))
     else if number_at bytes at 1 == 0x01 then (if nat_le (at + 2) (length bytes)
@@ -75,6 +62,6 @@ group_up bytes at =
     else None
 
 -- the same for each port and direction
-abbrev pub reading : ℕ → Direction → List ℕ → ℕ → Found
+abbrev pub reading : ℕ → Direction → List ℕ → ℕ → Found Cmd
 reading port Down bytes at = if port == 200 then group_down bytes at else if port == 201 then fragment_down bytes at else None
 reading port Up bytes at = if port == 200 then group_up bytes at else if port == 201 then fragment_up bytes at else None

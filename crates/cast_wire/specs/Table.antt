@@ -2,15 +2,12 @@
 use Rattle.std.specs.Prelude.{◌≡◌, ℕ, ◌<◌, ◌≤◌, ◌⊎◌, ◌||◌, List, [], ◌∷◌, length, Option, Some, None, is_none, count_ones}
 use Rattle.wire_base.specs.declared.refusal.Direction.{Direction}
 use Rattle.wire_base.specs.declared.refusal.Direction.TheVariants.{Down, Up}
-use Rattle.wire_base.specs.declared.payload.TheConstants.{MAX_PAYLOAD}
 use Rattle.wire_base.specs.declared.refusal.Refusal.{Refusal}
-use Rattle.wire_base.specs.declared.refusal.Why.{Why}
-use Rattle.wire_base.specs.declared.refusal.Why.TheVariants.{Port, UnknownCommand, Short, TooLong}
-use Rattle.wire_base.specs.Numbers.{number_at}
-use Rattle.wire_base.specs.Rows.{Row, Part, bits, flag, number, packed, block, rest, IsListed, Lies, PartsFit, spelling}
+use Rattle.wire_base.specs.Rows.{Row, Part, bits, flag, number, packed, block, rest, spelling}
+use Rattle.wire_base.specs.Tables as table
 use Rattle.cast_wire.specs.declared.cmd.Cmd.{Cmd}
 use Rattle.cast_wire.specs.declared.group_list.GroupAddress.{GroupAddress}
-use Rattle.cast_wire.specs.declared.fragment_bytes.TheConstants.{MAX_FRAGMENT}
+use Rattle.cast_wire.specs.Limits.{max_fragment}
 use Rattle.cast_wire.specs.declared.cmd.Cmd.TheVariants.{PackageVersionReq, PackageVersionAns, FragSessionStatusReq, FragSessionStatusAns, FragSessionSetupReq, FragSessionSetupAns, FragSessionDeleteReq, FragSessionDeleteAns, DataFragment, McGroupStatusReq, McGroupStatusAns, McGroupSetupReq, McGroupSetupAns, McGroupDeleteReq, McGroupDeleteAns, McClassCSessionReq, McClassCSessionAns, McClassBSessionReq, McClassBSessionAns}
 
 -- the groups of a McGroupStatusAns: McGroupID and McAddr of each
@@ -48,23 +45,22 @@ row (McClassBSessionAns id undefined freq_error dr_error start) = record { ports
 -- what a command's fields must be together: a fragment has 1 to 239 bytes, there are as many groups as bits of the mask,
 -- a key has 16 bytes, and TimeToStart is there exactly where there is no error
 abbrev pub IsWhole : Cmd → Type 0
-IsWhole (DataFragment index n bytes) = (1 ≤ length bytes) × (length bytes ≤ MAX_FRAGMENT)
+IsWhole (DataFragment index n bytes) = (1 ≤ length bytes) × (length bytes ≤ max_fragment)
 IsWhole (McGroupStatusAns total mask groups) = length groups ≡ count_ones mask
 IsWhole (McGroupSetupReq id addr key min max) = length key ≡ 16
 IsWhole (McClassCSessionAns id undefined freq_error dr_error start) = is_none start ≡ (undefined || freq_error || dr_error)
 IsWhole (McClassBSessionAns id undefined freq_error dr_error start) = is_none start ≡ (undefined || freq_error || dr_error)
 IsWhole _ = Unit {0}
 
--- a valid command: each field fits the bits that the table gives it, and they fit together
-pub record IsValid (c : Cmd) : Type 0 where
-  pub fields : PartsFit (row c).parts
-  pub whole : IsWhole c
+-- ---- what every table says, of this one
 
--- in a payload of that port and direction the bytes from a place to the next spell the command; reserved bits are free
-pub record Spells (c : Cmd) (port : ℕ) (direction : Direction) (bytes : List ℕ) (at next : ℕ) : Type 0 where
-  pub listed : IsListed (row c) port direction
-  pub lies : Lies (row c) bytes at next
-  pub whole : IsWhole c
+-- a valid command
+abbrev pub IsValid : Cmd → Type 0
+IsValid c = table.IsValid row IsWhole c
+
+-- the bytes of a payload from a place to the next spell the command
+abbrev pub Spells : Cmd → ℕ → Direction → List ℕ → (at next : ℕ) → Type 0
+Spells c port direction bytes at next = table.Spells row IsWhole c port direction bytes at next
 
 -- the canonical spelling of a command: its bytes with reserved bits 0
 abbrev pub canonical : Cmd → List ℕ
@@ -75,30 +71,9 @@ abbrev pub IsPort : ℕ → Type 0
 IsPort port = (port ≡ 200) ⊎ (port ≡ 201)
 
 -- some command of the table for that port and direction has this identifier
-pub record IsKnown (port : ℕ) (direction : Direction) (cid : ℕ) : Type 0 where
-  pub command : Cmd
-  pub listed : IsListed (row command) port direction
-  pub cid_is : (row command).cid ≡ cid
+abbrev pub IsKnown : ℕ → Direction → ℕ → Type 0
+IsKnown port direction cid = table.IsKnown row port direction cid
 
--- a payload of one of the two packages that isn't too long
-abbrev pub IsRead : ℕ → List ℕ → Type 0
-IsRead port bytes = IsPort port × (length bytes ≤ MAX_PAYLOAD)
-
--- when a place where no command is spelled is refused for a reason
-abbrev pub IsRefused : ℕ → Direction → List ℕ → (at : ℕ) → Why → Type 0
-IsRefused port direction bytes at Port = ¬ IsPort port
-IsRefused port direction bytes at TooLong = IsPort port × (MAX_PAYLOAD < length bytes)
-IsRefused port direction bytes at UnknownCommand = IsRead port bytes × ¬ IsKnown port direction (number_at bytes at 1)
-IsRefused port direction bytes at Short = IsRead port bytes × IsKnown port direction (number_at bytes at 1)
-
--- the place that a refusal names
-abbrev pub place_of : List ℕ → (at : ℕ) → Why → ℕ
-place_of bytes at Port = 0
-place_of bytes at TooLong = MAX_PAYLOAD
-place_of bytes at UnknownCommand = at
-place_of bytes at Short = length bytes
-
--- a refusal names its reason and its place
-pub record HasCause (port : ℕ) (direction : Direction) (bytes : List ℕ) (at : ℕ) (refusal : Refusal) : Type 0 where
-  pub why : IsRefused port direction bytes at refusal.why
-  pub place : refusal.at ≡ place_of bytes at refusal.why
+-- the refusal of a place where no command is spelled
+abbrev pub IsRefusal : ℕ → Direction → List ℕ → (at : ℕ) → Refusal → Type 0
+IsRefusal port direction bytes at refusal = table.IsRefusal row IsPort port direction bytes at refusal

@@ -1,4 +1,7 @@
-ghost use Rattle.std.specs.Prelude.{◌≡◌, ◌≤◌, length};
+//! The bytes of one fragment.
+
+ghost use Rattle.std.specs.Prelude.{◌≡◌, ◌≤◌, ◌↔◌, length, IsTrue};
+ghost use Rattle.cast_wire.specs.Limits.{max_fragment};
 
 use arrayvec::ArrayVec;
 use std::marker::Model;
@@ -14,20 +17,28 @@ pub struct FragmentBytes {
 
 impl Model for FragmentBytes {
     ghost use Rattle.std.specs.Prelude.{ℕ, List, ◌≤◌, length};
+    ghost use Rattle.cast_wire.specs.Limits.{max_fragment};
 
     ghost Value = { List ℕ };
 
     ghost view = { λ f. f.bytes.items };
 
-    ghost invariant = { λ f. length f.bytes.items ≤ 239 };
+    ghost invariant = { λ f. length f.bytes.items ≤ max_fragment };
 
     ghost inverse = { λ bytes. record { bytes = record { items = bytes } } };
 }
 
 impl FragmentBytes {
+    /// Whether these bytes make a fragment: there are at most `MAX_FRAGMENT`.
+    pub fn fits(bytes: &[u8]) -> bool
+        ensures { IsTrue result ↔ (length bytes.now ≤ max_fragment) }
+    {
+        bytes.len() <= MAX_FRAGMENT
+    }
+
     /// A fragment of these bytes.
     pub fn from_slice(bytes: &[u8]) -> Self
-        requires { length bytes.now ≤ MAX_FRAGMENT }
+        requires { length bytes.now ≤ max_fragment }
         ensures { result ≡ bytes.now }
     {
         let mut fragment = FragmentBytes {
@@ -40,7 +51,7 @@ impl FragmentBytes {
     /// The bytes.
     pub fn as_slice(&self) -> &[u8]
         ensures value { result.now ≡ self.now }
-        ensures within { length result.now ≤ MAX_FRAGMENT }
+        ensures within { length result.now ≤ max_fragment }
     {
         self.bytes.as_slice()
     }

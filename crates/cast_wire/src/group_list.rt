@@ -1,4 +1,7 @@
-ghost use Rattle.std.specs.Prelude.{◌≡◌, ◌<◌, ◌≤◌, [], ◌∷◌, ◌++◌, length};
+//! Groups that exist, as a McGroupStatusAns lists them.
+
+ghost use Rattle.std.specs.Prelude.{◌≡◌, ◌<◌, ◌≤◌, ◌↔◌, [], ◌∷◌, ◌++◌, length, IsTrue};
+ghost use Rattle.cast_wire.specs.Limits.{max_groups};
 
 use arrayvec::ArrayVec;
 use std::marker::Model;
@@ -23,13 +26,14 @@ pub struct GroupList {
 
 impl Model for GroupList {
     ghost use Rattle.std.specs.Prelude.{List, ◌≤◌, length};
+    ghost use Rattle.cast_wire.specs.Limits.{max_groups};
     ghost use Rattle.cast_wire.specs.declared.group_list.GroupAddress.{GroupAddress};
 
     ghost Value = { List GroupAddress };
 
     ghost view = { λ l. l.groups.items };
 
-    ghost invariant = { λ l. length l.groups.items ≤ 4 };
+    ghost invariant = { λ l. length l.groups.items ≤ max_groups };
 
     ghost inverse = { λ groups. record { groups = record { items = groups } } };
 }
@@ -44,9 +48,16 @@ impl GroupList {
         }
     }
 
+    /// Whether there are `MAX_GROUPS` groups, so that no more can be put.
+    pub fn is_full(&self) -> bool
+        ensures { IsTrue result ↔ (length self.now ≡ max_groups) }
+    {
+        self.groups.len() == MAX_GROUPS
+    }
+
     /// Puts a group at the end.
     pub fn push(&mut self, group: GroupAddress)
-        requires { length self.old < MAX_GROUPS }
+        requires { length self.old < max_groups }
         ensures { self.new ≡ self.old ++ group ∷ [] }
     {
         self.groups.push(group);
@@ -55,7 +66,7 @@ impl GroupList {
     /// The groups.
     pub fn as_slice(&self) -> &[GroupAddress]
         ensures value { result.now ≡ self.now }
-        ensures within { length result.now ≤ MAX_GROUPS }
+        ensures within { length result.now ≤ max_groups }
     {
         self.groups.as_slice()
     }

@@ -13,7 +13,7 @@ mod laws;
 mod reading;
 mod reading_fragments;
 mod reading_groups;
-mod refusals;
+mod setup_refusal;
 mod validity;
 mod writing;
 mod writing_fragments;
@@ -23,8 +23,11 @@ pub use cmd::Cmd;
 pub use fragment_bytes::{FragmentBytes, MAX_FRAGMENT};
 pub use group_list::{GroupAddress, GroupList, MAX_GROUPS};
 pub use ids::{FRAGMENT_PORT, MULTICAST_PORT};
-pub use laws::{no_spelling_begins_another, place_has_one_spelling, written_is_read};
+pub use laws::{
+    no_spelling_begins_another, place_has_one_spelling, refusal_bits_are_kept, written_is_read,
+};
 pub use reading::read_one;
+pub use setup_refusal::{refusal_bits, setup_answer};
 pub use validity::valid;
 pub use writing::write_one;
 

@@ -2,7 +2,8 @@
 
 ghost use Rattle.std.specs.Prelude.{◌≡◌, ℕ, ◌+◌, ◌<◌, ◌≤◌, length, IfOk, IfErr, Ok};
 ghost use Rattle.std.specs.Result.{result_ok};
-ghost use Rattle.cast_wire.specs.Table.{Spells, IsValid, HasCause};
+ghost use Rattle.wire_base.specs.Payload.{max_payload};
+ghost use Rattle.cast_wire.specs.Table.{Spells, IsValid, IsRefusal};
 ghost use Rattle.cast_wire.specs.Reading.{fragment_down, fragment_up};
 
 use crate::cmd::Cmd;
@@ -11,25 +12,24 @@ use crate::ids::{
     DATA_FRAGMENT, FRAGMENT_HEAD_LEN, NO_BODY_LEN, ONE_BYTE_LEN, PACKAGE_VERSION, SESSION_DELETE,
     SESSION_SETUP, SESSION_STATUS, SETUP_REQUEST_LEN, STATUS_ANSWER_LEN, VERSION_ANSWER_LEN,
 };
-use crate::refusals::{cut_off, unknown};
-use wire_base::{Direction, MAX_PAYLOAD, Refusal, Why, u8_at, u16_at, u32_at};
+use wire_base::{Direction, Refusal, u8_at, u16_at, u32_at};
 
 #[tactic(auto, using(crate::proofs::Known::known), unfolding(crate::specs::Reading::fragment_down))]
 pub fn read_fragment_down(bytes: &[u8], at: u16) -> Result<(Cmd, u16), Refusal>
     requires inside { at < length bytes.now }
-    requires fits { length bytes.now ≤ MAX_PAYLOAD }
+    requires fits { length bytes.now ≤ max_payload }
     ensures found { IfOk result (λ r. Spells r.0 201 Direction.Down bytes.now at r.1) }
     ensures exact { result_ok result ≡ fragment_down bytes.now at }
     ensures valid { IfOk result (λ r. IsValid r.0) }
     ensures moves { IfOk result (λ r. at < r.1) }
-    ensures stops { IfErr result (HasCause 201 Direction.Down bytes.now at) }
+    ensures stops { IfErr result (IsRefusal 201 Direction.Down bytes.now at) }
 {
     let end = bytes.len() as u16;
     match u8_at(bytes, at) {
         PACKAGE_VERSION => Ok((Cmd::PackageVersionReq, at + NO_BODY_LEN)),
         SESSION_STATUS => {
             if end < at + ONE_BYTE_LEN {
-                return Err(cut_off(bytes));
+                return Err(Refusal::short(bytes));
             }
             let fields = u8_at(bytes, at + 1);
             let request = Cmd::FragSessionStatusReq {
@@ -40,7 +40,7 @@ pub fn read_fragment_down(bytes: &[u8], at: u16) -> Result<(Cmd, u16), Refusal>
         }
         SESSION_SETUP => {
             if end < at + SETUP_REQUEST_LEN {
-                return Err(cut_off(bytes));
+                return Err(Refusal::short(bytes));
             }
             let session = u8_at(bytes, at + 1);
             let control = u8_at(bytes, at + 5);
@@ -58,14 +58,14 @@ pub fn read_fragment_down(bytes: &[u8], at: u16) -> Result<(Cmd, u16), Refusal>
         }
         SESSION_DELETE => {
             if end < at + ONE_BYTE_LEN {
-                return Err(cut_off(bytes));
+                return Err(Refusal::short(bytes));
             }
             let index = u8_at(bytes, at + 1) & 3;
             Ok((Cmd::FragSessionDeleteReq { index }, at + ONE_BYTE_LEN))
         }
         DATA_FRAGMENT => {
             if end <= at + FRAGMENT_HEAD_LEN {
-                return Err(cut_off(bytes));
+                return Err(Refusal::short(bytes));
             }
             let numbers = u16_at(bytes, at + 1);
             let fragment = Cmd::DataFragment {
@@ -75,25 +75,25 @@ pub fn read_fragment_down(bytes: &[u8], at: u16) -> Result<(Cmd, u16), Refusal>
             };
             Ok((fragment, end))
         }
-        _ => Err(unknown(at)),
+        _ => Err(Refusal::unknown(at)),
     }
 }
 
 #[tactic(auto, using(crate::proofs::Known::known), unfolding(crate::specs::Reading::fragment_up))]
 pub fn read_fragment_up(bytes: &[u8], at: u16) -> Result<(Cmd, u16), Refusal>
     requires inside { at < length bytes.now }
-    requires fits { length bytes.now ≤ MAX_PAYLOAD }
+    requires fits { length bytes.now ≤ max_payload }
     ensures found { IfOk result (λ r. Spells r.0 201 Direction.Up bytes.now at r.1) }
     ensures exact { result_ok result ≡ fragment_up bytes.now at }
     ensures valid { IfOk result (λ r. IsValid r.0) }
     ensures moves { IfOk result (λ r. at < r.1) }
-    ensures stops { IfErr result (HasCause 201 Direction.Up bytes.now at) }
+    ensures stops { IfErr result (IsRefusal 201 Direction.Up bytes.now at) }
 {
     let end = bytes.len() as u16;
     match u8_at(bytes, at) {
         PACKAGE_VERSION => {
             if end < at + VERSION_ANSWER_LEN {
-                return Err(cut_off(bytes));
+                return Err(Refusal::short(bytes));
             }
             let version = Cmd::PackageVersionAns {
                 identifier: u8_at(bytes, at + 1),
@@ -103,7 +103,7 @@ pub fn read_fragment_up(bytes: &[u8], at: u16) -> Result<(Cmd, u16), Refusal>
         }
         SESSION_STATUS => {
             if end < at + STATUS_ANSWER_LEN {
-                return Err(cut_off(bytes));
+                return Err(Refusal::short(bytes));
             }
             let numbers = u16_at(bytes, at + 1);
             let answer = Cmd::FragSessionStatusAns {
@@ -116,7 +116,7 @@ pub fn read_fragment_up(bytes: &[u8], at: u16) -> Result<(Cmd, u16), Refusal>
         }
         SESSION_SETUP => {
             if end < at + ONE_BYTE_LEN {
-                return Err(cut_off(bytes));
+                return Err(Refusal::short(bytes));
             }
             let status = u8_at(bytes, at + 1);
             let answer = Cmd::FragSessionSetupAns {
@@ -130,7 +130,7 @@ pub fn read_fragment_up(bytes: &[u8], at: u16) -> Result<(Cmd, u16), Refusal>
         }
         SESSION_DELETE => {
             if end < at + ONE_BYTE_LEN {
-                return Err(cut_off(bytes));
+                return Err(Refusal::short(bytes));
             }
             let status = u8_at(bytes, at + 1);
             let answer = Cmd::FragSessionDeleteAns {
@@ -139,6 +139,6 @@ pub fn read_fragment_up(bytes: &[u8], at: u16) -> Result<(Cmd, u16), Refusal>
             };
             Ok((answer, at + ONE_BYTE_LEN))
         }
-        _ => Err(unknown(at)),
+        _ => Err(Refusal::unknown(at)),
     }
 }

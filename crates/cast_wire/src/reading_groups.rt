@@ -2,8 +2,10 @@
 
 ghost use Rattle.std.specs.Prelude.{◌≡◌, ℕ, ◌+◌, ◌<◌, ◌≤◌, ◌*◌, length, slice_range, IfOk, IfErr, Ok};
 ghost use Rattle.std.specs.Result.{result_ok};
-ghost use Rattle.cast_wire.specs.Table.{Spells, IsValid, HasCause};
+ghost use Rattle.wire_base.specs.Payload.{max_payload};
+ghost use Rattle.cast_wire.specs.Table.{Spells, IsValid, IsRefusal};
 ghost use Rattle.cast_wire.specs.Reading.{group_down, group_up, groups_at};
+ghost use Rattle.cast_wire.specs.Limits.{max_groups};
 
 use crate::cmd::Cmd;
 use crate::group_list::{GroupAddress, GroupList};
@@ -12,32 +14,31 @@ use crate::ids::{
     GROUP_SETUP, GROUP_SETUP_REQUEST_LEN, GROUP_STATUS, GROUPS_HEAD_LEN, NO_BODY_LEN, ONE_BYTE_LEN,
     PACKAGE_VERSION, START_ANSWER_LEN, VERSION_ANSWER_LEN,
 };
-use crate::refusals::{cut_off, unknown};
-use wire_base::{Direction, MAX_PAYLOAD, Refusal, Why, u8_at, u24_at, u32_at};
+use wire_base::{Direction, Refusal, u8_at, u24_at, u32_at};
 
 #[tactic(auto, using(crate::proofs::Known::known), unfolding(crate::specs::Reading::group_down))]
 pub fn read_group_down(bytes: &[u8], at: u16) -> Result<(Cmd, u16), Refusal>
     requires inside { at < length bytes.now }
-    requires fits { length bytes.now ≤ MAX_PAYLOAD }
+    requires fits { length bytes.now ≤ max_payload }
     ensures found { IfOk result (λ r. Spells r.0 200 Direction.Down bytes.now at r.1) }
     ensures exact { result_ok result ≡ group_down bytes.now at }
     ensures valid { IfOk result (λ r. IsValid r.0) }
     ensures moves { IfOk result (λ r. at < r.1) }
-    ensures stops { IfErr result (HasCause 200 Direction.Down bytes.now at) }
+    ensures stops { IfErr result (IsRefusal 200 Direction.Down bytes.now at) }
 {
     let end = bytes.len() as u16;
     match u8_at(bytes, at) {
         PACKAGE_VERSION => Ok((Cmd::PackageVersionReq, at + NO_BODY_LEN)),
         GROUP_STATUS => {
             if end < at + ONE_BYTE_LEN {
-                return Err(cut_off(bytes));
+                return Err(Refusal::short(bytes));
             }
             let mask = u8_at(bytes, at + 1) & 15;
             Ok((Cmd::McGroupStatusReq { mask }, at + ONE_BYTE_LEN))
         }
         GROUP_SETUP => {
             if end < at + GROUP_SETUP_REQUEST_LEN {
-                return Err(cut_off(bytes));
+                return Err(Refusal::short(bytes));
             }
             let setup = Cmd::McGroupSetupReq {
                 id: u8_at(bytes, at + 1) & 3,
@@ -50,14 +51,14 @@ pub fn read_group_down(bytes: &[u8], at: u16) -> Result<(Cmd, u16), Refusal>
         }
         GROUP_DELETE => {
             if end < at + ONE_BYTE_LEN {
-                return Err(cut_off(bytes));
+                return Err(Refusal::short(bytes));
             }
             let id = u8_at(bytes, at + 1) & 3;
             Ok((Cmd::McGroupDeleteReq { id }, at + ONE_BYTE_LEN))
         }
         CLASS_C_SESSION => {
             if end < at + CLASS_SESSION_REQUEST_LEN {
-                return Err(cut_off(bytes));
+                return Err(Refusal::short(bytes));
             }
             let request = Cmd::McClassCSessionReq {
                 id: u8_at(bytes, at + 1) & 3,
@@ -70,7 +71,7 @@ pub fn read_group_down(bytes: &[u8], at: u16) -> Result<(Cmd, u16), Refusal>
         }
         CLASS_B_SESSION => {
             if end < at + CLASS_SESSION_REQUEST_LEN {
-                return Err(cut_off(bytes));
+                return Err(Refusal::short(bytes));
             }
             let slots = u8_at(bytes, at + 6);
             let request = Cmd::McClassBSessionReq {
@@ -83,25 +84,25 @@ pub fn read_group_down(bytes: &[u8], at: u16) -> Result<(Cmd, u16), Refusal>
             };
             Ok((request, at + CLASS_SESSION_REQUEST_LEN))
         }
-        _ => Err(unknown(at)),
+        _ => Err(Refusal::unknown(at)),
     }
 }
 
 #[tactic(auto, using(crate::proofs::Known::known), unfolding(crate::specs::Reading::group_up))]
 pub fn read_group_up(bytes: &[u8], at: u16) -> Result<(Cmd, u16), Refusal>
     requires inside { at < length bytes.now }
-    requires fits { length bytes.now ≤ MAX_PAYLOAD }
+    requires fits { length bytes.now ≤ max_payload }
     ensures found { IfOk result (λ r. Spells r.0 200 Direction.Up bytes.now at r.1) }
     ensures exact { result_ok result ≡ group_up bytes.now at }
     ensures valid { IfOk result (λ r. IsValid r.0) }
     ensures moves { IfOk result (λ r. at < r.1) }
-    ensures stops { IfErr result (HasCause 200 Direction.Up bytes.now at) }
+    ensures stops { IfErr result (IsRefusal 200 Direction.Up bytes.now at) }
 {
     let end = bytes.len() as u16;
     match u8_at(bytes, at) {
         PACKAGE_VERSION => {
             if end < at + VERSION_ANSWER_LEN {
-                return Err(cut_off(bytes));
+                return Err(Refusal::short(bytes));
             }
             let version = Cmd::PackageVersionAns {
                 identifier: u8_at(bytes, at + 1),
@@ -111,13 +112,13 @@ pub fn read_group_up(bytes: &[u8], at: u16) -> Result<(Cmd, u16), Refusal>
         }
         GROUP_STATUS => {
             if end < at + GROUPS_HEAD_LEN {
-                return Err(cut_off(bytes));
+                return Err(Refusal::short(bytes));
             }
             let fields = u8_at(bytes, at + 1);
             let mask = fields & 15;
             let count = mask.count_ones() as u16;
             if end < at + (GROUPS_HEAD_LEN + GROUP_LEN * count) {
-                return Err(cut_off(bytes));
+                return Err(Refusal::short(bytes));
             }
             let groups = groups_at(bytes, at + GROUPS_HEAD_LEN, count);
             let answer = Cmd::McGroupStatusAns {
@@ -129,7 +130,7 @@ pub fn read_group_up(bytes: &[u8], at: u16) -> Result<(Cmd, u16), Refusal>
         }
         GROUP_SETUP => {
             if end < at + ONE_BYTE_LEN {
-                return Err(cut_off(bytes));
+                return Err(Refusal::short(bytes));
             }
             let status = u8_at(bytes, at + 1);
             let answer = Cmd::McGroupSetupAns {
@@ -140,7 +141,7 @@ pub fn read_group_up(bytes: &[u8], at: u16) -> Result<(Cmd, u16), Refusal>
         }
         GROUP_DELETE => {
             if end < at + ONE_BYTE_LEN {
-                return Err(cut_off(bytes));
+                return Err(Refusal::short(bytes));
             }
             let status = u8_at(bytes, at + 1);
             let answer = Cmd::McGroupDeleteAns {
@@ -151,7 +152,7 @@ pub fn read_group_up(bytes: &[u8], at: u16) -> Result<(Cmd, u16), Refusal>
         }
         CLASS_C_SESSION => {
             if end < at + ONE_BYTE_LEN {
-                return Err(cut_off(bytes));
+                return Err(Refusal::short(bytes));
             }
             let status = u8_at(bytes, at + 1);
             let (id, undefined) = (status & 3, status >> 4 & 1 == 1);
@@ -167,7 +168,7 @@ pub fn read_group_up(bytes: &[u8], at: u16) -> Result<(Cmd, u16), Refusal>
                 return Ok((answer, at + ONE_BYTE_LEN));
             }
             if end < at + START_ANSWER_LEN {
-                return Err(cut_off(bytes));
+                return Err(Refusal::short(bytes));
             }
             let start = Some(u24_at(bytes, at + 2));
             let answer = Cmd::McClassCSessionAns {
@@ -181,7 +182,7 @@ pub fn read_group_up(bytes: &[u8], at: u16) -> Result<(Cmd, u16), Refusal>
         }
         CLASS_B_SESSION => {
             if end < at + ONE_BYTE_LEN {
-                return Err(cut_off(bytes));
+                return Err(Refusal::short(bytes));
             }
             let status = u8_at(bytes, at + 1);
             let (id, undefined) = (status & 3, status >> 4 & 1 == 1);
@@ -197,7 +198,7 @@ pub fn read_group_up(bytes: &[u8], at: u16) -> Result<(Cmd, u16), Refusal>
                 return Ok((answer, at + ONE_BYTE_LEN));
             }
             if end < at + START_ANSWER_LEN {
-                return Err(cut_off(bytes));
+                return Err(Refusal::short(bytes));
             }
             let start = Some(u24_at(bytes, at + 2));
             let answer = Cmd::McClassBSessionAns {
@@ -209,15 +210,15 @@ pub fn read_group_up(bytes: &[u8], at: u16) -> Result<(Cmd, u16), Refusal>
             };
             Ok((answer, at + START_ANSWER_LEN))
         }
-        _ => Err(unknown(at)),
+        _ => Err(Refusal::unknown(at)),
     }
 }
 
 /// The groups of a McGroupStatusAns.
 fn groups_at(bytes: &[u8], at: u16, count: u16) -> GroupList
     requires room { at + 5 * count ≤ length bytes.now }
-    requires few { count ≤ 4 }
-    requires fits { length bytes.now ≤ MAX_PAYLOAD }
+    requires few { count ≤ max_groups }
+    requires fits { length bytes.now ≤ max_payload }
     ensures { result ≡ groups_at bytes.now at count }
 {
     let mut groups = GroupList::new();
@@ -234,7 +235,7 @@ fn groups_at(bytes: &[u8], at: u16, count: u16) -> GroupList
 /// The 16 bytes of a key.
 fn key_at(bytes: &[u8], at: u16) -> [u8; 16]
     requires room { at + 16 ≤ length bytes.now }
-    requires fits { length bytes.now ≤ MAX_PAYLOAD }
+    requires fits { length bytes.now ≤ max_payload }
     ensures { result ≡ slice_range bytes.now at (at + 16) }
 {
     let mut key = [0; 16];

@@ -46,6 +46,8 @@ fn commands_of_fragments_are_spelled_as_the_standard_has_them(rt: HostRuntime) {
         encoding_unsupported: true,
     };
     spells(&rt, 201, Direction::Up, &[0x02, 0x49], &answer);
+    assert!(rt; setup_answer(1, refusal_bits(true, false, false, true)) == answer);
+    assert!(rt; FragmentBytes::fits(&[0; 239]) && !FragmentBytes::fits(&[0; 240]));
     let fragment = Cmd::DataFragment {
         index: 2,
         n: 5,

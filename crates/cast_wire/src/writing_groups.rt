@@ -2,7 +2,8 @@
 
 ghost use Rattle.std.specs.Prelude.{◌≡◌, ◌+◌, ◌*◌, ◌<◌, ◌≤◌, ◌||◌, [], ◌∷◌, ◌++◌, length, is_none};
 ghost use Rattle.cast_wire.specs.Table.{IsValid, canonical, group_parts, start_parts};
-ghost use Rattle.wire_base.specs.Payload.{Appends};
+ghost use Rattle.cast_wire.specs.Limits.{max_groups};
+ghost use Rattle.wire_base.specs.Payload.{max_payload, Appends};
 ghost use Rattle.wire_base.specs.Rows.{PartsFit, parts_bytes, packed, flag, bits};
 
 use crate::cmd::Cmd;
@@ -12,7 +13,7 @@ use crate::ids::{
     GROUP_SETUP, GROUP_SETUP_REQUEST_LEN, GROUP_STATUS, GROUPS_HEAD_LEN, ONE_BYTE_LEN,
     START_ANSWER_LEN,
 };
-use wire_base::{Full, MAX_PAYLOAD, Payload, put_bytes, put_u8, put_u24, put_u32};
+use wire_base::{Full, Payload, put_bytes, put_u8, put_u24, put_u32};
 
 pub fn put_group_status_request(mask: u8, out: &mut Payload) -> Result<(), Full>
     requires { IsValid (Cmd.McGroupStatusReq mask) }
@@ -46,8 +47,8 @@ pub fn put_group_status_answer(
 }
 
 fn put_groups(groups: &[GroupAddress], out: &mut Payload) -> Result<(), Full>
-    requires few { length groups.now ≤ 4 }
-    requires room { length out.old + 5 * length groups.now ≤ MAX_PAYLOAD }
+    requires few { length groups.now ≤ max_groups }
+    requires room { length out.old + 5 * length groups.now ≤ max_payload }
     requires fit { PartsFit (group_parts groups.now) }
     ensures { Appends out.old out.new (parts_bytes (group_parts groups.now)) result }
 {

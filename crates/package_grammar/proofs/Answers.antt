@@ -4,13 +4,14 @@ use Rattle.wire_base.specs.declared.refusal.Direction.{Direction}
 use Rattle.wire_base.specs.declared.refusal.Refusal.{Refusal}
 use Rattle.wire_base.specs.declared.refusal.Why.{Why}
 use Rattle.wire_base.specs.declared.refusal.Why.TheVariants.{Port, UnknownCommand, Short, TooLong}
+use Rattle.wire_base.specs.Tables.{IsRefused, place_of}
 use Rattle.sync_wire.specs.declared.cmd.Cmd.{Cmd as SyncCmd}
 use Rattle.sync_wire.proofs.Spellings as sync_spellings
 use Rattle.cast_wire.specs.declared.cmd.Cmd.{Cmd as CastCmd}
 use Rattle.cast_wire.proofs.Spellings as cast_spellings
 use Rattle.package_grammar.specs.declared.command.Command.{Command}
 use Rattle.package_grammar.specs.declared.command.Command.TheVariants.{Sync, Cast}
-use Rattle.package_grammar.specs.Grammar.{Spells, SpellsTo, IsMessage, IsRefused, place_of, HasCause, NoneSpelled, StopsFrom, IsStop, IsReading}
+use Rattle.package_grammar.specs.Grammar.{Spells, SpellsTo, IsMessage, IsPort, row, IsRefusal, NoneSpelled, StopsFrom, IsStop, IsReading}
 use Rattle.package_grammar.proofs.Tables.{sync_port, cast_port, within, moves}
 use Rattle.package_grammar.proofs.Messages.{none_left}
 
@@ -58,7 +59,7 @@ no_place (c ∷ cs) (d ∷ ds) port dir bytes from at all reached inside none =
     no_place cs ds port dir bytes reached.0 at (subst (λ (n : ℕ). SpellsTo cs port dir bytes n (length bytes)) same.1 all.2) reached.2 inside none
 
 -- a place is refused for one reason
-one_reason : (port : ℕ) (dir : Direction) (bytes : List ℕ) (at : ℕ) (one other : Why) → IsRefused port dir bytes at one → IsRefused port dir bytes at other → one ≡ other
+one_reason : (port : ℕ) (dir : Direction) (bytes : List ℕ) (at : ℕ) (one other : Why) → IsRefused row IsPort port dir bytes at one → IsRefused row IsPort port dir bytes at other → one ≡ other
 one_reason port dir bytes at Port Port first second = refl
 one_reason port dir bytes at Port TooLong first second = absurd (first second.0)
 one_reason port dir bytes at Port UnknownCommand first second = absurd (first second.0.0)
@@ -81,7 +82,7 @@ same_refusal one other why place =
     let placed : Path Refusal one (record { at = other.at; why = one.why }) = ap (λ (n : ℕ). let r : Refusal = record { at = n; why = one.why } in r) place in
     placed ∙ ap (λ (w : Why). let r : Refusal = record { at = other.at; why = w } in r) why
 
-one_cause : (port : ℕ) (dir : Direction) (bytes : List ℕ) (at : ℕ) (one other : Refusal) → HasCause port dir bytes at one → HasCause port dir bytes at other → one ≡ other
+one_cause : (port : ℕ) (dir : Direction) (bytes : List ℕ) (at : ℕ) (one other : Refusal) → IsRefusal port dir bytes at one → IsRefusal port dir bytes at other → one ≡ other
 one_cause port dir bytes at one other first second =
     let why = one_reason port dir bytes at one.why other.why first.why second.why in
     same_refusal one other why (first.place ∙ ap (λ (w : Why). place_of bytes at w) why ∙ sym second.place)
@@ -89,7 +90,7 @@ one_cause port dir bytes at one other first second =
 one_stop_from : (port : ℕ) (dir : Direction) (bytes : List ℕ) (one other : Refusal) → StopsFrom port dir bytes 0 one → StopsFrom port dir bytes 0 other → one ≡ other
 one_stop_from port dir bytes one other first second =
     let same = one_place first.0 second.0 port dir bytes 0 first.1 second.1 first.2.reached second.2.reached first.2.none second.2.none in
-    one_cause port dir bytes second.1 one other (subst (λ (n : ℕ). HasCause port dir bytes n one) same first.2.cause) second.2.cause
+    one_cause port dir bytes second.1 one other (subst (λ (n : ℕ). IsRefusal port dir bytes n one) same first.2.cause) second.2.cause
 
 -- reading stops in one way at most
 pub one_stop : (port : ℕ) (dir : Direction) (bytes : List ℕ) (one other : Refusal) → IsStop port dir bytes one → IsStop port dir bytes other → one ≡ other

@@ -3,7 +3,7 @@ use Rattle.std.proofs.Common.{◌≡◌, ◌≢◌, ℕ, List, [], ◌∷◌, le
 use Rattle.wire_base.specs.declared.refusal.Direction.{Direction}
 use Rattle.wire_base.specs.declared.refusal.Refusal.{Refusal}
 use Rattle.package_grammar.specs.declared.command.Command.{Command}
-use Rattle.package_grammar.specs.Grammar.{Spells, SpellsTo, NoneSpelled, StopsFrom}
+use Rattle.package_grammar.specs.Grammar.{Spells, SpellsTo, NoneSpelled}
 use Rattle.package_grammar.proofs.Tables.{within, moves}
 
 -- behind the end nothing is spelled
@@ -34,13 +34,3 @@ pub none_read : (port : ℕ) (dir : Direction) (bytes : List ℕ) (at : ℕ) (cs
     → SpellsTo cs port dir bytes at (length bytes) → ⊥
 none_read port dir bytes at [] inside none all = inside all
 none_read port dir bytes at (d ∷ ds) inside none all = none d all.0 all.1
-
--- reading that stops behind the first command stops
-pub stops_behind : (c : Command) (port : ℕ) (dir : Direction) (bytes : List ℕ) (from next : ℕ) (refusal : Refusal) → Spells c port dir bytes from next
-    → StopsFrom port dir bytes next refusal → StopsFrom port dir bytes from refusal
-stops_behind c port dir bytes from next refusal spells stops =
-    let s = stops.2 in
-    (c ∷ stops.0, stops.1, record { reached = (next, spells, s.reached); inside = s.inside; none = s.none; cause = s.cause })
-
-pub err_or_ok : (r : Result ℕ Refusal) (e : Refusal) (n : ℕ) → r ≡ Err e → r ≡ Ok n → ⊥
-err_or_ok r e n is other = cc

@@ -1,5 +1,5 @@
 -- Which table a port has, and what the refusals of the two crates say of both tables.
-use Rattle.std.proofs.Common.{◌≡◌, ℕ, ◌<◌, ◌≤◌, List, length, refl, ◌∙◌, inl, inr, arith}
+use Rattle.std.proofs.Common.{◌≡◌, ℕ, ◌<◌, ◌≤◌, List, length, inl, inr, arith}
 use Rattle.std.proofs.lemmas.Bool.{cases_eq}
 use Rattle.wire_base.specs.declared.refusal.Direction.{Direction}
 use Rattle.wire_base.specs.declared.refusal.Refusal.{Refusal}
@@ -7,6 +7,7 @@ use Rattle.wire_base.specs.declared.refusal.Why.{Why}
 use Rattle.wire_base.specs.declared.refusal.Why.TheVariants.{Port, UnknownCommand, Short, TooLong}
 use Rattle.wire_base.specs.Rows.{IsListed}
 use Rattle.wire_base.specs.Numbers.{number_at}
+use Rattle.wire_base.specs.Tables as table
 use Rattle.wire_base.proofs.RowLaws.{parts_before}
 use Rattle.sync_wire.specs.declared.cmd.Cmd.{Cmd as SyncCmd}
 use Rattle.sync_wire.specs.declared.cmd.Cmd.TheVariants as s
@@ -16,7 +17,7 @@ use Rattle.cast_wire.specs.declared.cmd.Cmd.TheVariants as c
 use Rattle.cast_wire.specs.Table as cast
 use Rattle.package_grammar.specs.declared.command.Command.{Command}
 use Rattle.package_grammar.specs.declared.command.Command.TheVariants.{Sync, Cast}
-use Rattle.package_grammar.specs.Grammar.{row, Spells, IsPort, IsKnown, IsRefused, place_of, HasCause}
+use Rattle.package_grammar.specs.Grammar.{row, Spells, IsPort, IsKnown, IsRefusal}
 
 -- the ports of a command of the one table, and of the other
 pub sync_port : (cmd : SyncCmd) (port : ℕ) (dir : Direction) → IsListed (sync.row cmd) port dir → (202 ≤ port) × (port ≤ 203)
@@ -83,10 +84,10 @@ cast_is_port : (port : ℕ) → cast.IsPort port → IsPort port
 cast_is_port port (inl is) = record { low = omega (arith, is); high = omega (arith, is) }
 cast_is_port port (inr is) = record { low = omega (arith, is); high = omega (arith, is) }
 
-sync_known : (port : ℕ) (dir : Direction) (cid : ℕ) → sync.IsKnown port dir cid → IsKnown port dir cid
+pub sync_known : (port : ℕ) (dir : Direction) (cid : ℕ) → sync.IsKnown port dir cid → IsKnown port dir cid
 sync_known port dir cid known = record { command = Sync known.command; listed = known.listed; cid_is = known.cid_is }
 
-cast_known : (port : ℕ) (dir : Direction) (cid : ℕ) → cast.IsKnown port dir cid → IsKnown port dir cid
+pub cast_known : (port : ℕ) (dir : Direction) (cid : ℕ) → cast.IsKnown port dir cid → IsKnown port dir cid
 cast_known port dir cid known = record { command = Cast known.command; listed = known.listed; cid_is = known.cid_is }
 
 of_sync : (port : ℕ) (dir : Direction) (cid : ℕ) (command : Command) → 202 ≤ port → IsListed (row command) port dir → (row command).cid ≡ cid → sync.IsKnown port dir cid
@@ -97,7 +98,7 @@ of_cast : (port : ℕ) (dir : Direction) (cid : ℕ) (command : Command) → por
 of_cast port dir cid (Cast cmd) low listed cid_is = record { command = cmd; listed = listed; cid_is = cid_is }
 of_cast port dir cid (Sync cmd) low listed cid_is = absurd (omega (arith, (sync_port cmd port dir listed).0))
 
-sync_refused : (port : ℕ) (dir : Direction) (bytes : List ℕ) (at : ℕ) (why : Why) → sync.IsPort port → sync.IsRefused port dir bytes at why → IsRefused port dir bytes at why
+sync_refused : (port : ℕ) (dir : Direction) (bytes : List ℕ) (at : ℕ) (why : Why) → sync.IsPort port → table.IsRefused sync.row sync.IsPort port dir bytes at why → table.IsRefused row IsPort port dir bytes at why
 sync_refused port dir bytes at Port is refused = absurd (refused is)
 sync_refused port dir bytes at TooLong is refused = (sync_is_port port is, refused.1)
 sync_refused port dir bytes at UnknownCommand is refused =
@@ -105,16 +106,10 @@ sync_refused port dir bytes at UnknownCommand is refused =
     ((sync_is_port port is, refused.0.1), λ known. refused.1 (of_sync port dir (number_at bytes at 1) known.command high known.listed known.cid_is))
 sync_refused port dir bytes at Short is refused = ((sync_is_port port is, refused.0.1), sync_known port dir (number_at bytes at 1) refused.1)
 
-sync_place : (bytes : List ℕ) (at : ℕ) (why : Why) → sync.place_of bytes at why ≡ place_of bytes at why
-sync_place bytes at Port = refl
-sync_place bytes at TooLong = refl
-sync_place bytes at UnknownCommand = refl
-sync_place bytes at Short = refl
+pub sync_cause : (port : ℕ) (dir : Direction) (bytes : List ℕ) (at : ℕ) (refusal : Refusal) → sync.IsPort port → sync.IsRefusal port dir bytes at refusal → IsRefusal port dir bytes at refusal
+sync_cause port dir bytes at refusal is cause = record { why = sync_refused port dir bytes at refusal.why is cause.why; place = cause.place }
 
-pub sync_cause : (port : ℕ) (dir : Direction) (bytes : List ℕ) (at : ℕ) (refusal : Refusal) → sync.IsPort port → sync.HasCause port dir bytes at refusal → HasCause port dir bytes at refusal
-sync_cause port dir bytes at refusal is cause = record { why = sync_refused port dir bytes at refusal.why is cause.why; place = cause.place ∙ sync_place bytes at refusal.why }
-
-cast_refused : (port : ℕ) (dir : Direction) (bytes : List ℕ) (at : ℕ) (why : Why) → (sync.IsPort port → ⊥) → cast.IsRefused port dir bytes at why → IsRefused port dir bytes at why
+cast_refused : (port : ℕ) (dir : Direction) (bytes : List ℕ) (at : ℕ) (why : Why) → (sync.IsPort port → ⊥) → table.IsRefused cast.row cast.IsPort port dir bytes at why → table.IsRefused row IsPort port dir bytes at why
 cast_refused port dir bytes at Port other refused = λ p. elim (cases_eq port 200) [
   | inl e ↦ refused (inl e)
   | inr n ↦ elim (cases_eq port 201) [
@@ -131,14 +126,8 @@ cast_refused port dir bytes at UnknownCommand other refused =
     ((cast_is_port port refused.0.0, refused.0.1), λ known. refused.1 (of_cast port dir (number_at bytes at 1) known.command low known.listed known.cid_is))
 cast_refused port dir bytes at Short other refused = ((cast_is_port port refused.0.0, refused.0.1), cast_known port dir (number_at bytes at 1) refused.1)
 
-cast_place : (bytes : List ℕ) (at : ℕ) (why : Why) → cast.place_of bytes at why ≡ place_of bytes at why
-cast_place bytes at Port = refl
-cast_place bytes at TooLong = refl
-cast_place bytes at UnknownCommand = refl
-cast_place bytes at Short = refl
-
-pub cast_cause : (port : ℕ) (dir : Direction) (bytes : List ℕ) (at : ℕ) (refusal : Refusal) → (sync.IsPort port → ⊥) → cast.HasCause port dir bytes at refusal → HasCause port dir bytes at refusal
-cast_cause port dir bytes at refusal other cause = record { why = cast_refused port dir bytes at refusal.why other cause.why; place = cause.place ∙ cast_place bytes at refusal.why }
+pub cast_cause : (port : ℕ) (dir : Direction) (bytes : List ℕ) (at : ℕ) (refusal : Refusal) → (sync.IsPort port → ⊥) → cast.IsRefusal port dir bytes at refusal → IsRefusal port dir bytes at refusal
+cast_cause port dir bytes at refusal other cause = record { why = cast_refused port dir bytes at refusal.why other cause.why; place = cause.place }
 
 pub sync_within : (cmd : SyncCmd) (port : ℕ) (dir : Direction) (bytes : List ℕ) (at next : ℕ) → sync.Spells cmd port dir bytes at next → next ≤ length bytes
 sync_within cmd port dir bytes at next spells = (parts_before (sync.row cmd).parts bytes at 1 next spells.lies.parts_lie).0

@@ -1,2 +1,6 @@
 pub mod Grammar
+pub mod Reading
 pub mod Texts
+pub mod HeldMessage
+pub mod MessageInside
+pub mod Words

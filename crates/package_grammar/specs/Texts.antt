@@ -1,23 +1,21 @@
 -- The texts of commands: a word for the command and one for each of its fields. (This project's profile.)
-use Rattle.std.specs.Prelude.{ℕ, ◌+◌, Bool, if◌then◌else◌, List, [], ◌∷◌, ◌++◌, codes, Option, Some, None}
+use Rattle.std.specs.Prelude.{ℕ, ◌+◌, Bool, List, [], ◌∷◌, ◌++◌, codes, Option, Some, None}
 use Rattle.std.specs.Int.{to_be_bytes, w32}
 use Rattle.std.specs.Fmt.{decimal, signed_decimal}
 use Rattle.hex.specs.Hex.{encode_lower}
+use Rattle.wire_base.specs.Numbers.{flag_value}
 use Rattle.sync_wire.specs.declared.cmd.Cmd.{Cmd as SyncCmd}
 use Rattle.sync_wire.specs.declared.cmd.Cmd.TheVariants as s
 use Rattle.cast_wire.specs.declared.cmd.Cmd.{Cmd as CastCmd}
 use Rattle.cast_wire.specs.declared.cmd.Cmd.TheVariants as c
 use Rattle.cast_wire.specs.declared.group_list.GroupAddress.{GroupAddress}
+use Rattle.cast_wire.specs.SetupRefusal.{refusal_bits}
 use Rattle.package_grammar.specs.declared.command.Command.{Command}
 use Rattle.package_grammar.specs.declared.command.Command.TheVariants.{Sync, Cast}
 
--- a bit of a number, by its worth
-abbrev pub worth : Bool → ℕ → ℕ
-worth set n = if set then n else 0
-
 -- a truth value is 0 or 1
 abbrev pub truth : Bool → List ℕ
-truth b = decimal (worth b 1)
+truth b = decimal (flag_value b 1)
 
 -- addresses and descriptors: 8 hex digits, the most significant first
 abbrev pub number_hex : ℕ → List ℕ
@@ -88,7 +86,7 @@ cast_text (c.PackageVersionAns identifier version) = codes "PackageVersionAns id
 cast_text (c.FragSessionStatusReq index all) = codes "FragSessionStatusReq index=" ++ decimal index ++ (codes " all=" ++ truth all)
 cast_text (c.FragSessionStatusAns index received missing norows) = codes "FragSessionStatusAns index=" ++ decimal index ++ (codes " received=" ++ decimal received ++ (codes " missing=" ++ decimal missing ++ (codes " norows=" ++ truth norows)))
 cast_text (c.FragSessionSetupReq index mask nb_frag frag_size algo delay padding descriptor) = pieces_text index mask nb_frag frag_size ++ coding_text algo delay padding descriptor
-cast_text (c.FragSessionSetupAns index wrong_descriptor index_unsupported no_memory encoding_unsupported) = codes "FragSessionSetupAns index=" ++ decimal index ++ (codes " bits=" ++ decimal (worth wrong_descriptor 8 + worth index_unsupported 4 + worth no_memory 2 + worth encoding_unsupported 1))
+cast_text (c.FragSessionSetupAns index wrong_descriptor index_unsupported no_memory encoding_unsupported) = codes "FragSessionSetupAns index=" ++ decimal index ++ (codes " bits=" ++ decimal (refusal_bits wrong_descriptor index_unsupported no_memory encoding_unsupported))
 cast_text (c.FragSessionDeleteReq index) = codes "FragSessionDeleteReq index=" ++ decimal index
 cast_text (c.FragSessionDeleteAns index missing) = codes "FragSessionDeleteAns index=" ++ decimal index ++ (codes " missing=" ++ truth missing)
 cast_text (c.DataFragment index n bytes) = codes "DataFragment index=" ++ decimal index ++ (codes " n=" ++ decimal n ++ (codes " bytes=" ++ encode_lower bytes))
@@ -99,9 +97,9 @@ cast_text (c.McGroupSetupAns id error) = codes "McGroupSetupAns id=" ++ decimal 
 cast_text (c.McGroupDeleteReq id) = codes "McGroupDeleteReq id=" ++ decimal id
 cast_text (c.McGroupDeleteAns id undefined) = codes "McGroupDeleteAns id=" ++ decimal id ++ (codes " undefined=" ++ truth undefined)
 cast_text (c.McClassCSessionReq id time timeout freq dr) = codes "McClassCSessionReq id=" ++ decimal id ++ (codes " time=" ++ decimal time ++ (codes " timeout=" ++ decimal timeout ++ (codes " freq=" ++ decimal freq ++ (codes " dr=" ++ decimal dr))))
-cast_text (c.McClassCSessionAns id undefined freq_error dr_error start) = codes "McClassCSessionAns id=" ++ decimal id ++ (codes " bits=" ++ decimal (worth undefined 16 + worth freq_error 8 + worth dr_error 4) ++ (codes " start=" ++ there start))
+cast_text (c.McClassCSessionAns id undefined freq_error dr_error start) = codes "McClassCSessionAns id=" ++ decimal id ++ (codes " bits=" ++ decimal (flag_value undefined 16 + flag_value freq_error 8 + flag_value dr_error 4) ++ (codes " start=" ++ there start))
 cast_text (c.McClassBSessionReq id time periodicity timeout freq dr) = codes "McClassBSessionReq id=" ++ decimal id ++ (codes " time=" ++ decimal time ++ (codes " periodicity=" ++ decimal periodicity ++ (codes " timeout=" ++ decimal timeout ++ (codes " freq=" ++ decimal freq ++ (codes " dr=" ++ decimal dr)))))
-cast_text (c.McClassBSessionAns id undefined freq_error dr_error start) = codes "McClassBSessionAns id=" ++ decimal id ++ (codes " bits=" ++ decimal (worth undefined 16 + worth freq_error 8 + worth dr_error 4) ++ (codes " start=" ++ there start))
+cast_text (c.McClassBSessionAns id undefined freq_error dr_error start) = codes "McClassBSessionAns id=" ++ decimal id ++ (codes " bits=" ++ decimal (flag_value undefined 16 + flag_value freq_error 8 + flag_value dr_error 4) ++ (codes " start=" ++ there start))
 
 -- the text of a command
 abbrev pub text_of : Command → List ℕ

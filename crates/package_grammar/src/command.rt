@@ -1,8 +1,6 @@
-//! A command of any package, and a payload on its way to devices.
+//! A command of any package.
 ghost use Rattle.std.specs.Prelude.{IsTrue, ◌↔◌};
 ghost use Rattle.package_grammar.specs.Grammar.{IsValid};
-
-use wire_base::Payload;
 
 /// A command of one of the four packages, by the crate that has its table. PackageVersionReq and its answer are in
 /// both: those of ports 200 and 201 are `Cast`, those of ports 202 and 203 `Sync`.
@@ -22,22 +20,4 @@ pub fn valid(command: &Command) -> bool
         Command::Sync(cmd) => sync_wire::valid(cmd),
         Command::Cast(cmd) => cast_wire::valid(cmd),
     }
-}
-
-/// Whom a downlink is for.
-#[derive(Clone, Copy, Debug, PartialEq, Eq)]
-pub enum To {
-    /// One device.
-    Unicast,
-    /// The members of a multicast group: McAddr, and the frame count of this downlink.
-    Group { addr: u32, count: u32 },
-}
-
-/// A payload on its way to devices.
-#[derive(Debug, Drop)]
-pub struct Downlink {
-    pub to: To,
-    /// The port of the payload's package.
-    pub port: u8,
-    pub payload: Payload,
 }

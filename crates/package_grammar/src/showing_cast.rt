@@ -3,10 +3,11 @@ ghost use Rattle.std.specs.Prelude.{◌≡◌, IfOk, string_bytes};
 ghost use Rattle.package_grammar.specs.Texts.{cast_text};
 
 use crate::showing_parts::{
-    bytes_hex, coding_text, frames_text, group_key_text, groups_text, pieces_text, there, worth,
+    bytes_hex, coding_text, frames_text, group_key_text, groups_text, pieces_text, there,
 };
-use cast_wire::Cmd;
+use cast_wire::{Cmd, refusal_bits};
 use std::alloc::{AllocError, Global};
+use wire_base::flag_value;
 
 /// The text of a command of ports 200 and 201.
 pub fn cast_text(alloc: Global, cmd: &Cmd) -> Result<String, AllocError>
@@ -19,7 +20,7 @@ pub fn cast_text(alloc: Global, cmd: &Cmd) -> Result<String, AllocError>
             version,
         } => format!(in alloc; "PackageVersionAns id={identifier} version={version}"),
         Cmd::FragSessionStatusReq { index, all } => {
-            let all = worth(*all, 1);
+            let all = flag_value(*all, 1);
             format!(in alloc; "FragSessionStatusReq index={index} all={all}")
         }
         Cmd::FragSessionStatusAns {
@@ -28,7 +29,7 @@ pub fn cast_text(alloc: Global, cmd: &Cmd) -> Result<String, AllocError>
             missing,
             norows,
         } => {
-            let norows = worth(*norows, 1);
+            let norows = flag_value(*norows, 1);
             format!(in alloc;
                 "FragSessionStatusAns index={index} received={received} missing={missing} norows={norows}"
             )
@@ -54,17 +55,19 @@ pub fn cast_text(alloc: Global, cmd: &Cmd) -> Result<String, AllocError>
             no_memory,
             encoding_unsupported,
         } => {
-            let bits = worth(*wrong_descriptor, 8)
-                + worth(*index_unsupported, 4)
-                + worth(*no_memory, 2)
-                + worth(*encoding_unsupported, 1);
+            let bits = refusal_bits(
+                *wrong_descriptor,
+                *index_unsupported,
+                *no_memory,
+                *encoding_unsupported,
+            );
             format!(in alloc; "FragSessionSetupAns index={index} bits={bits}")
         }
         Cmd::FragSessionDeleteReq { index } => format!(in alloc;
             "FragSessionDeleteReq index={index}"
         ),
         Cmd::FragSessionDeleteAns { index, missing } => {
-            let missing = worth(*missing, 1);
+            let missing = flag_value(*missing, 1);
             format!(in alloc; "FragSessionDeleteAns index={index} missing={missing}")
         }
         Cmd::DataFragment { index, n, bytes } => {
@@ -92,12 +95,12 @@ pub fn cast_text(alloc: Global, cmd: &Cmd) -> Result<String, AllocError>
             format!(in alloc; "{group}{frames}")
         }
         Cmd::McGroupSetupAns { id, error } => {
-            let error = worth(*error, 1);
+            let error = flag_value(*error, 1);
             format!(in alloc; "McGroupSetupAns id={id} error={error}")
         }
         Cmd::McGroupDeleteReq { id } => format!(in alloc; "McGroupDeleteReq id={id}"),
         Cmd::McGroupDeleteAns { id, undefined } => {
-            let undefined = worth(*undefined, 1);
+            let undefined = flag_value(*undefined, 1);
             format!(in alloc; "McGroupDeleteAns id={id} undefined={undefined}")
         }
         Cmd::McClassCSessionReq {
@@ -116,7 +119,9 @@ pub fn cast_text(alloc: Global, cmd: &Cmd) -> Result<String, AllocError>
             dr_error,
             start,
         } => {
-            let bits = worth(*undefined, 16) + worth(*freq_error, 8) + worth(*dr_error, 4);
+            let bits = flag_value(*undefined, 16)
+                + flag_value(*freq_error, 8)
+                + flag_value(*dr_error, 4);
             let start = there(alloc, *start)?;
             format!(in alloc; "McClassCSessionAns id={id} bits={bits} start={start}")
         }
@@ -137,7 +142,9 @@ pub fn cast_text(alloc: Global, cmd: &Cmd) -> Result<String, AllocError>
             dr_error,
             start,
         } => {
-            let bits = worth(*undefined, 16) + worth(*freq_error, 8) + worth(*dr_error, 4);
+            let bits = flag_value(*undefined, 16)
+                + flag_value(*freq_error, 8)
+                + flag_value(*dr_error, 4);
             let start = there(alloc, *start)?;
             format!(in alloc; "McClassBSessionAns id={id} bits={bits} start={start}")
         }

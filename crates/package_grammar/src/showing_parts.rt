@@ -1,18 +1,10 @@
 //! The texts of fields.
-ghost use Rattle.std.specs.Prelude.{◌≡◌, ◌≤◌, IfOk, string_bytes};
+ghost use Rattle.std.specs.Prelude.{◌≡◌, IfOk, string_bytes};
 ghost use Rattle.hex.specs.Hex.{encode_lower};
-ghost use Rattle.package_grammar.specs.Texts.{worth, number_hex, there, group_text, other_groups, groups_text, pieces_text, coding_text, group_words, group_key_text, frames_text};
+ghost use Rattle.package_grammar.specs.Texts.{number_hex, there, group_text, other_groups, groups_text, pieces_text, coding_text, group_words, group_key_text, frames_text};
 
 use cast_wire::GroupAddress;
 use std::alloc::{AllocError, Global};
-
-/// A bit of a number, by its worth.
-pub fn worth(set: bool, value: u8) -> u8
-    ensures value { result ≡ worth set value }
-    ensures most { result ≤ value }
-{
-    if set { value } else { 0 }
-}
 
 /// 8 hex digits, the most significant first.
 pub fn number_hex(alloc: Global, number: u32) -> Result<String, AllocError>

@@ -2,9 +2,10 @@
 ghost use Rattle.std.specs.Prelude.{◌≡◌, IfOk, string_bytes};
 ghost use Rattle.package_grammar.specs.Texts.{sync_text};
 
-use crate::showing_parts::{there, worth};
+use crate::showing_parts::there;
 use std::alloc::{AllocError, Global};
 use sync_wire::Cmd;
+use wire_base::flag_value;
 
 /// The text of a command of ports 202 and 203.
 pub fn sync_text(alloc: Global, cmd: &Cmd) -> Result<String, AllocError>
@@ -21,7 +22,7 @@ pub fn sync_text(alloc: Global, cmd: &Cmd) -> Result<String, AllocError>
             required,
             token,
         } => {
-            let required = worth(*required, 1);
+            let required = flag_value(*required, 1);
             format!(in alloc; "AppTimeReq time={time} required={required} token={token}")
         }
         Cmd::AppTimeAns { correction, token } => format!(in alloc;
@@ -31,7 +32,7 @@ pub fn sync_text(alloc: Global, cmd: &Cmd) -> Result<String, AllocError>
             "DeviceAppTimePeriodicityReq period={period}"
         ),
         Cmd::DeviceAppTimePeriodicityAns { unsupported, time } => {
-            let unsupported = worth(*unsupported, 1);
+            let unsupported = flag_value(*unsupported, 1);
             format!(in alloc; "DeviceAppTimePeriodicityAns unsupported={unsupported} time={time}")
         }
         Cmd::ForceDeviceResyncReq { count } => format!(in alloc;

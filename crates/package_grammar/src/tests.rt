@@ -46,6 +46,26 @@ fn messages_are_counted_or_stop(rt: HostRuntime) {
     }
 }
 
+#[test]
+fn a_message_hands_out_its_commands_in_order(rt: HostRuntime) {
+    let bytes = [0x01, 0x01, 0x03, 0x02];
+    let Ok(mut message) = Message::read(201, Direction::Down, &bytes) else {
+        assert!(rt; false);
+        return;
+    };
+    assert!(rt; message.again().count() == 2);
+    let status = cast_wire::Cmd::FragSessionStatusReq {
+        index: 0,
+        all: true,
+    };
+    let delete = cast_wire::Cmd::FragSessionDeleteReq { index: 2 };
+    assert!(rt; message.next() == Some(Command::Cast(status)));
+    assert!(rt; spelled(201, Direction::Down, &Command::Cast(delete)).as_slice() == &bytes[2..]);
+    let delete = cast_wire::Cmd::FragSessionDeleteReq { index: 2 };
+    assert!(rt; message.next() == Some(Command::Cast(delete)));
+    assert!(rt; message.next() == None);
+}
+
 /// A command of each row of the tables: port, direction, its canonical bytes in hex, its text.
 const COMMANDS: [(u8, Direction, &str, &str); 40] = [
     (200, Direction::Down, "00", "PackageVersionReq"),

@@ -1,4 +1,5 @@
 //! The canonical spelling of a command.
+ghost use Rattle.std.specs.Prelude.{◌≡◌};
 ghost use Rattle.wire_base.specs.Payload.{Appends};
 ghost use Rattle.wire_base.specs.Rows.{IsListed};
 ghost use Rattle.package_grammar.specs.Grammar.{row, IsValid, canonical};
@@ -18,4 +19,16 @@ pub fn write_one(port: u8, dir: Direction, command: &Command, out: &mut Payload)
         Command::Sync(cmd) => sync_wire::write_one(cmd, out),
         Command::Cast(cmd) => cast_wire::write_one(cmd, out),
     }
+}
+
+/// A payload of one command in its canonical spelling.
+#[tactic(auto, using(crate::proofs::Written::fits))]
+pub fn spelled(port: u8, direction: Direction, command: &Command) -> Payload
+    requires valid { IsValid command.now }
+    requires listed { IsListed (row command.now) port direction }
+    ensures { result ≡ canonical command.now }
+{
+    let mut payload = Payload::new();
+    let _fits = write_one(port, direction, command, &mut payload);
+    payload
 }

@@ -1,2 +1,3 @@
 pub mod Table
 pub mod Reading
+pub mod Tests

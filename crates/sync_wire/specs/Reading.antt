@@ -4,25 +4,12 @@ use Rattle.std.specs.Prelude.{ℕ, ◌+◌, Bool, ◌==◌, nat_le, if◌then◌
 use Rattle.std.specs.Int.{w32, cast_signed}
 use Rattle.wire_base.specs.declared.refusal.Direction.{Direction}
 use Rattle.wire_base.specs.declared.refusal.Direction.TheVariants.{Down, Up}
-use Rattle.wire_base.specs.Numbers.{number_at, bits_of}
+use Rattle.wire_base.specs.Numbers.{number_at}
+use Rattle.wire_base.specs.Found.{Found, within, field, is_set}
 use Rattle.sync_wire.specs.declared.cmd.Cmd.{Cmd}
 use Rattle.sync_wire.specs.declared.cmd.Cmd.TheVariants.{PackageVersionReq, PackageVersionAns, AppTimeReq, AppTimeAns, DeviceAppTimePeriodicityReq, DeviceAppTimePeriodicityAns, ForceDeviceResyncReq, DevVersionReq, DevVersionAns, DevRebootTimeReq, DevRebootTimeAns, DevRebootCountdownReq, DevRebootCountdownAns, DevUpgradeImageReq, DevUpgradeImageAns, DevDeleteImageReq, DevDeleteImageAns}
 
-abbrev pub Found : Type 0
-Found = Option (Cmd × ℕ)
-
--- the command and the place behind it, where so many bytes are there; else nothing
-abbrev pub within : List ℕ → (at len : ℕ) → Cmd → Found
-within bytes at len cmd = if nat_le (at + len) (length bytes) then Some (cmd, at + len) else None
-
--- some bits of the number in so many bytes, and one of its bits
-abbrev pub field : List ℕ → (at width low count : ℕ) → ℕ
-field bytes at width low count = bits_of (number_at bytes at width) low count
-
-abbrev pub is_set : List ℕ → (at bit : ℕ) → Bool
-is_set bytes at bit = field bytes at 1 bit 1 == 1
-
-unfoldable pub clock_down : List ℕ → ℕ → Found
+unfoldable pub clock_down : List ℕ → ℕ → Found Cmd
 clock_down bytes at =
     if number_at bytes at 1 == 0x00 then within bytes at 1 PackageVersionReq
     else if number_at bytes at 1 == 0x01 then within bytes at 6 (AppTimeAns (cast_signed w32 (number_at bytes (at + 1) 4)) (field bytes (at + 5) 1 0 4))
@@ -30,14 +17,14 @@ clock_down bytes at =
     else if number_at bytes at 1 == 0x03 then within bytes at 2 (ForceDeviceResyncReq (field bytes (at + 1) 1 0 3))
     else None
 
-unfoldable pub clock_up : List ℕ → ℕ → Found
+unfoldable pub clock_up : List ℕ → ℕ → Found Cmd
 clock_up bytes at =
     if number_at bytes at 1 == 0x00 then within bytes at 3 (PackageVersionAns (number_at bytes (at + 1) 1) (number_at bytes (at + 2) 1))
     else if number_at bytes at 1 == 0x01 then within bytes at 6 (AppTimeReq (number_at bytes (at + 1) 4) (is_set bytes (at + 5) 4) (field bytes (at + 5) 1 0 4))
     else if number_at bytes at 1 == 0x02 then within bytes at 6 (DeviceAppTimePeriodicityAns (is_set bytes (at + 1) 0) (number_at bytes (at + 2) 4))
     else None
 
-unfoldable pub firmware_down : List ℕ → ℕ → Found
+unfoldable pub firmware_down : List ℕ → ℕ → Found Cmd
 firmware_down bytes at =
     if number_at bytes at 1 == 0x00 then within bytes at 1 PackageVersionReq
     else if number_at bytes at 1 == 0x01 then within bytes at 1 DevVersionReq
@@ -48,13 +35,13 @@ firmware_down bytes at =
     else None
 
 -- a status that is 3 with the version behind it, any other alone
-abbrev pub with_next : List ℕ → ℕ → Found
+abbrev pub with_next : List ℕ → ℕ → Found Cmd
 with_next bytes at =
     if field bytes (at + 1) 1 0 2 == 3
     then within bytes at 6 (DevUpgradeImageAns (field bytes (at + 1) 1 0 2) (Some (number_at bytes (at + 2) 4)))
     else within bytes at 2 (DevUpgradeImageAns (field bytes (at + 1) 1 0 2) None)
 
-unfoldable pub firmware_up : List ℕ → ℕ → Found
+unfoldable pub firmware_up : List ℕ → ℕ → Found Cmd
 firmware_up bytes at =
     if number_at bytes at 1 == 0x00 then within bytes at 3 (PackageVersionAns (number_at bytes (at + 1) 1) (number_at bytes (at + 2) 1))
     else if number_at bytes at 1 == 0x01 then within bytes at 9 (DevVersionAns (number_at bytes (at + 1) 4) (number_at bytes (at + 5) 4))
@@ -65,6 +52,6 @@ firmware_up bytes at =
     else None
 
 -- the same for each port and direction
-abbrev pub reading : ℕ → Direction → List ℕ → ℕ → Found
+abbrev pub reading : ℕ → Direction → List ℕ → ℕ → Found Cmd
 reading port Down bytes at = if port == 202 then clock_down bytes at else if port == 203 then firmware_down bytes at else None
 reading port Up bytes at = if port == 202 then clock_up bytes at else if port == 203 then firmware_up bytes at else None

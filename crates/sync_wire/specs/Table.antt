@@ -3,12 +3,9 @@ use Rattle.std.specs.Prelude.{◌≡◌, ℕ, ◌<◌, ◌≤◌, ◌⊎◌, ◌
 use Rattle.std.specs.Int.{w32, cast_unsigned}
 use Rattle.wire_base.specs.declared.refusal.Direction.{Direction}
 use Rattle.wire_base.specs.declared.refusal.Direction.TheVariants.{Down, Up}
-use Rattle.wire_base.specs.declared.payload.TheConstants.{MAX_PAYLOAD}
 use Rattle.wire_base.specs.declared.refusal.Refusal.{Refusal}
-use Rattle.wire_base.specs.declared.refusal.Why.{Why}
-use Rattle.wire_base.specs.declared.refusal.Why.TheVariants.{Port, UnknownCommand, Short, TooLong}
-use Rattle.wire_base.specs.Numbers.{number_at}
-use Rattle.wire_base.specs.Rows.{Row, Part, bits, flag, number, packed, IsListed, Lies, PartsFit, spelling}
+use Rattle.wire_base.specs.Rows.{Row, Part, bits, flag, number, packed, spelling}
+use Rattle.wire_base.specs.Tables as table
 use Rattle.sync_wire.specs.declared.cmd.Cmd.{Cmd}
 use Rattle.sync_wire.specs.declared.cmd.Cmd.TheVariants.{PackageVersionReq, PackageVersionAns, AppTimeReq, AppTimeAns, DeviceAppTimePeriodicityReq, DeviceAppTimePeriodicityAns, ForceDeviceResyncReq, DevVersionReq, DevVersionAns, DevRebootTimeReq, DevRebootTimeAns, DevRebootCountdownReq, DevRebootCountdownAns, DevUpgradeImageReq, DevUpgradeImageAns, DevDeleteImageReq, DevDeleteImageAns}
 
@@ -44,16 +41,15 @@ IsWhole (AppTimeAns correction token) = FitsSigned w32 correction
 IsWhole (DevUpgradeImageAns status next) = is_some next ≡ (status == 3)
 IsWhole _ = Unit {0}
 
--- a valid command: each field fits the bits that the table gives it, and they fit together
-pub record IsValid (c : Cmd) : Type 0 where
-  pub fields : PartsFit (row c).parts
-  pub whole : IsWhole c
+-- ---- what every table says, of this one
 
--- in a payload of that port and direction the bytes from a place to the next spell the command; reserved bits are free
-pub record Spells (c : Cmd) (port : ℕ) (direction : Direction) (bytes : List ℕ) (at next : ℕ) : Type 0 where
-  pub listed : IsListed (row c) port direction
-  pub lies : Lies (row c) bytes at next
-  pub whole : IsWhole c
+-- a valid command
+abbrev pub IsValid : Cmd → Type 0
+IsValid c = table.IsValid row IsWhole c
+
+-- the bytes of a payload from a place to the next spell the command
+abbrev pub Spells : Cmd → ℕ → Direction → List ℕ → (at next : ℕ) → Type 0
+Spells c port direction bytes at next = table.Spells row IsWhole c port direction bytes at next
 
 -- the canonical spelling of a command: its bytes with reserved bits 0
 abbrev pub canonical : Cmd → List ℕ
@@ -64,30 +60,9 @@ abbrev pub IsPort : ℕ → Type 0
 IsPort port = (port ≡ 202) ⊎ (port ≡ 203)
 
 -- some command of the table for that port and direction has this identifier
-pub record IsKnown (port : ℕ) (direction : Direction) (cid : ℕ) : Type 0 where
-  pub command : Cmd
-  pub listed : IsListed (row command) port direction
-  pub cid_is : (row command).cid ≡ cid
+abbrev pub IsKnown : ℕ → Direction → ℕ → Type 0
+IsKnown port direction cid = table.IsKnown row port direction cid
 
--- a payload of one of the two packages that isn't too long
-abbrev pub IsRead : ℕ → List ℕ → Type 0
-IsRead port bytes = IsPort port × (length bytes ≤ MAX_PAYLOAD)
-
--- when a place where no command is spelled is refused for a reason
-abbrev pub IsRefused : ℕ → Direction → List ℕ → (at : ℕ) → Why → Type 0
-IsRefused port direction bytes at Port = ¬ IsPort port
-IsRefused port direction bytes at TooLong = IsPort port × (MAX_PAYLOAD < length bytes)
-IsRefused port direction bytes at UnknownCommand = IsRead port bytes × ¬ IsKnown port direction (number_at bytes at 1)
-IsRefused port direction bytes at Short = IsRead port bytes × IsKnown port direction (number_at bytes at 1)
-
--- the place that a refusal names
-abbrev pub place_of : List ℕ → (at : ℕ) → Why → ℕ
-place_of bytes at Port = 0
-place_of bytes at TooLong = MAX_PAYLOAD
-place_of bytes at UnknownCommand = at
-place_of bytes at Short = length bytes
-
--- a refusal names its reason and its place
-pub record HasCause (port : ℕ) (direction : Direction) (bytes : List ℕ) (at : ℕ) (refusal : Refusal) : Type 0 where
-  pub why : IsRefused port direction bytes at refusal.why
-  pub place : refusal.at ≡ place_of bytes at refusal.why
+-- the refusal of a place where no command is spelled
+abbrev pub IsRefusal : ℕ → Direction → List ℕ → (at : ℕ) → Refusal → Type 0
+IsRefusal port direction bytes at refusal = table.IsRefusal row IsPort port direction bytes at refusal

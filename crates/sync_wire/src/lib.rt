@@ -11,7 +11,6 @@ mod laws;
 mod reading;
 mod reading_clock;
 mod reading_firmware;
-mod refusals;
 mod validity;
 mod writing;
 mod writing_clock;

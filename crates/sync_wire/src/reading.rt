@@ -1,11 +1,12 @@
 ghost use Rattle.std.specs.Prelude.{◌≡◌, ℕ, ◌<◌, ◌≤◌, length, IfOk, OnOk, IfErr, Ok};
-ghost use Rattle.sync_wire.specs.Table.{Spells, IsValid, HasCause};
+ghost use Rattle.wire_base.specs.Payload.{max_payload};
+ghost use Rattle.sync_wire.specs.Table.{Spells, IsValid, IsRefusal};
 
 use crate::cmd::Cmd;
 use crate::ids::{CLOCK_PORT, FIRMWARE_PORT};
 use crate::reading_clock::{read_clock_down, read_clock_up};
 use crate::reading_firmware::{read_firmware_down, read_firmware_up};
-use wire_base::{Direction, MAX_PAYLOAD, Refusal, Why};
+use wire_base::{Direction, MAX_PAYLOAD, Refusal};
 
 /// The command at a place of a payload, and the place behind it; reserved bits are ignored.
 /// Else the first cause: `Port` at 0, `TooLong` at 242, `UnknownCommand` at the place, `Short` at the payload's end.
@@ -14,25 +15,19 @@ pub fn read_one(port: u8, dir: Direction, bytes: &[u8], at: u16) -> Result<(Cmd,
     // What is answered is spelled there.
     ensures found { IfOk result (λ r. Spells r.0 port dir bytes.now at r.1) }
     // What is spelled there is answered, in a payload that isn't too long.
-    ensures only { (c : Cmd) (next : ℕ) → length bytes.now ≤ MAX_PAYLOAD
+    ensures only { (c : Cmd) (next : ℕ) → length bytes.now ≤ max_payload
         → Spells c port dir bytes.now at next → result ≡ Ok (c, next) }
-    ensures fits { OnOk result (length bytes.now ≤ MAX_PAYLOAD) }
+    ensures fits { OnOk result (length bytes.now ≤ max_payload) }
     ensures valid { IfOk result (λ r. IsValid r.0) }
     ensures moves { IfOk result (λ r. at < r.1) }
     // Where nothing is answered: the place and the cause.
-    ensures stops { IfErr result (HasCause port dir bytes.now at) }
+    ensures stops { IfErr result (IsRefusal port dir bytes.now at) }
 {
     if port != CLOCK_PORT && port != FIRMWARE_PORT {
-        return Err(Refusal {
-            at: 0,
-            why: Why::Port,
-        });
+        return Err(Refusal::port());
     }
     if bytes.len() > MAX_PAYLOAD {
-        return Err(Refusal {
-            at: MAX_PAYLOAD as u16,
-            why: Why::TooLong,
-        });
+        return Err(Refusal::too_long());
     }
     match dir {
         Direction::Down if port == CLOCK_PORT => read_clock_down(bytes, at),

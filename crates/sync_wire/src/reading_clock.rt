@@ -2,7 +2,8 @@
 
 ghost use Rattle.std.specs.Prelude.{◌≡◌, ℕ, ◌+◌, ◌<◌, ◌≤◌, length, IfOk, IfErr, Ok};
 ghost use Rattle.std.specs.Result.{result_ok};
-ghost use Rattle.sync_wire.specs.Table.{Spells, IsValid, HasCause};
+ghost use Rattle.wire_base.specs.Payload.{max_payload};
+ghost use Rattle.sync_wire.specs.Table.{Spells, IsValid, IsRefusal};
 ghost use Rattle.sync_wire.specs.Reading.{clock_down, clock_up};
 
 use crate::cmd::Cmd;
@@ -10,25 +11,24 @@ use crate::ids::{
     APP_TIME, APP_TIME_LEN, FORCE_RESYNC, NO_BODY_LEN, ONE_BYTE_LEN, PACKAGE_VERSION, PERIODICITY,
     PERIODICITY_ANSWER_LEN, VERSION_ANSWER_LEN,
 };
-use crate::refusals::{cut_off, unknown};
-use wire_base::{Direction, MAX_PAYLOAD, Refusal, Why, u8_at, u32_at};
+use wire_base::{Direction, Refusal, u8_at, u32_at};
 
 #[tactic(auto, using(crate::proofs::Known::known), unfolding(crate::specs::Reading::clock_down))]
 pub fn read_clock_down(bytes: &[u8], at: u16) -> Result<(Cmd, u16), Refusal>
     requires inside { at < length bytes.now }
-    requires fits { length bytes.now ≤ MAX_PAYLOAD }
+    requires fits { length bytes.now ≤ max_payload }
     ensures found { IfOk result (λ r. Spells r.0 202 Direction.Down bytes.now at r.1) }
     ensures exact { result_ok result ≡ clock_down bytes.now at }
     ensures valid { IfOk result (λ r. IsValid r.0) }
     ensures moves { IfOk result (λ r. at < r.1) }
-    ensures stops { IfErr result (HasCause 202 Direction.Down bytes.now at) }
+    ensures stops { IfErr result (IsRefusal 202 Direction.Down bytes.now at) }
 {
     let end = bytes.len() as u16;
     match u8_at(bytes, at) {
         PACKAGE_VERSION => Ok((Cmd::PackageVersionReq, at + NO_BODY_LEN)),
         APP_TIME => {
             if end < at + APP_TIME_LEN {
-                return Err(cut_off(bytes));
+                return Err(Refusal::short(bytes));
             }
             let answer = Cmd::AppTimeAns {
                 correction: u32_at(bytes, at + 1).cast_signed(),
@@ -38,7 +38,7 @@ pub fn read_clock_down(bytes: &[u8], at: u16) -> Result<(Cmd, u16), Refusal>
         }
         PERIODICITY => {
             if end < at + ONE_BYTE_LEN {
-                return Err(cut_off(bytes));
+                return Err(Refusal::short(bytes));
             }
             let period = u8_at(bytes, at + 1) & 15;
             Ok((
@@ -48,30 +48,30 @@ pub fn read_clock_down(bytes: &[u8], at: u16) -> Result<(Cmd, u16), Refusal>
         }
         FORCE_RESYNC => {
             if end < at + ONE_BYTE_LEN {
-                return Err(cut_off(bytes));
+                return Err(Refusal::short(bytes));
             }
             let count = u8_at(bytes, at + 1) & 7;
             Ok((Cmd::ForceDeviceResyncReq { count }, at + ONE_BYTE_LEN))
         }
-        _ => Err(unknown(at)),
+        _ => Err(Refusal::unknown(at)),
     }
 }
 
 #[tactic(auto, using(crate::proofs::Known::known), unfolding(crate::specs::Reading::clock_up))]
 pub fn read_clock_up(bytes: &[u8], at: u16) -> Result<(Cmd, u16), Refusal>
     requires inside { at < length bytes.now }
-    requires fits { length bytes.now ≤ MAX_PAYLOAD }
+    requires fits { length bytes.now ≤ max_payload }
     ensures found { IfOk result (λ r. Spells r.0 202 Direction.Up bytes.now at r.1) }
     ensures exact { result_ok result ≡ clock_up bytes.now at }
     ensures valid { IfOk result (λ r. IsValid r.0) }
     ensures moves { IfOk result (λ r. at < r.1) }
-    ensures stops { IfErr result (HasCause 202 Direction.Up bytes.now at) }
+    ensures stops { IfErr result (IsRefusal 202 Direction.Up bytes.now at) }
 {
     let end = bytes.len() as u16;
     match u8_at(bytes, at) {
         PACKAGE_VERSION => {
             if end < at + VERSION_ANSWER_LEN {
-                return Err(cut_off(bytes));
+                return Err(Refusal::short(bytes));
             }
             let version = Cmd::PackageVersionAns {
                 identifier: u8_at(bytes, at + 1),
@@ -81,7 +81,7 @@ pub fn read_clock_up(bytes: &[u8], at: u16) -> Result<(Cmd, u16), Refusal>
         }
         APP_TIME => {
             if end < at + APP_TIME_LEN {
-                return Err(cut_off(bytes));
+                return Err(Refusal::short(bytes));
             }
             let param = u8_at(bytes, at + 5);
             let request = Cmd::AppTimeReq {
@@ -93,7 +93,7 @@ pub fn read_clock_up(bytes: &[u8], at: u16) -> Result<(Cmd, u16), Refusal>
         }
         PERIODICITY => {
             if end < at + PERIODICITY_ANSWER_LEN {
-                return Err(cut_off(bytes));
+                return Err(Refusal::short(bytes));
             }
             let answer = Cmd::DeviceAppTimePeriodicityAns {
                 unsupported: u8_at(bytes, at + 1) & 1 == 1,
@@ -101,6 +101,6 @@ pub fn read_clock_up(bytes: &[u8], at: u16) -> Result<(Cmd, u16), Refusal>
             };
             Ok((answer, at + PERIODICITY_ANSWER_LEN))
         }
-        _ => Err(unknown(at)),
+        _ => Err(Refusal::unknown(at)),
     }
 }

@@ -2,7 +2,8 @@
 
 ghost use Rattle.std.specs.Prelude.{◌≡◌, ℕ, ◌+◌, ◌<◌, ◌≤◌, length, IfOk, IfErr, Ok};
 ghost use Rattle.std.specs.Result.{result_ok};
-ghost use Rattle.sync_wire.specs.Table.{Spells, IsValid, HasCause};
+ghost use Rattle.wire_base.specs.Payload.{max_payload};
+ghost use Rattle.sync_wire.specs.Table.{Spells, IsValid, IsRefusal};
 ghost use Rattle.sync_wire.specs.Reading.{firmware_down, firmware_up};
 
 use crate::cmd::Cmd;
@@ -11,18 +12,17 @@ use crate::ids::{
     NO_BODY_LEN, ONE_BYTE_LEN, PACKAGE_VERSION, REBOOT_COUNTDOWN, REBOOT_TIME, STATUS_VALID,
     THREE_BYTES_LEN, UPGRADE_IMAGE, VERSION_ANSWER_LEN,
 };
-use crate::refusals::{cut_off, unknown};
-use wire_base::{Direction, MAX_PAYLOAD, Refusal, Why, u8_at, u24_at, u32_at};
+use wire_base::{Direction, Refusal, u8_at, u24_at, u32_at};
 
 #[tactic(auto, using(crate::proofs::Known::known), unfolding(crate::specs::Reading::firmware_down))]
 pub fn read_firmware_down(bytes: &[u8], at: u16) -> Result<(Cmd, u16), Refusal>
     requires inside { at < length bytes.now }
-    requires fits { length bytes.now ≤ MAX_PAYLOAD }
+    requires fits { length bytes.now ≤ max_payload }
     ensures found { IfOk result (λ r. Spells r.0 203 Direction.Down bytes.now at r.1) }
     ensures exact { result_ok result ≡ firmware_down bytes.now at }
     ensures valid { IfOk result (λ r. IsValid r.0) }
     ensures moves { IfOk result (λ r. at < r.1) }
-    ensures stops { IfErr result (HasCause 203 Direction.Down bytes.now at) }
+    ensures stops { IfErr result (IsRefusal 203 Direction.Down bytes.now at) }
 {
     let end = bytes.len() as u16;
     match u8_at(bytes, at) {
@@ -30,14 +30,14 @@ pub fn read_firmware_down(bytes: &[u8], at: u16) -> Result<(Cmd, u16), Refusal>
         DEV_VERSION => Ok((Cmd::DevVersionReq, at + NO_BODY_LEN)),
         REBOOT_TIME => {
             if end < at + FOUR_BYTES_LEN {
-                return Err(cut_off(bytes));
+                return Err(Refusal::short(bytes));
             }
             let time = u32_at(bytes, at + 1);
             Ok((Cmd::DevRebootTimeReq { time }, at + FOUR_BYTES_LEN))
         }
         REBOOT_COUNTDOWN => {
             if end < at + THREE_BYTES_LEN {
-                return Err(cut_off(bytes));
+                return Err(Refusal::short(bytes));
             }
             let count = u24_at(bytes, at + 1);
             Ok((Cmd::DevRebootCountdownReq { count }, at + THREE_BYTES_LEN))
@@ -45,30 +45,30 @@ pub fn read_firmware_down(bytes: &[u8], at: u16) -> Result<(Cmd, u16), Refusal>
         UPGRADE_IMAGE => Ok((Cmd::DevUpgradeImageReq, at + NO_BODY_LEN)),
         DELETE_IMAGE => {
             if end < at + FOUR_BYTES_LEN {
-                return Err(cut_off(bytes));
+                return Err(Refusal::short(bytes));
             }
             let version = u32_at(bytes, at + 1);
             Ok((Cmd::DevDeleteImageReq { version }, at + FOUR_BYTES_LEN))
         }
-        _ => Err(unknown(at)),
+        _ => Err(Refusal::unknown(at)),
     }
 }
 
 #[tactic(auto, using(crate::proofs::Known::known), unfolding(crate::specs::Reading::firmware_up))]
 pub fn read_firmware_up(bytes: &[u8], at: u16) -> Result<(Cmd, u16), Refusal>
     requires inside { at < length bytes.now }
-    requires fits { length bytes.now ≤ MAX_PAYLOAD }
+    requires fits { length bytes.now ≤ max_payload }
     ensures found { IfOk result (λ r. Spells r.0 203 Direction.Up bytes.now at r.1) }
     ensures exact { result_ok result ≡ firmware_up bytes.now at }
     ensures valid { IfOk result (λ r. IsValid r.0) }
     ensures moves { IfOk result (λ r. at < r.1) }
-    ensures stops { IfErr result (HasCause 203 Direction.Up bytes.now at) }
+    ensures stops { IfErr result (IsRefusal 203 Direction.Up bytes.now at) }
 {
     let end = bytes.len() as u16;
     match u8_at(bytes, at) {
         PACKAGE_VERSION => {
             if end < at + VERSION_ANSWER_LEN {
-                return Err(cut_off(bytes));
+                return Err(Refusal::short(bytes));
             }
             let version = Cmd::PackageVersionAns {
                 identifier: u8_at(bytes, at + 1),
@@ -78,7 +78,7 @@ pub fn read_firmware_up(bytes: &[u8], at: u16) -> Result<(Cmd, u16), Refusal>
         }
         DEV_VERSION => {
             if end < at + DEV_VERSION_ANSWER_LEN {
-                return Err(cut_off(bytes));
+                return Err(Refusal::short(bytes));
             }
             let versions = Cmd::DevVersionAns {
                 firmware: u32_at(bytes, at + 1),
@@ -88,21 +88,21 @@ pub fn read_firmware_up(bytes: &[u8], at: u16) -> Result<(Cmd, u16), Refusal>
         }
         REBOOT_TIME => {
             if end < at + FOUR_BYTES_LEN {
-                return Err(cut_off(bytes));
+                return Err(Refusal::short(bytes));
             }
             let time = u32_at(bytes, at + 1);
             Ok((Cmd::DevRebootTimeAns { time }, at + FOUR_BYTES_LEN))
         }
         REBOOT_COUNTDOWN => {
             if end < at + THREE_BYTES_LEN {
-                return Err(cut_off(bytes));
+                return Err(Refusal::short(bytes));
             }
             let count = u24_at(bytes, at + 1);
             Ok((Cmd::DevRebootCountdownAns { count }, at + THREE_BYTES_LEN))
         }
         UPGRADE_IMAGE => {
             if end < at + ONE_BYTE_LEN {
-                return Err(cut_off(bytes));
+                return Err(Refusal::short(bytes));
             }
             let status = u8_at(bytes, at + 1) & 3;
             if status != STATUS_VALID {
@@ -110,7 +110,7 @@ pub fn read_firmware_up(bytes: &[u8], at: u16) -> Result<(Cmd, u16), Refusal>
                 return Ok((answer, at + ONE_BYTE_LEN));
             }
             if end < at + NEXT_ANSWER_LEN {
-                return Err(cut_off(bytes));
+                return Err(Refusal::short(bytes));
             }
             let next = Some(u32_at(bytes, at + 2));
             let answer = Cmd::DevUpgradeImageAns { status, next };
@@ -118,11 +118,11 @@ pub fn read_firmware_up(bytes: &[u8], at: u16) -> Result<(Cmd, u16), Refusal>
         }
         DELETE_IMAGE => {
             if end < at + ONE_BYTE_LEN {
-                return Err(cut_off(bytes));
+                return Err(Refusal::short(bytes));
             }
             let errors = u8_at(bytes, at + 1) & 3;
             Ok((Cmd::DevDeleteImageAns { errors }, at + ONE_BYTE_LEN))
         }
-        _ => Err(unknown(at)),
+        _ => Err(Refusal::unknown(at)),
     }
 }

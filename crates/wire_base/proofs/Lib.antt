@@ -1,3 +1,4 @@
 pub mod NumberLaws
 pub mod Putting
 pub mod RowLaws
+pub mod Tests

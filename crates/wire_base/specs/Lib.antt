@@ -1,3 +1,6 @@
 pub mod Numbers
 pub mod Payload
 pub mod Rows
+pub mod Tables
+pub mod Found
+pub mod Tests

@@ -1,7 +1,7 @@
 -- Rows of a command table: how a command lies in a payload, how it is written, and which values its fields have.
-use Rattle.std.specs.Prelude.{◌≡◌, ℕ, ◌+◌, ◌-◌, ◌*◌, ◌^◌, ◌<◌, ◌≤◌, Bool, true, false, ◌&&◌, nat_le, if◌then◌else◌, List, [], ◌∷◌, ◌++◌, length, drop, slice_index, ◌⊎◌}
+use Rattle.std.specs.Prelude.{◌≡◌, ℕ, ◌+◌, ◌-◌, ◌*◌, ◌^◌, ◌<◌, ◌≤◌, Bool, true, false, ◌&&◌, nat_le, List, [], ◌∷◌, ◌++◌, length, drop, slice_index, ◌⊎◌}
 use Rattle.wire_base.specs.declared.refusal.Direction.{Direction}
-use Rattle.wire_base.specs.Numbers.{number_at, number_bytes, bits_of}
+use Rattle.wire_base.specs.Numbers.{number_at, number_bytes, bits_of, flag_value}
 
 -- a field that takes only some bits of a number, from its lowest bit on
 pub record Bits : Type 0 where
@@ -15,7 +15,7 @@ bits high low value = record { low = low; count = high + 1 - low; value = value 
 
 -- one bit that says yes or no
 abbrev pub flag : ℕ → Bool → Bits
-flag bit set = bits bit bit (if set then 1 else 0)
+flag bit set = bits bit bit (flag_value set 1)
 
 -- a part of a command's body
 pub data Part : Type 0 where

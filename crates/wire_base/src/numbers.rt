@@ -1,6 +1,8 @@
+//! Numbers of several bytes at places of a payload, and at its end.
+
 ghost use Rattle.std.specs.Prelude.{◌≡◌, ◌+◌, ◌^◌, ◌<◌, ◌≤◌, length};
 ghost use Rattle.wire_base.specs.Payload.{Appends};
-ghost use Rattle.wire_base.specs.Numbers.{number_at, number_bytes};
+ghost use Rattle.wire_base.specs.Numbers.{number_at, number_bytes, flag_value};
 
 use crate::payload::{Full, Payload};
 
@@ -80,4 +82,12 @@ pub fn put_bytes(out: &mut Payload, bytes: &[u8]) -> Result<(), Full>
     ensures { Appends out.old out.new bytes.now result }
 {
     out.append(bytes)
+}
+
+/// The value of a flag: that of its bit where it is set, else 0.
+pub fn flag_value(set: bool, value: u8) -> u8
+    ensures value { result ≡ flag_value set value }
+    ensures most { result ≤ value }
+{
+    if set { value } else { 0 }
 }

@@ -1,5 +1,7 @@
+//! Payloads: the bytes of one frame.
+
 ghost use Rattle.std.specs.Prelude.{◌≡◌, ◌-◌, ◌≤◌, ◌↔◌, [], length, IsTrue};
-ghost use Rattle.wire_base.specs.Payload.{Appends};
+ghost use Rattle.wire_base.specs.Payload.{max_payload, Appends};
 
 use arrayvec::ArrayVec;
 use std::marker::Model;
@@ -19,12 +21,13 @@ pub struct Payload {
 
 impl Model for Payload {
     ghost use Rattle.std.specs.Prelude.{ℕ, List, ◌≤◌, length};
+    ghost use Rattle.wire_base.specs.Payload.{max_payload};
 
     ghost Value = { List ℕ };
 
     ghost view = { λ p. p.bytes.items };
 
-    ghost invariant = { λ p. length p.bytes.items ≤ 242 };
+    ghost invariant = { λ p. length p.bytes.items ≤ max_payload };
 
     ghost inverse = { λ bytes. record { bytes = record { items = bytes } } };
 }
@@ -41,7 +44,7 @@ impl Payload {
 
     /// A payload of these bytes.
     pub fn from_slice(bytes: &[u8]) -> Self
-        requires { length bytes.now ≤ MAX_PAYLOAD }
+        requires { length bytes.now ≤ max_payload }
         ensures { result ≡ bytes.now }
     {
         let mut payload = Payload::new();
@@ -52,7 +55,7 @@ impl Payload {
     /// The number of bytes.
     pub fn len(&self) -> usize
         ensures number { result ≡ length self.now }
-        ensures within { length self.now ≤ MAX_PAYLOAD }
+        ensures within { length self.now ≤ max_payload }
     {
         self.bytes.len()
     }
@@ -66,7 +69,7 @@ impl Payload {
 
     /// How many bytes are free.
     pub fn room(&self) -> usize
-        ensures { result ≡ MAX_PAYLOAD - length self.now }
+        ensures { result ≡ max_payload - length self.now }
     {
         MAX_PAYLOAD - self.bytes.len()
     }
@@ -74,7 +77,7 @@ impl Payload {
     /// The bytes.
     pub fn as_slice(&self) -> &[u8]
         ensures value { result.now ≡ self.now }
-        ensures within { length result.now ≤ MAX_PAYLOAD }
+        ensures within { length result.now ≤ max_payload }
     {
         self.bytes.as_slice()
     }

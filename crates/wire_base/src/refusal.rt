@@ -1,3 +1,10 @@
+//! Why a payload is refused, and where.
+
+ghost use Rattle.std.specs.Prelude.{◌≡◌, ◌≤◌, length};
+ghost use Rattle.wire_base.specs.Payload.{max_payload};
+
+use crate::payload::MAX_PAYLOAD;
+
 /// Which way a payload goes.
 #[derive(Clone, Copy, Debug, PartialEq, Eq)]
 pub enum Direction {
@@ -25,4 +32,47 @@ pub enum Why {
 pub struct Refusal {
     pub at: u16,
     pub why: Why,
+}
+
+impl Refusal {
+    /// The port carries no package that the reader knows.
+    pub fn port() -> Self
+        ensures { result ≡ record { at = 0; why = Why.Port } }
+    {
+        Refusal {
+            at: 0,
+            why: Why::Port,
+        }
+    }
+
+    /// The identifier at this place isn't in the table.
+    pub fn unknown(at: u16) -> Self
+        ensures { result ≡ record { at = at; why = Why.UnknownCommand } }
+    {
+        Refusal {
+            at,
+            why: Why::UnknownCommand,
+        }
+    }
+
+    /// These bytes end within a command.
+    pub fn short(bytes: &[u8]) -> Self
+        requires { length bytes.now ≤ max_payload }
+        ensures { result ≡ record { at = length bytes.now; why = Why.Short } }
+    {
+        Refusal {
+            at: bytes.len() as u16,
+            why: Why::Short,
+        }
+    }
+
+    /// The payload has more bytes than `MAX_PAYLOAD`.
+    pub fn too_long() -> Self
+        ensures { result ≡ record { at = max_payload; why = Why.TooLong } }
+    {
+        Refusal {
+            at: MAX_PAYLOAD as u16,
+            why: Why::TooLong,
+        }
+    }
 }

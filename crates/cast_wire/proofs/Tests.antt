@@ -1,0 +1,49 @@
+-- Each test is true exactly where its fact holds, and the samples have every identifier of the table.
+use Rattle.std.proofs.Common.{◌≡◌, ℕ, true, List, refl, inl, inr}
+use Rattle.std.specs.Bool.{Decides}
+use Rattle.std.specs.Cmp.{booleans_Decides}
+use Rattle.std.proofs.lemmas.Bool.Decides.{Decides-eqb, Decides-and}
+use Rattle.wire_base.specs.declared.refusal.Direction.{Direction}
+use Rattle.wire_base.specs.Rows.{IsListed}
+use Rattle.wire_base.specs.Tests.{has_cid}
+use Rattle.wire_base.proofs.Tests as base
+use Rattle.wire_base.proofs.Tests.{leb_tells}
+use Rattle.cast_wire.specs.declared.cmd.Cmd.{Cmd}
+use Rattle.cast_wire.specs.declared.cmd.Cmd.TheVariants.{PackageVersionReq, PackageVersionAns, FragSessionStatusReq, FragSessionStatusAns, FragSessionSetupReq, FragSessionSetupAns, FragSessionDeleteReq, FragSessionDeleteAns, DataFragment, McGroupStatusReq, McGroupStatusAns, McGroupSetupReq, McGroupSetupAns, McGroupDeleteReq, McGroupDeleteAns, McClassCSessionReq, McClassCSessionAns, McClassBSessionReq, McClassBSessionAns}
+use Rattle.cast_wire.specs.Table.{row, IsWhole, IsKnown}
+use Rattle.cast_wire.specs.Tests.{is_whole, samples, is_known}
+
+pub whole_tells : (c : Cmd) → Decides (is_whole c) (IsWhole c)
+whole_tells (DataFragment index n bytes) = Decides-and _ _ (leb_tells _ _) (leb_tells _ _)
+whole_tells (McGroupStatusAns total mask groups) = Decides-eqb _ _
+whole_tells (McGroupSetupReq id addr key min max) = Decides-eqb _ _
+whole_tells (McClassCSessionAns id undefined freq_error dr_error start) = booleans_Decides _ _
+whole_tells (McClassBSessionAns id undefined freq_error dr_error start) = booleans_Decides _ _
+whole_tells _ = (λ _. tt, λ _. refl)
+
+-- each row has its sample
+sampled : (cmd : Cmd) (port : ℕ) (dir : Direction) → IsListed (row cmd) port dir → has_cid row port dir (row cmd).cid samples ≡ true
+unfolding samples
+sampled PackageVersionReq port dir l = elim l.port_is [ inl on ↦ rw (on, l.direction_is) refl | inr on ↦ rw (on, l.direction_is) refl ]
+sampled (PackageVersionAns a b) port dir l = elim l.port_is [ inl on ↦ rw (on, l.direction_is) refl | inr on ↦ rw (on, l.direction_is) refl ]
+sampled (FragSessionStatusReq a b) port dir l = rw (l.port_is, l.direction_is) refl
+sampled (FragSessionStatusAns a b c d) port dir l = rw (l.port_is, l.direction_is) refl
+sampled (FragSessionSetupReq a b c d e f g h) port dir l = rw (l.port_is, l.direction_is) refl
+sampled (FragSessionSetupAns a b c d e) port dir l = rw (l.port_is, l.direction_is) refl
+sampled (FragSessionDeleteReq a) port dir l = rw (l.port_is, l.direction_is) refl
+sampled (FragSessionDeleteAns a b) port dir l = rw (l.port_is, l.direction_is) refl
+sampled (DataFragment a b c) port dir l = rw (l.port_is, l.direction_is) refl
+sampled (McGroupStatusReq a) port dir l = rw (l.port_is, l.direction_is) refl
+sampled (McGroupStatusAns a b c) port dir l = rw (l.port_is, l.direction_is) refl
+sampled (McGroupSetupReq a b c d e) port dir l = rw (l.port_is, l.direction_is) refl
+sampled (McGroupSetupAns a b) port dir l = rw (l.port_is, l.direction_is) refl
+sampled (McGroupDeleteReq a) port dir l = rw (l.port_is, l.direction_is) refl
+sampled (McGroupDeleteAns a b) port dir l = rw (l.port_is, l.direction_is) refl
+sampled (McClassCSessionReq a b c d e) port dir l = rw (l.port_is, l.direction_is) refl
+sampled (McClassCSessionAns a b c d e) port dir l = rw (l.port_is, l.direction_is) refl
+sampled (McClassBSessionReq a b c d e f) port dir l = rw (l.port_is, l.direction_is) refl
+sampled (McClassBSessionAns a b c d e) port dir l = rw (l.port_is, l.direction_is) refl
+
+pub known_tells : (port : ℕ) (dir : Direction) (cid : ℕ) → Decides (is_known port dir cid) (IsKnown port dir cid)
+unfolding is_known
+known_tells port dir cid = base.known_tells row samples sampled port dir cid

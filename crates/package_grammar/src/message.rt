@@ -1,0 +1,117 @@
+//! A message, command by command.
+ghost use Rattle.std.specs.Prelude.{◌≡◌, ◌≤◌, ◌↔◌, length, IfOk, IfSome, IsTrue};
+ghost use Rattle.wire_base.specs.Payload.{max_payload};
+ghost use Rattle.wire_base.specs.Rows.{IsListed};
+ghost use Rattle.package_grammar.specs.Grammar.{row, IsPort, IsValid};
+ghost use Rattle.package_grammar.specs.Reading.{reading_of};
+ghost use Rattle.package_grammar.specs.HeldMessage.{message_of, TakesCommand};
+
+use crate::command::Command;
+use crate::reading::read_one;
+use cast_wire::MULTICAST_PORT;
+use std::marker::Model;
+use sync_wire::FIRMWARE_PORT;
+use wire_base::{Direction, MAX_PAYLOAD, Refusal};
+
+/// A payload that was read whole and is a message. It hands out its commands one by one; contracts see those that are
+/// left.
+#[derive(Drop)]
+pub struct Message<'a> {
+    port: u8,
+    direction: Direction,
+    bytes: &'a [u8],
+    /// The place of the next command.
+    at: u16,
+}
+
+impl<'a> Model for Message<'a> {
+    ghost use Rattle.package_grammar.specs.HeldMessage.{HeldMessage};
+    ghost use Rattle.package_grammar.specs.MessageInside.{commands_left, IsAt};
+
+    ghost Value = { HeldMessage };
+
+    ghost view = { λ m. record {
+      port = m.port;
+      direction = m.direction;
+      commands = commands_left m.port m.direction m.bytes.now m.at;
+    } };
+
+    ghost invariant = { λ m. IsAt m.port m.direction m.bytes.now m.at };
+}
+
+impl<'a> Message<'a> {
+    /// Reads a payload whole: a message of its commands, or the place at which reading stops, and why.
+    pub fn read(port: u8, direction: Direction, bytes: &'a [u8]) -> Result<Self, Refusal>
+        ensures reading { result ≡ message_of port direction (reading_of port direction bytes.now) }
+        ensures few { IfOk result (λ m. length m.commands ≤ max_payload) }
+    {
+        if !is_port(port) {
+            return Err(Refusal::port());
+        }
+        if bytes.len() > MAX_PAYLOAD {
+            return Err(Refusal::too_long());
+        }
+        let mut at = 0;
+        while (at as usize) < bytes.len() {
+            match read_one(port, direction, bytes, at) {
+                Ok((_command, next)) => at = next,
+                Err(refusal) => return Err(refusal),
+            }
+        }
+        Ok(Message {
+            port,
+            direction,
+            bytes,
+            at: 0,
+        })
+    }
+
+    /// The next command; None exactly where none is left.
+    pub fn next(&mut self) -> Option<Command>
+        ensures takes { TakesCommand self.old self.new result }
+        ensures valid { IfSome result (λ c. IsValid c) }
+        ensures listed { IfSome result (λ c. IsListed (row c) self.old.port self.old.direction) }
+    {
+        if self.at as usize == self.bytes.len() {
+            return None;
+        }
+        match read_one(self.port, self.direction, self.bytes, self.at) {
+            Ok((command, next)) => {
+                self.at = next;
+                Some(command)
+            }
+            Err(_) => None,
+        }
+    }
+
+    /// The same commands once more.
+    pub fn again(&self) -> Message<'a>
+        ensures { result ≡ self.now }
+    {
+        Message {
+            port: self.port,
+            direction: self.direction,
+            bytes: self.bytes,
+            at: self.at,
+        }
+    }
+
+    /// How many commands are left.
+    pub fn count(mut self) -> u16
+        requires { length self.commands ≤ max_payload }
+        ensures { result ≡ length self.entry.commands }
+    {
+        let mut count = 0;
+        while let Some(_command) = self.next() {
+            count += 1;
+        }
+        count
+    }
+}
+
+/// Whether the port is one of the four packages'.
+fn is_port(port: u8) -> bool
+    ensures { IsTrue result ↔ IsPort port }
+{
+    port >= MULTICAST_PORT && port <= FIRMWARE_PORT
+}
