@@ -3,12 +3,14 @@ use Rattle.std.proofs.Common.{◌≡◌, ℕ, List, [], ◌∷◌, replicate, Op
 use Rattle.std.specs.Option.{option_map}
 use Rattle.wire_base.specs.Numbers.{number_at}
 use Rattle.wire_base.specs.declared.refusal.Why.TheVariants as why
-use Rattle.package_grammar.specs.declared.command.Downlink.{Downlink}
-use Rattle.package_grammar.specs.declared.command.To.TheVariants as to
+use Rattle.package_grammar.specs.declared.downlink.Downlink.{Downlink}
+use Rattle.package_grammar.specs.declared.downlink.To.TheVariants as to
+use Rattle.cast_wire.specs.Tests as cast
+use Rattle.sync_wire.specs.Tests as sync
 use Rattle.sync_wire.specs.Reading.{clock_up, firmware_up}
 use Rattle.cast_wire.specs.Reading.{fragment_up, group_up}
 use Rattle.image_slots.specs.Image.{hardware_of, firmware_of}
-use Rattle.trial_reading.specs.Reading.{named_at, command_at, samples, is_known, stop_at, read_from, reading_of}
+use Rattle.package_grammar.specs.Reading.{named_at, command_at, is_known, stop_at, read_from, reading_of}
 use Rattle.campaign_server.specs.declared.plan.Kind.TheVariants as kind
 use Rattle.campaign_server.specs.declared.plan.Field.TheVariants as field
 use Rattle.campaign_server.specs.declared.fragments.Spent.TheVariants.{Fragments as AllSent, Counts}
@@ -135,7 +137,7 @@ pub record Fields : Type 0 where
 -- ---- all of them
 
 rows : Asks × Leads × Times × Sends × Fields
-unfolding request_of request_at hardware_of firmware_of number_at uplink_step read_uplink reading_of read_from command_at named_at stop_at is_known samples clock_up firmware_up fragment_up group_up stage_after_all stage_after time_answer next_fragment after_fragment status_to_all bad_field
+unfolding request_of request_at hardware_of firmware_of number_at uplink_step read_uplink reading_of read_from command_at named_at stop_at is_known sync.is_known sync.samples cast.is_known cast.samples clock_up firmware_up fragment_up group_up stage_after_all stage_after time_answer next_fragment after_fragment status_to_all bad_field
 rows = (
   record { version = refl; fragments = refl; masked = refl; window = refl; status = refl; image_ = refl; reboot = refl; check = refl; updated = refl; refused = refl },
   record {

@@ -1,8 +1,8 @@
 -- The answer to an uplink that asks for the time, command by command.
 use Rattle.std.proofs.Common.{◌≡◌, ℕ, List, [], ◌∷◌, Option, Some, None, refl, sym, ap, ◌∙◌}
 use Rattle.package_grammar.specs.declared.command.Command.{Command}
-use Rattle.package_grammar.specs.declared.command.Downlink.{Downlink}
-use Rattle.trial_reading.specs.HeldMessage.{HeldMessage}
+use Rattle.package_grammar.specs.declared.downlink.Downlink.{Downlink}
+use Rattle.package_grammar.specs.HeldMessage.{HeldMessage}
 use Rattle.campaign_server.specs.Asking.{by_unicast}
 use Rattle.campaign_server.specs.Sent.{down_of}
 use Rattle.campaign_server.specs.Time.{time_answer_to, first_answer, time_answer}

@@ -8,7 +8,7 @@ use Rattle.cast_wire.specs.declared.cmd.Cmd.TheVariants.{McGroupSetupReq, FragSe
 use Rattle.sync_wire.specs.declared.cmd.Cmd.TheVariants.{DevVersionReq, DevUpgradeImageReq, DevRebootCountdownReq}
 use Rattle.package_grammar.specs.declared.command.Command.{Command}
 use Rattle.package_grammar.specs.declared.command.Command.TheVariants.{Sync, Cast}
-use Rattle.package_grammar.specs.declared.command.To.TheVariants.{Unicast}
+use Rattle.package_grammar.specs.declared.downlink.To.TheVariants.{Unicast}
 use Rattle.campaign_server.specs.declared.plan.PlanGroup.{PlanGroup}
 use Rattle.campaign_server.specs.declared.plan.PlanWindow.{PlanWindow}
 use Rattle.campaign_server.specs.declared.plan.PlanDevice.{PlanDevice}

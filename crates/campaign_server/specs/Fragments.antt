@@ -3,8 +3,8 @@ use Rattle.std.specs.Prelude.{ℕ, ◌+◌, Bool, false, ◌==◌, nat_lt, if◌
 use Rattle.frag_encoder.specs.Encoding.{nb_frag_of, data_of}
 use Rattle.cast_wire.specs.declared.cmd.Cmd.TheVariants.{DataFragment, FragSessionStatusReq}
 use Rattle.package_grammar.specs.declared.command.Command.TheVariants.{Cast}
-use Rattle.package_grammar.specs.declared.command.To.{To}
-use Rattle.package_grammar.specs.declared.command.To.TheVariants as to
+use Rattle.package_grammar.specs.declared.downlink.To.{To}
+use Rattle.package_grammar.specs.declared.downlink.To.TheVariants as to
 use Rattle.campaign_server.specs.declared.plan.PlanGroup.{PlanGroup}
 use Rattle.campaign_server.specs.declared.fragments.Spent.{Spent}
 use Rattle.campaign_server.specs.declared.fragments.Spent.TheVariants.{Fragments, Counts}

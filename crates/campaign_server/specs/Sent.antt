@@ -4,8 +4,8 @@ use Rattle.std.specs.Option.{option_map}
 use Rattle.wire_base.specs.declared.refusal.Direction.TheVariants.{Down}
 use Rattle.wire_base.specs.Rows.{IsListed}
 use Rattle.package_grammar.specs.declared.command.Command.{Command}
-use Rattle.package_grammar.specs.declared.command.Downlink.{Downlink}
-use Rattle.package_grammar.specs.declared.command.To.TheVariants.{Unicast}
+use Rattle.package_grammar.specs.declared.downlink.Downlink.{Downlink}
+use Rattle.package_grammar.specs.declared.downlink.To.TheVariants.{Unicast}
 use Rattle.package_grammar.specs.Grammar.{row, IsValid}
 use Rattle.campaign_server.specs.Server.{DownlinkCommand, port_of, downlink_of}
 

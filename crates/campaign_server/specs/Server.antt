@@ -1,8 +1,8 @@
 -- A server of a campaign: what it is at a moment, and at its start (this project's profile).
 use Rattle.std.specs.Prelude.{ℕ, ◌-◌, ◌==◌, if◌then◌else◌, List, length, replicate, slice_get, slice_index_or, Option, Some, None}
 use Rattle.package_grammar.specs.declared.command.Command.{Command}
-use Rattle.package_grammar.specs.declared.command.To.{To}
-use Rattle.package_grammar.specs.declared.command.Downlink.{Downlink}
+use Rattle.package_grammar.specs.declared.downlink.To.{To}
+use Rattle.package_grammar.specs.declared.downlink.Downlink.{Downlink}
 use Rattle.package_grammar.specs.Grammar.{row, canonical}
 use Rattle.campaign_server.specs.declared.plan.PlanGroup.{PlanGroup}
 use Rattle.campaign_server.specs.declared.stage.Stage.{Stage}

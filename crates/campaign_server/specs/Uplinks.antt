@@ -3,7 +3,7 @@ use Rattle.std.specs.Prelude.{ℕ, ◌-◌, List, slice_set, Option, Some, None,
 use Rattle.wire_base.specs.declared.refusal.Direction.TheVariants.{Up}
 use Rattle.wire_base.specs.declared.refusal.Refusal.{Refusal}
 use Rattle.package_grammar.specs.declared.command.Command.{Command}
-use Rattle.trial_reading.specs.Reading.{Reading, reading_of}
+use Rattle.package_grammar.specs.Reading.{Reading, reading_of}
 use Rattle.campaign_server.specs.declared.stage.Stage.{Stage}
 use Rattle.campaign_server.specs.Server.{ServerState, DownlinkCommand, ledger}
 use Rattle.campaign_server.specs.Asking.{by_unicast}

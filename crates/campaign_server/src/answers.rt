@@ -9,8 +9,7 @@ use crate::plan::{Kind, Plan, PlanWindow};
 use crate::stage::{Request, Stage};
 use cast_wire::Cmd;
 use image_slots::{firmware, hardware};
-use package_grammar::Command;
-use trial_reading::Message;
+use package_grammar::{Command, Message};
 
 /// The session's index and the group's id that are asked of.
 const SESSION_INDEX: u8 = 0;

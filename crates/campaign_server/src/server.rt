@@ -22,10 +22,9 @@ use crate::plan::{Field, Plan, PlanDevice, PlanGroup};
 use crate::stage::{Request, Stage};
 use crate::time::time_answer;
 use frag_encoder::{Encoder, EncoderError};
-use package_grammar::Downlink;
+use package_grammar::{Downlink, Message};
 use std::alloc::{AllocError, Global};
 use std::marker::Model;
-use trial_reading::Message;
 use wire_base::{Direction, Refusal};
 
 /// Why there is no server.

@@ -1,13 +1,12 @@
 //! Commands as the server sends them.
 
 ghost use Rattle.std.specs.Prelude.{◌≡◌};
-ghost use Rattle.package_grammar.specs.declared.command.To.TheVariants as to;
-ghost use Rattle.package_grammar.specs.Grammar.{canonical};
+ghost use Rattle.package_grammar.specs.declared.downlink.To.TheVariants as to;
 ghost use Rattle.campaign_server.specs.Server.{downlink_of};
 ghost use Rattle.campaign_server.specs.Sent.{IsSent};
 
-use package_grammar::{Command, Downlink, To, write_one};
-use wire_base::{Direction, Payload};
+use package_grammar::{Command, Downlink, To, spelled};
+use wire_base::Direction;
 
 /// A command on its way to devices.
 pub fn sent(to: To, port: u8, command: &Command) -> Downlink
@@ -17,7 +16,7 @@ pub fn sent(to: To, port: u8, command: &Command) -> Downlink
     Downlink {
         to,
         port,
-        payload: spelled(port, command),
+        payload: spelled(port, Direction::Down, command),
     }
 }
 
@@ -27,15 +26,4 @@ pub fn unicast(port: u8, command: Command) -> Downlink
     ensures { result ≡ downlink_of (record { to = to.Unicast; command = command }) }
 {
     sent(To::Unicast, port, &command)
-}
-
-/// The canonical spelling of a command that is sent on this port.
-#[tactic(auto, using(package_grammar::proofs::Written::fits))]
-fn spelled(port: u8, command: &Command) -> Payload
-    requires { IsSent port command.now }
-    ensures { result ≡ canonical command.now }
-{
-    let mut payload = Payload::new();
-    let _fits = write_one(port, Direction::Down, command, &mut payload);
-    payload
 }

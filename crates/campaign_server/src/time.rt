@@ -10,9 +10,8 @@ ghost use Rattle.campaign_server.specs.Sent.{down_of};
 
 use crate::spelling::unicast;
 use clock_sync::{answer_needed, correction};
-use package_grammar::{Command, Downlink};
+use package_grammar::{Command, Downlink, Message};
 use sync_wire::{CLOCK_PORT, Cmd};
-use trial_reading::Message;
 
 /// The answer to the first AppTimeReq of an uplink that needs one, at t ms of true time.
 pub fn time_answer(t: u64, mut message: Message) -> Option<Downlink>

@@ -5,3 +5,4 @@ pub mod Answers
 pub mod ReadingLaw
 pub mod Cursor
 pub mod Examples
+pub mod WhatIsRead

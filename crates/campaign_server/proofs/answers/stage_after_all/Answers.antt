@@ -1,6 +1,6 @@
 use Rattle.std.proofs.Common.{◌≡◌, List, ap, ◌∙◌, sym}
 use Rattle.package_grammar.specs.declared.command.Command.{Command}
-use Rattle.trial_reading.specs.HeldMessage.{HeldMessage}
+use Rattle.package_grammar.specs.HeldMessage.{HeldMessage}
 use Rattle.campaign_server.specs.Answers.{stage_after, stage_after_all}
 use Rattle.campaign_server.proofs.answers.stage_after_all.Goals as goal
 

@@ -1,5 +1,5 @@
 use Rattle.std.proofs.Common.{◌≡◌, ap, ◌∙◌, sym}
-use Rattle.trial_reading.specs.HeldMessage.{HeldMessage}
+use Rattle.package_grammar.specs.HeldMessage.{HeldMessage}
 use Rattle.campaign_server.specs.Time.{time_answer_to, time_answer}
 use Rattle.campaign_server.specs.Asking.{by_unicast}
 use Rattle.campaign_server.specs.Sent.{down_of}
