@@ -4,4 +4,5 @@ pub mod Written
 pub mod Answers
 pub mod ReadingLaw
 pub mod Cursor
+pub mod ReadResults
 pub mod Examples
