@@ -3,6 +3,7 @@ pub mod Writing
 pub mod ReplyLemmas
 pub mod Messages
 pub mod DeviceLemmas
+pub mod Acting
 pub mod Texts
 pub mod CauseLemmas
 pub mod WorldLemmas

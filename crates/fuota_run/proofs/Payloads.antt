@@ -7,8 +7,8 @@ use Rattle.fuota_run.specs.declared.world.WorldError.{WorldError}
 use Rattle.fuota_run.specs.declared.world.WorldError.TheVariants as error
 use Rattle.fuota_run.specs.Script.{lines_of}
 use Rattle.fuota_run.specs.PayloadLines.{TakesLines, told_by, IsLineRefused, IsTold}
-use Rattle.fuota_run.specs.Decode.{commands_text, stop_text, numbered_text, Writes, Decodes, HasOneAnswer}
-use Rattle.fuota_run.proofs.PayloadLines.{comes_once, line_refused, lines_once}
+use Rattle.fuota_run.specs.Decode.{numbered_text, Writes, Decodes, HasOneAnswer}
+use Rattle.fuota_run.proofs.PayloadLines.{line_refused, lines_once}
 
 -- texts that were written one behind another
 pub three_on : (text one two rest : List ℕ) → ((text ++ one) ++ two) ++ rest ≡ text ++ (one ++ (two ++ rest))
@@ -34,14 +34,10 @@ pub all_written : (port : ℕ) (dir : Direction) (file text : List ℕ) → Take
 unfolding Decodes
 all_written port dir file text taken = (Ok text, taken, refl)
 
--- a line's number and payload lead to one text
-writes_once : (port : ℕ) (dir : Direction) (n : ℕ) (payload text one other : List ℕ) → Writes port dir n payload text one → Writes port dir n payload text other → one ≡ other
-writes_once port dir n payload text one other first second =
-    first.2 ∙ ap (λ (shown : List ℕ). text ++ numbered_text n shown) (comes_once port dir payload (λ cs. commands_text cs) (λ r. stop_text r) first.0 second.0 first.1 second.1) ∙ sym second.2
-
+-- no file is decoded in two ways, since each step leads to one text
 pub decode_one : HasOneAnswer
 unfolding Decodes
 decode_one port dir file one other first second =
     first.2
-    ∙ ap (told_by (λ text. text ++ codes "end\n")) (lines_once (Writes port dir) 0 [] (lines_of file) first.0 second.0 (writes_once port dir) first.1 second.1)
+    ∙ ap (told_by (λ text. text ++ codes "end\n")) (lines_once (Writes port dir) 0 [] (lines_of file) first.0 second.0 (λ n payload text one other written again. written ∙ sym again) first.1 second.1)
     ∙ sym second.2

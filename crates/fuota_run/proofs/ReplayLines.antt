@@ -1,22 +1,21 @@
 -- A file of payloads that a device hears.
-use Rattle.std.proofs.Common.{◌≡◌, ℕ, ◌+◌, ◌<◌, ◌≤◌, true, false, nat_le, List, [], ◌∷◌, length, ◌==◌, Result, Ok, Err, IfOk, IfErr, refl, sym, ap, subst, ◌∙◌, inl, inr, le-leb, arith}
-use Rattle.std.proofs.lemmas.Bool.{lt-leb, eqb-true}
+use Rattle.std.proofs.Common.{◌≡◌, ℕ, ◌+◌, ◌<◌, ◌≤◌, true, false, leb, ltb, List, [], ◌∷◌, length, ◌==◌, Result, Ok, Err, IfOk, IfErr, refl, sym, ap, subst, ◌∙◌, inl, inr, le-leb, arith}
+use Rattle.std.proofs.lemmas.Bool.{cases_lt, lt-ltb, le-ltb, lt-leb, eqb-true}
 use Rattle.std.specs.Global.{Global}
 use Rattle.std.specs.declared.vec.Vec.{Vec}
 use Rattle.wire_base.specs.declared.refusal.Direction.TheVariants.{Down}
-use Rattle.wire_base.specs.declared.refusal.Refusal.{Refusal}
 use Rattle.package_grammar.specs.declared.command.Command.{Command}
-use Rattle.package_grammar.specs.Grammar.{IsMessage, IsStop}
-use Rattle.fuota_run.specs.declared.device.Counts.{Counts}
-use Rattle.fuota_run.specs.declared.device.Delivered.{Delivered}
-use Rattle.fuota_run.specs.declared.device.Delivered.TheVariants.{Done, OutboxFull, Refused}
+use Rattle.package_grammar.specs.Grammar.{IsReading}
+use Rattle.package_grammar.specs.Reading.{Reading, reading_of}
+use Rattle.package_grammar.proofs.ReadingLaw.{reads}
 use Rattle.fuota_run.specs.declared.world.LineWhy.{LineWhy}
 use Rattle.fuota_run.specs.declared.world.LineWhy.TheVariants as why
 use Rattle.fuota_run.specs.declared.world.LineFault.{LineFault}
 use Rattle.fuota_run.specs.declared.world.WorldError.{WorldError}
 use Rattle.fuota_run.specs.declared.world.WorldError.TheVariants as error
 use Rattle.fuota_run.specs.Script.{lines_of}
-use Rattle.fuota_run.specs.Device.{DeviceState, raised, after_commands, weights, with_refusal, with_full}
+use Rattle.fuota_run.specs.Device.{DeviceState, weights, with_refusal}
+use Rattle.fuota_run.specs.Deliver.{delivery}
 use Rattle.fuota_run.specs.HeldDevice.{HeldDevice, StandsAs}
 use Rattle.fuota_run.specs.PayloadLines.{TakesLines, told_by, IsLineRefused, IsTold}
 use Rattle.fuota_run.specs.Replay.{header_rows, replay_device, after_message, Hears, ReachesBehind, Reaches, replay_text, Replays, ReplaysOnce}
@@ -45,52 +44,29 @@ replay_one file one other first second =
 
 -- ---- a payload at a held device
 
--- what the device says of a payload that finds its outbox empty
-pub record Delivers (r : Delivered) (old mid : HeldDevice) (before : DeviceState) (payload : List ℕ) (mark : ℕ) : Type 0 where
-  pub done : (cs : List Command) → IsMessage cs 201 Down payload → length old.outbox + weights cs ≤ 8 → StandsAs mid (after_commands before cs mark)
-  pub only : r ≡ Done → (cs : List Command) × IsMessage cs 201 Down payload × (length old.outbox + weights cs ≤ 8)
-  pub whole : (n : ℕ) → r ≡ OutboxFull n → (cs : List Command) × IsMessage cs 201 Down payload
-  pub count : (n : ℕ) (cs : List Command) → r ≡ OutboxFull n → IsMessage cs 201 Down payload → (n ≡ length old.outbox + weights cs) × (8 < n)
-  pub full : (n : ℕ) → r ≡ OutboxFull n → mid ≡ record old { counts = record old.counts { full = raised old.counts.full } }
-  pub stops : (refusal : Refusal) → r ≡ Refused refusal → IsStop 201 Down payload refusal
-  pub refused : (refusal : Refusal) → r ≡ Refused refusal → mid ≡ record old { counts = record old.counts { refused = raised old.counts.refused } }
+-- behind a message the device is what the replay says
+heard_as : (before : DeviceState) (held : ℕ) (cs : List Command) (mark : ℕ) → held ≡ 0 → (delivery before held 201 (Ok cs) mark).device ≡ after_message before cs mark
+unfolding delivery after_message
+heard_as before held cs mark none = elim (cases_lt 8 (weights cs)) [
+  | inl many ↦
+      let over : ltb 8 (held + weights cs) ≡ true = lt-ltb _ _ (omega (arith, none, many)) in
+      let past : leb (weights cs) 8 ≡ false = lt-leb _ _ many in rw (over, past) refl
+  | inr few ↦
+      let under : ltb 8 (held + weights cs) ≡ false = le-ltb _ _ (omega (arith, none, few)) in
+      let within : leb (weights cs) 8 ≡ true = le-leb _ _ few in rw (under, within) refl
+]
 
--- a counter more, and all else as before
-full_stands : (old mid : HeldDevice) (before : DeviceState) → StandsAs old before → mid ≡ record old { counts = record old.counts { full = raised old.counts.full } } → StandsAs mid (with_full before)
-full_stands old mid before s is = subst (λ (h : HeldDevice). StandsAs h (with_full before)) (sym is)
-    (record { places = s.places; config = s.config; next = s.next; counts = ap (λ (k : Counts). let more : Counts = record k { full = raised k.full } in more) s.counts })
+-- so a payload that finds the outbox empty is heard
+heard_by : (reading : Reading) (held : ℕ) (mid : HeldDevice) (before : DeviceState) (payload : List ℕ) (mark : ℕ) → held ≡ 0 → IsReading 201 Down payload reading
+    → StandsAs mid (delivery before held 201 reading mark).device → (after : DeviceState) × Hears mark payload before after × StandsAs mid after
+unfolding delivery
+heard_by (Ok cs) held mid before payload mark none message stands =
+    (after_message before cs mark, inl (cs, message, refl), subst (λ (d : DeviceState). StandsAs mid d) (heard_as before held cs mark none) stands)
+heard_by (Err refusal) held mid before payload mark none stops stands = (with_refusal before, inr (refusal, stops, refl), stands)
 
-refusal_stands : (old mid : HeldDevice) (before : DeviceState) → StandsAs old before → mid ≡ record old { counts = record old.counts { refused = raised old.counts.refused } } → StandsAs mid (with_refusal before)
-refusal_stands old mid before s is = subst (λ (h : HeldDevice). StandsAs h (with_refusal before)) (sym is)
-    (record { places = s.places; config = s.config; next = s.next; counts = ap (λ (k : Counts). let more : Counts = record k { refused = raised k.refused } in more) s.counts })
-
--- all its commands act
-acts : (before : DeviceState) (cs : List Command) (mark : ℕ) → weights cs ≤ 8 → after_message before cs mark ≡ after_commands before cs mark
-unfolding after_message
-acts before cs mark few = let t : nat_le (weights cs) 8 ≡ true = le-leb _ _ few in rw t refl
-
--- or none does
-acts_not : (before : DeviceState) (cs : List Command) (mark : ℕ) → 8 < weights cs → after_message before cs mark ≡ with_full before
-unfolding after_message
-acts_not before cs mark many = let t : nat_le (weights cs) 8 ≡ false = lt-leb _ _ many in rw t refl
-
-few_alone : (outbox w : ℕ) → outbox ≡ 0 → outbox + w ≤ 8 → w ≤ 8
-few_alone outbox w none few = omega (arith, none)
-
-many_alone : (outbox w n : ℕ) → outbox ≡ 0 → n ≡ outbox + w → 8 < n → 8 < w
-many_alone outbox w n none count many = omega (arith, none, count)
-
-pub hears_by : (r : Delivered) (old mid : HeldDevice) (before : DeviceState) (payload : List ℕ) (mark : ℕ) → length old.outbox ≡ 0 → StandsAs old before → Delivers r old mid before payload mark
-    → (after : DeviceState) × Hears mark payload before after × StandsAs mid after
-hears_by Done old mid before payload mark none s d =
-    let only = d.only refl in
-    (after_commands before only.0 mark, inl (only.0, only.1, sym (acts before only.0 mark (few_alone _ _ none only.2))), d.done only.0 only.1 only.2)
-hears_by (OutboxFull n) old mid before payload mark none s d =
-    let whole = d.whole n refl in
-    let count = d.count n whole.0 refl whole.1 in
-    (with_full before, inl (whole.0, whole.1, sym (acts_not before whole.0 mark (many_alone _ _ n none count.0 count.1))), full_stands old mid before s (d.full n refl))
-hears_by (Refused refusal) old mid before payload mark none s d =
-    (with_refusal before, inr (refusal, d.stops refusal refl, refl), refusal_stands old mid before s (d.refused refusal refl))
+pub hears_by : (held : ℕ) (mid : HeldDevice) (before : DeviceState) (payload : List ℕ) (mark : ℕ) → held ≡ 0
+    → StandsAs mid (delivery before held 201 (reading_of 201 Down payload) mark).device → (after : DeviceState) × Hears mark payload before after × StandsAs mid after
+hears_by held mid before payload mark none stands = heard_by (reading_of 201 Down payload) held mid before payload mark none (reads 201 Down payload) stands
 
 -- uplinks that are thrown away leave the device what it is
 pub without_uplinks : (mid new : HeldDevice) (after : DeviceState) → new ≡ record mid { outbox = [] } → StandsAs mid after → StandsAs new after

@@ -1,15 +1,16 @@
 -- What `decode` says of a file of payloads, one a line. (This project's profile.)
-use Rattle.std.specs.Prelude.{◌≡◌, ℕ, List, [], ◌∷◌, ◌++◌, codes, Result}
+use Rattle.std.specs.Prelude.{◌≡◌, ℕ, List, [], ◌∷◌, ◌++◌, codes, Result, Ok, Err}
 use Rattle.std.specs.Fmt.{decimal}
 use Rattle.wire_base.specs.declared.refusal.Direction.{Direction}
 use Rattle.wire_base.specs.declared.refusal.Refusal.{Refusal}
 use Rattle.wire_base.specs.declared.refusal.Why.{Why}
 use Rattle.wire_base.specs.declared.refusal.Why.TheVariants as stop
 use Rattle.package_grammar.specs.declared.command.Command.{Command}
+use Rattle.package_grammar.specs.Reading.{Reading, reading_of}
 use Rattle.package_grammar.specs.Texts.{text_of}
 use Rattle.fuota_run.specs.declared.world.LineFault.{LineFault}
 use Rattle.fuota_run.specs.Script.{lines_of}
-use Rattle.fuota_run.specs.PayloadLines.{ComesOf, TakesLines, told_by, TellsOnce}
+use Rattle.fuota_run.specs.PayloadLines.{TakesLines, told_by, TellsOnce}
 
 -- ---- the text of a payload
 
@@ -28,9 +29,10 @@ stop_word stop.TooLong = codes "long"
 abbrev pub stop_text : Refusal → List ℕ
 stop_text refusal = codes "refused " ++ decimal refusal.at ++ (codes " " ++ stop_word refusal.why ++ codes "\n")
 
--- the text is that of all commands of the payload, or says where and why reading it stops
-abbrev pub IsShown : ℕ → Direction → List ℕ → List ℕ → Type 0
-IsShown port direction payload text = ComesOf port direction payload (λ cs. commands_text cs) (λ refusal. stop_text refusal) text
+-- the text of what a payload says: all its commands, or where and why reading it stops
+abbrev pub payload_text : Reading → List ℕ
+payload_text (Ok commands) = commands_text commands
+payload_text (Err refusal) = stop_text refusal
 
 -- ---- the text of a file
 
@@ -40,7 +42,7 @@ numbered_text n shown = codes "line " ++ (decimal n ++ (codes "\n" ++ shown))
 
 -- the line's number and its payload's text go behind what is written so far
 abbrev pub Writes : ℕ → Direction → ℕ → List ℕ → List ℕ → List ℕ → Type 0
-Writes port direction n payload text next = (shown : List ℕ) × IsShown port direction payload shown × (next ≡ text ++ numbered_text n shown)
+Writes port direction n payload text next = next ≡ text ++ numbered_text n (payload_text (reading_of port direction payload))
 
 -- what is told of a file: the whole text, or the first refused line
 unfoldable pub Decodes : ℕ → Direction → List ℕ → Result (List ℕ) LineFault → Type 0

@@ -5,6 +5,7 @@ pub mod Script
 pub mod Commands
 pub mod Sessions
 pub mod Device
+pub mod Deliver
 pub mod Report
 pub mod Server
 pub mod Ranges

@@ -4,7 +4,7 @@ use Rattle.hex.specs.Hex.{decode_of}
 use Rattle.hex.specs.declared.error.FromHexError.{FromHexError}
 use Rattle.wire_base.specs.declared.refusal.Direction.{Direction}
 use Rattle.wire_base.specs.declared.refusal.Refusal.{Refusal}
-use Rattle.wire_base.specs.declared.payload.TheConstants.{MAX_PAYLOAD}
+use Rattle.wire_base.specs.Payload.{max_payload}
 use Rattle.package_grammar.specs.declared.command.Command.{Command}
 use Rattle.package_grammar.specs.Grammar.{IsMessage, IsStop}
 use Rattle.fuota_run.specs.declared.world.LineWhy.{LineWhy}
@@ -19,7 +19,7 @@ use Rattle.fuota_run.specs.declared.world.TheConstants.{MAX_LINES, MAX_LINE}
 -- the bytes that hex digits spell, or that they spell none, or too many for a payload
 unfoldable pub payload_by : Result (List ℕ) FromHexError → Result (List ℕ) LineWhy
 payload_by (Err e) = Err why.Syntax
-payload_by (Ok payload) = if nat_lt MAX_PAYLOAD (length payload) then Err why.Limit else Ok payload
+payload_by (Ok payload) = if nat_lt max_payload (length payload) then Err why.Limit else Ok payload
 
 -- the payload of a line that comes after so many, or the first cause for which the line is refused
 unfoldable pub payload_of : ℕ → List ℕ → Result (List ℕ) LineWhy

@@ -1,16 +1,15 @@
 // What `decode` says of a file of payloads, one a line.
-ghost use Rattle.std.specs.Prelude.{◌≡◌, ℕ, ◌+◌, ◌<◌, ◌≤◌, List, ◌++◌, length, codes, string_bytes, Ok, IfOk, IfErr, OnOk};
+ghost use Rattle.std.specs.Prelude.{◌≡◌, ℕ, ◌+◌, ◌<◌, ◌≤◌, List, ◌++◌, codes, string_bytes, Ok, IfOk, IfErr, OnOk};
 ghost use Rattle.std.specs.Fmt.{decimal};
-ghost use Rattle.package_grammar.specs.declared.command.Command.{Command};
-ghost use Rattle.package_grammar.specs.Grammar.{SpellsTo};
+ghost use Rattle.package_grammar.specs.Reading.{reading_of};
 ghost use Rattle.fuota_run.specs.Texts.{seen_text};
 ghost use Rattle.fuota_run.specs.PayloadLines.{payload_of, IsLineRefused, IsTold};
-ghost use Rattle.fuota_run.specs.Decode.{commands_text, stop_word, stop_text, IsShown, numbered_text, Decodes};
+ghost use Rattle.fuota_run.specs.Decode.{commands_text, stop_word, stop_text, payload_text, numbered_text, Writes, Decodes};
 
 use crate::lines::first_line;
 use crate::payload_lines::read_payload;
 use crate::world::WorldError;
-use package_grammar::{check, read_one, show};
+use package_grammar::{Message, show};
 use std::alloc::{AllocError, Global};
 use wire_base::{Direction, Why};
 
@@ -48,7 +47,7 @@ fn decode_line(
 ) -> Result<(), WorldError>
     requires { lines ≤ 20000 }
     ensures shown { OnOk result ((payload : List ℕ) × (payload_of lines line.now ≡ Ok payload)
-        × ((shown : List ℕ) × IsShown port dir payload shown × (text.new.items ≡ text.old.items ++ numbered_text (lines + 1) shown))) }
+        × Writes port dir (lines + 1) payload text.old.items text.new.items) }
     ensures few { OnOk result (lines < 20000) }
     ensures refused { IfErr result (IsLineRefused lines line.now) }
 {
@@ -71,14 +70,14 @@ fn show_numbered(
     payload: &[u8],
     text: &mut Vec<u8>,
 ) -> Result<(), AllocError>
-    ensures { OnOk result ((shown : List ℕ) × IsShown port dir payload.now shown × (text.new.items ≡ text.old.items ++ numbered_text number shown)) }
+    ensures { OnOk result (Writes port dir number payload.now text.old.items text.new.items) }
 {
     let head = format!(in alloc; "line {number}\n")?;
     text.extend_from_slice(head.as_bytes())?;
     show_payload(alloc, port, dir, payload, text)
 }
 
-/// Writes the commands of a payload, each on a line, or where and why reading stops.
+/// Writes what a payload says: its commands, or where and why reading stops.
 fn show_payload(
     alloc: Global,
     port: u8,
@@ -86,10 +85,10 @@ fn show_payload(
     payload: &[u8],
     text: &mut Vec<u8>,
 ) -> Result<(), AllocError>
-    ensures { OnOk result ((shown : List ℕ) × IsShown port dir payload.now shown × (text.new.items ≡ text.old.items ++ shown)) }
+    ensures { OnOk result (text.new.items ≡ text.old.items ++ payload_text (reading_of port dir payload.now)) }
 {
-    match check(port, dir, payload) {
-        Ok(_) => show_from(port, dir, payload, 0, text),
+    match Message::read(port, dir, payload) {
+        Ok(message) => show_commands(message, text),
         Err(refusal) => {
             let line = stop_line(alloc, refusal.at, stop_word(refusal.why))?;
             text.extend_from_slice(line.as_bytes())
@@ -97,29 +96,15 @@ fn show_payload(
     }
 }
 
-/// Writes the commands of a payload from a place on.
-fn show_from(
-    port: u8,
-    dir: Direction,
-    payload: &[u8],
-    at: u16,
-    text: &mut Vec<u8>,
-) -> Result<(), AllocError>
-    requires within { at ≤ length payload.now }
-    requires fits { length payload.now ≤ 242 }
-    ensures { OnOk result ((cs : List Command) → SpellsTo cs port dir payload.now at (length payload.now) → text.new.items ≡ text.old.items ++ commands_text cs) }
+/// Writes the commands of a message, each on a line.
+fn show_commands(mut message: Message<'_>, text: &mut Vec<u8>) -> Result<(), AllocError>
+    ensures { OnOk result (text.new.items ≡ text.old.items ++ commands_text message.entry.commands) }
 {
-    if at as usize == payload.len() {
-        return Ok(());
+    while let Some(command) = message.next() {
+        show(&command, text)?;
+        text.extend_from_slice(b"\n")?;
     }
-    match read_one(port, dir, payload, at) {
-        Ok((command, next)) => {
-            show(&command, text)?;
-            text.extend_from_slice(b"\n")?;
-            show_from(port, dir, payload, next, text)
-        }
-        Err(_) => Ok(()),
-    }
+    Ok(())
 }
 
 fn stop_line(alloc: Global, at: u16, why: &str) -> Result<String, AllocError>

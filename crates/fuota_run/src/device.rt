@@ -12,10 +12,13 @@ ghost use Rattle.package_grammar.specs.declared.command.Command.{Command};
 ghost use Rattle.cast_wire.specs.declared.cmd.Cmd.TheVariants.{FragSessionStatusAns, FragSessionDeleteAns};
 ghost use Rattle.sync_wire.specs.declared.cmd.Cmd.TheVariants.{DevVersionAns};
 ghost use Rattle.wire_base.specs.Rows.{IsListed};
-ghost use Rattle.package_grammar.specs.Grammar.{row, IsValid, SpellsTo, IsMessage, IsStop};
+ghost use Rattle.wire_base.specs.Payload.{max_payload};
+ghost use Rattle.package_grammar.specs.Grammar.{row, IsValid};
+ghost use Rattle.package_grammar.specs.Reading.{reading_of};
+ghost use Rattle.fuota_run.specs.Deliver.{delivery, all_acted};
 ghost use Rattle.fuota_run.specs.Commands.{IsUplink, Upward, upward, identifier_of};
 ghost use Rattle.fuota_run.specs.Sessions.{Sessions, session_at, with_session, SessionsStand};
-ghost use Rattle.fuota_run.specs.Device.{DeviceState, room, first_device, limits_of, raised, after_data, after_command, status_answers, answer_to, weight, after_commands, answers_to, weights, setup_answer, has_bit, offered, is_complete, shows_file};
+ghost use Rattle.fuota_run.specs.Device.{DeviceState, room, first_device, limits_of, raised, after_data, after_command, status_answers, answer_to, weight, weights, setup_answer, has_bit, offered, is_complete, shows_file};
 
 use crate::sessions::{Places, SESSIONS};
 use crate::spelling::spelled;
@@ -23,7 +26,7 @@ use arrayvec::ArrayVec;
 use cast_wire::Cmd;
 use frag_session::{Heard, Limits, SetupReq, StatusAns, Verdict, View};
 use image_slots::{ImageState, ImageView};
-use package_grammar::{Command, check, read_one};
+use package_grammar::{Command, Message};
 use row_elimination::Memory;
 use std::alloc::Global;
 use std::marker::Model;
@@ -103,7 +106,7 @@ impl Model for Device {
 }
 
 impl Device {
-    ghost use Rattle.fuota_run.specs.HeldDevice.{StandsAs, TakesUplink, uplink_of};
+    ghost use Rattle.fuota_run.specs.HeldDevice.{StandsAs, IsDelivered, TakesUplink, uplink_of};
 
     /// A device at its start, with all memory that it will ever need.
     pub fn reserve(alloc: Global, config: DeviceConfig) -> Result<Self, Memory>
@@ -126,52 +129,50 @@ impl Device {
 
     /// Takes a payload: all its commands act in order, or none does.
     pub fn deliver(&mut self, port: u8, payload: &[u8], mark: u64) -> Delivered
-        ensures done { (device : DeviceState) (cs : List Command) → StandsAs self.old device → IsMessage cs port Direction.Down payload.now
-            → length self.old.outbox + weights cs ≤ 8 → StandsAs self.new (after_commands device cs mark) }
-        ensures answers { (device : DeviceState) (cs : List Command) → StandsAs self.old device → IsMessage cs port Direction.Down payload.now
-            → length self.old.outbox + weights cs ≤ 8 → self.new.outbox ≡ self.old.outbox ++ map uplink_of (answers_to device port cs mark) }
-        ensures sendable { (device : DeviceState) (cs : List Command) → StandsAs self.old device → IsMessage cs port Direction.Down payload.now
-            → length self.old.outbox + weights cs ≤ 8 → AllByRecursion IsUplink (answers_to device port cs mark) }
-        ensures full { (n : ℕ) → result ≡ Delivered.OutboxFull n → self.new ≡ record self.old { counts = record self.old.counts { full = raised self.old.counts.full } } }
-        ensures stops { (refusal : Refusal) → result ≡ Delivered.Refused refusal → IsStop port Direction.Down payload.now refusal }
-        ensures count { (n : ℕ) (cs : List Command) → result ≡ Delivered.OutboxFull n → IsMessage cs port Direction.Down payload.now
-            → (n ≡ length self.old.outbox + weights cs) × (8 < n) }
-        ensures refused { (refusal : Refusal) → result ≡ Delivered.Refused refusal → self.new ≡ record self.old { counts = record self.old.counts { refused = raised self.old.counts.refused } } }
-        ensures acted { (cs : List Command) → IsMessage cs port Direction.Down payload.now → length self.old.outbox + weights cs ≤ 8 → result ≡ Delivered.Done }
-        ensures only { result ≡ Delivered.Done → (cs : List Command) × IsMessage cs port Direction.Down payload.now × (length self.old.outbox + weights cs ≤ 8) }
-        ensures whole { (n : ℕ) → result ≡ Delivered.OutboxFull n → (cs : List Command) × IsMessage cs port Direction.Down payload.now }
+        ensures { (device : DeviceState) → StandsAs self.old device
+            → IsDelivered self.old self.new result
+            (delivery device (length self.old.outbox) port (reading_of port Direction.Down payload.now) mark) }
     {
-        if let Err(refusal) = check(port, Direction::Down, payload) {
-            self.counts.refused = self.counts.refused.saturating_add(1);
-            return Delivered::Refused(refusal);
-        }
-        let weight = self.outbox.len() as u16 + weight_from(port, payload, 0);
+        let message = match Message::read(port, Direction::Down, payload) {
+            Ok(message) => message,
+            Err(refusal) => {
+                self.count_refused();
+                return Delivered::Refused(refusal);
+            }
+        };
+        let weight = self.outbox.len() as u16 + weights(message.again());
         if weight as usize > OUTBOX {
-            self.counts.full = self.counts.full.saturating_add(1);
+            self.count_full();
             return Delivered::OutboxFull(weight);
         }
-        self.act_from(port, payload, 0, mark);
+        self.act_on(port, message, mark);
         Delivered::Done
     }
 
-    /// Acts on the commands from a place on.
-    fn act_from(&mut self, port: u8, payload: &[u8], at: u16, mark: u64)
-        requires within { at ≤ length payload.now }
-        requires fits { length payload.now ≤ 242 }
-        requires room { (cs : List Command) × SpellsTo cs port Direction.Down payload.now at (length payload.now) × (length self.old.outbox + weights cs ≤ 8) }
-        ensures done { (device : DeviceState) (cs : List Command) → StandsAs self.old device → SpellsTo cs port Direction.Down payload.now at (length payload.now)
-            → StandsAs self.new (after_commands device cs mark) }
-        ensures answers { (device : DeviceState) (cs : List Command) → StandsAs self.old device → SpellsTo cs port Direction.Down payload.now at (length payload.now)
-            → self.new.outbox ≡ self.old.outbox ++ map uplink_of (answers_to device port cs mark) }
-        ensures sendable { (device : DeviceState) (cs : List Command) → StandsAs self.old device → SpellsTo cs port Direction.Down payload.now at (length payload.now)
-            → AllByRecursion IsUplink (answers_to device port cs mark) }
+    /// Counts a payload where reading stops.
+    fn count_refused(&mut self)
+        ensures { self.new ≡ record self.old { counts = record self.old.counts { refused = raised self.old.counts.refused } } }
     {
-        if at as usize == payload.len() {
-            return;
-        }
-        if let Ok((command, next)) = read_one(port, Direction::Down, payload, at) {
+        self.counts.refused = self.counts.refused.saturating_add(1);
+    }
+
+    /// Counts a message whose answers have no room.
+    fn count_full(&mut self)
+        ensures { self.new ≡ record self.old { counts = record self.old.counts { full = raised self.old.counts.full } } }
+    {
+        self.counts.full = self.counts.full.saturating_add(1);
+    }
+
+    /// Acts on the commands of a message that came on this port.
+    fn act_on(&mut self, port: u8, mut message: Message<'_>, mark: u64)
+        requires port { message.port ≡ port }
+        requires direction { message.direction ≡ Direction.Down }
+        requires room { length self.old.outbox + weights message.commands ≤ 8 }
+        ensures { (device : DeviceState) → StandsAs self.old device
+            → IsDelivered self.old self.new Delivered.Done (all_acted device port message.entry.commands mark) }
+    {
+        while let Some(command) = message.next() {
             self.act(port, &command, mark);
-            self.act_from(port, payload, next, mark);
         }
     }
 
@@ -494,20 +495,17 @@ fn identifier_of(port: u8) -> u8
     }
 }
 
-/// How many uplinks the commands from a place on make at most.
-fn weight_from(port: u8, payload: &[u8], at: u16) -> u16
-    requires within { at ≤ length payload.now }
-    requires fits { length payload.now ≤ 242 }
-    ensures weight { (cs : List Command) → SpellsTo cs port Direction.Down payload.now at (length payload.now) → result ≡ weights cs }
-    ensures few { result + 7 * at ≤ 7 * length payload.now }
+/// How many uplinks the commands of a message make at most.
+fn weights(mut message: Message<'_>) -> u16
+    requires { length message.commands ≤ max_payload }
+    ensures weight { result ≡ weights message.entry.commands }
+    ensures few { result ≤ 7 * max_payload }
 {
-    if at as usize == payload.len() {
-        return 0;
+    let mut sum = 0;
+    while let Some(command) = message.next() {
+        sum += weight(&command);
     }
-    match read_one(port, Direction::Down, payload, at) {
-        Ok((command, next)) => weight(&command) + weight_from(port, payload, next),
-        Err(_) => 0,
-    }
+    sum
 }
 
 /// How many uplinks a command makes at most.

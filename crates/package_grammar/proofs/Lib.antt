@@ -4,5 +4,6 @@ pub mod Written
 pub mod Answers
 pub mod ReadingLaw
 pub mod Cursor
+pub mod ReadResults
 pub mod Examples
 pub mod WhatIsRead

@@ -8,7 +8,7 @@ use Rattle.wire_base.specs.declared.refusal.Why.{Why}
 use Rattle.wire_base.specs.declared.refusal.Why.TheVariants.{Port, UnknownCommand, Short, TooLong}
 use Rattle.wire_base.specs.Numbers.{number_at}
 use Rattle.wire_base.specs.Payload.{max_payload}
-use Rattle.wire_base.specs.Rows.{Row, IsListed, Lies, PartsFit, spelling}
+use Rattle.wire_base.specs.Rows.{Row, IsListed, Lies, PartsFit}
 
 -- a valid command: each field fits the bits that the table gives it, and they fit together
 pub record IsValid {C : Type 0} (row : C → Row) (IsWhole : C → Type 0) (c : C) : Type 0 where

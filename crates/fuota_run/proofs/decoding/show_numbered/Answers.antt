@@ -1,13 +1,13 @@
 use Rattle.std.proofs.Common.{List, ℕ, ◌++◌, ap, ◌∙◌}
+use Rattle.package_grammar.specs.Reading.{reading_of}
+use Rattle.fuota_run.specs.Decode.{payload_text}
 use Rattle.fuota_run.proofs.Outcomes.{on_ok, on_ok_then}
 use Rattle.fuota_run.proofs.Payloads.{numbered_on}
 use Rattle.fuota_run.proofs.decoding.show_numbered.Goals as goal
 
 pub returns : goal.returns
 returns c = on_ok c.show_payload.result (λ ok.
-    let made = on_ok_then c.show_payload.result ok c.show_payload.ensures in (
-      made.0,
-      made.1,
-      made.2 ∙ ap (λ (w : List ℕ). w ++ made.0) (c.in_ok-extend_from_slice.ensures.items ∙ ap (λ (w : List ℕ). c.args.text.now.items ++ w) c.as_bytes.ensures.value)
-          ∙ numbered_on c.args.text.now.items _ made.0 c.args.number c.in_ok-head.ensures.ok,
-    ))
+    let shown = payload_text (reading_of c.args.port c.args.dir c.args.payload.now) in
+    on_ok_then c.show_payload.result ok c.show_payload.ensures
+    ∙ ap (λ (w : List ℕ). w ++ shown) (c.in_ok-extend_from_slice.ensures.items ∙ ap (λ (w : List ℕ). c.args.text.now.items ++ w) c.as_bytes.ensures.value)
+    ∙ numbered_on c.args.text.now.items _ shown c.args.number c.in_ok-head.ensures.ok)

@@ -10,6 +10,7 @@ use Rattle.fuota_run.specs.HeldDevice.{HeldDevice, StandsAs, uplink_of}
 use Rattle.fuota_run.specs.HeldWorld.{HeldWorld, StandsFor, sent_of}
 use Rattle.fuota_run.specs.World.{Sending, numbered}
 use Rattle.package_grammar.proofs.Written.{message_of}
+use Rattle.fuota_run.proofs.Acting.{all_of}
 use Rattle.fuota_run.proofs.Outcomes.{on_ok, on_ok_then}
 use Rattle.fuota_run.proofs.WorldLemmas.{numbered-map, numbered-map_none, all_numbered, device_there, weight_fits, only_answers, record_with_device, reaches_stands, reaches_nothing}
 use Rattle.fuota_run.proofs.world.World.down.Goals as goal
@@ -35,9 +36,10 @@ returns-clause-taken c = on_ok c.take_uplinks.result (λ ok. λ world stands.
     let d = there.0 in
     let empty = there.3 in
     let room : length c.in-Some.device.outbox + weights (found.0.command ∷ []) ≤ 8 = rw empty (omega (arith, weight_fits found.0.command fine.valid)) in
-    let acted = c.deliver-delivered.ensures.done d (found.0.command ∷ []) there.2 message room in
-    let answers = c.deliver-delivered.ensures.answers d (found.0.command ∷ []) there.2 message room in
-    let sendable = c.deliver-delivered.ensures.sendable d (found.0.command ∷ []) there.2 message room in
+    let delivered = all_of c.in-Some.device c.deliver-delivered.new.self c.deliver-delivered.result d sent.port _ (found.0.command ∷ []) _ message room (c.deliver-delivered.ensures d there.2) in
+    let acted = delivered.stands in
+    let answers = delivered.outbox in
+    let sendable = delivered.sendable in
     let emptied = on_ok_then c.take_uplinks.result ok c.take_uplinks.ensures.device in
     let taken = on_ok_then c.take_uplinks.result ok c.take_uplinks.ensures.taken in
     let mark : c.from-mark.result + 1 ≡ world.lines + 1 = ap (λ (n : ℕ). n + 1) (c.from-mark.ensures ∙ sym here.lines) in
