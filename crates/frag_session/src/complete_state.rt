@@ -87,7 +87,8 @@ impl<const W: usize, const B: usize> Complete<W, B> {
 
     #[tactic(auto, unfolding(crate::specs::Shows::seen, crate::specs::Shows::done_seen))]
     pub(crate) fn view(&self) -> View<'_>
-        ensures { seen result ≡ done_seen self.now }
+        ensures value { seen result ≡ done_seen self.now }
+        ensures within { length result.file.now ≤ self.now.solver.area }
     {
         let block = self.solver.block();
         View {

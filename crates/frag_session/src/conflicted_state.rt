@@ -1,6 +1,6 @@
 //! A session whose fragments contradict one another.
 
-ghost use Rattle.std.specs.Prelude.{◌≡◌, ◌≤◌};
+ghost use Rattle.std.specs.Prelude.{◌≡◌, ◌≤◌, length};
 ghost use Rattle.row_elimination.specs.Held.{missing_of};
 ghost use Rattle.frag_session.specs.Held.{one_more};
 ghost use Rattle.frag_session.specs.Shows.{failed_seen, seen};
@@ -86,7 +86,8 @@ impl<const W: usize, const B: usize> Conflicted<W, B> {
 
     #[tactic(auto, unfolding(crate::specs::Shows::seen, crate::specs::Shows::failed_seen))]
     pub(crate) fn view(&self) -> View<'_>
-        ensures { seen result ≡ failed_seen self.now }
+        ensures value { seen result ≡ failed_seen self.now }
+        ensures within { length result.file.now ≤ self.now.solver.area }
     {
         View {
             received: self.received,

@@ -1,6 +1,6 @@
 //! A session whose rows did not suffice.
 
-ghost use Rattle.std.specs.Prelude.{◌≡◌, ◌≤◌};
+ghost use Rattle.std.specs.Prelude.{◌≡◌, ◌≤◌, length};
 ghost use Rattle.row_elimination.specs.Held.{missing_of};
 ghost use Rattle.frag_session.specs.Held.{one_more};
 ghost use Rattle.frag_session.specs.Shows.{overflowed_seen, seen};
@@ -86,7 +86,8 @@ impl<const W: usize, const B: usize> Overflowed<W, B> {
 
     #[tactic(auto, unfolding(crate::specs::Shows::seen, crate::specs::Shows::overflowed_seen))]
     pub(crate) fn view(&self) -> View<'_>
-        ensures { seen result ≡ overflowed_seen self.now }
+        ensures value { seen result ≡ overflowed_seen self.now }
+        ensures within { length result.file.now ≤ self.now.solver.area }
     {
         View {
             received: self.received,

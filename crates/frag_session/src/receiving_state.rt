@@ -116,7 +116,8 @@ impl<const W: usize, const B: usize> Receiving<W, B> {
 
     #[tactic(auto, unfolding(crate::specs::Shows::seen, crate::specs::Shows::receiving_seen))]
     pub(crate) fn view(&self) -> View<'_>
-        ensures { seen result ≡ receiving_seen self.now }
+        ensures value { seen result ≡ receiving_seen self.now }
+        ensures within { length result.file.now ≤ self.now.solver.area }
     {
         View {
             received: self.received,

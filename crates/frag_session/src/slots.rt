@@ -1,6 +1,6 @@
 //! A place for one session, in whatever state it is.
 
-ghost use Rattle.std.specs.Prelude.{◌≡◌, ◌<◌, ◌≢◌, Option, None, Some, is_some, length, option_map};
+ghost use Rattle.std.specs.Prelude.{◌≡◌, ◌<◌, ◌≢◌, ◌≤◌, Option, None, Some, IfSome, is_some, length, option_map};
 ghost use Rattle.frag_session.specs.Setup.{Room, setup_bits, lives};
 ghost use Rattle.frag_session.specs.Session.{Session, new_session, followed, excludes, cause_of, drop_cause, answer_of, after_setup, after_fragment, view_of, status_by, status_in, status_of, is_overflow};
 ghost use Rattle.frag_session.specs.Held.{idle};
@@ -100,7 +100,8 @@ impl<const W: usize, const B: usize> Slot<W, B> {
 
     /// What the session shows, if there is one.
     pub fn view(&self) -> Option<View<'_>>
-        ensures { (s : Option Session) → Stands self.now s → option_map seen result ≡ view_of s }
+        ensures value { (s : Option Session) → Stands self.now s → option_map seen result ≡ view_of s }
+        ensures within { IfSome result (λ v. length v.file.now ≤ area_of self.now) }
     {
         self.shown()
     }
@@ -162,9 +163,10 @@ impl<const W: usize, const B: usize> Slot<W, B> {
     }
 
     /// What the state shows.
-    #[tactic(auto, unfolding(crate::specs::Steps::slot_seen))]
+    #[tactic(auto, unfolding(crate::specs::Steps::slot_seen, crate::specs::Steps::area_of))]
     fn shown(&self) -> Option<View<'_>>
-        ensures { option_map seen result ≡ slot_seen self.now }
+        ensures value { option_map seen result ≡ slot_seen self.now }
+        ensures within { IfSome result (λ v. length v.file.now ≤ area_of self.now) }
     {
         match &self.state {
             Some(State::Receiving(receiving)) => Some(receiving.view()),

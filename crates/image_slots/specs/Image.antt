@@ -5,7 +5,6 @@ use Rattle.std.specs.Prelude.{ℕ, ◌-◌, Bool, ◌&&◌, not, ◌==◌, nat_l
 use Rattle.std.specs.Str.{bytes_eq}
 use Rattle.sha2.specs.Sha256.{sha256}
 use Rattle.wire_base.specs.Numbers.{number_at}
-use Rattle.image_slots.specs.declared.image.TheConstants.{MAX_IMAGE}
 use Rattle.image_slots.specs.declared.view.ImageState.{ImageState}
 use Rattle.image_slots.specs.declared.view.ImageState.TheVariants.{Corrupt, Incompatible, Valid}
 
@@ -19,11 +18,15 @@ hardware_of file = number_at file 5 4
 unfoldable pub firmware_of : List ℕ → ℕ
 firmware_of file = number_at file 9 4
 
+-- the most bytes of an image file
+abbrev pub max_image : ℕ
+max_image = 65536
+
 -- the bytes are an image file
 unfoldable pub is_image : List ℕ → Bool
 is_image file =
     nat_le 49 (length file)
-    && nat_le (length file) MAX_IMAGE
+    && nat_le (length file) max_image
     && bytes_eq (take 5 file) image_start
     && not (firmware_of file == 0)
     && number_at file 13 4 == length file - 49

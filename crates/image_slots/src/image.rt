@@ -1,4 +1,5 @@
-// Image files: 49 bytes of versions, length and digest, and a body. (This project's profile.)
+//! Image files: 49 bytes of versions, length and digest, and a body. (This project's profile.)
+
 ghost use Rattle.std.specs.Prelude.{◌≡◌, ◌+◌, ◌≤◌, length, ◌<◌, IsTrue, drop, take};
 ghost use Rattle.std.specs.Str.{bytes_eq};
 ghost use Rattle.sha2.specs.Sha256.{sha256};

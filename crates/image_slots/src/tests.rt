@@ -50,3 +50,26 @@ fn a_file_is_what_its_bytes_make_it(rt: HostRuntime) {
     assert!(rt; hardware(&IMAGE) == 1);
     assert!(rt; firmware(&IMAGE) == 2);
 }
+
+#[test]
+fn a_file_runs_once_it_is_swapped_in(rt: HostRuntime) {
+    let Ok(mut slots) = Slots::reserve(rt.alloc(), 52, 1) else {
+        return assert!(rt; false);
+    };
+    slots.swap();
+    assert!(rt; slots.next() == ImageState::None);
+    assert!(rt; slots.delete(2) == 1);
+    slots.offer(&IMAGE);
+    assert!(rt; slots.next() == ImageState::Valid(2));
+    assert!(rt; slots.delete(3) == 2);
+    slots.swap();
+    assert!(rt; slots.running().0 == 2);
+    assert!(rt; slots.running().1 == &IMAGE[..]);
+    assert!(rt; slots.next() == ImageState::None);
+    slots.offer(&IMAGE);
+    assert!(rt; slots.delete(2) == 0);
+    assert!(rt; slots.next() == ImageState::None);
+    slots.offer(&IMAGE[..48]);
+    slots.swap();
+    assert!(rt; slots.next() == ImageState::Corrupt);
+}

@@ -1,3 +1,5 @@
+//! What a file is to a device.
+
 ghost use Rattle.std.specs.Prelude.{◌≡◌, ◌≢◌};
 ghost use Rattle.image_slots.specs.Image.{image_state};
 

@@ -142,7 +142,8 @@ impl<const W: usize, const B: usize> Solver<W, B> {
     /// The bytes of all pieces, one behind the other, padding included. The solver must be complete.
     pub fn block(&self) -> &[u8]
         requires { self.now.stage ≡ Stage.Complete }
-        ensures { result.now ≡ self.now.content }
+        ensures content { result.now ≡ self.now.content }
+        ensures within { length result.now ≤ self.now.area }
     {
         self.table.content()
     }

@@ -1,0 +1,106 @@
+-- A device: what it is at a moment, and at its start.
+use Rattle.std.specs.Prelude.{ℕ, ◌+◌, ◌-◌, ◌^◌, min, Bool, ◌&&◌, nat_le, List, [], Option, None, replicate}
+use Rattle.clock_sync.specs.Clock.{Clock, first_clock}
+use Rattle.mc_group.specs.Groups.{max_groups}
+use Rattle.mc_group.specs.declared.group.Group.{Group}
+use Rattle.image_slots.specs.Slots.{Slots, first_slots}
+use Rattle.frag_session.specs.declared.setups.Limits.{Limits}
+use Rattle.frag_session.specs.Setup.{Room}
+use Rattle.device_core.specs.declared.class_session.ClassSession.{ClassSession}
+use Rattle.device_core.specs.declared.config.DeviceConfig.{DeviceConfig}
+use Rattle.device_core.specs.declared.counts.Counts.{Counts}
+use Rattle.device_core.specs.declared.uplink.Uplink.{Uplink}
+use Rattle.device_core.specs.SessionTable.{SessionTable, no_sessions}
+
+-- clock: its offset and token; last_due: when the uplink that it made last is due, in ms of true time;
+-- groups: a place for each id; reboot: the moment that is set, in seconds of its clock;
+-- outbox: the uplinks not yet taken, oldest first
+pub record DeviceState : Type 0 where
+  pub config : DeviceConfig
+  pub clock : Clock
+  pub last_due : Option ℕ
+  pub groups : List (Option Group)
+  pub class_session : Option ClassSession
+  pub sessions : SessionTable
+  pub slots : Slots
+  pub reboot : Option ℕ
+  pub outbox : List Uplink
+  pub counts : Counts
+
+-- at its start it has its configuration, and nothing is heard, held or set
+abbrev pub first_device : DeviceConfig → DeviceState
+first_device config = record {
+  config = config;
+  clock = first_clock config.offset;
+  last_due = None;
+  groups = replicate config.groups None;
+  class_session = None;
+  sessions = no_sessions;
+  slots = first_slots;
+  reboot = None;
+  outbox = [];
+  counts = record { deaf = 0; refused = 0; full = 0; dropped = 0 };
+}
+
+-- ---- limits (this project's profile)
+
+-- uplinks that a device holds before they are taken
+abbrev pub outbox_size : ℕ
+outbox_size = 8
+
+-- sessions, and rows for coded fragments of each
+abbrev pub max_sessions : ℕ
+max_sessions = 4
+
+abbrev pub max_rows : ℕ
+max_rows = 64
+
+-- bytes of a session's file area
+abbrev pub max_area : ℕ
+max_area = 65774
+
+-- what is kept for the rows of a session: 64 rows of 1,024 columns in words of 64, and of 239 bytes
+abbrev pub row_words : ℕ
+row_words = 1024
+
+abbrev pub row_bytes : ℕ
+row_bytes = 15296
+
+-- the last ms of true time at which a device is called
+abbrev pub max_moment : ℕ
+max_moment = 4294967295999
+
+-- ---- what a configuration may be, and what it lets sessions be
+
+-- each number is within its bounds
+abbrev pub is_config : DeviceConfig → Bool
+is_config config =
+    nat_le config.rows max_rows
+    && (nat_le 1 config.sessions && nat_le config.sessions max_sessions)
+    && (nat_le 1 config.groups && nat_le config.groups max_groups)
+    && (nat_le 1 config.area && nat_le config.area max_area)
+
+abbrev pub room_of : DeviceConfig → Room
+room_of config = record { words = row_words; bytes = row_bytes; area = config.area }
+
+abbrev pub limits_of : DeviceConfig → Limits
+limits_of config = record { sessions = config.sessions; rows = config.rows; descriptor = config.descriptor }
+
+-- ---- counters
+
+-- a counter stops at its type's end
+abbrev pub counter_after : ℕ → ℕ
+counter_after n = min (n + 1) (2 ^ 64 - 1)
+
+-- one payload more that was not heard, was refused, or found the outbox full; one fragment more that was dropped
+abbrev pub with_deaf : DeviceState → DeviceState
+with_deaf device = record device { counts = record device.counts { deaf = counter_after device.counts.deaf } }
+
+abbrev pub with_refused : DeviceState → DeviceState
+with_refused device = record device { counts = record device.counts { refused = counter_after device.counts.refused } }
+
+abbrev pub with_full : DeviceState → DeviceState
+with_full device = record device { counts = record device.counts { full = counter_after device.counts.full } }
+
+abbrev pub with_dropped : DeviceState → DeviceState
+with_dropped device = record device { counts = record device.counts { dropped = counter_after device.counts.dropped } }

@@ -1,0 +1,119 @@
+-- Fragmented data blocks on the device (TS004-1.0.0). What a session is, hears and shows is frag_session's.
+use Rattle.std.specs.Prelude.{ℕ, ◌+◌, ◌*◌, ◌%◌, ◌^◌, Bool, true, false, ◌==◌, if◌then◌else◌, List, [], ◌∷◌, Option, Some, None, is_none}
+use Rattle.std.specs.Int.{bit_at}
+use Rattle.package_grammar.specs.declared.command.Command.{Command}
+use Rattle.package_grammar.specs.declared.command.Command.TheVariants.{Cast}
+use Rattle.cast_wire.specs.declared.cmd.Cmd.TheVariants.{FragSessionStatusAns, FragSessionSetupAns, FragSessionDeleteAns}
+use Rattle.frag_session.specs.declared.setups.SetupReq.{SetupReq}
+use Rattle.frag_session.specs.declared.answers.Via.{Via}
+use Rattle.frag_session.specs.declared.answers.Via.TheVariants as via
+use Rattle.frag_session.specs.declared.answers.StatusAns.{StatusAns}
+use Rattle.frag_session.specs.declared.answers.Verdict.{Verdict}
+use Rattle.frag_session.specs.declared.answers.Verdict.TheVariants as verdict
+use Rattle.frag_session.specs.Setup.{setup_bits}
+use Rattle.frag_session.specs.Session.{Seen, after_setup, after_fragment, drop_cause, status_of, view_of}
+use Rattle.device_core.specs.SessionTable.{session_at, with_session}
+use Rattle.image_slots.specs.Slots.{Slots, after_offer}
+use Rattle.device_core.specs.Device.{DeviceState, room_of, limits_of, with_dropped}
+use Rattle.device_core.specs.declared.arrival.Arrival.{Arrival}
+use Rattle.device_core.specs.declared.uplink.UplinkCommand.{UplinkCommand}
+use Rattle.device_core.specs.Answers.{DeviceStep, no_answer, one_answer}
+
+-- ---- FragSessionSetupReq
+
+abbrev pub has_bit : ℕ → ℕ → Bool
+has_bit bits k = bit_at bits k == 1
+
+-- all refusal bits that apply together
+abbrev pub setup_answer : (index bits : ℕ) → Command
+setup_answer index bits =
+    Cast (FragSessionSetupAns index (has_bit bits 3) (has_bit bits 2) (has_bit bits 1) (has_bit bits 0))
+
+-- the fields of the request
+abbrev pub setup_of : (index mask nb_frag frag_size algo delay padding descriptor : ℕ) → SetupReq
+setup_of index mask nb_frag frag_size algo delay padding descriptor = record {
+  index = index;
+  mask = mask;
+  nb_frag = nb_frag;
+  frag_size = frag_size;
+  algo = algo;
+  delay = delay;
+  padding = padding;
+  descriptor = descriptor;
+}
+
+-- without a bit the session at that index is kept or replaced, with one nothing changes
+unfoldable pub setup_step : Arrival → DeviceState → SetupReq → DeviceStep
+setup_step here device req =
+    let limits = limits_of device.config in
+    let room = room_of device.config in
+    let session = after_setup limits room (session_at device.sessions req.index) req in
+    one_answer here (record device { sessions = with_session device.sessions req.index session })
+    (setup_answer req.index (setup_bits limits room req))
+
+-- ---- FragSessionDeleteReq
+
+unfoldable pub delete_step : Arrival → DeviceState → (index : ℕ) → DeviceStep
+delete_step here device index =
+    one_answer here (record device { sessions = with_session device.sessions index None })
+    (Cast (FragSessionDeleteAns index (is_none (session_at device.sessions index))))
+
+-- ---- FragSessionStatusReq
+
+-- ms until the answer: none by unicast, and by multicast so many s as the random word says, below 2^(BlockAckDelay + 4)
+-- (this project's profile)
+abbrev pub answer_delay : Via → (word delay : ℕ) → ℕ
+answer_delay via.Unicast word delay = 0
+answer_delay (via.Group g) word delay = 1000 * (word % 2 ^ (delay + 4))
+
+-- its answer, if it does
+abbrev pub status_answers : Arrival → (index : ℕ) → Option StatusAns → List UplinkCommand
+status_answers here index None = []
+status_answers here index (Some status) = record {
+  due = here.t + answer_delay here.via here.word status.delay;
+  port = here.port;
+  command = Cast (FragSessionStatusAns index status.received status.missing status.norows);
+} ∷ []
+
+unfoldable pub status_step : Arrival → DeviceState → (index : ℕ) → (all : Bool) → DeviceStep
+status_step here device index all =
+    let status = status_of (session_at device.sessions index) here.via all in
+    record { device = device; answers = status_answers here index status }
+
+-- ---- DataFragment
+
+-- the verdict is that the file is whole
+abbrev pub is_complete : Verdict → Bool
+is_complete (verdict.Complete mark) = true
+is_complete other = false
+
+-- a session has its file whole, and that file
+abbrev pub is_whole : Option Seen → Bool
+is_whole None = false
+is_whole (Some seen) = is_complete seen.verdict
+
+abbrev pub whole_file : Option Seen → Option (List ℕ)
+whole_file None = None
+whole_file (Some seen) = if is_complete seen.verdict then Some seen.file else None
+
+-- the file of a session that was not whole is offered to the next slot
+abbrev pub slots_after : (hw : ℕ) → (was_whole : Bool) → (file : Option (List ℕ)) → Slots → Slots
+slots_after hw false (Some file) slots = after_offer hw file slots
+slots_after hw was_whole file slots = slots
+
+-- a session hears a fragment; the one that makes its file whole brings it to the next slot
+unfoldable pub heard_step : Arrival → DeviceState → (index n : ℕ) → List ℕ → DeviceState
+heard_step here device index n part =
+    let old = session_at device.sessions index in
+    let new = after_fragment old here.via n part here.mark in
+    record device {
+      sessions = with_session device.sessions index new;
+      slots = slots_after device.config.hw (is_whole (view_of old)) (whole_file (view_of new)) device.slots;
+    }
+
+-- and one that is dropped is counted
+unfoldable pub fragment_step : Arrival → DeviceState → (index n : ℕ) → List ℕ → DeviceStep
+fragment_step here device index n part =
+    no_answer (if is_none (drop_cause (session_at device.sessions index) here.via n part)
+    then heard_step here device index n part
+    else with_dropped device)

@@ -1,0 +1,14 @@
+pub mod SessionTable
+pub mod Device
+pub mod Answers
+pub mod Clock
+pub mod Fragments
+pub mod Groups
+pub mod ClassSessions
+pub mod Firmware
+pub mod Step
+pub mod Deliver
+pub mod Sendable
+pub mod HeldSessions
+pub mod HeldDevice
+pub mod DeviceInside

@@ -1,0 +1,54 @@
+//! What a device is configured with.
+
+ghost use Rattle.std.specs.Prelude.{◌≡◌};
+ghost use Rattle.device_core.specs.Device.{is_config};
+
+/// When a device hears unicast payloads (LoRaWAN 1.0).
+#[derive(Clone, Copy, Debug, PartialEq, Eq)]
+pub enum Class {
+    /// In two windows after the uplink that it made last.
+    A,
+    /// Always.
+    C,
+}
+
+/// What a device is configured with.
+#[derive(Clone, Copy, Debug)]
+pub struct DeviceConfig {
+    pub class: Class,
+    /// Hardware version.
+    pub hw: u32,
+    /// Rows kept for the coded fragments of a session, 0 to 64.
+    pub rows: u16,
+    /// Seconds that its clock is ahead of true time, modulo 2^32.
+    pub offset: u32,
+    /// GenAppKey, which multicast keys are wrapped for.
+    pub key: [u8; 16],
+    /// The one descriptor that its sessions take, if only one is.
+    pub descriptor: Option<u32>,
+    /// How many session indices there are, 1 to 4.
+    pub sessions: u8,
+    /// How many group ids there are, 1 to 4.
+    pub groups: u8,
+    /// Bytes of the file area of a session, 1 to 65,774.
+    pub area: u32,
+}
+
+/// Why there is no device.
+#[derive(Clone, Copy, Debug, PartialEq, Eq)]
+pub enum ReserveError {
+    /// A number of the configuration is out of its bounds.
+    BadConfig,
+    /// There was not enough memory.
+    Memory,
+}
+
+/// Whether each number of a configuration is within its bounds.
+pub fn is_config(config: &DeviceConfig) -> bool
+    ensures { result ≡ is_config config.now }
+{
+    config.rows <= 64
+        && (1 <= config.sessions && config.sessions <= 4)
+        && (1 <= config.groups && config.groups <= 4)
+        && (1 <= config.area && config.area <= 65_774)
+}

@@ -1,0 +1,287 @@
+//! A device: the calls of whoever runs it, and the order of their checks.
+
+ghost use Rattle.std.specs.Prelude.{◌≡◌, ◌+◌, ◌<◌, ◌≤◌, length, Option, Result, option_map};
+ghost use Rattle.wire_base.specs.declared.refusal.Direction.{Direction};
+ghost use Rattle.frag_session.specs.Session.{view_of};
+ghost use Rattle.frag_session.specs.Shows.{seen};
+ghost use Rattle.device_core.specs.SessionTable.{session_at};
+ghost use Rattle.device_core.specs.Device.{DeviceState, max_moment, counter_after};
+ghost use Rattle.device_core.specs.Step.{weights, after_commands};
+ghost use Rattle.device_core.specs.Deliver.{message_delivery, read_delivery, heard_delivery, delivery, time_asking, waking, taking};
+ghost use Rattle.trial_reading.specs.Reading.{reading_of};
+
+mod acting;
+mod clock;
+mod firmware;
+mod fragments;
+mod groups;
+mod windows;
+
+use crate::arrival::Arrival;
+use crate::class_session::ClassSession;
+use crate::config::{DeviceConfig, ReserveError, is_config};
+use crate::counts::Counts;
+use crate::delivered::{Delivered, OutboxFull};
+use crate::outbox::{OUTBOX, Outbox};
+use crate::session_slots::SessionSlots;
+use crate::uplink::{Uplink, UplinkCommand};
+use acting::weights;
+use clock_sync::DeviceClock;
+use frag_session::View;
+use image_slots::Slots;
+use mc_group::GroupTable;
+use package_grammar::{Command, Downlink};
+use std::alloc::Global;
+use std::marker::Model;
+use trial_reading::Message;
+use windows::via_of;
+use wire_base::{Direction, Payload};
+
+/// A device with its clock, groups, sessions and image slots. Contracts see what it holds, and say what each call makes of
+/// every record of `specs/Device` that it stands for.
+#[derive(Drop)]
+pub struct Device {
+    config: DeviceConfig,
+    clock: DeviceClock,
+    /// When the uplink that it made last is due, in ms of true time.
+    last_due: Option<u64>,
+    groups: GroupTable,
+    class_session: Option<ClassSession>,
+    sessions: SessionSlots,
+    slots: Slots,
+    /// The moment at which it reboots, in seconds of its clock.
+    reboot: Option<u32>,
+    outbox: Outbox,
+    counts: Counts,
+}
+
+impl Model for Device {
+    ghost use Rattle.device_core.specs.HeldDevice.{HeldDevice};
+    ghost use Rattle.device_core.specs.DeviceInside.{IsDevice};
+
+    ghost Value = { HeldDevice };
+
+    ghost view = { λ d. record {
+      config = d.config;
+      clock = d.clock;
+      last_due = d.last_due;
+      groups = d.groups;
+      class_session = d.class_session;
+      sessions = d.sessions;
+      slots = d.slots.slots;
+      reboot = d.reboot;
+      outbox = d.outbox;
+      counts = d.counts;
+    } };
+
+    ghost invariant = { λ d. IsDevice d.config d.sessions d.slots d.class_session };
+}
+
+impl Device {
+    ghost use Rattle.std.specs.Prelude.{◌∷◌, []};
+    ghost use Rattle.device_core.specs.declared.uplink.Uplink.{Uplink};
+    ghost use Rattle.device_core.specs.declared.delivered.Delivered.{Delivered};
+    ghost use Rattle.device_core.specs.declared.delivered.OutboxFull.{OutboxFull};
+    ghost use Rattle.device_core.specs.HeldDevice.{DeviceStands, Becomes, Makes, IsReserved, held_with_answers};
+    ghost use Rattle.device_core.specs.Sendable.{IsSendable};
+
+    /// A device at its start, with all memory that it will ever need. BadConfig comes exactly where a number of the
+    /// configuration is out of its bounds.
+    pub fn reserve(alloc: Global, config: DeviceConfig) -> Result<Self, ReserveError>
+        ensures { IsReserved config result }
+    {
+        if !is_config(&config) {
+            return Err(ReserveError::BadConfig);
+        }
+        let Ok(sessions) = SessionSlots::reserve(alloc, config.area) else {
+            return Err(ReserveError::Memory);
+        };
+        let Ok(slots) = Slots::reserve(alloc, config.area, config.hw) else {
+            return Err(ReserveError::Memory);
+        };
+        Ok(Device {
+            config,
+            clock: DeviceClock::new(config.offset),
+            last_due: None,
+            groups: GroupTable::new(config.groups),
+            class_session: None,
+            sessions,
+            slots,
+            reboot: None,
+            outbox: Outbox::new(),
+            counts: Counts {
+                deaf: 0,
+                refused: 0,
+                full: 0,
+                dropped: 0,
+            },
+        })
+    }
+
+    /// A payload comes at `t` ms of true time. If it is heard, can be read and the outbox has room, its commands act in
+    /// order. `word` is a random word, and `mark` the number at which a verdict on a file is reported. A reboot that is due
+    /// is carried out before and behind all this.
+    #[tactic(auto, unfolding(crate::specs::Deliver::delivery))]
+    pub fn deliver(&mut self, t: u64, down: &Downlink, word: u32, mark: u64) -> Delivered
+        requires { t ≤ max_moment }
+        ensures { Makes Delivered self.old self.new result (delivery t word mark down.now) }
+    {
+        self.reboot_where_due(t);
+        let delivered = self.hear(t, down, word, mark);
+        self.reboot_where_due(t);
+        delivered
+    }
+
+    /// The device wakes at `t` ms of true time: it asks for the time, and OutboxFull comes exactly where 8 uplinks are held.
+    /// A reboot that is due is carried out before and behind.
+    #[tactic(auto, unfolding(crate::specs::Deliver::waking))]
+    pub fn wake(&mut self, t: u64) -> Result<(), OutboxFull>
+        requires { t ≤ max_moment }
+        ensures { Makes (Result (Unit {0}) OutboxFull) self.old self.new result (waking t) }
+    {
+        self.reboot_where_due(t);
+        let asked = self.ask_time(t);
+        self.reboot_where_due(t);
+        asked
+    }
+
+    /// The oldest uplink that is held; None exactly where none is.
+    pub fn take_uplink(&mut self) -> Option<Uplink>
+        ensures { Makes (Option Uplink) self.old self.new result taking }
+    {
+        self.outbox.take()
+    }
+
+    /// What the session of an index shows; None exactly where there is none.
+    pub fn session(&self, index: u8) -> Option<View<'_>>
+        requires { index < 4 }
+        ensures { (device : DeviceState) → DeviceStands self.now device
+            → option_map seen result ≡ view_of (session_at device.sessions index) }
+    {
+        self.sessions.view(index)
+    }
+
+    /// What it runs, and what was received to run next.
+    pub fn slots(&self) -> &Slots
+        ensures { result.now.slots ≡ self.now.slots }
+    {
+        &self.slots
+    }
+
+    /// The seconds that its clock is ahead of true time, modulo 2^32, and the token of its next AppTimeReq.
+    pub fn clock(&self) -> (u32, u8)
+        ensures offset { result.0 ≡ self.now.clock.offset }
+        ensures token { result.1 ≡ self.now.clock.token }
+    {
+        (self.clock.offset(), self.clock.token())
+    }
+
+    /// Its counters.
+    pub fn counts(&self) -> Counts
+        ensures { result ≡ self.now.counts }
+    {
+        self.counts
+    }
+
+    /// A payload that is heard is read, and one that is not is counted.
+    #[tactic(auto, unfolding(crate::specs::Deliver::heard_delivery))]
+    fn hear(&mut self, t: u64, down: &Downlink, word: u32, mark: u64) -> Delivered
+        requires { t ≤ max_moment }
+        ensures { Makes Delivered self.old self.new result (heard_delivery t word mark down.now) }
+    {
+        if !self.hears(t, down.to) {
+            self.count_deaf();
+            return Delivered::Deaf;
+        }
+        let here = Arrival {
+            t,
+            via: via_of(self.class_session, down.to),
+            port: down.port,
+            word,
+            mark,
+        };
+        self.read(here, &down.payload)
+    }
+
+    /// What is read of a payload acts, and one that is refused is counted.
+    #[tactic(auto, unfolding(crate::specs::Deliver::read_delivery))]
+    fn read(&mut self, here: Arrival, payload: &Payload) -> Delivered
+        requires { here.t ≤ max_moment }
+        ensures { Makes Delivered self.old self.new result
+            (λ device. read_delivery here device (reading_of here.port Direction.Down payload.now)) }
+    {
+        match Message::read(here.port, Direction::Down, payload.as_slice()) {
+            Ok(message) => self.take(here, message),
+            Err(refusal) => {
+                self.count_refused();
+                Delivered::Refused(refusal)
+            }
+        }
+    }
+
+    /// A message acts where the outbox has room for its weights.
+    #[tactic(auto, unfolding(crate::specs::Deliver::message_delivery))]
+    fn take(&mut self, here: Arrival, message: Message<'_>) -> Delivered
+        requires moment { here.t ≤ max_moment }
+        requires port { message.port ≡ here.port }
+        requires direction { message.direction ≡ Direction.Down }
+        requires few { length message.commands ≤ 242 }
+        ensures { Makes Delivered self.old self.new result
+            (λ device. message_delivery here device message.entry.commands) }
+    {
+        let n = self.outbox.len() as u16 + weights(message.again());
+        if n as usize > OUTBOX {
+            self.count_full();
+            return Delivered::OutboxFull(n);
+        }
+        self.act_on(here, message);
+        Delivered::Done
+    }
+
+    /// Acts on the commands of a message, one after another.
+    fn act_on(&mut self, here: Arrival, mut message: Message<'_>)
+        requires moment { here.t ≤ max_moment }
+        requires port { message.port ≡ here.port }
+        requires direction { message.direction ≡ Direction.Down }
+        requires room { length self.old.outbox + weights message.commands ≤ 8 }
+        ensures { Becomes self.old self.new (λ device. after_commands here device message.entry.commands) }
+    {
+        while let Some(command) = message.next() {
+            self.act(here, &command);
+        }
+    }
+
+    /// Puts an answer into the outbox.
+    fn send(&mut self, due: u64, port: u8, command: Command)
+        requires sendable { IsSendable port command }
+        requires room { length self.old.outbox < 8 }
+        ensures { self.new ≡ held_with_answers self.old (record { due = due; port = port; command = command } ∷ []) }
+    {
+        self.last_due = Some(due);
+        self.outbox.push(UplinkCommand { due, port, command });
+    }
+
+    fn count_deaf(&mut self)
+        ensures { self.new ≡ record self.old { counts = record self.old.counts { deaf = counter_after self.old.counts.deaf } } }
+    {
+        self.counts.deaf = self.counts.deaf.saturating_add(1);
+    }
+
+    fn count_refused(&mut self)
+        ensures { self.new ≡ record self.old { counts = record self.old.counts { refused = counter_after self.old.counts.refused } } }
+    {
+        self.counts.refused = self.counts.refused.saturating_add(1);
+    }
+
+    fn count_full(&mut self)
+        ensures { self.new ≡ record self.old { counts = record self.old.counts { full = counter_after self.old.counts.full } } }
+    {
+        self.counts.full = self.counts.full.saturating_add(1);
+    }
+
+    fn count_dropped(&mut self)
+        ensures { self.new ≡ record self.old { counts = record self.old.counts { dropped = counter_after self.old.counts.dropped } } }
+    {
+        self.counts.dropped = self.counts.dropped.saturating_add(1);
+    }
+}

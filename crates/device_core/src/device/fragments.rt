@@ -1,0 +1,194 @@
+//! Fragmented data blocks on the device (TS004-1.0.0).
+
+ghost use Rattle.std.specs.Prelude.{◌≡◌, ◌+◌, ◌%◌, ◌^◌, ◌<◌, ◌≤◌, length};
+ghost use Rattle.package_grammar.specs.declared.command.Command.{Command};
+ghost use Rattle.cast_wire.specs.declared.cmd.Cmd.TheVariants.{FragSessionStatusAns, FragSessionDeleteAns};
+ghost use Rattle.frag_session.specs.declared.setups.SetupReq.{SetupReq};
+ghost use Rattle.frag_session.specs.Session.{view_of};
+ghost use Rattle.device_core.specs.SessionTable.{SessionTable, session_at};
+ghost use Rattle.device_core.specs.Device.{max_moment, limits_of};
+ghost use Rattle.device_core.specs.HeldSessions.{SessionsStand};
+ghost use Rattle.device_core.specs.Fragments.{has_bit, setup_answer, setup_step, delete_step, answer_delay, status_step, is_complete, is_whole, whole_file, slots_after, fragment_step};
+ghost use Rattle.device_core.specs.Sendable.{IsSendable};
+
+use super::Device;
+use crate::arrival::Arrival;
+use crate::config::DeviceConfig;
+use crate::session_slots::SessionSlots;
+use cast_wire::Cmd;
+use frag_session::{Heard, Limits, SetupReq, StatusAns, Verdict, Via};
+use image_slots::Slots;
+use package_grammar::Command;
+
+impl Device {
+    ghost use Rattle.device_core.specs.HeldDevice.{Steps};
+
+    /// FragSessionSetupReq.
+    #[tactic(auto, unfolding(crate::specs::Fragments::setup_step, crate::specs::Answers::after_answers))]
+    pub(super) fn setup(&mut self, here: Arrival, req: SetupReq)
+        requires port { here.port ≡ 201 }
+        requires index { req.index < 4 }
+        requires room { length self.old.outbox < 8 }
+        ensures { Steps self.old self.new 1 (λ device. setup_step here device req) }
+    {
+        let bits = self.sessions.setup(req.index, req, limits_of(&self.config));
+        self.send(here.t, here.port, setup_answer(req.index, bits));
+    }
+
+    /// FragSessionDeleteReq.
+    #[tactic(auto, unfolding(crate::specs::Fragments::delete_step, crate::specs::Answers::after_answers))]
+    pub(super) fn delete(&mut self, here: Arrival, index: u8)
+        requires port { here.port ≡ 201 }
+        requires index { index < 4 }
+        requires room { length self.old.outbox < 8 }
+        ensures { Steps self.old self.new 1 (λ device. delete_step here device index) }
+    {
+        let lived = self.sessions.delete(index);
+        self.send(here.t, here.port, delete_answer(index, !lived));
+    }
+
+    /// FragSessionStatusReq.
+    #[tactic(auto, unfolding(crate::specs::Fragments::status_step, crate::specs::Answers::after_answers))]
+    pub(super) fn status(&mut self, here: Arrival, index: u8, all: bool)
+        requires port { here.port ≡ 201 }
+        requires moment { here.t ≤ max_moment }
+        requires index { index < 4 }
+        requires room { length self.old.outbox < 8 }
+        ensures { Steps self.old self.new 1 (λ device. status_step here device index all) }
+    {
+        if let Some(status) = self.sessions.status(index, here.via, all) {
+            let due = here.t + answer_delay(here.via, here.word, status.delay);
+            self.send(due, here.port, status_answer(index, status));
+        }
+    }
+
+    /// DataFragment.
+    pub(super) fn fragment(&mut self, here: Arrival, index: u8, n: u16, part: &[u8])
+        requires index { index < 4 }
+        ensures { Steps self.old self.new 0 (λ device. fragment_step here device index n part.now) }
+    {
+        let was_whole = is_whole(&self.sessions, index);
+        match self.sessions.fragment(index, here.via, n, part, here.mark) {
+            Heard::Fed => offer(&mut self.slots, &self.sessions, index, was_whole),
+            Heard::Dropped(_) => self.count_dropped(),
+        }
+    }
+}
+
+/// Whether the file of a session is whole.
+#[tactic(auto, unfolding(frag_session::specs::Shows::seen))]
+fn is_whole(sessions: &SessionSlots, index: u8) -> bool
+    requires { index < 4 }
+    ensures { (table : SessionTable) → SessionsStand sessions.now table
+        → result ≡ is_whole (view_of (session_at table index)) }
+{
+    match sessions.view(index) {
+        Some(view) => is_complete(view.verdict),
+        None => false,
+    }
+}
+
+/// The file of a session that was not whole becomes next, if it is whole now.
+#[tactic(auto, unfolding(frag_session::specs::Shows::seen))]
+fn offer(slots: &mut Slots, sessions: &SessionSlots, index: u8, was_whole: bool)
+    requires index { index < 4 }
+    requires area { sessions.now.area ≤ slots.old.area }
+    ensures hw { slots.new.hw ≡ slots.old.hw }
+    ensures area { slots.new.area ≡ slots.old.area }
+    ensures offers { (table : SessionTable) → SessionsStand sessions.now table
+        → slots.new ≡ record slots.old { slots = slots_after slots.old.hw was_whole (whole_file (view_of (session_at table index))) slots.old.slots } }
+{
+    match sessions.view(index) {
+        Some(view) if !was_whole && is_complete(view.verdict) => slots.offer(view.file),
+        _ => {}
+    }
+}
+
+/// Whether the verdict is that the file is whole.
+fn is_complete(verdict: Verdict) -> bool
+    ensures { result ≡ is_complete verdict }
+{
+    match verdict {
+        Verdict::Complete(_) => true,
+        _ => false,
+    }
+}
+
+/// What the sessions of a device are limited to.
+fn limits_of(config: &DeviceConfig) -> Limits
+    ensures { result ≡ limits_of config.now }
+{
+    Limits {
+        sessions: config.sessions,
+        rows: config.rows,
+        descriptor: config.descriptor,
+    }
+}
+
+/// FragSessionSetupAns with all its refusal bits.
+fn setup_answer(index: u8, bits: u8) -> Command
+    requires { index < 4 }
+    ensures value { result ≡ setup_answer index bits }
+    ensures sendable { IsSendable 201 result }
+{
+    Command::Cast(Cmd::FragSessionSetupAns {
+        index,
+        wrong_descriptor: has_bit(bits, 3),
+        index_unsupported: has_bit(bits, 2),
+        no_memory: has_bit(bits, 1),
+        encoding_unsupported: has_bit(bits, 0),
+    })
+}
+
+/// FragSessionDeleteAns.
+fn delete_answer(index: u8, missing: bool) -> Command
+    requires { index < 4 }
+    ensures value { result ≡ Command.Cast (FragSessionDeleteAns index missing) }
+    ensures sendable { IsSendable 201 result }
+{
+    Command::Cast(Cmd::FragSessionDeleteAns { index, missing })
+}
+
+/// FragSessionStatusAns.
+fn status_answer(index: u8, status: StatusAns) -> Command
+    requires index { index < 4 }
+    requires few { status.received ≤ 16383 }
+    ensures value { result ≡ Command.Cast (FragSessionStatusAns index status.received status.missing status.norows) }
+    ensures sendable { IsSendable 201 result }
+{
+    Command::Cast(Cmd::FragSessionStatusAns {
+        index,
+        received: status.received,
+        missing: status.missing,
+        norows: status.norows,
+    })
+}
+
+/// The ms until a status request is answered.
+fn answer_delay(via: Via, word: u32, delay: u8) -> u64
+    ensures value { result ≡ answer_delay via word delay }
+    ensures few { result < 2 ^ 42 }
+{
+    match via {
+        Via::Unicast => 0,
+        Via::Group(_) => 1000 * low_bits(word, delay) as u64,
+    }
+}
+
+/// The lowest delay + 4 bits of a word.
+fn low_bits(word: u32, delay: u8) -> u32
+    ensures { result ≡ word % 2 ^ (delay + 4) }
+{
+    if delay < 28 {
+        word % (1 << (delay + 4))
+    } else {
+        word
+    }
+}
+
+fn has_bit(bits: u8, place: u32) -> bool
+    requires { place < 8 }
+    ensures { result ≡ has_bit bits place }
+{
+    bits >> place & 1 == 1
+}

@@ -1,0 +1,26 @@
+//! A device end of firmware update over LoRaWAN: clock synchronization (TS003-1.0.0), fragmented data blocks (TS004-1.0.0),
+//! remote multicast setup (TS005-1.0.0) and firmware management (TS006-1.0.0).
+//! A device is seen as the record of `specs/Device.antt`, with the lists of all fragments that its sessions heard: each call
+//! leaves what one function of `specs/Deliver.antt` makes of that record, and answers what that function answers.
+//! Only `Device::reserve` takes memory. Radio, clocks, random numbers and what runs the image are left to the caller.
+#![tactic(auto)]
+
+mod arrival;
+mod class_session;
+mod config;
+mod counts;
+mod delivered;
+mod device;
+mod laws;
+mod outbox;
+mod session_slots;
+mod uplink;
+
+pub use arrival::Arrival;
+pub use class_session::{ClassSession, Kind};
+pub use config::{Class, DeviceConfig, ReserveError, is_config};
+pub use counts::Counts;
+pub use delivered::{Delivered, OutboxFull};
+pub use device::Device;
+pub use laws::{due_reboot_is_once, what_does_not_act_is_counted};
+pub use uplink::{Uplink, UplinkCommand};

@@ -1,0 +1,74 @@
+//! The uplinks that are not yet taken.
+
+ghost use Rattle.std.specs.Prelude.{◌≡◌, ◌<◌, ◌≤◌, ◌++◌, ◌∷◌, [], length};
+ghost use Rattle.device_core.specs.Answers.{uplink_of};
+ghost use Rattle.device_core.specs.Device.{outbox_size};
+ghost use Rattle.device_core.specs.HeldDevice.{TakesOldest};
+ghost use Rattle.device_core.specs.Sendable.{IsSendable};
+
+use crate::uplink::{Uplink, UplinkCommand};
+use arrayvec::ArrayVec;
+use std::marker::Model;
+use trial_reading::spelled;
+use wire_base::Direction;
+
+/// How many uplinks a device holds before they are taken.
+pub const OUTBOX: usize = 8;
+
+/// At most 8 uplinks, oldest first. Contracts see their list.
+#[derive(Drop)]
+pub struct Outbox {
+    uplinks: ArrayVec<Uplink, OUTBOX>,
+}
+
+impl Model for Outbox {
+    ghost use Rattle.std.specs.Prelude.{List, ◌≤◌, length};
+    ghost use Rattle.device_core.specs.declared.uplink.Uplink.{Uplink};
+
+    ghost Value = { List Uplink };
+
+    ghost view = { λ o. o.uplinks.items };
+
+    ghost invariant = { λ o. length o.uplinks.items ≤ 8 };
+}
+
+impl Outbox {
+    pub fn new() -> Self
+        ensures { result ≡ [] }
+    {
+        Outbox {
+            uplinks: ArrayVec::new(),
+        }
+    }
+
+    pub fn len(&self) -> usize
+        ensures number { result ≡ length self.now }
+        ensures few { length self.now ≤ outbox_size }
+    {
+        self.uplinks.len()
+    }
+
+    /// Puts an answer behind the others.
+    pub fn push(&mut self, answer: UplinkCommand)
+        requires sendable { IsSendable answer.port answer.command }
+        requires room { length self.old < outbox_size }
+        ensures { self.new ≡ self.old ++ uplink_of answer ∷ [] }
+    {
+        let payload = spelled(&answer.command, answer.port, Direction::Up);
+        self.uplinks.push(Uplink {
+            due: answer.due,
+            port: answer.port,
+            payload,
+        });
+    }
+
+    /// Takes the oldest; None exactly where there is none.
+    pub fn take(&mut self) -> Option<Uplink>
+        ensures { TakesOldest self.old self.new result }
+    {
+        if self.uplinks.is_empty() {
+            return None;
+        }
+        Some(self.uplinks.remove(0))
+    }
+}

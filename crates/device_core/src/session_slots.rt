@@ -1,0 +1,165 @@
+//! The four sessions of a device (TS004-1.0.0), by their index.
+
+ghost use Rattle.std.specs.Prelude.{◌≡◌, ◌≢◌, ◌<◌, ◌≤◌, Option, None, IfOk, IfSome, is_some, option_map, length};
+ghost use Rattle.frag_session.specs.Setup.{setup_bits};
+ghost use Rattle.frag_session.specs.Session.{after_setup, after_fragment, answer_of, drop_cause, status_of, view_of};
+ghost use Rattle.frag_session.specs.Shows.{seen};
+ghost use Rattle.frag_session.specs.Stands.{Stands};
+ghost use Rattle.frag_session.specs.Steps.{area_of};
+ghost use Rattle.device_core.specs.Device.{row_words, row_bytes};
+ghost use Rattle.device_core.specs.SessionTable.{SessionTable, no_sessions, session_at, with_session};
+ghost use Rattle.device_core.specs.HeldSessions.{SessionsStand};
+
+use frag_session::{Heard, Idle, Limits, SetupReq, Slot, StatusAns, Via, View};
+use row_elimination::{Memory, Solver};
+use std::alloc::Global;
+use std::marker::Model;
+
+/// The words of 64 coefficients that are kept for the rows of a session: 64 rows of 1,024 columns.
+pub const ROW_WORDS: usize = 1024;
+
+/// The bytes that are kept for the rows of a session: 64 rows of 239 bytes.
+pub const ROW_BYTES: usize = 15_296;
+
+/// A slot for each session, with all memory that it will ever need.
+#[derive(Drop)]
+pub struct SessionSlots {
+    first: Slot<ROW_WORDS, ROW_BYTES>,
+    second: Slot<ROW_WORDS, ROW_BYTES>,
+    third: Slot<ROW_WORDS, ROW_BYTES>,
+    fourth: Slot<ROW_WORDS, ROW_BYTES>,
+}
+
+impl Model for SessionSlots {
+    ghost use Rattle.frag_session.specs.Steps.{area_of};
+    ghost use Rattle.device_core.specs.HeldSessions.{HeldSessions, HaveArea};
+
+    ghost Value = { HeldSessions };
+
+    ghost view = { λ s. record { first = s.first; second = s.second; third = s.third; fourth = s.fourth; area = area_of s.first } };
+
+    ghost invariant = { λ s. HaveArea (area_of s.first) s.first s.second s.third s.fourth };
+}
+
+impl SessionSlots {
+    /// Slots without sessions, each with a file area of so many bytes.
+    pub fn reserve(alloc: Global, area: u32) -> Result<Self, Memory>
+        ensures stands { IfOk result (λ s. SessionsStand s no_sessions) }
+        ensures area { IfOk result (λ s. s.area ≡ area) }
+    {
+        Ok(SessionSlots {
+            first: slot(alloc, area)?,
+            second: slot(alloc, area)?,
+            third: slot(alloc, area)?,
+            fourth: slot(alloc, area)?,
+        })
+    }
+
+    /// Answers FragSessionSetupReq with all refusal bits: without one the session there stays, or gives way to a new one.
+    pub fn setup(&mut self, index: u8, req: SetupReq, limits: Limits) -> u8
+        requires { index < 4 }
+        ensures bits { result ≡ setup_bits limits (record { words = row_words; bytes = row_bytes; area = self.old.area }) req }
+        ensures stands { (table : SessionTable) → SessionsStand self.old table
+            → SessionsStand self.new (with_session table index (after_setup limits (record { words = row_words; bytes = row_bytes; area = self.old.area }) (session_at table index) req)) }
+        ensures area { self.new.area ≡ self.old.area }
+    {
+        match index {
+            0 => self.first.setup(req, limits),
+            1 => self.second.setup(req, limits),
+            2 => self.third.setup(req, limits),
+            _ => self.fourth.setup(req, limits),
+        }
+    }
+
+    /// A session hears a fragment, or drops it.
+    pub fn fragment(&mut self, index: u8, via: Via, n: u16, part: &[u8], mark: u64) -> Heard
+        requires { index < 4 }
+        ensures answer { (table : SessionTable) → SessionsStand self.old table
+            → result ≡ answer_of (drop_cause (session_at table index) via n part.now) }
+        ensures stands { (table : SessionTable) → SessionsStand self.old table
+            → SessionsStand self.new (with_session table index (after_fragment (session_at table index) via n part.now mark)) }
+        ensures dropped { result ≢ Heard.Fed → self.new ≡ self.old }
+        ensures area { self.new.area ≡ self.old.area }
+    {
+        match index {
+            0 => self.first.fragment(via, n, part, mark),
+            1 => self.second.fragment(via, n, part, mark),
+            2 => self.third.fragment(via, n, part, mark),
+            _ => self.fourth.fragment(via, n, part, mark),
+        }
+    }
+
+    /// What a session answers to a status request, if anything.
+    pub fn status(&self, index: u8, via: Via, all: bool) -> Option<StatusAns>
+        requires { index < 4 }
+        ensures value { (table : SessionTable) → SessionsStand self.now table
+            → result ≡ status_of (session_at table index) via all }
+        ensures few { IfSome result (λ a. a.received ≤ 16383) }
+    {
+        within(self.told(index, via, all))
+    }
+
+    fn told(&self, index: u8, via: Via, all: bool) -> Option<StatusAns>
+        requires { index < 4 }
+        ensures { (table : SessionTable) → SessionsStand self.now table
+            → result ≡ status_of (session_at table index) via all }
+    {
+        match index {
+            0 => self.first.status(via, all),
+            1 => self.second.status(via, all),
+            2 => self.third.status(via, all),
+            _ => self.fourth.status(via, all),
+        }
+    }
+
+    /// Ends a session; false exactly where there is none.
+    pub fn delete(&mut self, index: u8) -> bool
+        requires { index < 4 }
+        ensures answer { (table : SessionTable) → SessionsStand self.old table
+            → result ≡ is_some (session_at table index) }
+        ensures stands { (table : SessionTable) → SessionsStand self.old table
+            → SessionsStand self.new (with_session table index None) }
+        ensures area { self.new.area ≡ self.old.area }
+    {
+        match index {
+            0 => self.first.delete(),
+            1 => self.second.delete(),
+            2 => self.third.delete(),
+            _ => self.fourth.delete(),
+        }
+    }
+
+    /// What a session shows; None exactly where there is none.
+    pub fn view(&self, index: u8) -> Option<View<'_>>
+        requires { index < 4 }
+        ensures value { (table : SessionTable) → SessionsStand self.now table
+            → option_map seen result ≡ view_of (session_at table index) }
+        ensures within { IfSome result (λ v. length v.file.now ≤ self.now.area) }
+    {
+        match index {
+            0 => self.first.view(),
+            1 => self.second.view(),
+            2 => self.third.view(),
+            _ => self.fourth.view(),
+        }
+    }
+}
+
+/// A status whose count is within its 14 bits, as that of each session is.
+fn within(status: Option<StatusAns>) -> Option<StatusAns>
+    ensures same { IfSome status (λ a. a.received ≤ 16383) → result ≡ status }
+    ensures few { IfSome result (λ a. a.received ≤ 16383) }
+{
+    match status {
+        Some(answer) if answer.received <= 16_383 => status,
+        _ => None,
+    }
+}
+
+/// A slot without a session.
+fn slot(alloc: Global, area: u32) -> Result<Slot<ROW_WORDS, ROW_BYTES>, Memory>
+    ensures stands { IfOk result (λ s. Stands s None) }
+    ensures area { IfOk result (λ s. area_of s ≡ area) }
+{
+    Ok(Slot::new(Idle::new(Solver::reserve(alloc, area)?)))
+}

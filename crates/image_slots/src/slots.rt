@@ -1,0 +1,141 @@
+//! The two image slots of a device.
+
+ghost use Rattle.std.specs.Prelude.{◌≡◌, ◌≤◌, length, IfOk};
+ghost use Rattle.image_slots.specs.Slots.{first_slots, without_next, after_offer, after_swap, delete_bits, after_delete};
+
+use crate::view::{ImageState, ImageView};
+use std::alloc::Global;
+use std::marker::Model;
+
+/// There was not enough memory.
+#[derive(Clone, Copy, Debug, PartialEq, Eq)]
+pub struct Memory;
+
+/// What a device runs, and the file that it received to run next. Its memory is taken once.
+#[derive(Drop)]
+pub struct Slots {
+    /// The device's hardware version.
+    hw: u32,
+    /// The bytes that each slot has room for.
+    area: u32,
+    /// The version that runs.
+    version: u32,
+    running: Vec<u8>,
+    next: ImageState,
+    next_file: Vec<u8>,
+}
+
+impl Model for Slots {
+    ghost use Rattle.std.specs.Prelude.{◌≤◌, vec_capacity};
+    ghost use Rattle.image_slots.specs.HeldSlots.{HeldSlots};
+
+    ghost Value = { HeldSlots };
+
+    ghost view = { λ s. record {
+      hw = s.hw;
+      area = s.area;
+      slots = record { version = s.version; running = s.running.items; next = s.next; next_file = s.next_file.items };
+    } };
+
+    ghost invariant = { λ s. (s.area ≤ vec_capacity s.running) × (s.area ≤ vec_capacity s.next_file) };
+}
+
+impl Slots {
+    /// Slots for files of at most `area` bytes on this hardware version. Version 0 runs, without a file, and next is none.
+    pub fn reserve(alloc: Global, area: u32, hw: u32) -> Result<Self, Memory>
+        ensures { IfOk result (λ s. s ≡ record { hw = hw; area = area; slots = first_slots }) }
+    {
+        let Ok(running) = Vec::with_capacity(alloc, area as usize) else {
+            return Err(Memory);
+        };
+        let Ok(next_file) = Vec::with_capacity(alloc, area as usize) else {
+            return Err(Memory);
+        };
+        Ok(Slots {
+            hw,
+            area,
+            version: 0,
+            running,
+            next: ImageState::None,
+            next_file,
+        })
+    }
+
+    /// A file of at most `area` bytes becomes next, whatever next was.
+    #[tactic(auto, unfolding(crate::specs::Slots::after_offer))]
+    pub fn offer(&mut self, file: &[u8])
+        requires { length file.now ≤ self.old.area }
+        ensures { self.new ≡ record self.old { slots = after_offer self.old.hw file.now self.old.slots } }
+    {
+        self.next = ImageView::read(file, self.hw);
+        self.next_file.clear();
+        if self.next_file.extend_from_slice(file).is_err() {
+            unreachable!();
+        }
+    }
+
+    /// A valid next becomes what runs, and next is none; any other next stays.
+    #[tactic(auto, unfolding(crate::specs::Slots::after_swap))]
+    pub fn swap(&mut self)
+        ensures { self.new ≡ record self.old { slots = after_swap self.old.slots } }
+    {
+        if let ImageState::Valid(version) = self.next {
+            self.version = version;
+            std::mem::swap(&mut self.running, &mut self.next_file);
+            self.clear_next();
+        }
+    }
+
+    /// Deletes next where it is valid with this version. Else it answers bit 0 without a valid next, or bit 1 where next has
+    /// another version (DevDeleteImageReq, TS006-1.0.0; the bits are this project's profile).
+    #[tactic(auto, unfolding(crate::specs::Slots::after_delete))]
+    pub fn delete(&mut self, version: u32) -> u8
+        ensures bits { result ≡ delete_bits self.old.slots.next version }
+        ensures slots { self.new ≡ record self.old { slots = after_delete version self.old.slots } }
+    {
+        let bits = delete_bits(self.next, version);
+        if bits == 0 {
+            self.clear_next();
+        }
+        bits
+    }
+
+    /// The version that runs, and its file: nothing at first.
+    pub fn running(&self) -> (u32, &[u8])
+        ensures version { result.0 ≡ self.now.slots.version }
+        ensures file { result.1.now ≡ self.now.slots.running }
+    {
+        (self.version, self.running.as_slice())
+    }
+
+    /// What next is to the device.
+    pub fn next(&self) -> ImageState
+        ensures { result ≡ self.now.slots.next }
+    {
+        self.next
+    }
+
+    /// Next is none.
+    fn clear_next(&mut self)
+        ensures { self.new ≡ record self.old { slots = without_next self.old.slots } }
+    {
+        self.next = ImageState::None;
+        self.next_file.clear();
+    }
+}
+
+/// The answer to the wish to delete a version.
+fn delete_bits(next: ImageState, version: u32) -> u8
+    ensures { result ≡ delete_bits next version }
+{
+    match next {
+        ImageState::Valid(held) => {
+            if held == version {
+                0
+            } else {
+                2
+            }
+        }
+        _ => 1,
+    }
+}
