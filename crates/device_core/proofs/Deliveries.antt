@@ -4,7 +4,7 @@ use Rattle.std.specs.Prelude.{nat_lt}
 use Rattle.wire_base.specs.declared.refusal.Direction.TheVariants.{Down}
 use Rattle.wire_base.specs.declared.refusal.Refusal.{Refusal}
 use Rattle.package_grammar.specs.declared.command.Command.{Command}
-use Rattle.package_grammar.specs.declared.command.Downlink.{Downlink}
+use Rattle.package_grammar.specs.declared.downlink.Downlink.{Downlink}
 use Rattle.clock_sync.specs.Clock.{device_time}
 use Rattle.device_core.specs.declared.arrival.Arrival.{Arrival}
 use Rattle.device_core.specs.declared.counts.Counts.{Counts}
@@ -14,7 +14,7 @@ use Rattle.device_core.specs.Device.{DeviceState, with_deaf, with_refused, with_
 use Rattle.device_core.specs.ClassSessions.{hears}
 use Rattle.device_core.specs.Firmware.{is_due, after_due_reboot}
 use Rattle.device_core.specs.Step.{weights}
-use Rattle.trial_reading.specs.Reading.{Reading, reading_of}
+use Rattle.package_grammar.specs.Reading.{Reading, reading_of}
 use Rattle.device_core.specs.Deliver.{Outcome, message_delivery, read_delivery, heard_delivery, delivery}
 
 -- a reboot that is due by now stays due or not where the clock and the moment stay

@@ -1,7 +1,7 @@
 -- Worked examples of the definitions, from payloads in bytes to payloads in bytes: each holds by computing alone.
 use Rattle.std.proofs.Common.{◌≡◌, ℕ, List, [], ◌∷◌, ◌++◌, length, map, Some, None, replicate, refl}
-use Rattle.package_grammar.specs.declared.command.To.TheVariants.{Unicast, Group}
-use Rattle.package_grammar.specs.declared.command.Downlink.{Downlink}
+use Rattle.package_grammar.specs.declared.downlink.To.TheVariants.{Unicast, Group}
+use Rattle.package_grammar.specs.declared.downlink.Downlink.{Downlink}
 use Rattle.std.specs.Int.{int_wrap}
 use Rattle.wire_base.specs.Numbers.{number_at}
 use Rattle.sync_wire.specs.Reading.{clock_down, firmware_down}
@@ -27,7 +27,7 @@ use Rattle.device_core.specs.Groups.{groups_step, group_setup_step, group_delete
 use Rattle.device_core.specs.ClassSessions.{hears, class_session_step}
 use Rattle.device_core.specs.Firmware.{version_step, delete_image_step, reboot_time_step, countdown_step, after_due_reboot}
 use Rattle.device_core.specs.Step.{command_step, step, after_commands}
-use Rattle.trial_reading.specs.Reading.{named_at, command_at, read_from, reading_of}
+use Rattle.package_grammar.specs.Reading.{named_at, command_at, read_from, reading_of}
 use Rattle.device_core.specs.Deliver.{message_delivery, read_delivery, heard_delivery, delivery, time_asking, waking}
 
 -- ---- a device, and what comes to it

@@ -4,8 +4,8 @@ use Rattle.std.specs.Prelude.{ℕ, Bool, true, false, ◌&&◌, ◌==◌, if◌t
 use Rattle.std.specs.Int.{bit_at}
 use Rattle.package_grammar.specs.declared.command.Command.{Command}
 use Rattle.package_grammar.specs.declared.command.Command.TheVariants.{Cast}
-use Rattle.package_grammar.specs.declared.command.To.{To}
-use Rattle.package_grammar.specs.declared.command.To.TheVariants as to
+use Rattle.package_grammar.specs.declared.downlink.To.{To}
+use Rattle.package_grammar.specs.declared.downlink.To.TheVariants as to
 use Rattle.cast_wire.specs.declared.cmd.Cmd.TheVariants.{McClassCSessionAns, McClassBSessionAns}
 use Rattle.clock_sync.specs.Clock.{device_time, device_millis}
 use Rattle.class_windows.specs.Sessions.{error_bits, start_answer}

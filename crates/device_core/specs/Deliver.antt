@@ -4,9 +4,9 @@ use Rattle.wire_base.specs.declared.refusal.Direction.TheVariants.{Down}
 use Rattle.frag_session.specs.declared.answers.Via.{Via}
 use Rattle.frag_session.specs.declared.answers.Via.TheVariants as via
 use Rattle.package_grammar.specs.declared.command.Command.{Command}
-use Rattle.package_grammar.specs.declared.command.To.{To}
-use Rattle.package_grammar.specs.declared.command.To.TheVariants as to
-use Rattle.package_grammar.specs.declared.command.Downlink.{Downlink}
+use Rattle.package_grammar.specs.declared.downlink.To.{To}
+use Rattle.package_grammar.specs.declared.downlink.To.TheVariants as to
+use Rattle.package_grammar.specs.declared.downlink.Downlink.{Downlink}
 use Rattle.device_core.specs.declared.delivered.Delivered.{Delivered}
 use Rattle.device_core.specs.declared.delivered.Delivered.TheVariants.{Deaf, Refused, OutboxFull, Done}
 use Rattle.device_core.specs.declared.class_session.ClassSession.{ClassSession}
@@ -20,7 +20,7 @@ use Rattle.device_core.specs.Clock.{time_request}
 use Rattle.device_core.specs.ClassSessions.{hears}
 use Rattle.device_core.specs.Firmware.{after_due_reboot}
 use Rattle.device_core.specs.Step.{after_commands, weights}
-use Rattle.trial_reading.specs.Reading.{Reading, reading_of}
+use Rattle.package_grammar.specs.Reading.{Reading, reading_of}
 
 -- what a call makes of a device: the device behind it, and its answer
 pub record Outcome (A : Type 0) : Type 0 where

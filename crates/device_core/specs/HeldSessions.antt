@@ -1,16 +1,16 @@
 -- What the four slots of sessions hold, and when they stand for sessions.
 use Rattle.std.specs.Prelude.{◌≡◌, ℕ}
-use Rattle.frag_session.specs.Held.{Kept}
+use Rattle.frag_session.specs.Held.{HeldSlot}
 use Rattle.frag_session.specs.Stands.{Stands}
 use Rattle.frag_session.specs.Steps.{area_of}
 use Rattle.device_core.specs.SessionTable.{SessionTable}
 
 -- the slots of index 0 to 3, and the bytes of the file area of each
 pub record HeldSessions : Type 0 where
-  pub first : Kept
-  pub second : Kept
-  pub third : Kept
-  pub fourth : Kept
+  pub first : HeldSlot
+  pub second : HeldSlot
+  pub third : HeldSlot
+  pub fourth : HeldSlot
   pub area : ℕ
 
 -- each slot stands for its session
@@ -21,7 +21,7 @@ pub record SessionsStand (held : HeldSessions) (table : SessionTable) : Type 0 w
   pub fourth : Stands held.fourth table.fourth
 
 -- each slot has this file area
-pub record HaveArea (area : ℕ) (first second third fourth : Kept) : Type 0 where
+pub record HaveArea (area : ℕ) (first second third fourth : HeldSlot) : Type 0 where
   pub first_area : area_of first ≡ area
   pub second_area : area_of second ≡ area
   pub third_area : area_of third ≡ area

@@ -8,7 +8,7 @@ ghost use Rattle.device_core.specs.SessionTable.{session_at};
 ghost use Rattle.device_core.specs.Device.{DeviceState, max_moment, counter_after};
 ghost use Rattle.device_core.specs.Step.{weights, after_commands};
 ghost use Rattle.device_core.specs.Deliver.{message_delivery, read_delivery, heard_delivery, delivery, time_asking, waking, taking};
-ghost use Rattle.trial_reading.specs.Reading.{reading_of};
+ghost use Rattle.package_grammar.specs.Reading.{reading_of};
 
 mod acting;
 mod clock;
@@ -30,10 +30,9 @@ use clock_sync::DeviceClock;
 use frag_session::View;
 use image_slots::Slots;
 use mc_group::GroupTable;
-use package_grammar::{Command, Downlink};
+use package_grammar::{Command, Downlink, Message};
 use std::alloc::Global;
 use std::marker::Model;
-use trial_reading::Message;
 use windows::via_of;
 use wire_base::{Direction, Payload};
 

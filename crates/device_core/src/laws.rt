@@ -2,7 +2,7 @@
 
 ghost use Rattle.std.specs.Prelude.{◌≡◌, ℕ};
 ghost use Rattle.wire_base.specs.declared.refusal.Refusal.{Refusal};
-ghost use Rattle.package_grammar.specs.declared.command.Downlink.{Downlink};
+ghost use Rattle.package_grammar.specs.declared.downlink.Downlink.{Downlink};
 ghost use Rattle.device_core.specs.declared.delivered.Delivered.TheVariants.{Deaf, Refused, OutboxFull};
 ghost use Rattle.device_core.specs.Device.{DeviceState, with_deaf, with_refused, with_full};
 ghost use Rattle.device_core.specs.Firmware.{after_due_reboot};

@@ -8,8 +8,8 @@ ghost use Rattle.device_core.specs.Sendable.{IsSendable};
 
 use crate::uplink::{Uplink, UplinkCommand};
 use arrayvec::ArrayVec;
+use package_grammar::spelled;
 use std::marker::Model;
-use trial_reading::spelled;
 use wire_base::Direction;
 
 /// How many uplinks a device holds before they are taken.
@@ -54,7 +54,7 @@ impl Outbox {
         requires room { length self.old < outbox_size }
         ensures { self.new ≡ self.old ++ uplink_of answer ∷ [] }
     {
-        let payload = spelled(&answer.command, answer.port, Direction::Up);
+        let payload = spelled(answer.port, Direction::Up, &answer.command);
         self.uplinks.push(Uplink {
             due: answer.due,
             port: answer.port,

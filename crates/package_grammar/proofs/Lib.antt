@@ -6,4 +6,3 @@ pub mod ReadingLaw
 pub mod Cursor
 pub mod ReadResults
 pub mod Examples
-pub mod WhatIsRead

@@ -14,8 +14,7 @@ use super::Device;
 use crate::arrival::Arrival;
 use crate::class_session::{ClassSession, Kind};
 use frag_session::{SetupReq, Via};
-use package_grammar::Command;
-use trial_reading::Message;
+use package_grammar::{Command, Message};
 
 impl Device {
     ghost use Rattle.device_core.specs.HeldDevice.{Steps};

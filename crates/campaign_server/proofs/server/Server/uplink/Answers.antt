@@ -2,7 +2,7 @@ use Rattle.std.proofs.Common.{◌≡◌, Some, ap, ◌∙◌, sym, arith, refl}
 use Rattle.wire_base.specs.declared.refusal.Direction.TheVariants.{Up}
 use Rattle.image_slots.proofs.ImageLemmas.{image_long}
 use Rattle.package_grammar.specs.Reading.{reading_of}
-use Rattle.package_grammar.proofs.WhatIsRead.{refusal_read, commands_read}
+use Rattle.package_grammar.proofs.ReadResults.{refusal_read, commands_read}
 use Rattle.campaign_server.specs.Server.{ledger}
 use Rattle.campaign_server.specs.Uplinks.{read_uplink, uplink_step}
 use Rattle.campaign_server.proofs.Plans.{moved_by, answered_by}

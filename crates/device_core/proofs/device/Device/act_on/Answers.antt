@@ -1,6 +1,6 @@
 use Rattle.std.proofs.Common.{◌∙◌, sym, ap, subst, arith, List}
 use Rattle.package_grammar.specs.declared.command.Command.{Command}
-use Rattle.trial_reading.specs.HeldMessage.{HeldMessage}
+use Rattle.package_grammar.specs.HeldMessage.{HeldMessage}
 use Rattle.device_core.specs.Step.{weights}
 use Rattle.device_core.proofs.Acting.{HasActed, acted_none, acted_more, acted_all}
 use Rattle.device_core.proofs.device.Device.act_on.Goals as goal
