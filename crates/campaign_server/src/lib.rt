@@ -13,6 +13,8 @@ mod plan;
 mod server;
 mod spelling;
 mod stage;
+#[cfg(test)]
+mod tests;
 mod time;
 
 pub use fragments::Spent;

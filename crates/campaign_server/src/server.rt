@@ -1,6 +1,6 @@
 //! The server of a campaign: its record, and its calls.
 
-ghost use Rattle.std.specs.Prelude.{◌≡◌, ◌↔◌, ◌≤◌, Err, IfOk, None, Some, length, replicate, true};
+ghost use Rattle.std.specs.Prelude.{◌≡◌, ◌↔◌, ◌≤◌, Err, IfOk, is_ok, None, Some, length, replicate, true};
 ghost use Rattle.image_slots.specs.Image.{is_image};
 ghost use Rattle.frag_encoder.specs.Encoding.{nb_frag_of, padding_of};
 ghost use Rattle.campaign_server.specs.declared.plan.Field.{Field};
@@ -108,6 +108,15 @@ impl Server {
         let device = device_of(&self.plan, dev);
         let stage = numbered(&self.stages, dev);
         request(&self.plan, &self.encoder, &device.key, stage)
+    }
+
+    /// Whether a next fragment can be sent.
+    #[tactic(auto, unfolding(crate::specs::Fragments::next_fragment))]
+    pub fn has_fragment(&self) -> bool
+        ensures { result ≡ is_ok (next_fragment self.now) }
+    {
+        self.next <= self.encoder.nb_frag() + self.plan.parity
+            && !has_no_count(self.plan.group, self.count)
     }
 
     #[tactic(auto, unfolding(crate::specs::Fragments::next_fragment, crate::specs::Fragments::after_fragment))]

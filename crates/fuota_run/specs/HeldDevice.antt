@@ -8,7 +8,7 @@ use Rattle.fuota_run.specs.declared.device.Uplink.{Uplink}
 use Rattle.image_slots.specs.declared.view.ImageState.{ImageState}
 use Rattle.package_grammar.specs.Grammar.{canonical}
 use Rattle.fuota_run.specs.Commands.{Upward, IsUplink}
-use Rattle.fuota_run.specs.Sessions.{KeptSessions, SessionsStand}
+use Rattle.fuota_run.specs.HeldSessions.{KeptSessions, SessionsStand}
 use Rattle.fuota_run.specs.Deliver.{Delivery}
 use Rattle.fuota_run.specs.Device.{DeviceState}
 

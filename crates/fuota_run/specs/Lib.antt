@@ -4,6 +4,7 @@ pub mod Memory
 pub mod Script
 pub mod Commands
 pub mod Sessions
+pub mod HeldSessions
 pub mod Device
 pub mod Deliver
 pub mod Report

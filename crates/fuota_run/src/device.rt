@@ -17,7 +17,8 @@ ghost use Rattle.package_grammar.specs.Grammar.{row, IsValid};
 ghost use Rattle.package_grammar.specs.Reading.{reading_of};
 ghost use Rattle.fuota_run.specs.Deliver.{delivery, all_acted};
 ghost use Rattle.fuota_run.specs.Commands.{IsUplink, Upward, upward, identifier_of};
-ghost use Rattle.fuota_run.specs.Sessions.{Sessions, session_at, with_session, SessionsStand};
+ghost use Rattle.fuota_run.specs.Sessions.{Sessions, session_at, with_session};
+ghost use Rattle.fuota_run.specs.HeldSessions.{SessionsStand};
 ghost use Rattle.fuota_run.specs.Device.{DeviceState, room, first_device, limits_of, raised, after_data, after_command, status_answers, answer_to, weight, weights, setup_answer, has_bit, offered, is_complete, shows_file};
 
 use crate::sessions::{Places, SESSIONS};

@@ -3,7 +3,8 @@ ghost use Rattle.std.specs.Prelude.{◌≡◌, ◌+◌, ◌<◌, ◌≤◌, ◌+
 ghost use Rattle.frag_session.specs.Session.{view_of};
 ghost use Rattle.frag_session.specs.Shows.{seen};
 ghost use Rattle.fuota_run.specs.Script.{lines_of};
-ghost use Rattle.fuota_run.specs.Sessions.{Sessions, session_at, SessionsStand};
+ghost use Rattle.fuota_run.specs.Sessions.{Sessions, session_at};
+ghost use Rattle.fuota_run.specs.HeldSessions.{SessionsStand};
 ghost use Rattle.fuota_run.specs.Device.{DeviceState};
 ghost use Rattle.fuota_run.specs.HeldDevice.{StandsAs};
 ghost use Rattle.fuota_run.specs.PayloadLines.{payload_of, IsLineRefused, IsTold};

@@ -2,7 +2,8 @@
 ghost use Rattle.std.specs.Prelude.{◌≡◌, ◌<◌, ◌++◌, Some, IfOk, codes, string_bytes};
 ghost use Rattle.std.specs.Fmt.{decimal};
 ghost use Rattle.frag_session.specs.Session.{view_of};
-ghost use Rattle.fuota_run.specs.Sessions.{Sessions, session_at, SessionsStand};
+ghost use Rattle.fuota_run.specs.Sessions.{Sessions, session_at};
+ghost use Rattle.fuota_run.specs.HeldSessions.{SessionsStand};
 ghost use Rattle.frag_session.specs.Shows.{seen};
 ghost use Rattle.fuota_run.specs.Device.{DeviceState};
 ghost use Rattle.fuota_run.specs.HeldDevice.{StandsAs};

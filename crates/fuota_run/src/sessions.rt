@@ -5,7 +5,8 @@ ghost use Rattle.frag_session.specs.Session.{Session, after_setup, after_fragmen
 ghost use Rattle.frag_session.specs.Shows.{seen};
 ghost use Rattle.frag_session.specs.Stands.{Stands};
 ghost use Rattle.frag_session.specs.Steps.{area_of};
-ghost use Rattle.fuota_run.specs.Sessions.{Sessions, no_sessions, session_at, with_session, SessionsStand};
+ghost use Rattle.fuota_run.specs.Sessions.{Sessions, no_sessions, session_at, with_session};
+ghost use Rattle.fuota_run.specs.HeldSessions.{SessionsStand};
 ghost use Rattle.fuota_run.specs.Device.{room};
 
 use frag_session::{Heard, Idle, Limits, SetupReq, Slot, StatusAns, Via, View};
@@ -38,7 +39,7 @@ pub struct Places {
 }
 
 impl Model for Places {
-    ghost use Rattle.fuota_run.specs.Sessions.{KeptSessions, HaveArea};
+    ghost use Rattle.fuota_run.specs.HeldSessions.{KeptSessions, HaveArea};
 
     ghost Value = { KeptSessions };
 

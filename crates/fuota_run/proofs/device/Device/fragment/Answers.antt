@@ -1,7 +1,8 @@
 use Rattle.std.proofs.Common.{◌≡◌, Bool, sym, ap, subst, ◌∙◌}
 use Rattle.frag_session.specs.declared.answers.Via.TheVariants as via
 use Rattle.frag_session.specs.Session.{after_fragment, view_of}
-use Rattle.fuota_run.specs.Sessions.{KeptSessions, SessionsStand, session_at, with_session}
+use Rattle.fuota_run.specs.Sessions.{session_at, with_session}
+use Rattle.fuota_run.specs.HeldSessions.{KeptSessions, SessionsStand}
 use Rattle.fuota_run.specs.declared.device.Counts.{Counts}
 use Rattle.fuota_run.specs.declared.device.DeviceConfig.{DeviceConfig}
 use Rattle.image_slots.specs.declared.view.ImageState.{ImageState}
