@@ -1,6 +1,7 @@
 -- Reboots that are due, and payloads that do not act.
-use Rattle.std.proofs.Common.{◌≡◌, ℕ, ◌+◌, Bool, true, false, length, List, Ok, Err, refl}
-use Rattle.std.specs.Prelude.{nat_lt}
+use Rattle.std.proofs.Common.{◌≡◌, ℕ, ◌+◌, ◌<◌, ◌≤◌, Bool, true, false, leb, length, List, Ok, Err, inl, inr, refl}
+use Rattle.std.proofs.lemmas.Bool.{cases_lt, le-leb, lt-leb}
+use Rattle.std.specs.Prelude.{nat_lt, IsErr}
 use Rattle.wire_base.specs.declared.refusal.Direction.TheVariants.{Down}
 use Rattle.wire_base.specs.declared.refusal.Refusal.{Refusal}
 use Rattle.package_grammar.specs.declared.command.Command.{Command}
@@ -15,7 +16,7 @@ use Rattle.device_core.specs.ClassSessions.{hears}
 use Rattle.device_core.specs.Firmware.{is_due, after_due_reboot}
 use Rattle.device_core.specs.Step.{weights}
 use Rattle.trial_reading.specs.Reading.{Reading, reading_of}
-use Rattle.device_core.specs.Deliver.{Outcome, message_delivery, read_delivery, heard_delivery, delivery}
+use Rattle.device_core.specs.Deliver.{Outcome, message_delivery, read_delivery, heard_delivery, delivery, time_asking, waking}
 
 -- a reboot that is due by now stays due or not where the clock and the moment stay
 pub reboot_once : (t : ℕ) (device : DeviceState) → after_due_reboot t (after_due_reboot t device) ≡ after_due_reboot t device
@@ -76,3 +77,35 @@ counted t word mark down device =
       refused = λ r h. rw (heard.refused r h, counts_stay t start (with_refused start).counts, reboot_once t device) refl;
       full = λ n h. rw (heard.full n h, counts_stay t start (with_full start).counts, reboot_once t device) refl;
     }
+
+-- ---- waking
+
+outbox_stays : (t : ℕ) (device : DeviceState) → (after_due_reboot t device).outbox ≡ device.outbox
+unfolding after_due_reboot
+outbox_stays t device = by_due (is_due (device_time device.clock t) device.reboot) refl
+  where
+    by_due : (b : Bool) → is_due (device_time device.clock t) device.reboot ≡ b
+        → (after_due_reboot t device).outbox ≡ device.outbox
+    by_due true is = rw is refl
+    by_due false is = rw is refl
+
+-- where the outbox is full it only reboots
+pub full_wakes : (t : ℕ) (device : DeviceState) → 8 ≤ length device.outbox
+    → waking t device ≡ record { device = after_due_reboot t device; answer = Err (record {}) }
+unfolding waking time_asking
+full_wakes t device held =
+    let full : leb 8 (length (after_due_reboot t device).outbox) ≡ true = le-leb _ _ (rw (outbox_stays t device) held) in
+    rw (full, reboot_once t device) refl
+
+-- and elsewhere it asks
+pub free_wakes : (t : ℕ) (device : DeviceState) → length device.outbox < 8 → (waking t device).answer ≡ Ok tt
+unfolding waking time_asking
+free_wakes t device room =
+    let free : leb 8 (length (after_due_reboot t device).outbox) ≡ false = lt-leb _ _ (rw (outbox_stays t device) room) in
+    rw free refl
+
+pub wakes_full : (t : ℕ) (device : DeviceState) → IsErr (waking t device).answer → 8 ≤ length device.outbox
+wakes_full t device err = elim (cases_lt (length device.outbox) 8) [
+  | inl room ↦ absurd (let no = rw (free_wakes t device room) at err in cc)
+  | inr held ↦ held
+]

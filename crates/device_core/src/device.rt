@@ -1,6 +1,6 @@
 //! A device: the calls of whoever runs it, and the order of their checks.
 
-ghost use Rattle.std.specs.Prelude.{◌≡◌, ◌+◌, ◌<◌, ◌≤◌, length, Option, Result, option_map};
+ghost use Rattle.std.specs.Prelude.{◌≡◌, ◌+◌, ◌<◌, ◌≤◌, length, Option, Result, IfSome, option_map};
 ghost use Rattle.wire_base.specs.declared.refusal.Direction.{Direction};
 ghost use Rattle.frag_session.specs.Session.{view_of};
 ghost use Rattle.frag_session.specs.Shows.{seen};
@@ -83,7 +83,7 @@ impl Device {
     ghost use Rattle.device_core.specs.declared.delivered.Delivered.{Delivered};
     ghost use Rattle.device_core.specs.declared.delivered.OutboxFull.{OutboxFull};
     ghost use Rattle.device_core.specs.HeldDevice.{DeviceStands, Becomes, Makes, IsReserved, held_with_answers};
-    ghost use Rattle.device_core.specs.Sendable.{IsSendable};
+    ghost use Rattle.device_core.specs.Sendable.{IsSendable, IsUplink};
 
     /// A device at its start, with all memory that it will ever need. BadConfig comes exactly where a number of the
     /// configuration is out of its bounds.
@@ -145,9 +145,10 @@ impl Device {
         asked
     }
 
-    /// The oldest uplink that is held; None exactly where none is.
+    /// The oldest uplink that is held; None exactly where none is. Its payload is one command in its canonical spelling.
     pub fn take_uplink(&mut self) -> Option<Uplink>
-        ensures { Makes (Option Uplink) self.old self.new result taking }
+        ensures makes { Makes (Option Uplink) self.old self.new result taking }
+        ensures uplink { IfSome result (λ u. IsUplink u) }
     {
         self.outbox.take()
     }
