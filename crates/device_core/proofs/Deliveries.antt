@@ -11,7 +11,7 @@ use Rattle.device_core.specs.declared.arrival.Arrival.{Arrival}
 use Rattle.device_core.specs.declared.counts.Counts.{Counts}
 use Rattle.device_core.specs.declared.delivered.Delivered.{Delivered}
 use Rattle.device_core.specs.declared.delivered.Delivered.TheVariants.{Deaf, Refused, OutboxFull}
-use Rattle.device_core.specs.Device.{DeviceState, with_deaf, with_refused, with_full}
+use Rattle.device_core.specs.Device.{DeviceState, after_deaf, after_refused, after_full, with_counts}
 use Rattle.device_core.specs.ClassSessions.{hears}
 use Rattle.device_core.specs.Firmware.{is_due, after_due_reboot}
 use Rattle.device_core.specs.Step.{weights}
@@ -28,23 +28,23 @@ reboot_once t device = by_due (is_due (device_time device.clock t) device.reboot
     by_due false is = rw (is, is) refl
 
 -- counters have no part in a reboot
-abbrev with_counts : DeviceState → Counts → DeviceState
-with_counts device counts = record device { counts = counts }
+abbrev counted_as : DeviceState → Counts → DeviceState
+counted_as device counts = record device { counts = counts }
 
-counts_stay : (t : ℕ) (device : DeviceState) (counts : Counts) → after_due_reboot t (with_counts device counts) ≡ with_counts (after_due_reboot t device) counts
+counts_stay : (t : ℕ) (device : DeviceState) (counts : Counts) → after_due_reboot t (counted_as device counts) ≡ counted_as (after_due_reboot t device) counts
 unfolding after_due_reboot
 counts_stay t device counts = by_due (is_due (device_time device.clock t) device.reboot) refl
   where
     by_due : (b : Bool) → is_due (device_time device.clock t) device.reboot ≡ b
-        → after_due_reboot t (with_counts device counts) ≡ with_counts (after_due_reboot t device) counts
+        → after_due_reboot t (counted_as device counts) ≡ counted_as (after_due_reboot t device) counts
     by_due true is = rw is refl
     by_due false is = rw is refl
 
 -- a delivery that does not act changes its counter alone
 pub record IsCounted (old : DeviceState) (made : Outcome Delivered) : Type 0 where
-  pub deaf : made.answer ≡ Deaf → made.device ≡ with_deaf old
-  pub refused : (refusal : Refusal) → made.answer ≡ Refused refusal → made.device ≡ with_refused old
-  pub full : (n : ℕ) → made.answer ≡ OutboxFull n → made.device ≡ with_full old
+  pub deaf : made.answer ≡ Deaf → made.device ≡ with_counts after_deaf old
+  pub refused : (refusal : Refusal) → made.answer ≡ Refused refusal → made.device ≡ with_counts after_refused old
+  pub full : (n : ℕ) → made.answer ≡ OutboxFull n → made.device ≡ with_counts after_full old
 
 message_counted : (here : Arrival) (device : DeviceState) (cs : List Command) → IsCounted device (message_delivery here device cs)
 unfolding message_delivery
@@ -73,9 +73,9 @@ counted t word mark down device =
     let start = after_due_reboot t device in
     let heard = heard_counted t word mark down start in
     record {
-      deaf = λ h. rw (heard.deaf h, counts_stay t start (with_deaf start).counts, reboot_once t device) refl;
-      refused = λ r h. rw (heard.refused r h, counts_stay t start (with_refused start).counts, reboot_once t device) refl;
-      full = λ n h. rw (heard.full n h, counts_stay t start (with_full start).counts, reboot_once t device) refl;
+      deaf = λ h. rw (heard.deaf h, counts_stay t start (with_counts after_deaf start).counts, reboot_once t device) refl;
+      refused = λ r h. rw (heard.refused r h, counts_stay t start (with_counts after_refused start).counts, reboot_once t device) refl;
+      full = λ n h. rw (heard.full n h, counts_stay t start (with_counts after_full start).counts, reboot_once t device) refl;
     }
 
 -- ---- waking
