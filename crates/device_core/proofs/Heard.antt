@@ -3,14 +3,14 @@ use Rattle.std.proofs.Common.{◌≡◌, ℕ, ◌==◌, Bool, true, false, List,
 use Rattle.std.specs.Prelude.{is_none}
 use Rattle.frag_session.specs.declared.answers.Cause.{Cause}
 use Rattle.frag_session.specs.declared.answers.Heard.TheVariants as answer
-use Rattle.frag_session.specs.Session.{Session, answer_of, drop_cause, after_fragment, view_of}
+use Rattle.frag_session.specs.Session.{answer_of, drop_cause, view_of}
 use Rattle.image_slots.specs.Slots.{Slots}
 use Rattle.device_core.specs.declared.arrival.Arrival.{Arrival}
-use Rattle.device_core.specs.SessionTable.{SessionTable, session_at, with_session}
-use Rattle.device_core.specs.Device.{counter_after}
+use Rattle.device_core.specs.SessionTable.{SessionTable, session_at, table_after_fragment}
+use Rattle.device_core.specs.Device.{after_dropped}
 use Rattle.device_core.specs.Answers.{after_answers}
 use Rattle.device_core.specs.Fragments.{is_whole, whole_file, slots_after, heard_step, fragment_step}
-use Rattle.device_core.specs.HeldSessions.{HeldSessions, SessionsStand}
+use Rattle.device_core.specs.HeldSessions.{HeldSessions, SessionsStand, TableBecomes}
 use Rattle.device_core.specs.HeldDevice.{HeldDevice, Steps}
 
 pub some_there : {A : Type 0} (o : Option A) → (o ≡ None → ⊥) → is_none o ≡ false
@@ -27,24 +27,6 @@ unfolding answer_of
 a_cause None c is = absurd cc
 a_cause (Some d) c is = refl
 
--- a session that was put somewhere is there
-pub session_there : (table : SessionTable) (index : ℕ) (s : Option Session)
-    → session_at (with_session table index s) index ≡ s
-session_there table index s = by_first _ refl
-  where
-    by_third : (b : Bool) → (index == 2) ≡ b → (index == 0) ≡ false → (index == 1) ≡ false
-        → session_at (with_session table index s) index ≡ s
-    by_third true is first second = rw (first, second, is) refl
-    by_third false is first second = rw (first, second, is) refl
-
-    by_second : (b : Bool) → (index == 1) ≡ b → (index == 0) ≡ false → session_at (with_session table index s) index ≡ s
-    by_second true is first = rw (first, is) refl
-    by_second false is first = by_third _ refl first is
-
-    by_first : (b : Bool) → (index == 0) ≡ b → session_at (with_session table index s) index ≡ s
-    by_first true is = rw is refl
-    by_first false is = by_second _ refl is
-
 -- ---- steps
 
 -- a fragment that a session heard
@@ -53,8 +35,7 @@ pub heard_steps : (here : Arrival) (old : HeldDevice) (sessions : HeldSessions) 
     → ((table : SessionTable) → SessionsStand old.sessions table → was_whole ≡ is_whole (view_of (session_at table index)))
     → ((table : SessionTable) → SessionsStand old.sessions table
     → answer.Fed ≡ answer_of (drop_cause (session_at table index) here.via n part))
-    → ((table : SessionTable) → SessionsStand old.sessions table
-    → SessionsStand sessions (with_session table index (after_fragment (session_at table index) here.via n part here.mark)))
+    → TableBecomes old.sessions sessions (table_after_fragment index here.via n part here.mark)
     → ((table : SessionTable) → SessionsStand sessions table
     → slots ≡ slots_after hw was_whole (whole_file (view_of (session_at table index))) old.slots)
     → Steps old (record old { sessions = sessions; slots = slots }) 0 (λ device. fragment_step here device index n part)
@@ -62,13 +43,13 @@ unfolding after_answers fragment_step heard_step
 heard_steps here old sessions slots hw index n part was_whole hw_is was fed stand offers = record {
   stands = λ device stands.
       let table = device.sessions in
-      let session = after_fragment (session_at table index) here.via n part here.mark in
+      let behind = table_after_fragment index here.via n part here.mark table in
+      let file = whole_file (view_of (session_at behind index)) in
       let heard = stand table stands.sessions in
-      let slots_are : slots ≡ slots_after old.config.hw (is_whole (view_of (session_at table index))) (whole_file (view_of session)) old.slots =
-      offers (with_session table index session) heard
-      ∙ ap (λ s. slots_after hw was_whole (whole_file (view_of s)) old.slots) (session_there table index session)
-      ∙ ap (λ b. slots_after hw b (whole_file (view_of session)) old.slots) (was table stands.sessions)
-      ∙ ap (λ h. slots_after h (is_whole (view_of (session_at table index))) (whole_file (view_of session)) old.slots) hw_is in
+      let slots_are : slots ≡ slots_after old.config.hw (is_whole (view_of (session_at table index))) file old.slots =
+      offers behind heard
+      ∙ ap (λ b. slots_after hw b file old.slots) (was table stands.sessions)
+      ∙ ap (λ h. slots_after h (is_whole (view_of (session_at table index))) file old.slots) hw_is in
       rw (stands.rest, no_cause _ (fed table stands.sessions)) (record {
         sessions = heard;
         rest = rw (append-nil old.outbox, ← slots_are) refl;
@@ -78,7 +59,7 @@ heard_steps here old sessions slots hw index n part was_whole hw_is was fed stan
 
 -- a fragment that was dropped
 pub dropped_steps : (here : Arrival) (old new : HeldDevice) (index n : ℕ) (part : List ℕ) (cause : Cause)
-    → new ≡ record old { counts = record old.counts { dropped = counter_after old.counts.dropped } }
+    → new ≡ record old { counts = after_dropped old.counts }
     → ((table : SessionTable) → SessionsStand old.sessions table
     → answer.Dropped cause ≡ answer_of (drop_cause (session_at table index) here.via n part))
     → Steps old new 0 (λ device. fragment_step here device index n part)

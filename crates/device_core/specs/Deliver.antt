@@ -12,7 +12,7 @@ use Rattle.device_core.specs.declared.delivered.Delivered.TheVariants.{Deaf, Ref
 use Rattle.device_core.specs.declared.class_session.ClassSession.{ClassSession}
 use Rattle.device_core.specs.declared.delivered.OutboxFull as outbox
 use Rattle.device_core.specs.declared.uplink.Uplink.{Uplink}
-use Rattle.device_core.specs.Device.{DeviceState, outbox_size, with_deaf, with_refused, with_full}
+use Rattle.device_core.specs.Device.{DeviceState, outbox_size, after_deaf, after_refused, after_full, with_counts}
 use Rattle.device_core.specs.declared.arrival.Arrival.{Arrival}
 use Rattle.device_core.specs.declared.uplink.UplinkCommand.{UplinkCommand}
 use Rattle.device_core.specs.Answers.{DeviceStep, after_answers}
@@ -34,13 +34,13 @@ unfoldable pub message_delivery : Arrival → DeviceState → List Command → O
 message_delivery here device cs =
     let n = length device.outbox + weights cs in
     if nat_lt outbox_size n
-    then record { device = with_full device; answer = OutboxFull n }
+    then record { device = with_counts after_full device; answer = OutboxFull n }
     else record { device = after_commands here device cs; answer = Done }
 
 -- what is read of a payload: commands, or a refusal
 unfoldable pub read_delivery : Arrival → DeviceState → Reading → Outcome Delivered
 read_delivery here device (Ok cs) = message_delivery here device cs
-read_delivery here device (Err refusal) = record { device = with_refused device; answer = Refused refusal }
+read_delivery here device (Err refusal) = record { device = with_counts after_refused device; answer = Refused refusal }
 
 -- the way that a payload comes: a group that is heard is the class session's
 abbrev pub via_of : Option ClassSession → To → Via
@@ -62,7 +62,7 @@ unfoldable pub heard_delivery : (t word mark : ℕ) → Downlink → DeviceState
 heard_delivery t word mark down device =
     if hears device t down.to
     then read_delivery (arrival t word mark down device) device (reading_of down.port Down down.payload)
-    else record { device = with_deaf device; answer = Deaf }
+    else record { device = with_counts after_deaf device; answer = Deaf }
 
 -- ---- the device wakes
 

@@ -93,14 +93,18 @@ abbrev pub counter_after : ℕ → ℕ
 counter_after n = min (n + 1) (2 ^ 64 - 1)
 
 -- one payload more that was not heard, was refused, or found the outbox full; one fragment more that was dropped
-abbrev pub with_deaf : DeviceState → DeviceState
-with_deaf device = record device { counts = record device.counts { deaf = counter_after device.counts.deaf } }
+abbrev pub after_deaf : Counts → Counts
+after_deaf counts = record counts { deaf = counter_after counts.deaf }
 
-abbrev pub with_refused : DeviceState → DeviceState
-with_refused device = record device { counts = record device.counts { refused = counter_after device.counts.refused } }
+abbrev pub after_refused : Counts → Counts
+after_refused counts = record counts { refused = counter_after counts.refused }
 
-abbrev pub with_full : DeviceState → DeviceState
-with_full device = record device { counts = record device.counts { full = counter_after device.counts.full } }
+abbrev pub after_full : Counts → Counts
+after_full counts = record counts { full = counter_after counts.full }
 
-abbrev pub with_dropped : DeviceState → DeviceState
-with_dropped device = record device { counts = record device.counts { dropped = counter_after device.counts.dropped } }
+abbrev pub after_dropped : Counts → Counts
+after_dropped counts = record counts { dropped = counter_after counts.dropped }
+
+-- the device with its counters so changed
+abbrev pub with_counts : (Counts → Counts) → DeviceState → DeviceState
+with_counts after device = record device { counts = after device.counts }

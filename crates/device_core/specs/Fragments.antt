@@ -11,10 +11,10 @@ use Rattle.frag_session.specs.declared.answers.StatusAns.{StatusAns}
 use Rattle.frag_session.specs.declared.answers.Verdict.{Verdict}
 use Rattle.frag_session.specs.declared.answers.Verdict.TheVariants as verdict
 use Rattle.frag_session.specs.Setup.{setup_bits}
-use Rattle.frag_session.specs.Session.{Seen, after_setup, after_fragment, drop_cause, status_of, view_of}
-use Rattle.device_core.specs.SessionTable.{session_at, with_session}
+use Rattle.frag_session.specs.Session.{Seen, drop_cause, status_of, view_of}
+use Rattle.device_core.specs.SessionTable.{session_at, with_session, table_after_setup, table_after_fragment}
 use Rattle.image_slots.specs.Slots.{Slots, after_offer}
-use Rattle.device_core.specs.Device.{DeviceState, room_of, limits_of, with_dropped}
+use Rattle.device_core.specs.Device.{DeviceState, room_of, limits_of, after_dropped, with_counts}
 use Rattle.device_core.specs.declared.arrival.Arrival.{Arrival}
 use Rattle.device_core.specs.declared.uplink.UplinkCommand.{UplinkCommand}
 use Rattle.device_core.specs.Answers.{DeviceStep, no_answer, one_answer}
@@ -47,8 +47,7 @@ unfoldable pub setup_step : Arrival → DeviceState → SetupReq → DeviceStep
 setup_step here device req =
     let limits = limits_of device.config in
     let room = room_of device.config in
-    let session = after_setup limits room (session_at device.sessions req.index) req in
-    one_answer here (record device { sessions = with_session device.sessions req.index session })
+    one_answer here (record device { sessions = table_after_setup limits room req device.sessions })
     (setup_answer req.index (setup_bits limits room req))
 
 -- ---- FragSessionDeleteReq
@@ -104,11 +103,12 @@ slots_after hw was_whole file slots = slots
 -- a session hears a fragment; the one that makes its file whole brings it to the next slot
 unfoldable pub heard_step : Arrival → DeviceState → (index n : ℕ) → List ℕ → DeviceState
 heard_step here device index n part =
-    let old = session_at device.sessions index in
-    let new = after_fragment old here.via n part here.mark in
+    let sessions = table_after_fragment index here.via n part here.mark device.sessions in
+    let before = view_of (session_at device.sessions index) in
+    let behind = view_of (session_at sessions index) in
     record device {
-      sessions = with_session device.sessions index new;
-      slots = slots_after device.config.hw (is_whole (view_of old)) (whole_file (view_of new)) device.slots;
+      sessions = sessions;
+      slots = slots_after device.config.hw (is_whole before) (whole_file behind) device.slots;
     }
 
 -- and one that is dropped is counted
@@ -116,4 +116,4 @@ unfoldable pub fragment_step : Arrival → DeviceState → (index n : ℕ) → L
 fragment_step here device index n part =
     no_answer (if is_none (drop_cause (session_at device.sessions index) here.via n part)
     then heard_step here device index n part
-    else with_dropped device)
+    else with_counts after_dropped device)

@@ -2,7 +2,9 @@
 use Rattle.std.specs.Prelude.{◌≡◌, ℕ}
 use Rattle.frag_session.specs.Held.{HeldSlot}
 use Rattle.frag_session.specs.Stands.{Stands}
+use Rattle.frag_session.specs.Setup.{Room}
 use Rattle.frag_session.specs.Steps.{area_of}
+use Rattle.device_core.specs.Device.{row_words, row_bytes}
 use Rattle.device_core.specs.SessionTable.{SessionTable}
 
 -- the slots of index 0 to 3, and the bytes of the file area of each
@@ -19,6 +21,14 @@ pub record SessionsStand (held : HeldSessions) (table : SessionTable) : Type 0 w
   pub second : Stands held.second table.second
   pub third : Stands held.third table.third
   pub fourth : Stands held.fourth table.fourth
+
+-- the room that each slot has
+abbrev pub room_in : HeldSessions → Room
+room_in held = record { words = row_words; bytes = row_bytes; area = held.area }
+
+-- what is held went this way, whatever sessions it stood for
+abbrev pub TableBecomes : (old new : HeldSessions) → (SessionTable → SessionTable) → Type 0
+TableBecomes old new after = (table : SessionTable) → SessionsStand old table → SessionsStand new (after table)
 
 -- each slot has this file area
 pub record HaveArea (area : ℕ) (first second third fourth : HeldSlot) : Type 0 where

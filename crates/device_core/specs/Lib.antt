@@ -11,4 +11,5 @@ pub mod Deliver
 pub mod Sendable
 pub mod HeldSessions
 pub mod HeldDevice
+pub mod OutboxInside
 pub mod DeviceInside

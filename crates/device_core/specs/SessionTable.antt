@@ -1,6 +1,10 @@
 -- The four sessions of a device, by their index (TS004-1.0.0, FragIndex).
-use Rattle.std.specs.Prelude.{ℕ, ◌==◌, if◌then◌else◌, Option, None}
-use Rattle.frag_session.specs.Session.{Session}
+use Rattle.std.specs.Prelude.{ℕ, ◌==◌, if◌then◌else◌, List, Option, None}
+use Rattle.frag_session.specs.declared.answers.Via.{Via}
+use Rattle.frag_session.specs.declared.setups.Limits.{Limits}
+use Rattle.frag_session.specs.declared.setups.SetupReq.{SetupReq}
+use Rattle.frag_session.specs.Setup.{Room}
+use Rattle.frag_session.specs.Session.{Session, after_setup, after_fragment}
 
 -- those of index 0 to 3, each where there is one
 pub record SessionTable : Type 0 where
@@ -26,3 +30,13 @@ with_session table index session =
     else if index == 1 then record table { second = session }
     else if index == 2 then record table { third = session }
     else record table { fourth = session }
+
+-- a setup at the index that it names
+abbrev pub table_after_setup : Limits → Room → SetupReq → SessionTable → SessionTable
+table_after_setup limits room req table =
+    with_session table req.index (after_setup limits room (session_at table req.index) req)
+
+-- a fragment for the session of an index
+abbrev pub table_after_fragment : (index : ℕ) → Via → (n : ℕ) → List ℕ → (mark : ℕ) → SessionTable → SessionTable
+table_after_fragment index via n part mark table =
+    with_session table index (after_fragment (session_at table index) via n part mark)

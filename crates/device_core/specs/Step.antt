@@ -13,6 +13,7 @@ use Rattle.device_core.specs.Answers.{DeviceStep, no_answer, one_answer, after_a
 use Rattle.device_core.specs.Clock.{answer_step, periodicity_step, resync_step}
 use Rattle.device_core.specs.Fragments.{status_step, setup_of, setup_step, delete_step, fragment_step}
 use Rattle.device_core.specs.Groups.{groups_step, group_setup_step, group_delete_step}
+use Rattle.device_core.specs.declared.class_session.ClassSession.{ClassSession}
 use Rattle.device_core.specs.declared.class_session.Kind.TheVariants.{ClassC, ClassB}
 use Rattle.device_core.specs.ClassSessions.{class_session_step}
 use Rattle.device_core.specs.Firmware.{version_step, upgrade_step, delete_image_step, reboot_time_step, countdown_step}
@@ -48,9 +49,11 @@ command_step here device (Cast (c.McGroupSetupReq id addr key min max)) =
     group_setup_step here device id (group_of device.config.key addr key min max)
 command_step here device (Cast (c.McGroupDeleteReq id)) = group_delete_step here device id
 command_step here device (Cast (c.McClassCSessionReq id time timeout freq dr)) =
-    class_session_step here device (record { id = id; kind = ClassC; time = time; timeout = timeout }) freq dr
+    let session : ClassSession = record { id = id; kind = ClassC; time = time; timeout = timeout } in
+    class_session_step here device session freq dr
 command_step here device (Cast (c.McClassBSessionReq id time periodicity timeout freq dr)) =
-    class_session_step here device (record { id = id; kind = ClassB periodicity; time = time; timeout = timeout }) freq dr
+    let session : ClassSession = record { id = id; kind = ClassB periodicity; time = time; timeout = timeout } in
+    class_session_step here device session freq dr
 -- TS006
 command_step here device (Sync s.DevVersionReq) = version_step here device
 command_step here device (Sync (s.DevRebootTimeReq time)) = reboot_time_step here device time

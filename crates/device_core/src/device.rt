@@ -1,11 +1,11 @@
 //! A device: the calls of whoever runs it, and the order of their checks.
 
-ghost use Rattle.std.specs.Prelude.{◌≡◌, ◌+◌, ◌<◌, ◌≤◌, length, Option, Result, option_map};
+ghost use Rattle.std.specs.Prelude.{◌≡◌, ◌+◌, ◌<◌, ◌≤◌, length, Option, Result, IfSome, option_map};
 ghost use Rattle.wire_base.specs.declared.refusal.Direction.{Direction};
 ghost use Rattle.frag_session.specs.Session.{view_of};
 ghost use Rattle.frag_session.specs.Shows.{seen};
 ghost use Rattle.device_core.specs.SessionTable.{session_at};
-ghost use Rattle.device_core.specs.Device.{DeviceState, max_moment, counter_after};
+ghost use Rattle.device_core.specs.Device.{DeviceState, max_moment, after_deaf, after_refused, after_full, after_dropped};
 ghost use Rattle.device_core.specs.Step.{weights, after_commands};
 ghost use Rattle.device_core.specs.Deliver.{message_delivery, read_delivery, heard_delivery, delivery, time_asking, waking, taking};
 ghost use Rattle.package_grammar.specs.Reading.{reading_of};
@@ -79,10 +79,11 @@ impl Model for Device {
 impl Device {
     ghost use Rattle.std.specs.Prelude.{◌∷◌, []};
     ghost use Rattle.device_core.specs.declared.uplink.Uplink.{Uplink};
+    ghost use Rattle.device_core.specs.declared.uplink.UplinkCommand.{UplinkCommand};
     ghost use Rattle.device_core.specs.declared.delivered.Delivered.{Delivered};
     ghost use Rattle.device_core.specs.declared.delivered.OutboxFull.{OutboxFull};
     ghost use Rattle.device_core.specs.HeldDevice.{DeviceStands, Becomes, Makes, IsReserved, held_with_answers};
-    ghost use Rattle.device_core.specs.Sendable.{IsSendable};
+    ghost use Rattle.device_core.specs.Sendable.{IsSendable, IsUplink};
 
     /// A device at its start, with all memory that it will ever need. BadConfig comes exactly where a number of the
     /// configuration is out of its bounds.
@@ -144,9 +145,10 @@ impl Device {
         asked
     }
 
-    /// The oldest uplink that is held; None exactly where none is.
+    /// The oldest uplink that is held; None exactly where none is. Its payload is one command in its canonical spelling.
     pub fn take_uplink(&mut self) -> Option<Uplink>
-        ensures { Makes (Option Uplink) self.old self.new result taking }
+        ensures makes { Makes (Option Uplink) self.old self.new result taking }
+        ensures uplink { IfSome result (λ u. IsUplink u) }
     {
         self.outbox.take()
     }
@@ -206,8 +208,8 @@ impl Device {
     #[tactic(auto, unfolding(crate::specs::Deliver::read_delivery))]
     fn read(&mut self, here: Arrival, payload: &Payload) -> Delivered
         requires { here.t ≤ max_moment }
-        ensures { Makes Delivered self.old self.new result
-            (λ device. read_delivery here device (reading_of here.port Direction.Down payload.now)) }
+        ensures { let reading = reading_of here.port Direction.Down payload.now in
+            Makes Delivered self.old self.new result (λ device. read_delivery here device reading) }
     {
         match Message::read(here.port, Direction::Down, payload.as_slice()) {
             Ok(message) => self.take(here, message),
@@ -243,7 +245,8 @@ impl Device {
         requires port { message.port ≡ here.port }
         requires direction { message.direction ≡ Direction.Down }
         requires room { length self.old.outbox + weights message.commands ≤ 8 }
-        ensures { Becomes self.old self.new (λ device. after_commands here device message.entry.commands) }
+        ensures { Becomes self.old self.new
+            (λ device. after_commands here device message.entry.commands) }
     {
         while let Some(command) = message.next() {
             self.act(here, &command);
@@ -254,32 +257,34 @@ impl Device {
     fn send(&mut self, due: u64, port: u8, command: Command)
         requires sendable { IsSendable port command }
         requires room { length self.old.outbox < 8 }
-        ensures { self.new ≡ held_with_answers self.old (record { due = due; port = port; command = command } ∷ []) }
+        ensures { let answer : UplinkCommand =
+            record { due = due; port = port; command = command } in
+            self.new ≡ held_with_answers self.old (answer ∷ []) }
     {
         self.last_due = Some(due);
         self.outbox.push(UplinkCommand { due, port, command });
     }
 
     fn count_deaf(&mut self)
-        ensures { self.new ≡ record self.old { counts = record self.old.counts { deaf = counter_after self.old.counts.deaf } } }
+        ensures { self.new ≡ record self.old { counts = after_deaf self.old.counts } }
     {
         self.counts.deaf = self.counts.deaf.saturating_add(1);
     }
 
     fn count_refused(&mut self)
-        ensures { self.new ≡ record self.old { counts = record self.old.counts { refused = counter_after self.old.counts.refused } } }
+        ensures { self.new ≡ record self.old { counts = after_refused self.old.counts } }
     {
         self.counts.refused = self.counts.refused.saturating_add(1);
     }
 
     fn count_full(&mut self)
-        ensures { self.new ≡ record self.old { counts = record self.old.counts { full = counter_after self.old.counts.full } } }
+        ensures { self.new ≡ record self.old { counts = after_full self.old.counts } }
     {
         self.counts.full = self.counts.full.saturating_add(1);
     }
 
     fn count_dropped(&mut self)
-        ensures { self.new ≡ record self.old { counts = record self.old.counts { dropped = counter_after self.old.counts.dropped } } }
+        ensures { self.new ≡ record self.old { counts = after_dropped self.old.counts } }
     {
         self.counts.dropped = self.counts.dropped.saturating_add(1);
     }

@@ -1,27 +1,36 @@
 //! What holds of the definitions alone.
 
-ghost use Rattle.std.specs.Prelude.{◌≡◌, ℕ};
+ghost use Rattle.std.specs.Prelude.{◌≡◌, ◌≤◌, ◌↔◌, ℕ, length, IsErr};
 ghost use Rattle.wire_base.specs.declared.refusal.Refusal.{Refusal};
 ghost use Rattle.package_grammar.specs.declared.downlink.Downlink.{Downlink};
 ghost use Rattle.device_core.specs.declared.delivered.Delivered.TheVariants.{Deaf, Refused, OutboxFull};
-ghost use Rattle.device_core.specs.Device.{DeviceState, with_deaf, with_refused, with_full};
+ghost use Rattle.device_core.specs.Device.{DeviceState, outbox_size, after_deaf, after_refused, after_full, with_counts};
 ghost use Rattle.device_core.specs.Firmware.{after_due_reboot};
-ghost use Rattle.device_core.specs.Deliver.{delivery};
+ghost use Rattle.device_core.specs.Deliver.{delivery, waking};
 
 /// A reboot that is due is carried out once.
 pub fn due_reboot_is_once()
-    ensures { (t : ℕ) (device : DeviceState) → after_due_reboot t (after_due_reboot t device) ≡ after_due_reboot t device }
+    ensures { (t : ℕ) (device : DeviceState)
+        → after_due_reboot t (after_due_reboot t device) ≡ after_due_reboot t device }
 {}
 
 /// A payload that does not act changes nothing but a reboot that is due, and one counter.
 pub fn what_does_not_act_is_counted()
     ensures deaf { (t word mark : ℕ) (down : Downlink) (device : DeviceState)
-        → (delivery t word mark down device).answer ≡ Deaf
-        → (delivery t word mark down device).device ≡ with_deaf (after_due_reboot t device) }
+        → let made = delivery t word mark down device in
+        made.answer ≡ Deaf → made.device ≡ with_counts after_deaf (after_due_reboot t device) }
     ensures refused { (t word mark : ℕ) (down : Downlink) (device : DeviceState) (refusal : Refusal)
-        → (delivery t word mark down device).answer ≡ Refused refusal
-        → (delivery t word mark down device).device ≡ with_refused (after_due_reboot t device) }
+        → let made = delivery t word mark down device in made.answer ≡ Refused refusal
+        → made.device ≡ with_counts after_refused (after_due_reboot t device) }
     ensures full { (t word mark n : ℕ) (down : Downlink) (device : DeviceState)
-        → (delivery t word mark down device).answer ≡ OutboxFull n
-        → (delivery t word mark down device).device ≡ with_full (after_due_reboot t device) }
+        → let made = delivery t word mark down device in made.answer ≡ OutboxFull n
+        → made.device ≡ with_counts after_full (after_due_reboot t device) }
+{}
+
+/// Waking is refused exactly where 8 uplinks are held, and then changes nothing but a reboot that is due.
+pub fn a_full_device_wakes_for_its_reboot_alone()
+    ensures exact { (t : ℕ) (device : DeviceState)
+        → IsErr (waking t device).answer ↔ (outbox_size ≤ length device.outbox) }
+    ensures unchanged { (t : ℕ) (device : DeviceState)
+        → IsErr (waking t device).answer → (waking t device).device ≡ after_due_reboot t device }
 {}

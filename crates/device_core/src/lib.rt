@@ -22,5 +22,10 @@ pub use config::{Class, DeviceConfig, ReserveError, is_config};
 pub use counts::Counts;
 pub use delivered::{Delivered, OutboxFull};
 pub use device::Device;
-pub use laws::{due_reboot_is_once, what_does_not_act_is_counted};
+pub use laws::{
+    a_full_device_wakes_for_its_reboot_alone, due_reboot_is_once, what_does_not_act_is_counted,
+};
 pub use uplink::{Uplink, UplinkCommand};
+
+#[cfg(test)]
+mod tests;

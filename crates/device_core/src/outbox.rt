@@ -1,10 +1,10 @@
 //! The uplinks that are not yet taken.
 
-ghost use Rattle.std.specs.Prelude.{◌≡◌, ◌<◌, ◌≤◌, ◌++◌, ◌∷◌, [], length};
+ghost use Rattle.std.specs.Prelude.{◌≡◌, ◌<◌, ◌≤◌, ◌++◌, ◌∷◌, [], length, IfSome};
 ghost use Rattle.device_core.specs.Answers.{uplink_of};
 ghost use Rattle.device_core.specs.Device.{outbox_size};
 ghost use Rattle.device_core.specs.HeldDevice.{TakesOldest};
-ghost use Rattle.device_core.specs.Sendable.{IsSendable};
+ghost use Rattle.device_core.specs.Sendable.{IsSendable, IsUplink};
 
 use crate::uplink::{Uplink, UplinkCommand};
 use arrayvec::ArrayVec;
@@ -22,14 +22,15 @@ pub struct Outbox {
 }
 
 impl Model for Outbox {
-    ghost use Rattle.std.specs.Prelude.{List, ◌≤◌, length};
+    ghost use Rattle.std.specs.Prelude.{List};
     ghost use Rattle.device_core.specs.declared.uplink.Uplink.{Uplink};
+    ghost use Rattle.device_core.specs.OutboxInside.{IsOutbox};
 
     ghost Value = { List Uplink };
 
     ghost view = { λ o. o.uplinks.items };
 
-    ghost invariant = { λ o. length o.uplinks.items ≤ 8 };
+    ghost invariant = { λ o. IsOutbox o.uplinks.items };
 }
 
 impl Outbox {
@@ -64,7 +65,8 @@ impl Outbox {
 
     /// Takes the oldest; None exactly where there is none.
     pub fn take(&mut self) -> Option<Uplink>
-        ensures { TakesOldest self.old self.new result }
+        ensures takes { TakesOldest self.old self.new result }
+        ensures uplink { IfSome result (λ u. IsUplink u) }
     {
         if self.uplinks.is_empty() {
             return None;

@@ -2,13 +2,12 @@
 
 ghost use Rattle.std.specs.Prelude.{◌≡◌, ◌≢◌, ◌<◌, ◌≤◌, Option, None, IfOk, IfSome, is_some, option_map, length};
 ghost use Rattle.frag_session.specs.Setup.{setup_bits};
-ghost use Rattle.frag_session.specs.Session.{after_setup, after_fragment, answer_of, drop_cause, status_of, view_of};
+ghost use Rattle.frag_session.specs.Session.{answer_of, drop_cause, status_of, view_of};
 ghost use Rattle.frag_session.specs.Shows.{seen};
 ghost use Rattle.frag_session.specs.Stands.{Stands};
 ghost use Rattle.frag_session.specs.Steps.{area_of};
-ghost use Rattle.device_core.specs.Device.{row_words, row_bytes};
-ghost use Rattle.device_core.specs.SessionTable.{SessionTable, no_sessions, session_at, with_session};
-ghost use Rattle.device_core.specs.HeldSessions.{SessionsStand};
+ghost use Rattle.device_core.specs.SessionTable.{SessionTable, no_sessions, session_at, with_session, table_after_setup, table_after_fragment};
+ghost use Rattle.device_core.specs.HeldSessions.{SessionsStand, TableBecomes, room_in};
 
 use frag_session::{Heard, Idle, Limits, SetupReq, Slot, StatusAns, Via, View};
 use row_elimination::{Memory, Solver};
@@ -36,7 +35,13 @@ impl Model for SessionSlots {
 
     ghost Value = { HeldSessions };
 
-    ghost view = { λ s. record { first = s.first; second = s.second; third = s.third; fourth = s.fourth; area = area_of s.first } };
+    ghost view = { λ s. record {
+      first = s.first;
+      second = s.second;
+      third = s.third;
+      fourth = s.fourth;
+      area = area_of s.first;
+    } };
 
     ghost invariant = { λ s. HaveArea (area_of s.first) s.first s.second s.third s.fourth };
 }
@@ -56,14 +61,14 @@ impl SessionSlots {
     }
 
     /// Answers FragSessionSetupReq with all refusal bits: without one the session there stays, or gives way to a new one.
-    pub fn setup(&mut self, index: u8, req: SetupReq, limits: Limits) -> u8
-        requires { index < 4 }
-        ensures bits { result ≡ setup_bits limits (record { words = row_words; bytes = row_bytes; area = self.old.area }) req }
-        ensures stands { (table : SessionTable) → SessionsStand self.old table
-            → SessionsStand self.new (with_session table index (after_setup limits (record { words = row_words; bytes = row_bytes; area = self.old.area }) (session_at table index) req)) }
+    pub fn setup(&mut self, req: SetupReq, limits: Limits) -> u8
+        requires { req.index < 4 }
+        ensures bits { result ≡ setup_bits limits (room_in self.old) req }
+        ensures stands { TableBecomes self.old self.new
+            (table_after_setup limits (room_in self.old) req) }
         ensures area { self.new.area ≡ self.old.area }
     {
-        match index {
+        match req.index {
             0 => self.first.setup(req, limits),
             1 => self.second.setup(req, limits),
             2 => self.third.setup(req, limits),
@@ -76,8 +81,8 @@ impl SessionSlots {
         requires { index < 4 }
         ensures answer { (table : SessionTable) → SessionsStand self.old table
             → result ≡ answer_of (drop_cause (session_at table index) via n part.now) }
-        ensures stands { (table : SessionTable) → SessionsStand self.old table
-            → SessionsStand self.new (with_session table index (after_fragment (session_at table index) via n part.now mark)) }
+        ensures stands { TableBecomes self.old self.new
+            (table_after_fragment index via n part.now mark) }
         ensures dropped { result ≢ Heard.Fed → self.new ≡ self.old }
         ensures area { self.new.area ≡ self.old.area }
     {
@@ -117,8 +122,7 @@ impl SessionSlots {
         requires { index < 4 }
         ensures answer { (table : SessionTable) → SessionsStand self.old table
             → result ≡ is_some (session_at table index) }
-        ensures stands { (table : SessionTable) → SessionsStand self.old table
-            → SessionsStand self.new (with_session table index None) }
+        ensures stands { TableBecomes self.old self.new (λ table. with_session table index None) }
         ensures area { self.new.area ≡ self.old.area }
     {
         match index {

@@ -25,7 +25,8 @@ impl Device {
         requires moment { here.t ≤ max_moment }
         requires command { IsReceivable here.port command.now }
         requires room { length self.old.outbox + weight command.now ≤ 8 }
-        ensures { Steps self.old self.new (weight command.now) (λ device. step here device command.now) }
+        ensures { Steps self.old self.new (weight command.now)
+            (λ device. step here device command.now) }
     {
         if acts(here.via, command) {
             self.act_on_one(here, command);
@@ -37,7 +38,8 @@ impl Device {
         requires moment { here.t ≤ max_moment }
         requires command { IsReceivable here.port command.now }
         requires room { length self.old.outbox + weight command.now ≤ 8 }
-        ensures { Steps self.old self.new (weight command.now) (λ device. command_step here device command.now) }
+        ensures { Steps self.old self.new (weight command.now)
+            (λ device. command_step here device command.now) }
     {
         match command {
             Command::Sync(cmd) => self.act_on_sync(here, cmd),
@@ -159,10 +161,12 @@ impl Device {
 
     /// PackageVersionReq of TS003 and TS006.
     fn sync_package(&mut self, here: Arrival)
-        requires port { IsSendable here.port (Command.Sync (PackageVersionAns (identifier_of here.port) 1)) }
+        requires port { IsSendable here.port
+            (Command.Sync (PackageVersionAns (identifier_of here.port) 1)) }
         requires room { length self.old.outbox < 8 }
         ensures { Steps self.old self.new 1
-            (λ device. one_answer here device (Command.Sync (PackageVersionAns (identifier_of here.port) 1))) }
+            (λ device. one_answer here device
+            (Command.Sync (PackageVersionAns (identifier_of here.port) 1))) }
     {
         self.send(
             here.t,
@@ -176,10 +180,12 @@ impl Device {
 
     /// PackageVersionReq of TS004 and TS005.
     fn cast_package(&mut self, here: Arrival)
-        requires port { IsSendable here.port (Command.Cast (cast.PackageVersionAns (identifier_of here.port) 1)) }
+        requires port { IsSendable here.port
+            (Command.Cast (cast.PackageVersionAns (identifier_of here.port) 1)) }
         requires room { length self.old.outbox < 8 }
         ensures { Steps self.old self.new 1
-            (λ device. one_answer here device (Command.Cast (cast.PackageVersionAns (identifier_of here.port) 1))) }
+            (λ device. one_answer here device
+            (Command.Cast (cast.PackageVersionAns (identifier_of here.port) 1))) }
     {
         self.send(
             here.t,

@@ -35,7 +35,8 @@ impl Device {
 
     /// AppTimeAns.
     pub(super) fn take_time(&mut self, correction: i32, token: u8)
-        ensures { self.new ≡ record self.old { clock = after_answer correction token self.old.clock } }
+        ensures { let clock = after_answer correction token self.old.clock in
+            self.new ≡ record self.old { clock = clock } }
     {
         self.clock.take_answer(correction, token);
     }

@@ -31,7 +31,7 @@ impl Device {
         requires room { length self.old.outbox < 8 }
         ensures { Steps self.old self.new 1 (λ device. setup_step here device req) }
     {
-        let bits = self.sessions.setup(req.index, req, limits_of(&self.config));
+        let bits = self.sessions.setup(req, limits_of(&self.config));
         self.send(here.t, here.port, setup_answer(req.index, bits));
     }
 
@@ -96,7 +96,8 @@ fn offer(slots: &mut Slots, sessions: &SessionSlots, index: u8, was_whole: bool)
     ensures hw { slots.new.hw ≡ slots.old.hw }
     ensures area { slots.new.area ≡ slots.old.area }
     ensures offers { (table : SessionTable) → SessionsStand sessions.now table
-        → slots.new ≡ record slots.old { slots = slots_after slots.old.hw was_whole (whole_file (view_of (session_at table index))) slots.old.slots } }
+        → let file = whole_file (view_of (session_at table index)) in
+        slots.new ≡ record slots.old { slots = slots_after slots.old.hw was_whole file slots.old.slots } }
 {
     match sessions.view(index) {
         Some(view) if !was_whole && is_complete(view.verdict) => slots.offer(view.file),
@@ -153,7 +154,8 @@ fn delete_answer(index: u8, missing: bool) -> Command
 fn status_answer(index: u8, status: StatusAns) -> Command
     requires index { index < 4 }
     requires few { status.received ≤ 16383 }
-    ensures value { result ≡ Command.Cast (FragSessionStatusAns index status.received status.missing status.norows) }
+    ensures value { result ≡ Command.Cast
+        (FragSessionStatusAns index status.received status.missing status.norows) }
     ensures sendable { IsSendable 201 result }
 {
     Command::Cast(Cmd::FragSessionStatusAns {

@@ -41,8 +41,8 @@ impl Device {
         requires port { here.port ≡ 200 }
         requires id { id < 4 }
         requires room { length self.old.outbox < 8 }
-        ensures { Steps self.old self.new 1
-            (λ device. group_setup_step here device id (group_of device.config.key addr wrapped.now min max)) }
+        ensures { Steps self.old self.new 1 (λ device.
+            group_setup_step here device id (group_of device.config.key addr wrapped.now min max)) }
     {
         match self
             .groups

@@ -44,7 +44,8 @@ impl Device {
         requires timeout { session.timeout < 16 }
         requires kind { KindFits session.kind }
         requires room { length self.old.outbox < 8 }
-        ensures { Steps self.old self.new 1 (λ device. class_session_step here device session freq dr) }
+        ensures { Steps self.old self.new 1
+            (λ device. class_session_step here device session freq dr) }
     {
         let there = self.groups.get(session.id).is_some();
         let now = self.clock.now(here.t);
