@@ -4,4 +4,4 @@ pub mod Only
 pub mod Spellings
 pub mod Writes
 pub mod SetupBits
-pub mod Tests
+pub mod Decided

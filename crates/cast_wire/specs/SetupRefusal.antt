@@ -7,7 +7,8 @@ use Rattle.cast_wire.specs.declared.cmd.Cmd.TheVariants.{FragSessionSetupAns}
 -- the four bits as a number
 abbrev pub refusal_bits : (wrong_descriptor index_unsupported no_memory encoding_unsupported : Bool) → ℕ
 refusal_bits wrong_descriptor index_unsupported no_memory encoding_unsupported =
-    flag_value wrong_descriptor 8 + flag_value index_unsupported 4 + flag_value no_memory 2 + flag_value encoding_unsupported 1
+    flag_value wrong_descriptor 8 + flag_value index_unsupported 4 + flag_value no_memory 2
+    + flag_value encoding_unsupported 1
 
 -- the answer that has the bits of a number
 abbrev pub setup_answer : (index bits : ℕ) → Cmd

@@ -1,4 +1,4 @@
--- What a command's fields must be together, as a test; and one command of each row, by which the known identifiers are told.
+-- What a command's fields must be together, as a test; and one command of each row, which shows the known identifiers.
 -- Only proofs read these; what commands are is said by the table alone.
 use Rattle.std.specs.Prelude.{ℕ, Bool, true, false, ◌&&◌, ◌||◌, ◌==◌, nat_le, List, [], ◌∷◌, length, None, is_none, count_ones}
 use Rattle.std.specs.Bool.{beq}
@@ -13,8 +13,10 @@ abbrev pub is_whole : Cmd → Bool
 is_whole (DataFragment index n bytes) = nat_le 1 (length bytes) && nat_le (length bytes) max_fragment
 is_whole (McGroupStatusAns total mask groups) = length groups == count_ones mask
 is_whole (McGroupSetupReq id addr key min max) = length key == 16
-is_whole (McClassCSessionAns id undefined freq_error dr_error start) = beq (is_none start) (undefined || freq_error || dr_error)
-is_whole (McClassBSessionAns id undefined freq_error dr_error start) = beq (is_none start) (undefined || freq_error || dr_error)
+is_whole (McClassCSessionAns id undefined freq_error dr_error start) =
+    beq (is_none start) (undefined || freq_error || dr_error)
+is_whole (McClassBSessionAns id undefined freq_error dr_error start) =
+    beq (is_none start) (undefined || freq_error || dr_error)
 is_whole _ = true
 
 unfoldable pub samples : List Cmd

@@ -10,26 +10,34 @@ ghost use Rattle.cast_wire.specs.SetupRefusal.{refusal_bits, setup_answer};
 
 /// What is written is read again, whatever stands before it and follows; nothing may follow one that takes the rest.
 pub fn written_is_read()
-    ensures { (c : Cmd) (port : ℕ) (dir : Direction) (before after : List ℕ) → IsValid c → IsListed (row c) port dir
+    ensures { (c : Cmd) (port : ℕ) (dir : Direction) (before after : List ℕ)
+        → IsValid c → IsListed (row c) port dir
         → (IsTrue (takes_rest (row c).parts) → after ≡ [])
-        → Spells c port dir (before ++ canonical c ++ after) (length before) (length before + length (canonical c)) }
+        → Spells c port dir (before ++ canonical c ++ after)
+        (length before) (length before + length (canonical c)) }
 {}
 
 /// At a place one command is spelled at most, with one end.
 pub fn place_has_one_spelling()
     ensures { (c d : Cmd) (port : ℕ) (dir : Direction) (bytes : List ℕ) (at next end : ℕ)
-        → Spells c port dir bytes at next → Spells d port dir bytes at end → (c ≡ d) × (next ≡ end) }
+        → Spells c port dir bytes at next → Spells d port dir bytes at end
+        → (c ≡ d) × (next ≡ end) }
 {}
 
 /// No command's spelling begins another's, but for one that takes the rest.
 pub fn no_spelling_begins_another()
-    ensures { (c d : Cmd) (port : ℕ) (dir : Direction) (bytes more : List ℕ) → takes_rest (row c).parts ≡ false
-        → Spells c port dir bytes 0 (length bytes) → Spells d port dir (bytes ++ more) 0 (length (bytes ++ more)) → more ≡ [] }
+    ensures { (c d : Cmd) (port : ℕ) (dir : Direction) (bytes more : List ℕ)
+        → takes_rest (row c).parts ≡ false
+        → Spells c port dir bytes 0 (length bytes)
+        → Spells d port dir (bytes ++ more) 0 (length (bytes ++ more)) → more ≡ [] }
 {}
 
-/// The four bits of a FragSessionSetupAns are those of the number that they make, and no two numbers below 16 have the same.
+/// The four bits of a FragSessionSetupAns are those of the number that they make, and no two numbers below 16 have
+/// the same.
 pub fn refusal_bits_are_kept()
     ensures answer { (index : ℕ) (descriptor unsupported memory encoding : Bool)
-        → setup_answer index (refusal_bits descriptor unsupported memory encoding) ≡ FragSessionSetupAns index descriptor unsupported memory encoding }
-    ensures one { (index m n : ℕ) → m < 16 → n < 16 → setup_answer index m ≡ setup_answer index n → m ≡ n }
+        → setup_answer index (refusal_bits descriptor unsupported memory encoding)
+        ≡ FragSessionSetupAns index descriptor unsupported memory encoding }
+    ensures one { (index m n : ℕ) → m < 16 → n < 16
+        → setup_answer index m ≡ setup_answer index n → m ≡ n }
 {}

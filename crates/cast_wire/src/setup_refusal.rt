@@ -14,7 +14,8 @@ pub fn refusal_bits(
     no_memory: bool,
     encoding_unsupported: bool,
 ) -> u8
-    ensures bits { result ≡ refusal_bits wrong_descriptor index_unsupported no_memory encoding_unsupported }
+    ensures bits { result
+        ≡ refusal_bits wrong_descriptor index_unsupported no_memory encoding_unsupported }
     ensures few { result < 16 }
 {
     flag_value(wrong_descriptor, 8)

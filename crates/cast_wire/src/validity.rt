@@ -89,7 +89,8 @@ pub fn valid(cmd: &Cmd) -> bool
 
 /// As many groups as bits of the mask, each with an id that fits.
 fn are_valid(groups: &[GroupAddress], mask: u8) -> bool
-    ensures { IsTrue result ↔ ((length groups.now ≡ count_ones mask) × PartsFit (group_parts groups.now)) }
+    ensures { IsTrue result
+        ↔ ((length groups.now ≡ count_ones mask) × PartsFit (group_parts groups.now)) }
 {
     groups.len() == mask.count_ones() as usize && ids_fit(groups)
 }

@@ -26,7 +26,8 @@ pub fn put_version_request(out: &mut Payload) -> Result<(), Full>
 
 pub fn put_version_answer(identifier: u8, version: u8, out: &mut Payload) -> Result<(), Full>
     requires { IsValid (Cmd.PackageVersionAns identifier version) }
-    ensures { Appends out.old out.new (canonical (Cmd.PackageVersionAns identifier version)) result }
+    ensures { Appends out.old out.new
+        (canonical (Cmd.PackageVersionAns identifier version)) result }
 {
     if out.room() < VERSION_ANSWER_LEN as usize {
         return Err(Full);
@@ -57,7 +58,8 @@ pub fn put_status_answer(
     out: &mut Payload,
 ) -> Result<(), Full>
     requires { IsValid (Cmd.FragSessionStatusAns index received missing norows) }
-    ensures { Appends out.old out.new (canonical (Cmd.FragSessionStatusAns index received missing norows)) result }
+    ensures { Appends out.old out.new
+        (canonical (Cmd.FragSessionStatusAns index received missing norows)) result }
 {
     if out.room() < STATUS_ANSWER_LEN as usize {
         return Err(Full);
@@ -80,8 +82,11 @@ pub fn put_setup_request(
     descriptor: u32,
     out: &mut Payload,
 ) -> Result<(), Full>
-    requires { IsValid (Cmd.FragSessionSetupReq index mask nb_frag frag_size algo delay padding descriptor) }
-    ensures { Appends out.old out.new (canonical (Cmd.FragSessionSetupReq index mask nb_frag frag_size algo delay padding descriptor)) result }
+    requires { IsValid
+        (Cmd.FragSessionSetupReq index mask nb_frag frag_size algo delay padding descriptor) }
+    ensures { Appends out.old out.new
+        (canonical (Cmd.FragSessionSetupReq index mask nb_frag frag_size algo delay padding
+        descriptor)) result }
 {
     if out.room() < SETUP_REQUEST_LEN as usize {
         return Err(Full);
@@ -104,8 +109,12 @@ pub fn put_setup_answer(
     encoding_unsupported: bool,
     out: &mut Payload,
 ) -> Result<(), Full>
-    requires { IsValid (Cmd.FragSessionSetupAns index wrong_descriptor index_unsupported no_memory encoding_unsupported) }
-    ensures { Appends out.old out.new (canonical (Cmd.FragSessionSetupAns index wrong_descriptor index_unsupported no_memory encoding_unsupported)) result }
+    requires { IsValid
+        (Cmd.FragSessionSetupAns index wrong_descriptor index_unsupported no_memory
+        encoding_unsupported) }
+    ensures { Appends out.old out.new
+        (canonical (Cmd.FragSessionSetupAns index wrong_descriptor index_unsupported no_memory
+        encoding_unsupported)) result }
 {
     if out.room() < ONE_BYTE_LEN as usize {
         return Err(Full);

@@ -34,7 +34,8 @@ pub fn put_group_status_answer(
     out: &mut Payload,
 ) -> Result<(), Full>
     requires { IsValid (Cmd.McGroupStatusAns total mask groups.now) }
-    ensures { Appends out.old out.new (canonical (Cmd.McGroupStatusAns total mask groups.now)) result }
+    ensures { Appends out.old out.new
+        (canonical (Cmd.McGroupStatusAns total mask groups.now)) result }
 {
     let groups = groups.as_slice();
     if out.room() < GROUPS_HEAD_LEN as usize + GROUP_LEN as usize * groups.len() {
@@ -127,7 +128,8 @@ pub fn put_class_c_request(
     out: &mut Payload,
 ) -> Result<(), Full>
     requires { IsValid (Cmd.McClassCSessionReq id time timeout freq dr) }
-    ensures { Appends out.old out.new (canonical (Cmd.McClassCSessionReq id time timeout freq dr)) result }
+    ensures { Appends out.old out.new
+        (canonical (Cmd.McClassCSessionReq id time timeout freq dr)) result }
 {
     if out.room() < CLASS_SESSION_REQUEST_LEN as usize {
         return Err(Full);
@@ -150,7 +152,8 @@ pub fn put_class_c_answer(
     out: &mut Payload,
 ) -> Result<(), Full>
     requires { IsValid (Cmd.McClassCSessionAns id undefined freq_error dr_error start) }
-    ensures { Appends out.old out.new (canonical (Cmd.McClassCSessionAns id undefined freq_error dr_error start)) result }
+    ensures { Appends out.old out.new
+        (canonical (Cmd.McClassCSessionAns id undefined freq_error dr_error start)) result }
 {
     put_session_answer(
         CLASS_C_SESSION,
@@ -173,7 +176,8 @@ pub fn put_class_b_request(
     out: &mut Payload,
 ) -> Result<(), Full>
     requires { IsValid (Cmd.McClassBSessionReq id time periodicity timeout freq dr) }
-    ensures { Appends out.old out.new (canonical (Cmd.McClassBSessionReq id time periodicity timeout freq dr)) result }
+    ensures { Appends out.old out.new
+        (canonical (Cmd.McClassBSessionReq id time periodicity timeout freq dr)) result }
 {
     if out.room() < CLASS_SESSION_REQUEST_LEN as usize {
         return Err(Full);
@@ -196,7 +200,8 @@ pub fn put_class_b_answer(
     out: &mut Payload,
 ) -> Result<(), Full>
     requires { IsValid (Cmd.McClassBSessionAns id undefined freq_error dr_error start) }
-    ensures { Appends out.old out.new (canonical (Cmd.McClassBSessionAns id undefined freq_error dr_error start)) result }
+    ensures { Appends out.old out.new
+        (canonical (Cmd.McClassBSessionAns id undefined freq_error dr_error start)) result }
 {
     put_session_answer(
         CLASS_B_SESSION,
@@ -221,7 +226,9 @@ fn put_session_answer(
 ) -> Result<(), Full>
     requires id { id < 4 }
     requires fit { PartsFit (start_parts start) }
-    ensures { Appends out.old out.new (cid ∷ parts_bytes (packed 1 (flag 4 undefined ∷ flag 3 freq_error ∷ flag 2 dr_error ∷ bits 1 0 id ∷ []) ∷ start_parts start)) result }
+    ensures { Appends out.old out.new
+        (cid ∷ parts_bytes (packed 1 (flag 4 undefined ∷ flag 3 freq_error ∷ flag 2 dr_error ∷
+        bits 1 0 id ∷ []) ∷ start_parts start)) result }
 {
     let status = (u8::from(undefined) << 4)
         + (u8::from(freq_error) << 3)

@@ -10,13 +10,13 @@ use Rattle.wire_base.specs.Numbers.{number_at}
 use Rattle.wire_base.specs.Rows.{IsListed}
 use Rattle.wire_base.specs.Found.{Found}
 use Rattle.wire_base.specs.Tests.{is_spelled, where_spelled}
-use Rattle.wire_base.proofs.Tests as base
+use Rattle.wire_base.proofs.Decided as base
 use Rattle.sync_wire.specs.Table as sync_table
 use Rattle.sync_wire.proofs.Only as sync
-use Rattle.sync_wire.proofs.Tests as sync_tests
+use Rattle.sync_wire.proofs.Decided as sync_decided
 use Rattle.cast_wire.specs.Table as cast_table
 use Rattle.cast_wire.proofs.Only as cast
-use Rattle.cast_wire.proofs.Tests as cast_tests
+use Rattle.cast_wire.proofs.Decided as cast_decided
 use Rattle.package_grammar.specs.declared.command.Command.{Command}
 use Rattle.package_grammar.specs.declared.command.Command.TheVariants.{Sync, Cast}
 use Rattle.package_grammar.specs.Grammar.{row, IsWhole, Spells, SpellsTo, IsPort, IsRead, IsKnown, IsRefusal, NoneSpelled, StopsFrom, IsReading}
@@ -27,8 +27,8 @@ use Rattle.package_grammar.specs.Reading.{Reading, sync_found, cast_found, named
 -- ---- the tests of one command
 
 whole_tells : (command : Command) → Decides (is_whole command) (IsWhole command)
-whole_tells (Sync cmd) = sync_tests.whole_tells cmd
-whole_tells (Cast cmd) = cast_tests.whole_tells cmd
+whole_tells (Sync cmd) = sync_decided.whole_tells cmd
+whole_tells (Cast cmd) = cast_decided.whole_tells cmd
 
 spelled_tells : (command : Command) (port : ℕ) (dir : Direction) (bytes : List ℕ) (at next : ℕ)
     → Decides (is_spelled row is_whole command port dir bytes at next) (Spells command port dir bytes at next)
@@ -48,7 +48,7 @@ known_tells : (port : ℕ) (dir : Direction) (cid : ℕ) → Decides (is_known p
 unfolding is_known
 known_tells port dir cid =
     Decides-like _ (either_known port dir cid) (λ known. known_in port dir cid known.command known.listed known.cid_is)
-    (Decides-or _ _ (sync_tests.known_tells port dir cid) (cast_tests.known_tells port dir cid))
+    (Decides-or _ _ (sync_decided.known_tells port dir cid) (cast_decided.known_tells port dir cid))
 
 -- ---- one command
 

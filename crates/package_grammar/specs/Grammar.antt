@@ -44,7 +44,8 @@ pub record IsPort (port : ℕ) : Type 0 where
 -- from a place to another the payload spells these commands, one behind another
 abbrev pub SpellsTo : List Command → ℕ → Direction → List ℕ → (at end : ℕ) → Type 0
 SpellsTo [] port direction bytes at end = at ≡ end
-SpellsTo (c ∷ cs) port direction bytes at end = (next : ℕ) × Spells c port direction bytes at next × SpellsTo cs port direction bytes next end
+SpellsTo (c ∷ cs) port direction bytes at end =
+    (next : ℕ) × Spells c port direction bytes at next × SpellsTo cs port direction bytes next end
 
 -- a payload on one of the ports is a message of these commands
 pub record IsMessage (cs : List Command) (port : ℕ) (direction : Direction) (bytes : List ℕ) : Type 0 where
@@ -71,7 +72,8 @@ abbrev pub NoneSpelled : ℕ → Direction → List ℕ → ℕ → Type 0
 NoneSpelled port direction bytes at = (c : Command) (next : ℕ) → Spells c port direction bytes at next → ⊥
 
 -- behind these commands there is a place before the end at which none is spelled, and that is why
-pub record IsStopAt (port : ℕ) (direction : Direction) (bytes : List ℕ) (from : ℕ) (refusal : Refusal) (read : List Command) (at : ℕ) : Type 0 where
+pub record IsStopAt (port : ℕ) (direction : Direction) (bytes : List ℕ) (from : ℕ) (refusal : Refusal)
+    (read : List Command) (at : ℕ) : Type 0 where
   pub reached : SpellsTo read port direction bytes from at
   pub inside : at < length bytes
   pub none : NoneSpelled port direction bytes at
@@ -79,7 +81,8 @@ pub record IsStopAt (port : ℕ) (direction : Direction) (bytes : List ℕ) (fro
 
 -- reading from a place on stops behind some commands
 abbrev pub StopsFrom : ℕ → Direction → List ℕ → (from : ℕ) → Refusal → Type 0
-StopsFrom port direction bytes from refusal = (read : List Command) × (at : ℕ) × IsStopAt port direction bytes from refusal read at
+StopsFrom port direction bytes from refusal =
+    (read : List Command) × (at : ℕ) × IsStopAt port direction bytes from refusal read at
 
 -- a payload is no message for its port, or is too long, or reading it stops
 abbrev pub IsStop : ℕ → Direction → List ℕ → Refusal → Type 0

@@ -35,7 +35,8 @@ cast_found (Some (cmd, next)) = Some (Cast cmd, next)
 -- what the identifier at a place names there
 unfoldable pub named_at : ℕ → Direction → List ℕ → ℕ → Found Command
 named_at port direction bytes at =
-    if nat_le port 201 then cast_found (cast.reading port direction bytes at) else sync_found (sync.reading port direction bytes at)
+    if nat_le port 201 then cast_found (cast.reading port direction bytes at)
+    else sync_found (sync.reading port direction bytes at)
 
 abbrev pub is_whole : Command → Bool
 is_whole (Sync cmd) = sync_tests.is_whole cmd
@@ -43,7 +44,8 @@ is_whole (Cast cmd) = cast_tests.is_whole cmd
 
 -- the command at a place: what is named there, where it is spelled
 unfoldable pub command_at : ℕ → Direction → List ℕ → ℕ → Found Command
-command_at port direction bytes at = where_spelled row is_whole port direction bytes at (named_at port direction bytes at)
+command_at port direction bytes at =
+    where_spelled row is_whole port direction bytes at (named_at port direction bytes at)
 
 -- the tables have this identifier for that port and direction
 unfoldable pub is_known : ℕ → Direction → (cid : ℕ) → Bool
@@ -73,7 +75,8 @@ unfoldable pub read_from : (steps : ℕ) → ℕ → Direction → List ℕ → 
 read_from zero port direction bytes at = Ok []
 read_from (suc steps) port direction bytes at =
     if nat_le (length bytes) at then Ok []
-    else goes_on (stop_at port direction bytes at) (λ next. read_from steps port direction bytes next) (command_at port direction bytes at)
+    else goes_on (stop_at port direction bytes at) (λ next. read_from steps port direction bytes next)
+    (command_at port direction bytes at)
 
 abbrev pub is_port : ℕ → Bool
 is_port port = nat_le 200 port && nat_le port 203

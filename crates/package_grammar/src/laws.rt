@@ -30,6 +30,7 @@ pub fn written_is_message()
 
 /// Reading a payload has one answer: one list of commands, or one place and cause at which it stops.
 pub fn reading_has_one_answer()
-    ensures { (port : ℕ) (dir : Direction) (bytes : List ℕ) (one other : Result (List Command) Refusal)
+    ensures { (port : ℕ) (dir : Direction) (bytes : List ℕ)
+        (one other : Result (List Command) Refusal)
         → IsReading port dir bytes one → IsReading port dir bytes other → one ≡ other }
 {}

@@ -15,7 +15,8 @@ pub fn read_one(port: u8, dir: Direction, bytes: &[u8], at: u16) -> Result<(Comm
     // What is answered is spelled there.
     ensures found { IfOk result (λ r. Spells r.0 port dir bytes.now at r.1) }
     // What is spelled there is answered, in a payload that is not too long.
-    ensures only { (c : Command) (next : ℕ) → length bytes.now ≤ max_payload → Spells c port dir bytes.now at next → result ≡ Ok (c, next) }
+    ensures only { (c : Command) (next : ℕ) → length bytes.now ≤ max_payload
+        → Spells c port dir bytes.now at next → result ≡ Ok (c, next) }
     ensures fits { OnOk result (length bytes.now ≤ max_payload) }
     ensures valid { IfOk result (λ r. IsValid r.0) }
     ensures moves { IfOk result (λ r. at < r.1) }

@@ -1,4 +1,4 @@
 pub mod Known
 pub mod Only
 pub mod Spellings
-pub mod Tests
+pub mod Decided

@@ -12,16 +12,21 @@ use Rattle.sync_wire.specs.declared.cmd.Cmd.TheVariants.{PackageVersionReq, Pack
 unfoldable pub clock_down : List ℕ → ℕ → Found Cmd
 clock_down bytes at =
     if number_at bytes at 1 == 0x00 then within bytes at 1 PackageVersionReq
-    else if number_at bytes at 1 == 0x01 then within bytes at 6 (AppTimeAns (cast_signed w32 (number_at bytes (at + 1) 4)) (field bytes (at + 5) 1 0 4))
-    else if number_at bytes at 1 == 0x02 then within bytes at 2 (DeviceAppTimePeriodicityReq (field bytes (at + 1) 1 0 4))
+    else if number_at bytes at 1 == 0x01 then within bytes at 6
+    (AppTimeAns (cast_signed w32 (number_at bytes (at + 1) 4)) (field bytes (at + 5) 1 0 4))
+    else if number_at bytes at 1 == 0x02 then within bytes at 2
+    (DeviceAppTimePeriodicityReq (field bytes (at + 1) 1 0 4))
     else if number_at bytes at 1 == 0x03 then within bytes at 2 (ForceDeviceResyncReq (field bytes (at + 1) 1 0 3))
     else None
 
 unfoldable pub clock_up : List ℕ → ℕ → Found Cmd
 clock_up bytes at =
-    if number_at bytes at 1 == 0x00 then within bytes at 3 (PackageVersionAns (number_at bytes (at + 1) 1) (number_at bytes (at + 2) 1))
-    else if number_at bytes at 1 == 0x01 then within bytes at 6 (AppTimeReq (number_at bytes (at + 1) 4) (is_set bytes (at + 5) 4) (field bytes (at + 5) 1 0 4))
-    else if number_at bytes at 1 == 0x02 then within bytes at 6 (DeviceAppTimePeriodicityAns (is_set bytes (at + 1) 0) (number_at bytes (at + 2) 4))
+    if number_at bytes at 1 == 0x00 then within bytes at 3
+    (PackageVersionAns (number_at bytes (at + 1) 1) (number_at bytes (at + 2) 1))
+    else if number_at bytes at 1 == 0x01 then within bytes at 6
+    (AppTimeReq (number_at bytes (at + 1) 4) (is_set bytes (at + 5) 4) (field bytes (at + 5) 1 0 4))
+    else if number_at bytes at 1 == 0x02 then within bytes at 6
+    (DeviceAppTimePeriodicityAns (is_set bytes (at + 1) 0) (number_at bytes (at + 2) 4))
     else None
 
 unfoldable pub firmware_down : List ℕ → ℕ → Found Cmd
@@ -43,8 +48,10 @@ with_next bytes at =
 
 unfoldable pub firmware_up : List ℕ → ℕ → Found Cmd
 firmware_up bytes at =
-    if number_at bytes at 1 == 0x00 then within bytes at 3 (PackageVersionAns (number_at bytes (at + 1) 1) (number_at bytes (at + 2) 1))
-    else if number_at bytes at 1 == 0x01 then within bytes at 9 (DevVersionAns (number_at bytes (at + 1) 4) (number_at bytes (at + 5) 4))
+    if number_at bytes at 1 == 0x00 then within bytes at 3
+    (PackageVersionAns (number_at bytes (at + 1) 1) (number_at bytes (at + 2) 1))
+    else if number_at bytes at 1 == 0x01 then within bytes at 9
+    (DevVersionAns (number_at bytes (at + 1) 4) (number_at bytes (at + 5) 4))
     else if number_at bytes at 1 == 0x02 then within bytes at 5 (DevRebootTimeAns (number_at bytes (at + 1) 4))
     else if number_at bytes at 1 == 0x03 then within bytes at 4 (DevRebootCountdownAns (number_at bytes (at + 1) 3))
     else if number_at bytes at 1 == 0x04 then with_next bytes at
@@ -53,5 +60,6 @@ firmware_up bytes at =
 
 -- the same for each port and direction
 abbrev pub reading : ℕ → Direction → List ℕ → ℕ → Found Cmd
-reading port Down bytes at = if port == 202 then clock_down bytes at else if port == 203 then firmware_down bytes at else None
+reading port Down bytes at =
+    if port == 202 then clock_down bytes at else if port == 203 then firmware_down bytes at else None
 reading port Up bytes at = if port == 202 then clock_up bytes at else if port == 203 then firmware_up bytes at else None

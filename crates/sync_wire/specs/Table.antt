@@ -1,10 +1,10 @@
--- The commands of TS003-1.0.0 (port 202) and TS006-1.0.0 (port 203): one row for each, as the standard's tables have them.
+-- The commands of TS003-1.0.0 (port 202) and TS006-1.0.0 (port 203): one row for each, as the standard's tables have
+-- them.
 use Rattle.std.specs.Prelude.{◌≡◌, ℕ, ◌<◌, ◌≤◌, ◌⊎◌, ◌==◌, List, [], ◌∷◌, length, Option, Some, None, is_some, FitsSigned}
 use Rattle.std.specs.Int.{w32, cast_unsigned}
 use Rattle.wire_base.specs.declared.refusal.Direction.{Direction}
-use Rattle.wire_base.specs.declared.refusal.Direction.TheVariants.{Down, Up}
 use Rattle.wire_base.specs.declared.refusal.Refusal.{Refusal}
-use Rattle.wire_base.specs.Rows.{Row, Part, bits, flag, number, packed, spelling}
+use Rattle.wire_base.specs.Rows.{Row, Part, down, up, bits, flag, number, packed, spelling}
 use Rattle.wire_base.specs.Tables as table
 use Rattle.sync_wire.specs.declared.cmd.Cmd.{Cmd}
 use Rattle.sync_wire.specs.declared.cmd.Cmd.TheVariants.{PackageVersionReq, PackageVersionAns, AppTimeReq, AppTimeAns, DeviceAppTimePeriodicityReq, DeviceAppTimePeriodicityAns, ForceDeviceResyncReq, DevVersionReq, DevVersionAns, DevRebootTimeReq, DevRebootTimeAns, DevRebootCountdownReq, DevRebootCountdownAns, DevUpgradeImageReq, DevUpgradeImageAns, DevDeleteImageReq, DevDeleteImageAns}
@@ -16,23 +16,26 @@ next_parts (Some version) = number 4 version ∷ []
 
 -- the table; the correction is signed, in two's complement
 abbrev pub row : Cmd → Row
-row PackageVersionReq = record { ports = 202 ∷ 203 ∷ []; direction = Down; cid = 0x00; parts = [] }
-row (PackageVersionAns identifier version) = record { ports = 202 ∷ 203 ∷ []; direction = Up; cid = 0x00; parts = number 1 identifier ∷ number 1 version ∷ [] }
-row (AppTimeReq time required token) = record { ports = 202 ∷ []; direction = Up; cid = 0x01; parts = number 4 time ∷ packed 1 (flag 4 required ∷ bits 3 0 token ∷ []) ∷ [] }
-row (AppTimeAns correction token) = record { ports = 202 ∷ []; direction = Down; cid = 0x01; parts = number 4 (cast_unsigned w32 correction) ∷ packed 1 (bits 3 0 token ∷ []) ∷ [] }
-row (DeviceAppTimePeriodicityReq period) = record { ports = 202 ∷ []; direction = Down; cid = 0x02; parts = packed 1 (bits 3 0 period ∷ []) ∷ [] }
-row (DeviceAppTimePeriodicityAns unsupported time) = record { ports = 202 ∷ []; direction = Up; cid = 0x02; parts = packed 1 (flag 0 unsupported ∷ []) ∷ number 4 time ∷ [] }
-row (ForceDeviceResyncReq count) = record { ports = 202 ∷ []; direction = Down; cid = 0x03; parts = packed 1 (bits 2 0 count ∷ []) ∷ [] }
-row DevVersionReq = record { ports = 203 ∷ []; direction = Down; cid = 0x01; parts = [] }
-row (DevVersionAns firmware hardware) = record { ports = 203 ∷ []; direction = Up; cid = 0x01; parts = number 4 firmware ∷ number 4 hardware ∷ [] }
-row (DevRebootTimeReq time) = record { ports = 203 ∷ []; direction = Down; cid = 0x02; parts = number 4 time ∷ [] }
-row (DevRebootTimeAns time) = record { ports = 203 ∷ []; direction = Up; cid = 0x02; parts = number 4 time ∷ [] }
-row (DevRebootCountdownReq count) = record { ports = 203 ∷ []; direction = Down; cid = 0x03; parts = number 3 count ∷ [] }
-row (DevRebootCountdownAns count) = record { ports = 203 ∷ []; direction = Up; cid = 0x03; parts = number 3 count ∷ [] }
-row DevUpgradeImageReq = record { ports = 203 ∷ []; direction = Down; cid = 0x04; parts = [] }
-row (DevUpgradeImageAns status next) = record { ports = 203 ∷ []; direction = Up; cid = 0x04; parts = packed 1 (bits 1 0 status ∷ []) ∷ next_parts next }
-row (DevDeleteImageReq version) = record { ports = 203 ∷ []; direction = Down; cid = 0x05; parts = number 4 version ∷ [] }
-row (DevDeleteImageAns errors) = record { ports = 203 ∷ []; direction = Up; cid = 0x05; parts = packed 1 (bits 1 0 errors ∷ []) ∷ [] }
+row PackageVersionReq = down (202 ∷ 203 ∷ []) 0x00 []
+row (PackageVersionAns identifier version) = up (202 ∷ 203 ∷ []) 0x00 (number 1 identifier ∷ number 1 version ∷ [])
+row (AppTimeReq time required token) = up (202 ∷ []) 0x01
+    (number 4 time ∷ packed 1 (flag 4 required ∷ bits 3 0 token ∷ []) ∷ [])
+row (AppTimeAns correction token) = down (202 ∷ []) 0x01
+    (number 4 (cast_unsigned w32 correction) ∷ packed 1 (bits 3 0 token ∷ []) ∷ [])
+row (DeviceAppTimePeriodicityReq period) = down (202 ∷ []) 0x02 (packed 1 (bits 3 0 period ∷ []) ∷ [])
+row (DeviceAppTimePeriodicityAns unsupported time) = up (202 ∷ []) 0x02
+    (packed 1 (flag 0 unsupported ∷ []) ∷ number 4 time ∷ [])
+row (ForceDeviceResyncReq count) = down (202 ∷ []) 0x03 (packed 1 (bits 2 0 count ∷ []) ∷ [])
+row DevVersionReq = down (203 ∷ []) 0x01 []
+row (DevVersionAns firmware hardware) = up (203 ∷ []) 0x01 (number 4 firmware ∷ number 4 hardware ∷ [])
+row (DevRebootTimeReq time) = down (203 ∷ []) 0x02 (number 4 time ∷ [])
+row (DevRebootTimeAns time) = up (203 ∷ []) 0x02 (number 4 time ∷ [])
+row (DevRebootCountdownReq count) = down (203 ∷ []) 0x03 (number 3 count ∷ [])
+row (DevRebootCountdownAns count) = up (203 ∷ []) 0x03 (number 3 count ∷ [])
+row DevUpgradeImageReq = down (203 ∷ []) 0x04 []
+row (DevUpgradeImageAns status next) = up (203 ∷ []) 0x04 (packed 1 (bits 1 0 status ∷ []) ∷ next_parts next)
+row (DevDeleteImageReq version) = down (203 ∷ []) 0x05 (number 4 version ∷ [])
+row (DevDeleteImageAns errors) = up (203 ∷ []) 0x05 (packed 1 (bits 1 0 errors ∷ []) ∷ [])
 
 -- what a command's fields must be together: the correction has 32 bits with its sign, and the next version is there
 -- exactly where the status is 3

@@ -1,4 +1,4 @@
--- What a command's fields must be together, as a test; and one command of each row, by which the known identifiers are told.
+-- What a command's fields must be together, as a test; and one command of each row, which shows the known identifiers.
 -- Only proofs read these; what commands are is said by the table alone.
 use Rattle.std.specs.Prelude.{ℕ, pos, Bool, true, false, ◌==◌, List, [], ◌∷◌, None, is_some}
 use Rattle.std.specs.Bool.{beq}

@@ -24,7 +24,8 @@ pub fn put_version_request(out: &mut Payload) -> Result<(), Full>
 
 pub fn put_version_answer(identifier: u8, version: u8, out: &mut Payload) -> Result<(), Full>
     requires { IsValid (Cmd.PackageVersionAns identifier version) }
-    ensures { Appends out.old out.new (canonical (Cmd.PackageVersionAns identifier version)) result }
+    ensures { Appends out.old out.new
+        (canonical (Cmd.PackageVersionAns identifier version)) result }
 {
     if out.room() < VERSION_ANSWER_LEN as usize {
         return Err(Full);
@@ -75,7 +76,8 @@ pub fn put_periodicity_request(period: u8, out: &mut Payload) -> Result<(), Full
 
 pub fn put_periodicity_answer(unsupported: bool, time: u32, out: &mut Payload) -> Result<(), Full>
     requires { IsValid (Cmd.DeviceAppTimePeriodicityAns unsupported time) }
-    ensures { Appends out.old out.new (canonical (Cmd.DeviceAppTimePeriodicityAns unsupported time)) result }
+    ensures { Appends out.old out.new
+        (canonical (Cmd.DeviceAppTimePeriodicityAns unsupported time)) result }
 {
     if out.room() < PERIODICITY_ANSWER_LEN as usize {
         return Err(Full);

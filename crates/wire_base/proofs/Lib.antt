@@ -1,4 +1,4 @@
 pub mod NumberLaws
 pub mod Putting
 pub mod RowLaws
-pub mod Tests
+pub mod Decided

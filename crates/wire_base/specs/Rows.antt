@@ -1,6 +1,7 @@
 -- Rows of a command table: how a command lies in a payload, how it is written, and which values its fields have.
 use Rattle.std.specs.Prelude.{◌≡◌, ℕ, ◌+◌, ◌-◌, ◌*◌, ◌^◌, ◌<◌, ◌≤◌, Bool, true, false, ◌&&◌, nat_le, List, [], ◌∷◌, ◌++◌, length, drop, slice_index, ◌⊎◌}
 use Rattle.wire_base.specs.declared.refusal.Direction.{Direction}
+use Rattle.wire_base.specs.declared.refusal.Direction.TheVariants.{Down, Up}
 use Rattle.wire_base.specs.Numbers.{number_at, number_bytes, bits_of, flag_value}
 
 -- a field that takes only some bits of a number, from its lowest bit on
@@ -35,6 +36,13 @@ pub record Row : Type 0 where
   pub cid : ℕ
   pub parts : List Part
 
+-- a row of a command from the server, and of one from a device
+abbrev pub down : (ports : List ℕ) (cid : ℕ) → List Part → Row
+down ports cid parts = record { ports = ports; direction = Down; cid = cid; parts = parts }
+
+abbrev pub up : (ports : List ℕ) (cid : ℕ) → List Part → Row
+up ports cid parts = record { ports = ports; direction = Up; cid = cid; parts = parts }
+
 -- how many bytes a part takes
 abbrev pub size : Part → ℕ
 size (number width value) = width
@@ -51,7 +59,8 @@ BitsLie n (b ∷ bs) = (bits_of n b.low b.count ≡ b.value) × BitsLie n bs
 abbrev pub PartLies : List ℕ → ℕ → Part → Type 0
 PartLies bytes at (number width value) = number_at bytes at width ≡ value
 PartLies bytes at (packed width fields) = BitsLie (number_at bytes at width) fields
-PartLies bytes at (block block_bytes) = (k : ℕ) → k < length block_bytes → slice_index bytes (at + k) ≡ slice_index block_bytes k
+PartLies bytes at (block block_bytes) =
+    (k : ℕ) → k < length block_bytes → slice_index bytes (at + k) ≡ slice_index block_bytes k
 PartLies bytes at (rest rest_bytes) = drop at bytes ≡ rest_bytes
 
 -- the parts lie one after another, the first skip bytes after a place, and the last ends at next

@@ -1,4 +1,4 @@
--- What a table of commands says: which commands are valid, which bytes of a payload spell one, and why a place is refused.
+-- What a table of commands says: which are valid, which bytes of a payload spell one, and why a place is refused.
 -- It is said once for every table: by the row of each command, by what a command's fields must be together, and by the
 -- ports that the table is for.
 use Rattle.std.specs.Prelude.{◌≡◌, ℕ, ◌<◌, ◌≤◌, List, length}
@@ -16,7 +16,8 @@ pub record IsValid {C : Type 0} (row : C → Row) (IsWhole : C → Type 0) (c : 
   pub whole : IsWhole c
 
 -- in a payload of that port and direction the bytes from a place to the next spell the command; reserved bits are free
-pub record Spells {C : Type 0} (row : C → Row) (IsWhole : C → Type 0) (c : C) (port : ℕ) (direction : Direction) (bytes : List ℕ) (at next : ℕ) : Type 0 where
+pub record Spells {C : Type 0} (row : C → Row) (IsWhole : C → Type 0) (c : C) (port : ℕ) (direction : Direction)
+    (bytes : List ℕ) (at next : ℕ) : Type 0 where
   pub listed : IsListed (row c) port direction
   pub lies : Lies (row c) bytes at next
   pub whole : IsWhole c
@@ -35,8 +36,10 @@ IsRead IsPort port bytes = IsPort port × (length bytes ≤ max_payload)
 abbrev pub IsRefused : {C : Type 0} → (C → Row) → (ℕ → Type 0) → ℕ → Direction → List ℕ → (at : ℕ) → Why → Type 0
 IsRefused row IsPort port direction bytes at Port = ¬ IsPort port
 IsRefused row IsPort port direction bytes at TooLong = IsPort port × (max_payload < length bytes)
-IsRefused row IsPort port direction bytes at UnknownCommand = IsRead IsPort port bytes × ¬ IsKnown row port direction (number_at bytes at 1)
-IsRefused row IsPort port direction bytes at Short = IsRead IsPort port bytes × IsKnown row port direction (number_at bytes at 1)
+IsRefused row IsPort port direction bytes at UnknownCommand =
+    IsRead IsPort port bytes × ¬ IsKnown row port direction (number_at bytes at 1)
+IsRefused row IsPort port direction bytes at Short =
+    IsRead IsPort port bytes × IsKnown row port direction (number_at bytes at 1)
 
 -- the place that a refusal names
 abbrev pub place_of : List ℕ → (at : ℕ) → Why → ℕ
@@ -46,6 +49,7 @@ place_of bytes at UnknownCommand = at
 place_of bytes at Short = length bytes
 
 -- the refusal names its reason and its place
-pub record IsRefusal {C : Type 0} (row : C → Row) (IsPort : ℕ → Type 0) (port : ℕ) (direction : Direction) (bytes : List ℕ) (at : ℕ) (refusal : Refusal) : Type 0 where
+pub record IsRefusal {C : Type 0} (row : C → Row) (IsPort : ℕ → Type 0) (port : ℕ) (direction : Direction)
+    (bytes : List ℕ) (at : ℕ) (refusal : Refusal) : Type 0 where
   pub why : IsRefused row IsPort port direction bytes at refusal.why
   pub place : refusal.at ≡ place_of bytes at refusal.why

@@ -47,14 +47,17 @@ lies row bytes at next = number_at bytes at 1 == row.cid && parts_lie bytes at 1
 
 -- the bytes from a place to the next spell the command
 abbrev pub is_spelled : {C : Type 0} → (C → Row) → (C → Bool) → C → ℕ → Direction → List ℕ → (at next : ℕ) → Bool
-is_spelled row is_whole c port direction bytes at next = is_listed (row c) port direction && (lies (row c) bytes at next && is_whole c)
+is_spelled row is_whole c port direction bytes at next =
+    is_listed (row c) port direction && (lies (row c) bytes at next && is_whole c)
 
 -- what was found, where it is spelled there
 abbrev pub where_spelled : {C : Type 0} → (C → Row) → (C → Bool) → ℕ → Direction → List ℕ → (at : ℕ) → Found C → Found C
 where_spelled row is_whole port direction bytes at None = None
-where_spelled row is_whole port direction bytes at (Some (c, next)) = if is_spelled row is_whole c port direction bytes at next then Some (c, next) else None
+where_spelled row is_whole port direction bytes at (Some (c, next)) =
+    if is_spelled row is_whole c port direction bytes at next then Some (c, next) else None
 
 -- one of the commands is listed for that port and direction under this identifier
 abbrev pub has_cid : {C : Type 0} → (C → Row) → ℕ → Direction → (cid : ℕ) → List C → Bool
 has_cid row port direction cid [] = false
-has_cid row port direction cid (c ∷ cs) = (is_listed (row c) port direction && (row c).cid == cid) || has_cid row port direction cid cs
+has_cid row port direction cid (c ∷ cs) =
+    (is_listed (row c) port direction && (row c).cid == cid) || has_cid row port direction cid cs

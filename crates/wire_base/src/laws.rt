@@ -12,9 +12,11 @@ pub fn number_put_is_number_read()
 
 /// A command that was written lies where it was written, whatever follows; nothing may follow one that takes the rest.
 pub fn row_written_lies()
-    ensures { (row : Row) (before after : List ℕ) → IsTrue (is_well_formed row.parts) → PartsFit row.parts → row.cid < 256
+    ensures { (row : Row) (before after : List ℕ)
+        → IsTrue (is_well_formed row.parts) → PartsFit row.parts → row.cid < 256
         → (IsTrue (takes_rest row.parts) → after ≡ [])
-        → Lies row (before ++ spelling row ++ after) (length before) (length before + length (spelling row)) }
+        → Lies row (before ++ spelling row ++ after)
+        (length before) (length before + length (spelling row)) }
 {}
 
 /// A command that doesn't take the rest lies there still when more bytes are put behind.

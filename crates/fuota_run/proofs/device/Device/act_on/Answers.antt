@@ -1,5 +1,4 @@
 use Rattle.std.proofs.Common.{◌∙◌, sym, ap, subst, arith, List}
-use Rattle.wire_base.specs.declared.refusal.Direction.{Direction}
 use Rattle.package_grammar.specs.declared.command.Command.{Command}
 use Rattle.package_grammar.specs.HeldMessage.{HeldMessage}
 use Rattle.fuota_run.specs.Device.{weights}

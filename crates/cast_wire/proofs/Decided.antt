@@ -6,8 +6,8 @@ use Rattle.std.proofs.lemmas.Bool.Decides.{Decides-eqb, Decides-and}
 use Rattle.wire_base.specs.declared.refusal.Direction.{Direction}
 use Rattle.wire_base.specs.Rows.{IsListed}
 use Rattle.wire_base.specs.Tests.{has_cid}
-use Rattle.wire_base.proofs.Tests as base
-use Rattle.wire_base.proofs.Tests.{leb_tells}
+use Rattle.wire_base.proofs.Decided as base
+use Rattle.wire_base.proofs.Decided.{leb_tells}
 use Rattle.cast_wire.specs.declared.cmd.Cmd.{Cmd}
 use Rattle.cast_wire.specs.declared.cmd.Cmd.TheVariants.{PackageVersionReq, PackageVersionAns, FragSessionStatusReq, FragSessionStatusAns, FragSessionSetupReq, FragSessionSetupAns, FragSessionDeleteReq, FragSessionDeleteAns, DataFragment, McGroupStatusReq, McGroupStatusAns, McGroupSetupReq, McGroupSetupAns, McGroupDeleteReq, McGroupDeleteAns, McClassCSessionReq, McClassCSessionAns, McClassBSessionReq, McClassBSessionAns}
 use Rattle.cast_wire.specs.Table.{row, IsWhole, IsKnown}

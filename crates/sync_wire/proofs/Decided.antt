@@ -9,7 +9,7 @@ use Rattle.std.proofs.lemmas.Int.{SFits-int_wrap, int_wrap_fits}
 use Rattle.wire_base.specs.declared.refusal.Direction.{Direction}
 use Rattle.wire_base.specs.Rows.{IsListed}
 use Rattle.wire_base.specs.Tests.{has_cid}
-use Rattle.wire_base.proofs.Tests as base
+use Rattle.wire_base.proofs.Decided as base
 use Rattle.sync_wire.specs.declared.cmd.Cmd.{Cmd}
 use Rattle.sync_wire.specs.declared.cmd.Cmd.TheVariants.{PackageVersionReq, PackageVersionAns, AppTimeReq, AppTimeAns, DeviceAppTimePeriodicityReq, DeviceAppTimePeriodicityAns, ForceDeviceResyncReq, DevVersionReq, DevVersionAns, DevRebootTimeReq, DevRebootTimeAns, DevRebootCountdownReq, DevRebootCountdownAns, DevUpgradeImageReq, DevUpgradeImageAns, DevDeleteImageReq, DevDeleteImageAns}
 use Rattle.sync_wire.specs.Table.{row, IsWhole, IsKnown}
