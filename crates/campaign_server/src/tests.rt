@@ -1,4 +1,6 @@
-use crate::{Field, Kind, Plan, PlanDevice, PlanGroup, PlanWindow, Request, Server, ServerError, Stage};
+use crate::{
+    Field, Kind, Plan, PlanDevice, PlanGroup, PlanWindow, Request, Server, ServerError, Stage,
+};
 use image_slots::is_image;
 use std::alloc::{AllocError, Global};
 use std::test::*;
@@ -50,8 +52,18 @@ fn plan(
 fn the_first_wrong_field_is_named(rt: HostRuntime) -> Result<(), Fail> {
     assert!(rt; is_image(&IMAGE));
     let late = Some(PlanGroup { min: 10, ..GROUP });
-    let loud = Some(PlanWindow { timeout: 16, ..WINDOW });
-    let cases: [(u8, u16, Option<PlanGroup>, Option<PlanWindow>, usize, Option<Field>); 12] = [
+    let loud = Some(PlanWindow {
+        timeout: 16,
+        ..WINDOW
+    });
+    let cases: [(
+        u8,
+        u16,
+        Option<PlanGroup>,
+        Option<PlanWindow>,
+        usize,
+        Option<Field>,
+    ); 12] = [
         (13, 4, None, None, 1, None),
         (13, 512, Some(GROUP), Some(WINDOW), 64, None),
         (0, 513, late, None, 0, Some(Field::FragSize)),

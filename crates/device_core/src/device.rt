@@ -82,7 +82,7 @@ impl Device {
     ghost use Rattle.device_core.specs.declared.uplink.UplinkCommand.{UplinkCommand};
     ghost use Rattle.device_core.specs.declared.delivered.Delivered.{Delivered};
     ghost use Rattle.device_core.specs.declared.delivered.OutboxFull.{OutboxFull};
-    ghost use Rattle.device_core.specs.HeldDevice.{DeviceStands, Becomes, Makes, IsReserved, held_with_answers};
+    ghost use Rattle.device_core.specs.HeldDevice.{DeviceStands, Becomes, Makes, IsReserved, TakesOldest, held_with_answers};
     ghost use Rattle.device_core.specs.Sendable.{IsSendable, IsUplink};
 
     /// A device at its start, with all memory that it will ever need. BadConfig comes exactly where a number of the
@@ -148,6 +148,7 @@ impl Device {
     /// The oldest uplink that is held; None exactly where none is. Its payload is one command in its canonical spelling.
     pub fn take_uplink(&mut self) -> Option<Uplink>
         ensures makes { Makes (Option Uplink) self.old self.new result taking }
+        ensures oldest { TakesOldest self.old.outbox self.new.outbox result }
         ensures uplink { IfSome result (λ u. IsUplink u) }
     {
         self.outbox.take()

@@ -29,8 +29,8 @@ mod world;
 
 pub use files::{Failed, Files};
 pub use laws::{
-    decode_has_one_answer, headline, replay_has_one_answer,
-    replay_is_decided_at_first, run_has_one_answer,
+    decode_has_one_answer, headline, replay_has_one_answer, replay_is_decided_at_first,
+    run_has_one_answer,
 };
 pub use lines::{Form, Key};
 pub use memory::{MemFiles, MemSink};

@@ -129,13 +129,7 @@ fn delete_bits(next: ImageState, version: u32) -> u8
     ensures { result ≡ delete_bits next version }
 {
     match next {
-        ImageState::Valid(held) => {
-            if held == version {
-                0
-            } else {
-                2
-            }
-        }
+        ImageState::Valid(held) => { if held == version { 0 } else { 2 } }
         _ => 1,
     }
 }
