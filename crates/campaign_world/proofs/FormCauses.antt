@@ -1,0 +1,434 @@
+-- The first cause for which a form is refused, test by test.
+use Rattle.std.proofs.Common.{◌≡◌, ℕ, ◌≤◌, ◌<◌, ◌*◌, ◌^◌, ◌+◌, ◌-◌, zero, suc, Bool, true, false, not, cond, ◌==◌, ◌&&◌, List, [], ◌∷◌, length, replicate, slice_get, nat_lt, nat_le, Option, Some, None, refl, sym, ap, ◌∙◌, arith, is_ok, subst, inl, inr, ◌⊎◌, is_some}
+use Rattle.std.proofs.lemmas.Grind.{div_ceil_times}
+use Rattle.std.proofs.Math.Bool.{or-true}
+use Rattle.std.proofs.lemmas.Bool.{leb-true, le-leb, ltb-true, lt-ltb, and_parts}
+use Rattle.std.proofs.lemmas.Bool.Decides.{nat_tests}
+use Rattle.frag_encoder.specs.Encoding.{nb_frag_of}
+use Rattle.image_slots.specs.Image.{is_image}
+use Rattle.image_slots.proofs.ImageLemmas.{image_long}
+use Rattle.device_core.specs.Device.{DeviceState}
+use Rattle.device_core.specs.HeldDevice.{HeldDevice}
+use Rattle.campaign_server.specs.Plan.{Plan, is_frag_size, bad_field}
+use Rattle.campaign_server.specs.declared.plan.Field.{Field}
+use Rattle.campaign_server.specs.Server.{ServerState, first_server, numbered}
+use Rattle.campaign_server.specs.Fragments.{next_fragment, last_fragment}
+use Rattle.campaign_server.specs.declared.stage.Stage.TheVariants.{At}
+use Rattle.campaign_server.specs.declared.stage.Request.TheVariants.{Version}
+use Rattle.script_lines.specs.declared.forms.Form.{Form}
+use Rattle.script_lines.specs.declared.forms.Form.TheVariants as form
+use Rattle.script_lines.specs.Ranges.{in_range}
+use Rattle.campaign_world.specs.declared.faults.LineWhy.{LineWhy}
+use Rattle.campaign_world.specs.declared.faults.LineWhy.TheVariants as why
+use Rattle.campaign_world.specs.declared.section.Section.{Section}
+use Rattle.campaign_world.specs.declared.section.Section.TheVariants as place
+use Rattle.campaign_world.specs.World.{WorldState}
+use Rattle.campaign_world.specs.declared.numbered.SentPayload.{SentPayload}
+use Rattle.campaign_world.specs.declared.numbered.MadeUplink.{MadeUplink}
+use Rattle.campaign_world.specs.Causes.{is_device, is_event_or_end, may_come, fits_script, names_device, has_come, is_to_come, has_more, asks_status, is_taken, form_cause, cause_of, cause_of_form}
+use Rattle.script_lines.specs.Forms.{form_of}
+use Rattle.script_lines.specs.Limits.{max_lines, max_line, max_time}
+use Rattle.campaign_world.specs.HeldWorld.{HeldWorld, server_of, world_of, IsFine}
+use Rattle.campaign_world.specs.Making.{device_of}
+use Rattle.script_lines.specs.declared.forms.Class.{Class}
+use Rattle.script_lines.specs.declared.forms.Class.TheVariants as class
+use Rattle.campaign_world.specs.WorldInside.{IsPlanned, IsSized, ServerIs, IsToBegin}
+
+pub order : (world : WorldState) (form : Form) → may_come world.section form ≡ false → form_cause world form ≡ Some why.Order
+unfolding form_cause
+order world form fails = rw (fails) refl
+
+pub range : (world : WorldState) (form : Form) → may_come world.section form ≡ true → in_range form ≡ false → form_cause world form ≡ Some why.Range
+unfolding form_cause
+range world form comes fails = rw (comes, fails) refl
+
+pub script : (world : WorldState) (form : Form) → may_come world.section form ≡ true → in_range form ≡ true
+    → fits_script (length world.server.image) (length world.devices) form ≡ false → form_cause world form ≡ Some why.Range
+unfolding form_cause
+script world form comes ranges fails = rw (comes, ranges, fails) refl
+
+-- what holds of a form before its device is looked at
+pub record Fits (world : WorldState) (form : Form) : Type 0 where
+  pub comes : may_come world.section form ≡ true
+  pub ranges : in_range form ≡ true
+  pub fits : fits_script (length world.server.image) (length world.devices) form ≡ true
+
+pub device : (world : WorldState) (form : Form) → Fits world form → names_device (length world.devices) form ≡ false → form_cause world form ≡ Some why.Device
+unfolding form_cause
+device world form so_far fails = rw (so_far.comes, so_far.ranges, so_far.fits, fails) refl
+
+pub unsent : (world : WorldState) (form : Form) → Fits world form → names_device (length world.devices) form ≡ true
+    → has_come world.sent world.uplinks world.time form ≡ false → form_cause world form ≡ Some why.Unsent
+unfolding form_cause
+unsent world form so_far names fails = rw (so_far.comes, so_far.ranges, so_far.fits, names, fails) refl
+
+pub time : (world : WorldState) (form : Form) → Fits world form → names_device (length world.devices) form ≡ true
+    → has_come world.sent world.uplinks world.time form ≡ true → is_to_come world.time form ≡ false → form_cause world form ≡ Some why.Time
+unfolding form_cause
+time world form so_far names come fails = rw (so_far.comes, so_far.ranges, so_far.fits, names, come, fails) refl
+
+pub limit : (world : WorldState) (form : Form) → Fits world form → names_device (length world.devices) form ≡ true
+    → has_come world.sent world.uplinks world.time form ≡ true → is_to_come world.time form ≡ true → has_more world.server form ≡ false
+    → form_cause world form ≡ Some why.Limit
+unfolding form_cause
+limit world form so_far names come timed fails = rw (so_far.comes, so_far.ranges, so_far.fits, names, come, timed, fails) refl
+
+pub none : (world : WorldState) (form : Form) → Fits world form → names_device (length world.devices) form ≡ true
+    → has_come world.sent world.uplinks world.time form ≡ true → is_to_come world.time form ≡ true → has_more world.server form ≡ true
+    → form_cause world form ≡ None
+unfolding form_cause
+none world form so_far names come timed more = rw (so_far.comes, so_far.ranges, so_far.fits, names, come, timed, more) refl
+
+-- ---- at its start the server has something to send
+
+versions : (n i : ℕ) → asks_status (slice_get (replicate n (At Version)) i) ≡ false
+versions zero i = refl
+versions (suc n) zero = refl
+versions (suc n) (suc i) = versions n i
+
+versions_at : (n dev i : ℕ) → asks_status (cond (dev == 0) None (slice_get (replicate n (At Version)) i)) ≡ false
+versions_at n dev i = by_test (dev == 0)
+  where
+    by_test : (b : Bool) → asks_status (cond b None (slice_get (replicate n (At Version)) i)) ≡ false
+    by_test true = refl
+    by_test false = versions n i
+
+numbered_versions : (n dev : ℕ) → asks_status (numbered (replicate n (At Version)) dev) ≡ false
+numbered_versions n dev = versions_at n dev (dev - 1)
+
+some_piece : (len frag_size n : ℕ) → 1 ≤ len → len ≤ n * frag_size → 1 ≤ n
+some_piece len frag_size zero some fits = absurd (omega (arith, some, fits))
+some_piece len frag_size (suc n) some fits = omega arith
+
+not_below : (n : ℕ) → 1 ≤ n → nat_lt n 1 ≡ false
+not_below zero some = absurd (omega (arith, some))
+not_below (suc n) some = grind (arith, nat_tests)
+
+pieces_and : (n parity : ℕ) → 1 ≤ n → 1 ≤ n + parity
+pieces_and n parity some = omega (arith, some)
+
+first_fragment : (image : List ℕ) (plan : Plan) → is_image image ≡ true → 1 ≤ plan.frag_size → plan.group ≡ None → is_ok (next_fragment (first_server image plan)) ≡ true
+unfolding next_fragment
+first_fragment image plan fine some no_group =
+    let bound = (div_ceil_times (length image) plan.frag_size some).0 in
+    let pieces : 1 ≤ nb_frag_of (length image) plan.frag_size = some_piece (length image) plan.frag_size (nb_frag_of (length image) plan.frag_size) (omega (arith, image_long image fine)) bound in
+    rw (not_below (last_fragment (first_server image plan)) (pieces_and _ _ pieces), no_group) refl
+
+-- before the first event something is left to send for each form that may come
+pub unmade_sends : (image : List ℕ) (section : Section) (plan : Plan) (devices : List HeldDevice) (form : Form) → is_image image ≡ true
+    → IsPlanned image section plan devices None → is_taken form ≡ true → may_come section form ≡ true → has_more (first_server image plan) form ≡ true
+unmade_sends image section plan devices form.Frag fine planned taken comes = by_section section planned comes
+  where
+    sized : IsSized image plan devices → is_ok (next_fragment (first_server image plan)) ≡ true
+    sized is = first_fragment image plan fine (leb-true _ _ (and_parts _ _ (and_parts _ _ is.size).0).0) is.no_group
+
+    by_section : (section : Section) → IsPlanned image section plan devices None → may_come section form.Frag ≡ true → is_ok (next_fragment (first_server image plan)) ≡ true
+    by_section place.Header planned comes = absurd cc
+    by_section place.Image planned comes = absurd cc
+    by_section place.Group planned comes = absurd cc
+    by_section place.Window planned comes = absurd cc
+    by_section place.Device planned comes = absurd cc
+    by_section place.Devices planned comes = sized planned.0
+    by_section place.Events planned comes = absurd cc
+    by_section place.Ended planned comes = absurd cc
+unmade_sends image section plan devices (form.Ask device) fine planned taken comes = rw (numbered_versions (length plan.devices) device) refl
+unmade_sends image section plan devices form.Status fine planned taken comes = absurd cc
+unmade_sends image section plan devices form.Header fine planned taken comes = refl
+unmade_sends image section plan devices (form.Image frag_size parity) fine planned taken comes = refl
+unmade_sends image section plan devices (form.Group addr key min max) fine planned taken comes = refl
+unmade_sends image section plan devices (form.WindowC start timeout freq dr) fine planned taken comes = refl
+unmade_sends image section plan devices (form.WindowB start periodicity timeout freq dr) fine planned taken comes = refl
+unmade_sends image section plan devices (form.Device id class hw rows offset key descriptor) fine planned taken comes = refl
+unmade_sends image section plan devices (form.At time) fine planned taken comes = refl
+unmade_sends image section plan devices (form.Wake device) fine planned taken comes = refl
+unmade_sends image section plan devices (form.Down number device word) fine planned taken comes = refl
+unmade_sends image section plan devices (form.Up number) fine planned taken comes = refl
+unmade_sends image section plan devices form.End fine planned taken comes = refl
+
+-- ---- the image is the one that is held
+
+pub image_held : (image : List ℕ) (plan : Plan) (devices : List HeldDevice) (server : Option ServerState) → ServerIs image devices server
+    → (server_of image plan server).image ≡ image
+image_held image plan devices None built = refl
+image_held image plan devices (Some server) built = built.image_is
+
+pub numbered_alike : (image : List ℕ) (devices : List HeldDevice) (server : ServerState) (count : ℕ) → ServerIs image devices (Some server) → count ≡ length devices → length server.plan.devices ≡ count
+numbered_alike image devices server count built is = built.numbers ∙ sym is
+
+-- an image line that is in range has a fragment size from 1 to 239
+pub size_in_range : (f : Form) → in_range f ≡ true → (frag_size parity : ℕ) → f ≡ form.Image frag_size parity → (1 ≤ frag_size) × (frag_size ≤ 239)
+unfolding in_range
+size_in_range f ranges frag_size parity is =
+    let both : (nat_le 1 frag_size && nat_le frag_size 239 && nat_le parity 512) ≡ true = rw is at ranges in
+    let first = (and_parts _ _ both).0 in
+    (leb-true _ _ (and_parts _ _ first).0, leb-true _ _ (and_parts _ _ first).1)
+
+-- ---- what the tests of the code say, of the campaign that is stood for
+
+pub fits_from : (image : List ℕ) (plan : Plan) (held : List HeldDevice) (server : Option ServerState) (devices : List DeviceState) (f : Form) (test : Bool) (img : List ℕ) (hd : List HeldDevice)
+    → ServerIs image held server → length devices ≡ length held → img ≡ image → hd ≡ held → test ≡ fits_script (length img) (length hd) f
+    → fits_script (length (server_of image plan server).image) (length devices) f ≡ test
+fits_from image plan held server devices f test img hd built count img_is hd_is is = rw (image_held image plan held server built, count, ← img_is, ← hd_is) (sym is)
+
+pub names_from : (held : List HeldDevice) (devices : List DeviceState) (f : Form) (test : Bool) (hd : List HeldDevice)
+    → length devices ≡ length held → hd ≡ held → test ≡ names_device (length hd) f → names_device (length devices) f ≡ test
+names_from held devices f test hd count hd_is is = rw (count, ← hd_is) (sym is)
+
+pub come_from : (sent : List SentPayload) (uplinks : List MadeUplink) (now : ℕ) (f : Form) (test : Bool) (ss : List SentPayload) (us : List MadeUplink)
+    → ss ≡ sent → us ≡ uplinks → test ≡ has_come ss us now f → has_come sent uplinks now f ≡ test
+come_from sent uplinks now f test ss us ss_is us_is is = rw (← ss_is, ← us_is) (sym is)
+
+pub more_from : (image : List ℕ) (plan : Plan) (server : Option ServerState) (s : ServerState) (f : Form) (test : Bool)
+    → server ≡ Some s → test ≡ has_more s f → has_more (server_of image plan server) f ≡ test
+more_from image plan server s f test there is = rw (there) (sym is)
+
+pub unmade_from : (image : List ℕ) (section : Section) (plan : Plan) (devices : List HeldDevice) (server : Option ServerState) (f : Form) → is_image image ≡ true
+    → server ≡ None → IsPlanned image section plan devices server → is_taken f ≡ true → may_come section f ≡ true → has_more (server_of image plan server) f ≡ true
+unmade_from image section plan devices server f fine none planned taken comes =
+    rw (none) (unmade_sends image section plan devices f fine (rw none at planned) taken comes)
+
+-- ---- the causes of a line
+
+pub many_lines : (world : WorldState) (line : List ℕ) → max_lines ≤ world.lines → cause_of world line ≡ Some why.Limit
+unfolding cause_of
+many_lines world line many = rw (le-leb _ _ many) refl
+
+pub long_line : (world : WorldState) (line : List ℕ) → max_line < length line → cause_of world line ≡ Some why.Limit
+unfolding cause_of
+long_line world line long = rw (lt-ltb _ _ long, or-true) refl
+
+not_le : (a b : ℕ) → b < a → nat_le a b ≡ false
+not_le a b below = grind (arith, nat_tests)
+
+not_lt : (a b : ℕ) → b ≤ a → nat_lt a b ≡ false
+not_lt a b below = grind (arith, nat_tests)
+
+pub of_form : (world : WorldState) (line : List ℕ) (form : Option Form) (cause : Option LineWhy) → world.lines < max_lines → length line ≤ max_line
+    → form ≡ form_of line → cause_of_form world form ≡ cause → cause_of world line ≡ cause
+unfolding cause_of
+of_form world line form cause few short is gives = rw (not_le max_lines world.lines few, not_lt max_line (length line) short, ← is) gives
+
+pub not_taken : (world : WorldState) (form : Form) → is_taken form ≡ false → cause_of_form world (Some form) ≡ Some why.Syntax
+not_taken world form other = rw (other) refl
+
+pub taken : (world : WorldState) (form : Form) (cause : Option LineWhy) → is_taken form ≡ true → cause ≡ form_cause world form → cause_of_form world (Some form) ≡ cause
+taken world form cause is gives = rw (is) (sym gives)
+
+pub no_form : (world : WorldState) (form : Option Form) → form ≡ None → cause_of_form world form ≡ Some why.Syntax
+no_form world form is = rw (is) refl
+
+pub the_form : (world : WorldState) (found : Option Form) (form : Form) (cause : Option LineWhy) → found ≡ Some form → cause_of_form world (Some form) ≡ cause → cause_of_form world found ≡ cause
+the_form world found form cause is gives = rw (is) gives
+
+-- ---- a form of which no cause holds
+
+pub record Passes (world : WorldState) (form : Form) : Type 0 where
+  pub comes : may_come world.section form ≡ true
+  pub ranges : in_range form ≡ true
+  pub fits : fits_script (length world.server.image) (length world.devices) form ≡ true
+  pub names : names_device (length world.devices) form ≡ true
+  pub come : has_come world.sent world.uplinks world.time form ≡ true
+  pub timed : is_to_come world.time form ≡ true
+
+-- a test that fails gives no cause
+passed : (test : Bool) (cause : LineWhy) (rest : Option LineWhy) → cond (not test) (Some cause) rest ≡ None → (test ≡ true) × (rest ≡ None)
+passed true cause rest is = (refl, is)
+passed false cause rest is = absurd cc
+
+pub passes : (world : WorldState) (form : Form) → form_cause world form ≡ None → Passes world form
+unfolding form_cause
+passes world form fine =
+    let one = passed (may_come world.section form) _ _ fine in
+    let two = passed (in_range form && fits_script (length world.server.image) (length world.devices) form) _ _ one.1 in
+    let both = and_parts _ _ two.0 in
+    let three = passed (names_device (length world.devices) form) _ _ two.1 in
+    let four = passed (has_come world.sent world.uplinks world.time form) _ _ three.1 in
+    let five = passed (is_to_come world.time form) _ _ four.1 in
+    record { comes = one.0; ranges = both.0; fits = both.1; names = three.0; come = four.0; timed = five.0 }
+
+-- ---- what it is that the form of an event names
+
+named_within : (count device : ℕ) → is_device count device ≡ true → (1 ≤ device) × (device ≤ count)
+named_within count device is = let both = and_parts _ _ is in (leb-true 1 device both.0, leb-true device count both.1)
+
+pub asked_within : (count : ℕ) (f : Form) (device : ℕ) → names_device count f ≡ true → f ≡ form.Ask device → (1 ≤ device) × (device ≤ count)
+asked_within count f device names is = named_within count device (rw is at names)
+
+pub reached_within : (count : ℕ) (f : Form) (number device word : ℕ) → names_device count f ≡ true → f ≡ form.Down number device word → (1 ≤ device) × (device ≤ count)
+reached_within count f number device word names is = named_within count device (rw is at names)
+
+pub word_within : (f : Form) (number device word : ℕ) → in_range f ≡ true → f ≡ form.Down number device word → word < 2 ^ 32
+unfolding in_range
+word_within f number device word ranges is = let fits : nat_lt word (2 ^ 32) ≡ true = rw is at ranges in ltb-true _ _ fits
+
+pub time_within : (f : Form) (time : ℕ) → in_range f ≡ true → f ≡ form.At time → time ≤ max_time
+unfolding in_range
+time_within f time ranges is = let fits : nat_le time max_time ≡ true = rw is at ranges in leb-true _ _ fits
+
+-- ---- what is fine of what is held
+
+some_devices : (n : ℕ) → (ds : List DeviceState) × (length ds ≡ n)
+some_devices zero = ([], refl)
+some_devices (suc n) = let more = some_devices n in (device_of class.C 0 0 0 [] None ∷ more.0, ap suc more.1)
+
+pub record Fine (held : HeldWorld) (form : Form) : Type 0 where
+  pub comes : may_come held.section form ≡ true
+  pub ranges : in_range form ≡ true
+  pub fits : fits_script (length (server_of held.image held.plan held.server).image) (length held.devices) form ≡ true
+  pub names : names_device (length held.devices) form ≡ true
+  pub come : has_come held.sent held.uplinks held.time form ≡ true
+
+pub fine_of : (held : HeldWorld) (form : Form) → IsFine held form → Fine held form
+fine_of held form fine =
+    let some = some_devices (length held.devices) in
+    let all = passes (world_of held some.0) form (fine some.0 some.1) in
+    record {
+      comes = all.comes;
+      ranges = all.ranges;
+      fits = subst (λ (n : ℕ). fits_script (length (server_of held.image held.plan held.server).image) n form ≡ true) some.1 all.fits;
+      names = subst (λ (n : ℕ). names_device n form ≡ true) some.1 all.names;
+      come = all.come;
+    }
+
+-- ---- where a form may come
+
+at_events_only : (test : Section → Bool) → test place.Header ≡ false → test place.Image ≡ false → test place.Group ≡ false → test place.Window ≡ false → test place.Device ≡ false → test place.Ended ≡ false
+    → (s : Section) → test s ≡ true → (s ≡ place.Devices) ⊎ (s ≡ place.Events)
+at_events_only test one two three four five six place.Header comes = absurd cc
+at_events_only test one two three four five six place.Image comes = absurd cc
+at_events_only test one two three four five six place.Group comes = absurd cc
+at_events_only test one two three four five six place.Window comes = absurd cc
+at_events_only test one two three four five six place.Device comes = absurd cc
+at_events_only test one two three four five six place.Devices comes = inl refl
+at_events_only test one two three four five six place.Events comes = inr refl
+at_events_only test one two three four five six place.Ended comes = absurd cc
+
+event_at : (s : Section) (f : Form) → is_event_or_end f ≡ true → may_come s f ≡ true → (s ≡ place.Devices) ⊎ (s ≡ place.Events)
+event_at s form.Header event comes = absurd cc
+event_at s (form.Image frag_size parity) event comes = absurd cc
+event_at s (form.Group addr key min max) event comes = absurd cc
+event_at s (form.WindowC start timeout freq dr) event comes = absurd cc
+event_at s (form.WindowB start periodicity timeout freq dr) event comes = absurd cc
+event_at s (form.Device id class hw rows offset key descriptor) event comes = absurd cc
+event_at s (form.At time) event comes = at_events_only (λ (x : Section). may_come x (form.At time)) refl refl refl refl refl refl s comes
+event_at s (form.Wake device) event comes = at_events_only (λ (x : Section). may_come x (form.Wake device)) refl refl refl refl refl refl s comes
+event_at s (form.Ask device) event comes = at_events_only (λ (x : Section). may_come x (form.Ask device)) refl refl refl refl refl refl s comes
+event_at s form.Frag event comes = at_events_only (λ (x : Section). may_come x form.Frag) refl refl refl refl refl refl s comes
+event_at s form.Status event comes = at_events_only (λ (x : Section). may_come x form.Status) refl refl refl refl refl refl s comes
+event_at s (form.Down number device word) event comes = at_events_only (λ (x : Section). may_come x (form.Down number device word)) refl refl refl refl refl refl s comes
+event_at s (form.Up number) event comes = at_events_only (λ (x : Section). may_come x (form.Up number)) refl refl refl refl refl refl s comes
+event_at s form.End event comes = at_events_only (λ (x : Section). may_come x form.End) refl refl refl refl refl refl s comes
+
+-- what a world holds where an event may come
+pub begins_at : (held : HeldWorld) (f : Form) → is_event_or_end f ≡ true → may_come held.section f ≡ true
+    → IsPlanned held.image held.section held.plan held.devices held.server → IsToBegin held
+begins_at held f event comes planned = by_section (event_at held.section f event comes)
+  where
+    by_section : (held.section ≡ place.Devices) ⊎ (held.section ≡ place.Events) → IsToBegin held
+    by_section (inl is) = let there = subst (λ (s : Section). IsPlanned held.image s held.plan held.devices held.server) is planned in inr (there.0, there.1)
+    by_section (inr is) = inl (subst (λ (s : Section). IsPlanned held.image s held.plan held.devices held.server) is planned)
+
+pub image_at : (s : Section) (f : Form) (frag_size parity : ℕ) → f ≡ form.Image frag_size parity → may_come s f ≡ true → s ≡ place.Image
+image_at s f frag_size parity is comes = by_section s (rw is at comes)
+  where
+    by_section : (s : Section) → may_come s (form.Image frag_size parity) ≡ true → s ≡ place.Image
+    by_section place.Header comes = absurd cc
+    by_section place.Image comes = refl
+    by_section place.Group comes = absurd cc
+    by_section place.Window comes = absurd cc
+    by_section place.Device comes = absurd cc
+    by_section place.Devices comes = absurd cc
+    by_section place.Events comes = absurd cc
+    by_section place.Ended comes = absurd cc
+
+pub header_at : (s : Section) (f : Form) → f ≡ form.Header → may_come s f ≡ true → s ≡ place.Header
+header_at s f is comes = by_section s (rw is at comes)
+  where
+    by_section : (s : Section) → may_come s form.Header ≡ true → s ≡ place.Header
+    by_section place.Header comes = refl
+    by_section place.Image comes = absurd cc
+    by_section place.Group comes = absurd cc
+    by_section place.Window comes = absurd cc
+    by_section place.Device comes = absurd cc
+    by_section place.Devices comes = absurd cc
+    by_section place.Events comes = absurd cc
+    by_section place.Ended comes = absurd cc
+
+pub joins_at : (image : List ℕ) (s : Section) (plan : Plan) (devices : List HeldDevice) (server : Option ServerState) (f : Form) (id hw rows offset : ℕ) (k : Class) (key : List ℕ) (descriptor : Option ℕ)
+    → f ≡ form.Device id k hw rows offset key descriptor → may_come s f ≡ true → IsPlanned image s plan devices server → IsSized image plan devices × (server ≡ None)
+joins_at image s plan devices server f id hw rows offset k key descriptor is comes planned = by_section s (rw is at comes) planned
+  where
+    by_section : (s : Section) → may_come s (form.Device id k hw rows offset key descriptor) ≡ true → IsPlanned image s plan devices server → IsSized image plan devices × (server ≡ None)
+    by_section place.Header comes planned = absurd cc
+    by_section place.Image comes planned = absurd cc
+    by_section place.Group comes planned = planned
+    by_section place.Window comes planned = absurd cc
+    by_section place.Device comes planned = planned
+    by_section place.Devices comes planned = (planned.0, planned.2)
+    by_section place.Events comes planned = absurd cc
+    by_section place.Ended comes planned = absurd cc
+
+pub class_c : (f : Form) (id hw rows offset : ℕ) (k : Class) (key : List ℕ) (descriptor : Option ℕ) → f ≡ form.Device id k hw rows offset key descriptor → is_taken f ≡ true → k ≡ class.C
+class_c f id hw rows offset k key descriptor is taken = by_class k (rw is at taken)
+  where
+    by_class : (k : Class) → is_taken (form.Device id k hw rows offset key descriptor) ≡ true → k ≡ class.C
+    by_class class.A taken = absurd cc
+    by_class class.C taken = refl
+
+-- an image line that is fine has numbers that a plan takes
+pub cuts_well : (image : List ℕ) (count : ℕ) (f : Form) (frag_size parity : ℕ) → f ≡ form.Image frag_size parity → in_range f ≡ true → fits_script (length image) count f ≡ true
+    → (is_frag_size (length image) frag_size ≡ true) × (frag_size ≤ 239) × (parity ≤ 512)
+unfolding in_range
+cuts_well image count f frag_size parity is ranges fits =
+    let both : (nat_le 1 frag_size && nat_le frag_size 239 && nat_le parity 512) ≡ true = rw is at ranges in
+    let first = and_parts _ _ both in
+    let number : nat_le (nb_frag_of (length image) frag_size) 1024 ≡ true = rw is at fits in
+    let low : (nat_le 1 frag_size && nat_le frag_size 239) ≡ true = first.0 in
+    (rw (low, number) refl, leb-true _ _ (and_parts _ _ first.0).1, leb-true _ _ first.1)
+
+-- and a device line, numbers that a device takes
+pub record Fitting (count id hw rows offset : ℕ) : Type 0 where
+  pub hw_fits : hw < 2 ^ 32
+  pub few : rows ≤ 64
+  pub offset_fits : offset < 2 ^ 32
+  pub next : count < 64
+
+pub fitting : (len count : ℕ) (f : Form) (id hw rows offset : ℕ) (k : Class) (key : List ℕ) (descriptor : Option ℕ) → f ≡ form.Device id k hw rows offset key descriptor → in_range f ≡ true
+    → fits_script len count f ≡ true → Fitting count id hw rows offset
+unfolding in_range
+fitting len count f id hw rows offset k key descriptor is ranges fits =
+    let all : (nat_le 1 id && nat_le id 64 && nat_lt hw (2 ^ 32) && nat_le rows 64 && nat_lt offset (2 ^ 32)) ≡ true = rw is at ranges in
+    let a = and_parts (nat_le 1 id && nat_le id 64 && nat_lt hw (2 ^ 32) && nat_le rows 64) (nat_lt offset (2 ^ 32)) all in
+    let b = and_parts (nat_le 1 id && nat_le id 64 && nat_lt hw (2 ^ 32)) (nat_le rows 64) a.0 in
+    let c = and_parts (nat_le 1 id && nat_le id 64) (nat_lt hw (2 ^ 32)) b.0 in
+    let d = and_parts (nat_le 1 id) (nat_le id 64) c.0 in
+    let next : (id == count + 1 && nat_le id 1) ≡ true = rw is at fits in
+    let both = and_parts (id == count + 1) (nat_le id 1) next in
+    let is_next : id ≡ count + 1 = grind (arith, nat_tests, both.0) in
+    record {
+      hw_fits = ltb-true _ _ c.1;
+      few = leb-true _ _ b.1;
+      offset_fits = ltb-true _ _ a.1;
+      next = omega (arith, is_next, leb-true id 64 d.1);
+    }
+
+-- the script's image is the one that is held
+pub fits_held : (held : HeldWorld) (f : Form) → ServerIs held.image held.devices held.server → Fine held f → fits_script (length held.image) (length held.devices) f ≡ true
+fits_held held f built fine = subst (λ (i : List ℕ). fits_script (length i) (length held.devices) f ≡ true) (image_held held.image held.plan held.devices held.server built) fine.fits
+
+-- ---- the plan behind the devices has no wrong field
+
+pub plans_well : (image : List ℕ) (plan : Plan) (devices : List HeldDevice) → IsSized image plan devices → 1 ≤ length devices → bad_field (length image) plan ≡ None
+unfolding bad_field
+plans_well image plan devices sized some =
+    let first : 1 ≤ length plan.devices = rw (sized.numbers) some in
+    let last : length plan.devices ≤ 64 = rw (sized.numbers) sized.count in
+    rw (sized.size, not_lt 512 plan.parity sized.few, sized.no_group, sized.no_window, le-leb 1 (length plan.devices) first, le-leb (length plan.devices) 64 last) refl
+
+-- so a server that is to begin is made
+pub begins_well : (held : HeldWorld) (field : Field) → IsToBegin held → is_some held.server ≡ false → bad_field (length held.image) held.plan ≡ Some field → ⊥
+begins_well held field begins unmade bad = by_begun begins
+  where
+    by_begun : IsToBegin held → ⊥
+    by_begun (inl made) = let there = made.1 in absurd cc
+    by_begun (inr planned) = let fine = plans_well held.image held.plan held.devices planned.0 planned.1 in absurd cc

@@ -1,0 +1,17 @@
+pub mod Zips
+pub mod Outboxes
+pub mod Outcomes
+pub mod FormCauses
+pub mod Steps
+pub mod Lines
+pub mod SessionSteps
+pub mod HeadlineCommands
+pub mod HeadlinePayloads
+pub mod HeadlineImage
+pub mod HeadlineEnds
+pub mod HeadlineWorlds
+pub mod HeadlineForms
+pub mod HeadlineLines
+pub mod HeadlineSessions
+pub mod HeadlineHeard
+pub mod HeadlineLaw

@@ -1,0 +1,130 @@
+-- What a line is answered, and what a report says, of a world that stands for a campaign.
+use Rattle.std.proofs.Common.{◌≡◌, ℕ, ◌≤◌, ◌+◌, ◌-◌, zero, suc, true, false, ◌==◌, List, [], ◌∷◌, ◌++◌, length, drop, slice_get, codes, Option, Some, None, Result, Ok, Err, OnOk, IfErr, refl, sym, ap, ◌∙◌, subst, arith, append_assoc, append-nil}
+use Rattle.std.proofs.lemmas.Bool.Decides.{nat_tests}
+use Rattle.device_core.specs.Device.{DeviceState}
+use Rattle.campaign_server.specs.declared.stage.Stage.{Stage}
+use Rattle.campaign_server.specs.Server.{ServerState, numbered}
+use Rattle.script_lines.specs.declared.forms.Form.{Form}
+use Rattle.script_lines.specs.Forms.{form_of}
+use Rattle.campaign_world.specs.declared.faults.LineError.{LineError}
+use Rattle.campaign_world.specs.declared.faults.LineError.TheVariants as error
+use Rattle.campaign_world.specs.declared.faults.LineWhy.{LineWhy}
+use Rattle.campaign_world.specs.declared.faults.LineWhy.TheVariants as why
+use Rattle.campaign_world.specs.declared.section.Section.{Section}
+use Rattle.campaign_world.specs.declared.section.Section.TheVariants as section
+use Rattle.campaign_world.specs.World.{WorldState}
+use Rattle.campaign_world.specs.Causes.{cause_of, has_ended}
+use Rattle.campaign_world.specs.Making.{after_form}
+use Rattle.campaign_world.specs.Script.{one_line_more, after_line, end_result_at}
+use Rattle.campaign_world.specs.Report.{◌⧺◌, image_line, device_part, device_parts, report_of}
+use Rattle.campaign_world.specs.HeldWorld.{HeldWorld, WorldStands, WorldBecomes, DeviceRests, IsLineAnswer, IsCauseOf, world_of}
+use Rattle.campaign_world.proofs.Zips.{zip_long}
+
+-- ---- a line
+
+-- the cause of what is held is the campaign's
+pub cause_stands : (held : HeldWorld) (world : WorldState) (line : List ℕ) (cause : Option LineWhy) → WorldStands held world → IsCauseOf held line cause → cause_of world line ≡ cause
+cause_stands held world line cause stands is =
+    subst (λ (w : WorldState). cause_of w line ≡ cause) (sym stands.rest) (is world.devices (zip_long DeviceRests held.devices world.devices stands.devices))
+
+pub lines_stand : (held : HeldWorld) (world : WorldState) → WorldStands held world → held.lines + 1 ≡ world.lines + 1
+lines_stand held world stands = ap (λ (w : WorldState). w.lines + 1) (sym stands.rest)
+
+-- a line that is taken
+pub line_taken : (old new : HeldWorld) (world : WorldState) (line : List ℕ) (form : Form) → WorldStands old world → form_of line ≡ Some form
+    → WorldBecomes old new (λ world. one_line_more (after_form world form)) → WorldStands new (after_line world line)
+unfolding after_line
+line_taken old new world line form stands is becomes = rw (is) (becomes world stands)
+
+pub line_answer : (world : WorldState) (line : List ℕ) (new : HeldWorld) (result : Result (Unit {0}) LineError)
+    → OnOk result ((cause_of world line ≡ None) × WorldStands new (after_line world line) × (new.kept ≡ None))
+    → IfErr result (λ e. e ≡ error.Memory) → IsLineAnswer world line new result
+line_answer world line new (Ok done) taken memory = taken
+line_answer world line new (Err error.Memory) taken memory = tt
+line_answer world line new (Err (error.Line fault)) taken memory = absurd cc
+
+-- ---- a report
+
+pub ended : (world : WorldState) → world.section ≡ section.Ended → end_result_at world.section world ≡ Ok world
+ended world is = rw (is) refl
+
+pub section_stands : (held : HeldWorld) (world : WorldState) → WorldStands held world → world.section ≡ held.section
+section_stands held world stands = ap (λ (w : WorldState). w.section) stands.rest
+
+told_of_held : (held : HeldWorld) (ds : List DeviceState) (server : ServerState) (text : List ℕ) → held.server ≡ Some server
+    → text ≡ codes "fuota report 1\n" ⧺ image_line server ⧺ device_parts server.image 1 server.stages ds ⧺ codes "end\n" → text ≡ report_of (world_of held ds)
+unfolding report_of
+told_of_held held ds server text there is = rw (there) is
+
+pub told : (held : HeldWorld) (world : WorldState) (server : ServerState) (text : List ℕ) → WorldStands held world → held.server ≡ Some server
+    → text ≡ codes "fuota report 1\n" ⧺ image_line server ⧺ device_parts server.image 1 server.stages world.devices ⧺ codes "end\n" → text ≡ report_of world
+told held world server text stands there is = subst (λ (w : WorldState). text ≡ report_of w) (sym stands.rest) (told_of_held held world.devices server text there is)
+
+-- ---- the parts of its devices
+
+drop_at : {A : Type 0} (xs : List A) (i j : ℕ) (x : A) → j ≡ i + 1 → slice_get xs i ≡ Some x → drop i xs ≡ x ∷ drop j xs
+drop_at [] i j x next there = absurd cc
+drop_at (a ∷ xs) zero j x next there = let same : a ≡ x = cc in rw (same, next) refl
+drop_at (a ∷ xs) (suc i) zero x next there = absurd (omega (arith, next))
+drop_at (a ∷ xs) (suc i) (suc j) x next there = drop_at xs i j x (omega (arith, next)) there
+
+drop_all : {A : Type 0} (xs : List A) (i : ℕ) → length xs ≤ i → drop i xs ≡ []
+drop_all [] zero past = refl
+drop_all [] (suc i) past = refl
+drop_all (a ∷ xs) zero past = absurd (omega (arith, past))
+drop_all (a ∷ xs) (suc i) past = drop_all xs i (omega (arith, past))
+
+no_parts : (image : List ℕ) (id : ℕ) (stages : List Stage) → device_parts image id stages [] ≡ []
+unfolding device_parts
+no_parts image id [] = refl
+no_parts image id (stage ∷ stages) = refl
+
+pub all_told : (image text all : List ℕ) (id i : ℕ) (stages : List Stage) (ds : List DeviceState) → length ds ≤ i → text ++ device_parts image id stages (drop i ds) ≡ all → text ≡ all
+all_told image text all id i stages ds past so_far =
+    let none = drop_all ds i past in
+    let empty : text ++ [] ≡ all = rw (none, no_parts image id stages) at so_far in
+    sym (append-nil text) ∙ empty
+
+got_at : {A : Type 0} (items : List A) (n i : ℕ) (x : A) → n ≡ i + 1 → numbered items n ≡ Some x → slice_get items i ≡ Some x
+got_at items n i x is there =
+    let first : n - 1 ≡ i = omega (arith, is) in
+    let some : (n == 0) ≡ false = grind (arith, nat_tests, is) in
+    subst (λ (k : ℕ). slice_get items k ≡ Some x) first (rw some at there)
+
+pub part_told : (image text part new all : List ℕ) (id i : ℕ) (stages : List Stage) (ds : List DeviceState) (stage : Stage) (d : DeviceState)
+    → id ≡ i + 1 → numbered stages id ≡ Some stage → slice_get ds i ≡ Some d → new ≡ text ++ part → part ≡ device_part image id stage d
+    → text ++ device_parts image id (drop i stages) (drop i ds) ≡ all → new ++ device_parts image (id + 1) (drop (i + 1) stages) (drop (i + 1) ds) ≡ all
+unfolding device_parts
+part_told image text part new all id i stages ds stage d id_is staged there new_is part_is so_far =
+    let cut_stages = drop_at stages i (i + 1) stage refl (got_at stages id i stage id_is staged) in
+    let cut_devices = drop_at ds i (i + 1) d refl there in
+    rw (new_is, append_assoc, part_is) (rw (cut_stages, cut_devices) at so_far)
+
+-- ---- whether the script has ended
+
+pub is_ended : (s : Section) → has_ended s ≡ true → s ≡ section.Ended
+is_ended section.Header is = absurd cc
+is_ended section.Image is = absurd cc
+is_ended section.Group is = absurd cc
+is_ended section.Window is = absurd cc
+is_ended section.Device is = absurd cc
+is_ended section.Devices is = absurd cc
+is_ended section.Events is = absurd cc
+is_ended section.Ended is = refl
+
+not_ended_at : (s : Section) (world : WorldState) → has_ended s ≡ false → end_result_at s world ≡ Err (record { line = world.lines + 1; why = why.Syntax })
+not_ended_at section.Header world is = refl
+not_ended_at section.Image world is = refl
+not_ended_at section.Group world is = refl
+not_ended_at section.Window world is = refl
+not_ended_at section.Device world is = refl
+not_ended_at section.Devices world is = refl
+not_ended_at section.Events world is = refl
+not_ended_at section.Ended world is = absurd cc
+
+-- a script that has not ended lacks its next line
+pub not_ended : (held : HeldWorld) (world : WorldState) → WorldStands held world → has_ended held.section ≡ false
+    → end_result_at world.section world ≡ Err (record { line = held.lines + 1; why = why.Syntax })
+not_ended held world stands is =
+    let here : has_ended world.section ≡ false = rw (section_stands held world stands) is in
+    rw (lines_stand held world stands) (not_ended_at world.section world here)

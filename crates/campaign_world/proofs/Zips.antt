@@ -1,0 +1,55 @@
+-- Two lists that stand for one another, one by one.
+use Rattle.std.proofs.Common.{◌≡◌, ℕ, ◌<◌, length, List, [], ◌∷◌, ◌++◌, Some, slice_get, zero, suc, refl, sym, subst, arith}
+use Rattle.std.specs.List.{AllByRecursion, AllZip, slice_set, slice_index_or}
+
+-- the one at a place
+pub zip_get : {A B : Type 0} (R : A → B → Type 0) (xs : List A) (ys : List B) (i : ℕ) (x : A) → AllZip R xs ys → i < length xs → x ≡ slice_index_or xs i x
+    → (y : B) × (slice_get ys i ≡ Some y) × R x y
+zip_get R [] ys i x all low is = absurd (omega arith)
+zip_get R (a ∷ xs) [] i x all low is = absurd all
+zip_get R (a ∷ xs) (b ∷ ys) zero x all low is = (b, refl, subst (λ z. R z b) (sym is) all.0)
+zip_get R (a ∷ xs) (b ∷ ys) (suc i) x all low is = zip_get R xs ys i x all.1 (omega arith) is
+
+-- one more
+pub zip_more : {A B : Type 0} (R : A → B → Type 0) (xs : List A) (ys : List B) (x : A) (y : B) → AllZip R xs ys → R x y → AllZip R (xs ++ x ∷ []) (ys ++ y ∷ [])
+zip_more R [] [] x y all one = (one, tt)
+zip_more R [] (b ∷ ys) x y all one = absurd all
+zip_more R (a ∷ xs) [] x y all one = absurd all
+zip_more R (a ∷ xs) (b ∷ ys) x y all one = (all.0, zip_more R xs ys x y all.1 one)
+
+pub zip_long : {A B : Type 0} (R : A → B → Type 0) (xs : List A) (ys : List B) → AllZip R xs ys → length ys ≡ length xs
+zip_long R [] [] all = refl
+zip_long R [] (b ∷ ys) all = absurd all
+zip_long R (a ∷ xs) [] all = absurd all
+zip_long R (a ∷ xs) (b ∷ ys) all = let more = zip_long R xs ys all.1 in cc
+
+pub zip_set : {A B : Type 0} (R : A → B → Type 0) (xs : List A) (ys : List B) (i : ℕ) (x : A) (y : B) → AllZip R xs ys → R x y → AllZip R (slice_set xs i x) (slice_set ys i y)
+zip_set R [] [] i x y all one = tt
+zip_set R [] (b ∷ ys) i x y all one = absurd all
+zip_set R (a ∷ xs) [] i x y all one = absurd all
+zip_set R (a ∷ xs) (b ∷ ys) zero x y all one = (one, all.1)
+zip_set R (a ∷ xs) (b ∷ ys) (suc i) x y all one = (all.0, zip_set R xs ys i x y all.1 one)
+
+-- the two at a place
+pub zip_at : {A B : Type 0} (R : A → B → Type 0) (xs : List A) (ys : List B) (i : ℕ) (x : A) (y : B) → AllZip R xs ys → x ≡ slice_index_or xs i x → i < length xs → slice_get ys i ≡ Some y → R x y
+zip_at R xs ys i x y all is low there =
+    let one = zip_get R xs ys i x all low is in
+    let same : one.0 ≡ y = cc in
+    subst (λ z. R x z) same one.2
+
+pub zip_some : {A B : Type 0} (R : A → B → Type 0) (xs : List A) (ys : List B) (i : ℕ) → AllZip R xs ys → i < length xs → (y : B) × (slice_get ys i ≡ Some y)
+zip_some R [] ys i all low = absurd (omega arith)
+zip_some R (a ∷ xs) [] i all low = absurd all
+zip_some R (a ∷ xs) (b ∷ ys) zero all low = (b, refl)
+zip_some R (a ∷ xs) (b ∷ ys) (suc i) all low = zip_some R xs ys i all.1 (omega arith)
+
+-- ---- one list
+
+pub all_more : {A : Type 0} (P : A → Type 0) (xs : List A) (x : A) → AllByRecursion P xs → P x → AllByRecursion P (xs ++ x ∷ [])
+all_more P [] x all one = (one, tt)
+all_more P (a ∷ xs) x all one = (all.0, all_more P xs x all.1 one)
+
+pub long_set : {A : Type 0} (xs : List A) (i : ℕ) (x : A) → length (slice_set xs i x) ≡ length xs
+long_set [] i x = refl
+long_set (a ∷ xs) zero x = refl
+long_set (a ∷ xs) (suc i) x = let more = long_set xs i x in cc

@@ -1,0 +1,10 @@
+use Rattle.std.proofs.Common.{◌∙◌, Err, sym, ap}
+use Rattle.campaign_world.proofs.FormCauses.{begins_well}
+use Rattle.campaign_world.proofs.world.World.begin.Goals as goal
+
+pub unreachable-requires : goal.unreachable-requires
+unreachable-requires c =
+    let bad = (c.in-Err-BadPlan.ensures.bad_plan c.in-Err-BadPlan.field-0-0).0 (ap Err c.in-Err-BadPlan.field-0-is) in
+    begins_well c.args.self.now c.in-Err-BadPlan.field-0-0 c.requires
+    (rw (← c.self.view_is) (sym c.is_some.ensures ∙ c.if-is_some.false))
+    (rw (← c.self.view_is, ← c.deref.ensures.value, ← c.replace-plan.ensures.value) bad)

@@ -1,0 +1,27 @@
+use Rattle.std.proofs.Common.{◌≡◌, ◌≤◌, List, length, ap, Some, sym, ◌∙◌, subst}
+use Rattle.campaign_server.specs.Server.{ServerState, numbered}
+use Rattle.campaign_world.specs.declared.numbered.SentPayload.{SentPayload}
+use Rattle.campaign_world.specs.HeldWorld.{HeldWorld}
+use Rattle.campaign_world.proofs.Outcomes.{on_ok, on_ok_then}
+use Rattle.campaign_world.proofs.Steps.{built_alike, down_step, some_now}
+use Rattle.campaign_world.proofs.world.World.down.Goals as goal
+
+pub invariant_of-self : goal.invariant_of-self
+invariant_of-self c = record {
+  image_is = c.self.invariant.image_is;
+  counted = c.self.invariant.counted;
+  timed = c.self.invariant.timed;
+  few = rw (c.deliver.ensures.count) c.self.invariant.few;
+  built = built_alike _ _ _ _ c.deliver.ensures.count c.self.invariant.built;
+  planned = subst (λ (h : HeldWorld). (s : ServerState) × (h.server ≡ Some s)) (sym c.self.view_is) c.requires.begun;
+  made = rw (c.deliver.ensures.count) (c.deliver.ensures.made _ (subst (λ (h : HeldWorld). c.args.device ≤ length h.devices) (sym c.self.view_is) c.requires.last) c.self.invariant.made);
+}
+
+pub returns-clause-taken : goal.returns-clause-taken
+returns-clause-taken c = on_ok c.deliver.result (λ ok. rw (← c.self.view_is) (λ world stands. down_step _ world _ _ c.args.number c.args.device c.args.word c.in-Some.sent.now stands c.requires.first
+    (subst (λ (h : HeldWorld). c.args.device ≤ length h.devices) (sym c.self.view_is) c.requires.last)
+    (some_now _ _ _ _ (c.numbered.ensures ∙ ap (λ (items : List SentPayload). numbered items c.args.number) c.deref.ensures.value) c.in-Some.is)
+    (record {
+      devices = rw (← c.from.ensures) (on_ok_then c.deliver.result ok c.deliver.ensures.devices);
+      uplinks = rw (← c.from.ensures) (on_ok_then c.deliver.result ok c.deliver.ensures.uplinks);
+    })))

@@ -1,0 +1,25 @@
+use Rattle.std.proofs.Common.{◌≡◌, Some, arith, sym, subst}
+use Rattle.campaign_server.specs.Server.{ServerState}
+use Rattle.campaign_world.specs.HeldWorld.{HeldWorld}
+use Rattle.campaign_world.proofs.FormCauses.{asked_within, reached_within, word_within, time_within}
+use Rattle.campaign_world.proofs.world.World.event.Goals as goal
+
+pub invariant_of-self : goal.invariant_of-self
+invariant_of-self c = record {
+  image_is = c.self.invariant.image_is;
+  counted = c.self.invariant.counted;
+  timed = time_within _ _ c.requires.ranges c.in-At.is;
+  few = c.self.invariant.few;
+  built = c.self.invariant.built;
+  planned = subst (λ (h : HeldWorld). (s : ServerState) × (h.server ≡ Some s)) (sym c.self.view_is) c.requires.begun;
+  made = c.self.invariant.made;
+}
+
+pub overflow_cast-device : goal.overflow_cast-device
+overflow_cast-device c = let both = asked_within _ _ _ c.requires.names c.in-Ask.is in omega (arith, both.1, c.requires.few)
+
+pub overflow_cast-device-in-Down : goal.overflow_cast-device-in-Down
+overflow_cast-device-in-Down c = let both = reached_within _ _ _ _ _ c.requires.names c.in-Down.is in omega (arith, both.1, c.requires.few)
+
+pub overflow_cast-word : goal.overflow_cast-word
+overflow_cast-word c = let small = word_within _ _ _ _ c.requires.ranges c.in-Down.is in omega (arith, small)

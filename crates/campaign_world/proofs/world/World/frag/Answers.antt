@@ -1,0 +1,14 @@
+use Rattle.std.proofs.Common.{refl}
+use Rattle.campaign_world.proofs.Steps.{built_after_fragment, built_of}
+use Rattle.campaign_world.proofs.world.World.frag.Goals as goal
+
+pub invariant_of-self : goal.invariant_of-self
+invariant_of-self c = record {
+  image_is = c.self.invariant.image_is;
+  counted = c.self.invariant.counted;
+  timed = c.self.invariant.timed;
+  few = c.self.invariant.few;
+  built = rw (c.fragment-down.ensures.moved) (built_after_fragment _ _ _ (built_of _ _ _ _ c.in-Some.is c.self.invariant.built));
+  planned = (_, refl);
+  made = c.self.invariant.made;
+}

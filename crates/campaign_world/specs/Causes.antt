@@ -1,0 +1,147 @@
+-- When a line is refused (this project's profile): the causes in their order, tried after the lines before it.
+use Rattle.std.specs.Prelude.{ℕ, ◌+◌, Bool, true, false, ◌&&◌, ◌||◌, not, ◌==◌, nat_lt, nat_le, if◌then◌else◌, List, length, Option, Some, None, is_none, is_ok}
+use Rattle.frag_model.specs.Limits.{max_pieces}
+use Rattle.frag_encoder.specs.Encoding.{nb_frag_of}
+use Rattle.campaign_server.specs.declared.stage.Stage.{Stage}
+use Rattle.campaign_server.specs.declared.stage.Stage.TheVariants.{At}
+use Rattle.campaign_server.specs.declared.stage.Request.TheVariants as request
+use Rattle.campaign_server.specs.Server.{ServerState, numbered, ledger}
+use Rattle.campaign_server.specs.Fragments.{next_fragment, status_to_all}
+use Rattle.script_lines.specs.declared.forms.Form.{Form}
+use Rattle.script_lines.specs.declared.forms.Form.TheVariants.{Header, Image, Group, WindowC, WindowB, Device, At, Wake, Ask, Frag, Status, Down, Up}
+use Rattle.campaign_world.specs.declared.faults.LineWhy.{LineWhy}
+use Rattle.campaign_world.specs.declared.faults.LineWhy.TheVariants as why
+use Rattle.campaign_world.specs.declared.section.Section.{Section}
+use Rattle.campaign_world.specs.declared.section.Section.TheVariants as section
+use Rattle.script_lines.specs.Forms.{form_of}
+use Rattle.script_lines.specs.declared.forms.Class.TheVariants as class
+use Rattle.script_lines.specs.Limits.{max_lines, max_line}
+use Rattle.script_lines.specs.Ranges.{in_range}
+use Rattle.campaign_world.specs.declared.numbered.SentPayload.{SentPayload}
+use Rattle.campaign_world.specs.declared.numbered.MadeUplink.{MadeUplink}
+use Rattle.campaign_world.specs.World.{WorldState}
+
+-- ---- order
+
+-- the lines behind the plan: events, and the end
+abbrev pub is_event_or_end : Form → Bool
+is_event_or_end Header = false
+is_event_or_end (Image frag_size parity) = false
+is_event_or_end (Group addr key min max) = false
+is_event_or_end (WindowC start timeout freq dr) = false
+is_event_or_end (WindowB start periodicity timeout freq dr) = false
+is_event_or_end (Device id class hw rows offset key descriptor) = false
+is_event_or_end form = true
+
+-- the form may come here
+abbrev pub may_come : Section → Form → Bool
+may_come section.Header Header = true
+may_come section.Image (Image frag_size parity) = true
+may_come section.Group (Group addr key min max) = true
+may_come section.Group (Device id class hw rows offset key descriptor) = true
+may_come section.Window (WindowC start timeout freq dr) = true
+may_come section.Window (WindowB start periodicity timeout freq dr) = true
+may_come section.Device (Device id class hw rows offset key descriptor) = true
+may_come section.Devices (Device id class hw rows offset key descriptor) = true
+may_come section.Devices form = is_event_or_end form
+may_come section.Events form = is_event_or_end form
+may_come here form = false
+
+-- nothing comes behind the end
+abbrev pub has_ended : Section → Bool
+has_ended section.Ended = true
+has_ended here = false
+
+-- ---- range
+
+-- so many devices a script has so far at most
+abbrev pub devices_so_far : ℕ
+devices_so_far = 1
+
+-- an image of this length has at most 1,024 fragments; behind so many devices the ID is the next
+abbrev pub fits_script : (len count : ℕ) → Form → Bool
+fits_script len count (Image frag_size parity) = nat_le (nb_frag_of len frag_size) max_pieces
+fits_script len count (Device id class hw rows offset key descriptor) = id == count + 1 && nat_le id devices_so_far
+fits_script len count form = true
+
+-- ---- device, unsent, time
+
+-- so many devices are numbered from 1
+abbrev pub is_device : (count device : ℕ) → Bool
+is_device count device = nat_le 1 device && nat_le device count
+
+abbrev pub names_device : (count : ℕ) → Form → Bool
+names_device count (Wake device) = is_device count device
+names_device count (Ask device) = is_device count device
+names_device count (Down number device word) = is_device count device
+names_device count form = true
+
+-- the payload was sent, to this device or to any
+abbrev pub may_reach : (device : ℕ) → Option SentPayload → Bool
+may_reach device None = false
+may_reach device (Some sent) = is_for sent.receiver
+  where
+    is_for : Option ℕ → Bool
+    is_for None = true
+    is_for (Some receiver) = receiver == device
+
+-- the uplink was made, and is due by now
+abbrev pub is_due_by : (now : ℕ) → Option MadeUplink → Bool
+is_due_by now None = false
+is_due_by now (Some made) = nat_le made.uplink.due now
+
+abbrev pub has_come : List SentPayload → List MadeUplink → (now : ℕ) → Form → Bool
+has_come sent uplinks now (Down number device word) = may_reach device (numbered sent number)
+has_come sent uplinks now (Up number) = is_due_by now (numbered uplinks number)
+has_come sent uplinks now form = true
+
+-- the time does not go back
+abbrev pub is_to_come : (now : ℕ) → Form → Bool
+is_to_come now (At time) = nat_le now time
+is_to_come now form = true
+
+-- ---- limit, last of all
+
+-- the server asks for the status, which it does not so far
+abbrev pub asks_status : Option Stage → Bool
+asks_status (Some (At request.Status)) = true
+asks_status other = false
+
+-- there is something left to send
+abbrev pub has_more : ServerState → Form → Bool
+has_more server Frag = is_ok (next_fragment server)
+has_more server Status = not (is_none (status_to_all server))
+has_more server (Ask device) = not (asks_status (ledger server device))
+has_more server form = true
+
+-- ---- all causes, the first that holds
+
+unfoldable pub form_cause : WorldState → Form → Option LineWhy
+form_cause world form =
+    if not (may_come world.section form) then Some why.Order
+    else if not (in_range form && fits_script (length world.server.image) (length world.devices) form) then Some why.Range
+    else if not (names_device (length world.devices) form) then Some why.Device
+    else if not (has_come world.sent world.uplinks world.time form) then Some why.Unsent
+    else if not (is_to_come world.time form) then Some why.Time
+    else if not (has_more world.server form) then Some why.Limit
+    else None
+
+-- the forms that are taken so far: devices of class C without a group, which do not wake
+abbrev pub is_taken : Form → Bool
+is_taken (Group addr key min max) = false
+is_taken (WindowC start timeout freq dr) = false
+is_taken (WindowB start periodicity timeout freq dr) = false
+is_taken (Device id class.A hw rows offset key descriptor) = false
+is_taken (Wake device) = false
+is_taken Status = false
+is_taken form = true
+
+abbrev pub cause_of_form : WorldState → Option Form → Option LineWhy
+cause_of_form world None = Some why.Syntax
+cause_of_form world (Some form) = if is_taken form then form_cause world form else Some why.Syntax
+
+-- the cause for which the next line is refused, the first that holds
+unfoldable pub cause_of : WorldState → (line : List ℕ) → Option LineWhy
+cause_of world line =
+    if nat_le max_lines world.lines || nat_lt max_line (length line) then Some why.Limit
+    else cause_of_form world (form_of line)

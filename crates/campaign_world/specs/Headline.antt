@@ -1,0 +1,153 @@
+-- The headline in the field's own words: what the session of a campaign hears, when it is decided, and what the report says.
+-- (This project's profile.)
+use Rattle.std.specs.Prelude.{◌≡◌, ◌≢◌, ◌⊎◌, ℕ, ◌+◌, ◌-◌, ◌^◌, ◌<◌, ◌≤◌, List, [], ◌∷◌, ◌++◌, length, All, codes, Option, Some, Ok}
+use Rattle.std.specs.List.{AllByRecursion}
+use Rattle.std.specs.Fmt.{decimal}
+use Rattle.frag_model.specs.Limits.{max_parity_index}
+use Rattle.frag_model.specs.Fragments.{Fragment}
+use Rattle.frag_model.specs.Members.{In}
+use Rattle.frag_model.specs.File.{OneFileFits}
+use Rattle.frag_encoder.specs.Encoding.{nb_frag_of, padding_of, data_of}
+use Rattle.frag_session.specs.declared.answers.Verdict.TheVariants as verdict
+use Rattle.frag_session.specs.Session.{Session, Seen, shape_of, seen_of}
+use Rattle.frag_session.specs.FirstMoment.{AfterEach, FirstAt, IsDecidedAtFirst, IsOpen, IsWhole, Overflows}
+use Rattle.cast_wire.specs.declared.cmd.Cmd.TheVariants.{DataFragment}
+use Rattle.package_grammar.specs.declared.command.Command.TheVariants.{Cast}
+use Rattle.package_grammar.specs.declared.command.Command.{Command}
+use Rattle.package_grammar.specs.declared.downlink.To.TheVariants.{Unicast}
+use Rattle.package_grammar.specs.Grammar.{IsValid}
+use Rattle.device_core.specs.Device.{DeviceState}
+use Rattle.campaign_server.specs.declared.stage.Stage.{Stage}
+use Rattle.campaign_server.specs.Server.{ServerState, numbered, downlink_of}
+use Rattle.campaign_server.specs.Plan.{session_index}
+use Rattle.campaign_server.specs.Asking.{fragments_request}
+use Rattle.script_lines.specs.declared.forms.Form.TheVariants.{Down}
+use Rattle.script_lines.specs.Lines.{lines_of}
+use Rattle.script_lines.specs.Forms.{form_of}
+use Rattle.campaign_world.specs.declared.numbered.SentPayload.{SentPayload}
+use Rattle.campaign_world.specs.World.{WorldState}
+use Rattle.campaign_world.specs.Script.{campaign_of}
+use Rattle.campaign_world.specs.Report.{◌⧺◌, image_line, device_line, counts_line, session_text, report_of}
+
+-- ---- what the session of a campaign is, and what it hears
+
+-- a fragment of the image, uncoded or coded
+pub record IsFragmentOf (image : List ℕ) (frag_size : ℕ) (f : Fragment) : Type 0 where
+  pub first : 1 ≤ f.number
+  pub last : f.number ≤ nb_frag_of (length image) frag_size + max_parity_index
+  pub part : f.part ≡ data_of image frag_size f.number
+
+-- the session is the one that the server sets up for the image, and hears nothing but the image's fragments
+pub record IsServed (image : List ℕ) (server : ServerState) (session : Session) : Type 0 where
+  pub image_is : server.image ≡ image
+  pub nb_frag : session.setup.nb_frag ≡ nb_frag_of (length image) server.plan.frag_size
+  pub frag_size : session.setup.frag_size ≡ server.plan.frag_size
+  pub padding : session.setup.padding ≡ padding_of (length image) server.plan.frag_size
+  pub heard : AllByRecursion (IsFragmentOf image server.plan.frag_size) session.heard
+
+-- line n of the script is a down to device id, and the server sent this valid command as the payload that it names
+pub record IsDelivery (lines : List (List ℕ)) (sent : List SentPayload) (id n : ℕ) (command : Command) (line : List ℕ) (number word : ℕ) (receiver : Option ℕ) : Type 0 where
+  pub line_is : numbered lines n ≡ Some line
+  pub form : form_of line ≡ Some (Down number id word)
+  pub payload_is : numbered sent number ≡ Some (record { receiver = receiver; down = downlink_of (record { to = Unicast; command = command }) })
+  pub valid : IsValid command
+
+-- line n of the script delivers this command to device id
+abbrev pub Delivers : List (List ℕ) → List SentPayload → (id n : ℕ) → Command → Type 0
+Delivers lines sent id n command = (line : List ℕ) × (number : ℕ) × (word : ℕ) × (receiver : Option ℕ) × IsDelivery lines sent id n command line number word receiver
+
+-- the line whose number is the fragment's mark delivers it
+abbrev pub WasDelivered : List (List ℕ) → List SentPayload → (id : ℕ) → Fragment → Type 0
+WasDelivered lines sent id f = Delivers lines sent id f.mark (Cast (DataFragment session_index f.number f.part))
+
+-- each fragment was delivered up to this line, those heard before it at lines before its own, and the setup before them all
+abbrev pub CameInOrder : List (List ℕ) → List SentPayload → (id : ℕ) → Command → ℕ → List Fragment → Type 0
+CameInOrder lines sent id setup last [] = (n : ℕ) × (n ≤ last) × Delivers lines sent id n setup
+CameInOrder lines sent id setup last (f ∷ older) = (f.mark ≤ last) × WasDelivered lines sent id f × CameInOrder lines sent id setup (f.mark - 1) older
+
+-- the setup that the server sends
+abbrev pub setup_command : ServerState → Command
+setup_command server = Cast (fragments_request server.plan server.image)
+
+-- what the session of device id hears: what the lines of the script deliver
+pub record HearsDelivered (lines : List (List ℕ)) (world : WorldState) (id : ℕ) (session : Session) : Type 0 where
+  -- after the setup was delivered, nothing else, and each fragment at its line
+  pub only : CameInOrder lines world.sent id (setup_command world.server) world.lines session.heard
+  -- and each fragment that is delivered after the setup was
+  pub all : (f : Fragment) (n : ℕ) → Delivers lines world.sent id n (setup_command world.server) → n < f.mark → WasDelivered lines world.sent id f → In f session.heard
+
+-- ---- what is seen of it
+
+-- what is seen of the session in a campaign, where the image is known
+pub record IsRecovered (image : List ℕ) (s : Session) : Type 0 where
+  -- it is decided at the first fragment after which one file alone fits, or independent coded fragments exceed the rows
+  pub decided : IsDecidedAtFirst s
+  -- a file that alone fits what was heard by then is the image
+  pub alone : (newer older : List Fragment) (file : List ℕ) → s.heard ≡ newer ++ older → OneFileFits (shape_of s) s.setup.padding older file → file ≡ image
+  -- and the image is what is shown then
+  pub shown : (mark : ℕ) → (seen_of s).verdict ≡ verdict.Complete mark → (seen_of s).file ≡ image
+  -- there is no conflict
+  pub agrees : (mark : ℕ) → (seen_of s).verdict ≢ verdict.Conflict mark
+
+-- ---- what the report says
+
+-- the report of a device with one session, in which this is said of the session's verdict
+abbrev pub report_saying : ServerState → Stage → DeviceState → Seen → List ℕ → List ℕ
+report_saying server stage device seen words =
+    codes "fuota report 1\n" ⧺ image_line server ⧺ device_line 1 stage device ⧺ counts_line device.counts
+    ⧺ session_text 0 seen.received seen.missing words ⧺ codes "end\n"
+
+-- what is said of a session that is complete from a line on, with the server's image as its file
+abbrev pub complete_words : ℕ → List ℕ
+complete_words line = codes "complete at " ++ decimal line ++ codes " same"
+
+-- what is said of one whose rows did not suffice
+abbrev pub no_rows_words : ℕ → List ℕ
+no_rows_words line = codes "norows at " ++ decimal line
+
+-- the image is the one file that fits, from the fragment with this mark on, and until then it was open
+abbrev pub WholeAt : List ℕ → Session → ℕ → Type 0
+WholeAt image s mark = FirstAt (shape_of s) s.setup.padding (IsWhole (shape_of s) s.setup.padding image) s.heard mark
+
+-- the fragment with this mark is one independent coded fragment too many, and until then the file was open
+abbrev pub OverAt : Session → ℕ → Type 0
+OverAt s mark = FirstAt (shape_of s) s.setup.padding (Overflows (shape_of s) s.setup.padding) s.heard mark
+
+-- the file is open after each fragment
+abbrev pub StaysOpen : Session → Type 0
+StaysOpen s = AfterEach (IsOpen (shape_of s) s.setup.padding) s.heard
+
+-- what the report says of the session
+pub record IsReported (image : List ℕ) (world : WorldState) (stage : Stage) (device : DeviceState) (s : Session) : Type 0 where
+  -- some fragment is the first after which one file alone fits, the image; or one exceeds the rows first; or it is open yet
+  pub cases : ((line : ℕ) × WholeAt image s line) ⊎ (((line : ℕ) × OverAt s line) ⊎ StaysOpen s)
+  -- where there is one, the report names its line
+  pub complete : (line : ℕ) → WholeAt image s line → report_of world ≡ report_saying world.server stage device (seen_of s) (complete_words line)
+  pub no_rows : (line : ℕ) → OverAt s line → report_of world ≡ report_saying world.server stage device (seen_of s) (no_rows_words line)
+  -- and until then says so
+  pub receiving : StaysOpen s → report_of world ≡ report_saying world.server stage device (seen_of s) (codes "receiving")
+
+-- ---- a campaign
+
+-- a campaign whose device has a session: the image's bytes, the script, how it ends, and its device with its stage
+pub record IsCampaign (image script : List ℕ) (world : WorldState) (stage : Stage) (device : DeviceState) (session : Session) : Type 0 where
+  pub bytes : All (λ b. b < 2 ^ 8) image
+  pub accepted : campaign_of image script ≡ Ok world
+  pub stage_is : world.server.stages ≡ stage ∷ []
+  pub device_is : world.devices ≡ device ∷ []
+  pub session_is : device.sessions.first ≡ Some session
+
+-- whatever image and accepted script of losses, repeats and reorderings there are
+pub record Headline : Type 0 where
+  -- the session is the server's
+  pub served : (image script : List ℕ) (world : WorldState) (stage : Stage) (device : DeviceState) (session : Session)
+      → IsCampaign image script world stage device session → IsServed image world.server session
+  -- it hears what the script delivers
+  pub delivered : (image script : List ℕ) (world : WorldState) (stage : Stage) (device : DeviceState) (session : Session)
+      → IsCampaign image script world stage device session → HearsDelivered (lines_of script) world 1 session
+  -- it is complete exactly when one file alone fits, the image, unless the rows are exceeded first
+  pub recovered : (image script : List ℕ) (world : WorldState) (stage : Stage) (device : DeviceState) (session : Session)
+      → IsCampaign image script world stage device session → IsRecovered image session
+  -- the report says so
+  pub reported : (image script : List ℕ) (world : WorldState) (stage : Stage) (device : DeviceState) (session : Session)
+      → IsCampaign image script world stage device session → IsReported image world stage device session

@@ -1,0 +1,105 @@
+-- What a world holds, for which campaigns it stands, and what it answers.
+use Rattle.std.specs.Prelude.{◌≡◌, ℕ, ◌+◌, List, [], ◌∷◌, length, Option, Some, None, Result, Ok, Err}
+use Rattle.std.specs.List.{AllZip}
+use Rattle.device_core.specs.Device.{DeviceState}
+use Rattle.device_core.specs.HeldDevice.{HeldDevice, DeviceStands}
+use Rattle.campaign_server.specs.Plan.{Plan}
+use Rattle.campaign_server.specs.Server.{ServerState, first_server}
+use Rattle.campaign_world.specs.declared.faults.LineError.{LineError}
+use Rattle.campaign_world.specs.declared.faults.LineError.TheVariants as error
+use Rattle.campaign_world.specs.declared.numbered.SentPayload.{SentPayload}
+use Rattle.campaign_world.specs.declared.numbered.MadeUplink.{MadeUplink}
+use Rattle.campaign_world.specs.declared.section.Section.{Section}
+use Rattle.campaign_world.specs.World.{WorldState}
+use Rattle.package_grammar.specs.declared.downlink.Downlink.{Downlink}
+use Rattle.script_lines.specs.declared.forms.Form.{Form}
+use Rattle.campaign_world.specs.declared.faults.LineWhy.{LineWhy}
+use Rattle.campaign_world.specs.Causes.{form_cause, cause_of}
+use Rattle.campaign_world.specs.Script.{after_line, end_result}
+use Rattle.campaign_world.specs.Report.{report_of}
+
+-- a world without the histories of its devices; the server is made at the first event
+pub record HeldWorld : Type 0 where
+  pub image : List ℕ
+  pub lines : ℕ
+  pub section : Section
+  pub time : ℕ
+  pub plan : Plan
+  pub server : Option ServerState
+  pub devices : List HeldDevice
+  pub sent : List SentPayload
+  pub uplinks : List MadeUplink
+  pub kept : Option LineError
+
+-- until it is made the server is the first one of the plan so far
+abbrev pub server_of : (image : List ℕ) → Plan → Option ServerState → ServerState
+server_of image plan None = first_server image plan
+server_of image plan (Some server) = server
+
+-- the campaign that it stands for, with these devices
+abbrev pub world_of : HeldWorld → List DeviceState → WorldState
+world_of held devices = record {
+  lines = held.lines;
+  section = held.section;
+  time = held.time;
+  server = server_of held.image held.plan held.server;
+  devices = devices;
+  sent = held.sent;
+  uplinks = held.uplinks;
+}
+
+-- a device between two events: it stands for its record, and its uplinks are taken
+pub record DeviceRests (held : HeldDevice) (device : DeviceState) : Type 0 where
+  pub stands : DeviceStands held device
+  pub empty : held.outbox ≡ []
+
+abbrev pub DevicesRest : List HeldDevice → List DeviceState → Type 0
+DevicesRest = AllZip DeviceRests
+
+-- its devices stand for the campaign's, and all else is equal
+pub record WorldStands (held : HeldWorld) (world : WorldState) : Type 0 where
+  pub devices : DevicesRest held.devices world.devices
+  pub rest : world ≡ world_of held world.devices
+
+-- whatever campaign was stood for, this one of it is stood for now
+abbrev pub WorldBecomes : (old new : HeldWorld) → (WorldState → WorldState) → Type 0
+WorldBecomes old new after = (world : WorldState) → WorldStands old world → WorldStands new (after world)
+
+-- the answer to a line: it was taken, or it is the first refused line with its first cause, or memory was wanting
+abbrev pub IsLineAnswer : WorldState → (line : List ℕ) → (new : HeldWorld) → Result (Unit {0}) LineError → Type 0
+IsLineAnswer world line new (Ok done) = (cause_of world line ≡ None) × WorldStands new (after_line world line) × (new.kept ≡ None)
+IsLineAnswer world line new (Err (error.Line fault)) = (cause_of world line ≡ Some fault.why) × (fault.line ≡ world.lines + 1) × WorldStands new world
+IsLineAnswer world line new (Err error.Memory) = Unit {0}
+
+-- the answer to a report: the text, where the script has ended, else that it has not
+abbrev pub IsReport : WorldState → Result (List ℕ) LineError → Type 0
+IsReport world (Ok text) = (end_result (Ok world) ≡ Ok world) × (text ≡ report_of world)
+IsReport world (Err (error.Line fault)) = end_result (Ok world) ≡ Err fault
+IsReport world (Err error.Memory) = Unit {0}
+
+-- ---- what its private calls ask and answer
+
+-- no cause holds of the form, whatever it stands for
+abbrev pub IsFine : HeldWorld → Form → Type 0
+IsFine held form = (devices : List DeviceState) → length devices ≡ length held.devices → form_cause (world_of held devices) form ≡ None
+
+-- the cause of the line, whatever it stands for
+abbrev pub IsCauseOf : HeldWorld → (line : List ℕ) → Option LineWhy → Type 0
+IsCauseOf held line cause = (devices : List DeviceState) → length devices ≡ length held.devices → cause_of (world_of held devices) line ≡ cause
+
+-- a payload that was sent, if one was
+abbrev pub sent_by : (receiver : Option ℕ) → Option Downlink → List SentPayload
+sent_by receiver None = []
+sent_by receiver (Some down) = record { receiver = receiver; down = down } ∷ []
+
+-- the server's answer, where it took the uplink
+abbrev pub answered : {A E : Type 0} → Result (Option A) E → Option A
+answered (Ok answer) = answer
+answered (Err refusal) = None
+
+-- the server is made, and all else stays but for the section
+pub record HasBegun (old new : HeldWorld) : Type 0 where
+  pub devices : new.devices ≡ old.devices
+  pub sent : new.sent ≡ old.sent
+  pub uplinks : new.uplinks ≡ old.uplinks
+  pub time : new.time ≡ old.time

@@ -1,0 +1,9 @@
+pub mod World
+pub mod Causes
+pub mod Making
+pub mod Script
+pub mod Report
+pub mod HeldWorld
+pub mod WorldInside
+pub mod Texts
+pub mod Headline

@@ -1,0 +1,129 @@
+-- What a form that is not refused makes of a campaign (this project's profile).
+use Rattle.std.specs.Prelude.{ℕ, ◌+◌, ◌-◌, List, [], ◌∷◌, ◌++◌, map, slice_set, Option, Some, None, Result, Ok, Err}
+use Rattle.std.specs.Result.{result_ok}
+use Rattle.wire_base.specs.declared.refusal.Refusal.{Refusal}
+use Rattle.device_core.specs.declared.config.Class.{Class as DeviceClass}
+use Rattle.device_core.specs.declared.config.Class.TheVariants as device_class
+use Rattle.device_core.specs.declared.uplink.Uplink.{Uplink}
+use Rattle.device_core.specs.Device.{DeviceState, first_device}
+use Rattle.device_core.specs.Deliver.{delivery, waking}
+use Rattle.campaign_server.specs.declared.plan.Kind.{Kind}
+use Rattle.campaign_server.specs.declared.plan.Kind.TheVariants as kind
+use Rattle.campaign_server.specs.Plan.{Plan}
+use Rattle.campaign_server.specs.Server.{DownlinkCommand, first_server, numbered, downlink_of}
+use Rattle.campaign_server.specs.Asking.{request_of}
+use Rattle.campaign_server.specs.Fragments.{next_fragment, after_fragment, status_to_all, after_status_to_all}
+use Rattle.campaign_server.specs.Uplinks.{UplinkStep, uplink_step}
+use Rattle.script_lines.specs.declared.forms.Class.{Class}
+use Rattle.script_lines.specs.declared.forms.Class.TheVariants as class
+use Rattle.script_lines.specs.declared.forms.Form.{Form}
+use Rattle.script_lines.specs.declared.forms.Form.TheVariants.{Header, Image, Group, WindowC, WindowB, Device, At, Wake, Ask, Frag, Status, Down, Up, End}
+use Rattle.campaign_world.specs.declared.section.Section.{Section}
+use Rattle.campaign_world.specs.declared.section.Section.TheVariants as section
+use Rattle.campaign_world.specs.declared.numbered.SentPayload.{SentPayload}
+use Rattle.campaign_world.specs.declared.numbered.MadeUplink.{MadeUplink}
+use Rattle.campaign_world.specs.World.{WorldState}
+
+-- ---- the plan
+
+-- the plan so far is another one, and the next section begins
+abbrev pub with_plan : WorldState → Plan → Section → WorldState
+with_plan world plan next = record world { server = first_server world.server.image plan; section = next }
+
+abbrev pub with_window : Plan → Kind → (start timeout freq dr : ℕ) → Plan
+with_window plan kind start timeout freq dr =
+    record plan { window = Some (record { kind = kind; start = start; timeout = timeout; freq = freq; dr = dr }) }
+
+abbrev pub class_of : Class → DeviceClass
+class_of class.A = device_class.A
+class_of class.C = device_class.C
+
+-- a device with 4 sessions, 4 groups, and an area for the largest file
+abbrev pub device_of : Class → (hw rows offset : ℕ) → (key : List ℕ) → (descriptor : Option ℕ) → DeviceState
+device_of class hw rows offset key descriptor = first_device (record {
+  class = class_of class;
+  hw = hw;
+  rows = rows;
+  offset = offset;
+  key = key;
+  descriptor = descriptor;
+  sessions = 4;
+  groups = 4;
+  area = 65774;
+})
+
+-- ---- what goes down
+
+-- a payload is sent, and numbered
+abbrev pub with_sent : WorldState → (receiver : Option ℕ) → Option DownlinkCommand → WorldState
+with_sent world receiver None = world
+with_sent world receiver (Some down) =
+    record world { sent = world.sent ++ record { receiver = receiver; down = downlink_of down } ∷ [] }
+
+-- ---- what comes up
+
+abbrev pub made_by : (device : ℕ) → Uplink → MadeUplink
+made_by device uplink = record { device = device; uplink = uplink }
+
+-- behind an event at a device its uplinks are taken, the oldest first, and numbered
+unfoldable pub with_device : WorldState → (n : ℕ) → DeviceState → WorldState
+with_device world n device = record world {
+  devices = slice_set world.devices (n - 1) (record device { outbox = [] });
+  uplinks = world.uplinks ++ map (λ uplink. made_by n uplink) device.outbox;
+}
+
+-- ---- events
+
+abbrev pub after_wake : WorldState → (n : ℕ) → Option DeviceState → WorldState
+after_wake world n None = world
+after_wake world n (Some device) = with_device world n (waking world.time device).device
+
+-- a payload reaches a device at the time now; the mark is the line
+abbrev pub after_down : WorldState → (n word : ℕ) → Option DeviceState → Option SentPayload → WorldState
+after_down world n word (Some device) (Some sent) =
+    with_device world n (delivery world.time word (world.lines + 1) sent.down device).device
+after_down world n word device sent = world
+
+-- the server behind an uplink sends its answer to the device
+abbrev pub after_answer : WorldState → (n : ℕ) → UplinkStep → WorldState
+after_answer world n step = with_answer (record world { server = step.server }) step.answer
+  where
+    with_answer : WorldState → Result (Option DownlinkCommand) Refusal → WorldState
+    with_answer world (Ok down) = with_sent world (Some n) down
+    with_answer world (Err refusal) = world
+
+abbrev pub after_up : WorldState → Option MadeUplink → WorldState
+after_up world None = world
+after_up world (Some made) =
+    after_answer world made.device (uplink_step world.server made.device made.uplink.port made.uplink.payload world.time)
+
+abbrev pub at_events : WorldState → WorldState
+at_events world = record world { section = section.Events }
+
+-- ---- the table
+
+-- the campaign behind a form
+unfoldable pub after_form : WorldState → Form → WorldState
+after_form world Header = record world { section = section.Image }
+after_form world (Image frag_size parity) =
+    with_plan world (record world.server.plan { frag_size = frag_size; parity = parity }) section.Group
+after_form world (Group addr key min max) =
+    with_plan world (record world.server.plan { group = Some (record { addr = addr; key = key; min = min; max = max }) }) section.Window
+after_form world (WindowC start timeout freq dr) =
+    with_plan world (with_window world.server.plan kind.C start timeout freq dr) section.Device
+after_form world (WindowB start periodicity timeout freq dr) =
+    with_plan world (with_window world.server.plan (kind.B periodicity) start timeout freq dr) section.Device
+after_form world (Device id class hw rows offset key descriptor) =
+    let plan = record world.server.plan { devices = world.server.plan.devices ++ record { key = key } ∷ [] } in
+    with_plan (record world { devices = world.devices ++ device_of class hw rows offset key descriptor ∷ [] }) plan section.Devices
+after_form world (At time) = at_events (record world { time = time })
+after_form world (Wake device) = at_events (after_wake world device (numbered world.devices device))
+after_form world (Ask device) = at_events (with_sent world (Some device) (request_of world.server device))
+after_form world Frag =
+    at_events (with_sent (record world { server = after_fragment world.server }) None (result_ok (next_fragment world.server)))
+after_form world Status =
+    at_events (with_sent (record world { server = after_status_to_all world.server }) None (status_to_all world.server))
+after_form world (Down number device word) =
+    at_events (after_down world device word (numbered world.devices device) (numbered world.sent number))
+after_form world (Up number) = at_events (after_up world (numbered world.uplinks number))
+after_form world End = record world { section = section.Ended }

@@ -1,0 +1,155 @@
+//! When a form is refused: one test for each cause.
+
+ghost use Rattle.std.specs.Prelude.{◌≡◌, ◌≤◌, ◌<◌, ◌^◌, ℕ, length, Some};
+ghost use Rattle.script_lines.specs.declared.forms.Form.TheVariants.{Image};
+ghost use Rattle.campaign_world.specs.Causes.{is_event_or_end, may_come, has_ended, fits_script, is_device, names_device, may_reach, is_due_by, has_come, is_to_come, asks_status, is_taken};
+ghost use Rattle.campaign_server.specs.Server.{numbered};
+
+use crate::numbered::{MadeUplink, SentPayload, numbered};
+use crate::section::Section;
+use campaign_server::{Request, Stage};
+use frag_model::lines::MAX_PIECES;
+use script_lines::{Class, Form};
+
+/// So many devices a script has so far at most.
+const DEVICES_SO_FAR: u64 = 1;
+
+/// Whether the form is one that is taken so far.
+pub fn is_taken(form: &Form) -> bool
+    ensures { result ≡ is_taken form.now }
+{
+    match form {
+        Form::Group { .. } => false,
+        Form::WindowC { .. } => false,
+        Form::WindowB { .. } => false,
+        Form::Device { class, .. } => *class == Class::C,
+        Form::Wake { .. } => false,
+        Form::Status => false,
+        _ => true,
+    }
+}
+
+/// Whether the form stands behind the plan: an event, or the end.
+pub fn is_event_or_end(form: &Form) -> bool
+    ensures { result ≡ is_event_or_end form.now }
+{
+    match form {
+        Form::Header => false,
+        Form::Image { .. } => false,
+        Form::Group { .. } => false,
+        Form::WindowC { .. } => false,
+        Form::WindowB { .. } => false,
+        Form::Device { .. } => false,
+        _ => true,
+    }
+}
+
+/// Whether the form may come in this section.
+pub fn may_come(section: Section, form: &Form) -> bool
+    ensures { result ≡ may_come section form.now }
+{
+    match section {
+        Section::Header => matches!(form, Form::Header),
+        Section::Image => matches!(form, Form::Image { .. }),
+        Section::Group => matches!(form, Form::Group { .. } | Form::Device { .. }),
+        Section::Window => matches!(form, Form::WindowC { .. } | Form::WindowB { .. }),
+        Section::Device => matches!(form, Form::Device { .. }),
+        Section::Devices => matches!(form, Form::Device { .. }) || is_event_or_end(form),
+        Section::Events => is_event_or_end(form),
+        Section::Ended => false,
+    }
+}
+
+/// Whether the script has ended.
+pub fn has_ended(section: Section) -> bool
+    ensures { result ≡ has_ended section }
+{
+    matches!(section, Section::Ended)
+}
+
+/// Whether an image of this length has at most 1,024 fragments, and the device's ID is the next behind so many.
+pub fn fits_script(len: usize, count: usize, form: &Form) -> bool
+    requires len { len ≤ 65536 }
+    requires count { count < 2 ^ 63 }
+    requires size { (frag_size parity : ℕ) → form.now ≡ Image frag_size parity → (1 ≤ frag_size) × (frag_size ≤ 239) }
+    ensures { result ≡ fits_script len count form.now }
+{
+    match form {
+        Form::Image { frag_size, .. } => {
+            len.div_ceil(*frag_size as usize) <= MAX_PIECES as usize
+        }
+        Form::Device { id, .. } => *id == count as u64 + 1 && *id <= DEVICES_SO_FAR,
+        _ => true,
+    }
+}
+
+fn is_device(count: usize, device: u64) -> bool
+    ensures { result ≡ is_device count device }
+{
+    1 <= device && device <= count as u64
+}
+
+/// Whether the device that the form names, if it names one, is in the script.
+pub fn names_device(count: usize, form: &Form) -> bool
+    ensures { result ≡ names_device count form.now }
+{
+    match form {
+        Form::Wake { device } => is_device(count, *device),
+        Form::Ask { device } => is_device(count, *device),
+        Form::Down { device, .. } => is_device(count, *device),
+        _ => true,
+    }
+}
+
+/// Whether the payload of a `down` was sent and may reach its device, and the uplink of an `up` was made and is due.
+pub fn has_come(sent: &[SentPayload], uplinks: &[MadeUplink], now: u64, form: &Form) -> bool
+    requires sent { length sent.now < 2 ^ 63 }
+    requires uplinks { length uplinks.now < 2 ^ 63 }
+    ensures { result ≡ has_come sent.now uplinks.now now form.now }
+{
+    match form {
+        Form::Down { number, device, .. } => may_reach(*device, sent, *number),
+        Form::Up { number } => is_due_by(now, uplinks, *number),
+        _ => true,
+    }
+}
+
+fn may_reach(device: u64, sent: &[SentPayload], number: u64) -> bool
+    requires { length sent.now < 2 ^ 63 }
+    ensures { result ≡ may_reach device (numbered sent.now number) }
+{
+    match numbered(sent, number) {
+        Some(found) => match found.receiver {
+            Some(receiver) => u64::from(receiver) == device,
+            None => true,
+        },
+        None => false,
+    }
+}
+
+fn is_due_by(now: u64, uplinks: &[MadeUplink], number: u64) -> bool
+    requires { length uplinks.now < 2 ^ 63 }
+    ensures { result ≡ is_due_by now (numbered uplinks.now number) }
+{
+    match numbered(uplinks, number) {
+        Some(made) => made.uplink.due <= now,
+        None => false,
+    }
+}
+
+/// Whether the time that the form tells, if it tells one, is not over.
+pub fn is_to_come(now: u64, form: &Form) -> bool
+    ensures { result ≡ is_to_come now form.now }
+{
+    match form {
+        Form::At { time } => now <= *time,
+        _ => true,
+    }
+}
+
+/// Whether the server asks for the status at this stage.
+pub fn asks_status(stage: Stage) -> bool
+    ensures { result ≡ asks_status (Some stage) }
+{
+    stage == Stage::At(Request::Status)
+}

@@ -1,0 +1,22 @@
+//! A campaign of a firmware update over LoRaWAN (TS003 to TS006, 1.0.0) as a script tells it, line by line: a server, its
+//! devices, what was sent and what was heard. The forms of a script, their order and the report are this project's profile.
+//! `World` takes one line after another, or refuses the first wrong one with its first cause, and gives the report.
+//! Files and words of a command line are left to the program above.
+#![tactic(auto)]
+
+mod causes;
+mod deliveries;
+mod faults;
+mod laws;
+mod numbered;
+mod report;
+mod section;
+#[cfg(test)]
+mod tests;
+mod world;
+
+pub use deliveries::throw_away;
+pub use faults::{LineError, LineFault, LineWhy};
+pub use laws::headline;
+pub use report::{counts_line, session_text, sessions_text, verdict_text};
+pub use world::{MAX_LINE, MAX_LINES, World};

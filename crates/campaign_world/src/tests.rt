@@ -1,0 +1,81 @@
+use crate::{LineError, LineFault, LineWhy, World};
+use image_slots::is_image;
+use std::test::*;
+
+/// An image file for hardware 1 with firmware 2, its body and digest those of the text abc.
+const IMAGE: [u8; 52] = [
+    0x46, 0x55, 0x49, 0x4d, 0x01, 0x01, 0x00, 0x00, 0x00, 0x02, 0x00, 0x00, 0x00, 0x03, 0x00, 0x00,
+    0x00, 0xba, 0x78, 0x16, 0xbf, 0x8f, 0x01, 0xcf, 0xea, 0x41, 0x41, 0x40, 0xde, 0x5d, 0xae, 0x22,
+    0x23, 0xb0, 0x03, 0x61, 0xa3, 0x96, 0x17, 0x7a, 0x9c, 0xb4, 0x10, 0xff, 0x61, 0xf2, 0x00, 0x15,
+    0xad, 0x61, 0x62, 0x63,
+];
+
+const DEVICE: &str = "device 1 c 1 0 0 00000000000000000000000000000000";
+
+/// A campaign over four fragments in the order 4, 1, 1, 3, 2, and its report.
+#[test]
+fn a_campaign_is_reported(rt: HostRuntime) -> Result<(), Fail> {
+    let lines = [
+        "fuota 1",
+        "image 13 0",
+        DEVICE,
+        "ask 1",
+        "down 1 1",
+        "up 1",
+        "ask 1",
+        "down 2 1",
+        "up 2",
+        "frag",
+        "frag",
+        "frag",
+        "frag",
+        "down 6 1",
+        "down 3 1",
+        "down 3 1",
+        "down 5 1",
+        "down 4 1",
+        "end",
+    ];
+    assert!(rt; is_image(&IMAGE));
+    let mut world = World::new(rt.alloc(), &IMAGE)?;
+    for line in lines {
+        assert!(rt; world.line(line.as_bytes()) == Ok(()));
+    }
+    match world.report(rt.alloc()) {
+        Ok(text) => assert!(rt;
+            text.as_slice()
+                == b"fuota report 1\nimage 52 fragments 4 size 13 padding 0 parity 0\ndevice 1 status clock 0 token 0 running 0 next valid 2\ncounts deaf 0 refused 0 full 0 dropped 0\nsession 0 received 5 missing 0 complete at 18 same\nend\n".as_slice()
+        ),
+        Err(_) => assert!(rt; false),
+    }
+    Ok(())
+}
+
+/// Lines behind a plan with one device, each refused for another cause, and none of them changes what comes then.
+#[test]
+fn lines_are_refused(rt: HostRuntime) -> Result<(), Fail> {
+    let cases = [
+        (
+            "device 2 c 1 0 0 00000000000000000000000000000000",
+            LineWhy::Range,
+        ),
+        ("image 13 0", LineWhy::Order),
+        ("ask one", LineWhy::Syntax),
+        ("ask 2", LineWhy::Device),
+        ("down 1 1", LineWhy::Unsent),
+        ("up 1", LineWhy::Unsent),
+        ("wake 1", LineWhy::Syntax),
+        ("at 4294967296000", LineWhy::Range),
+    ];
+    assert!(rt; is_image(&IMAGE));
+    for (line, why) in cases {
+        let mut world = World::new(rt.alloc(), &IMAGE)?;
+        for fine in ["fuota 1", "image 13 0", DEVICE] {
+            assert!(rt; world.line(fine.as_bytes()) == Ok(()));
+        }
+        let fault = LineError::Line(LineFault { line: 4, why });
+        assert!(rt; world.line(line.as_bytes()) == Err(fault));
+        assert!(rt; world.line(b"ask 1") == Err(fault));
+    }
+    Ok(())
+}
