@@ -1,34 +1,40 @@
 -- The words have one answer over the files that are held.
 use Rattle.std.proofs.Common.{◌≡◌, ℕ, Bool, true, false, nat_lt, List, length, Option, Some, None, Result, sym, ap, ◌∙◌}
-use Rattle.fuota_run.specs.declared.world.LineFault.{LineFault}
-use Rattle.fuota_run.specs.declared.running.TheConstants.{SCRIPT_LIMIT}
+use Rattle.campaign_world.specs.declared.faults.LineFault.{LineFault}
+use Rattle.fuota_run.specs.Limits.{script_limit}
 use Rattle.fuota_run.specs.declared.words.FileForm.{FileForm}
 use Rattle.fuota_run.specs.declared.words.FileForm.TheVariants.{Replay, Decode}
 use Rattle.fuota_run.specs.Outside.{Held}
-use Rattle.fuota_run.specs.PayloadLines.{Telling, TellsOnce}
+use Rattle.payload_replay.specs.PayloadLines.{Telling, TellsOnce}
 use Rattle.fuota_run.specs.Words.{Asked, campaign, payloads, asked}
 use Rattle.fuota_run.specs.Answer.{Answer, tells, told, IsReadAnswer, IsFileAnswer, IsAnswerTo, IsAnswer, HasOneReply}
-use Rattle.fuota_run.proofs.Payloads.{decode_one}
-use Rattle.fuota_run.proofs.ReplayLines.{replay_one}
+use Rattle.payload_replay.proofs.Payloads.{decode_one}
+use Rattle.payload_replay.proofs.ReplayLines.{replay_one}
 
-read_one : (Tells : Telling) (is_long : Bool) (file : List ℕ) (one other : Answer) → TellsOnce Tells → IsReadAnswer Tells is_long file one → IsReadAnswer Tells is_long file other → one ≡ other
+read_one : (Tells : Telling) (is_long : Bool) (file : List ℕ) (one other : Answer) → TellsOnce Tells
+    → IsReadAnswer Tells is_long file one → IsReadAnswer Tells is_long file other → one ≡ other
 read_one Tells true file one other once first second = first ∙ sym second
 read_one Tells false file one other once first second =
-    first.2 ∙ ap (λ (said : Result (List ℕ) LineFault). told said) (once file first.0 second.0 first.1 second.1) ∙ sym second.2
+    first.2 ∙ ap (λ (said : Result (List ℕ) LineFault). told said) (once file first.0 second.0 first.1 second.1)
+    ∙ sym second.2
 
-file_one : (Tells : Telling) (file : Option (List ℕ)) (one other : Answer) → TellsOnce Tells → IsFileAnswer Tells file one → IsFileAnswer Tells file other → one ≡ other
+file_one : (Tells : Telling) (file : Option (List ℕ)) (one other : Answer) → TellsOnce Tells
+    → IsFileAnswer Tells file one → IsFileAnswer Tells file other → one ≡ other
 unfolding IsFileAnswer
 file_one Tells None one other once first second = first ∙ sym second
-file_one Tells (Some file) one other once first second = read_one Tells (nat_lt SCRIPT_LIMIT (length file)) file one other once first second
+file_one Tells (Some file) one other once first second =
+    read_one Tells (nat_lt script_limit (length file)) file one other once first second
 
 tells_one : (what : FileForm) → TellsOnce (tells what)
 tells_one Replay = replay_one
 tells_one (Decode port dir) = decode_one port dir
 
-to_one : (what : Option Asked) (held : Held) (one other : Answer) → IsAnswerTo what held one → IsAnswerTo what held other → one ≡ other
+to_one : (what : Option Asked) (held : Held) (one other : Answer) → IsAnswerTo what held one
+    → IsAnswerTo what held other → one ≡ other
 to_one None held one other first second = first ∙ sym second
 to_one (Some (campaign image script)) held one other first second = first ∙ sym second
-to_one (Some (payloads what file)) held one other first second = file_one (tells what) (held file) one other (tells_one what) first second
+to_one (Some (payloads what file)) held one other first second =
+    file_one (tells what) (held file) one other (tells_one what) first second
 
 pub reply_one : HasOneReply
 unfolding IsAnswer

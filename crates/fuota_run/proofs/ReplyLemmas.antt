@@ -10,14 +10,14 @@ use Rattle.fuota_run.specs.declared.status.Status.TheVariants as status
 use Rattle.fuota_run.specs.Outside.{Held, HoldsName, HasRisen, AppendsFront}
 use Rattle.fuota_run.specs.Source.{IsSource, IsTooLong}
 use Rattle.image_slots.specs.Image.{is_image}
-use Rattle.fuota_run.specs.World.{campaign_of}
-use Rattle.fuota_run.specs.declared.world.LineFault.{LineFault}
-use Rattle.fuota_run.specs.declared.world.WorldError.{WorldError}
-use Rattle.fuota_run.specs.declared.world.WorldError.TheVariants as world
-use Rattle.fuota_run.specs.Report.{report_of}
+use Rattle.campaign_world.specs.Script.{campaign_of}
+use Rattle.campaign_world.specs.declared.faults.LineFault.{LineFault}
+use Rattle.campaign_world.specs.declared.faults.LineError.{LineError}
+use Rattle.campaign_world.specs.declared.faults.LineError.TheVariants as world
+use Rattle.campaign_world.specs.Report.{report_of}
 use Rattle.fuota_run.specs.declared.words.FileForm.{FileForm}
 use Rattle.fuota_run.specs.Words.{Asked, campaign, payloads, asked}
-use Rattle.fuota_run.specs.PayloadLines.{Telling, IsTold}
+use Rattle.payload_replay.specs.PayloadLines.{Telling, IsTold}
 use Rattle.fuota_run.specs.Answer.{Answer, answer, read_fault, usage, image_refused, too_long, taken_text, played, tells, told, script_answer, campaign_answer, IsFileAnswer, IsAnswer}
 use Rattle.fuota_run.specs.Reply.{HoldsAsked, HoldsForm, Gives, Effects, Ends, AppendsAnswer, AppendsAnswerFront, GivesBy, GivesScript, GivesCampaign, GivesFile, IsPlayed, IsReplied, IsReply, IsCaused, Says, ends_source}
 use Rattle.fuota_run.specs.Replies.{IsUnread, IsSaid}
@@ -164,7 +164,7 @@ pub record IsMade (a : Answer) : Type 0 where
   pub used : a.status ≢ status.Usage
 
 -- the answer with what a script made
-pub says_played : (image script : List ℕ) (r : Result (List ℕ) WorldError) (a : Answer) → IsPlayed (campaign_of image script) r → IsSaid r a → (a ≡ played (campaign_of image script)) × IsMade a
+pub says_played : (image script : List ℕ) (r : Result (List ℕ) LineError) (a : Answer) → IsPlayed (campaign_of image script) r → IsSaid r a → (a ≡ played (campaign_of image script)) × IsMade a
 says_played image script (Ok text) a made said =
     let is : a ≡ answer status.Done (report_of made.0) = said ∙ ap (λ t. answer status.Done t) made.2 in (
       is ∙ sym (ap played made.1),
@@ -177,7 +177,7 @@ says_played image script (Err (world.Line fault)) a made said = (
 says_played image script (Err world.Memory) a made said = absurd said
 
 -- and with what a file of payloads made
-pub says_told : (Tells : Telling) (file : List ℕ) (r : Result (List ℕ) WorldError) (a : Answer) → IsTold Tells file r → IsSaid r a
+pub says_told : (Tells : Telling) (file : List ℕ) (r : Result (List ℕ) LineError) (a : Answer) → IsTold Tells file r → IsSaid r a
     → ((said : Result (List ℕ) LineFault) × Tells file said × (a ≡ told said)) × IsMade a
 says_told Tells file (Ok text) a made said = (
   (Ok text, made, said),

@@ -1,22 +1,23 @@
 -- The answer of the program: the status and the text that words and files determine, where nothing fails.
 use Rattle.std.specs.Prelude.{◌≡◌, ℕ, ◌+◌, Bool, true, false, nat_lt, if◌then◌else◌, List, ◌++◌, length, codes, Option, Some, None, Result, Ok, Err}
 use Rattle.std.specs.Fmt.{decimal}
-use Rattle.fuota_run.specs.declared.running.TheConstants.{IMAGE_LIMIT, SCRIPT_LIMIT}
+use Rattle.fuota_run.specs.Limits.{image_limit, script_limit}
 use Rattle.fuota_run.specs.declared.status.Status.{Status}
 use Rattle.fuota_run.specs.declared.status.Status.TheVariants as status
 use Rattle.fuota_run.specs.declared.words.FileForm.{FileForm}
 use Rattle.fuota_run.specs.declared.words.FileForm.TheVariants.{Replay, Decode}
-use Rattle.fuota_run.specs.declared.world.LineWhy.{LineWhy}
-use Rattle.fuota_run.specs.declared.world.LineWhy.TheVariants as why
-use Rattle.fuota_run.specs.declared.world.LineFault.{LineFault}
+use Rattle.campaign_world.specs.declared.faults.LineWhy.{LineWhy}
+use Rattle.campaign_world.specs.declared.faults.LineWhy.TheVariants as why
+use Rattle.campaign_world.specs.declared.faults.LineFault.{LineFault}
 use Rattle.fuota_run.specs.Outside.{Held}
 use Rattle.fuota_run.specs.Words.{Asked, campaign, payloads, asked}
-use Rattle.fuota_run.specs.PayloadLines.{Telling}
-use Rattle.fuota_run.specs.Decode.{Decodes}
-use Rattle.fuota_run.specs.Replay.{Replays}
+use Rattle.payload_replay.specs.PayloadLines.{Telling}
+use Rattle.payload_replay.specs.Decode.{Decodes}
+use Rattle.payload_replay.specs.Replay.{Replays}
 use Rattle.image_slots.specs.Image.{is_image}
-use Rattle.fuota_run.specs.World.{WorldState, campaign_of}
-use Rattle.fuota_run.specs.Report.{report_of}
+use Rattle.campaign_world.specs.World.{WorldState}
+use Rattle.campaign_world.specs.Script.{campaign_of}
+use Rattle.campaign_world.specs.Report.{report_of}
 
 -- a status and the text that is written with it
 pub record Answer : Type 0 where
@@ -67,13 +68,13 @@ played (Err fault) = refused fault
 -- the answer once the image is an image file
 unfoldable pub script_answer : List ℕ → Option (List ℕ) → Answer
 script_answer image None = read_fault
-script_answer image (Some script) = if nat_lt SCRIPT_LIMIT (length script) then too_long SCRIPT_LIMIT else played (campaign_of image script)
+script_answer image (Some script) = if nat_lt script_limit (length script) then too_long script_limit else played (campaign_of image script)
 
 -- the answer to `campaign IMAGE SCRIPT`: of the image first too long, then refused; then of the script
 unfoldable pub campaign_answer : Option (List ℕ) → Option (List ℕ) → Answer
 campaign_answer None script = read_fault
 campaign_answer (Some image) script =
-    if nat_lt IMAGE_LIMIT (length image) then too_long IMAGE_LIMIT
+    if nat_lt image_limit (length image) then too_long image_limit
     else if is_image image then script_answer image script
     else image_refused
 
@@ -89,13 +90,13 @@ told (Err fault) = refused fault
 
 -- the answer to a file of payloads that was read: it is too long, or what is told of it
 abbrev pub IsReadAnswer : Telling → Bool → List ℕ → Answer → Type 0
-IsReadAnswer Tells true file a = a ≡ too_long SCRIPT_LIMIT
+IsReadAnswer Tells true file a = a ≡ too_long script_limit
 IsReadAnswer Tells false file a = (said : Result (List ℕ) LineFault) × Tells file said × (a ≡ told said)
 
 -- the answer to a form with one file of payloads
 unfoldable pub IsFileAnswer : Telling → Option (List ℕ) → Answer → Type 0
 IsFileAnswer Tells None a = a ≡ read_fault
-IsFileAnswer Tells (Some file) a = IsReadAnswer Tells (nat_lt SCRIPT_LIMIT (length file)) file a
+IsFileAnswer Tells (Some file) a = IsReadAnswer Tells (nat_lt script_limit (length file)) file a
 
 -- the answer to what is asked for, over the files that are held
 abbrev pub IsAnswerTo : Option Asked → Held → Answer → Type 0

@@ -4,8 +4,8 @@ use Rattle.fuota_run.specs.declared.running.Reply.{Reply}
 use Rattle.fuota_run.specs.declared.source.SourceError.{SourceError}
 use Rattle.fuota_run.specs.declared.source.SourceError.TheVariants as error
 use Rattle.fuota_run.specs.declared.status.Status.TheVariants as status
-use Rattle.fuota_run.specs.declared.world.WorldError.{WorldError}
-use Rattle.fuota_run.specs.declared.world.WorldError.TheVariants as world
+use Rattle.campaign_world.specs.declared.faults.LineError.{LineError}
+use Rattle.campaign_world.specs.declared.faults.LineError.TheVariants as world
 use Rattle.fuota_run.specs.Answer.{Answer, answer, read_fault, refused, taken_text}
 
 -- its status and its text
@@ -19,7 +19,7 @@ IsUnread error.Failed a = a ≡ read_fault
 IsUnread (error.TooLong taken) a = a ≡ answer (status.TooLong taken) (taken_text taken)
 
 -- the answer with what a file made: its text, or its first refused line; for want of memory there is none
-abbrev pub IsSaid : Result (List ℕ) WorldError → Answer → Type 0
+abbrev pub IsSaid : Result (List ℕ) LineError → Answer → Type 0
 IsSaid (Ok text) a = a ≡ answer status.Done text
 IsSaid (Err (world.Line fault)) a = a ≡ refused fault
 IsSaid (Err world.Memory) a = ⊥

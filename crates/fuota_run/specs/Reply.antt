@@ -3,14 +3,14 @@ use Rattle.std.specs.Prelude.{◌≡◌, ◌⊎◌, ℕ, Bool, true, false, List
 use Rattle.std.specs.Io.KnownBytes.{Keeps, Appends, IsAtEnd}
 use Rattle.fuota_run.specs.declared.status.Status.{Status}
 use Rattle.fuota_run.specs.declared.status.Status.TheVariants as status
-use Rattle.fuota_run.specs.declared.world.WorldError.{WorldError}
-use Rattle.fuota_run.specs.declared.world.WorldError.TheVariants as error
-use Rattle.fuota_run.specs.declared.world.LineFault.{LineFault}
+use Rattle.campaign_world.specs.declared.faults.LineError.{LineError}
+use Rattle.campaign_world.specs.declared.faults.LineError.TheVariants as error
+use Rattle.campaign_world.specs.declared.faults.LineFault.{LineFault}
 use Rattle.fuota_run.specs.Outside.{Held, HoldsName, HasRisen, AppendsFront}
-use Rattle.fuota_run.specs.World.{WorldState}
-use Rattle.fuota_run.specs.Report.{report_of}
+use Rattle.campaign_world.specs.World.{WorldState}
+use Rattle.campaign_world.specs.Report.{report_of}
 use Rattle.fuota_run.specs.Words.{Asked, campaign, payloads, asked}
-use Rattle.fuota_run.specs.PayloadLines.{Telling}
+use Rattle.payload_replay.specs.PayloadLines.{Telling}
 use Rattle.fuota_run.specs.Answer.{Answer, answer, read_fault, usage, tells, script_answer, campaign_answer, IsFileAnswer, IsAnswerTo, IsAnswer}
 
 -- where it is told what is held, something is held under the names of the files that are asked for
@@ -24,7 +24,7 @@ HoldsForm None words = ⊤
 HoldsForm (Some held) words = HoldsAsked (Some held) (asked words)
 
 -- the report, or the first refused line, of this image and script
-abbrev pub IsPlayed : Result WorldState LineFault → Result (List ℕ) WorldError → Type 0
+abbrev pub IsPlayed : Result WorldState LineFault → Result (List ℕ) LineError → Type 0
 IsPlayed outcome (Ok text) = (world : WorldState) × (outcome ≡ Ok world) × (text ≡ report_of world)
 IsPlayed outcome (Err (error.Line fault)) = outcome ≡ Err fault
 IsPlayed outcome (Err error.Memory) = ⊤

@@ -10,7 +10,7 @@ use Rattle.fuota_run.specs.declared.words.Asked.{Asked as Read}
 use Rattle.fuota_run.specs.declared.words.Asked.TheVariants as read
 use Rattle.fuota_run.specs.declared.words.FileForm.{FileForm}
 use Rattle.fuota_run.specs.declared.words.FileForm.TheVariants.{Replay, Decode}
-use Rattle.fuota_run.specs.Script.{decimal_of, ◌>>=◌}
+use Rattle.script_lines.specs.Numbers.{decimal_of, ◌>>=◌}
 
 -- ---- the command
 

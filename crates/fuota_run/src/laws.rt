@@ -1,33 +1,18 @@
 //! Laws about the definitions, each the contract of a function that does nothing.
 
 ghost use Rattle.fuota_run.specs.Answer.{HasOneReply};
-ghost use Rattle.fuota_run.specs.Decode.{HasOneAnswer};
-ghost use Rattle.fuota_run.specs.Headline.{Headline};
-ghost use Rattle.fuota_run.specs.Replay.{ReplaysOnce};
-ghost use Rattle.fuota_run.specs.ReplayHeadline.{ReplayHeadline};
+ghost use Rattle.fuota_run.specs.Headline.{IsReplayAnswered, IsReportAnswered};
 
-/// Whatever image and accepted script are handed in: the session hears what the script delivers, it is complete
-/// from the first heard fragment on after which one file alone fits, that file is the server's image, and the
-/// report says so.
-pub fn headline()
-    ensures { Headline }
+/// Whatever image and accepted script are handed in, the answer is the report of that campaign, of which the headline of
+/// `campaign_world` speaks.
+pub fn report_is_answered()
+    ensures { IsReportAnswered }
 {}
 
-/// Whatever payloads are replayed: each session hears nothing but what the lines carry, it is complete from the first
-/// heard fragment on after which one file alone fits, without rows from the first that is one independent coded
-/// fragment too many, in conflict from the first after which no file fits, and the text says so.
-pub fn replay_is_decided_at_first()
-    ensures { ReplayHeadline }
-{}
-
-/// A file of payloads is replayed in one way: one text, or one first refused line.
-pub fn replay_has_one_answer()
-    ensures { ReplaysOnce }
-{}
-
-/// A file of payloads has one answer on a port and in a direction: one text, or one first refused line.
-pub fn decode_has_one_answer()
-    ensures { HasOneAnswer }
+/// Whatever payloads are handed in that are replayed to their end, the answer is the text of which the law
+/// `replay_is_decided_at_first` of `payload_replay` speaks.
+pub fn replay_is_answered()
+    ensures { IsReplayAnswered }
 {}
 
 /// Words have one answer over the files that are held: one status, and one text.

@@ -6,36 +6,21 @@
 //! to the program above.
 #![tactic(auto)]
 
-mod decoding;
-mod device;
 mod files;
 mod laws;
-mod lines;
 mod memory;
 mod output;
-mod payload_lines;
-mod replaying;
-mod report;
 mod running;
-mod server;
-mod sessions;
 mod sink;
 mod source;
-mod spelling;
 mod status;
 mod system;
 mod words;
-mod world;
 
 pub use files::{Failed, Files};
-pub use laws::{
-    decode_has_one_answer, headline, replay_has_one_answer, replay_is_decided_at_first,
-    run_has_one_answer,
-};
-pub use lines::{Form, Key};
+pub use laws::{replay_is_answered, report_is_answered, run_has_one_answer};
 pub use memory::{MemFiles, MemSink};
 pub use running::run;
 pub use sink::Sink;
 pub use status::Status;
 pub use system::{StdFiles, StdSink};
-pub use world::{LineFault, LineWhy, World, WorldError};

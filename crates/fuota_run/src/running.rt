@@ -5,24 +5,23 @@ ghost use Rattle.std.specs.Io.KnownBytes.{Appends};
 ghost use Rattle.fuota_run.specs.Outside.{HoldsName, HasRisen};
 ghost use Rattle.image_slots.specs.Image.{is_image};
 ghost use Rattle.fuota_run.specs.Words.{asked, seen_asked};
-ghost use Rattle.fuota_run.specs.PayloadLines.{IsTold};
+ghost use Rattle.payload_replay.specs.PayloadLines.{IsTold};
 ghost use Rattle.fuota_run.specs.Answer.{answer, why_word, refused, tells};
-ghost use Rattle.fuota_run.specs.World.{campaign_of};
+ghost use Rattle.campaign_world.specs.Script.{campaign_of};
 ghost use Rattle.fuota_run.specs.Reply.{HoldsForm, HoldsAsked, IsPlayed, GivesScript, GivesCampaign, GivesFile, Gives, Says, IsReadUp, Ends, AppendsAnswer, IsNoForm, IsFinished};
 ghost use Rattle.fuota_run.specs.Replies.{answer_in, IsUnread, IsSaid};
-ghost use Rattle.fuota_run.specs.Texts.{seen_text};
+ghost use Rattle.campaign_world.specs.Texts.{seen_text};
 
-use crate::decoding::decode;
 use crate::files::Files;
-use crate::lines::first_line;
 use crate::output::write_text;
-use crate::replaying::replay;
 use crate::sink::Sink;
 use crate::source::{SourceError, read_source};
 use crate::status::Status;
 use crate::words::{Asked, FileForm, read_words};
-use crate::world::{LineFault, LineWhy, World, WorldError};
+use campaign_world::{LineError, LineFault, LineWhy, World};
 use image_slots::is_image;
+use payload_replay::{decode, replay};
+use script_lines::first_line;
 use std::alloc::{AllocError, Global};
 
 /// The most bytes of an image source.
@@ -182,7 +181,7 @@ fn payloads<F: Files>(
 }
 
 /// What is told of a file of payloads.
-fn tell(alloc: Global, what: FileForm, file: &[u8]) -> Result<Vec<u8>, WorldError>
+fn tell(alloc: Global, what: FileForm, file: &[u8]) -> Result<Vec<u8>, LineError>
     ensures { IsTold (tells what) file.now (seen_text result) }
 {
     match what {
@@ -206,7 +205,7 @@ fn unread(alloc: Global, error: SourceError) -> Result<Reply, AllocError>
 }
 
 /// The reply with the text that a file made, or for its first refused line.
-fn reply_with(alloc: Global, said: Result<Vec<u8>, WorldError>) -> Result<Reply, AllocError>
+fn reply_with(alloc: Global, said: Result<Vec<u8>, LineError>) -> Result<Reply, AllocError>
     ensures { IfOk result (λ r. IsSaid (seen_text said) (answer_in r)) }
 {
     match said {
@@ -214,8 +213,8 @@ fn reply_with(alloc: Global, said: Result<Vec<u8>, WorldError>) -> Result<Reply,
             status: Status::Done,
             text,
         }),
-        Err(WorldError::Memory) => Err(AllocError),
-        Err(WorldError::Line(fault)) => refused(alloc, fault),
+        Err(LineError::Memory) => Err(AllocError),
+        Err(LineError::Line(fault)) => refused(alloc, fault),
     }
 }
 
@@ -250,12 +249,12 @@ fn why_word(why: LineWhy) -> &'static str
 }
 
 /// The report of the campaign that image and script define.
-fn play(alloc: Global, image: &[u8], script: &[u8]) -> Result<Vec<u8>, WorldError>
+fn play(alloc: Global, image: &[u8], script: &[u8]) -> Result<Vec<u8>, LineError>
     requires { is_image image.now ≡ true }
     ensures { IsPlayed (campaign_of image.now script.now) (seen_text result) }
 {
     let Ok(mut world) = World::new(alloc, image) else {
-        return Err(WorldError::Memory);
+        return Err(LineError::Memory);
     };
     let mut rest = script;
     while !rest.is_empty() {

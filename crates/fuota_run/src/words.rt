@@ -3,9 +3,9 @@ ghost use Rattle.std.specs.Prelude.{◌≡◌, ◌≤◌, List, [], ◌∷◌, �
 ghost use Rattle.clap.specs.Words.{App, Row, app_of, first_of, first_value, found_of, new_app, rows_of, subcommand_rows_of, with_rule, with_subcommand};
 ghost use Rattle.fuota_run.specs.Words.{IsCommand, positional, form, with_words, fuota, seen_asked, campaign_asked, replay_asked, decode_asked, asked_by, asked, port_of_word, direction_of_word};
 
-use crate::lines::decimal;
 use clap::error::ErrorKind;
 use clap::{Arg, ArgMatches, Command};
+use script_lines::decimal;
 use std::alloc::{AllocError, Global};
 use wire_base::Direction;
 

@@ -1,8 +1,8 @@
 use Rattle.std.proofs.Common.{List, ℕ, subst}
 use Rattle.fuota_run.specs.Answer.{IsFileAnswer, tells}
-use Rattle.fuota_run.specs.PayloadLines.{IsTold}
+use Rattle.payload_replay.specs.PayloadLines.{IsTold}
 use Rattle.fuota_run.specs.Replies.{answer_in}
-use Rattle.fuota_run.specs.Texts.{seen_text}
+use Rattle.campaign_world.specs.Texts.{seen_text}
 use Rattle.fuota_run.proofs.ReplyLemmas.{says_unread, says_source, says_told, file_long, file_given, if_ok_map}
 use Rattle.fuota_run.proofs.running.payloads.Goals as goal
 

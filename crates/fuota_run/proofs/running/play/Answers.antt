@@ -1,6 +1,6 @@
 use Rattle.std.proofs.Common.{rules, ◌≡◌, List, ℕ, true, ◌==◌, length, Ok, ap, ◌∙◌}
-use Rattle.fuota_run.specs.Script.{lines_of}
-use Rattle.fuota_run.specs.World.{lines_read, after_line}
+use Rattle.script_lines.specs.Lines.{lines_of}
+use Rattle.campaign_world.specs.Script.{read_lines, after_line}
 use Rattle.fuota_run.proofs.Playing.{lines_taken, played_refused, played_report}
 use Rattle.fuota_run.proofs.running.play.Goals as goal
 
@@ -10,7 +10,7 @@ loop-rest-preserved c =
     let so_far = c.loop-rest.invariant.1 in
     let line = c.first_line.result.0.now in
     let step = c.in-Ok-line.ensures.step so_far.0 so_far.1 kept in
-    (step.2, (after_line so_far.0 line, step.1, so_far.2 ∙ ap (λ (ls : List (List ℕ)). lines_read (Ok so_far.0) ls) c.first_line.ensures.lines ∙ lines_taken so_far.0 line _ step.0))
+    (step.2, (after_line so_far.0 line, step.1, so_far.2 ∙ ap (λ (ls : List (List ℕ)). read_lines (Ok so_far.0) ls) c.first_line.ensures.lines ∙ lines_taken so_far.0 line _ step.0))
 
 pub returns-in-Err : goal.returns-in-Err
 returns-in-Err c =
@@ -18,7 +18,7 @@ returns-in-Err c =
     let so_far = c.loop-rest.invariant.1 in
     let step = c.in-Err.ensures.step so_far.0 so_far.1 kept in
     played_refused c.args.image.now c.args.script.now so_far.0 c.first_line.result.0.now (lines_of c.first_line.result.1.now) c.line.new.self c.in-Err.error
-    (so_far.2 ∙ ap (λ (ls : List (List ℕ)). lines_read (Ok so_far.0) ls) c.first_line.ensures.lines) step
+    (so_far.2 ∙ ap (λ (ls : List (List ℕ)). read_lines (Ok so_far.0) ls) c.first_line.ensures.lines) step
 
 pub returns : goal.returns
 returns c =

@@ -1,9 +1,9 @@
 use Rattle.std.proofs.Common.{◌≡◌, List, ℕ, subst}
-use Rattle.fuota_run.specs.World.{campaign_of}
+use Rattle.campaign_world.specs.Script.{campaign_of}
 use Rattle.fuota_run.specs.Answer.{script_answer}
 use Rattle.fuota_run.specs.Reply.{IsPlayed}
 use Rattle.fuota_run.specs.Replies.{answer_in}
-use Rattle.fuota_run.specs.Texts.{seen_text}
+use Rattle.campaign_world.specs.Texts.{seen_text}
 use Rattle.fuota_run.proofs.ReplyLemmas.{says_unread, says_source, says_played, script_long, script_given, if_ok_map}
 use Rattle.fuota_run.proofs.running.script.Goals as goal
 

@@ -1,5 +1,0 @@
-use Rattle.fuota_run.proofs.ReplayLaw.{replay_headline}
-use Rattle.fuota_run.proofs.laws.replay_is_decided_at_first.Goals as goal
-
-pub returns : goal.returns
-returns c = replay_headline

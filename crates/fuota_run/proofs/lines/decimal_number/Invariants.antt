@@ -1,6 +1,0 @@
-use Rattle.std.proofs.Common.{◌≡◌, ◌-◌, ◌^◌, min, take}
-use Rattle.fuota_run.specs.Script.{decimal_number}
-use Rattle.fuota_run.proofs.lines.decimal_number.Given as goal
-
-abbrev pub invariant-loop-digit : goal.invariant-loop-digit
-invariant-loop-digit l = l.number ≡ min (2 ^ 64 - 1) (decimal_number (take l.digit-index l.digits))

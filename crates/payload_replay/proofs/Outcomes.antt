@@ -1,0 +1,12 @@
+-- What is said of an Ok.
+use Rattle.std.proofs.Common.{Result, Ok, Err, OnOk, IsOk, refl}
+
+-- to show it, take that it is Ok
+pub on_ok : {T E : Type 0} {P : Type 0} (r : Result T E) → (IsOk r → P) → OnOk r P
+on_ok (Ok x) says = says refl
+on_ok (Err e) says = tt
+
+-- and where it is Ok, it holds
+pub on_ok_then : {T E : Type 0} {P : Type 0} (r : Result T E) → IsOk r → OnOk r P → P
+on_ok_then (Ok x) ok holds = holds
+on_ok_then (Err e) ok holds = absurd cc

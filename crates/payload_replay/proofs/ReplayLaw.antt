@@ -1,0 +1,72 @@
+-- What `replay` says of each session, whoever made the payloads.
+use Rattle.std.proofs.Common.{◌≡◌, ℕ, min, List, [], ◌∷◌, ◌++◌, length, Option, Some, IfSome, ap, ◌∙◌, subst, append-nil, codes, arith}
+use Rattle.std.specs.Fmt.{decimal}
+use Rattle.frag_model.specs.Fragments.{Fragment}
+use Rattle.frag_session.specs.declared.answers.Verdict.{Verdict}
+use Rattle.frag_session.specs.declared.answers.Verdict.TheVariants as verdict
+use Rattle.frag_session.specs.Session.{Session, Seen, shape_of, seen_of}
+use Rattle.frag_session.specs.Stands.{IsSetUp}
+use Rattle.script_lines.specs.Lines.{lines_of}
+use Rattle.device_core.specs.SessionTable.{session_at}
+use Rattle.device_core.specs.Device.{DeviceState}
+use Rattle.campaign_world.specs.Report.{verdict_text, session_text}
+use Rattle.payload_replay.specs.Replay.{file_line, told_session}
+use Rattle.frag_session.specs.FirstMoment.{MakesFile, IsDecidedAtFirst}
+use Rattle.payload_replay.specs.ReplayHeadline.{IsReplayed, CameInTurn, saying, IsToldOf, ReplayHeadline}
+use Rattle.frag_session.proofs.FirstMoments.{decided_at_first}
+use Rattle.payload_replay.proofs.Numbered.{within}
+use Rattle.payload_replay.proofs.ReplaySessions.{IsFine, of_one, reaches_fine}
+
+session_fine : (file : List ℕ) (device : DeviceState) (index : ℕ) (s : Session) → IsReplayed file device index s
+    → (last : ℕ) × IsFine (lines_of file) last index s
+session_fine file device index s r =
+    let fine = reaches_fine (lines_of file) device r.accepted in
+    let here : min index 3 ≡ index = omega (arith, r.index_is) in
+    let its : IfSome (session_at device.sessions index) (IsFine (lines_of file) fine.0 (min index 3)) =
+        of_one (λ i o. IfSome o (IsFine (lines_of file) fine.0 i)) device.sessions index fine.1 in
+    (fine.0, subst (λ i. IsFine (lines_of file) fine.0 i s) here
+    (subst (λ (o : Option Session). IfSome o (IsFine (lines_of file) fine.0 (min index 3))) r.session_is its))
+
+-- the last fragment came with one of the lines
+in_the_file : (lines : List (List ℕ)) (index last : ℕ) (heard : List Fragment) → CameInTurn lines index last heard
+    → CameInTurn lines index (length lines) heard
+in_the_file lines index last [] came = tt
+in_the_file lines index last (f ∷ older) came = (within lines f.mark came.1.0 came.1.3.line_is, came.1, came.2)
+
+makes_file : (s : Session) → IsSetUp s.setup → MakesFile (shape_of s) s.setup.padding
+unfolding shape_of
+makes_file s set = record { some = set.some; short = set.short }
+
+decided : (file : List ℕ) (device : DeviceState) (index : ℕ) (s : Session) → IsReplayed file device index s
+    → IsDecidedAtFirst s
+decided file device index s r = decided_at_first s (makes_file s (session_fine file device index s r).1.set)
+
+-- the text by its verdict
+by_verdict : (index : ℕ) (seen : Seen) (v : Verdict) → seen.verdict ≡ v
+    → told_session index (Some seen) ≡ session_text index seen.received seen.missing
+    (verdict_text v []) ++ file_line v seen.file
+by_verdict index seen v is =
+    ap (λ (x : Verdict). session_text index seen.received seen.missing (verdict_text x []) ++ file_line x seen.file) is
+
+told_of : (index : ℕ) (s : Session) → IsDecidedAtFirst s → IsToldOf index s
+told_of index s d =
+    let seen : Seen = seen_of s in
+    record {
+      complete = λ line file at.
+          by_verdict index seen (verdict.Complete line) ((d.complete line).1 (file, at))
+          ∙ ap (λ (words : List ℕ). saying index s words ++ file_line (verdict.Complete line) seen.file)
+          (append-nil (codes "complete at " ++ decimal line))
+          ∙ ap (λ (f : List ℕ). saying index s (codes "complete at " ++ decimal line) ++ file_line
+          (verdict.Complete line) f) (d.file line file at);
+      no_rows = λ line at. by_verdict index seen (verdict.NoRows line) ((d.no_rows line).1 at) ∙ append-nil _;
+      conflict = λ line at. by_verdict index seen (verdict.Conflict line) ((d.conflict line).1 at) ∙ append-nil _;
+      receiving = λ stays. by_verdict index seen verdict.Receiving (d.receiving.1 stays) ∙ append-nil _;
+    }
+
+pub replay_headline : ReplayHeadline
+replay_headline = record {
+  heard = λ file device index s r. let fine =
+      session_fine file device index s r in in_the_file (lines_of file) index fine.0 s.heard fine.1.came;
+  decided = decided;
+  told = λ file device index s r. told_of index s (decided file device index s r);
+}

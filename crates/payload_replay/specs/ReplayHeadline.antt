@@ -1,0 +1,70 @@
+-- What `replay` says of each session: the verdicts of a campaign, whoever made the payloads, a conflict among them.
+-- (TS004-1.0.0 leaves recovery to the device; when it ends, and how, is this project's profile.)
+use Rattle.std.specs.Prelude.{◌≡◌, ℕ, ◌-◌, ◌<◌, ◌≤◌, List, [], ◌∷◌, ◌++◌, length, codes, Some, Ok}
+use Rattle.std.specs.Fmt.{decimal}
+use Rattle.hex.specs.Hex.{encode_lower}
+use Rattle.wire_base.specs.declared.refusal.Direction.TheVariants.{Down}
+use Rattle.frag_model.specs.Fragments.{Fragment}
+use Rattle.frag_model.specs.Members.{In}
+use Rattle.frag_session.specs.Session.{Session, shape_of, seen_of}
+use Rattle.cast_wire.specs.declared.cmd.Cmd.TheVariants.{DataFragment}
+use Rattle.package_grammar.specs.declared.command.Command.{Command}
+use Rattle.package_grammar.specs.declared.command.Command.TheVariants.{Cast}
+use Rattle.package_grammar.specs.Grammar.{IsMessage}
+use Rattle.script_lines.specs.Lines.{lines_of}
+use Rattle.campaign_server.specs.Server.{numbered}
+use Rattle.device_core.specs.SessionTable.{session_at}
+use Rattle.device_core.specs.Device.{DeviceState}
+use Rattle.campaign_world.specs.Report.{session_text}
+use Rattle.payload_replay.specs.PayloadLines.{payload_of}
+use Rattle.payload_replay.specs.Replay.{Reaches, told_session}
+use Rattle.frag_session.specs.FirstMoment.{AfterEach, IsOpen, IsWhole, Overflows, NoFileFits, FirstAt, IsDecidedAtFirst}
+
+-- the device behind a file has this session
+pub record IsReplayed (file : List ℕ) (device : DeviceState) (index : ℕ) (s : Session) : Type 0 where
+  pub accepted : Reaches (lines_of file) (Ok device)
+  pub index_is : index < 4
+  pub session_is : session_at device.sessions index ≡ Some s
+
+-- line n carries this command among those of its payload
+pub record IsCarried (lines : List (List ℕ)) (n : ℕ) (c : Command) (line payload : List ℕ) (cs : List Command) : Type 0 where
+  pub line_is : numbered lines n ≡ Some line
+  pub payload_is : payload_of (n - 1) line ≡ Ok payload
+  pub message : IsMessage cs 201 Down payload
+  pub among : In c cs
+
+abbrev pub Carries : List (List ℕ) → ℕ → Command → Type 0
+Carries lines n c = (line : List ℕ) × (payload : List ℕ) × (cs : List Command) × IsCarried lines n c line payload cs
+
+-- each fragment came with the line whose number is its mark, up to this one, and those heard before it no later
+abbrev pub CameInTurn : List (List ℕ) → ℕ → ℕ → List Fragment → Type 0
+CameInTurn lines index last [] = Unit {0}
+CameInTurn lines index last (f ∷ older) = (f.mark ≤ last) × Carries lines f.mark (Cast (DataFragment index f.number f.part)) × CameInTurn lines index f.mark older
+
+-- the session's line, with these words as its verdict
+abbrev pub saying : ℕ → Session → List ℕ → List ℕ
+saying index s words = session_text index (seen_of s).received (seen_of s).missing words
+
+-- what the text says of the session
+pub record IsToldOf (index : ℕ) (s : Session) : Type 0 where
+  -- where some fragment is the first after which one file alone fits: its line, and that file
+  pub complete : (line : ℕ) (file : List ℕ) → FirstAt (shape_of s) s.setup.padding (IsWhole (shape_of s) s.setup.padding file) s.heard line
+      → told_session index (Some (seen_of s)) ≡ saying index s (codes "complete at " ++ decimal line) ++ (codes "file " ++ (encode_lower file ++ codes "\n"))
+  -- where one is the first after which independent coded fragments exceed the rows: its line
+  pub no_rows : (line : ℕ) → FirstAt (shape_of s) s.setup.padding (Overflows (shape_of s) s.setup.padding) s.heard line
+      → told_session index (Some (seen_of s)) ≡ saying index s (codes "norows at " ++ decimal line)
+  -- where one is the first after which no file fits: its line
+  pub conflict : (line : ℕ) → FirstAt (shape_of s) s.setup.padding (NoFileFits (shape_of s) s.setup.padding) s.heard line
+      → told_session index (Some (seen_of s)) ≡ saying index s (codes "conflict at " ++ decimal line)
+  -- and until then that it is open
+  pub receiving : AfterEach (IsOpen (shape_of s) s.setup.padding) s.heard → told_session index (Some (seen_of s)) ≡ saying index s (codes "receiving")
+
+-- whatever payloads are handed in
+pub record ReplayHeadline : Type 0 where
+  -- a session hears nothing but what the lines carry, each fragment at its line
+  pub heard : (file : List ℕ) (device : DeviceState) (index : ℕ) (s : Session) → IsReplayed file device index s
+      → CameInTurn (lines_of file) index (length (lines_of file)) s.heard
+  -- it is decided at the first fragment after which its file is no longer open
+  pub decided : (file : List ℕ) (device : DeviceState) (index : ℕ) (s : Session) → IsReplayed file device index s → IsDecidedAtFirst s
+  -- the text says so
+  pub told : (file : List ℕ) (device : DeviceState) (index : ℕ) (s : Session) → IsReplayed file device index s → IsToldOf index s

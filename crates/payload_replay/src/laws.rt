@@ -1,0 +1,22 @@
+//! Laws about the definitions, each the contract of a function that does nothing.
+
+ghost use Rattle.payload_replay.specs.Decode.{HasOneAnswer};
+ghost use Rattle.payload_replay.specs.Replay.{ReplaysOnce};
+ghost use Rattle.payload_replay.specs.ReplayHeadline.{ReplayHeadline};
+
+/// Whatever payloads are replayed: each session hears nothing but what the lines carry, it is complete from the first
+/// heard fragment on after which one file alone fits, without rows from the first that is one independent coded
+/// fragment too many, in conflict from the first after which no file fits, and the text says so.
+pub fn replay_is_decided_at_first()
+    ensures { ReplayHeadline }
+{}
+
+/// A file of payloads is replayed in one way: one text, or one first refused line.
+pub fn replay_has_one_answer()
+    ensures { ReplaysOnce }
+{}
+
+/// A file of payloads has one answer on a port and in a direction: one text, or one first refused line.
+pub fn decode_has_one_answer()
+    ensures { HasOneAnswer }
+{}

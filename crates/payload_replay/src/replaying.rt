@@ -1,0 +1,241 @@
+//! What `replay` tells of a file of captured payloads: where a device stands that hears them.
+ghost use Rattle.std.specs.Prelude.{◌≡◌, ◌+◌, ◌<◌, ◌≤◌, ◌++◌, List, ℕ, Some, length, Ok, IfOk, IfErr, OnOk, codes, string_bytes};
+ghost use Rattle.frag_session.specs.Session.{view_of};
+ghost use Rattle.frag_session.specs.Shows.{seen};
+ghost use Rattle.script_lines.specs.Lines.{lines_of};
+ghost use Rattle.wire_base.specs.Payload.{max_payload};
+ghost use Rattle.device_core.specs.SessionTable.{session_at};
+ghost use Rattle.device_core.specs.Device.{DeviceState};
+ghost use Rattle.device_core.specs.HeldDevice.{DeviceStands, Becomes};
+ghost use Rattle.payload_replay.specs.PayloadLines.{payload_of, IsLineRefused, IsTold};
+ghost use Rattle.payload_replay.specs.Replay.{rows_by, header_rows, replay_device, after_payload, file_line, told_session, told_sessions, replay_text, Replays};
+ghost use Rattle.payload_replay.specs.Replayed.{HearsLines};
+ghost use Rattle.campaign_world.specs.Texts.{seen_text};
+
+use crate::payload_lines::{read_payload, refused};
+use campaign_world::{
+    LineError, LineWhy, MAX_LINE, counts_line, session_text, sessions_text, throw_away,
+    verdict_text,
+};
+use cast_wire::FRAGMENT_PORT;
+use device_core::{Class, Device, DeviceConfig};
+use package_grammar::{Downlink, To};
+use script_lines::{count_words, decimal, first_line, is_word, word};
+use wire_base::Payload;
+use frag_session::{Verdict, View};
+use std::alloc::{AllocError, Global};
+
+/// The most rows that a header gives.
+const MAX_ROWS: u64 = 64;
+
+/// The text of a replay: a class C device with 4 sessions of at most 65,774 bytes hears captured payloads by unicast on port
+/// 201, downwards, at moment 0 ms, and the text tells its counts, and of each session its verdict, with the number of the
+/// line that decided it, and its file in hex where it is whole.
+///
+/// The first line of the file is `replay 1 ROWS`, with ROWS (decimal, 0 to 64) the coded fragments that a session holds.
+/// Lines 2 to 20,000, each of at most 600 bytes, are the hex digits of a payload of 0 to 242 bytes in the order sent.
+/// `LineError::Line` names the first line that is refused and its first cause: `LineWhy::Limit` where a bound is exceeded,
+/// `LineWhy::Range` where ROWS is above 64, and else `LineWhy::Syntax`; an empty file is refused at line 1.
+/// `LineError::Memory` comes where memory is wanting. (TS004-1.0.0; the file and the text are this project's profile.)
+pub fn replay(alloc: Global, file: &[u8]) -> Result<Vec<u8>, LineError>
+    ensures { IsTold Replays file.now (seen_text result) }
+{
+    if file.is_empty() {
+        return Err(refused(0, LineWhy::Syntax));
+    }
+    let (header, payloads) = first_line(file);
+    let rows = match read_header(header) {
+        Ok(rows) => rows,
+        Err(why) => return Err(refused(0, why)),
+    };
+    let Ok(mut device) = Device::reserve(alloc, config(rows)) else {
+        return Err(LineError::Memory);
+    };
+    match hear_lines(alloc, &mut device, payloads) {
+        Ok(()) => told(alloc, &device),
+        Err(error) => Err(error),
+    }
+}
+
+/// The configuration of the device: class C, hardware version 0, a clock that is right, and so many rows.
+fn config(rows: u16) -> DeviceConfig
+    ensures { result ≡ (replay_device rows).config }
+{
+    DeviceConfig {
+        class: Class::C,
+        hw: 0,
+        rows,
+        offset: 0,
+        key: [0; 16],
+        descriptor: None,
+        sessions: 4,
+        groups: 4,
+        area: 65_774,
+    }
+}
+
+/// The rows that a header gives.
+#[tactic(auto, unfolding(crate::specs::Replay::header_rows))]
+fn read_header(line: &[u8]) -> Result<u16, LineWhy>
+    ensures { result ≡ header_rows line.now }
+{
+    if line.len() > MAX_LINE {
+        Err(LineWhy::Limit)
+    } else if count_words(line) == 3 && is_word(line, 0, "replay") && is_word(line, 1, "1") {
+        rows_by(decimal(word(line, 2)))
+    } else {
+        Err(LineWhy::Syntax)
+    }
+}
+
+fn rows_by(rows: Option<u64>) -> Result<u16, LineWhy>
+    ensures { result ≡ rows_by rows }
+{
+    match rows {
+        None => Err(LineWhy::Syntax),
+        Some(rows) if rows <= MAX_ROWS => Ok(rows as u16),
+        Some(_) => Err(LineWhy::Range),
+    }
+}
+
+/// The device hears the payloads of the lines behind the header, the first of which is line 2.
+fn hear_lines(alloc: Global, device: &mut Device, file: &[u8]) -> Result<(), LineError>
+    ensures { (before : DeviceState) → DeviceStands device.old before
+        → HearsLines before (lines_of file.now) device.new result }
+{
+    let mut lines = 1u32;
+    let mut rest = file;
+    while !rest.is_empty() {
+        let (line, behind) = first_line(rest);
+        match hear_line(alloc, device, lines, line) {
+            Ok(()) => {
+                lines += 1;
+                rest = behind;
+            }
+            Err(error) => return Err(error),
+        }
+    }
+    Ok(())
+}
+
+/// The device hears the payload of a line that comes after so many; or the line is refused.
+fn hear_line(alloc: Global, device: &mut Device, lines: u32, line: &[u8]) -> Result<(), LineError>
+    requires { lines ≤ 20000 }
+    ensures heard { OnOk result ((payload : List ℕ) × (payload_of lines line.now ≡ Ok payload)
+        × Becomes device.old device.new (λ before. after_payload (lines + 1) payload before)) }
+    ensures few { OnOk result (lines < 20000) }
+    ensures refused { IfErr result (IsLineRefused lines line.now) }
+{
+    match read_payload(alloc, lines, line) {
+        Ok(payload) => {
+            hear(device, &payload, u64::from(lines + 1));
+            Ok(())
+        }
+        Err(error) => Err(error),
+    }
+}
+
+/// The device hears a payload at moment 0, and its uplinks are thrown away.
+fn hear(device: &mut Device, payload: &[u8], mark: u64)
+    requires { length payload.now ≤ max_payload }
+    ensures { Becomes device.old device.new (λ before. after_payload mark payload.now before) }
+{
+    let down = Downlink {
+        to: To::Unicast,
+        port: FRAGMENT_PORT,
+        payload: Payload::from_slice(payload),
+    };
+    let _delivered = device.deliver(0, &down, 0, mark);
+    throw_away(device);
+}
+
+/// The text over the device.
+fn told(alloc: Global, device: &Device) -> Result<Vec<u8>, LineError>
+    ensures text { (d : DeviceState) → DeviceStands device.now d → IfOk result (λ text. text.items ≡ replay_text d) }
+    ensures memory { IfErr result (λ e. e ≡ LineError.Memory) }
+{
+    match text_of(alloc, device) {
+        Ok(text) => Ok(text.into_bytes()),
+        Err(_) => Err(LineError::Memory),
+    }
+}
+
+fn text_of(alloc: Global, device: &Device) -> Result<String, AllocError>
+    ensures { (d : DeviceState) → DeviceStands device.now d → IfOk result (λ text. string_bytes text ≡ replay_text d) }
+{
+    let counts = counts_line(alloc, device.counts())?;
+    let sessions = sessions_part(alloc, device)?;
+    whole_text(alloc, counts.as_str(), sessions.as_str())
+}
+
+/// The lines of a replay, between its first and its last.
+fn whole_text(alloc: Global, counts: &str, sessions: &str) -> Result<String, AllocError>
+    ensures { IfOk result (λ text. string_bytes text ≡ codes "fuota replay 1\n" ++ (counts.now ++ (sessions.now ++ codes "end\n"))) }
+{
+    format!(in alloc; "fuota replay 1\n{counts}{sessions}end\n")
+}
+
+/// The lines of the sessions that there are.
+fn sessions_part(alloc: Global, device: &Device) -> Result<String, AllocError>
+    ensures { (d : DeviceState) → DeviceStands device.now d
+        → IfOk result (λ text. string_bytes text ≡ told_sessions d.sessions) }
+{
+    let first = session_part(alloc, device, 0)?;
+    let second = session_part(alloc, device, 1)?;
+    let third = session_part(alloc, device, 2)?;
+    let fourth = session_part(alloc, device, 3)?;
+    sessions_text(
+        alloc,
+        first.as_str(),
+        second.as_str(),
+        third.as_str(),
+        fourth.as_str(),
+    )
+}
+
+/// The lines of a session, if there is one.
+fn session_part(alloc: Global, device: &Device, index: u8) -> Result<String, AllocError>
+    requires { index < 4 }
+    ensures { (d : DeviceState) → DeviceStands device.now d
+        → IfOk result (λ text. string_bytes text ≡ told_session index (view_of (session_at d.sessions index))) }
+{
+    match device.session(index) {
+        Some(view) => session_lines(alloc, index, view),
+        None => Ok(String::new(alloc)),
+    }
+}
+
+#[tactic(auto, unfolding(frag_session::specs::Shows::seen))]
+fn session_lines(alloc: Global, index: u8, view: View) -> Result<String, AllocError>
+    ensures { IfOk result (λ text. string_bytes text ≡ told_session index (Some (seen view.entry))) }
+{
+    let verdict = verdict_text(alloc, view.verdict, "")?;
+    let session = session_text(alloc, index, view.received, view.missing, verdict.as_str())?;
+    let file = file_line(alloc, view.verdict, view.file)?;
+    two_texts(alloc, session.as_str(), file.as_str())
+}
+
+fn two_texts(alloc: Global, one: &str, more: &str) -> Result<String, AllocError>
+    ensures { IfOk result (λ text. string_bytes text ≡ one.now ++ more.now) }
+{
+    format!(in alloc; "{one}{more}")
+}
+
+/// The file in hex, on a line of its own, where it is whole.
+fn file_line(alloc: Global, verdict: Verdict, file: &[u8]) -> Result<String, AllocError>
+    ensures { IfOk result (λ text. string_bytes text ≡ file_line verdict file.now) }
+{
+    match verdict {
+        Verdict::Complete(_) => {
+            let hex = hex::encode(alloc, file)?;
+            hex_line(alloc, hex.as_str())
+        }
+        _ => Ok(String::new(alloc)),
+    }
+}
+
+fn hex_line(alloc: Global, hex: &str) -> Result<String, AllocError>
+    ensures { IfOk result (λ text. string_bytes text ≡ codes "file " ++ (hex.now ++ codes "\n")) }
+{
+    format!(in alloc; "file {hex}\n")
+}
