@@ -1,4 +1,3 @@
-pub mod Outcomes
 pub mod PayloadLines
 pub mod Payloads
 pub mod ReplayLines

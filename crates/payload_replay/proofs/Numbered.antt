@@ -1,5 +1,5 @@
 -- Lines by their numbers, the first of which is 1.
-use Rattle.std.proofs.Common.{◌≡◌, ℕ, zero, suc, ◌+◌, ◌-◌, ◌<◌, ◌≤◌, Bool, true, false, cond, ◌==◌, List, [], ◌∷◌, length, drop, slice_get, Option, None, Some, refl, ap, ◌∙◌, arith, ne_eqb}
+use Rattle.std.proofs.Common.{◌≡◌, ℕ, zero, suc, ◌+◌, ◌-◌, ◌<◌, ◌≤◌, Bool, true, false, cond, ◌==◌, List, [], ◌∷◌, length, drop, slice_get, None, Some, refl, ap, ◌∙◌, arith, ne_eqb}
 use Rattle.campaign_server.specs.Server.{numbered}
 
 -- the item behind the first n

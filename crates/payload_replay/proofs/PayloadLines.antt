@@ -13,7 +13,7 @@ pub line_taken : {S : Type 0} (Takes : Step S) (lines : ℕ) (state next : S) (l
 unfolding TakesLines
 line_taken Takes lines state next line payload rest outcome is takes behind =
     subst (λ (r : Result (List ℕ) LineWhy). BehindLine Takes lines state r
-        (λ more. TakesLines Takes (lines + 1) more rest) outcome) (sym is) (next, takes, behind)
+    (λ more. TakesLines Takes (lines + 1) more rest) outcome) (sym is) (next, takes, behind)
 
 -- a line that is refused
 pub line_refused : {S : Type 0} (Takes : Step S) (lines : ℕ) (state : S) (line : List ℕ) (rest : List (List ℕ))
@@ -22,9 +22,9 @@ pub line_refused : {S : Type 0} (Takes : Step S) (lines : ℕ) (state : S) (line
 unfolding TakesLines
 line_refused {S} Takes lines state line rest fault is place =
     let fault_is : Path LineFault fault (record { line = lines + 1; why = fault.why }) =
-        ap (λ (n : ℕ). let f : LineFault = record { line = n; why = fault.why } in f) place in
+    ap (λ (n : ℕ). let f : LineFault = record { line = n; why = fault.why } in f) place in
     subst (λ (r : Result (List ℕ) LineWhy). BehindLine Takes lines state r
-        (λ more. TakesLines Takes (lines + 1) more rest) (Err fault)) (sym is)
+    (λ more. TakesLines Takes (lines + 1) more rest) (Err fault)) (sym is)
     (ap (λ (f : LineFault). let r : Result S LineFault = Err f in r) fault_is)
 
 -- nothing is left

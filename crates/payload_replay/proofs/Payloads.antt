@@ -25,7 +25,7 @@ numbered_on text head shown n is =
 pub refused_there : (port : ℕ) (dir : Direction) (file : List ℕ) (lines : ℕ) (text line : List ℕ)
     (rest : List (List ℕ)) (e : LineError)
     → ((outcome : Result (List ℕ) LineFault) → TakesLines (Writes port dir) lines text (line ∷ rest) outcome
-        → TakesLines (Writes port dir) 0 [] (lines_of file) outcome)
+    → TakesLines (Writes port dir) 0 [] (lines_of file) outcome)
     → IsLineRefused lines line e → IsTold (Decodes port dir) file (Err e)
 unfolding Decodes
 refused_there port dir file lines text line rest (error.Line fault) so_far refused =
@@ -44,5 +44,5 @@ unfolding Decodes
 decode_one port dir file one other first second =
     first.2
     ∙ ap (told_by (λ text. text ++ codes "end\n")) (lines_once (Writes port dir) 0 [] (lines_of file) first.0 second.0
-        (λ n payload text one other written again. written ∙ sym again) first.1 second.1)
+    (λ n payload text one other written again. written ∙ sym again) first.1 second.1)
     ∙ sym second.2

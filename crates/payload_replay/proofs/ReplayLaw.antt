@@ -23,9 +23,11 @@ session_fine file device index s r =
     let fine = reaches_fine (lines_of file) device r.accepted in
     let here : min index 3 ≡ index = omega (arith, r.index_is) in
     let its : IfSome (session_at device.sessions index) (IsFine (lines_of file) fine.0 (min index 3)) =
-        of_one (λ i o. IfSome o (IsFine (lines_of file) fine.0 i)) device.sessions index fine.1 in
-    (fine.0, subst (λ i. IsFine (lines_of file) fine.0 i s) here
-    (subst (λ (o : Option Session). IfSome o (IsFine (lines_of file) fine.0 (min index 3))) r.session_is its))
+    of_one (λ i o. IfSome o (IsFine (lines_of file) fine.0 i)) device.sessions index fine.1 in (
+      fine.0,
+      subst (λ i. IsFine (lines_of file) fine.0 i s) here
+          (subst (λ (o : Option Session). IfSome o (IsFine (lines_of file) fine.0 (min index 3))) r.session_is its),
+    )
 
 -- the last fragment came with one of the lines
 in_the_file : (lines : List (List ℕ)) (index last : ℕ) (heard : List Fragment) → CameInTurn lines index last heard

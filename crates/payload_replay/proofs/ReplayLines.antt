@@ -23,7 +23,7 @@ behind_once : (rows : Result ℕ LineWhy) (lines : List (List ℕ)) (one other :
 behind_once (Err cause) lines one other first second = first ∙ sym second
 behind_once (Ok rows) lines one other first second =
     lines_once Hears 1 (replay_device rows) lines one other
-        (λ n payload device one other heard again. heard ∙ sym again) first second
+    (λ n payload device one other heard again. heard ∙ sym again) first second
 
 pub reaches_once : (lines : List (List ℕ)) (one other : Result DeviceState LineFault) → Reaches lines one
     → Reaches lines other → one ≡ other
@@ -35,7 +35,7 @@ pub replay_one : ReplaysOnce
 unfolding Replays
 replay_one file one other first second =
     first.2 ∙ ap (told_by (λ device. replay_text device))
-        (reaches_once (lines_of file) first.0 second.0 first.1 second.1) ∙ sym second.2
+    (reaches_once (lines_of file) first.0 second.0 first.1 second.1) ∙ sym second.2
 
 -- ---- the lines behind the header
 
@@ -82,7 +82,7 @@ pub header_refused : (file header : List ℕ) (rest : List (List ℕ)) (cause : 
     → IsTold Replays file (Err (error.Line (record { line = 1; why = cause })))
 header_refused file header rest cause is refused =
     tells file header rest (Err (record { line = 1; why = cause })) is
-        (reaches_by header rest (Err cause) _ (sym refused) refl)
+    (reaches_by header rest (Err cause) _ (sym refused) refl)
 
 -- a line behind it that is refused
 pub told_refused : (file header : List ℕ) (rest : List (List ℕ)) (rows : ℕ) (new : HeldDevice) (r : Result (Unit {0}) LineError)
@@ -90,7 +90,7 @@ pub told_refused : (file header : List ℕ) (rest : List (List ℕ)) (rows : ℕ
     → HearsLines (replay_device rows) rest new r → IsTold Replays file (Err e)
 told_refused file header rest rows new r (error.Line fault) is fine refused heard =
     tells file header rest (Err fault) is (reaches_by header rest (Ok rows) _ (sym fine)
-        (subst (λ (o : Result (Unit {0}) LineError). HearsLines (replay_device rows) rest new o) refused heard))
+    (subst (λ (o : Result (Unit {0}) LineError). HearsLines (replay_device rows) rest new o) refused heard))
 told_refused file header rest rows new r error.Memory is fine refused heard = tt
 
 -- none is: the text is that of the device behind all lines
@@ -100,6 +100,6 @@ pub told_text : (file header : List ℕ) (rest : List (List ℕ)) (rows : ℕ) (
     → IfErr r (λ e. e ≡ error.Memory) → IsTold Replays file (seen_text r)
 told_text file header rest rows after (Ok text) is fine heard text_is memory =
     subst (λ (t : List ℕ). Replays file (Ok t)) (sym text_is)
-        (tells file header rest (Ok after) is (reaches_by header rest (Ok rows) _ (sym fine) heard))
+    (tells file header rest (Ok after) is (reaches_by header rest (Ok rows) _ (sym fine) heard))
 told_text file header rest rows after (Err e) is fine heard text_is memory =
     subst (λ (x : LineError). IsTold Replays file (Err x)) (sym memory) tt

@@ -166,7 +166,7 @@ unfolding fragment_step heard_step
 data_fine lines last way d index n part small carried h =
     let here : min index 3 ≡ index = omega (arith, small) in
     let heard = fragment_keeps (IsFine lines last index) (session_at d.sessions index) way n part last
-        (follows lines last index n part carried)
+    (follows lines last index n part carried)
     (subst (λ i. IfSome (session_at d.sessions index) (IsFine lines last i)) here
     (of_one (λ i s. IfSome s (IsFine lines last i)) d.sessions index h)) in
     device_by lines last (is_none (drop_cause (session_at d.sessions index) way n part)) _ _
@@ -234,7 +234,7 @@ unfolding after_commands
 commands_fine lines last way d [] may h = h
 commands_fine lines last way d (c ∷ cs) may h =
     commands_fine lines last way (after_answers (step (at_line way last) d c)) cs (λ x i. may x (inr i))
-        (step_fine lines last way d c (may c (inl refl)) h)
+    (step_fine lines last way d c (may c (inl refl)) h)
 
 -- ---- a payload
 
@@ -251,8 +251,18 @@ record IsLine (all : List (List ℕ)) (lines : ℕ) (line payload : List ℕ) : 
 may_act : (all : List (List ℕ)) (lines : ℕ) (line payload : List ℕ) (cs : List Command) → IsLine all lines line payload
     → IsMessage cs 201 Down payload → (c : Command) → In c cs → MayAct all (lines + 1) c
 may_act all lines line payload cs its message c among = record {
-  carried = (line, payload, cs, record { line_is = its.line_is; payload_is =
-      subst (λ k. payload_of k line ≡ Ok payload) (omega arith) its.payload_is; message = message; among = among });
+  carried = (
+    line,
+    payload,
+    cs,
+    record {
+      line_is = its.line_is;
+      payload_is =
+          subst (λ k. payload_of k line ≡ Ok payload) (omega arith) its.payload_is;
+      message = message;
+      among = among;
+    },
+  );
   small = λ index n part is. index_in cs index n part 201 Down payload 0 (length payload) message.all
       (subst (λ (x : Command). In x cs) is among);
 }
@@ -263,7 +273,7 @@ read_fine : (all : List (List ℕ)) (lines : ℕ) (line payload : List ℕ) (way
 unfolding read_delivery message_delivery
 read_fine all lines line payload way d (Ok cs) its message h =
     outcome_by all (lines + 1) _ _ _ h (commands_fine all (lines + 1) way d cs
-        (may_act all lines line payload cs its message) h)
+    (may_act all lines line payload cs its message) h)
 read_fine all lines line payload way d (Err refusal) its stop h = h
 
 heard_fine : (all : List (List ℕ)) (lines : ℕ) (line payload : List ℕ) (d : DeviceState) → IsLine all lines line payload
@@ -272,7 +282,7 @@ heard_fine : (all : List (List ℕ)) (lines : ℕ) (line payload : List ℕ) (d 
 unfolding heard_delivery
 heard_fine all lines line payload d its h =
     outcome_by all (lines + 1) _ _ _ (read_fine all lines line payload (via_of d.class_session Unicast) d
-        (reading_of 201 Down payload) its (reads 201 Down payload) h) h
+    (reading_of 201 Down payload) its (reads 201 Down payload) h) h
 
 reboot_fine : (all : List (List ℕ)) (last t : ℕ) (d : DeviceState) → AreFine all last d
     → AreFine all last (after_due_reboot t d)
@@ -308,7 +318,7 @@ lines_keep all lines d t [] is taken h = let same : d ≡ t = cc in (lines, subs
 lines_keep all lines d t (line ∷ rest) is taken h =
     let next = numbered_next all lines line rest is in
     line_keeps all lines line d t (payload_of lines line) _ refl next.0 h
-        (λ one fine behind. lines_keep all (lines + 1) one t rest next.1 behind fine) taken
+    (λ one fine behind. lines_keep all (lines + 1) one t rest next.1 behind fine) taken
 
 behind_fine : (header : List ℕ) (rest : List (List ℕ)) (rows : Result ℕ LineWhy) (t : DeviceState)
     → ReachesBehind rows rest (Ok t) → (last : ℕ) × AreFine (header ∷ rest) last t

@@ -8,8 +8,8 @@ ghost use Rattle.payload_replay.specs.Decode.{commands_text, stop_word, stop_tex
 
 use crate::payload_lines::read_payload;
 use campaign_world::LineError;
-use script_lines::first_line;
 use package_grammar::{Message, show};
+use script_lines::first_line;
 use std::alloc::{AllocError, Global};
 use wire_base::{Direction, Why};
 

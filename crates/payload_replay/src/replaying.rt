@@ -19,11 +19,11 @@ use campaign_world::{
 };
 use cast_wire::FRAGMENT_PORT;
 use device_core::{Class, Device, DeviceConfig};
+use frag_session::{Verdict, View};
 use package_grammar::{Downlink, To};
 use script_lines::{count_words, decimal, first_line, is_word, word};
-use wire_base::Payload;
-use frag_session::{Verdict, View};
 use std::alloc::{AllocError, Global};
+use wire_base::Payload;
 
 /// The most rows that a header gives.
 const MAX_ROWS: u64 = 64;

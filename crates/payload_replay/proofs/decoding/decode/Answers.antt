@@ -12,7 +12,7 @@ loop-rest-preserved c =
       few,
       λ outcome behind. c.loop-rest.invariant.1 outcome
           (rw c.first_line.ensures.lines (line_taken (Writes c.args.port c.args.dir) c.loop-rest.lines
-              c.loop-rest.text.items _ c.first_line.result.0.now made.0 _ outcome made.1 made.2 behind)),
+          c.loop-rest.text.items _ c.first_line.result.0.now made.0 _ outcome made.1 made.2 behind)),
     )
 
 pub returns-in-Err : goal.returns-in-Err
@@ -24,6 +24,6 @@ pub returns-in-Ok-extend_from_slice : goal.returns-in-Ok-extend_from_slice
 returns-in-Ok-extend_from_slice c =
     let empty : (length c.loop-rest.rest.now == 0) ≡ true = search rules in
     let text : c.extend_from_slice.new.self.items ≡ c.loop-rest.text.items ++ codes "end\n" =
-        c.in-Ok-extend_from_slice.ensures.items in
+    c.in-Ok-extend_from_slice.ensures.items in
     let none = none_left (Writes c.args.port c.args.dir) c.loop-rest.lines c.loop-rest.text.items c.loop-rest.rest.now empty in
     rw text (all_written c.args.port c.args.dir c.args.file.now c.loop-rest.text.items (c.loop-rest.invariant.1 _ none))

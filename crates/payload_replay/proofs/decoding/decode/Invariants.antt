@@ -10,7 +10,7 @@ abbrev pub invariant-loop-rest : goal.invariant-loop-rest
 invariant-loop-rest l =
     (l.lines ≤ 20000)
     × ((outcome : Result (List ℕ) LineFault) → TakesLines (Writes l.port l.dir) l.lines l.text.items (lines_of l.rest) outcome
-        → TakesLines (Writes l.port l.dir) 0 [] (lines_of l.file) outcome)
+    → TakesLines (Writes l.port l.dir) 0 [] (lines_of l.file) outcome)
 
 abbrev pub decreases-loop-rest : goal.decreases-loop-rest
 decreases-loop-rest l = length l.rest

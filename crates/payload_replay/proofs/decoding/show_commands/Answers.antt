@@ -12,7 +12,7 @@ loop-command-preserved c =
     let before = c.loop-command.text.items in
     let left = c.next.new.self.commands in
     ap (λ (w : List ℕ). w ++ commands_text left) (c.in_ok-extend_from_slice.ensures.items
-        ∙ ap (λ (w : List ℕ). w ++ codes "\n") c.in_ok-show.ensures.shown)
+    ∙ ap (λ (w : List ℕ). w ++ codes "\n") c.in_ok-show.ensures.shown)
     ∙ three_on before (text_of c.in-Some.command) (codes "\n") (commands_text left)
     ∙ ap (λ (m : HeldMessage). before ++ commands_text m.commands) (sym c.in-Some.ensures.takes)
     ∙ c.loop-command.invariant

@@ -24,8 +24,8 @@ pub returns-in-Err : goal.returns-in-Err
 returns-in-Err c = λ before stands.
     let so_far = c.loop-rest.invariant.1 before stands in
     refused_behind before so_far.0 (lines_of c.args.file.now) (lines_of c.first_line.result.1.now) c.loop-rest.lines
-        c.first_line.result.0.now c.hear_line.new.device c.in-Err.error
-        (λ outcome from. so_far.2 outcome (rw c.first_line.ensures.lines from)) c.in-Err.ensures.refused
+    c.first_line.result.0.now c.hear_line.new.device c.in-Err.error
+    (λ outcome from. so_far.2 outcome (rw c.first_line.ensures.lines from)) c.in-Err.ensures.refused
 
 pub returns : goal.returns
 returns c = λ before stands.

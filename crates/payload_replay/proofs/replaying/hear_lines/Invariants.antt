@@ -13,7 +13,7 @@ invariant-loop-rest l =
     (l.lines ≤ 20000)
     × ((before : DeviceState) → DeviceStands l.fn.device before → (now : DeviceState) × DeviceStands l.device now
     × ((outcome : Result DeviceState LineFault) → TakesLines Hears l.lines now (lines_of l.rest) outcome
-        → TakesLines Hears 1 before (lines_of l.file) outcome))
+    → TakesLines Hears 1 before (lines_of l.file) outcome))
 
 abbrev pub decreases-loop-rest : goal.decreases-loop-rest
 decreases-loop-rest l = length l.rest

@@ -21,18 +21,18 @@ returns-in-Ok-hear_lines c =
     let rest = lines_of c.first_line.result.1.now in
     let first = replay_device c.in-Ok.rows in
     let stands = subst (λ (k : DeviceConfig). DeviceStands c.in-Ok-reserve.device (first_device k)) c.config.ensures
-        c.in-Ok-reserve.ensures.1 in
+    c.in-Ok-reserve.ensures.1 in
     let heard = heard_all first rest c.hear_lines.new.device c.hear_lines.result c.in-Ok-hear_lines.field-0
-        c.in-Ok-hear_lines.is (c.hear_lines.ensures first stands) in
+    c.in-Ok-hear_lines.is (c.hear_lines.ensures first stands) in
     told_text c.args.file.now c.first_line.result.0.now rest c.in-Ok.rows heard.0 c.told.result
-        c.first_line.ensures.lines c.in-Ok.ensures heard.1 (c.told.ensures.text heard.0 heard.2) c.told.ensures.memory
+    c.first_line.ensures.lines c.in-Ok.ensures heard.1 (c.told.ensures.text heard.0 heard.2) c.told.ensures.memory
 
 pub returns : goal.returns
 returns c =
     let rest = lines_of c.first_line.result.1.now in
     let first = replay_device c.in-Ok.rows in
     let stands = subst (λ (k : DeviceConfig). DeviceStands c.in-Ok-reserve.device (first_device k)) c.config.ensures
-        c.in-Ok-reserve.ensures.1 in
+    c.in-Ok-reserve.ensures.1 in
     told_refused c.args.file.now c.first_line.result.0.now rest c.in-Ok.rows c.hear_lines.new.device
-        c.hear_lines.result c.in-Err-hear_lines.error c.first_line.ensures.lines c.in-Ok.ensures
-        c.in-Err-hear_lines.is (c.hear_lines.ensures first stands)
+    c.hear_lines.result c.in-Err-hear_lines.error c.first_line.ensures.lines c.in-Ok.ensures
+    c.in-Err-hear_lines.is (c.hear_lines.ensures first stands)

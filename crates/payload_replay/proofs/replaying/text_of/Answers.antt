@@ -10,10 +10,10 @@ unfolding replay_text
 returns c = λ d stands.
     let held : c.counts.result ≡ d.counts = c.counts.ensures ∙ sym (ap (λ (x : DeviceState). x.counts) stands.rest) in
     let counts : c.as_str.result.now ≡ counts_line d.counts =
-        c.as_str.ensures.value ∙ c.in_ok-counts.ensures ∙ ap (λ (k : Counts). counts_line k) held in
+    c.as_str.ensures.value ∙ c.in_ok-counts.ensures ∙ ap (λ (k : Counts). counts_line k) held in
     let sessions : c.as_str-2.result.now ≡ told_sessions d.sessions =
-        c.as_str-2.ensures.value ∙ c.in_ok-sessions.ensures d stands in
+    c.as_str-2.ensures.value ∙ c.in_ok-sessions.ensures d stands in
     subst (λ (s : List ℕ). IfOk c.whole_text.result (λ text. string_bytes text
-        ≡ codes "fuota replay 1\n" ++ (counts_line d.counts ++ (s ++ codes "end\n")))) sessions
+    ≡ codes "fuota replay 1\n" ++ (counts_line d.counts ++ (s ++ codes "end\n")))) sessions
     (subst (λ (k : List ℕ). IfOk c.whole_text.result (λ text. string_bytes text
-        ≡ codes "fuota replay 1\n" ++ (k ++ (c.as_str-2.result.now ++ codes "end\n")))) counts c.whole_text.ensures)
+    ≡ codes "fuota replay 1\n" ++ (k ++ (c.as_str-2.result.now ++ codes "end\n")))) counts c.whole_text.ensures)
