@@ -1,5 +1,5 @@
 -- Between the table and the code: for each port and direction the command that a place's identifier names, and its end.
--- Only the proof that nothing else is spelled there reads these; what commands are is said by the table alone.
+-- What commands are is said by the table alone; the reading of a payload computes with these, and is held to it by law.
 use Rattle.std.specs.Prelude.{ℕ, zero, suc, ◌+◌, ◌*◌, ◌||◌, Bool, ◌==◌, nat_le, if◌then◌else◌, List, [], ◌∷◌, length, drop, slice_range, count_ones, Option, Some, None}
 use Rattle.wire_base.specs.declared.refusal.Direction.{Direction}
 use Rattle.wire_base.specs.declared.refusal.Direction.TheVariants.{Down, Up}

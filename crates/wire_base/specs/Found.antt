@@ -1,5 +1,5 @@
 -- Between a table and the code: the command that a place's identifier names, and its end.
--- Only proofs read these; what commands are is said by the tables alone.
+-- What commands are is said by the tables alone; the reading of a payload computes with these, and is held to the tables by law.
 use Rattle.std.specs.Prelude.{ℕ, ◌+◌, Bool, nat_le, if◌then◌else◌, List, length, Option, Some, None}
 use Rattle.wire_base.specs.Numbers.{number_at, bits_of, has_bit}
 
