@@ -19,25 +19,36 @@ use Rattle.sync_wire.specs.declared.cmd.Cmd.TheVariants as s
 use Rattle.package_grammar.specs.declared.command.Command.{Command}
 use Rattle.package_grammar.specs.declared.command.Command.TheVariants.{Sync, Cast}
 use Rattle.package_grammar.specs.declared.downlink.Downlink.{Downlink}
+use Rattle.package_grammar.specs.declared.downlink.To.{To}
 use Rattle.package_grammar.specs.declared.downlink.To.TheVariants.{Unicast}
 use Rattle.package_grammar.specs.Grammar.{row, canonical, IsValid}
 use Rattle.package_grammar.specs.Reading.{reading_of}
 use Rattle.package_grammar.proofs.Written.{message_of}
 use Rattle.package_grammar.proofs.ReadingLaw.{read_as}
-use Rattle.campaign_server.specs.Server.{port_of, downlink_of}
+use Rattle.campaign_server.specs.Plan.{Plan}
+use Rattle.campaign_server.specs.Server.{DownlinkCommand, port_of, downlink_of}
+use Rattle.campaign_server.specs.Asking.{mask_of}
 
 -- ---- what the server sends
 
+-- how the image is cut, and the groups that may feed its session
+pub record Cut : Type 0 where
+  pub size : ℕ
+  pub mask : ℕ
+
+abbrev pub cut_of : Plan → Cut
+cut_of plan = record { size = plan.frag_size; mask = mask_of plan.group }
+
 -- the setup as the session holds it
-abbrev pub setup_req : (image : List ℕ) → (size : ℕ) → SetupReq
-setup_req image size = record {
+abbrev pub setup_req : (image : List ℕ) → Cut → SetupReq
+setup_req image cut = record {
   index = 0;
-  mask = 0;
-  nb_frag = nb_frag_of (length image) size;
-  frag_size = size;
+  mask = cut.mask;
+  nb_frag = nb_frag_of (length image) cut.size;
+  frag_size = cut.size;
   algo = 0;
   delay = 0;
-  padding = padding_of (length image) size;
+  padding = padding_of (length image) cut.size;
   descriptor = firmware_of image;
 }
 
@@ -45,37 +56,39 @@ setup_req image size = record {
 abbrev pub command_of : SetupReq → Command
 command_of r = Cast (FragSessionSetupReq r.index r.mask r.nb_frag r.frag_size r.algo r.delay r.padding r.descriptor)
 
-abbrev pub setup_request : (image : List ℕ) → (size : ℕ) → Command
-setup_request image size = command_of (setup_req image size)
+abbrev pub setup_request : (image : List ℕ) → Cut → Command
+setup_request image cut = command_of (setup_req image cut)
 
 abbrev pub fragment_command : (image : List ℕ) → (size n : ℕ) → Command
 fragment_command image size n = Cast (DataFragment 0 n (data_of image size n))
 
+-- a command of another port than that of fragments
+abbrev pub IsElsewhere : Command → Type 0
+IsElsewhere c = (port_of c ≡ 200) ⊎ ((cmd : SyncCmd) × (c ≡ Sync cmd))
+
 -- a command that leaves the sessions as they are
 abbrev pub IsOther : Command → Type 0
-IsOther c = ((all : Bool) × (c ≡ Cast (FragSessionStatusReq 0 all))) ⊎ ((cmd : SyncCmd) × (c ≡ Sync cmd))
+IsOther c = ((all : Bool) × (c ≡ Cast (FragSessionStatusReq 0 all))) ⊎ IsElsewhere c
 
 -- the number of an uncoded or of a coded fragment
 abbrev pub IsNumber : (image : List ℕ) → (size n : ℕ) → Type 0
 IsNumber image size n = (1 ≤ n) × (n ≤ nb_frag_of (length image) size + max_parity_index)
 
--- a command that the server of the image sends
-abbrev pub IsSentOf : (image : List ℕ) → (size : ℕ) → Command → Type 0
-IsSentOf image size c =
-    (c ≡ setup_request image size)
-    ⊎ (((n : ℕ) × IsNumber image size n × (c ≡ fragment_command image size n))
-    ⊎ IsOther c)
-
-abbrev pub unicast : Command → Downlink
-unicast c = downlink_of (record { to = Unicast; command = c })
+-- a command that the server of the image sends; the setup by unicast
+abbrev pub IsSentOf : (image : List ℕ) → Cut → DownlinkCommand → Type 0
+IsSentOf image cut down =
+    ((down.command ≡ setup_request image cut) × (down.to ≡ Unicast))
+    ⊎ (((n : ℕ) × IsNumber image cut.size n × (down.command ≡ fragment_command image cut.size n))
+    ⊎ IsOther down.command)
 
 -- ---- the server's commands are valid
 
 -- the image is cut within the limits
-pub record IsCut (image : List ℕ) (size : ℕ) : Type 0 where
-  pub some : 1 ≤ size
-  pub small : size ≤ 239
-  pub few : nb_frag_of (length image) size ≤ 1024
+pub record IsCut (image : List ℕ) (cut : Cut) : Type 0 where
+  pub some : 1 ≤ cut.size
+  pub small : cut.size ≤ 239
+  pub few : nb_frag_of (length image) cut.size ≤ 1024
+  pub groups : cut.mask ≤ 1
 
 byte_at : (image : List ℕ) (at : ℕ) → All (λ b. b < 2 ^ 8) image → get_or image at 0 < 256
 byte_at image at bytes = elim (cases_lt at (length image)) [
@@ -104,19 +117,20 @@ pub record IsGood (c : Command) : Type 0 where
   pub listed : IsListed (row c) 201 Down
   pub port : port_of c ≡ 201
 
-pub setup_good : (image : List ℕ) (size : ℕ) → All (λ b. b < 2 ^ 8) image → IsCut image size
-    → IsGood (setup_request image size)
-setup_good image size bytes cut =
-    let number : nb_frag_of (length image) size < 2 ^ 16 = omega (arith, cut.few) in
-    let short : padding_of (length image) size < 2 ^ 8 = omega (arith, padding_small image size cut.some, cut.small) in
+pub setup_good : (image : List ℕ) (cut : Cut) → All (λ b. b < 2 ^ 8) image → IsCut image cut
+    → IsGood (setup_request image cut)
+setup_good image cut bytes is =
+    let number : nb_frag_of (length image) cut.size < 2 ^ 16 = omega (arith, is.few) in
+    let short : padding_of (length image) cut.size < 2 ^ 8 =
+    omega (arith, padding_small image cut.size is.some, is.small) in
     record {
       valid = record {
         fields = (
-          (omega arith, (omega arith, tt)),
+          (omega (arith, is.groups), (omega (arith, is.groups), tt)),
           (
             number,
             (
-              omega (arith, cut.small),
+              omega (arith, is.small),
               (
                 (omega arith, (omega arith, tt)),
                 (short, (firmware_small image bytes, tt)),
@@ -130,15 +144,15 @@ setup_good image size bytes cut =
       port = refl;
     }
 
-pub fragment_good : (image : List ℕ) (size n : ℕ) → IsCut image size → IsNumber image size n
-    → IsGood (fragment_command image size n)
-fragment_good image size n cut number =
-    let sized = fragment_sized image size n cut.some in
-    let fits : n < 2 ^ 14 = omega (arith, number.1, cut.few) in
+pub fragment_good : (image : List ℕ) (cut : Cut) (n : ℕ) → IsCut image cut → IsNumber image cut.size n
+    → IsGood (fragment_command image cut.size n)
+fragment_good image cut n is number =
+    let sized = fragment_sized image cut.size n is.some in
+    let fits : n < 2 ^ 14 = omega (arith, number.1, is.few) in
     record {
       valid = record {
         fields = ((omega arith, (fits, tt)), (tt, tt));
-        whole = (omega (arith, sized, cut.some), omega (arith, sized, cut.small));
+        whole = (omega (arith, sized, is.some), omega (arith, sized, is.small));
       };
       listed = record { port_is = refl; direction_is = refl };
       port = refl;
@@ -167,25 +181,31 @@ pub good_read : (c : Command) → IsGood c → reading_of 201 Down (canonical c)
 good_read c good = read_as 201 Down (canonical c) (Ok (c ∷ [])) (message_of c 201 Down good.valid good.listed)
 
 -- equal bytes are the same command
-good_same : (c d : Command) → IsGood c → IsGood d → unicast c ≡ unicast d → c ≡ d
-good_same c d one other same =
+good_same : (c d : Command) (one other : To) → IsGood c → IsGood d
+    → downlink_of (record { to = one; command = c }) ≡ downlink_of (record { to = other; command = d }) → c ≡ d
+good_same c d one other this that same =
     let bytes : canonical c ≡ canonical d = ap (λ (x : Downlink). x.payload) same in
-    let e : Ok (c ∷ []) ≡ Ok (d ∷ []) = sym (good_read c one) ∙ ap (λ (b : List ℕ). reading_of 201 Down b) bytes
-    ∙ good_read d other in
+    let e : Ok (c ∷ []) ≡ Ok (d ∷ []) = sym (good_read c this) ∙ ap (λ (b : List ℕ). reading_of 201 Down b) bytes
+    ∙ good_read d that in
     cc
 
-good_low : (c : Command) (cmd : SyncCmd) → IsGood c → unicast c ≡ unicast (Sync cmd) → c ≡ Sync cmd
-good_low c cmd good same =
-    let port : port_of c ≡ port_of (Sync cmd) = ap (λ (x : Downlink). x.port) same in
-    absurd (omega (arith, port, good.port, sync_high cmd))
+elsewhere : (c d : Command) (one other : To) → IsGood c → IsElsewhere d
+    → downlink_of (record { to = one; command = c }) ≡ downlink_of (record { to = other; command = d }) → c ≡ d
+elsewhere c d one other good (inl is) same =
+    let port : port_of c ≡ port_of d = ap (λ (x : Downlink). x.port) same in
+    absurd (omega (arith, port, good.port, is))
+elsewhere c d one other good (inr is) same =
+    let port : port_of c ≡ port_of (Sync is.0) = ap (λ (x : Downlink). x.port) same ∙ ap port_of is.1 in
+    absurd (omega (arith, port, good.port, sync_high is.0))
 
 -- a valid command of port 201 that has the bytes of a sent one is that one
-pub sent_same : (image : List ℕ) (size : ℕ) (c d : Command) → All (λ b. b < 2 ^ 8) image → IsCut image size → IsGood c
-    → IsSentOf image size d → unicast c ≡ unicast d → c ≡ d
-sent_same image size c d bytes cut good (inl is) same =
-    good_same c d good (subst IsGood (sym is) (setup_good image size bytes cut)) same
-sent_same image size c d bytes cut good (inr (inl f)) same =
-    good_same c d good (subst IsGood (sym f.2) (fragment_good image size f.0 cut f.1)) same
-sent_same image size c d bytes cut good (inr (inr (inl o))) same =
-    good_same c d good (subst IsGood (sym o.1) (status_good o.0)) same
-sent_same image size c d bytes cut good (inr (inr (inr o))) same = good_low c o.0 good (same ∙ ap unicast o.1) ∙ sym o.1
+pub sent_same : (image : List ℕ) (cut : Cut) (to : To) (c : Command) (d : DownlinkCommand) → All (λ b. b < 2 ^ 8) image
+    → IsCut image cut → IsGood c → IsSentOf image cut d
+    → downlink_of (record { to = to; command = c }) ≡ downlink_of d → c ≡ d.command
+sent_same image cut to c d bytes is good (inl setup) same =
+    good_same c d.command to d.to good (subst IsGood (sym setup.0) (setup_good image cut bytes is)) same
+sent_same image cut to c d bytes is good (inr (inl f)) same =
+    good_same c d.command to d.to good (subst IsGood (sym f.2) (fragment_good image cut f.0 is f.1)) same
+sent_same image cut to c d bytes is good (inr (inr (inl o))) same =
+    good_same c d.command to d.to good (subst IsGood (sym o.1) (status_good o.0)) same
+sent_same image cut to c d bytes is good (inr (inr (inr o))) same = elsewhere c d.command to d.to good o same

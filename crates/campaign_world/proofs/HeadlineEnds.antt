@@ -1,23 +1,25 @@
--- What both ends of a campaign keep: the device hears the server, and the server sends the image.
-use Rattle.std.proofs.Common.{◌≡◌, inl, inr, ℕ, ◌+◌, ◌≤◌, Bool, true, false, cond, nat_lt, List, [], ◌∷◌, length, Option, None, Some, IfSome, is_ok, Result, Ok, Err, refl, sym, ap, ◌∙◌, subst, arith, ◌/◌, ltb-false}
+-- What both ends of a campaign keep: a device has no session but the server's, and the server sends the image.
+use Rattle.std.proofs.Common.{◌≡◌, inl, inr, ℕ, ◌+◌, ◌≤◌, Bool, true, false, cond, nat_lt, List, [], ◌∷◌, length, Option, None, Some, IfSome, is_ok, is_some, Result, Ok, Err, refl, sym, ap, ◌∙◌, subst, arith, ◌/◌, ltb-false}
 use Rattle.std.specs.Result.{result_ok}
 use Rattle.std.specs.List.{AllByRecursion}
 use Rattle.frag_session.specs.declared.setups.Limits.{Limits}
-use Rattle.frag_session.specs.declared.answers.Via.TheVariants as via
+use Rattle.frag_session.specs.declared.answers.Via.{Via}
 use Rattle.frag_session.specs.Setup.{Room}
 use Rattle.frag_session.specs.Session.{Session, new_session, after_setup, followed, after_fragment}
 use Rattle.frag_session.specs.Stands.{IsSetUp}
 use Rattle.frag_encoder.specs.Encoding.{nb_frag_of, data_of}
-use Rattle.cast_wire.specs.declared.cmd.Cmd.TheVariants.{DataFragment}
+use Rattle.cast_wire.specs.declared.cmd.Cmd.{Cmd as CastCmd}
+use Rattle.cast_wire.specs.declared.cmd.Cmd.TheVariants.{FragSessionStatusReq, DataFragment}
 use Rattle.sync_wire.specs.declared.cmd.Cmd.TheVariants.{AppTimeReq, AppTimeAns, DevVersionReq}
 use Rattle.clock_sync.specs.Clock.{correction_of, is_answer_needed}
 use Rattle.package_grammar.specs.declared.command.Command.{Command}
 use Rattle.package_grammar.specs.declared.command.Command.TheVariants.{Sync, Cast}
 use Rattle.package_grammar.specs.declared.downlink.To.TheVariants.{Unicast}
-use Rattle.device_core.specs.declared.config.Class.TheVariants as device_class
 use Rattle.device_core.specs.declared.config.DeviceConfig.{DeviceConfig}
 use Rattle.device_core.specs.SessionTable.{SessionTable}
 use Rattle.device_core.specs.Device.{DeviceState}
+use Rattle.campaign_server.specs.declared.plan.Kind.{Kind}
+use Rattle.campaign_server.specs.declared.plan.Kind.TheVariants as kind
 use Rattle.campaign_server.specs.declared.plan.PlanGroup.{PlanGroup}
 use Rattle.campaign_server.specs.declared.plan.PlanWindow.{PlanWindow}
 use Rattle.campaign_server.specs.declared.plan.PlanDevice.{PlanDevice}
@@ -27,70 +29,62 @@ use Rattle.campaign_server.specs.declared.stage.Request.TheVariants as request
 use Rattle.campaign_server.specs.declared.fragments.Spent.{Spent}
 use Rattle.campaign_server.specs.declared.fragments.Spent.TheVariants.{Fragments, Counts}
 use Rattle.campaign_server.specs.Plan.{Plan}
-use Rattle.campaign_server.specs.Server.{ServerState, DownlinkCommand, numbered, ledger}
-use Rattle.campaign_server.specs.Asking.{fragments_request, window_request, group_request, cast_of, request_at, command_for, by_unicast, request_of}
-use Rattle.campaign_server.specs.Fragments.{receivers, has_no_count, after_count, next_fragment, after_fragment as server_after_fragment}
+use Rattle.campaign_server.specs.Server.{ServerState, DownlinkCommand, port_of, numbered, ledger}
+use Rattle.campaign_server.specs.Asking.{fragments_request, window_request_of, window_request, group_request, cast_of, request_at, command_for, by_unicast, request_of}
+use Rattle.campaign_server.specs.Fragments.{receivers, has_no_count, after_count, next_fragment, after_fragment as server_after_fragment, status_to_all, after_status_to_all}
 use Rattle.campaign_server.specs.Time.{time_answer_to, first_answer, time_answer}
 use Rattle.campaign_server.specs.Uplinks.{with_answers}
 use Rattle.campaign_world.proofs.SessionSteps.{setup_keeps, fragment_keeps}
-use Rattle.campaign_world.proofs.HeadlineCommands.{setup_req, setup_request, IsSentOf}
+use Rattle.campaign_world.proofs.HeadlineCommands.{Cut, cut_of, setup_req, setup_request, IsElsewhere, IsSentOf}
 use Rattle.campaign_world.proofs.HeadlinePayloads.{Moves, stays, Acts}
-use Rattle.campaign_world.specs.Headline.{IsFragmentOf}
+use Rattle.campaign_world.specs.Headline.{HasNoOther, IsFragmentOf}
 
 -- ---- a session
 
 -- a session that the server set up, and its fragments
-pub record IsSetFor (image : List ℕ) (size : ℕ) (s : Session) : Type 0 where
-  pub setup : s.setup ≡ setup_req image size
-  pub makes : IsSetUp (setup_req image size)
-  pub heard : AllByRecursion (IsFragmentOf image size) s.heard
+pub record IsSetFor (image : List ℕ) (cut : Cut) (s : Session) : Type 0 where
+  pub setup : s.setup ≡ setup_req image cut
+  pub makes : IsSetUp (setup_req image cut)
+  pub heard : AllByRecursion (IsFragmentOf image cut.size) s.heard
 
-fresh : (image : List ℕ) (size : ℕ) (limits : Limits) → IsSetUp (setup_req image size)
-    → IsSetFor image size (new_session limits (setup_req image size))
+fresh : (image : List ℕ) (cut : Cut) (limits : Limits) → IsSetUp (setup_req image cut)
+    → IsSetFor image cut (new_session limits (setup_req image cut))
 unfolding new_session
-fresh image size limits makes = record { setup = refl; makes = makes; heard = tt }
+fresh image cut limits makes = record { setup = refl; makes = makes; heard = tt }
 
-setup_set : (image : List ℕ) (size : ℕ) (limits : Limits) (here : Room) (s : Option Session)
-    → IfSome s (IsSetFor image size)
-    → IfSome (after_setup limits here s (setup_req image size)) (IsSetFor image size)
-setup_set image size limits here s k =
-    setup_keeps (IsSetFor image size) limits here s (setup_req image size) (λ makes. fresh image size limits makes) k
+setup_set : (image : List ℕ) (cut : Cut) (limits : Limits) (here : Room) (s : Option Session)
+    → IfSome s (IsSetFor image cut)
+    → IfSome (after_setup limits here s (setup_req image cut)) (IsSetFor image cut)
+setup_set image cut limits here s k =
+    setup_keeps (IsSetFor image cut) limits here s (setup_req image cut) (λ makes. fresh image cut limits makes) k
 
-followed_set : (image : List ℕ) (size : ℕ) (n : ℕ) (part : List ℕ) (mark : ℕ)
-    → IsFragmentOf image size (record { number = n; part = part; mark = mark })
-    → (s : Session) → IsSetFor image size s → IsSetFor image size (followed s n part mark)
+followed_set : (image : List ℕ) (cut : Cut) (n : ℕ) (part : List ℕ) (mark : ℕ)
+    → IsFragmentOf image cut.size (record { number = n; part = part; mark = mark })
+    → (s : Session) → IsSetFor image cut s → IsSetFor image cut (followed s n part mark)
 unfolding followed
-followed_set image size n part mark f s k = record { setup = k.setup; makes = k.makes; heard = (f, k.heard) }
+followed_set image cut n part mark f s k = record { setup = k.setup; makes = k.makes; heard = (f, k.heard) }
 
-fragment_set : (image : List ℕ) (size : ℕ) (s : Option Session) (n : ℕ) (part : List ℕ) (mark : ℕ)
-    → IsFragmentOf image size (record { number = n; part = part; mark = mark })
-    → IfSome s (IsSetFor image size) → IfSome (after_fragment s via.Unicast n part mark) (IsSetFor image size)
-fragment_set image size s n part mark f k =
-    fragment_keeps (IsSetFor image size) s via.Unicast n part mark (followed_set image size n part mark f) k
+fragment_set : (image : List ℕ) (cut : Cut) (s : Option Session) (way : Via) (n : ℕ) (part : List ℕ) (mark : ℕ)
+    → IsFragmentOf image cut.size (record { number = n; part = part; mark = mark })
+    → IfSome s (IsSetFor image cut) → IfSome (after_fragment s way n part mark) (IsSetFor image cut)
+fragment_set image cut s way n part mark f k =
+    fragment_keeps (IsSetFor image cut) s way n part mark (followed_set image cut n part mark f) k
 
 -- ---- a device
 
--- there is no session but the first
-pub record HasNoMore (all : SessionTable) : Type 0 where
-  pub second : all.second ≡ None
-  pub third : all.third ≡ None
-  pub fourth : all.fourth ≡ None
-
--- it hears always and holds no uplink, and its session, if it has one, is the server's
-pub record IsDeviceFor (image : List ℕ) (size : ℕ) (d : DeviceState) : Type 0 where
-  pub class_is : d.config.class ≡ device_class.C
+-- it holds no uplink, and its session, if it has one, is the server's
+pub record IsDeviceFor (image : List ℕ) (cut : Cut) (d : DeviceState) : Type 0 where
   pub empty : d.outbox ≡ []
-  pub session : IfSome d.sessions.first (IsSetFor image size)
-  pub alone : HasNoMore d.sessions
+  pub session : IfSome d.sessions.first (IsSetFor image cut)
+  pub alone : HasNoOther d.sessions
 
-moved : (image : List ℕ) (size : ℕ) (F : DeviceConfig → Option Session → Option Session) (d e : DeviceState)
-    → IsDeviceFor image size d → Moves F d e → e.outbox ≡ []
-    → IfSome (F d.config d.sessions.first) (IsSetFor image size) → IsDeviceFor image size e
-moved image size F d e k m empty session = record {
-  class_is = ap (λ (c : DeviceConfig). c.class) m.config ∙ k.class_is;
+moved : (image : List ℕ) (cut : Cut) (F : DeviceConfig → Option Session → Option Session) (d e : DeviceState)
+    → IsDeviceFor image cut d → Moves F d e → e.outbox ≡ []
+    → IfSome (F d.config d.sessions.first) (IsSetFor image cut) → IsDeviceFor image cut e
+moved image cut F d e k m empty session = record {
   empty = empty;
-  session = subst (λ (t : SessionTable). IfSome t.first (IsSetFor image size)) (sym m.sessions) session;
-  alone = subst HasNoMore (sym m.sessions) (record {
+  session = subst (λ (t : SessionTable). IfSome t.first (IsSetFor image cut)) (sym m.sessions) session;
+  alone = subst HasNoOther (sym m.sessions) (record {
     second = k.alone.second;
     third = k.alone.third;
     fourth =
@@ -98,92 +92,114 @@ moved image size F d e k m empty session = record {
   });
 }
 
-pub acts_keep : (image : List ℕ) (size mark : ℕ) (d e : DeviceState) (c : Command) → IsDeviceFor image size d
-    → Acts image size mark d e c → e.outbox ≡ [] → IsDeviceFor image size e
-acts_keep image size mark d e c k (inl a) empty =
-    moved image size _ d e k a.1 empty (setup_set image size _ _ d.sessions.first k.session)
-acts_keep image size mark d e c k (inr (inl a)) empty =
-    moved image size _ d e k a.3 empty
-    (fragment_set image size d.sessions.first a.0 (data_of image size a.0) mark
+pub stays_for : (image : List ℕ) (cut : Cut) (d e : DeviceState) → IsDeviceFor image cut d → Moves stays d e
+    → e.outbox ≡ [] → IsDeviceFor image cut e
+stays_for image cut d e k m empty = moved image cut stays d e k m empty k.session
+
+pub acts_keep : (image : List ℕ) (cut : Cut) (t mark : ℕ) (d e : DeviceState) (down : DownlinkCommand)
+    → IsDeviceFor image cut d → Acts image cut t mark d e down → e.outbox ≡ [] → IsDeviceFor image cut e
+acts_keep image cut t mark d e down k (inl deaf) empty = stays_for image cut d e k deaf.1 empty
+acts_keep image cut t mark d e down k (inr (on, inl a)) empty =
+    moved image cut _ d e k a.2 empty (setup_set image cut _ _ d.sessions.first k.session)
+acts_keep image cut t mark d e down k (inr (on, inr (inl a))) empty =
+    moved image cut _ d e k a.3 empty
+    (fragment_set image cut d.sessions.first _ a.0 (data_of image cut.size a.0) mark
     (record { first = a.1.0; last = a.1.1; part = refl }) k.session)
-acts_keep image size mark d e c k (inr (inr a)) empty = moved image size stays d e k a.1 empty k.session
+acts_keep image cut t mark d e down k (inr (on, inr (inr a))) empty = stays_for image cut d e k a.1 empty
 
 -- ---- a server
 
--- the server sends the image, by unicast
+-- the server sends the image
 pub record IsServerOf (image : List ℕ) (s : ServerState) : Type 0 where
   pub image_is : s.image ≡ image
   pub next : 1 ≤ s.next
   pub few : s.plan.parity ≤ 512
-  pub no_group : s.plan.group ≡ None
-  pub no_window : s.plan.window ≡ None
 
-abbrev pub IsDown : List ℕ → ℕ → DownlinkCommand → Type 0
-IsDown image size down = (down.to ≡ Unicast) × IsSentOf image size down.command
+abbrev pub IsDown : List ℕ → Cut → DownlinkCommand → Type 0
+IsDown image cut down = IsSentOf image cut down
 
-pub request_is : (plan : Plan) (image : List ℕ) → plan.group ≡ None
-    → Path Command (Cast (fragments_request plan image)) (setup_request image plan.frag_size)
-request_is plan image none =
-    ap (λ (g : Option PlanGroup). let c : Command = Cast (fragments_request (record plan { group = g }) image) in c)
-    none
+-- a command to one device, by unicast
+abbrev IsAsked : List ℕ → Cut → Command → Type 0
+IsAsked image cut x = IsSentOf image cut (record { to = Unicast; command = x })
 
-request_sent : (plan : Plan) (image key : List ℕ) (stage : Stage) → plan.group ≡ None → plan.window ≡ None
-    → IfSome (request_at plan image key stage) (IsSentOf image plan.frag_size)
+group_sent : (image : List ℕ) (cut : Cut) (key : List ℕ) (group : Option PlanGroup)
+    → IfSome (cast_of (λ g. group_request key g) group) (IsAsked image cut)
+group_sent image cut key None = tt
+group_sent image cut key (Some group) = inr (inr (inr (inl refl)))
+
+window_port : (window : PlanWindow) (k : Kind) → port_of (Cast (window_request_of window k)) ≡ 200
+window_port window kind.C = refl
+window_port window (kind.B periodicity) = refl
+
+window_sent : (image : List ℕ) (cut : Cut) (window : Option PlanWindow)
+    → IfSome (cast_of (λ w. window_request w) window) (IsAsked image cut)
+window_sent image cut None = tt
+window_sent image cut (Some window) = inr (inr (inr (inl (window_port window window.kind))))
+
+request_sent : (plan : Plan) (image key : List ℕ) (stage : Stage)
+    → IfSome (request_at plan image key stage) (IsAsked image (cut_of plan))
 unfolding request_at
-request_sent plan image key (At request.Version) no_group no_window = inr (inr (inr (DevVersionReq, refl)))
-request_sent plan image key (At request.Group) no_group no_window =
-    subst (λ (g : Option PlanGroup). IfSome (cast_of (λ group. group_request key group) g)
-    (IsSentOf image plan.frag_size)) (sym no_group) tt
-request_sent plan image key (At request.Fragments) no_group no_window = inl (request_is plan image no_group)
-request_sent plan image key (At request.Window) no_group no_window =
-    subst (λ (w : Option PlanWindow). IfSome (cast_of (λ window. window_request window) w)
-    (IsSentOf image plan.frag_size)) (sym no_window) tt
-request_sent plan image key (At request.Status) no_group no_window = inr (inr (inl (true, refl)))
-request_sent plan image key (At request.Image) no_group no_window = inr (inr (inr (_, refl)))
-request_sent plan image key (At request.Reboot) no_group no_window = inr (inr (inr (_, refl)))
-request_sent plan image key (At request.Check) no_group no_window = inr (inr (inr (_, refl)))
-request_sent plan image key Updated no_group no_window = tt
-request_sent plan image key (Refused request bits) no_group no_window = tt
+request_sent plan image key (At request.Version) = inr (inr (inr (inr (DevVersionReq, refl))))
+request_sent plan image key (At request.Group) = group_sent image (cut_of plan) key plan.group
+request_sent plan image key (At request.Fragments) = inl (refl, refl)
+request_sent plan image key (At request.Window) = window_sent image (cut_of plan) plan.window
+request_sent plan image key (At request.Status) = inr (inr (inl (true, refl)))
+request_sent plan image key (At request.Image) = inr (inr (inr (inr (_, refl))))
+request_sent plan image key (At request.Reboot) = inr (inr (inr (inr (_, refl))))
+request_sent plan image key (At request.Check) = inr (inr (inr (inr (_, refl))))
+request_sent plan image key Updated = tt
+request_sent plan image key (Refused request bits) = tt
 
-pub down_of : (image : List ℕ) (size : ℕ) (c : Option Command) → IfSome c (IsSentOf image size)
-    → IfSome (by_unicast c) (IsDown image size)
-down_of image size None k = tt
-down_of image size (Some c) k = (refl, k)
+pub down_of : (image : List ℕ) (cut : Cut) (x : Option Command) → IfSome x (IsAsked image cut)
+    → IfSome (by_unicast x) (IsDown image cut)
+down_of image cut None k = tt
+down_of image cut (Some x) k = k
 
-command_sent : (plan : Plan) (image : List ℕ) (device : Option PlanDevice) (stage : Option Stage) → plan.group ≡ None
-    → plan.window ≡ None
-    → IfSome (command_for plan image device stage) (IsSentOf image plan.frag_size)
-command_sent plan image (Some device) (Some stage) no_group no_window =
-    request_sent plan image device.key stage no_group no_window
-command_sent plan image (Some device) None no_group no_window = tt
-command_sent plan image None (Some stage) no_group no_window = tt
-command_sent plan image None None no_group no_window = tt
+command_sent : (plan : Plan) (image : List ℕ) (device : Option PlanDevice) (stage : Option Stage)
+    → IfSome (command_for plan image device stage) (IsAsked image (cut_of plan))
+command_sent plan image (Some device) (Some stage) = request_sent plan image device.key stage
+command_sent plan image (Some device) None = tt
+command_sent plan image None (Some stage) = tt
+command_sent plan image None None = tt
 
 pub ask_sent : (image : List ℕ) (s : ServerState) (dev : ℕ) → IsServerOf image s
-    → IfSome (request_of s dev) (IsDown image s.plan.frag_size)
+    → IfSome (request_of s dev) (IsDown image (cut_of s.plan))
 unfolding request_of
 ask_sent image s dev k =
-    subst (λ (i : List ℕ). IfSome (request_of s dev) (IsDown i s.plan.frag_size)) k.image_is
-    (down_of s.image s.plan.frag_size _ (command_sent s.plan s.image (numbered s.plan.devices dev)
-    (ledger s dev) k.no_group k.no_window))
+    subst (λ (i : List ℕ). IfSome (request_of s dev) (IsDown i (cut_of s.plan))) k.image_is
+    (down_of s.image (cut_of s.plan) _ (command_sent s.plan s.image (numbered s.plan.devices dev) (ledger s dev)))
 
-next_by : (image : List ℕ) (size parity next count : ℕ) (group : Option PlanGroup) (b : Bool)
-    → nat_lt (nb_frag_of (length image) size + parity) next ≡ b → 1 ≤ next → parity ≤ 512 → group ≡ None
+counted_by : (image : List ℕ) (cut : Cut) (b : Bool) (down : DownlinkCommand) → IsDown image cut down
+    → IfSome (result_ok (cond {A = Result DownlinkCommand Spent} b (Err Counts) (Ok down))) (IsDown image cut)
+counted_by image cut true down k = tt
+counted_by image cut false down k = k
+
+next_by : (image : List ℕ) (cut : Cut) (parity next count : ℕ) (group : Option PlanGroup) (b : Bool)
+    → nat_lt (nb_frag_of (length image) cut.size + parity) next ≡ b → 1 ≤ next → parity ≤ 512
     → IfSome (result_ok (cond {A = Result DownlinkCommand Spent} b (Err Fragments)
     (cond {A = Result DownlinkCommand Spent} (has_no_count group count) (Err Counts)
-    (Ok (record { to = receivers group count; command = Cast (DataFragment 0 next (data_of image size next)) })))))
-    (IsDown image size)
-next_by image size parity next count group true is from few none = tt
-next_by image size parity next count None false is from few none = let last =
-    ltb-false _ _ is in (refl, inr (inl (next, (from, omega (arith, last, few)), refl)))
-next_by image size parity next count (Some group) false is from few none = absurd cc
+    (Ok (record { to = receivers group count; command = Cast (DataFragment 0 next (data_of image cut.size next)) })))))
+    (IsDown image cut)
+next_by image cut parity next count group true is from few = tt
+next_by image cut parity next count group false is from few =
+    let last = ltb-false _ _ is in
+    counted_by image cut (has_no_count group count) _ (inr (inl (next, (from, omega (arith, last, few)), refl)))
 
 pub fragment_sent : (image : List ℕ) (s : ServerState) → IsServerOf image s
-    → IfSome (result_ok (next_fragment s)) (IsDown image s.plan.frag_size)
+    → IfSome (result_ok (next_fragment s)) (IsDown image (cut_of s.plan))
 unfolding next_fragment
 fragment_sent image s k =
-    subst (λ (i : List ℕ). IfSome (result_ok (next_fragment s)) (IsDown i s.plan.frag_size)) k.image_is
-    (next_by s.image s.plan.frag_size s.plan.parity s.next s.count s.plan.group _ refl k.next k.few k.no_group)
+    subst (λ (i : List ℕ). IfSome (result_ok (next_fragment s)) (IsDown i (cut_of s.plan))) k.image_is
+    (next_by s.image (cut_of s.plan) s.plan.parity s.next s.count s.plan.group _ refl k.next k.few)
+
+all_by : (image : List ℕ) (cut : Cut) (b : Bool) (down : DownlinkCommand) → IsDown image cut down
+    → IfSome (cond b None (Some down)) (IsDown image cut)
+all_by image cut true down k = tt
+all_by image cut false down k = k
+
+pub status_sent : (image : List ℕ) (cut : Cut) (s : ServerState) → IfSome (status_to_all s) (IsDown image cut)
+unfolding status_to_all
+status_sent image cut s = all_by image cut (has_no_count s.plan.group s.count) _ (inr (inr (inl (false, refl))))
 
 -- the server goes on, and cuts alike
 pub record GoesOn (image : List ℕ) (s new : ServerState) : Type 0 where
@@ -194,17 +210,19 @@ moved_by : (image : List ℕ) (s : ServerState) (b : Bool) → IsServerOf image 
     → GoesOn image s (cond b (after_count (record s { next = s.next + 1 })) s)
 moved_by image s true k =
     record {
-      is = record {
-        image_is = k.image_is;
-        next = omega arith;
-        few = k.few;
-        no_group = k.no_group;
-        no_window =
-            k.no_window;
-      };
+      is = record { image_is = k.image_is; next = omega arith; few = k.few };
       plan = refl;
     }
 moved_by image s false k = record { is = k; plan = refl }
+
+counts_by : (image : List ℕ) (s : ServerState) (b : Bool) → IsServerOf image s → GoesOn image s (cond b (after_count s) s)
+counts_by image s true k =
+    record { is = record { image_is = k.image_is; next = k.next; few = k.few }; plan = refl }
+counts_by image s false k = record { is = k; plan = refl }
+
+pub status_goes : (image : List ℕ) (s : ServerState) → IsServerOf image s → GoesOn image s (after_status_to_all s)
+unfolding after_status_to_all
+status_goes image s k = counts_by image s (is_some (status_to_all s)) k
 
 pub fragment_goes : (image : List ℕ) (s : ServerState) → IsServerOf image s → GoesOn image s (server_after_fragment s)
 unfolding server_after_fragment
@@ -215,37 +233,34 @@ pub answers_go : (image : List ℕ) (s : ServerState) (dev : ℕ) (cs : List Com
 answers_go image s dev cs None k = record { is = k; plan = refl }
 answers_go image s dev cs (Some stage) k =
     record {
-      is = record {
-        image_is = k.image_is;
-        next = k.next;
-        few = k.few;
-        no_group = k.no_group;
-        no_window =
-            k.no_window;
-      };
+      is = record { image_is = k.image_is; next = k.next; few = k.few };
       plan = refl;
     }
 
 -- an answer with the time
-time_by : (image : List ℕ) (size : ℕ) (b : Bool) (c : Command) → IsSentOf image size c
-    → IfSome (cond b (Some c) None) (IsSentOf image size)
-time_by image size true c k = k
-time_by image size false c k = tt
+time_by : (image : List ℕ) (cut : Cut) (b : Bool) (x : Command) → IsAsked image cut x
+    → IfSome (cond b (Some x) None) (IsAsked image cut)
+time_by image cut true x k = k
+time_by image cut false x k = tt
 
-time_sent_to : (image : List ℕ) (size t : ℕ) (c : Command) → IfSome (time_answer_to t c) (IsSentOf image size)
-time_sent_to image size t (Sync (AppTimeReq time required token)) =
-    time_by image size (is_answer_needed required (correction_of (t / 1000) time)) _
-    (inr (inr (inr (AppTimeAns (correction_of (t / 1000) time) token, refl))))
-time_sent_to image size t c = tt
+time_sent_to : (image : List ℕ) (cut : Cut) (t : ℕ) (x : Command) → IfSome (time_answer_to t x) (IsAsked image cut)
+time_sent_to image cut t (Sync (AppTimeReq time required token)) =
+    time_by image cut (is_answer_needed required (correction_of (t / 1000) time)) _
+    (inr (inr (inr (inr (AppTimeAns (correction_of (t / 1000) time) token, refl)))))
+time_sent_to image cut t x = tt
 
-first_sent : (image : List ℕ) (size : ℕ) (one later : Option Command) → IfSome one (IsSentOf image size)
-    → IfSome later (IsSentOf image size) → IfSome (first_answer one later) (IsSentOf image size)
-first_sent image size None later k l = l
-first_sent image size (Some c) later k l = k
+first_sent : (image : List ℕ) (cut : Cut) (one later : Option Command) → IfSome one (IsAsked image cut)
+    → IfSome later (IsAsked image cut) → IfSome (first_answer one later) (IsAsked image cut)
+first_sent image cut None later k l = l
+first_sent image cut (Some x) later k l = k
 
-pub time_sent : (image : List ℕ) (size t : ℕ) (cs : List Command) → IfSome (time_answer t cs) (IsSentOf image size)
+answers_sent : (image : List ℕ) (cut : Cut) (t : ℕ) (cs : List Command) → IfSome (time_answer t cs) (IsAsked image cut)
 unfolding time_answer
-time_sent image size t [] = tt
-time_sent image size t (c ∷ cs) =
-    first_sent image size (time_answer_to t c) (time_answer t cs) (time_sent_to image size t c)
-    (time_sent image size t cs)
+answers_sent image cut t [] = tt
+answers_sent image cut t (x ∷ cs) =
+    first_sent image cut (time_answer_to t x) (time_answer t cs) (time_sent_to image cut t x)
+    (answers_sent image cut t cs)
+
+pub time_sent : (image : List ℕ) (cut : Cut) (t : ℕ) (cs : List Command)
+    → IfSome (by_unicast (time_answer t cs)) (IsDown image cut)
+time_sent image cut t cs = down_of image cut (time_answer t cs) (answers_sent image cut t cs)

@@ -1,30 +1,44 @@
--- Each fragment that a line delivers after the setup was delivered is heard.
-use Rattle.std.proofs.Common.{◌≡◌, inl, inr, ℕ, zero, suc, ◌+◌, ◌-◌, ◌^◌, ◌<◌, ◌≤◌, Bool, true, false, cond, ◌==◌, List, [], ◌∷◌, ◌++◌, All, length, drop, slice_get, Option, None, Some, Result, Ok, Err, IfOk, append-nil, append_assoc, refl, sym, ap, ◌∙◌, subst, arith, length-drop}
+-- Each fragment that a line brings after the setup was brought is heard.
+use Rattle.std.proofs.Common.{◌≡◌, ◌⊎◌, inl, inr, ℕ, zero, suc, ◌+◌, ◌-◌, ◌^◌, ◌<◌, ◌≤◌, Bool, true, false, cond, ◌==◌, List, [], ◌∷◌, ◌++◌, All, length, take, drop, Option, None, Some, Result, Ok, Err, IfOk, append-nil, append_assoc, refl, sym, ap, ◌∙◌, subst, arith, length-drop}
+use Rattle.std.specs.List.{slice_set}
 use Rattle.frag_model.specs.Fragments.{Fragment}
 use Rattle.frag_model.specs.Members.{In}
 use Rattle.frag_session.specs.Session.{Session}
 use Rattle.package_grammar.specs.declared.command.Command.{Command}
-use Rattle.device_core.specs.Device.{DeviceState}
+use Rattle.device_core.specs.Device.{DeviceState, first_device}
 use Rattle.campaign_server.specs.Server.{numbered}
 use Rattle.script_lines.specs.declared.forms.Form.{Form}
+use Rattle.script_lines.specs.declared.forms.Form.TheVariants.{Down}
 use Rattle.script_lines.specs.Lines.{lines_of}
 use Rattle.script_lines.specs.Forms.{form_of}
 use Rattle.campaign_world.specs.declared.faults.LineWhy.{LineWhy}
 use Rattle.campaign_world.specs.declared.faults.LineFault.{LineFault}
 use Rattle.campaign_world.specs.declared.numbered.SentPayload.{SentPayload}
 use Rattle.campaign_world.specs.World.{WorldState, first_world}
-use Rattle.campaign_world.specs.Causes.{form_cause, is_taken, cause_of_form, cause_of}
+use Rattle.campaign_world.specs.Causes.{form_cause, cause_of_form, cause_of}
 use Rattle.campaign_world.specs.Making.{after_form}
 use Rattle.campaign_world.specs.Script.{after_form_of, after_line, line_result, read_line, read_lines, campaign_of}
-use Rattle.campaign_world.specs.Headline.{Delivers, WasDelivered}
-use Rattle.campaign_world.proofs.HeadlineCommands.{setup_request}
+use Rattle.campaign_world.specs.Headline.{Brings, WasBrought}
+use Rattle.campaign_world.proofs.LineItems.{if_some, none_there, numbered_push, numbered_put, numbered_there, numbered_next, within}
+use Rattle.campaign_world.proofs.HeadlineCommands.{Cut, cut_of, setup_request}
+use Rattle.campaign_world.proofs.HeadlinePayloads.{stays}
 use Rattle.campaign_world.proofs.HeadlineEnds.{IsDeviceFor}
-use Rattle.campaign_world.proofs.HeadlineWorlds.{Keeps, Turns}
+use Rattle.campaign_world.proofs.HeadlineWorlds.{Keeps, HasStayed, IsReached, Turns}
 use Rattle.campaign_world.proofs.HeadlineForms.{form_turn}
-use Rattle.campaign_world.proofs.HeadlineLines.{numbered_next, Reads, taken_by, cause_by, line_reads, first_reads, end_is, campaign_reads, if_one}
-use Rattle.campaign_world.proofs.HeadlineSessions.{NotYet, SessionHears, AllHear, not_yet_more, quiet, no_delivery, reached_hears}
+use Rattle.campaign_world.proofs.HeadlineLines.{Reads, cause_by, line_reads, first_reads, end_is, campaign_reads}
+use Rattle.campaign_world.proofs.HeadlineSessions.{NotYet, SessionHears, DeviceHears, not_yet_more, quiet, session_quiet, no_delivery, elsewhere, moved_hears, reached_hears}
 
 -- ---- a line
+
+-- two numbers are the same or not
+cases_same : (a b : ℕ) → (a ≡ b) ⊎ (a ≡ b → ⊥)
+cases_same zero zero = inl refl
+cases_same zero (suc b) = inr (λ is. absurd cc)
+cases_same (suc a) zero = inr (λ is. absurd cc)
+cases_same (suc a) (suc b) = elim (cases_same a b) [
+  | inl is ↦ inl (ap suc is)
+  | inr differs ↦ inr (λ is. differs (omega (arith, is)))
+]
 
 -- what is sent stays sent
 abbrev Grows : List SentPayload → List SentPayload → Type 0
@@ -45,50 +59,116 @@ turn_grows image form w v turn = elim turn.how [
   ]
 ]
 
--- up to a line all is heard
+-- up to a line each device heard all
+AllHear : List ℕ → Cut → List (List ℕ) → List SentPayload → ℕ → List DeviceState → Type 0
+AllHear image cut lines sent last ds =
+    (id : ℕ) → DeviceHears image cut (Brings image lines sent id) last (numbered ds id)
+
 abbrev Full : List ℕ → List (List ℕ) → List SentPayload → WorldState → Type 0
-Full image lines sent w = AllHear image w.server.plan.frag_size lines sent w.lines w.devices
+Full image lines sent w = AllHear image (cut_of w.server.plan) lines sent w.lines w.devices
+
+-- a line brings nothing to this device
+abbrev Nothing : List ℕ → List (List ℕ) → List SentPayload → (id n : ℕ) → Type 0
+Nothing image lines sent id n = (c : Command) → Brings image lines sent id n c → ⊥
+
+alike_hear : (image : List ℕ) (cut : Cut) (lines : List (List ℕ)) (sent : List SentPayload) (id last : ℕ)
+    (old new : Option DeviceState) → Nothing image lines sent id (last + 1) → (new ≡ old) ⊎ HasStayed old new
+    → DeviceHears image cut (Brings image lines sent id) last old
+    → DeviceHears image cut (Brings image lines sent id) (last + 1) new
+alike_hear image cut lines sent id last old new none (inl same) h =
+    subst (DeviceHears image cut (Brings image lines sent id) (last + 1)) (sym same)
+    (quiet image cut (Brings image lines sent id) last old none h)
+alike_hear image cut lines sent id last old new none (inr s) h =
+    let before : SessionHears image cut (Brings image lines sent id) last s.d.config s.d.sessions.first =
+    subst (DeviceHears image cut (Brings image lines sent id) last) s.was h in
+    subst (DeviceHears image cut (Brings image lines sent id) (last + 1)) (sym s.is)
+    (moved_hears image cut (Brings image lines sent id) (last + 1) stays s.d s.e s.moves
+    (session_quiet image cut (Brings image lines sent id) last s.d.config s.d.sessions.first none before))
+
+begun_hear : (image : List ℕ) (old cut : Cut) (lines : List (List ℕ)) (sent : List SentPayload) (id last : ℕ)
+    (before ds : List DeviceState) → before ≡ [] → ds ≡ [] → Nothing image lines sent id (last + 1)
+    → DeviceHears image old (Brings image lines sent id) last (numbered before id)
+    → DeviceHears image cut (Brings image lines sent id) (last + 1) (numbered ds id)
+begun_hear image old cut lines sent id last before ds was is none h =
+    let nobody : DeviceHears image old (Brings image lines sent id) last None =
+    subst (DeviceHears image old (Brings image lines sent id) last)
+    (none_there before id was) h in
+    subst (DeviceHears image cut (Brings image lines sent id) (last + 1))
+    (sym (none_there ds id is))
+    (λ c. not_yet_more (Brings image lines sent id) c last (none c) (nobody c))
+
+joined_hear : (image : List ℕ) (cut : Cut) (lines : List (List ℕ)) (sent : List SentPayload) (id last : ℕ)
+    (ds : List DeviceState) (d : DeviceState) → d.sessions.first ≡ None → Nothing image lines sent id (last + 1)
+    → DeviceHears image cut (Brings image lines sent id) last (numbered ds id)
+    → DeviceHears image cut (Brings image lines sent id) (last + 1) (numbered (ds ++ d ∷ []) id)
+joined_hear image cut lines sent id last ds d fresh none h = elim (numbered_push ds d id) [
+  | inl same ↦ alike_hear image cut lines sent id last (numbered ds id) _ none (inl same) h
+  | inr new ↦
+      let nobody : DeviceHears image cut (Brings image lines sent id) last None =
+      subst (DeviceHears image cut (Brings image lines sent id) last) new.0 h in
+      let nothing : (takes : _) → NotYet (Brings image lines sent id) (setup_request image cut) (last + 1) =
+      λ takes. not_yet_more (Brings image lines sent id) (setup_request image cut) last (none (setup_request image cut))
+      (nobody (setup_request image cut)) in
+      subst (DeviceHears image cut (Brings image lines sent id) (last + 1)) (sym new.1)
+      (subst (λ (s : Option Session). SessionHears image cut (Brings image lines sent id) (last + 1) d.config s)
+      (sym fresh) nothing)
+]
+
+reached_hear : (image : List ℕ) (lines : List (List ℕ)) (sent more : List SentPayload) (w v : WorldState) (form : Form)
+    (line : List ℕ) (r : IsReached image form w v) → All (λ b. b < 2 ^ 8) image
+    → Keeps image w → read_lines (Ok (first_world image)) (take w.lines lines) ≡ Ok w → sent ≡ w.sent ++ more
+    → numbered lines (w.lines + 1) ≡ Some line → form_of line ≡ Some form
+    → ((id : ℕ) → DeviceHears image (cut_of w.server.plan) (Brings image lines sent id) w.lines (numbered w.devices id))
+    → (id : ℕ)
+    → DeviceHears image (cut_of w.server.plan) (Brings image lines sent id) (w.lines + 1)
+    (numbered (slice_set w.devices (r.id - 1) r.new) id)
+reached_hear image lines sent more w v form line r bytes k read grown line_is form_is h id =
+    let cut : Cut = cut_of w.server.plan in
+    let its = if_some (IsDeviceFor image cut) (numbered w.devices r.id) r.old r.before (k.devices r.id) in
+    let before : SessionHears image cut (Brings image lines sent r.id) w.lines r.old.config r.old.sessions.first =
+    subst (DeviceHears image cut (Brings image lines sent r.id) w.lines) r.before (h r.id) in
+    let behind : DeviceHears image cut (Brings image lines sent r.id) (w.lines + 1) (Some r.new) =
+    reached_hears image lines sent more w v form line r bytes read its grown line_is form_is before in
+    let down : form_of line ≡ Some (Down r.number r.id r.word) = form_is ∙ ap (λ (f : Form). Some f) r.form_is in
+    elim (cases_same id r.id) [
+      | inl is ↦ subst (λ (n : ℕ). DeviceHears image cut (Brings image lines sent n) (w.lines + 1)
+          (numbered (slice_set w.devices (r.id - 1) r.new) n)) (sym is)
+          (subst (DeviceHears image cut (Brings image lines sent r.id) (w.lines + 1))
+          (sym (numbered_there w.devices r.id r.old r.new r.before)) behind)
+      | inr differs ↦ elim (numbered_put w.devices r.id id r.new r.first) [
+        | inl is ↦ absurd (differs is)
+        | inr same ↦ alike_hear image cut lines sent id w.lines (numbered w.devices id) _
+            (elsewhere image lines sent id (w.lines + 1) r.number r.id r.word line line_is down differs) (inl same) (h id)
+      ]
+    ]
 
 turn_full : (image : List ℕ) (lines : List (List ℕ)) (sent more : List SentPayload) (w v : WorldState) (form : Form)
-    (line : List ℕ) → All (λ b. b < 2 ^ 8) image → Keeps image w → Turns image form w v
+    (line : List ℕ) → All (λ b. b < 2 ^ 8) image → Keeps image w
+    → read_lines (Ok (first_world image)) (take w.lines lines) ≡ Ok w → Turns image form w v
     → sent ≡ w.sent ++ more → numbered lines (w.lines + 1) ≡ Some line → form_of line ≡ Some form
-    → Full image lines sent w
-    → AllHear image v.server.plan.frag_size lines sent (w.lines + 1) v.devices
-turn_full image lines sent more w v form line bytes k turn grown line_is form_is h = elim turn.how [
-  | inl q ↦
-      subst (λ (n : ℕ). AllHear image n lines sent (w.lines + 1) v.devices) (sym q.size)
-      (subst (λ (ds : List DeviceState). AllHear image w.server.plan.frag_size lines sent (w.lines + 1) ds)
-      (sym q.devices)
-      (quiet image w.server.plan.frag_size lines sent w.lines w.devices
-      (no_delivery lines sent (w.lines + 1) line form line_is form_is q.other) h))
+    → Full image lines sent w → AllHear image (cut_of v.server.plan) lines sent (w.lines + 1) v.devices
+unfolding AllHear
+turn_full image lines sent more w v form line bytes k read turn grown line_is form_is h = elim turn.how [
+  | inl q ↦ λ id. subst (λ (x : Cut). DeviceHears image x (Brings image lines sent id) (w.lines + 1) (numbered v.devices id))
+      (sym q.cut)
+      (alike_hear image (cut_of w.server.plan) lines sent id w.lines (numbered w.devices id) (numbered v.devices id)
+      (no_delivery image lines sent id (w.lines + 1) line form line_is form_is q.other) (q.devices id) (h id))
   | inr other ↦ elim other [
-    | inl b ↦
-        let before : (c : Command)
-        → NotYet lines sent c w.lines =
-        subst (λ (ds : List DeviceState). AllHear image w.server.plan.frag_size lines sent w.lines ds) b.before h in
-        subst (λ (ds : List DeviceState). AllHear image v.server.plan.frag_size lines sent (w.lines + 1) ds)
-        (sym b.devices)
-        (λ c. not_yet_more lines sent c w.lines (no_delivery lines sent
-        (w.lines + 1) line form line_is form_is b.other c) (before c))
+    | inl b ↦ λ id. begun_hear image (cut_of w.server.plan) (cut_of v.server.plan) lines sent id w.lines w.devices
+        v.devices b.before b.devices (no_delivery image lines sent id (w.lines + 1) line form line_is form_is b.other)
+        (h id)
     | inr another ↦ elim another [
-      | inl j ↦
-          let before : (c : Command)
-          → NotYet lines sent c w.lines =
-          subst (λ (ds : List DeviceState). AllHear image w.server.plan.frag_size lines sent w.lines ds) j.before h
-          in
-          subst (λ (ds : List DeviceState). AllHear image v.server.plan.frag_size lines sent (w.lines + 1) ds)
-          (sym j.devices)
-          (λ takes. not_yet_more lines sent _ w.lines
-          (no_delivery lines sent (w.lines + 1) line form line_is form_is j.other _) (before _))
-      | inr r ↦
-          let before : SessionHears image w.server.plan.frag_size lines sent w.lines r.old.config r.old.sessions.first =
-          subst (λ (ds : List DeviceState). AllHear image w.server.plan.frag_size lines sent w.lines ds) r.before h
-          in
-          let its = if_one (IsDeviceFor image w.server.plan.frag_size) w.devices r.old r.before k.devices in
-          subst (λ (n : ℕ). AllHear image n lines sent (w.lines + 1) v.devices) (sym r.size)
-          (subst (λ (ds : List DeviceState). AllHear image w.server.plan.frag_size lines sent (w.lines + 1) ds)
-          (sym r.devices)
-          (reached_hears image lines sent more w v form line r bytes its grown line_is form_is before))
+      | inl j ↦ λ id. subst (λ (x : Cut). DeviceHears image x (Brings image lines sent id) (w.lines + 1)
+          (numbered v.devices id)) (sym j.cut)
+          (subst (λ (ds : List DeviceState). DeviceHears image (cut_of w.server.plan) (Brings image lines sent id)
+          (w.lines + 1) (numbered ds id)) (sym j.devices)
+          (joined_hear image (cut_of w.server.plan) lines sent id w.lines w.devices (first_device j.config) refl
+          (no_delivery image lines sent id (w.lines + 1) line form line_is form_is j.other) (h id)))
+      | inr r ↦ λ id. subst (λ (x : Cut). DeviceHears image x (Brings image lines sent id) (w.lines + 1)
+          (numbered v.devices id)) (sym r.cut)
+          (subst (λ (ds : List DeviceState). DeviceHears image (cut_of w.server.plan) (Brings image lines sent id)
+          (w.lines + 1) (numbered ds id)) (sym r.devices)
+          (reached_hear image lines sent more w v form line r bytes k read grown line_is form_is h id))
     ]
   ]
 ]
@@ -97,8 +177,7 @@ form_grows : (image : List ℕ) (w : WorldState) (form : Option Form) → All (�
     → cause_of_form w form ≡ None → Grows w.sent (after_form_of w form).sent
 form_grows image w None bytes k fine = absurd cc
 form_grows image w (Some form) bytes k fine =
-    let taken = taken_by (is_taken form) _ (form_cause w form) fine in
-    turn_grows image form w (after_form w form) (form_turn image w form bytes k taken.0 taken.1)
+    turn_grows image form w (after_form w form) (form_turn image w form bytes k fine)
 
 line_grows : (image : List ℕ) (w : WorldState) (line : List ℕ) (rest : List (List ℕ)) (world : WorldState)
     (cause : Option LineWhy) → All (λ b. b < 2 ^ 8) image → Keeps image w → cause_of w line ≡ cause
@@ -130,11 +209,10 @@ form_full : (image : List ℕ) (lines : List (List ℕ)) (sent : List SentPayloa
     → Full image lines sent (after_form_of w form)
 form_full image lines sent w line rest None bytes r h more is fine = absurd cc
 form_full image lines sent w line rest (Some form) bytes r h more is fine =
-    let taken = taken_by (is_taken form) _ (form_cause w form) fine in
-    let turn = form_turn image w form bytes r.keeps taken.0 taken.1 in
+    let turn = form_turn image w form bytes r.keeps fine in
     let after : WorldState = after_form w form in
-    subst (λ (n : ℕ). AllHear image after.server.plan.frag_size lines sent (n + 1) after.devices) (sym turn.lines)
-    (turn_full image lines sent more.0 w after form line bytes r.keeps turn more.1
+    subst (λ (n : ℕ). AllHear image (cut_of after.server.plan) lines sent (n + 1) after.devices) (sym turn.lines)
+    (turn_full image lines sent more.0 w after form line bytes r.keeps r.read turn more.1
     (numbered_next lines w.lines line rest r.left).0 is h)
 
 line_full : (image : List ℕ) (lines : List (List ℕ)) (sent : List SentPayload) (w : WorldState) (line : List ℕ)
@@ -162,13 +240,16 @@ all_full image lines world (Ok w) (line ∷ rest) bytes h is =
     (line_full image lines world.sent w line rest (cause_of w line) bytes h.0 h.1
     (all_grow image lines (Ok w) (line ∷ rest) world bytes h.0 is) refl) is
 
+no_line : (lines : List (List ℕ)) (n : ℕ) (line : List ℕ) → n ≤ 0 → numbered lines n ≡ Some line → ⊥
+no_line lines zero line le is = absurd cc
+no_line lines (suc n) line le is = absurd (omega (arith, le))
+
 first_full : (image : List ℕ) (lines : List (List ℕ)) (sent : List SentPayload)
     → Full image lines sent (first_world image)
-first_full image lines sent = λ c n le d. nothing n le d.4.line_is
-  where
-    nothing : (n : ℕ) → n ≤ 0 → {line : List ℕ} → numbered lines n ≡ Some line → ⊥
-    nothing zero le is = absurd cc
-    nothing (suc n) le is = absurd (omega arith)
+unfolding AllHear
+first_full image lines sent id =
+    subst (DeviceHears image (cut_of (first_world image).server.plan) (Brings image lines sent id) 0)
+    (sym (none_there (first_world image).devices id refl)) (λ c n le b. no_line lines n b.3.0 le b.3.4.line_is)
 
 campaign_full : (image script : List ℕ) (world : WorldState) → All (λ b. b < 2 ^ 8) image
     → campaign_of image script ≡ Ok world → Full image (lines_of script) world.sent world
@@ -177,33 +258,21 @@ campaign_full image script world bytes is =
     all_full image (lines_of script) world (Ok (first_world image)) (lines_of script) bytes
     (first_reads image (lines_of script), first_full image (lines_of script) world.sent) (end_is _ world is)
 
--- the lines of the script are those that were read
-pub within : (xs : List (List ℕ)) (n : ℕ) (x : List ℕ) → numbered xs n ≡ Some x → n ≤ length xs
-within xs n x is = by_place (n == 0) refl is
-  where
-    there : (ys : List (List ℕ)) (k : ℕ) → slice_get ys k ≡ Some x → k < length ys
-    there [] k e = absurd cc
-    there (y ∷ ys) zero e = omega arith
-    there (y ∷ ys) (suc k) e = let r = there ys k e in omega (arith, r)
-
-    by_place : (b : Bool) → (n == 0) ≡ b → cond b None (slice_get xs (n - 1)) ≡ Some x → n ≤ length xs
-    by_place true zero_is e = absurd cc
-    by_place false zero_is e = let r = there xs (n - 1) e in omega (arith, r)
-
 -- so it is in each accepted campaign
-pub campaign_hears : (image script : List ℕ) (world : WorldState) (device : DeviceState) (session : Session)
+pub campaign_hears : (image script : List ℕ) (world : WorldState) (id : ℕ) (device : DeviceState) (session : Session)
     → All (λ b. b < 2 ^ 8) image → campaign_of image script ≡ Ok world
-    → world.devices ≡ device ∷ [] → device.sessions.first ≡ Some session → (f : Fragment) (n : ℕ)
-    → Delivers (lines_of script) world.sent 1 n (setup_request image world.server.plan.frag_size) → n < f.mark
-    → WasDelivered (lines_of script) world.sent 1 f → In f session.heard
-campaign_hears image script world device session bytes is d e f n setup later w =
+    → numbered world.devices id ≡ Some device → device.sessions.first ≡ Some session → (f : Fragment) (n : ℕ)
+    → Brings image (lines_of script) world.sent id n (setup_request image (cut_of world.server.plan)) → n < f.mark
+    → WasBrought image (lines_of script) world.sent id f → In f session.heard
+unfolding AllHear
+campaign_hears image script world id device session bytes is d e f n setup later w =
     let lines : List (List ℕ) = lines_of script in
-    let size : ℕ = world.server.plan.frag_size in
-    let all : SessionHears image size lines world.sent world.lines device.config device.sessions.first =
-    subst (λ (ds : List DeviceState). AllHear image size lines world.sent world.lines ds) d
-    (campaign_full image script world bytes is) in
-    let its : SessionHears image size lines world.sent world.lines device.config (Some session) =
-    subst (λ (x : Option Session). SessionHears image size lines world.sent world.lines device.config x) e all in
+    let cut : Cut = cut_of world.server.plan in
+    let brings : ℕ → Command → Type 0 = Brings image lines world.sent id in
+    let all : SessionHears image cut brings world.lines device.config device.sessions.first =
+    subst (DeviceHears image cut brings world.lines) d (campaign_full image script world bytes is id) in
+    let its : SessionHears image cut brings world.lines device.config (Some session) =
+    subst (λ (x : Option Session). SessionHears image cut brings world.lines device.config x) e all in
     let left : length (drop world.lines lines) ≡ 0 = ap length (campaign_reads image script world bytes is).left in
-    let inside : f.mark ≤ length lines = within lines f.mark w.0 w.4.line_is in
+    let inside : f.mark ≤ length lines = within lines f.mark w.3.0 w.3.4.line_is in
     its.1 f n setup later (omega (arith, left, inside, length-drop world.lines lines)) w

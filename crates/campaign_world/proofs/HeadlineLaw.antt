@@ -1,5 +1,5 @@
 -- The headline: what is seen of the session in each campaign, and what the report says of it.
-use Rattle.std.proofs.Common.{◌≡◌, ◌≢◌, ◌⊎◌, inl, inr, ℕ, ◌<◌, ◌^◌, true, List, [], ◌∷◌, ◌++◌, length, codes, All, Some, refl, sym, ap, ◌∙◌, subst, append-nil, append_assoc, bytes_eq}
+use Rattle.std.proofs.Common.{◌≡◌, ◌≢◌, ◌⊎◌, inl, inr, ℕ, zero, suc, ◌+◌, ◌-◌, ◌<◌, ◌≤◌, ◌^◌, Bool, true, false, cond, ◌==◌, List, [], ◌∷◌, ◌++◌, length, take, drop, slice_get, codes, All, None, Some, Ok, arith, refl, sym, ap, ◌∙◌, subst, append-nil, append_assoc, bytes_eq}
 use Rattle.std.specs.List.{AllByRecursion}
 use Rattle.std.proofs.lemmas.Slice.Eq.{bytes_eq-Decides}
 use Rattle.frag_model.specs.Fragments.{Fragment, Shape}
@@ -16,23 +16,25 @@ use Rattle.package_grammar.specs.declared.command.Command.TheVariants.{Cast}
 use Rattle.device_core.specs.SessionTable.{SessionTable}
 use Rattle.device_core.specs.Device.{DeviceState}
 use Rattle.campaign_server.specs.declared.stage.Stage.{Stage}
-use Rattle.campaign_server.specs.Server.{ServerState}
+use Rattle.campaign_server.specs.Server.{ServerState, numbered, ledger}
 use Rattle.campaign_server.specs.Asking.{fragments_request}
 use Rattle.script_lines.specs.Lines.{lines_of}
 use Rattle.campaign_world.specs.World.{WorldState}
-use Rattle.campaign_world.specs.Report.{◌⧺◌, image_line, device_line, counts_line, same_word, verdict_text, session_text, session_line, session_lines, device_parts, report_of}
-use Rattle.campaign_world.specs.Headline.{WholeAt, IsFragmentOf, IsServed, Delivers, CameInOrder, setup_command, HearsDelivered, IsRecovered, IsReported, IsCampaign, Headline}
-use Rattle.campaign_world.proofs.HeadlineCommands.{setup_request}
-use Rattle.campaign_world.proofs.HeadlineEnds.{IsSetFor, HasNoMore, IsServerOf, request_is}
+use Rattle.campaign_world.specs.Report.{◌⧺◌, image_line, device_line, counts_line, same_word, verdict_text, session_text, session_line, session_lines, device_part, device_parts, report_of}
+use Rattle.campaign_world.specs.Script.{campaign_of}
+use Rattle.campaign_world.specs.Headline.{WholeAt, HasNoOther, IsFragmentOf, IsServed, Brings, CameInOrder, setup_command, HearsBrought, text_before, text_behind, IsRecovered, IsReported, IsCampaign, Headline}
+use Rattle.campaign_world.proofs.HeadlineCommands.{Cut, cut_of, setup_request}
+use Rattle.campaign_world.proofs.HeadlineEnds.{IsSetFor, IsServerOf}
 use Rattle.campaign_world.proofs.HeadlineLines.{campaign_reads, campaign_device, campaign_session, campaign_came}
 use Rattle.campaign_world.proofs.HeadlineHeard.{campaign_hears}
 use Rattle.campaign_world.proofs.HeadlineImage.{IsShapeFor, image_fits, alone_is_image, behind}
 
 -- the session's shape is the image's
-shape_for : (image : List ℕ) (size : ℕ) (s : Session) → All (λ b. b < 2 ^ 8) image → IsSetFor image size s
-    → IsShapeFor image (shape_of s) s.setup.padding × ((shape_of s).frag_size ≡ size)
+shape_for : (image : List ℕ) (whole : Cut) (s : Session) → All (λ b. b < 2 ^ 8) image → IsSetFor image whole s
+    → IsShapeFor image (shape_of s) s.setup.padding × ((shape_of s).frag_size ≡ whole.size)
 unfolding shape_of
-shape_for image size s bytes k =
+shape_for image whole s bytes k =
+    let size : ℕ = whole.size in
     let cut : s.setup.frag_size ≡ size = ap (λ (r : SetupReq). r.frag_size) k.setup in
     let count : s.setup.nb_frag ≡ nb_frag_of (length image) size = ap (λ (r : SetupReq). r.nb_frag) k.setup in
     let pad : s.setup.padding ≡ padding_of (length image) size = ap (λ (r : SetupReq). r.padding) k.setup in (
@@ -77,22 +79,22 @@ recovered_by image s h all =
           at.3.now image (image_fits image shape padding (at.1 ∷ at.2) h from);
     }
 
-set_for : (image script : List ℕ) (world : WorldState) (stage : Stage) (device : DeviceState) (session : Session)
-    → IsCampaign image script world stage device session → IsSetFor image world.server.plan.frag_size session
-set_for image script world stage device session c =
-    campaign_session image script world device session c.bytes c.accepted c.device_is c.session_is
+set_for : (image script : List ℕ) (world : WorldState) (id : ℕ) (stage : Stage) (device : DeviceState) (session : Session)
+    → IsCampaign image script world id stage device session → IsSetFor image (cut_of world.server.plan) session
+set_for image script world id stage device session c =
+    campaign_session image script world id device session c.bytes c.accepted c.device_is c.session_is
 
-server_of : (image script : List ℕ) (world : WorldState) (stage : Stage) (device : DeviceState) (session : Session)
-    → IsCampaign image script world stage device session → IsServerOf image world.server
-server_of image script world stage device session c =
+server_of : (image script : List ℕ) (world : WorldState) (id : ℕ) (stage : Stage) (device : DeviceState)
+    (session : Session) → IsCampaign image script world id stage device session → IsServerOf image world.server
+server_of image script world id stage device session c =
     (campaign_reads image script world c.bytes c.accepted).keeps.server
 
-served : (image script : List ℕ) (world : WorldState) (stage : Stage) (device : DeviceState) (session : Session)
-    → IsCampaign image script world stage device session → IsServed image world.server session
-served image script world stage device session c =
-    let k = set_for image script world stage device session c in
+served : (image script : List ℕ) (world : WorldState) (id : ℕ) (stage : Stage) (device : DeviceState)
+    (session : Session) → IsCampaign image script world id stage device session → IsServed image world.server session
+served image script world id stage device session c =
+    let k = set_for image script world id stage device session c in
     record {
-      image_is = (server_of image script world stage device session c).image_is;
+      image_is = (server_of image script world id stage device session c).image_is;
       nb_frag = ap (λ (r : SetupReq). r.nb_frag) k.setup;
       frag_size = ap (λ (r : SetupReq). r.frag_size) k.setup;
       padding = ap (λ (r : SetupReq). r.padding) k.setup;
@@ -101,73 +103,106 @@ served image script world stage device session c =
 
 -- the setup that the server sends
 setup_is : (image : List ℕ) (server : ServerState) → IsServerOf image server
-    → setup_command server ≡ setup_request image server.plan.frag_size
+    → setup_command server ≡ setup_request image (cut_of server.plan)
 setup_is image server k =
     ap (λ (i : List ℕ). let c : Command = Cast (fragments_request server.plan i) in c) k.image_is
-    ∙ request_is server.plan image k.no_group
 
-delivered : (image script : List ℕ) (world : WorldState) (stage : Stage) (device : DeviceState) (session : Session)
-    → IsCampaign image script world stage device session
-    → HearsDelivered (lines_of script) world 1 session
-delivered image script world stage device session c =
-    let setup = setup_is image world.server (server_of image script world stage device session c) in
+brought : (image script : List ℕ) (world : WorldState) (id : ℕ) (stage : Stage) (device : DeviceState)
+    (session : Session) → IsCampaign image script world id stage device session
+    → HearsBrought image (lines_of script) world id session
+brought image script world id stage device session c =
+    let lines : List (List ℕ) = lines_of script in
+    let setup = setup_is image world.server (server_of image script world id stage device session c) in
     record {
-      only = subst (λ (x : Command). CameInOrder (lines_of script) world.sent 1 x world.lines session.heard) (sym setup)
-          (campaign_came image script world device session c.bytes c.accepted c.device_is c.session_is);
-      all = λ f n d later w. campaign_hears image script world device session c.bytes c.accepted c.device_is
-          c.session_is f n
-          (subst (λ (x : Command). Delivers (lines_of script) world.sent 1 n x) setup d) later w;
+      only = subst (λ (x : Command). CameInOrder image lines world.sent id x world.lines session.heard) (sym setup)
+          (campaign_came image script world id device session c.bytes c.accepted c.device_is c.session_is);
+      all = λ f n d later w. campaign_hears image script world id device session c.bytes c.accepted c.device_is
+          c.session_is f n (subst (λ (x : Command). Brings image lines world.sent id n x) setup d) later w;
     }
 
-recovered : (image script : List ℕ) (world : WorldState) (stage : Stage) (device : DeviceState) (session : Session)
-    → IsCampaign image script world stage device session → IsRecovered image session
-recovered image script world stage device session c =
-    let k = set_for image script world stage device session c in
-    let shape = shape_for image world.server.plan.frag_size session c.bytes k in
+recovered : (image script : List ℕ) (world : WorldState) (id : ℕ) (stage : Stage) (device : DeviceState)
+    (session : Session) → IsCampaign image script world id stage device session → IsRecovered image session
+recovered image script world id stage device session c =
+    let k = set_for image script world id stage device session c in
+    let shape = shape_for image (cut_of world.server.plan) session c.bytes k in
     recovered_by image session shape.0 (subst (λ (n : ℕ). AllByRecursion (IsFragmentOf image n) session.heard)
     (sym shape.1) k.heard)
 
 -- the report over a device that has no session but the first
-alone_lines : (sent : List ℕ) (all : SessionTable) (session : Session) → all.first ≡ Some session → HasNoMore all
+alone_lines : (sent : List ℕ) (all : SessionTable) (session : Session) → all.first ≡ Some session → HasNoOther all
     → session_lines sent all ≡ session_line sent 0 (Some (seen_of session))
 unfolding view_of
 alone_lines sent all session is none = rw (is, none.second, none.third, none.fourth) (append-nil _)
 
--- the report in which these are the lines of the sessions
-abbrev report_over : ServerState → Stage → DeviceState → List ℕ → List ℕ
-report_over server stage device sessions =
-    codes "fuota report 1\n" ⧺ image_line server ⧺ device_line 1 stage device ⧺ counts_line device.counts ⧺ sessions ⧺
-    codes "end\n"
-
--- the parts of one device, one behind another
-parts_on : (a b c end : List ℕ) → ((a ++ (b ++ c)) ++ []) ++ end ≡ a ++ (b ++ (c ++ end))
-parts_on a b c end =
-    ap (λ (x : List ℕ). x ++ end) (append-nil (a ++ (b ++ c))) ∙ append_assoc a (b ++ c) end
-    ∙ ap (λ (x : List ℕ). a ++ x) (append_assoc b c end)
-
-one_part : (server : ServerState) (stage : Stage) (device : DeviceState)
-    → codes "fuota report 1\n" ++ (image_line server ++
-    (device_parts server.image 1 (stage ∷ []) (device ∷ []) ++ codes "end\n"))
-    ≡ report_over server stage device (session_lines server.image device.sessions)
+-- the parts of devices are those before one, its own and those behind it
+parts_split : (image : List ℕ) (k from id : ℕ) (stages : List Stage) (devices : List DeviceState) (stage : Stage)
+    (device : DeviceState) → slice_get stages k ≡ Some stage → slice_get devices k ≡ Some device → from + k ≡ id
+    → device_parts image from stages devices
+    ≡ device_parts image from (take k stages) (take k devices)
+    ++ (device_part image id stage device ++ device_parts image (id + 1) (drop (suc k) stages) (drop (suc k) devices))
 unfolding device_parts
-one_part server stage device =
-    ap (λ (x : List ℕ). codes "fuota report 1\n" ++ (image_line server ++ x))
-    (parts_on (device_line 1 stage device) (counts_line device.counts) (session_lines server.image device.sessions)
-    (codes "end\n"))
+parts_split image k from id [] devices stage device s d is = absurd cc
+parts_split image k from id (x ∷ xs) [] stage device s d is = absurd cc
+parts_split image zero from id (x ∷ xs) (y ∷ ys) stage device s d is =
+    let one : x ≡ stage = cc in
+    let two : y ≡ device = cc in
+    let same : from ≡ id = omega (arith, is) in
+    ap (λ (a : Stage). device_part image from a y ++ device_parts image (from + 1) xs ys) one
+    ∙ ap (λ (b : DeviceState). device_part image from stage b ++ device_parts image (from + 1) xs ys) two
+    ∙ ap (λ (n : ℕ). device_part image n stage device ++ device_parts image (n + 1) xs ys) same
+parts_split image (suc k) from id (x ∷ xs) (y ∷ ys) stage device s d is =
+    ap (λ (t : List ℕ). device_part image from x y ++ t)
+    (parts_split image k (from + 1) id xs ys stage device s d (omega (arith, is)))
+    ∙ sym (append_assoc (device_part image from x y) (device_parts image (from + 1) (take k xs) (take k ys))
+    (device_part image id stage device ++ device_parts image (id + 1) (drop (suc k) xs) (drop (suc k) ys)))
 
-report_is : (world : WorldState) (stage : Stage) (device : DeviceState) (session : Session)
-    → world.server.stages ≡ stage ∷ [] → world.devices ≡ device ∷ [] → device.sessions.first ≡ Some session
-    → HasNoMore device.sessions
-    → report_of world ≡ report_over world.server stage device
-    (session_line world.server.image 0 (Some (seen_of session)))
+-- the report in which these are the lines of the sessions of device id
+abbrev report_over : WorldState → (id : ℕ) → Stage → DeviceState → List ℕ → List ℕ
+report_over world id stage device sessions =
+    text_before world id ⧺ device_line id stage device ⧺ counts_line device.counts ⧺ sessions ⧺ text_behind world id
+
+-- texts, one behind another
+parts_on : (a b p x y z q end : List ℕ)
+    → a ++ (b ++ ((p ++ ((x ++ (y ++ z)) ++ q)) ++ end)) ≡ (a ++ (b ++ p)) ++ (x ++ (y ++ (z ++ (q ++ end))))
+parts_on a b p x y z q end =
+    let inner : ((x ++ (y ++ z)) ++ q) ++ end ≡ x ++ (y ++ (z ++ (q ++ end))) =
+    append_assoc (x ++ (y ++ z)) q end ∙ append_assoc x (y ++ z) (q ++ end)
+    ∙ ap (λ (t : List ℕ). x ++ t) (append_assoc y z (q ++ end)) in
+    let whole : (p ++ ((x ++ (y ++ z)) ++ q)) ++ end ≡ p ++ (x ++ (y ++ (z ++ (q ++ end)))) =
+    append_assoc p ((x ++ (y ++ z)) ++ q) end ∙ ap (λ (t : List ℕ). p ++ t) inner in
+    ap (λ (t : List ℕ). a ++ (b ++ t)) whole
+    ∙ ap (λ (t : List ℕ). a ++ t) (sym (append_assoc b p (x ++ (y ++ (z ++ (q ++ end))))))
+    ∙ sym (append_assoc a (b ++ p) (x ++ (y ++ (z ++ (q ++ end)))))
+
+item_by : {A : Type 0} (xs : List A) (id : ℕ) (x : A) (b : Bool) → (id == 0) ≡ b
+    → cond b None (slice_get xs (id - 1)) ≡ Some x → (slice_get xs (id - 1) ≡ Some x) × (1 ≤ id)
+item_by xs id x true is there = absurd cc
+item_by xs zero x false is there = absurd cc
+item_by xs (suc id) x false is there = (there, omega arith)
+
+report_is : (world : WorldState) (id : ℕ) (stage : Stage) (device : DeviceState) (session : Session)
+    → ledger world.server id ≡ Some stage → numbered world.devices id ≡ Some device
+    → device.sessions.first ≡ Some session → HasNoOther device.sessions
+    → report_of world ≡ report_over world id stage device (session_line world.server.image 0 (Some (seen_of session)))
 unfolding report_of
-report_is world stage device session s d e none =
-    ap (λ (x : List Stage). codes "fuota report 1\n" ++
-    (image_line world.server ++ (device_parts world.server.image 1 x world.devices ++ codes "end\n"))) s
-    ∙ ap (λ (x : List DeviceState). codes "fuota report 1\n" ++
-    (image_line world.server ++ (device_parts world.server.image 1 (stage ∷ []) x ++ codes "end\n"))) d
-    ∙ one_part world.server stage device
-    ∙ ap (report_over world.server stage device) (alone_lines world.server.image device.sessions session e none)
+report_is world id stage device session s d e none =
+    let image : List ℕ = world.server.image in
+    let stages : List Stage = world.server.stages in
+    let there = item_by stages id stage (id == 0) refl s in
+    let here = item_by world.devices id device (id == 0) refl d in
+    let at : suc (id - 1) ≡ id = omega (arith, there.1) in
+    let split = parts_split image (id - 1) 1 id stages world.devices stage device there.0 here.0 (omega (arith, there.1)) in
+    let moved : device_parts image 1 stages world.devices
+    ≡ device_parts image 1 (take (id - 1) stages) (take (id - 1) world.devices)
+    ++ (device_part image id stage device ++ device_parts image (id + 1) (drop id stages) (drop id world.devices)) =
+    split ∙ ap (λ (k : ℕ). device_parts image 1 (take (id - 1) stages) (take (id - 1) world.devices)
+    ++ (device_part image id stage device ++ device_parts image (id + 1) (drop k stages) (drop k world.devices))) at in
+    ap (λ (t : List ℕ). codes "fuota report 1\n" ++ (image_line world.server ++ (t ++ codes "end\n"))) moved
+    ∙ parts_on (codes "fuota report 1\n") (image_line world.server)
+    (device_parts image 1 (take (id - 1) stages) (take (id - 1) world.devices))
+    (device_line id stage device) (counts_line device.counts) (session_lines image device.sessions)
+    (device_parts image (id + 1) (drop id stages) (drop id world.devices)) (codes "end\n")
+    ∙ ap (report_over world id stage device) (alone_lines image device.sessions session e none)
 
 line_is : (sent : List ℕ) (seen : Seen) (v : Verdict) → seen.verdict ≡ v
     → session_line sent 0 (Some seen) ≡ session_text 0 seen.received seen.missing
@@ -194,16 +229,17 @@ whole_of_image image s r mark file at =
     subst (λ (f : List ℕ). FirstAt (shape_of s) s.setup.padding (IsWhole (shape_of s) s.setup.padding f) s.heard mark)
     (r.alone at.0 (at.1 ∷ at.2) file at.3.parted at.3.now.alone) at
 
-reported : (image script : List ℕ) (world : WorldState) (stage : Stage) (device : DeviceState) (session : Session)
-    → IsCampaign image script world stage device session → IsReported image world stage device session
-reported image script world stage device session c =
-    let k = server_of image script world stage device session c in
-    let r = recovered image script world stage device session c in
+reported : (image script : List ℕ) (world : WorldState) (id : ℕ) (stage : Stage) (device : DeviceState)
+    (session : Session) → IsCampaign image script world id stage device session
+    → IsReported image world id stage device session
+reported image script world id stage device session c =
+    let k = server_of image script world id stage device session c in
+    let r = recovered image script world id stage device session c in
     let seen : Seen = seen_of session in
     let server : ServerState = world.server in
-    let text = report_is world stage device session c.stage_is c.device_is c.session_is
-    (campaign_device image script world device c.bytes c.accepted c.device_is).alone in
-    let whole : List ℕ → List ℕ = λ line. report_over server stage device line in
+    let text = report_is world id stage device session c.stage_is c.device_is c.session_is
+    (campaign_device image script world id device c.bytes c.accepted c.device_is).alone in
+    let whole : List ℕ → List ℕ = λ line. report_over world id stage device line in
     record {
       cases = elim (seen_cases seen.verdict r.agrees) [
         | inl is ↦ let at = (r.decided.complete is.0).0 is.1 in inl
@@ -225,5 +261,9 @@ reported image script world stage device session c =
       receiving = λ stays. text ∙ ap whole (line_is server.image seen verdict.Receiving (r.decided.receiving.1 stays));
     }
 
+one : (image script : List ℕ) (world : WorldState) (id : ℕ) (device : DeviceState) → All (λ b. b < 2 ^ 8) image
+    → campaign_of image script ≡ Ok world → numbered world.devices id ≡ Some device → HasNoOther device.sessions
+one image script world id device bytes is there = (campaign_device image script world id device bytes is there).alone
+
 pub headline : Headline
-headline = record { served = served; delivered = delivered; recovered = recovered; reported = reported }
+headline = record { one = one; served = served; brought = brought; recovered = recovered; reported = reported }

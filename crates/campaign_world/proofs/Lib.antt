@@ -1,4 +1,5 @@
 pub mod Zips
+pub mod LineItems
 pub mod Outboxes
 pub mod Outcomes
 pub mod FormCauses

@@ -2,10 +2,7 @@
 use Rattle.std.specs.Prelude.{ℕ, ◌+◌, Bool, true, false, ◌&&◌, ◌||◌, not, ◌==◌, nat_lt, nat_le, if◌then◌else◌, List, length, Option, Some, None, is_none, is_ok}
 use Rattle.frag_model.specs.Limits.{max_pieces}
 use Rattle.frag_encoder.specs.Encoding.{nb_frag_of}
-use Rattle.campaign_server.specs.declared.stage.Stage.{Stage}
-use Rattle.campaign_server.specs.declared.stage.Stage.TheVariants.{At}
-use Rattle.campaign_server.specs.declared.stage.Request.TheVariants as request
-use Rattle.campaign_server.specs.Server.{ServerState, numbered, ledger}
+use Rattle.campaign_server.specs.Server.{ServerState, numbered}
 use Rattle.campaign_server.specs.Fragments.{next_fragment, status_to_all}
 use Rattle.script_lines.specs.declared.forms.Form.{Form}
 use Rattle.script_lines.specs.declared.forms.Form.TheVariants.{Header, Image, Group, WindowC, WindowB, Device, At, Wake, Ask, Frag, Status, Down, Up}
@@ -14,7 +11,6 @@ use Rattle.campaign_world.specs.declared.faults.LineWhy.TheVariants as why
 use Rattle.campaign_world.specs.declared.section.Section.{Section}
 use Rattle.campaign_world.specs.declared.section.Section.TheVariants as section
 use Rattle.script_lines.specs.Forms.{form_of}
-use Rattle.script_lines.specs.declared.forms.Class.TheVariants as class
 use Rattle.script_lines.specs.Limits.{max_lines, max_line}
 use Rattle.script_lines.specs.Ranges.{in_range}
 use Rattle.campaign_world.specs.declared.numbered.SentPayload.{SentPayload}
@@ -54,14 +50,10 @@ has_ended here = false
 
 -- ---- range
 
--- so many devices a script has so far at most
-abbrev pub devices_so_far : ℕ
-devices_so_far = 1
-
 -- an image of this length has at most 1,024 fragments; behind so many devices the ID is the next
 abbrev pub fits_script : (len count : ℕ) → Form → Bool
 fits_script len count (Image frag_size parity) = nat_le (nb_frag_of len frag_size) max_pieces
-fits_script len count (Device id class hw rows offset key descriptor) = id == count + 1 && nat_le id devices_so_far
+fits_script len count (Device id class hw rows offset key descriptor) = id == count + 1
 fits_script len count form = true
 
 -- ---- device, unsent, time
@@ -102,16 +94,10 @@ is_to_come now form = true
 
 -- ---- limit, last of all
 
--- the server asks for the status, which it does not so far
-abbrev pub asks_status : Option Stage → Bool
-asks_status (Some (At request.Status)) = true
-asks_status other = false
-
 -- there is something left to send
 abbrev pub has_more : ServerState → Form → Bool
 has_more server Frag = is_ok (next_fragment server)
 has_more server Status = not (is_none (status_to_all server))
-has_more server (Ask device) = not (asks_status (ledger server device))
 has_more server form = true
 
 -- ---- all causes, the first that holds
@@ -126,19 +112,9 @@ form_cause world form =
     else if not (has_more world.server form) then Some why.Limit
     else None
 
--- the forms that are taken so far: devices of class C without a group, which do not wake
-abbrev pub is_taken : Form → Bool
-is_taken (Group addr key min max) = false
-is_taken (WindowC start timeout freq dr) = false
-is_taken (WindowB start periodicity timeout freq dr) = false
-is_taken (Device id class.A hw rows offset key descriptor) = false
-is_taken (Wake device) = false
-is_taken Status = false
-is_taken form = true
-
 abbrev pub cause_of_form : WorldState → Option Form → Option LineWhy
 cause_of_form world None = Some why.Syntax
-cause_of_form world (Some form) = if is_taken form then form_cause world form else Some why.Syntax
+cause_of_form world (Some form) = form_cause world form
 
 -- the cause for which the next line is refused, the first that holds
 unfoldable pub cause_of : WorldState → (line : List ℕ) → Option LineWhy

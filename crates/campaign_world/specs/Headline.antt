@@ -1,6 +1,6 @@
 -- The headline in the field's own words: what the session of a campaign hears, when it is decided, and what the report says.
 -- (This project's profile.)
-use Rattle.std.specs.Prelude.{◌≡◌, ◌≢◌, ◌⊎◌, ℕ, ◌+◌, ◌-◌, ◌^◌, ◌<◌, ◌≤◌, List, [], ◌∷◌, ◌++◌, length, All, codes, Option, Some, Ok}
+use Rattle.std.specs.Prelude.{◌≡◌, ◌≢◌, ◌⊎◌, ℕ, ◌+◌, ◌-◌, ◌^◌, ◌<◌, ◌≤◌, Bool, true, false, List, [], ◌∷◌, ◌++◌, length, take, drop, All, codes, Option, Some, None, Result, Ok}
 use Rattle.std.specs.List.{AllByRecursion}
 use Rattle.std.specs.Fmt.{decimal}
 use Rattle.frag_model.specs.Limits.{max_parity_index}
@@ -9,25 +9,30 @@ use Rattle.frag_model.specs.Members.{In}
 use Rattle.frag_model.specs.File.{OneFileFits}
 use Rattle.frag_encoder.specs.Encoding.{nb_frag_of, padding_of, data_of}
 use Rattle.frag_session.specs.declared.answers.Verdict.TheVariants as verdict
-use Rattle.frag_session.specs.Session.{Session, Seen, shape_of, seen_of}
+use Rattle.frag_session.specs.Session.{Session, Seen, shape_of, seen_of, excludes}
 use Rattle.frag_session.specs.FirstMoment.{AfterEach, FirstAt, IsDecidedAtFirst, IsOpen, IsWhole, Overflows}
 use Rattle.cast_wire.specs.declared.cmd.Cmd.TheVariants.{DataFragment}
 use Rattle.package_grammar.specs.declared.command.Command.TheVariants.{Cast}
 use Rattle.package_grammar.specs.declared.command.Command.{Command}
-use Rattle.package_grammar.specs.declared.downlink.To.TheVariants.{Unicast}
+use Rattle.package_grammar.specs.declared.downlink.To.{To}
 use Rattle.package_grammar.specs.Grammar.{IsValid}
+use Rattle.device_core.specs.SessionTable.{SessionTable}
 use Rattle.device_core.specs.Device.{DeviceState}
+use Rattle.device_core.specs.ClassSessions.{hears}
+use Rattle.device_core.specs.Firmware.{after_due_reboot}
+use Rattle.device_core.specs.Deliver.{via_of}
 use Rattle.campaign_server.specs.declared.stage.Stage.{Stage}
-use Rattle.campaign_server.specs.Server.{ServerState, numbered, downlink_of}
+use Rattle.campaign_server.specs.Server.{ServerState, DownlinkCommand, numbered, ledger, downlink_of}
 use Rattle.campaign_server.specs.Plan.{session_index}
-use Rattle.campaign_server.specs.Asking.{fragments_request}
+use Rattle.campaign_server.specs.Asking.{mask_of, fragments_request}
 use Rattle.script_lines.specs.declared.forms.Form.TheVariants.{Down}
 use Rattle.script_lines.specs.Lines.{lines_of}
 use Rattle.script_lines.specs.Forms.{form_of}
 use Rattle.campaign_world.specs.declared.numbered.SentPayload.{SentPayload}
-use Rattle.campaign_world.specs.World.{WorldState}
-use Rattle.campaign_world.specs.Script.{campaign_of}
-use Rattle.campaign_world.specs.Report.{◌⧺◌, image_line, device_line, counts_line, session_text, report_of}
+use Rattle.campaign_world.specs.declared.faults.LineFault.{LineFault}
+use Rattle.campaign_world.specs.World.{WorldState, first_world}
+use Rattle.campaign_world.specs.Script.{read_lines, campaign_of}
+use Rattle.campaign_world.specs.Report.{◌⧺◌, image_line, device_line, counts_line, session_text, device_parts, report_of}
 
 -- ---- what the session of a campaign is, and what it hears
 
@@ -36,6 +41,12 @@ pub record IsFragmentOf (image : List ℕ) (frag_size : ℕ) (f : Fragment) : Ty
   pub first : 1 ≤ f.number
   pub last : f.number ≤ nb_frag_of (length image) frag_size + max_parity_index
   pub part : f.part ≡ data_of image frag_size f.number
+
+-- there is no session but that of the server's index
+pub record HasNoOther (all : SessionTable) : Type 0 where
+  pub second : all.second ≡ None
+  pub third : all.third ≡ None
+  pub fourth : all.fourth ≡ None
 
 -- the session is the one that the server sets up for the image, and hears nothing but the image's fragments
 pub record IsServed (image : List ℕ) (server : ServerState) (session : Session) : Type 0 where
@@ -46,35 +57,54 @@ pub record IsServed (image : List ℕ) (server : ServerState) (session : Session
   pub heard : AllByRecursion (IsFragmentOf image server.plan.frag_size) session.heard
 
 -- line n of the script is a down to device id, and the server sent this valid command as the payload that it names
-pub record IsDelivery (lines : List (List ℕ)) (sent : List SentPayload) (id n : ℕ) (command : Command) (line : List ℕ) (number word : ℕ) (receiver : Option ℕ) : Type 0 where
+pub record IsDelivery (lines : List (List ℕ)) (sent : List SentPayload) (id n : ℕ) (down : DownlinkCommand) (line : List ℕ) (number word : ℕ) (receiver : Option ℕ) : Type 0 where
   pub line_is : numbered lines n ≡ Some line
   pub form : form_of line ≡ Some (Down number id word)
-  pub payload_is : numbered sent number ≡ Some (record { receiver = receiver; down = downlink_of (record { to = Unicast; command = command }) })
-  pub valid : IsValid command
+  pub payload_is : numbered sent number ≡ Some (record { receiver = receiver; down = downlink_of down })
+  pub valid : IsValid down.command
 
 -- line n of the script delivers this command to device id
-abbrev pub Delivers : List (List ℕ) → List SentPayload → (id n : ℕ) → Command → Type 0
-Delivers lines sent id n command = (line : List ℕ) × (number : ℕ) × (word : ℕ) × (receiver : Option ℕ) × IsDelivery lines sent id n command line number word receiver
+abbrev pub Delivers : List (List ℕ) → List SentPayload → (id n : ℕ) → DownlinkCommand → Type 0
+Delivers lines sent id n down = (line : List ℕ) × (number : ℕ) × (word : ℕ) × (receiver : Option ℕ) × IsDelivery lines sent id n down line number word receiver
 
--- the line whose number is the fragment's mark delivers it
-abbrev pub WasDelivered : List (List ℕ) → List SentPayload → (id : ℕ) → Fragment → Type 0
-WasDelivered lines sent id f = Delivers lines sent id f.mark (Cast (DataFragment session_index f.number f.part))
+-- the campaign before line n of the script
+abbrev pub campaign_before : (image : List ℕ) → (lines : List (List ℕ)) → (n : ℕ) → Result WorldState LineFault
+campaign_before image lines n = read_lines (Ok (first_world image)) (take (n - 1) lines)
 
--- each fragment was delivered up to this line, those heard before it at lines before its own, and the setup before them all
-abbrev pub CameInOrder : List (List ℕ) → List SentPayload → (id : ℕ) → Command → ℕ → List Fragment → Type 0
-CameInOrder lines sent id setup last [] = (n : ℕ) × (n ≤ last) × Delivers lines sent id n setup
-CameInOrder lines sent id setup last (f ∷ older) = (f.mark ≤ last) × WasDelivered lines sent id f × CameInOrder lines sent id setup (f.mark - 1) older
+-- what comes this way to device id at line n, behind a reboot that is due, is heard: its receiver is open, and the server's
+-- session takes what comes by that group. By unicast a device of class C hears always
+pub record Listens (image : List ℕ) (lines : List (List ℕ)) (id n : ℕ) (to : To) (world : WorldState) (device : DeviceState) : Type 0 where
+  pub before : campaign_before image lines n ≡ Ok world
+  pub there : numbered world.devices id ≡ Some device
+  pub hearing : hears (after_due_reboot world.time device) world.time to ≡ true
+  pub way : excludes (mask_of world.server.plan.group) (via_of (after_due_reboot world.time device).class_session to) ≡ false
+
+-- line n of the script brings this command to device id, which hears it
+abbrev pub Brings : (image : List ℕ) → List (List ℕ) → List SentPayload → (id n : ℕ) → Command → Type 0
+Brings image lines sent id n command = (to : To) × (world : WorldState) × (device : DeviceState)
+    × Delivers lines sent id n (record { to = to; command = command }) × Listens image lines id n to world device
+
+-- the line whose number is the fragment's mark brings it
+abbrev pub WasBrought : (image : List ℕ) → List (List ℕ) → List SentPayload → (id : ℕ) → Fragment → Type 0
+WasBrought image lines sent id f = Brings image lines sent id f.mark (Cast (DataFragment session_index f.number f.part))
+
+-- each fragment was brought up to this line, those heard before it at lines before its own, and the setup before them all
+abbrev pub CameInOrder : (image : List ℕ) → List (List ℕ) → List SentPayload → (id : ℕ) → Command → ℕ → List Fragment → Type 0
+CameInOrder image lines sent id setup last [] = (n : ℕ) × (n ≤ last) × Brings image lines sent id n setup
+CameInOrder image lines sent id setup last (f ∷ older) =
+    (f.mark ≤ last) × WasBrought image lines sent id f × CameInOrder image lines sent id setup (f.mark - 1) older
 
 -- the setup that the server sends
 abbrev pub setup_command : ServerState → Command
 setup_command server = Cast (fragments_request server.plan server.image)
 
--- what the session of device id hears: what the lines of the script deliver
-pub record HearsDelivered (lines : List (List ℕ)) (world : WorldState) (id : ℕ) (session : Session) : Type 0 where
-  -- after the setup was delivered, nothing else, and each fragment at its line
-  pub only : CameInOrder lines world.sent id (setup_command world.server) world.lines session.heard
-  -- and each fragment that is delivered after the setup was
-  pub all : (f : Fragment) (n : ℕ) → Delivers lines world.sent id n (setup_command world.server) → n < f.mark → WasDelivered lines world.sent id f → In f session.heard
+-- what the session of device id hears: what the lines of the script bring
+pub record HearsBrought (image : List ℕ) (lines : List (List ℕ)) (world : WorldState) (id : ℕ) (session : Session) : Type 0 where
+  -- after the setup was brought, nothing else, and each fragment at its line
+  pub only : CameInOrder image lines world.sent id (setup_command world.server) world.lines session.heard
+  -- and each fragment that is brought after the setup was
+  pub all : (f : Fragment) (n : ℕ) → Brings image lines world.sent id n (setup_command world.server) → n < f.mark
+      → WasBrought image lines world.sent id f → In f session.heard
 
 -- ---- what is seen of it
 
@@ -91,11 +121,21 @@ pub record IsRecovered (image : List ℕ) (s : Session) : Type 0 where
 
 -- ---- what the report says
 
--- the report of a device with one session, in which this is said of the session's verdict
-abbrev pub report_saying : ServerState → Stage → DeviceState → Seen → List ℕ → List ℕ
-report_saying server stage device seen words =
-    codes "fuota report 1\n" ⧺ image_line server ⧺ device_line 1 stage device ⧺ counts_line device.counts
-    ⧺ session_text 0 seen.received seen.missing words ⧺ codes "end\n"
+-- the report before the part of a device, and behind it
+abbrev pub text_before : WorldState → (id : ℕ) → List ℕ
+text_before world id =
+    codes "fuota report 1\n" ⧺ image_line world.server
+    ⧺ device_parts world.server.image 1 (take (id - 1) world.server.stages) (take (id - 1) world.devices)
+
+abbrev pub text_behind : WorldState → (id : ℕ) → List ℕ
+text_behind world id =
+    device_parts world.server.image (id + 1) (drop id world.server.stages) (drop id world.devices) ⧺ codes "end\n"
+
+-- the report in which this is said of the verdict of the one session of device id
+abbrev pub report_saying : WorldState → (id : ℕ) → Stage → DeviceState → Seen → List ℕ → List ℕ
+report_saying world id stage device seen words =
+    text_before world id ⧺ device_line id stage device ⧺ counts_line device.counts
+    ⧺ session_text session_index seen.received seen.missing words ⧺ text_behind world id
 
 -- what is said of a session that is complete from a line on, with the server's image as its file
 abbrev pub complete_words : ℕ → List ℕ
@@ -118,36 +158,39 @@ abbrev pub StaysOpen : Session → Type 0
 StaysOpen s = AfterEach (IsOpen (shape_of s) s.setup.padding) s.heard
 
 -- what the report says of the session
-pub record IsReported (image : List ℕ) (world : WorldState) (stage : Stage) (device : DeviceState) (s : Session) : Type 0 where
+pub record IsReported (image : List ℕ) (world : WorldState) (id : ℕ) (stage : Stage) (device : DeviceState) (s : Session) : Type 0 where
   -- some fragment is the first after which one file alone fits, the image; or one exceeds the rows first; or it is open yet
   pub cases : ((line : ℕ) × WholeAt image s line) ⊎ (((line : ℕ) × OverAt s line) ⊎ StaysOpen s)
   -- where there is one, the report names its line
-  pub complete : (line : ℕ) → WholeAt image s line → report_of world ≡ report_saying world.server stage device (seen_of s) (complete_words line)
-  pub no_rows : (line : ℕ) → OverAt s line → report_of world ≡ report_saying world.server stage device (seen_of s) (no_rows_words line)
+  pub complete : (line : ℕ) → WholeAt image s line → report_of world ≡ report_saying world id stage device (seen_of s) (complete_words line)
+  pub no_rows : (line : ℕ) → OverAt s line → report_of world ≡ report_saying world id stage device (seen_of s) (no_rows_words line)
   -- and until then says so
-  pub receiving : StaysOpen s → report_of world ≡ report_saying world.server stage device (seen_of s) (codes "receiving")
+  pub receiving : StaysOpen s → report_of world ≡ report_saying world id stage device (seen_of s) (codes "receiving")
 
 -- ---- a campaign
 
--- a campaign whose device has a session: the image's bytes, the script, how it ends, and its device with its stage
-pub record IsCampaign (image script : List ℕ) (world : WorldState) (stage : Stage) (device : DeviceState) (session : Session) : Type 0 where
+-- a device of a campaign that has a session: the image's bytes, the script, how it ends, the device and its stage
+pub record IsCampaign (image script : List ℕ) (world : WorldState) (id : ℕ) (stage : Stage) (device : DeviceState) (session : Session) : Type 0 where
   pub bytes : All (λ b. b < 2 ^ 8) image
   pub accepted : campaign_of image script ≡ Ok world
-  pub stage_is : world.server.stages ≡ stage ∷ []
-  pub device_is : world.devices ≡ device ∷ []
+  pub stage_is : ledger world.server id ≡ Some stage
+  pub device_is : numbered world.devices id ≡ Some device
   pub session_is : device.sessions.first ≡ Some session
 
 -- whatever image and accepted script of losses, repeats and reorderings there are
 pub record Headline : Type 0 where
-  -- the session is the server's
-  pub served : (image script : List ℕ) (world : WorldState) (stage : Stage) (device : DeviceState) (session : Session)
-      → IsCampaign image script world stage device session → IsServed image world.server session
-  -- it hears what the script delivers
-  pub delivered : (image script : List ℕ) (world : WorldState) (stage : Stage) (device : DeviceState) (session : Session)
-      → IsCampaign image script world stage device session → HearsDelivered (lines_of script) world 1 session
+  -- a device has no session but the server's
+  pub one : (image script : List ℕ) (world : WorldState) (id : ℕ) (device : DeviceState) → All (λ b. b < 2 ^ 8) image
+      → campaign_of image script ≡ Ok world → numbered world.devices id ≡ Some device → HasNoOther device.sessions
+  -- which is the one for the image
+  pub served : (image script : List ℕ) (world : WorldState) (id : ℕ) (stage : Stage) (device : DeviceState) (session : Session)
+      → IsCampaign image script world id stage device session → IsServed image world.server session
+  -- it hears what the script brings
+  pub brought : (image script : List ℕ) (world : WorldState) (id : ℕ) (stage : Stage) (device : DeviceState) (session : Session)
+      → IsCampaign image script world id stage device session → HearsBrought image (lines_of script) world id session
   -- it is complete exactly when one file alone fits, the image, unless the rows are exceeded first
-  pub recovered : (image script : List ℕ) (world : WorldState) (stage : Stage) (device : DeviceState) (session : Session)
-      → IsCampaign image script world stage device session → IsRecovered image session
+  pub recovered : (image script : List ℕ) (world : WorldState) (id : ℕ) (stage : Stage) (device : DeviceState) (session : Session)
+      → IsCampaign image script world id stage device session → IsRecovered image session
   -- the report says so
-  pub reported : (image script : List ℕ) (world : WorldState) (stage : Stage) (device : DeviceState) (session : Session)
-      → IsCampaign image script world stage device session → IsReported image world stage device session
+  pub reported : (image script : List ℕ) (world : WorldState) (id : ℕ) (stage : Stage) (device : DeviceState) (session : Session)
+      → IsCampaign image script world id stage device session → IsReported image world id stage device session

@@ -56,6 +56,36 @@ pub record DeviceRests (held : HeldDevice) (device : DeviceState) : Type 0 where
 abbrev pub DevicesRest : List HeldDevice → List DeviceState → Type 0
 DevicesRest = AllZip DeviceRests
 
+-- ---- an event at a device, whose uplinks are then taken
+
+-- the device without the uplinks that it held
+abbrev pub resting : DeviceState → DeviceState
+resting device = record device { outbox = [] }
+
+-- whatever record it rested as, it rests as what the event makes of that
+abbrev pub ComesToRest : (event : DeviceState → DeviceState) → (old new : HeldDevice) → Type 0
+ComesToRest event old new = (device : DeviceState) → DeviceRests old device → DeviceRests new (resting (event device))
+
+-- the uplinks that a device holds, numbered behind the others
+abbrev pub numbered_behind : List MadeUplink → (id : ℕ) → List Uplink → List MadeUplink
+numbered_behind uplinks id made = uplinks ++ map (λ uplink. made_by id uplink) made
+
+-- so are those that the event makes
+abbrev pub AreNumbered : (event : DeviceState → DeviceState) → HeldDevice → (id : ℕ) → (old new : List MadeUplink) → Type 0
+AreNumbered event held id old new =
+    (device : DeviceState) → DeviceRests held device → new ≡ numbered_behind old id (event device).outbox
+
+-- the same of the device with this number
+abbrev pub OneComesToRest : (event : DeviceState → DeviceState) → (id : ℕ) → (old new : List HeldDevice) → Type 0
+OneComesToRest event id old new = (all : List DeviceState) (device : DeviceState) → DevicesRest old all
+    → slice_get all (id - 1) ≡ Some device → DevicesRest new (slice_set all (id - 1) (resting (event device)))
+
+abbrev pub OnesAreNumbered : (event : DeviceState → DeviceState) → List HeldDevice → (id : ℕ) → (old new : List MadeUplink) → Type 0
+OnesAreNumbered event held id old new = (all : List DeviceState) (device : DeviceState) → DevicesRest held all
+    → slice_get all (id - 1) ≡ Some device → new ≡ numbered_behind old id (event device).outbox
+
+-- ---- the world
+
 -- its devices stand for the campaign's, and all else is equal
 pub record WorldStands (held : HeldWorld) (world : WorldState) : Type 0 where
   pub devices : DevicesRest held.devices world.devices
