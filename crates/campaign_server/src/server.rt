@@ -1,6 +1,6 @@
 //! The server of a campaign: its record, and its calls.
 
-ghost use Rattle.std.specs.Prelude.{◌≡◌, ◌↔◌, ◌≤◌, Err, IfOk, is_ok, None, Some, length, replicate, true};
+ghost use Rattle.std.specs.Prelude.{◌≡◌, ◌↔◌, ◌≤◌, Err, IfOk, is_ok, is_some, None, Some, length, replicate, true};
 ghost use Rattle.image_slots.specs.Image.{is_image};
 ghost use Rattle.frag_encoder.specs.Encoding.{nb_frag_of, padding_of};
 ghost use Rattle.campaign_server.specs.declared.plan.Field.{Field};
@@ -139,6 +139,14 @@ impl Server {
         self.count = next_count(group, self.count);
         self.next += 1;
         Ok(down)
+    }
+
+    /// Whether all devices can be asked for their status.
+    #[tactic(auto, unfolding(crate::specs::Fragments::status_to_all))]
+    pub fn has_status(&self) -> bool
+        ensures { result ≡ is_some (status_to_all self.now) }
+    {
+        !has_no_count(self.plan.group, self.count)
     }
 
     #[tactic(auto, unfolding(crate::specs::Fragments::status_to_all, crate::specs::Fragments::after_status_to_all))]

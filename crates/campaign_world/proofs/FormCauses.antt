@@ -1,5 +1,5 @@
 -- The first cause for which a form is refused, test by test.
-use Rattle.std.proofs.Common.{◌≡◌, ℕ, ◌≤◌, ◌<◌, ◌*◌, ◌^◌, ◌+◌, ◌-◌, zero, suc, Bool, true, false, not, cond, ◌==◌, ◌&&◌, List, [], ◌∷◌, length, replicate, slice_get, nat_lt, nat_le, Option, Some, None, refl, sym, ap, ◌∙◌, arith, is_ok, subst, inl, inr, ◌⊎◌, is_some}
+use Rattle.std.proofs.Common.{◌≡◌, ℕ, ◌≤◌, ◌<◌, ◌*◌, ◌^◌, ◌+◌, ◌-◌, zero, suc, Bool, true, false, not, cond, ◌==◌, ◌&&◌, List, [], ◌∷◌, length, replicate, slice_get, nat_lt, nat_le, Option, Some, None, refl, sym, ap, ◌∙◌, arith, is_ok, subst, inl, inr, ◌⊎◌, is_some, ne_eqb}
 use Rattle.std.proofs.lemmas.Grind.{div_ceil_times}
 use Rattle.std.proofs.Math.Bool.{or-true}
 use Rattle.std.proofs.lemmas.Bool.{leb-true, le-leb, ltb-true, lt-ltb, and_parts}
@@ -9,12 +9,11 @@ use Rattle.image_slots.specs.Image.{is_image}
 use Rattle.image_slots.proofs.ImageLemmas.{image_long}
 use Rattle.device_core.specs.Device.{DeviceState}
 use Rattle.device_core.specs.HeldDevice.{HeldDevice}
-use Rattle.campaign_server.specs.Plan.{Plan, is_frag_size, bad_field}
+use Rattle.campaign_server.specs.declared.plan.PlanGroup.{PlanGroup}
+use Rattle.campaign_server.specs.Plan.{Plan, is_frag_size, is_group, bad_field}
 use Rattle.campaign_server.specs.declared.plan.Field.{Field}
-use Rattle.campaign_server.specs.Server.{ServerState, first_server, numbered}
-use Rattle.campaign_server.specs.Fragments.{next_fragment, last_fragment}
-use Rattle.campaign_server.specs.declared.stage.Stage.TheVariants.{At}
-use Rattle.campaign_server.specs.declared.stage.Request.TheVariants.{Version}
+use Rattle.campaign_server.specs.Server.{ServerState, first_count, first_server}
+use Rattle.campaign_server.specs.Fragments.{next_fragment, last_fragment, has_no_count, status_to_all}
 use Rattle.script_lines.specs.declared.forms.Form.{Form}
 use Rattle.script_lines.specs.declared.forms.Form.TheVariants as form
 use Rattle.script_lines.specs.Ranges.{in_range}
@@ -25,14 +24,14 @@ use Rattle.campaign_world.specs.declared.section.Section.TheVariants as place
 use Rattle.campaign_world.specs.World.{WorldState}
 use Rattle.campaign_world.specs.declared.numbered.SentPayload.{SentPayload}
 use Rattle.campaign_world.specs.declared.numbered.MadeUplink.{MadeUplink}
-use Rattle.campaign_world.specs.Causes.{is_device, is_event_or_end, may_come, fits_script, names_device, has_come, is_to_come, has_more, asks_status, is_taken, form_cause, cause_of, cause_of_form}
+use Rattle.campaign_world.specs.Causes.{is_device, is_event_or_end, may_come, fits_script, names_device, has_come, is_to_come, has_more, form_cause, cause_of, cause_of_form}
 use Rattle.script_lines.specs.Forms.{form_of}
 use Rattle.script_lines.specs.Limits.{max_lines, max_line, max_time}
 use Rattle.campaign_world.specs.HeldWorld.{HeldWorld, server_of, world_of, IsFine}
 use Rattle.campaign_world.specs.Making.{device_of}
 use Rattle.script_lines.specs.declared.forms.Class.{Class}
 use Rattle.script_lines.specs.declared.forms.Class.TheVariants as class
-use Rattle.campaign_world.specs.WorldInside.{IsPlanned, IsSized, ServerIs, IsToBegin}
+use Rattle.campaign_world.specs.WorldInside.{IsPlanned, IsSized, IsWindowed, ServerIs, IsToBegin}
 
 pub order : (world : WorldState) (form : Form) → may_come world.section form ≡ false → form_cause world form ≡ Some why.Order
 unfolding form_cause
@@ -81,21 +80,6 @@ none world form so_far names come timed more = rw (so_far.comes, so_far.ranges, 
 
 -- ---- at its start the server has something to send
 
-versions : (n i : ℕ) → asks_status (slice_get (replicate n (At Version)) i) ≡ false
-versions zero i = refl
-versions (suc n) zero = refl
-versions (suc n) (suc i) = versions n i
-
-versions_at : (n dev i : ℕ) → asks_status (cond (dev == 0) None (slice_get (replicate n (At Version)) i)) ≡ false
-versions_at n dev i = by_test (dev == 0)
-  where
-    by_test : (b : Bool) → asks_status (cond b None (slice_get (replicate n (At Version)) i)) ≡ false
-    by_test true = refl
-    by_test false = versions n i
-
-numbered_versions : (n dev : ℕ) → asks_status (numbered (replicate n (At Version)) dev) ≡ false
-numbered_versions n dev = versions_at n dev (dev - 1)
-
 some_piece : (len frag_size n : ℕ) → 1 ≤ len → len ≤ n * frag_size → 1 ≤ n
 some_piece len frag_size zero some fits = absurd (omega (arith, some, fits))
 some_piece len frag_size (suc n) some fits = omega arith
@@ -107,20 +91,29 @@ not_below (suc n) some = grind (arith, nat_tests)
 pieces_and : (n parity : ℕ) → 1 ≤ n → 1 ≤ n + parity
 pieces_and n parity some = omega (arith, some)
 
-first_fragment : (image : List ℕ) (plan : Plan) → is_image image ≡ true → 1 ≤ plan.frag_size → plan.group ≡ None → is_ok (next_fragment (first_server image plan)) ≡ true
+-- a group has a first frame count
+counts_left : (group : Option PlanGroup) → is_group group ≡ true → has_no_count group (first_count group) ≡ false
+counts_left None fine = refl
+counts_left (Some group) fine = let less = ltb-true group.min group.max fine in ne_eqb group.min group.max (omega (arith, less))
+
+first_fragment : (image : List ℕ) (plan : Plan) → is_image image ≡ true → 1 ≤ plan.frag_size → is_group plan.group ≡ true → is_ok (next_fragment (first_server image plan)) ≡ true
 unfolding next_fragment
-first_fragment image plan fine some no_group =
+first_fragment image plan fine some grouped =
     let bound = (div_ceil_times (length image) plan.frag_size some).0 in
     let pieces : 1 ≤ nb_frag_of (length image) plan.frag_size = some_piece (length image) plan.frag_size (nb_frag_of (length image) plan.frag_size) (omega (arith, image_long image fine)) bound in
-    rw (not_below (last_fragment (first_server image plan)) (pieces_and _ _ pieces), no_group) refl
+    rw (not_below (last_fragment (first_server image plan)) (pieces_and _ _ pieces), counts_left plan.group grouped) refl
+
+first_status : (image : List ℕ) (plan : Plan) → is_group plan.group ≡ true → is_some (status_to_all (first_server image plan)) ≡ true
+unfolding status_to_all
+first_status image plan grouped = rw (counts_left plan.group grouped) refl
 
 -- before the first event something is left to send for each form that may come
 pub unmade_sends : (image : List ℕ) (section : Section) (plan : Plan) (devices : List HeldDevice) (form : Form) → is_image image ≡ true
-    → IsPlanned image section plan devices None → is_taken form ≡ true → may_come section form ≡ true → has_more (first_server image plan) form ≡ true
-unmade_sends image section plan devices form.Frag fine planned taken comes = by_section section planned comes
+    → IsPlanned image section plan devices None → may_come section form ≡ true → has_more (first_server image plan) form ≡ true
+unmade_sends image section plan devices form.Frag fine planned comes = by_section section planned comes
   where
     sized : IsSized image plan devices → is_ok (next_fragment (first_server image plan)) ≡ true
-    sized is = first_fragment image plan fine (leb-true _ _ (and_parts _ _ (and_parts _ _ is.size).0).0) is.no_group
+    sized is = first_fragment image plan fine (leb-true _ _ (and_parts _ _ (and_parts _ _ is.size).0).0) is.grouped
 
     by_section : (section : Section) → IsPlanned image section plan devices None → may_come section form.Frag ≡ true → is_ok (next_fragment (first_server image plan)) ≡ true
     by_section place.Header planned comes = absurd cc
@@ -131,19 +124,29 @@ unmade_sends image section plan devices form.Frag fine planned taken comes = by_
     by_section place.Devices planned comes = sized planned.0
     by_section place.Events planned comes = absurd cc
     by_section place.Ended planned comes = absurd cc
-unmade_sends image section plan devices (form.Ask device) fine planned taken comes = rw (numbered_versions (length plan.devices) device) refl
-unmade_sends image section plan devices form.Status fine planned taken comes = absurd cc
-unmade_sends image section plan devices form.Header fine planned taken comes = refl
-unmade_sends image section plan devices (form.Image frag_size parity) fine planned taken comes = refl
-unmade_sends image section plan devices (form.Group addr key min max) fine planned taken comes = refl
-unmade_sends image section plan devices (form.WindowC start timeout freq dr) fine planned taken comes = refl
-unmade_sends image section plan devices (form.WindowB start periodicity timeout freq dr) fine planned taken comes = refl
-unmade_sends image section plan devices (form.Device id class hw rows offset key descriptor) fine planned taken comes = refl
-unmade_sends image section plan devices (form.At time) fine planned taken comes = refl
-unmade_sends image section plan devices (form.Wake device) fine planned taken comes = refl
-unmade_sends image section plan devices (form.Down number device word) fine planned taken comes = refl
-unmade_sends image section plan devices (form.Up number) fine planned taken comes = refl
-unmade_sends image section plan devices form.End fine planned taken comes = refl
+unmade_sends image section plan devices (form.Ask device) fine planned comes = refl
+unmade_sends image section plan devices form.Status fine planned comes = by_section section planned comes
+  where
+    by_section : (section : Section) → IsPlanned image section plan devices None → may_come section form.Status ≡ true → is_some (status_to_all (first_server image plan)) ≡ true
+    by_section place.Header planned comes = absurd cc
+    by_section place.Image planned comes = absurd cc
+    by_section place.Group planned comes = absurd cc
+    by_section place.Window planned comes = absurd cc
+    by_section place.Device planned comes = absurd cc
+    by_section place.Devices planned comes = first_status image plan planned.0.grouped
+    by_section place.Events planned comes = absurd cc
+    by_section place.Ended planned comes = absurd cc
+unmade_sends image section plan devices form.Header fine planned comes = refl
+unmade_sends image section plan devices (form.Image frag_size parity) fine planned comes = refl
+unmade_sends image section plan devices (form.Group addr key min max) fine planned comes = refl
+unmade_sends image section plan devices (form.WindowC start timeout freq dr) fine planned comes = refl
+unmade_sends image section plan devices (form.WindowB start periodicity timeout freq dr) fine planned comes = refl
+unmade_sends image section plan devices (form.Device id class hw rows offset key descriptor) fine planned comes = refl
+unmade_sends image section plan devices (form.At time) fine planned comes = refl
+unmade_sends image section plan devices (form.Wake device) fine planned comes = refl
+unmade_sends image section plan devices (form.Down number device word) fine planned comes = refl
+unmade_sends image section plan devices (form.Up number) fine planned comes = refl
+unmade_sends image section plan devices form.End fine planned comes = refl
 
 -- ---- the image is the one that is held
 
@@ -183,9 +186,9 @@ pub more_from : (image : List ℕ) (plan : Plan) (server : Option ServerState) (
 more_from image plan server s f test there is = rw (there) (sym is)
 
 pub unmade_from : (image : List ℕ) (section : Section) (plan : Plan) (devices : List HeldDevice) (server : Option ServerState) (f : Form) → is_image image ≡ true
-    → server ≡ None → IsPlanned image section plan devices server → is_taken f ≡ true → may_come section f ≡ true → has_more (server_of image plan server) f ≡ true
-unmade_from image section plan devices server f fine none planned taken comes =
-    rw (none) (unmade_sends image section plan devices f fine (rw none at planned) taken comes)
+    → server ≡ None → IsPlanned image section plan devices server → may_come section f ≡ true → has_more (server_of image plan server) f ≡ true
+unmade_from image section plan devices server f fine none planned comes =
+    rw (none) (unmade_sends image section plan devices f fine (rw none at planned) comes)
 
 -- ---- the causes of a line
 
@@ -208,11 +211,8 @@ pub of_form : (world : WorldState) (line : List ℕ) (form : Option Form) (cause
 unfolding cause_of
 of_form world line form cause few short is gives = rw (not_le max_lines world.lines few, not_lt max_line (length line) short, ← is) gives
 
-pub not_taken : (world : WorldState) (form : Form) → is_taken form ≡ false → cause_of_form world (Some form) ≡ Some why.Syntax
-not_taken world form other = rw (other) refl
-
-pub taken : (world : WorldState) (form : Form) (cause : Option LineWhy) → is_taken form ≡ true → cause ≡ form_cause world form → cause_of_form world (Some form) ≡ cause
-taken world form cause is gives = rw (is) (sym gives)
+pub some_form : (world : WorldState) (form : Form) (cause : Option LineWhy) → cause ≡ form_cause world form → cause_of_form world (Some form) ≡ cause
+some_form world form cause gives = sym gives
 
 pub no_form : (world : WorldState) (form : Option Form) → form ≡ None → cause_of_form world form ≡ Some why.Syntax
 no_form world form is = rw (is) refl
@@ -250,6 +250,9 @@ passes world form fine =
 
 named_within : (count device : ℕ) → is_device count device ≡ true → (1 ≤ device) × (device ≤ count)
 named_within count device is = let both = and_parts _ _ is in (leb-true 1 device both.0, leb-true device count both.1)
+
+pub woken_within : (count : ℕ) (f : Form) (device : ℕ) → names_device count f ≡ true → f ≡ form.Wake device → (1 ≤ device) × (device ≤ count)
+woken_within count f device names is = named_within count device (rw is at names)
 
 pub asked_within : (count : ℕ) (f : Form) (device : ℕ) → names_device count f ≡ true → f ≡ form.Ask device → (1 ≤ device) × (device ≤ count)
 asked_within count f device names is = named_within count device (rw is at names)
@@ -325,7 +328,7 @@ pub begins_at : (held : HeldWorld) (f : Form) → is_event_or_end f ≡ true →
 begins_at held f event comes planned = by_section (event_at held.section f event comes)
   where
     by_section : (held.section ≡ place.Devices) ⊎ (held.section ≡ place.Events) → IsToBegin held
-    by_section (inl is) = let there = subst (λ (s : Section). IsPlanned held.image s held.plan held.devices held.server) is planned in inr (there.0, there.1)
+    by_section (inl is) = let there = subst (λ (s : Section). IsPlanned held.image s held.plan held.devices held.server) is planned in inr (there.0, there.1, there.2)
     by_section (inr is) = inl (subst (λ (s : Section). IsPlanned held.image s held.plan held.devices held.server) is planned)
 
 pub image_at : (s : Section) (f : Form) (frag_size parity : ℕ) → f ≡ form.Image frag_size parity → may_come s f ≡ true → s ≡ place.Image
@@ -354,26 +357,100 @@ header_at s f is comes = by_section s (rw is at comes)
     by_section place.Events comes = absurd cc
     by_section place.Ended comes = absurd cc
 
+-- without a group no window is wanted
+alone : (plan : Plan) → plan.group ≡ None → plan.window ≡ None → IsWindowed plan
+alone plan no_group no_window = rw (no_group, no_window) refl
+
 pub joins_at : (image : List ℕ) (s : Section) (plan : Plan) (devices : List HeldDevice) (server : Option ServerState) (f : Form) (id hw rows offset : ℕ) (k : Class) (key : List ℕ) (descriptor : Option ℕ)
-    → f ≡ form.Device id k hw rows offset key descriptor → may_come s f ≡ true → IsPlanned image s plan devices server → IsSized image plan devices × (server ≡ None)
+    → f ≡ form.Device id k hw rows offset key descriptor → may_come s f ≡ true → IsPlanned image s plan devices server → IsSized image plan devices × IsWindowed plan × (server ≡ None)
 joins_at image s plan devices server f id hw rows offset k key descriptor is comes planned = by_section s (rw is at comes) planned
   where
-    by_section : (s : Section) → may_come s (form.Device id k hw rows offset key descriptor) ≡ true → IsPlanned image s plan devices server → IsSized image plan devices × (server ≡ None)
+    by_section : (s : Section) → may_come s (form.Device id k hw rows offset key descriptor) ≡ true → IsPlanned image s plan devices server → IsSized image plan devices × IsWindowed plan × (server ≡ None)
     by_section place.Header comes planned = absurd cc
     by_section place.Image comes planned = absurd cc
-    by_section place.Group comes planned = planned
+    by_section place.Group comes planned = (planned.0, alone plan planned.1 planned.2, planned.3)
     by_section place.Window comes planned = absurd cc
     by_section place.Device comes planned = planned
-    by_section place.Devices comes planned = (planned.0, planned.2)
+    by_section place.Devices comes planned = (planned.0, planned.1, planned.3)
     by_section place.Events comes planned = absurd cc
     by_section place.Ended comes planned = absurd cc
 
-pub class_c : (f : Form) (id hw rows offset : ℕ) (k : Class) (key : List ℕ) (descriptor : Option ℕ) → f ≡ form.Device id k hw rows offset key descriptor → is_taken f ≡ true → k ≡ class.C
-class_c f id hw rows offset k key descriptor is taken = by_class k (rw is at taken)
+-- where the group's line and its window's line may come
+pub group_at : (s : Section) (f : Form) (addr min max : ℕ) (key : List ℕ) → f ≡ form.Group addr key min max → may_come s f ≡ true → s ≡ place.Group
+group_at s f addr min max key is comes = by_section s (rw is at comes)
   where
-    by_class : (k : Class) → is_taken (form.Device id k hw rows offset key descriptor) ≡ true → k ≡ class.C
-    by_class class.A taken = absurd cc
-    by_class class.C taken = refl
+    by_section : (s : Section) → may_come s (form.Group addr key min max) ≡ true → s ≡ place.Group
+    by_section place.Header comes = absurd cc
+    by_section place.Image comes = absurd cc
+    by_section place.Group comes = refl
+    by_section place.Window comes = absurd cc
+    by_section place.Device comes = absurd cc
+    by_section place.Devices comes = absurd cc
+    by_section place.Events comes = absurd cc
+    by_section place.Ended comes = absurd cc
+
+window_only : (test : Section → Bool) → test place.Header ≡ false → test place.Image ≡ false → test place.Group ≡ false → test place.Device ≡ false → test place.Devices ≡ false → test place.Events ≡ false → test place.Ended ≡ false
+    → (s : Section) → test s ≡ true → s ≡ place.Window
+window_only test one two three four five six seven place.Header comes = absurd cc
+window_only test one two three four five six seven place.Image comes = absurd cc
+window_only test one two three four five six seven place.Group comes = absurd cc
+window_only test one two three four five six seven place.Window comes = refl
+window_only test one two three four five six seven place.Device comes = absurd cc
+window_only test one two three four five six seven place.Devices comes = absurd cc
+window_only test one two three four five six seven place.Events comes = absurd cc
+window_only test one two three four five six seven place.Ended comes = absurd cc
+
+pub window_c_at : (s : Section) (f : Form) (start timeout freq dr : ℕ) → f ≡ form.WindowC start timeout freq dr → may_come s f ≡ true → s ≡ place.Window
+window_c_at s f start timeout freq dr is comes = window_only (λ (x : Section). may_come x (form.WindowC start timeout freq dr)) refl refl refl refl refl refl refl s (rw is at comes)
+
+pub window_b_at : (s : Section) (f : Form) (start periodicity timeout freq dr : ℕ) → f ≡ form.WindowB start periodicity timeout freq dr → may_come s f ≡ true → s ≡ place.Window
+window_b_at s f start periodicity timeout freq dr is comes = window_only (λ (x : Section). may_come x (form.WindowB start periodicity timeout freq dr)) refl refl refl refl refl refl refl s (rw is at comes)
+
+-- a group's line that is in range has numbers that a plan takes
+pub record Counting (min max : ℕ) : Type 0 where
+  pub first : min < 2 ^ 32
+  pub last : max < 2 ^ 32
+  pub some : min < max
+
+pub counting : (f : Form) (addr min max : ℕ) (key : List ℕ) → f ≡ form.Group addr key min max → in_range f ≡ true → Counting min max
+unfolding in_range
+counting f addr min max key is ranges =
+    let all : (nat_lt min (2 ^ 32) && nat_lt max (2 ^ 32) && nat_lt min max) ≡ true = rw is at ranges in
+    let a = and_parts (nat_lt min (2 ^ 32) && nat_lt max (2 ^ 32)) (nat_lt min max) all in
+    let b = and_parts (nat_lt min (2 ^ 32)) (nat_lt max (2 ^ 32)) a.0 in
+    record { first = ltb-true _ _ b.0; last = ltb-true _ _ b.1; some = ltb-true _ _ a.1 }
+
+-- and so has a window's line
+pub record Opening (start timeout freq dr : ℕ) : Type 0 where
+  pub start_fits : start < 2 ^ 32
+  pub timeout_fits : timeout ≤ 15
+  pub freq_fits : freq < 2 ^ 24
+  pub dr_fits : dr ≤ 255
+  pub test : (nat_lt start (2 ^ 32) && nat_le timeout 15 && nat_lt freq (2 ^ 24) && nat_le dr 255) ≡ true
+
+opening : (start timeout freq dr : ℕ) → (nat_lt start (2 ^ 32) && nat_le timeout 15 && nat_lt freq (2 ^ 24) && nat_le dr 255) ≡ true → Opening start timeout freq dr
+opening start timeout freq dr all =
+    let a = and_parts (nat_lt start (2 ^ 32) && nat_le timeout 15 && nat_lt freq (2 ^ 24)) (nat_le dr 255) all in
+    let b = and_parts (nat_lt start (2 ^ 32) && nat_le timeout 15) (nat_lt freq (2 ^ 24)) a.0 in
+    let c = and_parts (nat_lt start (2 ^ 32)) (nat_le timeout 15) b.0 in
+    record {
+      start_fits = ltb-true _ _ c.0;
+      timeout_fits = leb-true _ _ c.1;
+      freq_fits = ltb-true _ _ b.1;
+      dr_fits = leb-true _ _ a.1;
+      test = all;
+    }
+
+pub opening_c : (f : Form) (start timeout freq dr : ℕ) → f ≡ form.WindowC start timeout freq dr → in_range f ≡ true → Opening start timeout freq dr
+unfolding in_range
+opening_c f start timeout freq dr is ranges = opening start timeout freq dr (rw is at ranges)
+
+pub opening_b : (f : Form) (start periodicity timeout freq dr : ℕ) → f ≡ form.WindowB start periodicity timeout freq dr → in_range f ≡ true → Opening start timeout freq dr × (periodicity ≤ 7)
+unfolding in_range
+opening_b f start periodicity timeout freq dr is ranges =
+    let all : ((nat_lt start (2 ^ 32) && nat_le timeout 15 && nat_lt freq (2 ^ 24) && nat_le dr 255) && nat_le periodicity 7) ≡ true = rw is at ranges in
+    let both = and_parts (nat_lt start (2 ^ 32) && nat_le timeout 15 && nat_lt freq (2 ^ 24) && nat_le dr 255) (nat_le periodicity 7) all in
+    (opening start timeout freq dr both.0, leb-true _ _ both.1)
 
 -- an image line that is fine has numbers that a plan takes
 pub cuts_well : (image : List ℕ) (count : ℕ) (f : Form) (frag_size parity : ℕ) → f ≡ form.Image frag_size parity → in_range f ≡ true → fits_script (length image) count f ≡ true
@@ -402,9 +479,8 @@ fitting len count f id hw rows offset k key descriptor is ranges fits =
     let b = and_parts (nat_le 1 id && nat_le id 64 && nat_lt hw (2 ^ 32)) (nat_le rows 64) a.0 in
     let c = and_parts (nat_le 1 id && nat_le id 64) (nat_lt hw (2 ^ 32)) b.0 in
     let d = and_parts (nat_le 1 id) (nat_le id 64) c.0 in
-    let next : (id == count + 1 && nat_le id 1) ≡ true = rw is at fits in
-    let both = and_parts (id == count + 1) (nat_le id 1) next in
-    let is_next : id ≡ count + 1 = grind (arith, nat_tests, both.0) in
+    let next : (id == count + 1) ≡ true = rw is at fits in
+    let is_next : id ≡ count + 1 = grind (arith, nat_tests, next) in
     record {
       hw_fits = ltb-true _ _ c.1;
       few = leb-true _ _ b.1;
@@ -418,12 +494,12 @@ fits_held held f built fine = subst (λ (i : List ℕ). fits_script (length i) (
 
 -- ---- the plan behind the devices has no wrong field
 
-pub plans_well : (image : List ℕ) (plan : Plan) (devices : List HeldDevice) → IsSized image plan devices → 1 ≤ length devices → bad_field (length image) plan ≡ None
+pub plans_well : (image : List ℕ) (plan : Plan) (devices : List HeldDevice) → IsSized image plan devices → IsWindowed plan → 1 ≤ length devices → bad_field (length image) plan ≡ None
 unfolding bad_field
-plans_well image plan devices sized some =
+plans_well image plan devices sized windowed some =
     let first : 1 ≤ length plan.devices = rw (sized.numbers) some in
     let last : length plan.devices ≤ 64 = rw (sized.numbers) sized.count in
-    rw (sized.size, not_lt 512 plan.parity sized.few, sized.no_group, sized.no_window, le-leb 1 (length plan.devices) first, le-leb (length plan.devices) 64 last) refl
+    rw (sized.size, not_lt 512 plan.parity sized.few, sized.grouped, windowed, le-leb 1 (length plan.devices) first, le-leb (length plan.devices) 64 last) refl
 
 -- so a server that is to begin is made
 pub begins_well : (held : HeldWorld) (field : Field) → IsToBegin held → is_some held.server ≡ false → bad_field (length held.image) held.plan ≡ Some field → ⊥
@@ -431,4 +507,4 @@ begins_well held field begins unmade bad = by_begun begins
   where
     by_begun : IsToBegin held → ⊥
     by_begun (inl made) = let there = made.1 in absurd cc
-    by_begun (inr planned) = let fine = plans_well held.image held.plan held.devices planned.0 planned.1 in absurd cc
+    by_begun (inr planned) = let fine = plans_well held.image held.plan held.devices planned.0 planned.1 planned.2 in absurd cc

@@ -1,16 +1,16 @@
 -- What an event makes of a world that stands for a campaign.
-use Rattle.std.proofs.Common.{◌≡◌, ℕ, ◌≤◌, ◌+◌, ◌-◌, Bool, true, false, cond, ◌==◌, List, [], ◌∷◌, ◌++◌, length, map, slice_get, slice_set, Option, Some, None, Result, Ok, Err, is_ok, refl, sym, ap, ◌∙◌, subst, arith}
+use Rattle.std.proofs.Common.{◌≡◌, ℕ, ◌≤◌, ◌+◌, ◌-◌, Bool, true, false, cond, ◌==◌, List, [], ◌∷◌, ◌++◌, length, map, slice_get, slice_set, Option, Some, None, Result, Ok, Err, is_ok, is_some, refl, sym, ap, ◌∙◌, subst, arith}
 use Rattle.std.proofs.lemmas.Bool.Decides.{nat_tests}
 use Rattle.std.specs.Option.{option_map}
 use Rattle.device_core.specs.Device.{DeviceState, first_device}
-use Rattle.device_core.specs.Deliver.{delivery}
+use Rattle.device_core.specs.Deliver.{delivery, waking}
 use Rattle.device_core.specs.HeldDevice.{HeldDevice, DeviceStands}
 use Rattle.device_core.specs.declared.config.DeviceConfig.{DeviceConfig}
 use Rattle.campaign_server.specs.Plan.{Plan}
 use Rattle.campaign_world.proofs.Outboxes.{outbox_is}
 use Rattle.device_core.specs.declared.uplink.Uplink.{Uplink}
 use Rattle.campaign_server.specs.Server.{ServerState, DownlinkCommand, numbered, ledger}
-use Rattle.campaign_server.specs.Fragments.{next_fragment, after_fragment, after_count}
+use Rattle.campaign_server.specs.Fragments.{next_fragment, after_fragment, after_count, status_to_all, after_status_to_all}
 use Rattle.campaign_server.specs.Uplinks.{UplinkStep, with_answers, read_uplink, uplink_step}
 use Rattle.campaign_server.specs.declared.stage.Stage.{Stage}
 use Rattle.package_grammar.specs.declared.command.Command.{Command}
@@ -24,10 +24,10 @@ use Rattle.std.specs.Result.{result_ok}
 use Rattle.wire_base.specs.declared.refusal.Refusal.{Refusal}
 use Rattle.script_lines.specs.declared.forms.Form.{Form}
 use Rattle.script_lines.specs.declared.forms.Form.TheVariants as form
-use Rattle.campaign_world.specs.Causes.{is_event_or_end, is_taken}
+use Rattle.campaign_world.specs.Causes.{is_event_or_end}
 use Rattle.campaign_world.specs.World.{WorldState}
-use Rattle.campaign_world.specs.Making.{made_by, with_plan, with_sent, with_device, after_answer, after_up, after_form, after_down, at_events}
-use Rattle.campaign_world.specs.HeldWorld.{HeldWorld, WorldStands, DeviceRests, DevicesRest, world_of, server_of}
+use Rattle.campaign_world.specs.Making.{with_plan, with_sent, with_device, after_answer, after_up, after_form, after_wake, after_down, at_events}
+use Rattle.campaign_world.specs.HeldWorld.{HeldWorld, WorldStands, DeviceRests, DevicesRest, OneComesToRest, OnesAreNumbered, world_of, server_of}
 use Rattle.campaign_world.specs.WorldInside.{ServerIs, IsBuilt}
 use Rattle.campaign_world.proofs.Zips.{zip_some, zip_more}
 
@@ -47,27 +47,54 @@ numbered_at items n x first there = rw (not_none n first) there
     not_none : (n : ℕ) → 1 ≤ n → (n == 0) ≡ false
     not_none n first = grind (arith, nat_tests)
 
--- what a delivery is to do to devices and uplinks that are held
-abbrev pub Reaches : HeldWorld → (new_devices : List HeldDevice) → (new_uplinks : List MadeUplink) → (device word : ℕ) → SentPayload → Type 0
-Reaches held new_devices new_uplinks device word sent = record {
-  devices : (all : List DeviceState) (d : DeviceState) → DevicesRest held.devices all → slice_get all (device - 1) ≡ Some d
-      → DevicesRest new_devices (slice_set all (device - 1) (record (delivery held.time word (held.lines + 1) sent.down d).device { outbox = [] }));
-  uplinks : (all : List DeviceState) (d : DeviceState) → DevicesRest held.devices all → slice_get all (device - 1) ≡ Some d
-      → new_uplinks ≡ held.uplinks ++ map (λ (uplink : Uplink). made_by device uplink) (delivery held.time word (held.lines + 1) sent.down d).device.outbox;
-}
+-- what an event at a device is to do to devices and uplinks that are held
+pub record Reaches (held : HeldWorld) (new_devices : List HeldDevice) (new_uplinks : List MadeUplink) (device : ℕ) (event : DeviceState → DeviceState) : Type 0 where
+  pub devices : OneComesToRest event device held.devices new_devices
+  pub uplinks : OnesAreNumbered event held.devices device held.uplinks new_uplinks
+
+-- the world behind the event
+abbrev Behind : HeldWorld → List HeldDevice → List MadeUplink → HeldWorld
+Behind held new_devices new_uplinks = record held { section = section.Events; devices = new_devices; uplinks = new_uplinks }
+
+event_of_held : (held : HeldWorld) (ds : List DeviceState) (new_devices : List HeldDevice) (new_uplinks : List MadeUplink) (device : ℕ)
+    (event : DeviceState → DeviceState) (d : DeviceState) → DevicesRest held.devices ds → slice_get ds (device - 1) ≡ Some d
+    → Reaches held new_devices new_uplinks device event
+    → WorldStands (Behind held new_devices new_uplinks) (at_events (with_device (world_of held ds) device (event d)))
+unfolding with_device
+event_of_held held ds new_devices new_uplinks device event d all there reaches =
+    record { devices = reaches.devices ds d all there; rest = rw (reaches.uplinks ds d all there) refl }
 
 down_of_held : (held : HeldWorld) (ds : List DeviceState) (new_devices : List HeldDevice) (new_uplinks : List MadeUplink) (number device word : ℕ) (sent : SentPayload)
-    → DevicesRest held.devices ds → 1 ≤ device → device ≤ length held.devices → numbered held.sent number ≡ Some sent → Reaches held new_devices new_uplinks device word sent
-    → WorldStands (record held { section = section.Events; devices = new_devices; uplinks = new_uplinks })
+    → DevicesRest held.devices ds → 1 ≤ device → device ≤ length held.devices → numbered held.sent number ≡ Some sent
+    → Reaches held new_devices new_uplinks device (λ d. (delivery held.time word (held.lines + 1) sent.down d).device)
+    → WorldStands (Behind held new_devices new_uplinks)
     (at_events (after_down (world_of held ds) device word (numbered ds device) (numbered held.sent number)))
-unfolding with_device
 down_of_held held ds new_devices new_uplinks number device word sent all first last was_sent reaches =
     let one = zip_some DeviceRests held.devices ds (device - 1) all (omega (arith, first, last)) in
     rw (numbered_at ds device one.0 first one.1, was_sent)
-    (record { devices = reaches.devices ds one.0 all one.1; rest = rw (reaches.uplinks ds one.0 all one.1) refl })
+    (event_of_held held ds new_devices new_uplinks device _ one.0 all one.1 reaches)
+
+woken_of_held : (held : HeldWorld) (ds : List DeviceState) (new_devices : List HeldDevice) (new_uplinks : List MadeUplink) (device : ℕ)
+    → DevicesRest held.devices ds → 1 ≤ device → device ≤ length held.devices
+    → Reaches held new_devices new_uplinks device (λ d. (waking held.time d).device)
+    → WorldStands (Behind held new_devices new_uplinks) (at_events (after_wake (world_of held ds) device (numbered ds device)))
+woken_of_held held ds new_devices new_uplinks device all first last reaches =
+    let one = zip_some DeviceRests held.devices ds (device - 1) all (omega (arith, first, last)) in
+    rw (numbered_at ds device one.0 first one.1) (event_of_held held ds new_devices new_uplinks device _ one.0 all one.1 reaches)
+
+pub wake_step : (held : HeldWorld) (world : WorldState) (new_devices : List HeldDevice) (new_uplinks : List MadeUplink) (device : ℕ)
+    → WorldStands held world → 1 ≤ device → device ≤ length held.devices
+    → Reaches held new_devices new_uplinks device (λ d. (waking held.time d).device)
+    → WorldStands (record held { section = section.Events; devices = new_devices; uplinks = new_uplinks })
+    (at_events (after_wake world device (numbered world.devices device)))
+wake_step held world new_devices new_uplinks device stands first last reaches =
+    subst (λ (w : WorldState). WorldStands (Behind held new_devices new_uplinks)
+    (at_events (after_wake w device (numbered w.devices device)))) (sym stands.rest)
+    (woken_of_held held world.devices new_devices new_uplinks device stands.devices first last reaches)
 
 pub down_step : (held : HeldWorld) (world : WorldState) (new_devices : List HeldDevice) (new_uplinks : List MadeUplink) (number device word : ℕ) (sent : SentPayload)
-    → WorldStands held world → 1 ≤ device → device ≤ length held.devices → numbered held.sent number ≡ Some sent → Reaches held new_devices new_uplinks device word sent
+    → WorldStands held world → 1 ≤ device → device ≤ length held.devices → numbered held.sent number ≡ Some sent
+    → Reaches held new_devices new_uplinks device (λ d. (delivery held.time word (held.lines + 1) sent.down d).device)
     → WorldStands (record held { section = section.Events; devices = new_devices; uplinks = new_uplinks })
     (at_events (after_down world device word (numbered world.devices device) (numbered world.sent number)))
 down_step held world new_devices new_uplinks number device word sent stands first last was_sent reaches =
@@ -85,6 +112,15 @@ kept_after_fragment image devices server false built = built
 pub built_after_fragment : (image : List ℕ) (devices : List HeldDevice) (server : ServerState) → IsBuilt image devices server → IsBuilt image devices (after_fragment server)
 unfolding after_fragment
 built_after_fragment image devices server built = kept_after_fragment image devices server (is_ok (next_fragment server)) built
+
+counted_by_test : (image : List ℕ) (devices : List HeldDevice) (server : ServerState) (test : Bool) → IsBuilt image devices server
+    → IsBuilt image devices (cond test (after_count server) server)
+counted_by_test image devices server true built = record { image_is = built.image_is; numbers = built.numbers }
+counted_by_test image devices server false built = built
+
+pub built_after_status : (image : List ℕ) (devices : List HeldDevice) (server : ServerState) → IsBuilt image devices server → IsBuilt image devices (after_status_to_all server)
+unfolding after_status_to_all
+built_after_status image devices server built = counted_by_test image devices server (is_some (status_to_all server)) built
 
 kept_with_answers : (image : List ℕ) (devices : List HeldDevice) (server : ServerState) (dev : ℕ) (cs : List Command) (stage : Option Stage) → IsBuilt image devices server
     → IsBuilt image devices (with_answers server dev cs stage)
@@ -154,19 +190,24 @@ up_alike : (world : WorldState) (made : Option MadeUplink) → at_events (after_
 up_alike world None = refl
 up_alike world (Some made) = answer_alike world made.device (uplink_step world.server made.device made.uplink.port made.uplink.payload world.time) _ refl
 
-pub event_alike : (world : WorldState) (f : Form) → is_event_or_end f ≡ true → is_taken f ≡ true → after_form (at_events world) f ≡ after_form world f
+wake_alike : (world : WorldState) (device : ℕ) (d : Option DeviceState) → at_events (after_wake (at_events world) device d) ≡ at_events (after_wake world device d)
+unfolding with_device
+wake_alike world device None = refl
+wake_alike world device (Some d) = refl
+
+pub event_alike : (world : WorldState) (f : Form) → is_event_or_end f ≡ true → after_form (at_events world) f ≡ after_form world f
 unfolding after_form
-event_alike world form.Header event taken = absurd cc
-event_alike world (form.Image frag_size parity) event taken = absurd cc
-event_alike world (form.Group addr key min max) event taken = absurd cc
-event_alike world (form.WindowC start timeout freq dr) event taken = absurd cc
-event_alike world (form.WindowB start periodicity timeout freq dr) event taken = absurd cc
-event_alike world (form.Device id class hw rows offset key descriptor) event taken = absurd cc
-event_alike world (form.At time) event taken = refl
-event_alike world (form.Wake device) event taken = absurd cc
-event_alike world (form.Ask device) event taken = sent_alike world world.server (Some device) (request_of world.server device)
-event_alike world form.Frag event taken = sent_alike world (after_fragment world.server) None (result_ok (next_fragment world.server))
-event_alike world form.Status event taken = absurd cc
-event_alike world (form.Down number device word) event taken = down_alike world device word (numbered world.devices device) (numbered world.sent number)
-event_alike world (form.Up number) event taken = up_alike world (numbered world.uplinks number)
-event_alike world form.End event taken = refl
+event_alike world form.Header event = absurd cc
+event_alike world (form.Image frag_size parity) event = absurd cc
+event_alike world (form.Group addr key min max) event = absurd cc
+event_alike world (form.WindowC start timeout freq dr) event = absurd cc
+event_alike world (form.WindowB start periodicity timeout freq dr) event = absurd cc
+event_alike world (form.Device id class hw rows offset key descriptor) event = absurd cc
+event_alike world (form.At time) event = refl
+event_alike world (form.Wake device) event = wake_alike world device (numbered world.devices device)
+event_alike world (form.Ask device) event = sent_alike world world.server (Some device) (request_of world.server device)
+event_alike world form.Frag event = sent_alike world (after_fragment world.server) None (result_ok (next_fragment world.server))
+event_alike world form.Status event = sent_alike world (after_status_to_all world.server) None (status_to_all world.server)
+event_alike world (form.Down number device word) event = down_alike world device word (numbered world.devices device) (numbered world.sent number)
+event_alike world (form.Up number) event = up_alike world (numbered world.uplinks number)
+event_alike world form.End event = refl

@@ -1,5 +1,5 @@
 -- When a line is refused (this project's profile): the causes in their order, tried after the lines before it.
-use Rattle.std.specs.Prelude.{ℕ, ◌+◌, Bool, true, false, ◌&&◌, ◌||◌, not, ◌==◌, nat_lt, nat_le, if◌then◌else◌, List, length, Option, Some, None, is_none, is_ok}
+use Rattle.std.specs.Prelude.{ℕ, ◌+◌, Bool, true, false, ◌&&◌, ◌||◌, not, ◌==◌, nat_lt, nat_le, if◌then◌else◌, List, length, Option, Some, None, is_some, is_ok}
 use Rattle.frag_model.specs.Limits.{max_pieces}
 use Rattle.frag_encoder.specs.Encoding.{nb_frag_of}
 use Rattle.campaign_server.specs.Server.{ServerState, numbered}
@@ -97,7 +97,7 @@ is_to_come now form = true
 -- there is something left to send
 abbrev pub has_more : ServerState → Form → Bool
 has_more server Frag = is_ok (next_fragment server)
-has_more server Status = not (is_none (status_to_all server))
+has_more server Status = is_some (status_to_all server)
 has_more server form = true
 
 -- ---- all causes, the first that holds

@@ -1,8 +1,9 @@
 -- What a world holds, for which campaigns it stands, and what it answers.
-use Rattle.std.specs.Prelude.{◌≡◌, ℕ, ◌+◌, List, [], ◌∷◌, length, Option, Some, None, Result, Ok, Err}
+use Rattle.std.specs.Prelude.{◌≡◌, ℕ, ◌+◌, ◌-◌, List, [], ◌∷◌, ◌++◌, length, map, slice_get, slice_set, Option, Some, None, Result, Ok, Err}
 use Rattle.std.specs.List.{AllZip}
 use Rattle.device_core.specs.Device.{DeviceState}
 use Rattle.device_core.specs.HeldDevice.{HeldDevice, DeviceStands}
+use Rattle.device_core.specs.declared.uplink.Uplink.{Uplink}
 use Rattle.campaign_server.specs.Plan.{Plan}
 use Rattle.campaign_server.specs.Server.{ServerState, first_server}
 use Rattle.campaign_world.specs.declared.faults.LineError.{LineError}
@@ -15,6 +16,7 @@ use Rattle.package_grammar.specs.declared.downlink.Downlink.{Downlink}
 use Rattle.script_lines.specs.declared.forms.Form.{Form}
 use Rattle.campaign_world.specs.declared.faults.LineWhy.{LineWhy}
 use Rattle.campaign_world.specs.Causes.{form_cause, cause_of}
+use Rattle.campaign_world.specs.Making.{made_by}
 use Rattle.campaign_world.specs.Script.{after_line, end_result}
 use Rattle.campaign_world.specs.Report.{report_of}
 

@@ -1,33 +1,14 @@
 //! When a form is refused: one test for each cause.
 
-ghost use Rattle.std.specs.Prelude.{◌≡◌, ◌≤◌, ◌<◌, ◌^◌, ℕ, length, Some};
+ghost use Rattle.std.specs.Prelude.{◌≡◌, ◌≤◌, ◌<◌, ◌^◌, ℕ, length};
 ghost use Rattle.script_lines.specs.declared.forms.Form.TheVariants.{Image};
-ghost use Rattle.campaign_world.specs.Causes.{is_event_or_end, may_come, has_ended, fits_script, is_device, names_device, may_reach, is_due_by, has_come, is_to_come, asks_status, is_taken};
+ghost use Rattle.campaign_world.specs.Causes.{is_event_or_end, may_come, has_ended, fits_script, is_device, names_device, may_reach, is_due_by, has_come, is_to_come};
 ghost use Rattle.campaign_server.specs.Server.{numbered};
 
 use crate::numbered::{MadeUplink, SentPayload, numbered};
 use crate::section::Section;
-use campaign_server::{Request, Stage};
 use frag_model::lines::MAX_PIECES;
-use script_lines::{Class, Form};
-
-/// So many devices a script has so far at most.
-const DEVICES_SO_FAR: u64 = 1;
-
-/// Whether the form is one that is taken so far.
-pub fn is_taken(form: &Form) -> bool
-    ensures { result ≡ is_taken form.now }
-{
-    match form {
-        Form::Group { .. } => false,
-        Form::WindowC { .. } => false,
-        Form::WindowB { .. } => false,
-        Form::Device { class, .. } => *class == Class::C,
-        Form::Wake { .. } => false,
-        Form::Status => false,
-        _ => true,
-    }
-}
+use script_lines::Form;
 
 /// Whether the form stands behind the plan: an event, or the end.
 pub fn is_event_or_end(form: &Form) -> bool
@@ -78,7 +59,7 @@ pub fn fits_script(len: usize, count: usize, form: &Form) -> bool
         Form::Image { frag_size, .. } => {
             len.div_ceil(*frag_size as usize) <= MAX_PIECES as usize
         }
-        Form::Device { id, .. } => *id == count as u64 + 1 && *id <= DEVICES_SO_FAR,
+        Form::Device { id, .. } => *id == count as u64 + 1,
         _ => true,
     }
 }
@@ -145,11 +126,4 @@ pub fn is_to_come(now: u64, form: &Form) -> bool
         Form::At { time } => now <= *time,
         _ => true,
     }
-}
-
-/// Whether the server asks for the status at this stage.
-pub fn asks_status(stage: Stage) -> bool
-    ensures { result ≡ asks_status (Some stage) }
-{
-    stage == Stage::At(Request::Status)
 }

@@ -1,12 +1,10 @@
-//! Payloads that reach devices, whose uplinks are then taken.
+//! Events at devices: a payload that reaches one, and one that wakes. Its uplinks are then taken.
 
-ghost use Rattle.std.specs.Prelude.{◌≡◌, ◌≤◌, ◌<◌, ◌++◌, ◌-◌, ℕ, List, [], map, length, Some, OnOk, slice_get, slice_set};
-ghost use Rattle.std.specs.List.{AllByRecursion};
+ghost use Rattle.std.specs.Prelude.{◌≡◌, ◌≤◌, length, OnOk};
 ghost use Rattle.device_core.specs.Device.{DeviceState, max_moment};
-ghost use Rattle.device_core.specs.Deliver.{delivery};
-ghost use Rattle.campaign_world.specs.Making.{made_by};
-ghost use Rattle.campaign_world.specs.HeldWorld.{DeviceRests, DevicesRest};
-ghost use Rattle.campaign_world.specs.WorldInside.{IsMadeBy};
+ghost use Rattle.device_core.specs.Deliver.{delivery, waking};
+ghost use Rattle.campaign_world.specs.HeldWorld.{DeviceRests, resting, numbered_behind, ComesToRest, AreNumbered, OneComesToRest, OnesAreNumbered};
+ghost use Rattle.campaign_world.specs.WorldInside.{StayMade};
 ghost use Rattle.device_core.specs.HeldDevice.{DeviceStands};
 
 use crate::numbered::MadeUplink;
@@ -23,7 +21,7 @@ pub struct Coming {
     pub mark: u64,
 }
 
-/// A payload reaches the device at a place, whose uplinks are taken, oldest first.
+/// A payload reaches the device with a number, whose uplinks are taken, oldest first.
 pub fn deliver(
     devices: &mut Vec<Device>,
     uplinks: &mut Vec<MadeUplink>,
@@ -35,16 +33,33 @@ pub fn deliver(
     requires last { id ≤ length devices.old.items }
     requires moment { coming.t ≤ max_moment }
     ensures count { length devices.new.items ≡ length devices.old.items }
-    ensures made { (count : ℕ) → id ≤ count → AllByRecursion (IsMadeBy count) uplinks.old.items → AllByRecursion (IsMadeBy count) uplinks.new.items }
-    ensures devices { OnOk result ((all : List DeviceState) (d : DeviceState) → DevicesRest devices.old.items all
-        → slice_get all (id - 1) ≡ Some d
-        → DevicesRest devices.new.items (slice_set all (id - 1) (record (delivery coming.t coming.word coming.mark down.now d).device { outbox = [] }))) }
-    ensures uplinks { OnOk result ((all : List DeviceState) (d : DeviceState) → DevicesRest devices.old.items all
-        → slice_get all (id - 1) ≡ Some d
-        → uplinks.new.items ≡ uplinks.old.items ++ map (λ uplink. made_by id uplink) (delivery coming.t coming.word coming.mark down.now d).device.outbox) }
+    ensures made { StayMade id uplinks.old.items uplinks.new.items }
+    ensures devices { OnOk result (OneComesToRest (λ d. (delivery coming.t coming.word coming.mark down.now d).device) id
+        devices.old.items devices.new.items) }
+    ensures uplinks { OnOk result (OnesAreNumbered (λ d. (delivery coming.t coming.word coming.mark down.now d).device)
+        devices.old.items id uplinks.old.items uplinks.new.items) }
 {
     let device = &mut devices[id as usize - 1];
     reach(device, uplinks, id, down, coming)
+}
+
+/// The device with a number wakes, and its uplinks are taken, oldest first.
+pub fn wake(
+    devices: &mut Vec<Device>,
+    uplinks: &mut Vec<MadeUplink>,
+    id: u8,
+    t: u64,
+) -> Result<(), AllocError>
+    requires first { 1 ≤ id }
+    requires last { id ≤ length devices.old.items }
+    requires moment { t ≤ max_moment }
+    ensures count { length devices.new.items ≡ length devices.old.items }
+    ensures made { StayMade id uplinks.old.items uplinks.new.items }
+    ensures devices { OnOk result (OneComesToRest (λ d. (waking t d).device) id devices.old.items devices.new.items) }
+    ensures uplinks { OnOk result (OnesAreNumbered (λ d. (waking t d).device) devices.old.items id uplinks.old.items uplinks.new.items) }
+{
+    let device = &mut devices[id as usize - 1];
+    rouse(device, uplinks, id, t)
 }
 
 /// A payload reaches a device, whose uplinks are taken.
@@ -57,13 +72,30 @@ fn reach(
 ) -> Result<(), AllocError>
     requires first { 1 ≤ id }
     requires moment { coming.t ≤ max_moment }
-    ensures made { (count : ℕ) → id ≤ count → AllByRecursion (IsMadeBy count) uplinks.old.items → AllByRecursion (IsMadeBy count) uplinks.new.items }
-    ensures rests { OnOk result ((d : DeviceState) → DeviceRests device.old d
-        → DeviceRests device.new (record (delivery coming.t coming.word coming.mark down.now d).device { outbox = [] })) }
-    ensures uplinks { OnOk result ((d : DeviceState) → DeviceRests device.old d
-        → uplinks.new.items ≡ uplinks.old.items ++ map (λ uplink. made_by id uplink) (delivery coming.t coming.word coming.mark down.now d).device.outbox) }
+    ensures made { StayMade id uplinks.old.items uplinks.new.items }
+    ensures rests { OnOk result (ComesToRest (λ d. (delivery coming.t coming.word coming.mark down.now d).device)
+        device.old device.new) }
+    ensures uplinks { OnOk result (AreNumbered (λ d. (delivery coming.t coming.word coming.mark down.now d).device)
+        device.old id uplinks.old.items uplinks.new.items) }
 {
     let _delivered = device.deliver(coming.t, down, coming.word, coming.mark);
+    take_uplinks(id, device, uplinks)
+}
+
+/// A device wakes, and its uplinks are taken.
+fn rouse(
+    device: &mut Device,
+    uplinks: &mut Vec<MadeUplink>,
+    id: u8,
+    t: u64,
+) -> Result<(), AllocError>
+    requires first { 1 ≤ id }
+    requires moment { t ≤ max_moment }
+    ensures made { StayMade id uplinks.old.items uplinks.new.items }
+    ensures rests { OnOk result (ComesToRest (λ d. (waking t d).device) device.old device.new) }
+    ensures uplinks { OnOk result (AreNumbered (λ d. (waking t d).device) device.old id uplinks.old.items uplinks.new.items) }
+{
+    let _asked = device.wake(t);
     take_uplinks(id, device, uplinks)
 }
 
@@ -74,10 +106,9 @@ fn take_uplinks(
     uplinks: &mut Vec<MadeUplink>,
 ) -> Result<(), AllocError>
     requires { 1 ≤ id }
-    ensures made { (count : ℕ) → id ≤ count → AllByRecursion (IsMadeBy count) uplinks.old.items → AllByRecursion (IsMadeBy count) uplinks.new.items }
-    ensures rests { OnOk result ((d : DeviceState) → DeviceStands device.old d
-        → DeviceRests device.new (record d { outbox = [] })) }
-    ensures uplinks { OnOk result (uplinks.new.items ≡ uplinks.old.items ++ map (λ uplink. made_by id uplink) device.old.outbox) }
+    ensures made { StayMade id uplinks.old.items uplinks.new.items }
+    ensures rests { OnOk result ((d : DeviceState) → DeviceStands device.old d → DeviceRests device.new (resting d)) }
+    ensures uplinks { OnOk result (uplinks.new.items ≡ numbered_behind uplinks.old.items id device.old.outbox) }
 {
     while let Some(uplink) = device.take_uplink() {
         match uplinks.push(MadeUplink { device: id, uplink }) {
@@ -90,7 +121,7 @@ fn take_uplinks(
 
 /// Throws all uplinks of a device away.
 pub fn throw_away(device: &mut Device)
-    ensures { (d : DeviceState) → DeviceStands device.old d → DeviceRests device.new (record d { outbox = [] }) }
+    ensures { (d : DeviceState) → DeviceStands device.old d → DeviceRests device.new (resting d) }
 {
     while let Some(_uplink) = device.take_uplink() {}
 }

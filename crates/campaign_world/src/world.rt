@@ -4,35 +4,34 @@ ghost use Rattle.std.specs.Prelude.{◌≡◌, ◌≤◌, ◌<◌, ◌+◌, ◌-
 ghost use Rattle.image_slots.specs.Image.{is_image};
 ghost use Rattle.device_core.specs.Device.{DeviceState};
 ghost use Rattle.campaign_server.specs.Server.{ServerState, numbered};
-ghost use Rattle.campaign_server.specs.Plan.{is_frag_size};
+ghost use Rattle.campaign_server.specs.Plan.{is_frag_size, fits_bits};
 ghost use Rattle.script_lines.specs.Limits.{max_lines};
 ghost use Rattle.script_lines.specs.Forms.{form_of};
 ghost use Rattle.script_lines.specs.Ranges.{in_range};
 ghost use Rattle.campaign_world.specs.World.{WorldState, first_plan, first_world};
-ghost use Rattle.campaign_world.specs.Causes.{is_taken, is_event_or_end, names_device, has_come, has_more, form_cause};
+ghost use Rattle.campaign_world.specs.Causes.{is_event_or_end, names_device, has_come, has_more, form_cause};
 ghost use Rattle.std.specs.Result.{result_ok};
 ghost use Rattle.device_core.specs.Device.{is_config, first_device};
 ghost use Rattle.campaign_server.specs.Asking.{request_of};
-ghost use Rattle.campaign_server.specs.Fragments.{next_fragment, after_fragment};
+ghost use Rattle.campaign_server.specs.Fragments.{next_fragment, after_fragment, status_to_all, after_status_to_all};
 ghost use Rattle.campaign_server.specs.Uplinks.{uplink_step};
 ghost use Rattle.campaign_server.specs.Sent.{down_of};
 ghost use Rattle.campaign_world.specs.Script.{one_line_more};
-ghost use Rattle.campaign_world.specs.Making.{with_plan, with_sent, after_down, after_up, at_events, after_form};
+ghost use Rattle.campaign_world.specs.Making.{with_plan, with_window, with_sent, class_of, after_wake, after_down, after_up, at_events, after_form};
 ghost use Rattle.campaign_world.specs.HeldWorld.{sent_by, answered};
 ghost use Rattle.campaign_world.specs.declared.numbered.SentPayload.{SentPayload};
 ghost use Rattle.campaign_world.specs.declared.numbered.MadeUplink.{MadeUplink};
 ghost use Rattle.campaign_world.specs.declared.section.Section.TheVariants as section;
 
 use crate::causes::{
-    asks_status, fits_script, has_come, has_ended, is_event_or_end, is_taken, is_to_come, may_come,
-    names_device,
+    fits_script, has_come, has_ended, is_event_or_end, is_to_come, may_come, names_device,
 };
-use crate::deliveries::{Coming, deliver};
+use crate::deliveries::{Coming, deliver, wake};
 use crate::faults::{LineError, LineFault, LineWhy};
 use crate::numbered::{MadeUplink, SentPayload, numbered};
 use crate::report::report;
 use crate::section::Section;
-use campaign_server::{Plan, PlanDevice, Server, ServerError};
+use campaign_server::{Kind, Plan, PlanDevice, PlanGroup, PlanWindow, Server, ServerError};
 use device_core::{Class, Device, DeviceConfig, ReserveError};
 use package_grammar::Downlink;
 use script_lines::{Form, form, in_range};
@@ -161,8 +160,8 @@ impl World {
 
     /// The form of the next line, or the first cause for which it is refused.
     fn accept(&self, line: &[u8]) -> Result<Form, LineWhy>
-        ensures form { IfOk result (λ form. (form_of line.now ≡ Some form) × (is_taken form ≡ true)
-            × (self.now.lines < max_lines) × IsFine self.now form) }
+        ensures form { IfOk result (λ form. (form_of line.now ≡ Some form) × (self.now.lines < max_lines)
+            × IsFine self.now form) }
         ensures none { OnOk result (IsCauseOf self.now line.now None) }
         ensures why { IfErr result (λ why. IsCauseOf self.now line.now (Some why)) }
     {
@@ -175,9 +174,6 @@ impl World {
         let Some(form) = form(line) else {
             return Err(LineWhy::Syntax);
         };
-        if !is_taken(&form) {
-            return Err(LineWhy::Syntax);
-        }
         match self.cause(&form) {
             Some(why) => Err(why),
             None => Ok(form),
@@ -186,7 +182,6 @@ impl World {
 
     /// The first cause for which a form is refused.
     fn cause(&self, form: &Form) -> Option<LineWhy>
-        requires { is_taken form.now ≡ true }
         ensures { (devices : List DeviceState) → length devices ≡ length self.now.devices
             → result ≡ form_cause (world_of self.now devices) form.now }
     {
@@ -212,7 +207,7 @@ impl World {
             return Some(LineWhy::Time);
         }
         match &self.server {
-            Some(server) if !has_more(server, count, form) => Some(LineWhy::Limit),
+            Some(server) if !has_more(server, form) => Some(LineWhy::Limit),
             _ => None,
         }
     }
@@ -229,7 +224,6 @@ impl World {
 
     /// Carries out a form that is not refused.
     fn take(&mut self, form: &Form) -> Result<(), LineError>
-        requires taken { is_taken form.now ≡ true }
         requires fine { IsFine self.old form.now }
         requires room { self.old.lines < max_lines }
         ensures taken { OnOk result (WorldBecomes self.old self.new (λ world. one_line_more (after_form world form.now))) }
@@ -252,7 +246,6 @@ impl World {
     /// Carries out a form: a line of the plan, or an event behind it.
     #[tactic(auto, unfolding(crate::specs::Making::after_form))]
     fn carry_out(&mut self, form: &Form) -> Result<(), AllocError>
-        requires taken { is_taken form.now ≡ true }
         requires fine { IsFine self.old form.now }
         requires room { self.old.lines < max_lines }
         ensures taken { OnOk result (WorldBecomes self.old self.new (λ world. after_form world form.now)) }
@@ -272,7 +265,56 @@ impl World {
                 self.cut(*frag_size as u8, *parity as u16);
                 Ok(())
             }
+            Form::Group {
+                addr,
+                key,
+                min,
+                max,
+            } => {
+                let key = *key;
+                self.group(PlanGroup {
+                    addr: *addr,
+                    key,
+                    min: *min as u32,
+                    max: *max as u32,
+                });
+                Ok(())
+            }
+            Form::WindowC {
+                start,
+                timeout,
+                freq,
+                dr,
+            } => {
+                self.window(PlanWindow {
+                    kind: Kind::C,
+                    start: *start as u32,
+                    timeout: *timeout as u8,
+                    freq: *freq as u32,
+                    dr: *dr as u8,
+                });
+                Ok(())
+            }
+            Form::WindowB {
+                start,
+                periodicity,
+                timeout,
+                freq,
+                dr,
+            } => {
+                self.window(PlanWindow {
+                    kind: Kind::B {
+                        periodicity: *periodicity as u8,
+                    },
+                    start: *start as u32,
+                    timeout: *timeout as u8,
+                    freq: *freq as u32,
+                    dr: *dr as u8,
+                });
+                Ok(())
+            }
             Form::Device {
+                class,
                 hw,
                 rows,
                 offset,
@@ -282,7 +324,7 @@ impl World {
             } => {
                 let key = *key;
                 self.add_device(DeviceConfig {
-                    class: Class::C,
+                    class: class_of(*class),
                     hw: *hw as u32,
                     rows: *rows as u16,
                     offset: *offset as u32,
@@ -312,9 +354,34 @@ impl World {
         self.section = Section::Group;
     }
 
+    /// The group's line, behind which its window is to come.
+    fn group(&mut self, group: PlanGroup)
+        requires here { self.old.section ≡ section.Group }
+        requires counts { group.min < group.max }
+        ensures taken { WorldBecomes self.old self.new
+            (λ world. with_plan world (record world.server.plan { group = Some group }) section.Window) }
+        ensures kept { self.new.kept ≡ self.old.kept }
+        ensures lines { self.new.lines ≡ self.old.lines }
+    {
+        self.plan.group = Some(group);
+        self.section = Section::Window;
+    }
+
+    /// The group's window.
+    fn window(&mut self, window: PlanWindow)
+        requires here { self.old.section ≡ section.Window }
+        requires fits { fits_bits window ≡ true }
+        ensures taken { WorldBecomes self.old self.new
+            (λ world. with_plan world (record world.server.plan { window = Some window }) section.Device) }
+        ensures kept { self.new.kept ≡ self.old.kept }
+        ensures lines { self.new.lines ≡ self.old.lines }
+    {
+        self.plan.window = Some(window);
+        self.section = Section::Device;
+    }
+
     /// An event, or the end, behind which the plan stands.
     fn play(&mut self, form: &Form) -> Result<(), AllocError>
-        requires taken { is_taken form.now ≡ true }
         requires event { is_event_or_end form.now ≡ true }
         requires begins { IsToBegin self.old }
         requires few { length self.old.devices ≤ 64 }
@@ -393,7 +460,6 @@ impl World {
     /// Carries out an event, or the end.
     #[tactic(auto, unfolding(crate::specs::Making::after_form))]
     fn event(&mut self, form: &Form) -> Result<(), AllocError>
-        requires taken { is_taken form.now ≡ true }
         requires event { is_event_or_end form.now ≡ true }
         requires ranges { in_range form.now ≡ true }
         requires names { names_device (length self.old.devices) form.now ≡ true }
@@ -411,8 +477,10 @@ impl World {
                 self.time = *time;
                 Ok(())
             }
+            Form::Wake { device } => self.wake(*device as u8),
             Form::Ask { device } => self.ask(*device as u8),
             Form::Frag => self.frag(),
+            Form::Status => self.status(),
             Form::Down {
                 number,
                 device,
@@ -465,6 +533,36 @@ impl World {
         };
         let down = fragment(server);
         send(&mut self.sent, None, down)
+    }
+
+    /// The server asks all devices for their status.
+    fn status(&mut self) -> Result<(), AllocError>
+        requires begun { (s : ServerState) × (self.old.server ≡ Some s) }
+        ensures taken { OnOk result (WorldBecomes self.old self.new
+            (λ world. at_events (with_sent (record world { server = after_status_to_all world.server }) None (status_to_all world.server)))) }
+        ensures kept { self.new.kept ≡ self.old.kept }
+        ensures lines { self.new.lines ≡ self.old.lines }
+    {
+        self.section = Section::Events;
+        let Some(server) = &mut self.server else {
+            unreachable!()
+        };
+        let down = server.status_all();
+        send(&mut self.sent, None, down)
+    }
+
+    /// A device wakes, and its uplinks are then numbered, oldest first.
+    fn wake(&mut self, device: u8) -> Result<(), AllocError>
+        requires first { 1 ≤ device }
+        requires last { device ≤ length self.old.devices }
+        requires begun { (s : ServerState) × (self.old.server ≡ Some s) }
+        ensures taken { OnOk result (WorldBecomes self.old self.new
+            (λ world. at_events (after_wake world device (numbered world.devices device)))) }
+        ensures kept { self.new.kept ≡ self.old.kept }
+        ensures lines { self.new.lines ≡ self.old.lines }
+    {
+        self.section = Section::Events;
+        wake(&mut self.devices, &mut self.uplinks, device, self.time)
     }
 
     /// Payload S reaches a device, whose uplinks are then numbered, oldest first.
@@ -598,16 +696,22 @@ fn answer_of(server: &mut Server, made: &MadeUplink, t: u64) -> Option<Downlink>
 }
 
 /// Whether something is left to send for the form.
-fn has_more(server: &Server, count: usize, form: &Form) -> bool
-    requires taken { is_taken form.now ≡ true }
-    requires named { names_device count form.now ≡ true }
-    requires count { length server.now.plan.devices ≡ count }
-    requires few { count ≤ 64 }
+fn has_more(server: &Server, form: &Form) -> bool
     ensures { result ≡ has_more server.now form.now }
 {
     match form {
         Form::Frag => server.has_fragment(),
-        Form::Ask { device } => !asks_status(server.ledger(*device as u8)),
+        Form::Status => server.has_status(),
         _ => true,
+    }
+}
+
+/// The class of a device.
+fn class_of(class: script_lines::Class) -> Class
+    ensures { result ≡ class_of class }
+{
+    match class {
+        script_lines::Class::A => Class::A,
+        script_lines::Class::C => Class::C,
     }
 }

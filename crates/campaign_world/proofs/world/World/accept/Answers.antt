@@ -11,14 +11,10 @@ returns-then-line-gt-MAX_LINE-clause-why c = rw (← c.self.view_is) (λ devices
 pub returns-in_default-clause-why : goal.returns-in_default-clause-why
 returns-in_default-clause-why c = rw (← c.self.view_is) (λ devices count. causes.of_form _ _ _ _ (omega arith) (omega arith) c.form.ensures (causes.no_form _ _ c.in_default.is))
 
-pub returns-then-not-is_taken-clause-why : goal.returns-then-not-is_taken-clause-why
-returns-then-not-is_taken-clause-why c = rw (← c.self.view_is) (λ devices count. causes.of_form _ _ _ _ (omega arith) (omega arith) c.form.ensures
-    (causes.the_form _ _ _ _ c.in-Some.is (causes.not_taken _ _ (sym c.is_taken.ensures ∙ c.if-not-is_taken.true))))
-
 pub returns-in-Some-cause-clause-why : goal.returns-in-Some-cause-clause-why
 returns-in-Some-cause-clause-why c = λ devices count. causes.of_form _ _ _ _ (rw (← c.self.view_is) (omega arith)) (omega arith) c.form.ensures
-    (causes.the_form _ _ _ _ c.in-Some.is (causes.taken _ _ _ (sym c.is_taken.ensures ∙ c.if-not-is_taken.false) (sym c.in-Some-cause.is ∙ c.cause.ensures devices count)))
+    (causes.the_form _ _ _ _ c.in-Some.is (causes.some_form _ _ _ (sym c.in-Some-cause.is ∙ c.cause.ensures devices count)))
 
 pub returns-in-None-clause-none : goal.returns-in-None-clause-none
 returns-in-None-clause-none c = λ devices count. causes.of_form _ _ _ _ (rw (← c.self.view_is) (omega arith)) (omega arith) c.form.ensures
-    (causes.the_form _ _ _ _ c.in-Some.is (causes.taken _ _ _ (sym c.is_taken.ensures ∙ c.if-not-is_taken.false) (sym c.in-None.is ∙ c.cause.ensures devices count)))
+    (causes.the_form _ _ _ _ c.in-Some.is (causes.some_form _ _ _ (sym c.in-None.is ∙ c.cause.ensures devices count)))

@@ -83,4 +83,4 @@ returns-in_default-2 c = rw (← c.self.view_is) (λ devices count. sym (causes.
     (causes.names_from _ devices c.args.form.now _ _ count c.deref-devices.ensures.value c.names_device.ensures ∙ c.if-not-names_device.false)
     (causes.come_from _ _ _ c.args.form.now _ _ _ c.deref.ensures.value c.deref-2.ensures.value c.has_come.ensures ∙ c.if-not-has_come.false)
     (sym c.is_to_come.ensures ∙ c.if-not-is_to_come.false)
-    (causes.unmade_from _ _ _ _ _ c.args.form.now c.self.invariant.image_is c.in_default.is c.self.invariant.planned c.requires (sym c.may_come.ensures ∙ c.if-not-may_come.false))))
+    (causes.unmade_from _ _ _ _ _ c.args.form.now c.self.invariant.image_is c.in_default.is c.self.invariant.planned (sym c.may_come.ensures ∙ c.if-not-may_come.false))))

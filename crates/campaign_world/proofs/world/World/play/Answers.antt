@@ -6,5 +6,5 @@ pub event-requires-clause-few : goal.event-requires-clause-few
 event-requires-clause-few c = rw (c.in-Ok.ensures.rest.devices) c.requires.few
 
 pub returns-in-Ok-clause-taken : goal.returns-in-Ok-clause-taken
-returns-in-Ok-clause-taken c = on_ok c.event.result (λ ok. λ world stands. rw (← event_alike world c.args.form.now c.requires.event c.requires.taken)
+returns-in-Ok-clause-taken c = on_ok c.event.result (λ ok. λ world stands. rw (← event_alike world c.args.form.now c.requires.event)
     (on_ok_then c.event.result ok c.event.ensures.taken _ (c.in-Ok.ensures.taken world stands)))

@@ -1,0 +1,14 @@
+use Rattle.campaign_world.specs.HeldWorld.{DeviceRests}
+use Rattle.campaign_world.proofs.Zips.{zip_set, zip_at}
+use Rattle.campaign_world.proofs.Outcomes.{on_ok, on_ok_then}
+use Rattle.std.proofs.Common.{arith}
+use Rattle.campaign_world.proofs.deliveries.wake.Goals as goal
+
+pub returns-clause-devices : goal.returns-clause-devices
+returns-clause-devices c = on_ok c.rouse.result (λ ok. λ all d stand there.
+    zip_set DeviceRests c.args.devices.now.items all _ c.rouse.new.device _ stand
+    (on_ok_then c.rouse.result ok c.rouse.ensures.rests d (zip_at DeviceRests c.args.devices.now.items all _ c.index_mut-device.result.now d stand c.index_mut-device.ensures.value (omega arith) there)))
+
+pub returns-clause-uplinks : goal.returns-clause-uplinks
+returns-clause-uplinks c = on_ok c.rouse.result (λ ok. λ all d stand there.
+    on_ok_then c.rouse.result ok c.rouse.ensures.uplinks d (zip_at DeviceRests c.args.devices.now.items all _ c.index_mut-device.result.now d stand c.index_mut-device.ensures.value (omega arith) there))

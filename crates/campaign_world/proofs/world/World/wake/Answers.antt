@@ -1,0 +1,25 @@
+use Rattle.std.proofs.Common.{◌≡◌, ◌≤◌, length, Some, sym, subst}
+use Rattle.campaign_server.specs.Server.{ServerState}
+use Rattle.campaign_world.specs.HeldWorld.{HeldWorld}
+use Rattle.campaign_world.proofs.Outcomes.{on_ok, on_ok_then}
+use Rattle.campaign_world.proofs.Steps.{built_alike, wake_step}
+use Rattle.campaign_world.proofs.world.World.wake.Goals as goal
+
+pub invariant_of-self : goal.invariant_of-self
+invariant_of-self c = record {
+  image_is = c.self.invariant.image_is;
+  counted = c.self.invariant.counted;
+  timed = c.self.invariant.timed;
+  few = rw (c.wake.ensures.count) c.self.invariant.few;
+  built = built_alike _ _ _ _ c.wake.ensures.count c.self.invariant.built;
+  planned = subst (λ (h : HeldWorld). (s : ServerState) × (h.server ≡ Some s)) (sym c.self.view_is) c.requires.begun;
+  made = rw (c.wake.ensures.count) (c.wake.ensures.made _ (subst (λ (h : HeldWorld). c.args.device ≤ length h.devices) (sym c.self.view_is) c.requires.last) c.self.invariant.made);
+}
+
+pub returns-clause-taken : goal.returns-clause-taken
+returns-clause-taken c = on_ok c.wake.result (λ ok. rw (← c.self.view_is) (λ world stands. wake_step _ world _ _ c.args.device stands c.requires.first
+    (subst (λ (h : HeldWorld). c.args.device ≤ length h.devices) (sym c.self.view_is) c.requires.last)
+    (record {
+      devices = on_ok_then c.wake.result ok c.wake.ensures.devices;
+      uplinks = on_ok_then c.wake.result ok c.wake.ensures.uplinks;
+    })))
