@@ -127,7 +127,7 @@ grown_kind cols size ps p y q new c = elim (cases_eq c p) [
 
 -- ---- the four ways of taking a fragment in
 
-number_piece : (nb n k : ℕ) → n ≡ suc k → n ≤ nb → line_of nb n ≡ 2 ^ k
+pub number_piece : (nb n k : ℕ) → n ≡ suc k → n ≤ nb → line_of nb n ≡ 2 ^ k
 number_piece nb n k is le = line_of_piece nb n le ∙ ap (λ m. 2 ^ m) (let e : n - 1 ≡ k = omega arith in e)
 
 pub takes_coded_sum : (g : Grid) (n : ℕ) (part q : List ℕ) → IsReady g n part 0 q → IsZero q → g.shape.nb_frag < n → Takes (held_of stage.Receiving g) (held_of stage.Receiving g) n part

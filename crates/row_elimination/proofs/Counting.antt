@@ -1,5 +1,5 @@
 -- How many places are pieces, rows or free.
-use Rattle.std.proofs.Common.{◌≡◌, ◌⊎◌, ℕ, zero, suc, ◌+◌, ◌<◌, ◌≤◌, ◌^◌, Bool, true, false, cond, ◌==◌, List, [], ◌∷◌, map, set, length, get_or, Some, bit_xor, refl, ap, ◌∙◌, subst, inl, inr, arith}
+use Rattle.std.proofs.Common.{true≢false, ◌≡◌, ◌⊎◌, ℕ, zero, suc, ◌+◌, ◌<◌, ◌≤◌, ◌^◌, Bool, true, false, cond, ◌==◌, List, [], ◌∷◌, map, set, length, get_or, Some, bit_xor, refl, ap, ◌∙◌, subst, inl, inr, arith}
 use Rattle.std.specs.Prelude.{if◌then◌else◌}
 use Rattle.std.specs.List.{count_by}
 use Rattle.std.specs.Int.{bit_at}
@@ -51,6 +51,23 @@ rows_cleared p y q ps = count-map is_row (cleared p y q) ps (is_row-cleared p y 
 pub pieces_cleared : (p y : ℕ) (q : List ℕ) (ps : List Place) → pieces_held (all_cleared p y q ps) ≡ pieces_held ps
 unfolding pieces_held all_cleared
 pieces_cleared p y q ps = count-map is_piece (cleared p y q) ps (is_piece-cleared p y q)
+
+-- where no row is held there is nothing to clear
+pub no_rows_cleared : (p y : ℕ) (q : List ℕ) (ps : List Place) → rows_held ps ≡ 0 → all_cleared p y q ps ≡ ps
+unfolding rows_held all_cleared cleared is_row one
+no_rows_cleared p y q [] none = refl
+no_rows_cleared p y q (free ∷ ps) none = ap (λ l. free ∷ l) (no_rows_cleared p y q ps (omega (arith, count-cons is_row free ps, none)))
+no_rows_cleared p y q (piece part ∷ ps) none = ap (λ l. piece part ∷ l) (no_rows_cleared p y q ps (omega (arith, count-cons is_row (piece part) ps, none)))
+no_rows_cleared p y q (row line part ∷ ps) none = absurd (omega (arith, count-cons is_row (row line part) ps, none))
+
+-- and each place that is no piece is free
+pub no_rows_free : (ps : List Place) (k : ℕ) → rows_held ps ≡ 0 → is_piece (get_or ps k free) ≡ false → get_or ps k free ≡ free
+unfolding rows_held is_piece is_row one
+no_rows_free [] k none other = refl
+no_rows_free (free ∷ ps) zero none other = refl
+no_rows_free (piece part ∷ ps) zero none other = absurd (true≢false other)
+no_rows_free (row line part ∷ ps) zero none other = absurd (omega (arith, count-cons is_row (row line part) ps, none))
+no_rows_free (x ∷ ps) (suc k) none other = no_rows_free ps k (omega (arith, count-cons is_row x ps, none)) other
 
 -- ---- one place set
 

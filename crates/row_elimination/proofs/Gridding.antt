@@ -1,23 +1,26 @@
 -- What the fields of a table keep true when it takes something in.
 use Rattle.std.proofs.Common.{◌≡◌, ◌≢◌, ◌⊎◌, ℕ, suc, ◌+◌, ◌*◌, ◌<◌, ◌≤◌, ◌^◌, Bool, false, List, length, get_or, set, take, drop, replicate, ◌++◌, [], ◌∷◌, zero, Option, Some, None, true≢false, refl, sym, ap, ◌∙◌, subst, inl, inr, arith, length-take-le, length-set}
+use Rattle.std.proofs.Math.Pow.{pow-lt}
+use Rattle.std.proofs.lemmas.Nat.Bits.{bit_at-pow_same, bit_at-pow_other}
 use Rattle.std.proofs.lemmas.Bool.{cases_eq, cases_lt}
 use Rattle.std.proofs.lemmas.List.{take_at, set-get_or, get_or-take, get_or_past, get_or-replicate, length-replicate, ext_get_or}
 use Rattle.frag_model.specs.Parity.{number_of}
-use Rattle.frag_model.specs.Fragments.{Shape, Equation}
+use Rattle.frag_model.specs.Fragments.{Shape, Equation, IsPiece}
 use Rattle.row_elimination.specs.declared.columns.Column.{Column}
 use Rattle.row_elimination.specs.declared.columns.Column.TheVariants.{Free, Piece, Row}
-use Rattle.row_elimination.specs.Places.{Place, free, piece, told, is_piece, is_row, pieces_held, rows_held, gained_held, grown, cleared}
+use Rattle.row_elimination.specs.Places.{Place, free, piece, row, told, is_piece, is_row, pieces_held, rows_held, gained_held, grown, cleared}
 use Rattle.row_elimination.specs.Inside.{IsReduced}
 use Rattle.row_elimination.specs.Storage.{chunk, place_in, places_in, part_in, IsStored, Slots}
 use Rattle.row_elimination.specs.Steps.{IsNew, Knows, Tells}
 use Rattle.row_elimination.specs.Grid.{Grid, IsGrid}
 use Rattle.row_elimination.proofs.Chunks.{before}
 use Rattle.row_elimination.proofs.Storing.{at_places, length-places}
-use Rattle.row_elimination.proofs.Growing.{at_old, grown_reduced}
+use Rattle.row_elimination.proofs.Growing.{at_old, new_at, grown_reduced}
+use Rattle.row_elimination.proofs.Telling.{told-sum}
 use Rattle.row_elimination.proofs.Saying.{lead_was_free}
-use Rattle.row_elimination.proofs.Slotting.{slots_pushed, slots_freed, slots_none}
-use Rattle.row_elimination.proofs.Settling.{not_free, tells_piece, settled_rows, settled_reduced, settled_gained, learned_row}
-use Rattle.row_elimination.proofs.Counting.{one, one_true, one_false, count-cons, rows_grown, gained_more}
+use Rattle.row_elimination.proofs.Slotting.{slots_pushed, slots_piece, slots_freed, slots_none}
+use Rattle.row_elimination.proofs.Settling.{unit_off, not_free, tells_piece, settled_rows, settled_reduced, settled_gained, learned_row}
+use Rattle.row_elimination.proofs.Counting.{one, one_true, one_false, count-cons, no_rows_cleared, rows_set, pieces_set, rows_grown, gained_more}
 
 -- the same storage with other places
 pub grid_next : (nb size rows count count' gained gained' : ℕ) (columns columns' : List Column) (spare spare' area area' : List ℕ) (coefs coefs' : List Bool) (cells cells' : List ℕ) (ps : List Place)
@@ -206,6 +209,78 @@ any_default (x ∷ xs) (suc i) d e lt = any_default xs i d e (omega arith)
 
 pub column_read : (columns : List Column) (nb k : ℕ) (x : Column) → k < nb → nb ≤ length columns → x ≡ get_or columns k x → get_or (take nb columns) k Free ≡ x
 column_read columns nb k x lt le is = get_or-take nb columns k Free lt ∙ any_default columns k Free x (omega arith) ∙ sym is
+
+-- what is held of a column, by what is kept of it
+pub place_read : (nb size rows count gained k : ℕ) (columns : List Column) (spare area : List ℕ) (coefs : List Bool) (cells : List ℕ) (g : Grid) (x kept : Column)
+    → IsGrid nb size rows count gained columns spare area coefs cells
+    → record {
+      shape = record { nb_frag = nb; frag_size = size; rows = rows };
+      places = places_in nb size area coefs cells (take nb columns);
+      area = area;
+      lines = length coefs;
+      parts = length cells;
+    } ≡ g
+    → k < g.shape.nb_frag → x ≡ get_or columns k x → x ≡ kept → get_or g.places k free ≡ place_in nb size area coefs cells k kept
+place_read nb size rows count gained k columns spare area coefs cells g x kept h view lt is at =
+    let inside : k < nb = subst (λ (y : Grid). k < y.shape.nb_frag) (sym view) lt in
+    ap (λ (y : Grid). get_or y.places k free) (sym view) ∙ at_places nb size area coefs cells k (take nb columns)
+    ∙ ap (place_in nb size area coefs cells k) (column_read columns nb k x inside (omega (arith, h.most, h.columns_sized)) is ∙ at)
+
+-- a piece of which nothing was known, where no row is held
+set_twice : (ps : List Place) (k : ℕ) (x y : Place) → set (set ps k x) k y ≡ set ps k y
+set_twice [] k x y = refl
+set_twice (p ∷ ps) zero x y = refl
+set_twice (p ∷ ps) (suc k) x y = ap (λ l. p ∷ l) (set_twice ps k x y)
+
+pub put_places : (k y : ℕ) (q : List ℕ) (ps : List Place) (x : Place) → rows_held ps ≡ 0 → set (grown k y q ps) k x ≡ set ps k x
+unfolding grown
+put_places k y q ps x none = ap (λ l. set (set l k (row y q)) k x) (no_rows_cleared k y q ps none) ∙ set_twice ps k (row y q) x
+
+pub put_reduced : (shape : Shape) (k : ℕ) (ps : List Place) (part : List ℕ) → IsReduced shape.nb_frag shape.frag_size ps → k < shape.nb_frag → IsPiece shape.frag_size part → get_or ps k free ≡ free
+    → rows_held ps ≡ 0 → IsReduced shape.nb_frag shape.frag_size (set ps k (piece part))
+unfolding told
+put_reduced shape k ps part reduced lt sized fresh none =
+    let new : IsNew shape.nb_frag shape.frag_size ps k (2 ^ k) part = record {
+      reduced = reduced;
+      clear = λ d e t. bit_at-pow_other k d (unit_off k d ps e t fresh);
+      within = pow-lt lt;
+      part = sized;
+      inside = lt;
+      own = bit_at-pow_same k;
+    } in
+    let next : List Place = grown k (2 ^ k) part ps in
+    let e : Equation = record { line = 2 ^ k; part = part } in
+    let tells : Tells next k e = ap (told k) (new_at shape.nb_frag shape.frag_size ps k (2 ^ k) part new) in
+    let known : Knows shape next k part = record {
+      reduced = grown_reduced shape.nb_frag shape.frag_size ps k (2 ^ k) part new;
+      inside = lt;
+      sum = told-sum k next e tells;
+      agrees = λ b all. all k e tells;
+      piece = sized;
+    } in
+    subst (λ l. IsReduced shape.nb_frag shape.frag_size l) (put_places k (2 ^ k) part ps (piece part) none) (settled_reduced shape next k part known)
+
+pub put_in : (nb size rows count gained k : ℕ) (columns columns' : List Column) (spare area area' : List ℕ) (coefs : List Bool) (cells part : List ℕ)
+    → IsGrid nb size rows count gained columns spare area coefs cells → k < nb → IsPiece size part
+    → get_or (places_in nb size area coefs cells (take nb columns)) k free ≡ free → rows_held (places_in nb size area coefs cells (take nb columns)) ≡ 0
+    → length columns' ≡ length columns → length area' ≡ length area → take nb columns' ≡ set (take nb columns) k Piece
+    → places_in nb size area' coefs cells (take nb columns') ≡ set (places_in nb size area coefs cells (take nb columns)) k (piece part)
+    → IsGrid nb size rows count (gained + 1) columns' spare area' coefs cells
+unfolding gained_held is_piece is_row
+put_in nb size rows count gained k columns columns' spare area area' coefs cells part h lt sized fresh none c a cols places =
+    let ps : List Place = places_in nb size area coefs cells (take nb columns) in
+    let shape : Shape = record { nb_frag = nb; frag_size = size; rows = rows } in
+    let klt : k < length (take nb columns) = omega (arith, length-take-le nb columns (omega (arith, h.most, h.columns_sized))) in
+    let plt : k < length ps = omega (arith, h.reduced.sized) in
+    let slots : Slots (take nb columns') spare rows count = subst (λ os. Slots os spare rows count) (sym cols) (slots_piece (take nb columns) spare rows count k klt h.slots) in
+    let no_piece : one (is_piece (get_or ps k free)) ≡ 0 = one_false (is_piece (get_or ps k free)) (ap is_piece fresh) in
+    let no_row : one (is_row (get_or ps k free)) ≡ 0 = one_false (is_row (get_or ps k free)) (ap is_row fresh) in
+    let row_less : one (is_row (piece part)) ≡ 0 = one_false (is_row (piece part)) refl in
+    let piece_more : one (is_piece (piece part)) ≡ 1 = one_true (is_piece (piece part)) refl in
+    grid_next nb size rows count count gained (gained + 1) columns columns' spare spare area area' coefs coefs cells cells (set ps k (piece part)) h c refl a refl refl slots places
+    (put_reduced shape k ps part h.reduced lt sized fresh none)
+    (omega (arith, h.counted, rows_set ps k (piece part) plt, no_row, row_less))
+    (omega (arith, h.gained_all, rows_set ps k (piece part) plt, no_row, row_less, pieces_set ps k (piece part) plt, no_piece, piece_more))
 
 -- where there is no row, the piece is there already
 pub settled_already : (shape : Shape) (area : List ℕ) (coefs : List Bool) (cells : List ℕ) (os : List Column) (k : ℕ) (part : List ℕ)

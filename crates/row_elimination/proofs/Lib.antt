@@ -15,5 +15,6 @@ pub mod Slotting
 pub mod Adding
 pub mod Gridding
 pub mod Answering
+pub mod Repeating
 pub mod Spreading
 pub mod Solving

@@ -17,7 +17,7 @@ use Rattle.row_elimination.proofs.Growing.{IsNew, at_old, new_at}
 pub use Rattle.row_elimination.specs.Steps.{Knows}
 
 -- its column then leads an equation
-unit_off : (k d : ℕ) (ps : List Place) (e : Equation) → Tells ps d e → get_or ps k free ≡ free → d ≢ k
+pub unit_off : (k d : ℕ) (ps : List Place) (e : Equation) → Tells ps d e → get_or ps k free ≡ free → d ≢ k
 unfolding told
 unit_off k d ps e h none = λ same.
     let no : told d free ≡ Some e = subst (λ p. told d p ≡ Some e) (ap (λ n. get_or ps n free) same ∙ none) h in

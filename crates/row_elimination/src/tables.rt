@@ -1,6 +1,6 @@
 //! The table of all that is held: pieces in their area, and the rows in slots.
 
-ghost use Rattle.std.specs.Prelude.{◌≡◌, ◌≢◌, ℕ, ◌+◌, ◌-◌, ◌*◌, ◌<◌, ◌≤◌, ◌==◌, length, get_or, set, replicate, take, false, IfOk, nat_le};
+ghost use Rattle.std.specs.Prelude.{◌≡◌, ◌≢◌, ℕ, ◌+◌, ◌-◌, ◌*◌, ◌<◌, ◌≤◌, ◌==◌, length, get_or, set, replicate, take, false, IfOk, MatchOption, nat_le};
 ghost use Rattle.frag_model.specs.Fragments.{Equation, IsPiece};
 ghost use Rattle.frag_model.specs.Parity.{number_of};
 ghost use Rattle.row_elimination.specs.Places.{free, piece as known, is_piece, grown, rows_held, gained_held};
@@ -11,6 +11,7 @@ ghost use Rattle.row_elimination.specs.Grid.{Grid, SameRoom};
 ghost use Rattle.frag_model.specs.Limits.{max_pieces};
 
 use crate::additions::{add_piece, add_piece_and_row, add_row};
+use crate::bytes::chunk;
 use crate::columns::Column;
 use crate::entries::put_parts;
 use crate::passes::reduce;
@@ -116,6 +117,27 @@ impl Table {
         &self.area[..self.nb_frag as usize * self.frag_size as usize]
     }
 
+    /// The piece of column `k`, where it came uncoded.
+    pub fn piece(&self, k: usize) -> Option<&[u8]>
+        requires inside { k < self.now.shape.nb_frag }
+        ensures value { MatchOption result (is_piece (get_or self.now.places k free) ≡ false) (λ piece. get_or self.now.places k free ≡ known piece.now) }
+        ensures held { IsReduced self.now.shape.nb_frag self.now.shape.frag_size self.now.places }
+        ensures room { rows_held self.now.places ≤ self.now.shape.rows }
+    {
+        match self.columns[k] {
+            Column::Free => None,
+            Column::Piece => Some(chunk(&self.area, k, self.frag_size as usize)),
+            Column::Row(_) => None,
+        }
+    }
+
+    /// Whether no slot has a row.
+    pub fn has_no_rows(&self) -> bool
+        ensures { result ≡ (rows_held self.now.places == 0) }
+    {
+        self.count == 0
+    }
+
     /// Takes out of an equation all columns of which something is held.
     pub fn reduce(&self, line: &mut [bool], part: &mut [u8])
         requires columns { length line.old ≡ self.now.shape.nb_frag }
@@ -148,6 +170,25 @@ impl Table {
             part,
         );
         self.count += 1;
+        self.gained += 1;
+    }
+
+    /// Takes in a piece of which nothing is known, where no row is held.
+    pub fn put(&mut self, k: usize, piece: &[u8])
+        requires inside { k < self.old.shape.nb_frag }
+        requires piece { IsPiece self.old.shape.frag_size piece.now }
+        requires fresh { get_or self.old.places k free ≡ free }
+        requires none { rows_held self.old.places ≡ 0 }
+        ensures places { self.new.places ≡ set self.old.places k (known piece.now) }
+        ensures room { SameRoom self.old self.new }
+    {
+        add_piece(
+            &mut self.columns,
+            self.nb_frag as usize,
+            &mut self.area,
+            k,
+            piece,
+        );
         self.gained += 1;
     }
 

@@ -1,11 +1,11 @@
 //! Taking one fragment into a table.
 
-ghost use Rattle.std.specs.Prelude.{◌≡◌, ◌≢◌, ℕ, ◌+◌, ◌-◌, ◌<◌, ◌≤◌, length, get_or, true, false, All, MatchOption};
-ghost use Rattle.frag_model.specs.Fragments.{IsPiece, line_of};
+ghost use Rattle.std.specs.Prelude.{◌≡◌, ◌≢◌, ℕ, ◌+◌, ◌-◌, ◌^◌, ◌<◌, ◌≤◌, length, get_or, true, false, All, MatchOption};
+ghost use Rattle.frag_model.specs.Fragments.{IsPiece, line_of, xor_bytes};
 ghost use Rattle.frag_model.specs.Parity.{number_of};
 ghost use Rattle.row_elimination.specs.declared.stages.Stage.{Stage};
 ghost use Rattle.row_elimination.specs.declared.stages.Stage.TheVariants as stage;
-ghost use Rattle.row_elimination.specs.Places.{gained_held, rows_held};
+ghost use Rattle.row_elimination.specs.Places.{free, piece as known, gained_held, rows_held};
 ghost use Rattle.row_elimination.specs.Inside.{IsReduced};
 ghost use Rattle.row_elimination.specs.Grid.{SameRoom};
 ghost use Rattle.row_elimination.specs.Held.{Takes, Receives};
@@ -16,7 +16,8 @@ use crate::drawing::draw;
 use crate::stages::Fed;
 use crate::tables::Table;
 
-/// Takes fragment `n` in, or answers why not. `line` and `rest` are room for a line and for the bytes of a piece.
+/// Takes fragment `n` in, or answers why not. A piece that came before is only compared, and where no row is held one that
+/// did not needs no line. `line` and `rest` are room for a line and for the bytes of a piece.
 pub fn take(table: &mut Table, n: u16, part: &[u8], line: &mut [bool], rest: &mut [u8]) -> Fed
     requires columns { table.old.shape.nb_frag ≤ length line.old }
     requires most { table.old.shape.nb_frag ≤ max_pieces }
@@ -30,12 +31,48 @@ pub fn take(table: &mut Table, n: u16, part: &[u8], line: &mut [bool], rest: &mu
     ensures room { SameRoom table.old table.new }
     ensures held { IsReduced table.new.shape.nb_frag table.new.shape.frag_size table.new.places }
 {
-    let columns = table.nb_frag() as usize;
-    let line = &mut line[..columns];
+    if n <= table.nb_frag() {
+        let k = n as usize - 1;
+        if let Some(piece) = table.piece(k) {
+            return take_again(table, n, part, piece);
+        }
+        if table.has_no_rows() {
+            return take_first(table, n, part);
+        }
+    }
+    let line = &mut line[..table.nb_frag() as usize];
     let rest = &mut rest[..table.frag_size() as usize];
     draw(n, line);
     rest.copy_from_slice(part);
     take_in(table, n, part, line, rest)
+}
+
+/// Takes in a piece that came before: it has to be the same.
+fn take_again(table: &Table, n: u16, part: &[u8], piece: &[u8]) -> Fed
+    requires ready { IsReady table.now n part.now 0 (xor_bytes part.now piece.now) }
+    requires uncoded { n ≤ table.now.shape.nb_frag }
+    requires before { get_or table.now.places (n - 1) free ≡ known piece.now }
+    ensures { FedAs result (held_of stage.Receiving table.now) (held_of (stage_after result) table.now) n part.now }
+{
+    if piece == part {
+        Fed::Receiving
+    } else {
+        Fed::Conflict
+    }
+}
+
+/// Takes in a piece that did not come before, where no row is held.
+fn take_first(table: &mut Table, n: u16, part: &[u8]) -> Fed
+    requires ready { IsReady table.old n part.now (2 ^ (n - 1)) part.now }
+    requires uncoded { n ≤ table.old.shape.nb_frag }
+    requires fresh { get_or table.old.places (n - 1) free ≡ free }
+    requires none { rows_held table.old.places ≡ 0 }
+    ensures fed { FedAs result (held_of stage.Receiving table.old) (held_of (stage_after result) table.new) n part.now }
+    ensures room { SameRoom table.old table.new }
+    ensures held { IsReduced table.new.shape.nb_frag table.new.shape.frag_size table.new.places }
+{
+    table.put(n as usize - 1, part);
+    decide(table)
 }
 
 /// Takes fragment `n` in, or answers why not. `line` and `rest` are its line and a copy of its bytes, and are used up.

@@ -116,6 +116,20 @@ fn four_pieces(rt: HostRuntime) -> Result<(), Fail> {
         },
         Row {
             rows: 2,
+            fragments: &[(7, 0x66), (1, 0x11), (8, 0x11), (1, 0x11), (3, 0x33)],
+            answer: Fed::Complete,
+            missing: 0,
+            block: &whole,
+        },
+        Row {
+            rows: 2,
+            fragments: &[(7, 0x66), (1, 0x11), (1, 0x10)],
+            answer: Fed::Conflict,
+            missing: 2,
+            block: &[],
+        },
+        Row {
+            rows: 2,
             fragments: &[(11, 0x44), (4, 0x44), (5, 0x22), (6, 0x23)],
             answer: Fed::Conflict,
             missing: 2,

@@ -1,0 +1,25 @@
+use Rattle.std.proofs.Common.{sym, ap, ◌∙◌}
+use Rattle.row_elimination.specs.declared.columns.Column.TheVariants.{Free, Piece, Row}
+use Rattle.row_elimination.specs.Places.{piece, is_piece}
+use Rattle.row_elimination.specs.Storage.{chunk, place_in}
+use Rattle.row_elimination.proofs.Gridding.{place_read}
+use Rattle.row_elimination.proofs.tables.Table.piece.Goals as goal
+
+pub returns-in-Free-clause-value : goal.returns-in-Free-clause-value
+unfolding place_in is_piece
+returns-in-Free-clause-value c = ap is_piece (
+    place_read c.self.inside.nb_frag c.self.inside.frag_size c.self.inside.rows c.self.inside.count c.self.inside.gained c.args.k c.self.inside.columns.items c.self.inside.spare.items
+    c.self.inside.area.items c.self.inside.coefs.items c.self.inside.cells.items c.args.self.now c.index.result.now Free c.self.invariant c.self.view_is c.requires.inside c.index.ensures c.in-Free.is)
+
+pub returns-in-Piece-clause-value : goal.returns-in-Piece-clause-value
+unfolding place_in
+returns-in-Piece-clause-value c =
+    place_read c.self.inside.nb_frag c.self.inside.frag_size c.self.inside.rows c.self.inside.count c.self.inside.gained c.args.k c.self.inside.columns.items c.self.inside.spare.items
+    c.self.inside.area.items c.self.inside.coefs.items c.self.inside.cells.items c.args.self.now c.index.result.now Piece c.self.invariant c.self.view_is c.requires.inside c.index.ensures c.in-Piece.is
+    ∙ sym (ap piece (c.chunk.ensures.value ∙ ap (chunk c.args.k c.self.inside.frag_size) c.deref.ensures.value))
+
+pub returns-in-Row-clause-value : goal.returns-in-Row-clause-value
+unfolding place_in is_piece
+returns-in-Row-clause-value c = ap is_piece (
+    place_read c.self.inside.nb_frag c.self.inside.frag_size c.self.inside.rows c.self.inside.count c.self.inside.gained c.args.k c.self.inside.columns.items c.self.inside.spare.items
+    c.self.inside.area.items c.self.inside.coefs.items c.self.inside.cells.items c.args.self.now c.index.result.now (Row c.in-Row.field-0) c.self.invariant c.self.view_is c.requires.inside c.index.ensures c.in-Row.is)
