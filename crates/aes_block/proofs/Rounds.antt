@@ -1,35 +1,36 @@
 -- The rounds one after another, forward and back.
-use Rattle.std.proofs.Common.{◌≡◌, ℕ, zero, suc, ◌+◌, ◌-◌, ◌*◌, ◌/◌, ◌%◌, ◌<◌, ◌≤◌, Bool, true, false, cond, eqb, List, [], length, get_or, set, refl, sym, ap, subst, ◌∙◌, arith, inl, inr, length-set, get_or-set_same, get_or-set_other}
+use Rattle.std.proofs.Common.{◌≡◌, ℕ, zero, suc, ◌+◌, ◌-◌, ◌*◌, ◌/◌, ◌%◌, ◌<◌, ◌≤◌, Bool, true, false, cond, eqb, List, [], ◌∷◌, length, get_or, set, refl, sym, ap, subst, ◌∙◌, arith, inl, inr, length-set, get_or-set_same, get_or-set_other}
 use Rattle.std.specs.Prelude.{bit_xor}
 use Rattle.std.proofs.lemmas.Bool.{cases_eq}
 use Rattle.std.proofs.lemmas.Nat.{xor_of_8}
 use Rattle.aes_block.specs.Field.{sub_byte}
-use Rattle.aes_block.specs.Cipher.{IsBlock, byte_at, sub_bytes, shift_rows, mix_columns, add_round_key, power_of_x, added, next_words, words_from, round_key, after_round, cipher, AreRoundKeys}
+use Rattle.aes_block.specs.Cipher.{IsBlock, byte_at, sub_bytes, shift_rows, mix_columns, add_round_key, power_of_x, added, next_words, words_from, round_key, after_round, cipher}
+use Rattle.aes_block.specs.CipherInside.{state_of_words, words_at, AreRoundKeys}
 use Rattle.aes_block.proofs.FieldLaws.{xtime-lt}
 use Rattle.aes_block.proofs.States.{state_of-block, sub_bytes-block, shift_rows-block, mix_columns-block, add_round_key-block, sub_bytes-same, shift_rows-same, mix_columns-same, add_round_key-same}
 use Rattle.aes_block.proofs.Substitution.{sub_byte-lt}
 
 -- ---- forward
 
-pub first_round : (key : List ℕ) (keys : List (List ℕ)) (block : List ℕ) → AreRoundKeys key keys → add_round_key block (get_or keys 0 []) ≡ after_round key block 0
+pub first_round : (key : List ℕ) (keys : List (List ℕ)) (block : List ℕ) → AreRoundKeys key keys → add_round_key block (state_of_words (words_at keys 0)) ≡ after_round key block 0
 unfolding after_round
 first_round key keys block are = ap (λ (k : List ℕ). add_round_key block k) (are 0 (omega arith))
 
 round_after : (key : List ℕ) (keys : List (List ℕ)) (block state : List ℕ) (m : ℕ) → AreRoundKeys key keys → m < 9 → state ≡ after_round key block m
-    → add_round_key (mix_columns (shift_rows (sub_bytes state))) (get_or keys (suc m) []) ≡ after_round key block (suc m)
+    → add_round_key (mix_columns (shift_rows (sub_bytes state))) (state_of_words (words_at keys (suc m))) ≡ after_round key block (suc m)
 unfolding after_round
 round_after key keys block state m are high is = rw (is, are (suc m) (omega arith)) refl
 
 pub next_round : (key : List ℕ) (keys : List (List ℕ)) (block state : List ℕ) (n : ℕ) → AreRoundKeys key keys → 1 ≤ n → n < 10 → state ≡ after_round key block (n - 1)
-    → add_round_key (mix_columns (shift_rows (sub_bytes state))) (get_or keys n []) ≡ after_round key block (n + 1 - 1)
+    → add_round_key (mix_columns (shift_rows (sub_bytes state))) (state_of_words (words_at keys n)) ≡ after_round key block (n + 1 - 1)
 next_round key keys block state n are low high is =
     let this : suc (n - 1) ≡ n = omega arith in
     let next : suc (n - 1) ≡ n + 1 - 1 = omega arith in
-    subst (λ (k : ℕ). add_round_key (mix_columns (shift_rows (sub_bytes state))) (get_or keys k []) ≡ after_round key block (n + 1 - 1)) this
+    subst (λ (k : ℕ). add_round_key (mix_columns (shift_rows (sub_bytes state))) (state_of_words (words_at keys k)) ≡ after_round key block (n + 1 - 1)) this
     (round_after key keys block state (n - 1) are (omega arith) is ∙ ap (after_round key block) next)
 
 pub last_round : (key : List ℕ) (keys : List (List ℕ)) (block state : List ℕ) (n : ℕ) → AreRoundKeys key keys → 10 ≤ n → n ≤ 10 → state ≡ after_round key block (n - 1)
-    → add_round_key (shift_rows (sub_bytes state)) (get_or keys 10 []) ≡ cipher key block
+    → add_round_key (shift_rows (sub_bytes state)) (state_of_words (words_at keys 10)) ≡ cipher key block
 unfolding cipher
 last_round key keys block state n are low high is =
     let end : n - 1 ≡ 9 = omega arith in
@@ -51,23 +52,23 @@ finished-after_round key block n (suc rounds) nine =
     let next : 9 - rounds ≡ suc n = omega arith in
     rw next (finished-after_round key block (suc n) rounds (omega arith))
 
-pub last_undone : (key : List ℕ) (keys : List (List ℕ)) (block last shifted state : List ℕ) → AreRoundKeys key keys
-    → add_round_key last (get_or keys 10 []) ≡ block → shift_rows shifted ≡ last → sub_bytes state ≡ shifted → finished key 0 state ≡ block
+pub last_undone : (key : List ℕ) (keys : List (List ℕ)) (block last state : List ℕ) → AreRoundKeys key keys
+    → add_round_key last (state_of_words (words_at keys 10)) ≡ block → shift_rows (sub_bytes state) ≡ last → finished key 0 state ≡ block
 unfolding finished
-last_undone key keys block last shifted state are added_is shifted_is substituted_is = rw (substituted_is, shifted_is, ← are 10 (omega arith)) added_is
+last_undone key keys block last state are added_is substituted_is = rw (substituted_is, ← are 10 (omega arith)) added_is
 
-pub round_undone : (key : List ℕ) (keys : List (List ℕ)) (block after mixed shifted substituted state : List ℕ) (n : ℕ) → AreRoundKeys key keys → 1 ≤ n → n < 10
-    → finished key (9 - n) after ≡ block → add_round_key mixed (get_or keys n []) ≡ after → mix_columns shifted ≡ mixed → shift_rows substituted ≡ shifted → sub_bytes state ≡ substituted
+pub round_undone : (key : List ℕ) (keys : List (List ℕ)) (block after mixed shifted state : List ℕ) (n : ℕ) → AreRoundKeys key keys → 1 ≤ n → n < 10
+    → finished key (9 - n) after ≡ block → add_round_key mixed (state_of_words (words_at keys n)) ≡ after → mix_columns shifted ≡ mixed → shift_rows (sub_bytes state) ≡ shifted
     → finished key (10 - n) state ≡ block
 unfolding finished
-round_undone key keys block after mixed shifted substituted state n are low high so_far added_is mixed_is shifted_is substituted_is =
+round_undone key keys block after mixed shifted state n are low high so_far added_is mixed_is substituted_is =
     let rounds : 10 - n ≡ suc (9 - n) = omega arith in
     let this : 9 - (9 - n) ≡ n = omega arith in
-    let forward : add_round_key (mix_columns (shift_rows (sub_bytes state))) (round_key key n) ≡ after = rw (substituted_is, shifted_is, mixed_is, ← are n (omega arith)) added_is in
+    let forward : add_round_key (mix_columns (shift_rows (sub_bytes state))) (round_key key n) ≡ after = rw (substituted_is, mixed_is, ← are n (omega arith)) added_is in
     let opened : finished key (suc (9 - n)) state ≡ finished key (9 - n) after = ap (λ (k : ℕ). finished key (9 - n) (add_round_key (mix_columns (shift_rows (sub_bytes state))) (round_key key k))) this ∙ ap (finished key (9 - n)) forward in
     ap (λ (k : ℕ). finished key k state) rounds ∙ opened ∙ so_far
 
-pub all_undone : (key : List ℕ) (keys : List (List ℕ)) (block state x : List ℕ) → AreRoundKeys key keys → finished key 9 state ≡ block → add_round_key x (get_or keys 0 []) ≡ state → cipher key x ≡ block
+pub all_undone : (key : List ℕ) (keys : List (List ℕ)) (block state x : List ℕ) → AreRoundKeys key keys → finished key 9 state ≡ block → add_round_key x (state_of_words (words_at keys 0)) ≡ state → cipher key x ≡ block
 all_undone key keys block state x are so_far added_is =
     let start : state ≡ after_round key x 0 = sym added_is ∙ first_round key keys x are in
     sym (finished-after_round key x 0 9 refl) ∙ ap (finished key 9) (sym start) ∙ so_far
@@ -82,13 +83,13 @@ cond-lt : (b : Bool) (x y : ℕ) → x < 256 → y < 256 → cond b x y < 256
 cond-lt true x y x_fits y_fits = x_fits
 cond-lt false x y x_fits y_fits = y_fits
 
-added-lt : (i : ℕ) (words : List ℕ) (row : ℕ) → IsBlock words → added i words row < 256
+pub added-lt : (i : ℕ) (words : List ℕ) (row : ℕ) → IsBlock words → added i words row < 256
 added-lt i words row block =
     cond-lt (eqb (i % 4) 0) (bit_xor (sub_byte (byte_at words ((row + 1) % 4) 3)) (cond (eqb row 0) (power_of_x (i / 4 - 1)) 0)) (byte_at words row 3)
     (xor_of_8 (sub_byte (byte_at words ((row + 1) % 4) 3)) (cond (eqb row 0) (power_of_x (i / 4 - 1)) 0) (sub_byte-lt (byte_at words ((row + 1) % 4) 3) (block.bytes_fit _)) (cond-lt (eqb row 0) (power_of_x (i / 4 - 1)) 0 (power_of_x-lt (i / 4 - 1)) (omega arith)))
     (block.bytes_fit _)
 
-next_words-block : (i : ℕ) (words : List ℕ) → IsBlock words → IsBlock (next_words i words)
+pub next_words-block : (i : ℕ) (words : List ℕ) → IsBlock words → IsBlock (next_words i words)
 unfolding next_words
 next_words-block i words block = state_of-block (λ row column. cond (eqb column 3) (bit_xor (byte_at words row 0) (added i words row)) (byte_at words row (column + 1)))
     (λ row column r c. cond-lt (eqb column 3) (bit_xor (byte_at words row 0) (added i words row)) (byte_at words row (column + 1))
@@ -135,16 +136,16 @@ cipher-same key x y key_block x_block y_block same =
 
 -- what the expansion keeps before word i
 pub record IsExpanding (key words : List ℕ) (keys : List (List ℕ)) (i : ℕ) : Type 0 where
-  pub words_are : words ≡ words_from key (i - 4)
+  pub words_are : state_of_words words ≡ words_from key (i - 4)
   pub len : length keys ≡ 11
-  pub done : (n : ℕ) → n < 11 → 4 * n + 4 ≤ i → get_or keys n [] ≡ round_key key n
+  pub done : (n : ℕ) → n < 11 → 4 * n + 4 ≤ i → state_of_words (get_or keys n []) ≡ round_key key n
 
-pub none_expanded : (key : List ℕ) (keys : List (List ℕ)) → length keys ≡ 11 → get_or keys 0 [] ≡ key → IsExpanding key key keys 4
+pub none_expanded : (key words : List ℕ) (keys : List (List ℕ)) → length keys ≡ 11 → get_or keys 0 [] ≡ words → state_of_words words ≡ key → IsExpanding key words keys 4
 unfolding words_from
-none_expanded key keys len first = record {
-  words_are = refl;
+none_expanded key words keys len first is = record {
+  words_are = is;
   len = len;
-  done = λ n within below. let none : n ≡ 0 = omega arith in rw none first;
+  done = λ n within below. let none : n ≡ 0 = omega arith in rw none (ap state_of_words first ∙ is);
 }
 
 next_words_are : (key words : List ℕ) (i : ℕ) → 4 ≤ i → words ≡ words_from key (i - 4) → next_words i words ≡ words_from key (i + 1 - 4)
@@ -154,26 +155,32 @@ next_words_are key words i low are =
     let same : i - 4 + 4 ≡ i = omega arith in
     rw (next, are, same) refl
 
-pub word_expanded : (key words after : List ℕ) (keys : List (List ℕ)) (i : ℕ) → 4 ≤ i → (i % 4 ≡ 3 → ⊥) → IsExpanding key words keys i → after ≡ next_words i words → IsExpanding key after keys (i + 1)
+pub word_expanded : (key words after : List ℕ) (keys : List (List ℕ)) (i : ℕ) → 4 ≤ i → (i % 4 ≡ 3 → ⊥) → IsExpanding key words keys i → state_of_words after ≡ next_words i (state_of_words words) → IsExpanding key after keys (i + 1)
 word_expanded key words after keys i low between is next = record {
-  words_are = next ∙ next_words_are key words i low is.words_are;
+  words_are = next ∙ next_words_are key (state_of_words words) i low is.words_are;
   len = is.len;
   done = λ n within below. is.done n within (omega arith);
 }
 
-pub key_expanded : (key words after : List ℕ) (keys : List (List ℕ)) (i : ℕ) → 4 ≤ i → i < 44 → i % 4 ≡ 3 → IsExpanding key words keys i → after ≡ next_words i words → IsExpanding key after (set keys (i / 4) after) (i + 1)
+pub key_expanded : (key words after : List ℕ) (keys : List (List ℕ)) (i : ℕ) → 4 ≤ i → i < 44 → i % 4 ≡ 3 → IsExpanding key words keys i → state_of_words after ≡ next_words i (state_of_words words) → IsExpanding key after (set keys (i / 4) after) (i + 1)
 key_expanded key words after keys i low high end is next =
-    let after_is : after ≡ words_from key (i + 1 - 4) = next ∙ next_words_are key words i low is.words_are in
+    let after_is : state_of_words after ≡ words_from key (i + 1 - 4) = next ∙ next_words_are key (state_of_words words) i low is.words_are in
     record {
       words_are = after_is;
       len = length-set keys (i / 4) after ∙ is.len;
       done = λ n within below. elim (cases_eq n (i / 4)) [
         | inl same ↦
             let place : i + 1 - 4 ≡ 4 * (i / 4) = omega arith in
-            rw same (get_or-set_same keys (i / 4) after [] (omega (arith, is.len)) ∙ after_is ∙ ap (words_from key) place)
-        | inr other ↦ get_or-set_other keys (i / 4) n after [] other ∙ is.done n within (omega arith)
+            rw same (ap state_of_words (get_or-set_same keys (i / 4) after [] (omega (arith, is.len))) ∙ after_is ∙ ap (words_from key) place)
+        | inr other ↦ ap state_of_words (get_or-set_other keys (i / 4) n after [] other) ∙ is.done n within (omega arith)
       ];
     }
 
-pub all_expanded : (key words : List ℕ) (keys : List (List ℕ)) (i : ℕ) → 44 ≤ i → IsExpanding key words keys i → AreRoundKeys key keys
-all_expanded key words keys i all is = λ n within. is.done n within (omega arith)
+-- a column's words are those of the keys
+abbrev pub AreWordsOf : (keys : List (List ℕ)) (words : List ℕ) (column : ℕ) → Type 0
+AreWordsOf keys words column = (n : ℕ) → n < 11 → get_or words n 0 ≡ get_or (get_or keys n []) column 0
+
+pub all_expanded : (key words : List ℕ) (keys : List (List ℕ)) (i : ℕ) (a b c d : List ℕ) → 44 ≤ i → IsExpanding key words keys i → AreWordsOf keys a 0 → AreWordsOf keys b 1 → AreWordsOf keys c 2 → AreWordsOf keys d 3
+    → AreRoundKeys key (a ∷ b ∷ c ∷ d ∷ [])
+unfolding state_of_words
+all_expanded key words keys i a b c d all is first second third fourth = λ n within. rw (first n within, second n within, third n within, fourth n within) (is.done n within (omega arith))

@@ -1,21 +1,23 @@
 ghost use Rattle.std.specs.Prelude.{◌≡◌, List, ℕ};
-ghost use Rattle.aes_block.specs.Cipher.{IsBlock, AreRoundKeys, cipher};
+ghost use Rattle.aes_block.specs.Cipher.{IsBlock, cipher};
+ghost use Rattle.aes_block.specs.CipherInside.{AreRoundKeys};
 
 use crate::expansion::round_keys;
-use crate::steps::{add_round_key, mix_columns, shift_rows, sub_bytes};
-use crate::undo::{undo_add_round_key, undo_mix_columns, undo_shift_rows, undo_sub_bytes};
+use crate::steps::{last_round, mixed_round};
+use crate::undo::{undo_add_round_key, undo_last_round, undo_mix_columns};
+use crate::words::{add_round_key, from_block, to_block};
 use std::marker::Model;
 
 /// AES-128 under one key. Contracts see the key's 16 bytes.
 #[derive(Drop)]
 pub struct Aes128 {
     key: [u8; 16],
-    round_keys: [[u8; 16]; 11],
+    round_keys: [[u32; 11]; 4],
 }
 
 impl Model for Aes128 {
     ghost use Rattle.std.specs.Prelude.{List, ℕ};
-    ghost use Rattle.aes_block.specs.Cipher.{IsExpanded};
+    ghost use Rattle.aes_block.specs.CipherInside.{IsExpanded};
 
     ghost Value = { List ℕ };
 
@@ -51,28 +53,27 @@ impl Aes128 {
     }
 }
 
-fn encrypted(key: &[u8; 16], round_keys: &[[u8; 16]; 11], block: &[u8; 16]) -> [u8; 16]
+fn encrypted(key: &[u8; 16], round_keys: &[[u32; 11]; 4], block: &[u8; 16]) -> [u8; 16]
     requires { AreRoundKeys key.now round_keys.now }
     ensures { result ≡ cipher key.now block.now }
 {
-    let mut state = add_round_key(block, &round_keys[0]);
+    let mut state = add_round_key(from_block(block), round_keys, 0);
     for round in 1..10 {
-        state = mix_columns(&shift_rows(&sub_bytes(&state)));
-        state = add_round_key(&state, &round_keys[round]);
+        state = add_round_key(mixed_round(state), round_keys, round);
     }
-    add_round_key(&shift_rows(&sub_bytes(&state)), &round_keys[10])
+    to_block(add_round_key(last_round(state), round_keys, 10))
 }
 
-fn decrypted(key: &[u8; 16], round_keys: &[[u8; 16]; 11], block: &[u8; 16]) -> [u8; 16]
+fn decrypted(key: &[u8; 16], round_keys: &[[u32; 11]; 4], block: &[u8; 16]) -> [u8; 16]
     requires { AreRoundKeys key.now round_keys.now }
     ensures found { cipher key.now result ≡ block.now }
     ensures block { IsBlock result }
 {
-    let last = undo_add_round_key(block, &round_keys[10]);
-    let mut state = undo_sub_bytes(&undo_shift_rows(&last));
+    let last = undo_add_round_key(from_block(block), round_keys, 10);
+    let mut state = undo_last_round(last);
     for round in (1..10).rev() {
-        let mixed = undo_add_round_key(&state, &round_keys[round]);
-        state = undo_sub_bytes(&undo_shift_rows(&undo_mix_columns(&mixed)));
+        let mixed = undo_add_round_key(state, round_keys, round);
+        state = undo_last_round(undo_mix_columns(mixed));
     }
-    undo_add_round_key(&state, &round_keys[0])
+    to_block(undo_add_round_key(state, round_keys, 0))
 }

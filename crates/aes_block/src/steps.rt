@@ -1,20 +1,14 @@
-//! The steps of a round (FIPS 197, 5.1), on the 16 bytes of a state, column by column.
+//! The steps of a round (FIPS 197, 5.1) by tables, a column at a time.
 
-ghost use Rattle.std.specs.Prelude.{◌≡◌, ◌<◌};
-ghost use Rattle.aes_block.specs.Field.{xtime, sub_byte};
-ghost use Rattle.aes_block.specs.Cipher.{sub_bytes, shift_rows, mix_columns, mixed, add_round_key, byte_at};
+ghost use Rattle.std.specs.Prelude.{◌≡◌, ℕ, ◌+◌, ◌-◌, ◌%◌, ◌<◌, slice_index};
+ghost use Rattle.aes_block.specs.Field.{sub_byte};
+ghost use Rattle.aes_block.specs.Cipher.{sub_bytes, shift_rows, mix_columns};
+ghost use Rattle.aes_block.specs.CipherInside.{byte_of, state_of_words, mixed_row};
 
-use crate::tables::SUB;
+use crate::tables::{SPREAD, SUB};
+use crate::words::{byte, word};
 
-/// The byte in a row and a column of a state.
-pub fn byte_at(s: &[u8; 16], row: usize, column: usize) -> u8
-    requires row { row < 4 }
-    requires column { column < 4 }
-    ensures { result ≡ byte_at s.now row column }
-{
-    s[row + 4 * column]
-}
-
+#[inline(always)]
 #[tactic(auto, using(crate::proofs::Substitution::substituted))]
 pub fn sub_byte(b: u8) -> u8
     ensures { result ≡ sub_byte b }
@@ -22,67 +16,61 @@ pub fn sub_byte(b: u8) -> u8
     SUB[b as usize]
 }
 
-#[tactic(auto, unfolding(crate::specs::Cipher::sub_bytes))]
-pub fn sub_bytes(s: &[u8; 16]) -> [u8; 16]
-    ensures { result ≡ sub_bytes s.now }
+/// The column that MixColumns makes of SubBytes of a byte alone in a row.
+#[inline(always)]
+fn spread(b: u8, row: u32) -> u32
+    requires { row < 4 }
+    ensures { (k : ℕ) → k < 4 →
+        byte_of result k ≡ mixed_row ((k + 4 - row) % 4) (sub_byte b) 0 0 0 }
 {
-    let mut new = [0; 16];
-    for (i, byte) in new.iter_mut().enumerate() {
-        *byte = sub_byte(s[i]);
-    }
-    new
+    SPREAD[b as usize].rotate_right(8 * row)
 }
 
-#[tactic(auto, unfolding(crate::specs::Cipher::shift_rows))]
-pub fn shift_rows(s: &[u8; 16]) -> [u8; 16]
-    ensures { result ≡ shift_rows s.now }
+/// A column after SubBytes and MixColumns, from the bytes that ShiftRows brings there:
+/// the sum of what each makes alone.
+#[inline(always)]
+fn mixed_column(a: u8, b: u8, c: u8, d: u8) -> u32
+    ensures { (row : ℕ) → row < 4 →
+        byte_of result row ≡ mixed_row row (sub_byte a) (sub_byte b) (sub_byte c) (sub_byte d) }
 {
-    let mut new = [0; 16];
-    for (i, byte) in new.iter_mut().enumerate() {
-        let (row, column) = (i % 4, i / 4);
-        *byte = byte_at(s, row, (column + row) % 4);
-    }
-    new
+    spread(a, 0) ^ spread(b, 1) ^ spread(c, 2) ^ spread(d, 3)
 }
 
-#[tactic(auto, unfolding(crate::specs::Cipher::mix_columns))]
-pub fn mix_columns(s: &[u8; 16]) -> [u8; 16]
-    ensures { result ≡ mix_columns s.now }
+/// A round before its key is added.
+#[inline(always)]
+pub fn mixed_round(s: [u32; 4]) -> [u32; 4]
+    ensures { state_of_words result ≡ mix_columns (shift_rows (sub_bytes (state_of_words s))) }
 {
-    let mut new = [0; 16];
-    for (i, byte) in new.iter_mut().enumerate() {
-        let (row, column) = (i % 4, i / 4);
-        *byte = mixed(
-            byte_at(s, row, column),
-            byte_at(s, (row + 1) % 4, column),
-            byte_at(s, (row + 2) % 4, column),
-            byte_at(s, (row + 3) % 4, column),
-        );
-    }
-    new
+    let [a, b, c, d] = s;
+    [
+        mixed_column(byte(a, 0), byte(b, 1), byte(c, 2), byte(d, 3)),
+        mixed_column(byte(b, 0), byte(c, 1), byte(d, 2), byte(a, 3)),
+        mixed_column(byte(c, 0), byte(d, 1), byte(a, 2), byte(b, 3)),
+        mixed_column(byte(d, 0), byte(a, 1), byte(b, 2), byte(c, 3)),
+    ]
 }
 
-#[tactic(auto, unfolding(crate::specs::Cipher::add_round_key))]
-pub fn add_round_key(s: &[u8; 16], key: &[u8; 16]) -> [u8; 16]
-    ensures { result ≡ add_round_key s.now key.now }
+/// A column after SubBytes, from the bytes that ShiftRows brings there.
+#[inline(always)]
+fn substituted_column(a: u8, b: u8, c: u8, d: u8) -> u32
+    ensures first { byte_of result 0 ≡ sub_byte a }
+    ensures second { byte_of result 1 ≡ sub_byte b }
+    ensures third { byte_of result 2 ≡ sub_byte c }
+    ensures fourth { byte_of result 3 ≡ sub_byte d }
 {
-    let mut new = [0; 16];
-    for (i, byte) in new.iter_mut().enumerate() {
-        *byte = s[i] ^ key[i];
-    }
-    new
+    word(sub_byte(a), sub_byte(b), sub_byte(c), sub_byte(d))
 }
 
-/// 2 a + 3 b + c + d in the field.
-fn mixed(a: u8, b: u8, c: u8, d: u8) -> u8
-    ensures { result ≡ mixed a b c d }
+/// The last round before its key is added.
+#[inline(always)]
+pub fn last_round(s: [u32; 4]) -> [u32; 4]
+    ensures { state_of_words result ≡ shift_rows (sub_bytes (state_of_words s)) }
 {
-    xtime(a) ^ xtime(b) ^ b ^ c ^ d
-}
-
-/// The product with x in the field, where 1b stands for x^8.
-fn xtime(b: u8) -> u8
-    ensures { result ≡ xtime b }
-{
-    if b < 0x80 { b << 1 } else { b << 1 ^ 0x1b }
+    let [a, b, c, d] = s;
+    [
+        substituted_column(byte(a, 0), byte(b, 1), byte(c, 2), byte(d, 3)),
+        substituted_column(byte(b, 0), byte(c, 1), byte(d, 2), byte(a, 3)),
+        substituted_column(byte(c, 0), byte(d, 1), byte(a, 2), byte(b, 3)),
+        substituted_column(byte(d, 0), byte(a, 1), byte(b, 2), byte(c, 3)),
+    ]
 }

@@ -1,12 +1,12 @@
 -- The tests of windows are true exactly where their intervals have the moment.
-use Rattle.std.proofs.Common.{◌≡◌, ℕ, ◌+◌, ◌-◌, ◌*◌, ◌/◌, ◌%◌, ◌^◌, ◌<◌, ◌≤◌, ◌⊎◌, inl, inr, Bool, leb, ltb, arith}
+use Rattle.std.proofs.Common.{◌≡◌, ℕ, ◌+◌, ◌-◌, ◌*◌, ◌/◌, ◌%◌, ◌^◌, ◌<◌, ◌≤◌, ◌⊎◌, inl, inr, leb, ltb, refl, subst, arith}
 use Rattle.std.specs.Bool.{Decides}
-use Rattle.std.specs.Prelude.{◌↔◌, IsTrue, ◌==◌}
+use Rattle.std.specs.Prelude.{◌↔◌, IsTrue}
 use Rattle.std.proofs.lemmas.Bool.{leb-true, le-leb, ltb-true, lt-ltb}
 use Rattle.std.proofs.lemmas.Bool.Decides.{Decides-and, Decides-or, Decides-eqb}
-use Rattle.std.proofs.lemmas.Nat.{div-add-mod', mod-mul-add}
-use Rattle.class_windows.specs.Windows.{IsReceiveDelay, IsAfterUplink, IsRunning, IsInSlot}
-use Rattle.class_windows.specs.Open.{is_after_uplink, is_running, is_in_slot}
+use Rattle.std.proofs.lemmas.Nat.{div-add-mod', mod-mul-add, pow_below, pow_pos}
+use Rattle.class_windows.specs.Windows.{IsReceiveDelay, IsAfterUplink, IsRunning, IsInSlot, IsPinged, beacon_at, ping_offset, ping_period}
+use Rattle.class_windows.specs.Open.{is_after_uplink, is_running, is_in_slot, is_ping_slot, is_open_b, is_open_c}
 
 le_test : (a b : ℕ) → Decides (leb a b) (a ≤ b)
 le_test a b = (λ is. leb-true a b is, λ le. le-leb a b le)
@@ -84,3 +84,21 @@ in_slot offset period ms some h =
 pub in_slot_tests : (offset period ms : ℕ) → 0 < period → IsTrue (is_in_slot offset period ms) ↔ IsInSlot offset period ms
 in_slot_tests offset period ms some =
     (λ is. slotted offset period ms ((slot_test offset period ms).0 is), λ h. (slot_test offset period ms).1 (in_slot offset period ms some h))
+
+-- ---- the classes
+
+pub class_c_tests : (time timeout ms : ℕ) → time < 2 ^ 32 → timeout < 16 → IsTrue (is_open_c time timeout ms) ↔ IsRunning time (2 ^ timeout) ms
+class_c_tests time timeout ms s few = running_tests time (2 ^ timeout) ms s (pow_below timeout 32 (omega (arith, few)))
+
+pub class_b_tests : (time periodicity timeout ms addr : ℕ) → time < 2 ^ 32 → timeout < 16
+    → IsTrue (is_open_b time periodicity timeout ms addr) ↔ IsPinged time periodicity timeout ms addr
+unfolding is_ping_slot
+class_b_tests time periodicity timeout ms addr s few =
+    let short : 2 ^ timeout < 2 ^ 16 = pow_below timeout 16 few in
+    let beacon = beacon_at (ms / 1000) in
+    let running = running_tests (beacon_at time) (128 * 2 ^ timeout) ms (omega (arith, s)) (omega (arith, short)) in
+    let slot = in_slot_tests (ping_offset beacon addr periodicity) (ping_period periodicity) (ms - 1000 * beacon) (pow_pos (5 + periodicity)) in
+    let both = Decides-and _ _ running slot in (
+      λ is. record { beacon = beacon; from_beacon = refl; running = (both.0 is).0; in_slot = (both.0 is).1 },
+      λ h. both.1 (h.running, subst (λ (b : ℕ). IsInSlot (ping_offset b addr periodicity) (ping_period periodicity) (ms - 1000 * b)) h.from_beacon h.in_slot),
+    )

@@ -1,8 +1,8 @@
 //! What holds of the definitions alone.
 
-ghost use Rattle.std.specs.Prelude.{◌≡◌, ◌↔◌, ◌<◌, ◌*◌, ◌^◌, ℕ, IsTrue};
-ghost use Rattle.class_windows.specs.Windows.{IsAfterUplink, IsRunning, IsInSlot};
-ghost use Rattle.class_windows.specs.Open.{is_after_uplink, is_running, is_in_slot};
+ghost use Rattle.std.specs.Prelude.{◌≡◌, ◌↔◌, ◌<◌, ◌*◌, ◌^◌, ℕ, IsTrue, Some};
+ghost use Rattle.class_windows.specs.Windows.{IsAfterUplink, IsRunning, IsInSlot, IsPinged};
+ghost use Rattle.class_windows.specs.Open.{is_after_uplink, is_running, is_in_slot, is_open_a, is_open_b, is_open_c};
 
 /// Each test of a window is true exactly where its interval has the moment.
 pub fn window_tests()
@@ -10,4 +10,14 @@ pub fn window_tests()
     ensures running { (start duration ms : ℕ) → start < 2 ^ 32 → duration < 2 ^ 32
         → IsTrue (is_running start duration ms) ↔ IsRunning start duration ms }
     ensures in_slot { (offset period ms : ℕ) → 0 < period → IsTrue (is_in_slot offset period ms) ↔ IsInSlot offset period ms }
+{}
+
+/// So each class is open exactly in the intervals of the standard.
+pub fn classes_hear_in_their_intervals()
+    ensures class_a { (due t : ℕ) → IsTrue (is_open_a (Some due) t) ↔ IsAfterUplink due t }
+    ensures class_c { (time timeout ms : ℕ) → time < 2 ^ 32 → timeout < 16
+        → IsTrue (is_open_c time timeout ms) ↔ IsRunning time (2 ^ timeout) ms }
+    ensures class_b { (time periodicity timeout ms addr : ℕ) → time < 2 ^ 32 → timeout < 16
+        → IsTrue (is_open_b time periodicity timeout ms addr)
+        ↔ IsPinged time periodicity timeout ms addr }
 {}

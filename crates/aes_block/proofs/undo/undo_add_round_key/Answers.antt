@@ -1,12 +1,7 @@
-use Rattle.aes_block.proofs.States.{add_round_key-block, add_round_key-twice}
+use Rattle.aes_block.proofs.States.{add_round_key-twice}
+use Rattle.aes_block.proofs.WordBytes.{state_of_words-block}
+use Rattle.aes_block.specs.CipherInside.{words_at}
 use Rattle.aes_block.proofs.undo.undo_add_round_key.Goals as goal
 
-pub returns-clause-undone : goal.returns-clause-undone
-returns-clause-undone c =
-    rw c.add_round_key.ensures
-    (add_round_key-twice c.args.s.now c.args.key.now (record { len = c.told-s; bytes_fit = c.fits-s }) (record { len = c.told-key; bytes_fit = c.fits-key }))
-
-pub returns-clause-block : goal.returns-clause-block
-returns-clause-block c =
-    rw c.add_round_key.ensures
-    (add_round_key-block c.args.s.now c.args.key.now (record { len = c.told-s; bytes_fit = c.fits-s }) (record { len = c.told-key; bytes_fit = c.fits-key }))
+pub returns : goal.returns
+returns c = rw c.add_round_key.ensures (add_round_key-twice _ _ (state_of_words-block c.args.s) (state_of_words-block (words_at c.args.keys.now c.args.round)))

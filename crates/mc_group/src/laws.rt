@@ -1,0 +1,17 @@
+//! What a server and a device make together.
+
+ghost use Rattle.std.specs.Prelude.{◌≡◌, ◌<◌, length, Some};
+ghost use Rattle.mc_group.specs.Groups.{group_at};
+
+use crate::group::Group;
+use crate::table::GroupTable;
+use mc_keys::{Key, kek, root_1_0, wrap_key};
+
+/// The key that is wrapped for a device is the one that its table holds behind the setup.
+pub fn the_wrapped_key_is_held(table: &mut GroupTable, gen_app_key: &Key, id: u8, group: &Group)
+    requires { id < length table.old }
+    ensures { group_at table.new id ≡ Some group.now }
+{
+    let wrapped = wrap_key(&kek(&root_1_0(gen_app_key)), &group.key);
+    table.setup(gen_app_key, id, group.addr, &wrapped, group.min, group.max);
+}
