@@ -1,5 +1,5 @@
 -- The headline: what is seen of the session in each campaign, and what the report says of it.
-use Rattle.std.proofs.Common.{◌≡◌, ◌≢◌, ◌⊎◌, inl, inr, ℕ, zero, suc, ◌+◌, ◌-◌, ◌<◌, ◌≤◌, ◌^◌, Bool, true, false, cond, ◌==◌, List, [], ◌∷◌, ◌++◌, length, take, drop, slice_get, codes, All, None, Some, Ok, arith, refl, sym, ap, ◌∙◌, subst, append-nil, append_assoc, bytes_eq}
+use Rattle.std.proofs.Common.{◌≡◌, ◌≢◌, ◌⊎◌, inl, inr, ℕ, zero, suc, ◌+◌, ◌-◌, ◌<◌, ◌≤◌, ◌^◌, Bool, true, false, cond, ◌==◌, List, [], ◌∷◌, ◌++◌, length, take, drop, slice_get, codes, All, None, Some, Option, Ok, arith, refl, sym, ap, ◌∙◌, subst, append-nil, append_assoc, bytes_eq}
 use Rattle.std.specs.List.{AllByRecursion}
 use Rattle.std.proofs.lemmas.Slice.Eq.{bytes_eq-Decides}
 use Rattle.frag_model.specs.Fragments.{Fragment, Shape}
@@ -22,6 +22,7 @@ use Rattle.script_lines.specs.Lines.{lines_of}
 use Rattle.campaign_world.specs.World.{WorldState}
 use Rattle.campaign_world.specs.Report.{◌⧺◌, image_line, device_line, counts_line, same_word, verdict_text, session_text, session_line, session_lines, device_part, device_parts, report_of}
 use Rattle.campaign_world.specs.Script.{campaign_of}
+use Rattle.campaign_world.specs.Recovery.{file_by, file_of, recovery_by, recovery, RecoversTheImage}
 use Rattle.campaign_world.specs.Headline.{WholeAt, HasNoOther, IsFragmentOf, IsServed, Brings, CameInOrder, setup_command, HearsBrought, text_before, text_behind, IsRecovered, IsReported, IsCampaign, Headline}
 use Rattle.campaign_world.proofs.HeadlineCommands.{Cut, cut_of, setup_request}
 use Rattle.campaign_world.proofs.HeadlineEnds.{IsSetFor, IsServerOf}
@@ -120,13 +121,19 @@ brought image script world id stage device session c =
           c.session_is f n (subst (λ (x : Command). Brings image lines world.sent id n x) setup d) later w;
     }
 
+recovered_at : (image script : List ℕ) (world : WorldState) (id : ℕ) (device : DeviceState) (session : Session)
+    → All (λ b. b < 2 ^ 8) image → campaign_of image script ≡ Ok world → numbered world.devices id ≡ Some device
+    → device.sessions.first ≡ Some session → IsRecovered image session
+recovered_at image script world id device session bytes is d s =
+    let k = campaign_session image script world id device session bytes is d s in
+    let shape = shape_for image (cut_of world.server.plan) session bytes k in
+    recovered_by image session shape.0 (subst (λ (n : ℕ). AllByRecursion (IsFragmentOf image n) session.heard)
+    (sym shape.1) k.heard)
+
 recovered : (image script : List ℕ) (world : WorldState) (id : ℕ) (stage : Stage) (device : DeviceState)
     (session : Session) → IsCampaign image script world id stage device session → IsRecovered image session
 recovered image script world id stage device session c =
-    let k = set_for image script world id stage device session c in
-    let shape = shape_for image (cut_of world.server.plan) session c.bytes k in
-    recovered_by image session shape.0 (subst (λ (n : ℕ). AllByRecursion (IsFragmentOf image n) session.heard)
-    (sym shape.1) k.heard)
+    recovered_at image script world id device session c.bytes c.accepted c.device_is c.session_is
 
 -- the report over a device that has no session but the first
 alone_lines : (sent : List ℕ) (all : SessionTable) (session : Session) → all.first ≡ Some session → HasNoOther all
@@ -267,3 +274,36 @@ one image script world id device bytes is there = (campaign_device image script 
 
 pub headline : Headline
 headline = record { one = one; served = served; brought = brought; recovered = recovered; reported = reported }
+
+-- ---- what is recovered
+
+-- a session that gives a file is complete, and the file is the image
+file_by_image : (image : List ℕ) (session : Session) (seen : Seen) (v : Verdict) (file : List ℕ) → seen_of session ≡ seen
+    → seen.verdict ≡ v → IsRecovered image session → file_by v seen.file ≡ Ok file → file ≡ image
+file_by_image image session seen verdict.Receiving file is at r given = absurd cc
+file_by_image image session seen (verdict.Complete mark) file is at r given =
+    let same : seen.file ≡ file = cc in
+    sym same ∙ sym (ap (λ (x : Seen). x.file) is)
+    ∙ r.shown mark (ap (λ (x : Seen). x.verdict) is ∙ at)
+file_by_image image session seen (verdict.NoRows mark) file is at r given = absurd cc
+file_by_image image session seen (verdict.Conflict mark) file is at r given = absurd cc
+
+session_image : (image : List ℕ) (s : Option Session) (file : List ℕ) → ((x : Session) → s ≡ Some x → IsRecovered image x)
+    → file_of (view_of s) ≡ Ok file → file ≡ image
+unfolding view_of
+session_image image None file r given = absurd cc
+session_image image (Some s) file r given =
+    file_by_image image s (seen_of s) (seen_of s).verdict file refl refl (r s refl) given
+
+device_image : (image script : List ℕ) (world : WorldState) (id : ℕ) (o : Option DeviceState) (file : List ℕ)
+    → All (λ b. b < 2 ^ 8) image → campaign_of image script ≡ Ok world → numbered world.devices id ≡ o
+    → recovery_by o ≡ Ok file → file ≡ image
+device_image image script world id None file bytes is there given = absurd cc
+device_image image script world id (Some device) file bytes is there given =
+    session_image image device.sessions.first file
+    (λ s at. recovered_at image script world id device s bytes is there at) given
+
+pub recovers : RecoversTheImage
+unfolding recovery
+recovers image script world id file bytes is given =
+    device_image image script world id (numbered world.devices id) file bytes is refl given

@@ -16,7 +16,7 @@ use Rattle.campaign_world.specs.World.{WorldState}
 use Rattle.campaign_world.specs.Causes.{cause_of, has_ended}
 use Rattle.campaign_world.specs.Making.{after_form}
 use Rattle.campaign_world.specs.Script.{one_line_more, after_line, end_result_at}
-use Rattle.campaign_world.specs.Report.{◌⧺◌, image_line, device_part, device_parts, report_of}
+use Rattle.campaign_world.specs.Report.{device_part, device_parts, report_with, report_of}
 use Rattle.campaign_world.specs.HeldWorld.{HeldWorld, WorldStands, WorldBecomes, DeviceRests, IsLineAnswer, IsCauseOf, world_of}
 use Rattle.campaign_world.proofs.Zips.{zip_long}
 
@@ -52,12 +52,12 @@ pub section_stands : (held : HeldWorld) (world : WorldState) → WorldStands hel
 section_stands held world stands = ap (λ (w : WorldState). w.section) stands.rest
 
 told_of_held : (held : HeldWorld) (ds : List DeviceState) (server : ServerState) (text : List ℕ) → held.server ≡ Some server
-    → text ≡ codes "fuota report 1\n" ⧺ image_line server ⧺ device_parts server.image 1 server.stages ds ⧺ codes "end\n" → text ≡ report_of (world_of held ds)
+    → text ≡ report_with server ds → text ≡ report_of (world_of held ds)
 unfolding report_of
 told_of_held held ds server text there is = rw (there) is
 
 pub told : (held : HeldWorld) (world : WorldState) (server : ServerState) (text : List ℕ) → WorldStands held world → held.server ≡ Some server
-    → text ≡ codes "fuota report 1\n" ⧺ image_line server ⧺ device_parts server.image 1 server.stages world.devices ⧺ codes "end\n" → text ≡ report_of world
+    → text ≡ report_with server world.devices → text ≡ report_of world
 told held world server text stands there is = subst (λ (w : WorldState). text ≡ report_of w) (sym stands.rest) (told_of_held held world.devices server text there is)
 
 -- ---- the parts of its devices

@@ -40,6 +40,9 @@ built_alike image old new (Some server) long built = record { image_is = built.i
 pub some_now : {X A : Type 0} (now : X → A) (found : Option X) (item : Option A) (x : X) → option_map now found ≡ item → found ≡ Some x → item ≡ Some (now x)
 some_now now found item x is there = sym is ∙ ap (option_map now) there
 
+pub none_now : {X A : Type 0} (now : X → A) (found : Option X) (item : Option A) → option_map now found ≡ item → found ≡ None → item ≡ None
+none_now now found item is there = sym is ∙ ap (option_map now) there
+
 -- the item with a number that there is
 pub numbered_at : {A : Type 0} (items : List A) (n : ℕ) (x : A) → 1 ≤ n → slice_get items (n - 1) ≡ Some x → numbered items n ≡ Some x
 numbered_at items n x first there = rw (not_none n first) there

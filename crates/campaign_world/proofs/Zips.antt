@@ -1,6 +1,7 @@
 -- Two lists that stand for one another, one by one.
-use Rattle.std.proofs.Common.{◌≡◌, ℕ, ◌<◌, length, List, [], ◌∷◌, ◌++◌, Some, slice_get, zero, suc, refl, sym, subst, arith}
+use Rattle.std.proofs.Common.{◌≡◌, ℕ, ◌<◌, length, List, [], ◌∷◌, ◌++◌, None, Some, Bool, true, false, cond, ◌==◌, ◌-◌, slice_get, zero, suc, refl, sym, subst, arith}
 use Rattle.std.specs.List.{AllByRecursion, AllZip, slice_set, slice_index_or}
+use Rattle.campaign_server.specs.Server.{numbered}
 
 -- the one at a place
 pub zip_get : {A B : Type 0} (R : A → B → Type 0) (xs : List A) (ys : List B) (i : ℕ) (x : A) → AllZip R xs ys → i < length xs → x ≡ slice_index_or xs i x
@@ -9,6 +10,38 @@ zip_get R [] ys i x all low is = absurd (omega arith)
 zip_get R (a ∷ xs) [] i x all low is = absurd all
 zip_get R (a ∷ xs) (b ∷ ys) zero x all low is = (b, refl, subst (λ z. R z b) (sym is) all.0)
 zip_get R (a ∷ xs) (b ∷ ys) (suc i) x all low is = zip_get R xs ys i x all.1 (omega arith) is
+
+-- what is found in one is found in the other, and what is not, not
+pub zip_found : {A B : Type 0} (R : A → B → Type 0) (xs : List A) (ys : List B) (i : ℕ) (x : A) → AllZip R xs ys → slice_get xs i ≡ Some x
+    → (y : B) × (slice_get ys i ≡ Some y) × R x y
+zip_found R [] ys i x all is = absurd cc
+zip_found R (a ∷ xs) [] i x all is = absurd all
+zip_found R (a ∷ xs) (b ∷ ys) zero x all is = let same : a ≡ x = cc in (b, refl, subst (λ z. R z b) same all.0)
+zip_found R (a ∷ xs) (b ∷ ys) (suc i) x all is = zip_found R xs ys i x all.1 is
+
+pub zip_missed : {A B : Type 0} (R : A → B → Type 0) (xs : List A) (ys : List B) (i : ℕ) → AllZip R xs ys → slice_get xs i ≡ None → slice_get ys i ≡ None
+zip_missed R [] [] i all is = refl
+zip_missed R [] (b ∷ ys) i all is = absurd all
+zip_missed R (a ∷ xs) [] i all is = absurd all
+zip_missed R (a ∷ xs) (b ∷ ys) zero all is = absurd cc
+zip_missed R (a ∷ xs) (b ∷ ys) (suc i) all is = zip_missed R xs ys i all.1 is
+
+found_by : {A B : Type 0} (R : A → B → Type 0) (xs : List A) (ys : List B) (i : ℕ) (x : A) (b : Bool) → AllZip R xs ys
+    → cond b None (slice_get xs i) ≡ Some x → (y : B) × (cond b None (slice_get ys i) ≡ Some y) × R x y
+found_by R xs ys i x true all is = absurd cc
+found_by R xs ys i x false all is = zip_found R xs ys i x all is
+
+missed_by : {A B : Type 0} (R : A → B → Type 0) (xs : List A) (ys : List B) (i : ℕ) (b : Bool) → AllZip R xs ys
+    → cond b None (slice_get xs i) ≡ None → cond b None (slice_get ys i) ≡ None
+missed_by R xs ys i true all is = refl
+missed_by R xs ys i false all is = zip_missed R xs ys i all is
+
+pub numbered_found : {A B : Type 0} (R : A → B → Type 0) (xs : List A) (ys : List B) (n : ℕ) (x : A) → AllZip R xs ys → numbered xs n ≡ Some x
+    → (y : B) × (numbered ys n ≡ Some y) × R x y
+numbered_found R xs ys n x all is = found_by R xs ys (n - 1) x (n == 0) all is
+
+pub numbered_missed : {A B : Type 0} (R : A → B → Type 0) (xs : List A) (ys : List B) (n : ℕ) → AllZip R xs ys → numbered xs n ≡ None → numbered ys n ≡ None
+numbered_missed R xs ys n all is = missed_by R xs ys (n - 1) (n == 0) all is
 
 -- one more
 pub zip_more : {A B : Type 0} (R : A → B → Type 0) (xs : List A) (ys : List B) (x : A) (y : B) → AllZip R xs ys → R x y → AllZip R (xs ++ x ∷ []) (ys ++ y ∷ [])

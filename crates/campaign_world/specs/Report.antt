@@ -120,7 +120,10 @@ device_parts image id (stage ∷ stages) (device ∷ devices) =
     device_part image id stage device ⧺ device_parts image (id + 1) stages devices
 device_parts image id stages devices = []
 
+-- the report of a server and its devices
+abbrev pub report_with : ServerState → List DeviceState → List ℕ
+report_with server devices =
+    codes "fuota report 1\n" ⧺ image_line server ⧺ device_parts server.image 1 server.stages devices ⧺ codes "end\n"
+
 unfoldable pub report_of : WorldState → List ℕ
-report_of world =
-    codes "fuota report 1\n" ⧺ image_line world.server
-    ⧺ device_parts world.server.image 1 world.server.stages world.devices ⧺ codes "end\n"
+report_of world = report_with world.server world.devices

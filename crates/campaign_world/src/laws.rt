@@ -1,9 +1,15 @@
-//! A law about the definitions, as the contract of a function that does nothing.
+//! Laws about the definitions, each the contract of a function that does nothing.
 
 ghost use Rattle.campaign_world.specs.Headline.{Headline};
+ghost use Rattle.campaign_world.specs.Recovery.{RecoversTheImage};
 
-/// Whatever image and accepted script there are: the session hears what the script delivers, it is complete from the first
+/// Whatever image and accepted script there are: the session of each device hears what the script brings, it is complete from the first
 /// heard fragment on after which one file alone fits, that file is the server's image, and the report says so.
 pub fn headline()
     ensures { Headline }
+{}
+
+/// Whatever image and accepted script there are, what a device recovered is the image.
+pub fn recovers_the_image()
+    ensures { RecoversTheImage }
 {}

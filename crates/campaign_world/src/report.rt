@@ -8,7 +8,7 @@ ghost use Rattle.device_core.specs.SessionTable.{session_at};
 ghost use Rattle.device_core.specs.Device.{DeviceState};
 ghost use Rattle.device_core.specs.HeldDevice.{DeviceStands};
 ghost use Rattle.campaign_world.specs.HeldWorld.{DevicesRest};
-ghost use Rattle.campaign_world.specs.Report.{◌⧺◌, image_text, image_line, request_word, stage_text, next_text, device_text, counts_line, session_text, session_line, session_lines, same_word, verdict_text, device_part, device_parts};
+ghost use Rattle.campaign_world.specs.Report.{◌⧺◌, image_text, image_line, request_word, stage_text, next_text, device_text, counts_line, session_text, session_line, session_lines, same_word, verdict_text, device_part, device_parts, report_with};
 
 use campaign_server::{Request, Server, Stage};
 use device_core::{Counts, Device};
@@ -20,8 +20,8 @@ use std::alloc::{AllocError, Global};
 pub fn report(alloc: Global, server: &Server, devices: &Vec<Device>) -> Result<Vec<u8>, AllocError>
     requires numbers { length devices.now.items ≡ length server.now.plan.devices }
     requires few { length devices.now.items ≤ 64 }
-    ensures { (ds : List DeviceState) → DevicesRest devices.now.items ds → IfOk result (λ text. text.items
-        ≡ codes "fuota report 1\n" ⧺ image_line server.now ⧺ device_parts server.now.image 1 server.now.stages ds ⧺ codes "end\n") }
+    ensures { (ds : List DeviceState) → DevicesRest devices.now.items ds
+        → IfOk result (λ text. text.items ≡ report_with server.now ds) }
 {
     let image = image_line(alloc, server)?;
     let parts = device_parts(alloc, server, devices)?;

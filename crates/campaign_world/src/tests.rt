@@ -1,4 +1,4 @@
-use crate::{LineError, LineFault, LineWhy, World};
+use crate::{LineError, LineFault, LineWhy, NoFile, World};
 use image_slots::is_image;
 use std::test::*;
 
@@ -48,6 +48,14 @@ fn a_campaign_is_reported(rt: HostRuntime) -> Result<(), Fail> {
         ),
         Err(_) => assert!(rt; false),
     }
+    match world.recovered(1) {
+        Ok(file) => assert!(rt; file == IMAGE.as_slice()),
+        Err(_) => assert!(rt; false),
+    }
+    match world.recovered(2) {
+        Ok(_) => assert!(rt; false),
+        Err(why) => assert!(rt; why == NoFile::None),
+    }
     Ok(())
 }
 
@@ -56,15 +64,19 @@ fn a_campaign_is_reported(rt: HostRuntime) -> Result<(), Fail> {
 fn lines_are_refused(rt: HostRuntime) -> Result<(), Fail> {
     let cases = [
         (
-            "device 2 c 1 0 0 00000000000000000000000000000000",
+            "device 3 c 1 0 0 00000000000000000000000000000000",
             LineWhy::Range,
         ),
         ("image 13 0", LineWhy::Order),
+        (
+            "group 00000001 00000000000000000000000000000000 0 9",
+            LineWhy::Order,
+        ),
         ("ask one", LineWhy::Syntax),
         ("ask 2", LineWhy::Device),
+        ("wake 2", LineWhy::Device),
         ("down 1 1", LineWhy::Unsent),
         ("up 1", LineWhy::Unsent),
-        ("wake 1", LineWhy::Syntax),
         ("at 4294967296000", LineWhy::Range),
     ];
     assert!(rt; is_image(&IMAGE));

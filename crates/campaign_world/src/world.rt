@@ -1,6 +1,6 @@
 //! A campaign as its script tells it, line by line: what was sent, what was heard, and where each end stands.
 
-ghost use Rattle.std.specs.Prelude.{◌≡◌, ◌≤◌, ◌<◌, ◌+◌, ◌-◌, ◌++◌, ◌∷◌, [], true, ℕ, List, length, None, Some, Err, IfOk, IfErr, IsOk, OnOk};
+ghost use Rattle.std.specs.Prelude.{◌≡◌, ◌≤◌, ◌<◌, ◌+◌, ◌-◌, ◌++◌, ◌∷◌, [], true, ℕ, List, length, None, Some, Ok, Err, IfOk, IfErr, IsOk, OnOk};
 ghost use Rattle.image_slots.specs.Image.{is_image};
 ghost use Rattle.device_core.specs.Device.{DeviceState};
 ghost use Rattle.campaign_server.specs.Server.{ServerState, numbered};
@@ -19,6 +19,7 @@ ghost use Rattle.campaign_server.specs.Sent.{down_of};
 ghost use Rattle.campaign_world.specs.Script.{one_line_more};
 ghost use Rattle.campaign_world.specs.Making.{with_plan, with_window, with_sent, class_of, after_wake, after_down, after_up, at_events, after_form};
 ghost use Rattle.campaign_world.specs.HeldWorld.{sent_by, answered};
+ghost use Rattle.campaign_world.specs.Recovery.{recovery};
 ghost use Rattle.campaign_world.specs.declared.numbered.SentPayload.{SentPayload};
 ghost use Rattle.campaign_world.specs.declared.numbered.MadeUplink.{MadeUplink};
 ghost use Rattle.campaign_world.specs.declared.section.Section.TheVariants as section;
@@ -29,6 +30,7 @@ use crate::causes::{
 use crate::deliveries::{Coming, deliver, wake};
 use crate::faults::{LineError, LineFault, LineWhy};
 use crate::numbered::{MadeUplink, SentPayload, numbered};
+use crate::recovery::{NoFile, recovered_by};
 use crate::report::report;
 use crate::section::Section;
 use campaign_server::{Kind, Plan, PlanDevice, PlanGroup, PlanWindow, Server, ServerError};
@@ -155,6 +157,17 @@ impl World {
                 Err(_) => Err(LineError::Memory),
             },
             None => Err(LineError::Memory),
+        }
+    }
+
+    /// The file that the session of a device recovered, or why there is none.
+    pub fn recovered(&self, device: u8) -> Result<&[u8], NoFile>
+        ensures file { (world : WorldState) → WorldStands self.now world → IfOk result (λ file. recovery world device ≡ Ok file.now) }
+        ensures why { (world : WorldState) → WorldStands self.now world → IfErr result (λ why. recovery world device ≡ Err why) }
+    {
+        match numbered(&self.devices, u64::from(device)) {
+            Some(found) => recovered_by(found),
+            None => Err(NoFile::None),
         }
     }
 

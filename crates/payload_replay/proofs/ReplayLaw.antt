@@ -14,7 +14,7 @@ use Rattle.payload_replay.specs.Replay.{file_line, told_session}
 use Rattle.frag_session.specs.FirstMoment.{MakesFile, IsDecidedAtFirst}
 use Rattle.payload_replay.specs.ReplayHeadline.{IsReplayed, CameInTurn, saying, IsToldOf, ReplayHeadline}
 use Rattle.frag_session.proofs.FirstMoments.{decided_at_first}
-use Rattle.payload_replay.proofs.Numbered.{within}
+use Rattle.campaign_world.proofs.LineItems.{within}
 use Rattle.payload_replay.proofs.ReplaySessions.{IsFine, of_one, reaches_fine}
 
 session_fine : (file : List ℕ) (device : DeviceState) (index : ℕ) (s : Session) → IsReplayed file device index s

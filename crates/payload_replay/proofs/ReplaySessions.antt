@@ -38,8 +38,8 @@ use Rattle.campaign_world.specs.declared.faults.LineFault.{LineFault}
 use Rattle.payload_replay.specs.PayloadLines.{payload_of, BehindLine, TakesLines}
 use Rattle.payload_replay.specs.Replay.{header_rows, replay_device, captured, after_payload, Hears, ReachesBehind, Reaches}
 use Rattle.payload_replay.specs.ReplayHeadline.{Carries, CameInTurn}
-use Rattle.payload_replay.proofs.SessionSteps.{setup_keeps, fragment_keeps}
-use Rattle.payload_replay.proofs.Numbered.{numbered_next}
+use Rattle.campaign_world.proofs.SessionSteps.{setup_keeps, fragment_keeps}
+use Rattle.campaign_world.proofs.LineItems.{numbered_next}
 
 -- ---- a session
 

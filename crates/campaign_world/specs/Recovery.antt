@@ -1,0 +1,35 @@
+-- The file that a device recovered, or where its session stands instead (this project's profile).
+use Rattle.std.specs.Prelude.{◌≡◌, ℕ, ◌^◌, ◌<◌, List, All, Option, Some, None, Result, Ok, Err}
+use Rattle.frag_session.specs.declared.answers.Verdict.{Verdict}
+use Rattle.frag_session.specs.declared.answers.Verdict.TheVariants as verdict
+use Rattle.frag_session.specs.Session.{Seen, view_of}
+use Rattle.device_core.specs.Device.{DeviceState}
+use Rattle.campaign_server.specs.Server.{numbered}
+use Rattle.campaign_world.specs.declared.recovery.NoFile.{NoFile}
+use Rattle.campaign_world.specs.declared.recovery.NoFile.TheVariants as no_file
+use Rattle.campaign_world.specs.World.{WorldState}
+use Rattle.campaign_world.specs.Script.{campaign_of}
+
+abbrev pub file_by : Verdict → (file : List ℕ) → Result (List ℕ) NoFile
+file_by verdict.Receiving file = Err no_file.Receiving
+file_by (verdict.Complete mark) file = Ok file
+file_by (verdict.NoRows mark) file = Err no_file.NoRows
+file_by (verdict.Conflict mark) file = Err no_file.Conflict
+
+-- of what a session shows
+abbrev pub file_of : Option Seen → Result (List ℕ) NoFile
+file_of None = Err no_file.None
+file_of (Some seen) = file_by seen.verdict seen.file
+
+-- the session of a device is that of the server's index, which is the first
+abbrev pub recovery_by : Option DeviceState → Result (List ℕ) NoFile
+recovery_by None = Err no_file.None
+recovery_by (Some device) = file_of (view_of device.sessions.first)
+
+unfoldable pub recovery : WorldState → (id : ℕ) → Result (List ℕ) NoFile
+recovery world id = recovery_by (numbered world.devices id)
+
+-- whatever image and accepted script there are, what a device recovered is the image
+abbrev pub RecoversTheImage : Type 0
+RecoversTheImage = (image script : List ℕ) (world : WorldState) (id : ℕ) (file : List ℕ) → All (λ b. b < 2 ^ 8) image
+    → campaign_of image script ≡ Ok world → recovery world id ≡ Ok file → file ≡ image
