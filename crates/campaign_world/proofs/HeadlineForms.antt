@@ -332,12 +332,16 @@ form_turn image w (Image frag_size parity) bytes k fine =
     record {
       lines = refl;
       server = record { image_is = k.server.image_is; next = omega arith; few = leb-true _ _ low.1 };
-      stands = (was.0, was.1, record {
-        some = leb-true _ _ cuts.0;
-        small = leb-true _ _ cuts.1;
-        few = subst (λ (i : List ℕ). nb_frag_of (length i) frag_size ≤ 1024) k.server.image_is few;
-        groups = few_groups w.server.plan.group;
-      });
+      stands = (
+        was.0,
+        was.1,
+        record {
+          some = leb-true _ _ cuts.0;
+          small = leb-true _ _ cuts.1;
+          few = subst (λ (i : List ℕ). nb_frag_of (length i) frag_size ≤ 1024) k.server.image_is few;
+          groups = few_groups w.server.plan.group;
+        },
+      );
       how = inr (inl (record { other = refl; before = was.1; devices = was.1; none = was.0; sent = was.0 }));
     }
 form_turn image w (Group addr key min max) bytes k fine =

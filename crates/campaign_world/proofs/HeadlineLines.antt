@@ -261,8 +261,7 @@ reached_came image lines w v form line r bytes read line_is form_is its h =
       | inr heard ↦ elim heard.1 [
         | inl a ↦
             moved_came image lines w.sent r.id n _ r.old r.new a.2
-            (setup_came image lines w.sent r.id n _ _ r.old.sessions.first (setup_req image cut)
-            (
+            (setup_came image lines w.sent r.id n _ _ r.old.sessions.first (setup_req image cut) (
               r.down.to,
               w,
               r.old,
@@ -289,6 +288,7 @@ reached_came image lines w v form line r bytes read line_is form_is its h =
         ]
       ]
     ]
+
 -- ---- a line
 
 -- what each device heard

@@ -362,13 +362,23 @@ sent_by : (image : List ℕ) (cut : Cut) (t word mark : ℕ) (d : DeviceState) (
     → hears (comes_to t d) t down.to ≡ b
     → Acts image cut t mark d (behind t word mark (downlink_of down) d) down
 sent_by image cut t word mark d down false bytes is sent empty off =
-    inl (off, lands stays t word mark (downlink_of down) d
-    (deaf_stays t word mark (downlink_of down) (comes_to t d) off))
+    inl (
+      off,
+      lands stays t word mark (downlink_of down) d
+          (deaf_stays t word mark (downlink_of down) (comes_to t d) off),
+    )
 sent_by image cut t word mark d down true bytes is (inl s) empty on =
     inr (on, inl (s.0, s.1, setup_heard image cut t word mark d down.to down.command bytes is s.0 s.1 empty on))
 sent_by image cut t word mark d down true bytes is (inr (inl f)) empty on =
-    inr (on, inr (inl (f.0, f.1, f.2,
-    fragment_heard image cut t word mark d down.to down.command f.0 is f.1 f.2 empty on)))
+    inr (
+      on,
+      inr (inl (
+        f.0,
+        f.1,
+        f.2,
+        fragment_heard image cut t word mark d down.to down.command f.0 is f.1 f.2 empty on,
+      )),
+    )
 sent_by image cut t word mark d down true bytes is (inr (inr o)) empty on =
     inr (on, inr (inr (o, other_heard t word mark d down.to down.command o empty on)))
 

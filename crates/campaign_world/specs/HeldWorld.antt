@@ -109,6 +109,12 @@ IsReport world (Ok text) = (end_result (Ok world) ≡ Ok world) × (text ≡ rep
 IsReport world (Err (error.Line fault)) = end_result (Ok world) ≡ Err fault
 IsReport world (Err error.Memory) = Unit {0}
 
+-- the answer to whether the script has ended
+abbrev pub IsEnded : WorldState → Result (Unit {0}) LineError → Type 0
+IsEnded world (Ok done) = end_result (Ok world) ≡ Ok world
+IsEnded world (Err (error.Line fault)) = end_result (Ok world) ≡ Err fault
+IsEnded world (Err error.Memory) = ⊥
+
 -- ---- what its private calls ask and answer
 
 -- no cause holds of the form, whatever it stands for

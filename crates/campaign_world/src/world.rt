@@ -93,7 +93,7 @@ impl Model for World {
 
 impl World {
     ghost use Rattle.campaign_world.specs.declared.faults.LineError.{LineError};
-    ghost use Rattle.campaign_world.specs.HeldWorld.{WorldStands, WorldBecomes, IsLineAnswer, IsReport, IsFine, IsCauseOf, HasBegun, world_of};
+    ghost use Rattle.campaign_world.specs.HeldWorld.{WorldStands, WorldBecomes, IsLineAnswer, IsReport, IsEnded, IsFine, IsCauseOf, HasBegun, world_of};
     ghost use Rattle.campaign_world.specs.WorldInside.{IsToJoin, IsToBegin};
     ghost use Rattle.campaign_world.specs.Texts.{seen_text};
 
@@ -145,18 +145,32 @@ impl World {
             → IsReport world (seen_text result) }
         ensures same { (e : LineError) → self.now.kept ≡ Some e → result ≡ Err e }
     {
-        if let Some(kept) = self.kept {
-            return Err(kept);
-        }
-        if !has_ended(self.section) {
-            return Err(self.fault(LineWhy::Syntax));
+        match self.ended() {
+            Ok(()) => {}
+            Err(error) => return Err(error),
         }
         match &self.server {
             Some(server) => match report(alloc, server, &self.devices) {
                 Ok(text) => Ok(text),
                 Err(_) => Err(LineError::Memory),
             },
+            // no script ends without one, but where memory was wanting
             None => Err(LineError::Memory),
+        }
+    }
+
+    /// That `end` has come, or the fault of the line that is missing.
+    pub fn ended(&self) -> Result<(), LineError>
+        ensures ended { (world : WorldState) → WorldStands self.now world → self.now.kept ≡ None → IsEnded world result }
+        ensures same { (e : LineError) → self.now.kept ≡ Some e → result ≡ Err e }
+    {
+        if let Some(kept) = self.kept {
+            return Err(kept);
+        }
+        if has_ended(self.section) {
+            Ok(())
+        } else {
+            Err(self.fault(LineWhy::Syntax))
         }
     }
 

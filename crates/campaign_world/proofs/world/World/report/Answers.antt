@@ -1,6 +1,12 @@
-use Rattle.std.proofs.Common.{◌∙◌, sym}
-use Rattle.campaign_world.proofs.Lines.{is_ended, ended, section_stands, told}
+use Rattle.std.proofs.Common.{◌≡◌, None, Ok, sym, subst}
+use Rattle.campaign_world.specs.HeldWorld.{HeldWorld, WorldStands}
+use Rattle.campaign_world.specs.Script.{end_result}
+use Rattle.campaign_world.proofs.Lines.{told}
 use Rattle.campaign_world.proofs.world.World.report.Goals as goal
 
-pub returns-in-Ok-clause-report : goal.returns-in-Ok-clause-report
-returns-in-Ok-clause-report c = rw (← c.self.view_is) (λ world stands unkept. (ended world (section_stands _ world stands ∙ is_ended _ (sym c.has_ended.ensures ∙ c.if-not-has_ended.false)), told _ world c.in-Some-server.server _ stands c.in-Some-server.is (c.in-Ok.ensures world.devices stands.devices)))
+pub returns-in-Ok-report-clause-report : goal.returns-in-Ok-report-clause-report
+returns-in-Ok-report-clause-report c = rw (← c.self.view_is) (λ world stands unkept. (
+  subst (λ (h : HeldWorld). WorldStands h world → h.kept ≡ None → end_result (Ok world) ≡ Ok world) (sym c.self.view_is)
+      (c.in-Ok.ensures.ended world) stands unkept,
+  told _ world c.in-Some.server _ stands c.in-Some.is (c.in-Ok-report.ensures world.devices stands.devices),
+))
