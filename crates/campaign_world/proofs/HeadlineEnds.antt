@@ -1,5 +1,5 @@
 -- What both ends of a campaign keep: a device has no session but the server's, and the server sends the image.
-use Rattle.std.proofs.Common.{◌≡◌, inl, inr, ℕ, ◌+◌, ◌≤◌, Bool, true, false, cond, nat_lt, List, [], ◌∷◌, length, Option, None, Some, IfSome, is_ok, is_some, Result, Ok, Err, refl, sym, ap, ◌∙◌, subst, arith, ◌/◌, ltb-false}
+use Rattle.std.proofs.Common.{◌≡◌, inl, inr, ℕ, ◌+◌, ◌≤◌, Bool, true, false, cond, nat_lt, List, [], ◌∷◌, length, Option, None, Some, IfSome, is_ok, is_some, Result, Ok, Err, refl, sym, subst, arith, ◌/◌, ltb-false}
 use Rattle.std.specs.Result.{result_ok}
 use Rattle.std.specs.List.{AllByRecursion}
 use Rattle.frag_session.specs.declared.setups.Limits.{Limits}
@@ -8,8 +8,7 @@ use Rattle.frag_session.specs.Setup.{Room}
 use Rattle.frag_session.specs.Session.{Session, new_session, after_setup, followed, after_fragment}
 use Rattle.frag_session.specs.Stands.{IsSetUp}
 use Rattle.frag_encoder.specs.Encoding.{nb_frag_of, data_of}
-use Rattle.cast_wire.specs.declared.cmd.Cmd.{Cmd as CastCmd}
-use Rattle.cast_wire.specs.declared.cmd.Cmd.TheVariants.{FragSessionStatusReq, DataFragment}
+use Rattle.cast_wire.specs.declared.cmd.Cmd.TheVariants.{DataFragment}
 use Rattle.sync_wire.specs.declared.cmd.Cmd.TheVariants.{AppTimeReq, AppTimeAns, DevVersionReq}
 use Rattle.clock_sync.specs.Clock.{correction_of, is_answer_needed}
 use Rattle.package_grammar.specs.declared.command.Command.{Command}
@@ -30,12 +29,12 @@ use Rattle.campaign_server.specs.declared.fragments.Spent.{Spent}
 use Rattle.campaign_server.specs.declared.fragments.Spent.TheVariants.{Fragments, Counts}
 use Rattle.campaign_server.specs.Plan.{Plan}
 use Rattle.campaign_server.specs.Server.{ServerState, DownlinkCommand, port_of, numbered, ledger}
-use Rattle.campaign_server.specs.Asking.{fragments_request, window_request_of, window_request, group_request, cast_of, request_at, command_for, by_unicast, request_of}
+use Rattle.campaign_server.specs.Asking.{window_request_of, window_request, group_request, cast_of, request_at, command_for, by_unicast, request_of}
 use Rattle.campaign_server.specs.Fragments.{receivers, has_no_count, after_count, next_fragment, after_fragment as server_after_fragment, status_to_all, after_status_to_all}
 use Rattle.campaign_server.specs.Time.{time_answer_to, first_answer, time_answer}
 use Rattle.campaign_server.specs.Uplinks.{with_answers}
 use Rattle.campaign_world.proofs.SessionSteps.{setup_keeps, fragment_keeps}
-use Rattle.campaign_world.proofs.HeadlineCommands.{Cut, cut_of, setup_req, setup_request, IsElsewhere, IsSentOf}
+use Rattle.campaign_world.proofs.HeadlineCommands.{Cut, cut_of, setup_req, IsSentOf}
 use Rattle.campaign_world.proofs.HeadlinePayloads.{Moves, stays, Acts}
 use Rattle.campaign_world.specs.Headline.{HasNoOther, IsFragmentOf}
 

@@ -1,5 +1,5 @@
 -- What each form that is not refused makes of a campaign.
-use Rattle.std.proofs.Common.{◌&&◌, nat_le, ◌≡◌, ◌⊎◌, inl, inr, ℕ, zero, suc, ◌+◌, ◌-◌, ◌^◌, ◌<◌, ◌≤◌, Bool, true, false, cond, not, ◌==◌, List, [], ◌∷◌, ◌++◌, length, All, slice_get, Option, None, Some, IfSome, Ok, Err, append-nil, refl, sym, ap, ◌∙◌, subst, arith, true≢false, eqb-true}
+use Rattle.std.proofs.Common.{◌&&◌, nat_le, ◌≡◌, ◌⊎◌, inl, inr, ℕ, zero, suc, ◌+◌, ◌-◌, ◌^◌, ◌<◌, ◌≤◌, Bool, true, false, cond, not, ◌==◌, List, [], ◌∷◌, length, All, slice_get, Option, None, Some, IfSome, Ok, Err, append-nil, refl, sym, ap, ◌∙◌, subst, arith, true≢false, eqb-true}
 use Rattle.std.proofs.lemmas.Bool.{leb-true, and_parts}
 use Rattle.std.specs.Result.{result_ok}
 use Rattle.std.specs.List.{AllByRecursion, slice_set}
@@ -28,7 +28,7 @@ use Rattle.campaign_world.specs.World.{WorldState}
 use Rattle.campaign_world.specs.Causes.{may_come, fits_script, is_device, names_device, may_reach, has_come, form_cause}
 use Rattle.campaign_world.specs.Making.{device_of, with_sent, with_device, after_wake, after_down, after_answer, after_up, at_events, after_form}
 use Rattle.campaign_world.proofs.LineItems.{if_some, numbered_put, numbered_there}
-use Rattle.campaign_world.proofs.HeadlineCommands.{Cut, cut_of, IsCut}
+use Rattle.campaign_world.proofs.HeadlineCommands.{cut_of, IsCut}
 use Rattle.campaign_world.proofs.HeadlinePayloads.{sent_acts, waking_stays}
 use Rattle.campaign_world.proofs.HeadlineEnds.{IsDeviceFor, IsServerOf, IsDown, ask_sent, fragment_sent, status_sent, GoesOn, fragment_goes, status_goes, answers_go, time_sent}
 use Rattle.campaign_world.proofs.HeadlineWorlds.{IsPayloadOf, StandsIn, Keeps, is_down, HasStayed, Turns}

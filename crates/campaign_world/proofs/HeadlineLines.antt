@@ -1,5 +1,5 @@
 -- Each heard fragment was brought by the line whose number is its mark.
-use Rattle.std.proofs.Common.{◌≡◌, ◌⊎◌, inl, inr, ℕ, zero, suc, ◌+◌, ◌-◌, ◌^◌, ◌<◌, ◌≤◌, Bool, true, false, cond, ◌==◌, List, [], ◌∷◌, ◌++◌, All, length, take, drop, Option, None, Some, IfSome, is_none, option_map, Result, Ok, Err, IfOk, refl, sym, ap, ◌∙◌, subst, arith}
+use Rattle.std.proofs.Common.{◌≡◌, ◌⊎◌, inl, inr, ℕ, suc, ◌+◌, ◌-◌, ◌^◌, ◌<◌, ◌≤◌, Bool, true, false, cond, ◌==◌, List, [], ◌∷◌, ◌++◌, All, take, drop, Option, None, Some, IfSome, is_none, Result, Ok, Err, IfOk, refl, sym, ap, ◌∙◌, subst, arith}
 use Rattle.std.specs.List.{slice_set}
 use Rattle.cast_wire.specs.declared.cmd.Cmd.TheVariants.{DataFragment}
 use Rattle.frag_model.specs.Fragments.{Fragment}
@@ -32,7 +32,7 @@ use Rattle.campaign_world.specs.declared.faults.LineWhy.{LineWhy}
 use Rattle.campaign_world.specs.declared.faults.LineFault.{LineFault}
 use Rattle.campaign_world.specs.declared.numbered.SentPayload.{SentPayload}
 use Rattle.campaign_world.specs.World.{WorldState, first_world}
-use Rattle.campaign_world.specs.Causes.{form_cause, cause_of_form, cause_of}
+use Rattle.campaign_world.specs.Causes.{cause_of_form, cause_of}
 use Rattle.campaign_world.specs.Making.{after_form}
 use Rattle.campaign_world.specs.Script.{after_form_of, after_line, line_result, read_line, read_lines, end_result_at, end_result, campaign_of}
 use Rattle.campaign_world.specs.Headline.{Delivers, Listens, campaign_before, Brings, WasBrought, CameInOrder}

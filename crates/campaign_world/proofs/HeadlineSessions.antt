@@ -1,5 +1,5 @@
 -- A session is to hear each fragment that a line brings after the setup was brought.
-use Rattle.std.proofs.Common.{◌≡◌, ◌⊎◌, inl, inr, ℕ, ◌+◌, ◌-◌, ◌^◌, ◌<◌, ◌≤◌, Bool, true, false, cond, ◌==◌, nat_lt, List, [], ◌∷◌, ◌++◌, All, length, take, Option, None, Some, IfSome, is_none, Result, Ok, refl, sym, ap, ◌∙◌, subst, arith, eq-eqb, ne_eqb, eqb-true, le-ltb, true≢false}
+use Rattle.std.proofs.Common.{◌≡◌, ◌⊎◌, inl, inr, ℕ, ◌+◌, ◌^◌, ◌<◌, ◌≤◌, Bool, true, false, cond, ◌==◌, nat_lt, List, ◌∷◌, ◌++◌, All, length, take, Option, None, Some, IfSome, is_none, Result, Ok, refl, sym, ap, ◌∙◌, subst, arith, eq-eqb, ne_eqb, eqb-true, le-ltb, true≢false}
 use Rattle.std.proofs.lemmas.Bool.{cases_lt, eqb-false}
 use Rattle.wire_base.specs.declared.refusal.Direction.TheVariants as direction
 use Rattle.wire_base.specs.Rows.{IsListed}
@@ -31,7 +31,7 @@ use Rattle.campaign_world.specs.declared.faults.LineFault.{LineFault}
 use Rattle.campaign_world.specs.declared.numbered.SentPayload.{SentPayload}
 use Rattle.campaign_world.specs.World.{WorldState, first_world}
 use Rattle.campaign_world.specs.Script.{read_lines}
-use Rattle.campaign_world.specs.Headline.{IsFragmentOf, Delivers, Listens, campaign_before, Brings, WasBrought}
+use Rattle.campaign_world.specs.Headline.{IsFragmentOf, Delivers, Listens, Brings}
 use Rattle.campaign_world.proofs.LineItems.{numbered_more}
 use Rattle.campaign_world.proofs.HeadlineCommands.{Cut, cut_of, setup_req, setup_request, fragment_command, IsOther, IsSentOf, IsCut, sent_same, fragment_sized}
 use Rattle.campaign_world.proofs.HeadlinePayloads.{Moves, stays, set_up, fed, comes_to, way_of}

@@ -1,5 +1,5 @@
 -- What an event makes of a world that stands for a campaign.
-use Rattle.std.proofs.Common.{◌≡◌, ℕ, ◌≤◌, ◌+◌, ◌-◌, Bool, true, false, cond, ◌==◌, List, [], ◌∷◌, ◌++◌, length, map, slice_get, slice_set, Option, Some, None, Result, Ok, Err, is_ok, is_some, refl, sym, ap, ◌∙◌, subst, arith}
+use Rattle.std.proofs.Common.{◌≡◌, ℕ, ◌≤◌, ◌+◌, ◌-◌, Bool, true, false, cond, ◌==◌, List, [], ◌∷◌, ◌++◌, length, slice_get, Option, Some, None, Result, Ok, Err, is_ok, is_some, refl, sym, ap, ◌∙◌, subst, arith}
 use Rattle.std.proofs.lemmas.Bool.Decides.{nat_tests}
 use Rattle.std.specs.Option.{option_map}
 use Rattle.device_core.specs.Device.{DeviceState, first_device}
@@ -8,7 +8,6 @@ use Rattle.device_core.specs.HeldDevice.{HeldDevice, DeviceStands}
 use Rattle.device_core.specs.declared.config.DeviceConfig.{DeviceConfig}
 use Rattle.campaign_server.specs.Plan.{Plan}
 use Rattle.campaign_world.proofs.Outboxes.{outbox_is}
-use Rattle.device_core.specs.declared.uplink.Uplink.{Uplink}
 use Rattle.campaign_server.specs.Server.{ServerState, DownlinkCommand, numbered, ledger}
 use Rattle.campaign_server.specs.Fragments.{next_fragment, after_fragment, after_count, status_to_all, after_status_to_all}
 use Rattle.campaign_server.specs.Uplinks.{UplinkStep, with_answers, read_uplink, uplink_step}

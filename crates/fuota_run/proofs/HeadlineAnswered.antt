@@ -1,20 +1,50 @@
--- A campaign is answered with its report.
-use Rattle.std.proofs.Common.{◌≡◌, ℕ, List, Option, Some, Ok, refl, ◌∙◌, subst}
+-- A campaign is answered with its report, and the recovery of a device with the image.
+use Rattle.std.proofs.Common.{◌≡◌, ℕ, ◌^◌, ◌<◌, List, All, Option, Some, Ok, Err, refl, ap, ◌∙◌, subst}
 use Rattle.std.proofs.lemmas.Bool.{le-ltb}
 use Rattle.campaign_world.specs.World.{WorldState}
 use Rattle.campaign_world.specs.Script.{campaign_of}
 use Rattle.campaign_world.specs.Report.{report_of}
+use Rattle.campaign_world.specs.declared.recovery.NoFile.{NoFile}
+use Rattle.campaign_world.specs.Recovery.{recovery}
+use Rattle.campaign_world.proofs.HeadlineLaw.{recovers}
 use Rattle.fuota_run.specs.declared.status.Status.TheVariants as status
 use Rattle.fuota_run.specs.Outside.{Held}
 use Rattle.fuota_run.specs.Words.{Asked}
-use Rattle.fuota_run.specs.Answer.{Answer, answer, script_answer, campaign_answer, IsAnswerTo, IsAnswer}
-use Rattle.fuota_run.specs.Headline.{AreHandedIn}
+use Rattle.fuota_run.specs.declared.words.ScriptForm.{ScriptForm}
+use Rattle.fuota_run.specs.declared.words.ScriptForm.TheVariants.{Campaign, Recover}
+use Rattle.fuota_run.specs.Answer.{Answer, answer, not_complete, recovered, told_of, script_answer, campaign_answer, IsAnswerTo, IsAnswer}
+use Rattle.fuota_run.specs.Headline.{AreHandedIn, IsRecoveryAnswered}
 
-pub answered : (words : List (List ℕ)) (held : Held) (image script : List ℕ) (world : WorldState)
-    → AreHandedIn words held image script → campaign_of image script ≡ Ok world
-    → (a : Answer) → IsAnswer words held a → a ≡ answer status.Done (report_of world)
+-- the answer is what is told of the campaign
+told : (words : List (List ℕ)) (held : Held) (what : ScriptForm) (image script : List ℕ) (world : WorldState)
+    → AreHandedIn words held what image script → campaign_of image script ≡ Ok world
+    → (a : Answer) → IsAnswer words held a → a ≡ told_of what world
 unfolding IsAnswer campaign_answer script_answer
-answered words held image script world h is a given =
-    let here : a ≡ campaign_answer (held h.image_name) (held h.script_name) =
+told words held what image script world h is a given =
+    let here : a ≡ campaign_answer what (held h.image_name) (held h.script_name) =
     subst (λ (o : Option Asked). IsAnswerTo o held a) h.form given in
     here ∙ rw (h.image_held, le-ltb _ _ h.image_short, h.image_fine, h.script_held, le-ltb _ _ h.script_short, is) refl
+
+pub answered : (words : List (List ℕ)) (held : Held) (image script : List ℕ) (world : WorldState)
+    → AreHandedIn words held Campaign image script → campaign_of image script ≡ Ok world
+    → (a : Answer) → IsAnswer words held a → a ≡ answer status.Done (report_of world)
+answered words held image script world h is a given = told words held Campaign image script world h is a given
+
+recovered_image : (words : List (List ℕ)) (held : Held) (device : ℕ) (image script : List ℕ) (world : WorldState)
+    (file : List ℕ) → All (λ b. b < 2 ^ 8) image → AreHandedIn words held (Recover device) image script
+    → campaign_of image script ≡ Ok world → recovery world device ≡ Ok file → (a : Answer) → IsAnswer words held a
+    → a ≡ answer status.Done image
+recovered_image words held device image script world file bytes h is there a given =
+    told words held (Recover device) image script world h is a given
+    ∙ ap (recovered device) there
+    ∙ ap (λ (x : List ℕ). answer status.Done x) (recovers image script world device file bytes is there)
+
+no_file : (words : List (List ℕ)) (held : Held) (device : ℕ) (image script : List ℕ) (world : WorldState)
+    (why : NoFile) → AreHandedIn words held (Recover device) image script
+    → campaign_of image script ≡ Ok world → recovery world device ≡ Err why → (a : Answer) → IsAnswer words held a
+    → a ≡ not_complete device why
+no_file words held device image script world why h is there a given =
+    told words held (Recover device) image script world h is a given ∙ ap (recovered device) there
+
+pub recovery_answered : IsRecoveryAnswered
+recovery_answered = record { image_is = recovered_image; no_file = no_file }

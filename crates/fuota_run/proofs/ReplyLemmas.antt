@@ -14,18 +14,22 @@ use Rattle.campaign_world.specs.Script.{campaign_of}
 use Rattle.campaign_world.specs.declared.faults.LineFault.{LineFault}
 use Rattle.campaign_world.specs.declared.faults.LineError.{LineError}
 use Rattle.campaign_world.specs.declared.faults.LineError.TheVariants as world
-use Rattle.campaign_world.specs.Report.{report_of}
+use Rattle.campaign_world.specs.World.{WorldState}
+use Rattle.campaign_world.specs.declared.recovery.NoFile.{NoFile}
+use Rattle.campaign_world.specs.Recovery.{recovery}
+use Rattle.fuota_run.specs.declared.words.ScriptForm.{ScriptForm}
+use Rattle.fuota_run.specs.declared.words.ScriptForm.TheVariants.{Campaign, Recover}
 use Rattle.fuota_run.specs.declared.words.FileForm.{FileForm}
-use Rattle.fuota_run.specs.Words.{Asked, campaign, payloads, asked}
+use Rattle.fuota_run.specs.Words.{Asked, plays, payloads, asked}
 use Rattle.payload_replay.specs.PayloadLines.{Telling, IsTold}
-use Rattle.fuota_run.specs.Answer.{Answer, answer, read_fault, usage, image_refused, too_long, taken_text, played, tells, told, script_answer, campaign_answer, IsFileAnswer, IsAnswer}
+use Rattle.fuota_run.specs.Answer.{Answer, answer, read_fault, usage, image_refused, too_long, taken_text, recovered, told_of, played, tells, told, script_answer, campaign_answer, IsFileAnswer, IsAnswer}
 use Rattle.fuota_run.specs.Reply.{HoldsAsked, HoldsForm, Gives, Effects, Ends, AppendsAnswer, AppendsAnswerFront, GivesBy, GivesScript, GivesCampaign, GivesFile, IsPlayed, IsReplied, IsReply, IsCaused, Says, ends_source}
-use Rattle.fuota_run.specs.Replies.{IsUnread, IsSaid}
+use Rattle.fuota_run.specs.Replies.{IsUnread, IsMadeOf, IsSaid}
 
 -- where nothing is told of the files, nothing is asked of their names
 none_asked : (what : Option Asked) → HoldsAsked None what
 none_asked None = tt
-none_asked (Some (campaign image script)) = (tt, tt)
+none_asked (Some (plays what image script)) = (tt, tt)
 none_asked (Some (payloads what file)) = tt
 
 pub holds_asked : (held : Option Held) (words : List (List ℕ)) → HoldsForm held words → HoldsAsked held (asked words)
@@ -79,29 +83,29 @@ says_source (Some h) name IsFor limit before now left bytes a source is text fin
     record { reply = inl (subst (λ (f : Option (List ℕ)). IsFor h f a) (sym source) (is h)); replied = text; caused = λ fault. absurd (fine fault); read_up = λ _. ends }
 
 -- a script that is too long
-pub script_long : (image script : List ℕ) → 1048576 < length script → too_long 1048576 ≡ script_answer image (Some script)
+pub script_long : (what : ScriptForm) (image script : List ℕ) → 1048576 < length script → too_long 1048576 ≡ script_answer what image (Some script)
 unfolding script_answer
-script_long image script long = let t : nat_lt 1048576 (length script) ≡ true = lt-ltb _ _ long in rw t refl
+script_long what image script long = let t : nat_lt 1048576 (length script) ≡ true = lt-ltb _ _ long in rw t refl
 
 -- one within its limit
-pub script_given : (image script : List ℕ) (a : Answer) → length script ≤ 1048576 → a ≡ played (campaign_of image script) → a ≡ script_answer image (Some script)
+pub script_given : (what : ScriptForm) (image script : List ℕ) (a : Answer) → length script ≤ 1048576 → a ≡ played what (campaign_of image script) → a ≡ script_answer what image (Some script)
 unfolding script_answer
-script_given image script a within is = let t : nat_lt 1048576 (length script) ≡ false = le-ltb _ _ within in rw t is
+script_given what image script a within is = let t : nat_lt 1048576 (length script) ≡ false = le-ltb _ _ within in rw t is
 
 -- an image that is too long
-pub image_long : (image : List ℕ) (script : Option (List ℕ)) → 65536 < length image → too_long 65536 ≡ campaign_answer (Some image) script
+pub image_long : (what : ScriptForm) (image : List ℕ) (script : Option (List ℕ)) → 65536 < length image → too_long 65536 ≡ campaign_answer what (Some image) script
 unfolding campaign_answer
-image_long image script long = let t : nat_lt 65536 (length image) ≡ true = lt-ltb _ _ long in rw t refl
+image_long what image script long = let t : nat_lt 65536 (length image) ≡ true = lt-ltb _ _ long in rw t refl
 
 -- one that is no image file
-pub image_given_refused : (image : List ℕ) (script : Option (List ℕ)) → length image ≤ 65536 → is_image image ≡ false → image_refused ≡ campaign_answer (Some image) script
+pub image_given_refused : (what : ScriptForm) (image : List ℕ) (script : Option (List ℕ)) → length image ≤ 65536 → is_image image ≡ false → image_refused ≡ campaign_answer what (Some image) script
 unfolding campaign_answer
-image_given_refused image script within bad = let t : nat_lt 65536 (length image) ≡ false = le-ltb _ _ within in rw (t, bad) refl
+image_given_refused what image script within bad = let t : nat_lt 65536 (length image) ≡ false = le-ltb _ _ within in rw (t, bad) refl
 
 -- and one that is
-pub image_given : (image : List ℕ) (script : Option (List ℕ)) → length image ≤ 65536 → is_image image ≡ true → script_answer image script ≡ campaign_answer (Some image) script
+pub image_given : (what : ScriptForm) (image : List ℕ) (script : Option (List ℕ)) → length image ≤ 65536 → is_image image ≡ true → script_answer what image script ≡ campaign_answer what (Some image) script
 unfolding campaign_answer
-image_given image script within good = let t : nat_lt 65536 (length image) ≡ false = le-ltb _ _ within in rw (t, good) refl
+image_given what image script within good = let t : nat_lt 65536 (length image) ≡ false = le-ltb _ _ within in rw (t, good) refl
 
 -- a reply that holds of every Ok
 pub if_ok_map : {T E : Type 0} {P Q : T → Type 0} (r : Result T E) → ((x : T) → P x → Q x) → IfOk r P → IfOk r Q
@@ -109,10 +113,10 @@ if_ok_map (Ok x) turns holds = turns x holds
 if_ok_map (Err e) turns holds = tt
 
 -- the reply behind an image file is the campaign's
-pub says_behind : (held middle : Option Held) (image_name script_name : List ℕ) (before between now : ℕ) (left : Option (List ℕ)) (image : List ℕ) (a : Answer) → middle ≡ held → before ≤ between
-    → IsSource held image_name 65536 image → length image ≤ 65536 → is_image image ≡ true → Says (GivesScript middle image script_name a) between now left a → Says (GivesCampaign held image_name script_name a) before now left a
-says_behind held middle image_name script_name before between now left image a same kept source within good says =
-    let here = subst (λ (m : Option Held). Says (GivesScript m image script_name a) between now left a) same says in
+pub says_behind : (held middle : Option Held) (what : ScriptForm) (image_name script_name : List ℕ) (before between now : ℕ) (left : Option (List ℕ)) (image : List ℕ) (a : Answer) → middle ≡ held → before ≤ between
+    → IsSource held image_name 65536 image → length image ≤ 65536 → is_image image ≡ true → Says (GivesScript middle what image script_name a) between now left a → Says (GivesCampaign held what image_name script_name a) before now left a
+says_behind held middle what image_name script_name before between now left image a same kept source within good says =
+    let here = subst (λ (m : Option Held). Says (GivesScript m what image script_name a) between now left a) same says in
     record {
       reply = replies held source here.reply;
       replied = here.replied;
@@ -120,9 +124,9 @@ says_behind held middle image_name script_name before between now left image a s
       read_up = here.read_up;
     }
   where
-    replies : (h : Option Held) → IsSource h image_name 65536 image → IsReply (GivesScript h image script_name a) between now a → IsReply (GivesCampaign h image_name script_name a) before now a
-    replies None source (inl given) = inl ((λ _. given.1), image, given.2 ∙ image_given image (Some given.1) within good)
-    replies (Some h) source (inl is) = inl (is ∙ image_given image (h script_name) within good ∙ ap (λ (i : Option (List ℕ)). campaign_answer i (h script_name)) (sym source))
+    replies : (h : Option Held) → IsSource h image_name 65536 image → IsReply (GivesScript h what image script_name a) between now a → IsReply (GivesCampaign h what image_name script_name a) before now a
+    replies None source (inl given) = inl ((λ _. given.1), image, given.2 ∙ image_given what image (Some given.1) within good)
+    replies (Some h) source (inl is) = inl (is ∙ image_given what image (h script_name) within good ∙ ap (λ (i : Option (List ℕ)). campaign_answer what i (h script_name)) (sym source))
     replies h source (inr fault) = inr (fault.0, risen_before before between now kept fault.1)
 
 -- what is said where nothing is asked for
@@ -137,15 +141,15 @@ says_usage held before left a is =
     given (Some h) = is
 
 -- what is said of a form's files is said of the form
-pub says_campaign : (held : Option Held) (image script : List ℕ) (before now : ℕ) (left : Option (List ℕ)) (a : Answer)
-    → Says (GivesCampaign held image script a) before now left a → Says (Gives held (Some (campaign image script)) a) before now left a
-says_campaign None image script before now left a says = record {
+pub says_campaign : (held : Option Held) (what : ScriptForm) (image script : List ℕ) (before now : ℕ) (left : Option (List ℕ)) (a : Answer)
+    → Says (GivesCampaign held what image script a) before now left a → Says (Gives held (Some (plays what image script)) a) before now left a
+says_campaign None what image script before now left a says = record {
   reply = elim says.reply [ inl given ↦ inl (given.1, given.0 script, given.2) | inr fault ↦ inr fault ];
   replied = says.replied;
   caused = says.caused;
   read_up = says.read_up;
 }
-says_campaign (Some h) image script before now left a says = record { reply = says.reply; replied = says.replied; caused = says.caused; read_up = says.read_up }
+says_campaign (Some h) what image script before now left a says = record { reply = says.reply; replied = says.replied; caused = says.caused; read_up = says.read_up }
 
 pub says_file : (held : Option Held) (what : FileForm) (file : List ℕ) (before now : ℕ) (left : Option (List ℕ)) (a : Answer)
     → Says (GivesFile held (tells what) file a) before now left a → Says (Gives held (Some (payloads what file)) a) before now left a
@@ -164,17 +168,26 @@ pub record IsMade (a : Answer) : Type 0 where
   pub used : a.status ≢ status.Usage
 
 -- the answer with what a script made
-pub says_played : (image script : List ℕ) (r : Result (List ℕ) LineError) (a : Answer) → IsPlayed (campaign_of image script) r → IsSaid r a → (a ≡ played (campaign_of image script)) × IsMade a
-says_played image script (Ok text) a made said =
-    let is : a ≡ answer status.Done (report_of made.0) = said ∙ ap (λ t. answer status.Done t) made.2 in (
-      is ∙ sym (ap played made.1),
-      subst IsMade (sym is) (record { replied = tt; sound = λ e. cc; used = λ e. cc }),
+recovered_made : (device : ℕ) (r : Result (List ℕ) NoFile) → IsMade (recovered device r)
+recovered_made device (Ok file) = record { replied = tt; sound = λ e. cc; used = λ e. cc }
+recovered_made device (Err why) = record { replied = tt; sound = λ e. cc; used = λ e. cc }
+
+told_made : (what : ScriptForm) (w : WorldState) → IsMade (told_of what w)
+told_made Campaign w = record { replied = tt; sound = λ e. cc; used = λ e. cc }
+told_made (Recover device) w = recovered_made device (recovery w device)
+
+pub says_played : (what : ScriptForm) (image script : List ℕ) (r : Result Answer LineError) (a : Answer) → IsPlayed what (campaign_of image script) r → IsMadeOf r a
+    → (a ≡ played what (campaign_of image script)) × IsMade a
+says_played what image script (Ok x) a made said =
+    let is : a ≡ told_of what made.0 = said ∙ made.2 in (
+      is ∙ sym (ap (played what) made.1),
+      subst IsMade (sym is) (told_made what made.0),
     )
-says_played image script (Err (world.Line fault)) a made said = (
-  said ∙ sym (ap played made),
+says_played what image script (Err (world.Line fault)) a made said = (
+  said ∙ sym (ap (played what) made),
   subst IsMade (sym said) (record { replied = tt; sound = λ e. cc; used = λ e. cc }),
 )
-says_played image script (Err world.Memory) a made said = absurd said
+says_played what image script (Err world.Memory) a made said = absurd said
 
 -- and with what a file of payloads made
 pub says_told : (Tells : Telling) (file : List ℕ) (r : Result (List ℕ) LineError) (a : Answer) → IsTold Tells file r → IsSaid r a
@@ -212,6 +225,7 @@ ends_by held words e status.Done text gives told caused appends = appends_answer
 ends_by held words e status.Usage text gives told caused appends = appends_answer held words status.Usage text e.old e.new gives told appends
 ends_by held words e status.ImageRefused text gives told caused appends = appends_answer held words status.ImageRefused text e.old e.new gives told appends
 ends_by held words e status.ScriptRefused text gives told caused appends = appends_answer held words status.ScriptRefused text e.old e.new gives told appends
+ends_by held words e status.NotComplete text gives told caused appends = appends_answer held words status.NotComplete text e.old e.new gives told appends
 ends_by held words e (status.TooLong taken) text gives told caused appends = appends_answer held words (status.TooLong taken) text e.old e.new gives told appends
 ends_by held words e status.ReadFault text gives told caused appends =
     let fault = caused refl in (fault.0, subst (λ (x : Answer). Appends e.old e.new x.text) fault.1 appends)

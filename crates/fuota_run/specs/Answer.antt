@@ -6,11 +6,13 @@ use Rattle.fuota_run.specs.declared.status.Status.{Status}
 use Rattle.fuota_run.specs.declared.status.Status.TheVariants as status
 use Rattle.fuota_run.specs.declared.words.FileForm.{FileForm}
 use Rattle.fuota_run.specs.declared.words.FileForm.TheVariants.{Replay, Decode}
+use Rattle.fuota_run.specs.declared.words.ScriptForm.{ScriptForm}
+use Rattle.fuota_run.specs.declared.words.ScriptForm.TheVariants.{Campaign, Recover}
 use Rattle.campaign_world.specs.declared.faults.LineWhy.{LineWhy}
 use Rattle.campaign_world.specs.declared.faults.LineWhy.TheVariants as why
 use Rattle.campaign_world.specs.declared.faults.LineFault.{LineFault}
 use Rattle.fuota_run.specs.Outside.{Held}
-use Rattle.fuota_run.specs.Words.{Asked, campaign, payloads, asked}
+use Rattle.fuota_run.specs.Words.{Asked, plays, payloads, asked}
 use Rattle.payload_replay.specs.PayloadLines.{Telling}
 use Rattle.payload_replay.specs.Decode.{Decodes}
 use Rattle.payload_replay.specs.Replay.{Replays}
@@ -18,6 +20,9 @@ use Rattle.image_slots.specs.Image.{is_image}
 use Rattle.campaign_world.specs.World.{WorldState}
 use Rattle.campaign_world.specs.Script.{campaign_of}
 use Rattle.campaign_world.specs.Report.{report_of}
+use Rattle.campaign_world.specs.declared.recovery.NoFile.{NoFile}
+use Rattle.campaign_world.specs.declared.recovery.NoFile.TheVariants as no_file
+use Rattle.campaign_world.specs.Recovery.{recovery}
 
 -- a status and the text that is written with it
 pub record Answer : Type 0 where
@@ -60,22 +65,45 @@ image_refused = answer status.ImageRefused (codes "image refused\n")
 abbrev pub read_fault : Answer
 read_fault = answer status.ReadFault (codes "read fault\n")
 
+abbrev pub no_file_word : NoFile → List ℕ
+no_file_word no_file.None = codes "none"
+no_file_word no_file.Receiving = codes "receiving"
+no_file_word no_file.NoRows = codes "norows"
+no_file_word no_file.Conflict = codes "conflict"
+
+-- a device has no file: it stands so
+abbrev pub not_complete : (device : ℕ) → NoFile → Answer
+not_complete device why =
+    answer status.NotComplete (codes "device " ++ decimal device ++ (codes " " ++ no_file_word why ++ codes "\n"))
+
+-- the file that a device recovered
+abbrev pub recovered : (device : ℕ) → Result (List ℕ) NoFile → Answer
+recovered device (Ok file) = answer status.Done file
+recovered device (Err why) = not_complete device why
+
+-- what each form tells of a campaign
+abbrev pub told_of : ScriptForm → WorldState → Answer
+told_of Campaign world = answer status.Done (report_of world)
+told_of (Recover device) world = recovered device (recovery world device)
+
 -- the answer to a campaign, or to its first refused line
-abbrev pub played : Result WorldState LineFault → Answer
-played (Ok world) = answer status.Done (report_of world)
-played (Err fault) = refused fault
+abbrev pub played : ScriptForm → Result WorldState LineFault → Answer
+played what (Ok world) = told_of what world
+played what (Err fault) = refused fault
 
 -- the answer once the image is an image file
-unfoldable pub script_answer : List ℕ → Option (List ℕ) → Answer
-script_answer image None = read_fault
-script_answer image (Some script) = if nat_lt script_limit (length script) then too_long script_limit else played (campaign_of image script)
+unfoldable pub script_answer : ScriptForm → List ℕ → Option (List ℕ) → Answer
+script_answer what image None = read_fault
+script_answer what image (Some script) =
+    if nat_lt script_limit (length script) then too_long script_limit else played what (campaign_of image script)
 
--- the answer to `campaign IMAGE SCRIPT`: of the image first too long, then refused; then of the script
-unfoldable pub campaign_answer : Option (List ℕ) → Option (List ℕ) → Answer
-campaign_answer None script = read_fault
-campaign_answer (Some image) script =
+-- the answer to `campaign IMAGE SCRIPT` and to `recover IMAGE SCRIPT DEVICE`: of the image first too long, then refused; then
+-- of the script
+unfoldable pub campaign_answer : ScriptForm → Option (List ℕ) → Option (List ℕ) → Answer
+campaign_answer what None script = read_fault
+campaign_answer what (Some image) script =
     if nat_lt image_limit (length image) then too_long image_limit
-    else if is_image image then script_answer image script
+    else if is_image image then script_answer what image script
     else image_refused
 
 -- what each form tells of a file of payloads
@@ -101,7 +129,7 @@ IsFileAnswer Tells (Some file) a = IsReadAnswer Tells (nat_lt script_limit (leng
 -- the answer to what is asked for, over the files that are held
 abbrev pub IsAnswerTo : Option Asked → Held → Answer → Type 0
 IsAnswerTo None held a = a ≡ usage
-IsAnswerTo (Some (campaign image script)) held a = a ≡ campaign_answer (held image) (held script)
+IsAnswerTo (Some (plays what image script)) held a = a ≡ campaign_answer what (held image) (held script)
 IsAnswerTo (Some (payloads what file)) held a = IsFileAnswer (tells what) (held file) a
 
 -- the answer to the words

@@ -12,3 +12,4 @@ exit_code status.ReadFault = 5
 exit_code status.WriteFault = 6
 exit_code status.Memory = 7
 exit_code (status.TooLong taken) = 8
+exit_code status.NotComplete = 9

@@ -1,5 +1,5 @@
 -- A reply of the program as an answer.
-use Rattle.std.specs.Prelude.{◌≡◌, ℕ, List, Result, Ok, Err}
+use Rattle.std.specs.Prelude.{◌≡◌, ℕ, List, ⊤, Result, Ok, Err}
 use Rattle.fuota_run.specs.declared.running.Reply.{Reply}
 use Rattle.fuota_run.specs.declared.source.SourceError.{SourceError}
 use Rattle.fuota_run.specs.declared.source.SourceError.TheVariants as error
@@ -11,6 +11,22 @@ use Rattle.fuota_run.specs.Answer.{Answer, answer, read_fault, refused, taken_te
 -- its status and its text
 abbrev pub answer_in : Reply → Answer
 answer_in r = answer r.status r.text.items
+
+abbrev pub seen_reply : Result Reply LineError → Result Answer LineError
+seen_reply (Ok r) = Ok (answer_in r)
+seen_reply (Err e) = Err e
+
+-- the answer with what a campaign made, or its first refused line; for want of memory there is none
+abbrev pub IsMadeOf : Result Answer LineError → Answer → Type 0
+IsMadeOf (Ok x) a = a ≡ x
+IsMadeOf (Err (world.Line fault)) a = a ≡ refused fault
+IsMadeOf (Err world.Memory) a = ⊥
+
+-- the answer, unless memory was wanting
+abbrev pub IsRecovery : Answer → Result Answer LineError → Type 0
+IsRecovery a (Ok x) = x ≡ a
+IsRecovery a (Err (world.Line fault)) = ⊥
+IsRecovery a (Err world.Memory) = ⊤
 
 -- the answer for a source that was not read; for want of memory there is none
 abbrev pub IsUnread : SourceError → Answer → Type 0

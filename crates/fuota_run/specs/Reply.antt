@@ -8,26 +8,26 @@ use Rattle.campaign_world.specs.declared.faults.LineError.TheVariants as error
 use Rattle.campaign_world.specs.declared.faults.LineFault.{LineFault}
 use Rattle.fuota_run.specs.Outside.{Held, HoldsName, HasRisen, AppendsFront}
 use Rattle.campaign_world.specs.World.{WorldState}
-use Rattle.campaign_world.specs.Report.{report_of}
-use Rattle.fuota_run.specs.Words.{Asked, campaign, payloads, asked}
+use Rattle.fuota_run.specs.Words.{Asked, plays, payloads, asked}
 use Rattle.payload_replay.specs.PayloadLines.{Telling}
-use Rattle.fuota_run.specs.Answer.{Answer, answer, read_fault, usage, tells, script_answer, campaign_answer, IsFileAnswer, IsAnswerTo, IsAnswer}
+use Rattle.fuota_run.specs.declared.words.ScriptForm.{ScriptForm}
+use Rattle.fuota_run.specs.Answer.{Answer, answer, read_fault, usage, told_of, tells, script_answer, campaign_answer, IsFileAnswer, IsAnswerTo, IsAnswer}
 
 -- where it is told what is held, something is held under the names of the files that are asked for
 abbrev pub HoldsAsked : Option Held → Option Asked → Type 0
 HoldsAsked held None = ⊤
-HoldsAsked held (Some (campaign image script)) = HoldsName held image × HoldsName held script
+HoldsAsked held (Some (plays what image script)) = HoldsName held image × HoldsName held script
 HoldsAsked held (Some (payloads what file)) = HoldsName held file
 
 abbrev pub HoldsForm : Option Held → List (List ℕ) → Type 0
 HoldsForm None words = ⊤
 HoldsForm (Some held) words = HoldsAsked (Some held) (asked words)
 
--- the report, or the first refused line, of this image and script
-abbrev pub IsPlayed : Result WorldState LineFault → Result (List ℕ) LineError → Type 0
-IsPlayed outcome (Ok text) = (world : WorldState) × (outcome ≡ Ok world) × (text ≡ report_of world)
-IsPlayed outcome (Err (error.Line fault)) = outcome ≡ Err fault
-IsPlayed outcome (Err error.Memory) = ⊤
+-- what is told of a campaign, or its first refused line
+abbrev pub IsPlayed : ScriptForm → Result WorldState LineFault → Result Answer LineError → Type 0
+IsPlayed what outcome (Ok a) = (world : WorldState) × (outcome ≡ Ok world) × (a ≡ told_of what world)
+IsPlayed what outcome (Err (error.Line fault)) = outcome ≡ Err fault
+IsPlayed what outcome (Err error.Memory) = ⊤
 
 -- a status that has a text: all but these two
 abbrev pub IsReplied : Status → Type 0
@@ -40,6 +40,7 @@ abbrev pub ends_source : Status → Bool
 ends_source status.Done = true
 ends_source status.ImageRefused = true
 ends_source status.ScriptRefused = true
+ends_source status.NotComplete = true
 ends_source s = false
 
 -- where it is told what is held, the answer is one for the file under the name; where not, it is one for some bytes
@@ -48,11 +49,11 @@ GivesBy None name IsFor a = (bytes_of : List ℕ → List ℕ) × (source : List
 GivesBy (Some held) name IsFor a = IsFor held (held name) a
 
 -- the answer behind an image file
-abbrev pub GivesScript : Option Held → List ℕ → List ℕ → Answer → Type 0
-GivesScript held image script a = GivesBy held script (λ h source x. x ≡ script_answer image source) a
+abbrev pub GivesScript : Option Held → ScriptForm → List ℕ → List ℕ → Answer → Type 0
+GivesScript held what image script a = GivesBy held script (λ h source x. x ≡ script_answer what image source) a
 
-abbrev pub GivesCampaign : Option Held → List ℕ → List ℕ → Answer → Type 0
-GivesCampaign held image script a = GivesBy held image (λ h source x. x ≡ campaign_answer source (h script)) a
+abbrev pub GivesCampaign : Option Held → ScriptForm → List ℕ → List ℕ → Answer → Type 0
+GivesCampaign held what image script a = GivesBy held image (λ h source x. x ≡ campaign_answer what source (h script)) a
 
 abbrev pub GivesFile : Option Held → Telling → List ℕ → Answer → Type 0
 GivesFile held Tells file a = GivesBy held file (λ h source x. IsFileAnswer Tells source x) a
@@ -60,7 +61,8 @@ GivesFile held Tells file a = GivesBy held file (λ h source x. IsFileAnswer Tel
 -- the answer to what is asked for, whatever bytes the files have
 abbrev pub IsAnswerToSome : Option Asked → Answer → Type 0
 IsAnswerToSome None a = a ≡ usage
-IsAnswerToSome (Some (campaign image_name script_name)) a = (image : List ℕ) × (script : List ℕ) × (a ≡ campaign_answer (Some image) (Some script))
+IsAnswerToSome (Some (plays what image_name script_name)) a =
+    (image : List ℕ) × (script : List ℕ) × (a ≡ campaign_answer what (Some image) (Some script))
 IsAnswerToSome (Some (payloads what name)) a = (file : List ℕ) × IsFileAnswer (tells what) (Some file) a
 
 abbrev pub Gives : Option Held → Option Asked → Answer → Type 0
@@ -119,6 +121,7 @@ Ends held words e status.Done = AppendsAnswer held words status.Done e.old e.new
 Ends held words e status.Usage = AppendsAnswer held words status.Usage e.old e.new
 Ends held words e status.ImageRefused = AppendsAnswer held words status.ImageRefused e.old e.new
 Ends held words e status.ScriptRefused = AppendsAnswer held words status.ScriptRefused e.old e.new
+Ends held words e status.NotComplete = AppendsAnswer held words status.NotComplete e.old e.new
 Ends held words e (status.TooLong taken) = AppendsAnswer held words (status.TooLong taken) e.old e.new
 
 -- what is answered to words that are no form, unless writing failed or memory was wanting
@@ -129,6 +132,7 @@ IsNoForm status.Memory = ⊤
 IsNoForm status.Done = ⊥
 IsNoForm status.ImageRefused = ⊥
 IsNoForm status.ScriptRefused = ⊥
+IsNoForm status.NotComplete = ⊥
 IsNoForm status.ReadFault = ⊥
 IsNoForm (status.TooLong taken) = ⊥
 
@@ -140,5 +144,6 @@ IsFinished status.Done finished = finished ≡ true
 IsFinished status.Usage finished = finished ≡ true
 IsFinished status.ImageRefused finished = finished ≡ true
 IsFinished status.ScriptRefused finished = finished ≡ true
+IsFinished status.NotComplete finished = finished ≡ true
 IsFinished status.ReadFault finished = finished ≡ true
 IsFinished (status.TooLong taken) finished = finished ≡ true

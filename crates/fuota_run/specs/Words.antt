@@ -10,6 +10,9 @@ use Rattle.fuota_run.specs.declared.words.Asked.{Asked as Read}
 use Rattle.fuota_run.specs.declared.words.Asked.TheVariants as read
 use Rattle.fuota_run.specs.declared.words.FileForm.{FileForm}
 use Rattle.fuota_run.specs.declared.words.FileForm.TheVariants.{Replay, Decode}
+use Rattle.fuota_run.specs.declared.words.ScriptForm.{ScriptForm}
+use Rattle.fuota_run.specs.declared.words.ScriptForm.TheVariants.{Campaign, Recover}
+use Rattle.script_lines.specs.Limits.{max_devices}
 use Rattle.script_lines.specs.Numbers.{decimal_of, ◌>>=◌}
 
 -- ---- the command
@@ -51,9 +54,9 @@ parsed words = where_none (fault_of fuota words) (subcommand_of fuota words)
 
 -- ---- what is asked for
 
--- the report of the campaign of an image and a script, or what is told of a file of payloads
+-- what is told of the campaign of an image and a script, or of a file of payloads
 pub data Asked : Type 0 where
-  campaign : (image script : List ℕ) → Asked
+  plays : (what : ScriptForm) (image script : List ℕ) → Asked
   payloads : (what : FileForm) (file : List ℕ) → Asked
 
 -- a decimal from 200 to 203
@@ -63,6 +66,13 @@ port_by port = if nat_le 200 port && nat_le port 203 then Some port else None
 abbrev pub port_of_word : Text → Option ℕ
 port_of_word word = decimal_of word >>= port_by
 
+-- a decimal from 1 to 64
+abbrev pub device_by : ℕ → Option ℕ
+device_by device = if nat_le 1 device && nat_le device max_devices then Some device else None
+
+abbrev pub device_of_word : Text → Option ℕ
+device_of_word word = decimal_of word >>= device_by
+
 abbrev pub direction_of_word : Text → Option Direction
 direction_of_word word = if bytes_eq word (codes "down") then Some Down else if bytes_eq word (codes "up") then Some Up else None
 
@@ -70,7 +80,15 @@ abbrev pub campaign_asked : List Row → Option Asked
 campaign_asked rows = do
   image ← first_of (codes "IMAGE") rows
   script ← first_of (codes "SCRIPT") rows
-  Some (campaign image script)
+  Some (plays Campaign image script)
+
+abbrev pub recover_asked : List Row → Option Asked
+recover_asked rows = do
+  image ← first_of (codes "IMAGE") rows
+  script ← first_of (codes "SCRIPT") rows
+  device_word ← first_of (codes "DEVICE") rows
+  device ← device_of_word device_word
+  Some (plays (Recover device) image script)
 
 abbrev pub replay_asked : List Row → Option Asked
 replay_asked rows = do
@@ -86,10 +104,11 @@ decode_asked rows = do
   file ← first_of (codes "FILE") rows
   Some (payloads (Decode port direction) file)
 
--- the forms that are there so far: `campaign`, `replay` and `decode`
+-- the forms that are there so far: all but `generate`
 unfoldable pub asked_by : Text → List Row → Option Asked
 asked_by keyword rows =
     if bytes_eq keyword (codes "campaign") then campaign_asked rows
+    else if bytes_eq keyword (codes "recover") then recover_asked rows
     else if bytes_eq keyword (codes "replay") then replay_asked rows
     else if bytes_eq keyword (codes "decode") then decode_asked rows
     else None
@@ -103,7 +122,7 @@ asked words = option_and_then (λ found. asked_by found.0 found.1) (parsed words
 -- the same with the words as they were handed in
 abbrev pub seen_asked : Option Read → Option Asked
 seen_asked None = None
-seen_asked (Some (read.Campaign image script)) = Some (campaign image.now script.now)
+seen_asked (Some (read.Script what image script)) = Some (plays what image.now script.now)
 seen_asked (Some (read.Payloads what file)) = Some (payloads what file.now)
 
 -- a command as it is built so far

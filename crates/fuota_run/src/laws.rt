@@ -1,12 +1,18 @@
 //! Laws about the definitions, each the contract of a function that does nothing.
 
 ghost use Rattle.fuota_run.specs.Answer.{HasOneReply};
-ghost use Rattle.fuota_run.specs.Headline.{IsReplayAnswered, IsReportAnswered};
+ghost use Rattle.fuota_run.specs.Headline.{IsRecoveryAnswered, IsReplayAnswered, IsReportAnswered};
 
 /// Whatever image and accepted script are handed in, the answer is the report of that campaign, of which the headline of
 /// `campaign_world` speaks.
 pub fn report_is_answered()
     ensures { IsReportAnswered }
+{}
+
+/// Whatever image and accepted script are handed in, `recover` answers the image where the device has its file, and else how
+/// it stands.
+pub fn recovery_is_answered()
+    ensures { IsRecoveryAnswered }
 {}
 
 /// Whatever payloads are handed in that are replayed to their end, the answer is the text of which the law

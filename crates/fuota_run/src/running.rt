@@ -1,15 +1,18 @@
 // The whole program: words and files in, one text and a status out.
-ghost use Rattle.std.specs.Prelude.{◌≡◌, ◌≢◌, ◌↔◌, ◌≤◌, ◌++◌, true, false, map, codes, string_bytes, IfOk, IfSome};
+ghost use Rattle.std.specs.Prelude.{◌≡◌, ◌≢◌, ◌↔◌, ◌≤◌, ◌++◌, true, false, None, Ok, map, codes, string_bytes, IfOk, IfSome};
 ghost use Rattle.std.specs.Fmt.{decimal};
 ghost use Rattle.std.specs.Io.KnownBytes.{Appends};
 ghost use Rattle.fuota_run.specs.Outside.{HoldsName, HasRisen};
 ghost use Rattle.image_slots.specs.Image.{is_image};
 ghost use Rattle.fuota_run.specs.Words.{asked, seen_asked};
 ghost use Rattle.payload_replay.specs.PayloadLines.{IsTold};
-ghost use Rattle.fuota_run.specs.Answer.{answer, why_word, refused, tells};
-ghost use Rattle.campaign_world.specs.Script.{campaign_of};
+ghost use Rattle.fuota_run.specs.Answer.{answer, why_word, no_file_word, refused, recovered, tells};
+ghost use Rattle.campaign_world.specs.Recovery.{recovery};
+ghost use Rattle.campaign_world.specs.World.{WorldState};
+ghost use Rattle.campaign_world.specs.HeldWorld.{WorldStands};
+ghost use Rattle.campaign_world.specs.Script.{end_result, campaign_of};
 ghost use Rattle.fuota_run.specs.Reply.{HoldsForm, HoldsAsked, IsPlayed, GivesScript, GivesCampaign, GivesFile, Gives, Says, IsReadUp, Ends, AppendsAnswer, IsNoForm, IsFinished};
-ghost use Rattle.fuota_run.specs.Replies.{answer_in, IsUnread, IsSaid};
+ghost use Rattle.fuota_run.specs.Replies.{answer_in, seen_reply, IsUnread, IsMadeOf, IsRecovery, IsSaid};
 ghost use Rattle.campaign_world.specs.Texts.{seen_text};
 
 use crate::files::Files;
@@ -17,8 +20,8 @@ use crate::output::write_text;
 use crate::sink::Sink;
 use crate::source::{SourceError, read_source};
 use crate::status::Status;
-use crate::words::{Asked, FileForm, read_words};
-use campaign_world::{LineError, LineFault, LineWhy, World};
+use crate::words::{Asked, FileForm, ScriptForm, read_words};
+use campaign_world::{LineError, LineFault, LineWhy, NoFile, World};
 use image_slots::is_image;
 use payload_replay::{decode, replay};
 use script_lines::first_line;
@@ -42,7 +45,7 @@ struct Reply {
 }
 
 /// Runs the program: `words` begin with its name, and the forms so far are `campaign IMAGE SCRIPT`,
-/// `replay FILE` and `decode PORT DIR FILE`.
+/// `recover IMAGE SCRIPT DEVICE`, `replay FILE` and `decode PORT DIR FILE`.
 /// The whole text stands in memory before its first byte is written.
 pub fn run<F: Files, O: Sink>(alloc: Global, words: &[String], files: &mut F, out: &mut O) -> Status
     requires { HoldsForm (F.held files.old) (map string_bytes words.now) }
@@ -103,7 +106,11 @@ fn reply_for<F: Files>(
 {
     match what {
         None => say(alloc, Status::Usage, USAGE),
-        Some(Asked::Campaign { image, script }) => campaign(alloc, files, image, script),
+        Some(Asked::Script {
+            what,
+            image,
+            script,
+        }) => campaign(alloc, files, what, image, script),
         Some(Asked::Payloads { what, file }) => payloads(alloc, files, what, file),
     }
 }
@@ -118,16 +125,17 @@ fn say(alloc: Global, status: Status, text: &str) -> Result<Reply, AllocError>
     })
 }
 
-/// The reply to `campaign IMAGE SCRIPT`.
+/// The reply to a form over a campaign.
 fn campaign<F: Files>(
     alloc: Global,
     files: &mut F,
+    what: ScriptForm,
     image_name: &str,
     script_name: &str,
 ) -> Result<Reply, AllocError>
     requires image { HoldsName (F.held files.old) image_name.now }
     requires script { HoldsName (F.held files.old) script_name.now }
-    ensures reply { IfOk result (λ r. Says (GivesCampaign (F.held files.old) image_name.now script_name.now (answer_in r)) (F.faults files.old) (F.faults files.new) (F.left files.new) (answer_in r)) }
+    ensures reply { IfOk result (λ r. Says (GivesCampaign (F.held files.old) what image_name.now script_name.now (answer_in r)) (F.faults files.old) (F.faults files.new) (F.left files.new) (answer_in r)) }
     ensures usage { IfOk result (λ r. r.status ≢ Status.Usage) }
     ensures kept { F.faults files.old ≤ F.faults files.new }
 {
@@ -138,19 +146,20 @@ fn campaign<F: Files>(
     if !is_image(&image) {
         return say(alloc, Status::ImageRefused, "image refused\n");
     }
-    script(alloc, files, &image, script_name)
+    script(alloc, files, what, &image, script_name)
 }
 
 /// The reply once the image is an image file.
 fn script<F: Files>(
     alloc: Global,
     files: &mut F,
+    what: ScriptForm,
     image: &[u8],
     name: &str,
 ) -> Result<Reply, AllocError>
     requires image { is_image image.now ≡ true }
     requires script { HoldsName (F.held files.old) name.now }
-    ensures reply { IfOk result (λ r. Says (GivesScript (F.held files.old) image.now name.now (answer_in r)) (F.faults files.old) (F.faults files.new) (F.left files.new) (answer_in r)) }
+    ensures reply { IfOk result (λ r. Says (GivesScript (F.held files.old) what image.now name.now (answer_in r)) (F.faults files.old) (F.faults files.new) (F.left files.new) (answer_in r)) }
     ensures usage { IfOk result (λ r. r.status ≢ Status.Usage) }
     ensures kept { F.faults files.old ≤ F.faults files.new }
 {
@@ -158,7 +167,7 @@ fn script<F: Files>(
         Ok(script) => script,
         Err(error) => return unread(alloc, error),
     };
-    reply_with(alloc, play(alloc, image, &script))
+    reply_of(alloc, play(alloc, what, image, &script))
 }
 
 /// The reply to a form with one file of payloads.
@@ -218,6 +227,17 @@ fn reply_with(alloc: Global, said: Result<Vec<u8>, LineError>) -> Result<Reply, 
     }
 }
 
+/// The reply that a campaign made, or for its first refused line.
+fn reply_of(alloc: Global, made: Result<Reply, LineError>) -> Result<Reply, AllocError>
+    ensures { IfOk result (λ r. IsMadeOf (seen_reply made) (answer_in r)) }
+{
+    match made {
+        Ok(reply) => Ok(reply),
+        Err(LineError::Memory) => Err(AllocError),
+        Err(LineError::Line(fault)) => refused(alloc, fault),
+    }
+}
+
 /// The reply for a refused line.
 fn refused(alloc: Global, fault: LineFault) -> Result<Reply, AllocError>
     ensures { IfOk result (λ r. answer_in r ≡ refused fault) }
@@ -248,10 +268,15 @@ fn why_word(why: LineWhy) -> &'static str
     }
 }
 
-/// The report of the campaign that image and script define.
-fn play(alloc: Global, image: &[u8], script: &[u8]) -> Result<Vec<u8>, LineError>
+/// What is told of the campaign that image and script define.
+fn play(
+    alloc: Global,
+    what: ScriptForm,
+    image: &[u8],
+    script: &[u8],
+) -> Result<Reply, LineError>
     requires { is_image image.now ≡ true }
-    ensures { IsPlayed (campaign_of image.now script.now) (seen_text result) }
+    ensures { IsPlayed what (campaign_of image.now script.now) (seen_reply result) }
 {
     let Ok(mut world) = World::new(alloc, image) else {
         return Err(LineError::Memory);
@@ -264,7 +289,66 @@ fn play(alloc: Global, image: &[u8], script: &[u8]) -> Result<Vec<u8>, LineError
             Err(error) => return Err(error),
         }
     }
-    world.report(alloc)
+    tell_of(alloc, what, &world)
+}
+
+/// What is told of a campaign whose script has ended.
+fn tell_of(alloc: Global, what: ScriptForm, world: &World) -> Result<Reply, LineError>
+    requires { world.now.kept ≡ None }
+    ensures { (w : WorldState) → WorldStands world.now w → IsPlayed what (end_result (Ok w)) (seen_reply result) }
+{
+    match what {
+        ScriptForm::Campaign => match world.report(alloc) {
+            Ok(text) => Ok(Reply {
+                status: Status::Done,
+                text,
+            }),
+            Err(error) => Err(error),
+        },
+        ScriptForm::Recover { device } => match world.ended() {
+            Ok(()) => recovery(alloc, device, world),
+            Err(error) => Err(error),
+        },
+    }
+}
+
+/// The file that a device recovered, or how it stands.
+fn recovery(alloc: Global, device: u8, world: &World) -> Result<Reply, LineError>
+    ensures { (w : WorldState) → WorldStands world.now w → IsRecovery (recovered device (recovery w device)) (seen_reply result) }
+{
+    match world.recovered(device) {
+        Ok(file) => match file.to_vec(alloc) {
+            Ok(text) => Ok(Reply {
+                status: Status::Done,
+                text,
+            }),
+            Err(_) => Err(LineError::Memory),
+        },
+        Err(why) => match not_complete_text(alloc, device, no_file_word(why)) {
+            Ok(text) => Ok(Reply {
+                status: Status::NotComplete,
+                text: text.into_bytes(),
+            }),
+            Err(_) => Err(LineError::Memory),
+        },
+    }
+}
+
+fn not_complete_text(alloc: Global, device: u8, why: &str) -> Result<String, AllocError>
+    ensures { IfOk result (λ text. string_bytes text ≡ codes "device " ++ decimal device ++ (codes " " ++ why.now ++ codes "\n")) }
+{
+    format!(in alloc; "device {device} {why}\n")
+}
+
+fn no_file_word(why: NoFile) -> &'static str
+    ensures { result.now ≡ no_file_word why }
+{
+    match why {
+        NoFile::None => "none",
+        NoFile::Receiving => "receiving",
+        NoFile::NoRows => "norows",
+        NoFile::Conflict => "conflict",
+    }
 }
 
 #[cfg(test)]

@@ -20,6 +20,8 @@ pub enum Status {
     Memory,
     /// A source has more bytes than its limit; so many were taken, one more than the limit.
     TooLong(u32),
+    /// The device has no whole file.
+    NotComplete,
 }
 
 impl Status {
@@ -38,6 +40,7 @@ impl Status {
             Status::WriteFault => 6,
             Status::Memory => 7,
             Status::TooLong(_) => 8,
+            Status::NotComplete => 9,
         }
     }
 }

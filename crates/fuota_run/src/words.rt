@@ -1,7 +1,7 @@
 // The words of the command line: what they ask for, as clap takes them.
 ghost use Rattle.std.specs.Prelude.{◌≡◌, ◌≤◌, List, [], ◌∷◌, ℕ, Option, option_map, option_and_then, map, string_bytes, IfOk, IfSome, codes};
 ghost use Rattle.clap.specs.Words.{App, Row, app_of, first_of, first_value, found_of, new_app, rows_of, subcommand_rows_of, with_rule, with_subcommand};
-ghost use Rattle.fuota_run.specs.Words.{IsCommand, positional, form, with_words, fuota, seen_asked, campaign_asked, replay_asked, decode_asked, asked_by, asked, port_of_word, direction_of_word};
+ghost use Rattle.fuota_run.specs.Words.{IsCommand, positional, form, with_words, fuota, seen_asked, campaign_asked, recover_asked, replay_asked, decode_asked, asked_by, asked, port_of_word, device_of_word, direction_of_word};
 
 use clap::error::ErrorKind;
 use clap::{Arg, ArgMatches, Command};
@@ -12,10 +12,23 @@ use wire_base::Direction;
 /// What the words ask for.
 #[derive(Clone, Copy, Debug)]
 pub enum Asked<'a> {
-    /// `campaign IMAGE SCRIPT`: the report of a campaign.
-    Campaign { image: &'a str, script: &'a str },
+    /// A form over a campaign: what is told of it.
+    Script {
+        what: ScriptForm,
+        image: &'a str,
+        script: &'a str,
+    },
     /// A form with one file of payloads: what is told of it.
     Payloads { what: FileForm, file: &'a str },
+}
+
+/// What is told of a campaign.
+#[derive(Clone, Copy, Debug)]
+pub enum ScriptForm {
+    /// `campaign IMAGE SCRIPT`: its report.
+    Campaign,
+    /// `recover IMAGE SCRIPT DEVICE`: the file that a device recovered; the device is 1 to 64.
+    Recover { device: u8 },
 }
 
 /// What is told of a file of payloads.
@@ -120,6 +133,8 @@ fn asked_by<'a>(keyword: &str, found: &ArgMatches<'a>) -> Option<Asked<'a>>
 {
     if keyword == "campaign" {
         campaign_asked(found)
+    } else if keyword == "recover" {
+        recover_asked(found)
     } else if keyword == "replay" {
         replay_asked(found)
     } else if keyword == "decode" {
@@ -140,7 +155,24 @@ fn campaign_asked<'a>(found: &ArgMatches<'a>) -> Option<Asked<'a>>
 {
     let image = word_of(found, "IMAGE")?;
     let script = word_of(found, "SCRIPT")?;
-    Some(Asked::Campaign { image, script })
+    Some(Asked::Script {
+        what: ScriptForm::Campaign,
+        image,
+        script,
+    })
+}
+
+fn recover_asked<'a>(found: &ArgMatches<'a>) -> Option<Asked<'a>>
+    ensures { seen_asked result ≡ recover_asked (rows_of (found_of found.now)) }
+{
+    let image = word_of(found, "IMAGE")?;
+    let script = word_of(found, "SCRIPT")?;
+    let device = device_of_word(word_of(found, "DEVICE")?)?;
+    Some(Asked::Script {
+        what: ScriptForm::Recover { device },
+        image,
+        script,
+    })
 }
 
 fn replay_asked<'a>(found: &ArgMatches<'a>) -> Option<Asked<'a>>
@@ -172,6 +204,18 @@ fn port_of_word(word: &str) -> Option<u8>
     let port = decimal(word.as_bytes())?;
     if 200 <= port && port <= 203 {
         Some(port as u8)
+    } else {
+        None
+    }
+}
+
+/// The device that a word spells, 1 to 64.
+fn device_of_word(word: &str) -> Option<u8>
+    ensures { result ≡ device_of_word word.now }
+{
+    let device = decimal(word.as_bytes())?;
+    if 1 <= device && device <= 64 {
+        Some(device as u8)
     } else {
         None
     }

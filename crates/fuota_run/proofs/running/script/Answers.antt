@@ -2,26 +2,25 @@ use Rattle.std.proofs.Common.{◌≡◌, List, ℕ, subst}
 use Rattle.campaign_world.specs.Script.{campaign_of}
 use Rattle.fuota_run.specs.Answer.{script_answer}
 use Rattle.fuota_run.specs.Reply.{IsPlayed}
-use Rattle.fuota_run.specs.Replies.{answer_in}
-use Rattle.campaign_world.specs.Texts.{seen_text}
+use Rattle.fuota_run.specs.Replies.{answer_in, seen_reply}
 use Rattle.fuota_run.proofs.ReplyLemmas.{says_unread, says_source, says_played, script_long, script_given, if_ok_map}
 use Rattle.fuota_run.proofs.running.script.Goals as goal
 
 pub returns-in-Err-clause-reply : goal.returns-in-Err-clause-reply
-returns-in-Err-clause-reply g c = if_ok_map c.unread.result (λ r is. (says_unread (g.F.Files.held c.args.files.now) c.args.name.now (λ h source a. a ≡ script_answer c.args.image.now source) 1048576 _ _ _ c.in-Err.error (answer_in r)
-    (λ h bytes long. script_long c.args.image.now bytes long) c.requires.script (λ taken e. c.in-Err.ensures.long taken cc) (λ taken e. c.in-Err.ensures.taken taken cc) (λ e. c.in-Err.ensures.failed cc) is).0) c.unread.ensures
+returns-in-Err-clause-reply g c = if_ok_map c.unread.result (λ r is. (says_unread (g.F.Files.held c.args.files.now) c.args.name.now (λ h source a. a ≡ script_answer c.args.what c.args.image.now source) 1048576 _ _ _ c.in-Err.error (answer_in r)
+    (λ h bytes long. script_long c.args.what c.args.image.now bytes long) c.requires.script (λ taken e. c.in-Err.ensures.long taken cc) (λ taken e. c.in-Err.ensures.taken taken cc) (λ e. c.in-Err.ensures.failed cc) is).0) c.unread.ensures
 
 pub returns-in-Err-clause-usage : goal.returns-in-Err-clause-usage
-returns-in-Err-clause-usage g c = if_ok_map c.unread.result (λ r is. (says_unread (g.F.Files.held c.args.files.now) c.args.name.now (λ h source a. a ≡ script_answer c.args.image.now source) 1048576 (g.F.Files.faults c.args.files.now) (g.F.Files.faults c.read_source.new.files) (g.F.Files.left c.read_source.new.files) c.in-Err.error (answer_in r)
-    (λ h bytes long. script_long c.args.image.now bytes long) c.requires.script (λ taken e. c.in-Err.ensures.long taken cc) (λ taken e. c.in-Err.ensures.taken taken cc) (λ e. c.in-Err.ensures.failed cc) is).1) c.unread.ensures
+returns-in-Err-clause-usage g c = if_ok_map c.unread.result (λ r is. (says_unread (g.F.Files.held c.args.files.now) c.args.name.now (λ h source a. a ≡ script_answer c.args.what c.args.image.now source) 1048576 (g.F.Files.faults c.args.files.now) (g.F.Files.faults c.read_source.new.files) (g.F.Files.left c.read_source.new.files) c.in-Err.error (answer_in r)
+    (λ h bytes long. script_long c.args.what c.args.image.now bytes long) c.requires.script (λ taken e. c.in-Err.ensures.long taken cc) (λ taken e. c.in-Err.ensures.taken taken cc) (λ e. c.in-Err.ensures.failed cc) is).1) c.unread.ensures
 
 pub returns-clause-reply : goal.returns-clause-reply
-returns-clause-reply g c = if_ok_map c.reply_with.result (λ r said.
+returns-clause-reply g c = if_ok_map c.reply_of.result (λ r said.
     let script = c.in-Ok.script.items in
-    let made = says_played c.args.image.now script _ (answer_in r) (subst (λ (s : List ℕ). IsPlayed (campaign_of c.args.image.now s) (seen_text c.play.result)) c.deref.ensures.value c.play.ensures) said in
-    says_source (g.F.Files.held c.args.files.now) c.args.name.now (λ h source a. a ≡ script_answer c.args.image.now source) 1048576 _ _ _ script (answer_in r)
-    c.in-Ok.ensures.source (λ h. script_given c.args.image.now script (answer_in r) c.in-Ok.ensures.within made.0) made.1.replied made.1.sound c.in-Ok.ensures.end) c.reply_with.ensures
+    let made = says_played c.args.what c.args.image.now script _ (answer_in r) (subst (λ (s : List ℕ). IsPlayed c.args.what (campaign_of c.args.image.now s) (seen_reply c.play.result)) c.deref.ensures.value c.play.ensures) said in
+    says_source (g.F.Files.held c.args.files.now) c.args.name.now (λ h source a. a ≡ script_answer c.args.what c.args.image.now source) 1048576 _ _ _ script (answer_in r)
+    c.in-Ok.ensures.source (λ h. script_given c.args.what c.args.image.now script (answer_in r) c.in-Ok.ensures.within made.0) made.1.replied made.1.sound c.in-Ok.ensures.end) c.reply_of.ensures
 
 pub returns-clause-usage : goal.returns-clause-usage
-returns-clause-usage g c = if_ok_map c.reply_with.result (λ r said.
-    (says_played c.args.image.now c.deref.result.now _ (answer_in r) c.play.ensures said).1.used) c.reply_with.ensures
+returns-clause-usage g c = if_ok_map c.reply_of.result (λ r said.
+    (says_played c.args.what c.args.image.now c.deref.result.now _ (answer_in r) c.play.ensures said).1.used) c.reply_of.ensures

@@ -1,4 +1,4 @@
-use Rattle.std.proofs.Common.{◌≡◌, ◌∙◌, List, None, Ok, Err, IfOk, IfErr, Option, sym, ap, subst}
+use Rattle.std.proofs.Common.{◌≡◌, ◌∙◌, List, Ok, Err, IfOk, IfErr, Option, sym, ap, subst}
 use Rattle.device_core.specs.Device.{DeviceState}
 use Rattle.device_core.specs.HeldDevice.{HeldDevice}
 use Rattle.campaign_server.specs.Server.{numbered}
