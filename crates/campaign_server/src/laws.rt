@@ -1,12 +1,35 @@
 //! What holds of the definitions alone.
 
-ghost use Rattle.std.specs.Prelude.{◌≡◌, List, ℕ};
+ghost use Rattle.std.specs.Prelude.{◌≡◌, List, ℕ, Err};
 ghost use Rattle.aes_block.specs.Cipher.{IsBlock};
 ghost use Rattle.mc_keys.specs.Keys.{mc_key};
+ghost use Rattle.wire_base.specs.declared.refusal.Refusal.{Refusal};
+ghost use Rattle.package_grammar.specs.declared.command.Command.{Command};
+ghost use Rattle.campaign_server.specs.declared.stage.Stage.{Stage};
+ghost use Rattle.campaign_server.specs.Plan.{Plan};
+ghost use Rattle.campaign_server.specs.Server.{ServerState};
+ghost use Rattle.campaign_server.specs.Answers.{stage_after};
+ghost use Rattle.campaign_server.specs.Uplinks.{uplink_step};
 ghost use Rattle.campaign_server.specs.Wrapping.{wrapped_key};
 
 /// The wrapped key that the server sends is the one block that is unwrapped to the group's key: what `wrap_key` answers.
 pub fn wrapped_key_is_the_one()
     ensures { (kek key block : List ℕ) → IsBlock block → mc_key kek block ≡ key
         → ((x : List ℕ) → IsBlock x → mc_key kek x ≡ key → x ≡ block) → wrapped_key kek key ≡ block }
+{}
+
+/// An answer that comes again does nothing more.
+#[tactic(auto, unfolding(crate::specs::Answers::stage_after))]
+pub fn an_answer_moves_once()
+    ensures { (plan : Plan) (image : List ℕ) (stage : Stage) (command : Command)
+        → let moved = stage_after plan image stage command in
+        stage_after plan image moved command ≡ moved }
+{}
+
+/// An uplink that is refused changes nothing.
+#[tactic(auto, unfolding(crate::specs::Uplinks::uplink_step, crate::specs::Uplinks::read_uplink))]
+pub fn a_refused_uplink_changes_nothing()
+    ensures { (server : ServerState) (dev port t : ℕ) (payload : List ℕ) (refusal : Refusal)
+        → let made = uplink_step server dev port payload t in
+        made.answer ≡ Err refusal → made.server ≡ server }
 {}

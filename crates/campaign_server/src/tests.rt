@@ -1,9 +1,15 @@
+ghost use Rattle.std.specs.Prelude.{◌≡◌, length, IfOk};
+
 use crate::{
-    Field, Kind, Plan, PlanDevice, PlanGroup, PlanWindow, Request, Server, ServerError, Stage,
+    Field, Kind, Plan, PlanDevice, PlanGroup, PlanWindow, Request, Server, ServerError, Spent,
+    Stage,
 };
 use image_slots::is_image;
+use package_grammar::{Downlink, To};
 use std::alloc::{AllocError, Global};
+use std::process::Abort;
 use std::test::*;
+use wire_base::Refusal;
 
 /// An image file for hardware 1 with firmware 2, its body and digest those of the text abc.
 const IMAGE: [u8; 52] = [
@@ -35,7 +41,9 @@ fn plan(
     group: Option<PlanGroup>,
     window: Option<PlanWindow>,
     count: usize,
-) -> Result<Plan, AllocError> {
+) -> Result<Plan, AllocError>
+    ensures { IfOk result (λ p. length p.devices ≡ count) }
+{
     let mut devices = Vec::new(alloc);
     devices.resize(count, PlanDevice { key: [0; 16] })?;
     Ok(Plan {
@@ -87,5 +95,414 @@ fn the_first_wrong_field_is_named(rt: HostRuntime) -> Result<(), Fail> {
             Err(error) => assert!(rt; wanted.map(ServerError::BadPlan) == Some(error)),
         }
     }
+    Ok(())
+}
+
+/// What is asked, by port and bytes, the uplink that answers it, and the stage behind that.
+type Asked = (u8, &'static [u8], u8, &'static [u8], Stage);
+
+/// The fragments of the image in pieces of 13 bytes: four uncoded ones, then the sums of pieces
+/// 1 and 3 twice, of 2 and 4, and of 2 and 3.
+static FRAGMENTS: [[u8; 16]; 8] = [
+    [
+        0x08, 0x01, 0x00, 0x46, 0x55, 0x49, 0x4d, 0x01, 0x01, 0x00, 0x00, 0x00, 0x02, 0x00, 0x00,
+        0x00,
+    ],
+    [
+        0x08, 0x02, 0x00, 0x03, 0x00, 0x00, 0x00, 0xba, 0x78, 0x16, 0xbf, 0x8f, 0x01, 0xcf, 0xea,
+        0x41,
+    ],
+    [
+        0x08, 0x03, 0x00, 0x41, 0x40, 0xde, 0x5d, 0xae, 0x22, 0x23, 0xb0, 0x03, 0x61, 0xa3, 0x96,
+        0x17,
+    ],
+    [
+        0x08, 0x04, 0x00, 0x7a, 0x9c, 0xb4, 0x10, 0xff, 0x61, 0xf2, 0x00, 0x15, 0xad, 0x61, 0x62,
+        0x63,
+    ],
+    [
+        0x08, 0x05, 0x00, 0x07, 0x15, 0x97, 0x10, 0xaf, 0x23, 0x23, 0xb0, 0x03, 0x63, 0xa3, 0x96,
+        0x17,
+    ],
+    [
+        0x08, 0x06, 0x00, 0x07, 0x15, 0x97, 0x10, 0xaf, 0x23, 0x23, 0xb0, 0x03, 0x63, 0xa3, 0x96,
+        0x17,
+    ],
+    [
+        0x08, 0x07, 0x00, 0x79, 0x9c, 0xb4, 0x10, 0x45, 0x19, 0xe4, 0xbf, 0x9a, 0xac, 0xae, 0x88,
+        0x22,
+    ],
+    [
+        0x08, 0x08, 0x00, 0x42, 0x40, 0xde, 0x5d, 0x14, 0x5a, 0x35, 0x0f, 0x8c, 0x60, 0x6c, 0x7c,
+        0x56,
+    ],
+];
+
+/// A campaign without a group.
+static CAMPAIGN: [Asked; 6] = [
+    (
+        203,
+        &[0x01],
+        203,
+        &[0x01, 0x00, 0x00, 0x00, 0x00, 0x01, 0x00, 0x00, 0x00],
+        Stage::At(Request::Fragments),
+    ),
+    (
+        201,
+        &[
+            0x02, 0x00, 0x04, 0x00, 0x0d, 0x00, 0x00, 0x02, 0x00, 0x00, 0x00,
+        ],
+        201,
+        &[0x02, 0x00],
+        Stage::At(Request::Status),
+    ),
+    (
+        201,
+        &[0x01, 0x01],
+        201,
+        &[0x01, 0x04, 0x00, 0x00, 0x00],
+        Stage::At(Request::Image),
+    ),
+    (
+        203,
+        &[0x04],
+        203,
+        &[0x04, 0x03, 0x02, 0x00, 0x00, 0x00],
+        Stage::At(Request::Reboot),
+    ),
+    (
+        203,
+        &[0x03, 0x00, 0x00, 0x00],
+        203,
+        &[0x03, 0x00, 0x00, 0x00],
+        Stage::At(Request::Check),
+    ),
+    (
+        203,
+        &[0x01],
+        203,
+        &[0x01, 0x02, 0x00, 0x00, 0x00, 0x01, 0x00, 0x00, 0x00],
+        Stage::Updated,
+    ),
+];
+
+/// The stages of a campaign with a group of class C, its key wrapped by the AES of Python's `cryptography`.
+static GROUP_CAMPAIGN: [Asked; 4] = [
+    (
+        203,
+        &[0x01],
+        203,
+        &[0x01, 0x00, 0x00, 0x00, 0x00, 0x01, 0x00, 0x00, 0x00],
+        Stage::At(Request::Group),
+    ),
+    (
+        200,
+        &[
+            0x02, 0x00, 0x44, 0x33, 0x22, 0x11, 0x87, 0x3f, 0x12, 0x41, 0xda, 0x7a, 0x95, 0xb1,
+            0xeb, 0x59, 0x58, 0x9c, 0x75, 0x79, 0xf5, 0xd9, 0x00, 0x00, 0x00, 0x00, 0x0a, 0x00,
+            0x00, 0x00,
+        ],
+        200,
+        &[0x02, 0x00],
+        Stage::At(Request::Fragments),
+    ),
+    (
+        201,
+        &[
+            0x02, 0x01, 0x01, 0x00, 0x34, 0x00, 0x00, 0x02, 0x00, 0x00, 0x00,
+        ],
+        201,
+        &[0x02, 0x00],
+        Stage::At(Request::Window),
+    ),
+    (
+        200,
+        &[
+            0x04, 0x00, 0xe8, 0x03, 0x00, 0x00, 0x00, 0xd2, 0xad, 0x84, 0x00,
+        ],
+        200,
+        &[0x04, 0x00, 0x00, 0x00, 0x00],
+        Stage::At(Request::Status),
+    ),
+];
+
+/// After so many answers of `CAMPAIGN` another uplink, by port and bytes, and the stage behind it.
+static OTHERS: [(usize, u8, &[u8], Stage); 13] = [
+    (
+        0,
+        203,
+        &[0x01, 0x00, 0x00, 0x00, 0x00, 0x02, 0x00, 0x00, 0x00],
+        Stage::Refused {
+            request: Request::Version,
+            bits: 1,
+        },
+    ),
+    (
+        0,
+        203,
+        &[0x01, 0x02, 0x00, 0x00, 0x00, 0x01, 0x00, 0x00, 0x00],
+        Stage::At(Request::Fragments),
+    ),
+    (
+        1,
+        201,
+        &[0x02, 0x0f],
+        Stage::Refused {
+            request: Request::Fragments,
+            bits: 15,
+        },
+    ),
+    (1, 201, &[0x02, 0x40], Stage::At(Request::Fragments)),
+    (
+        2,
+        201,
+        &[0x01, 0x04, 0x00, 0x00, 0x01],
+        Stage::Refused {
+            request: Request::Status,
+            bits: 1,
+        },
+    ),
+    (
+        2,
+        201,
+        &[0x01, 0x03, 0x00, 0x01, 0x00],
+        Stage::At(Request::Status),
+    ),
+    (
+        2,
+        201,
+        &[0x01, 0x04, 0x40, 0x00, 0x00],
+        Stage::At(Request::Status),
+    ),
+    (3, 203, &[0x04, 0x00], Stage::At(Request::Image)),
+    (
+        3,
+        203,
+        &[0x04, 0x01],
+        Stage::Refused {
+            request: Request::Image,
+            bits: 1,
+        },
+    ),
+    (
+        3,
+        203,
+        &[0x04, 0x02],
+        Stage::Refused {
+            request: Request::Image,
+            bits: 2,
+        },
+    ),
+    (
+        3,
+        203,
+        &[0x04, 0x03, 0x03, 0x00, 0x00, 0x00],
+        Stage::Refused {
+            request: Request::Image,
+            bits: 3,
+        },
+    ),
+    (
+        4,
+        201,
+        &[0x01, 0x03, 0x00, 0x01, 0x00],
+        Stage::At(Request::Reboot),
+    ),
+    (
+        5,
+        203,
+        &[0x01, 0x01, 0x00, 0x00, 0x00, 0x01, 0x00, 0x00, 0x00],
+        Stage::At(Request::Check),
+    ),
+];
+
+/// An uplink on port 202 and its moment in ms, and the answer: none where that is empty.
+static TIMES: [(u64, &[u8], &[u8]); 8] = [
+    (
+        10_000,
+        &[0x01, 0x0f, 0x00, 0x00, 0x00, 0x10],
+        &[0x01, 0xfb, 0xff, 0xff, 0xff, 0x00],
+    ),
+    (
+        12_000,
+        &[0x01, 0x0f, 0x00, 0x00, 0x00, 0x10],
+        &[0x01, 0xfd, 0xff, 0xff, 0xff, 0x00],
+    ),
+    (
+        15_999,
+        &[0x01, 0x0f, 0x00, 0x00, 0x00, 0x10],
+        &[0x01, 0x00, 0x00, 0x00, 0x00, 0x00],
+    ),
+    (15_999, &[0x01, 0x0f, 0x00, 0x00, 0x00, 0x00], &[]),
+    (
+        16_000,
+        &[0x01, 0x0f, 0x00, 0x00, 0x00, 0x00],
+        &[0x01, 0x01, 0x00, 0x00, 0x00, 0x00],
+    ),
+    (
+        10_000,
+        &[
+            0x01, 0x0a, 0x00, 0x00, 0x00, 0x03, 0x01, 0x0f, 0x00, 0x00, 0x00, 0x04,
+        ],
+        &[0x01, 0xfb, 0xff, 0xff, 0xff, 0x04],
+    ),
+    (
+        10_000,
+        &[
+            0x01, 0x0f, 0x00, 0x00, 0x00, 0x01, 0x01, 0x14, 0x00, 0x00, 0x00, 0x02,
+        ],
+        &[0x01, 0xfb, 0xff, 0xff, 0xff, 0x01],
+    ),
+    (10_000, &[0x00, 0x01, 0x01], &[]),
+];
+
+/// A server of a campaign with one device.
+#[derive(Drop)]
+struct OneDevice {
+    server: Server,
+    ghost one: { length server.plan.devices ≡ 1 },
+}
+
+impl OneDevice {
+    ghost use Rattle.std.specs.Prelude.{◌≡◌, length};
+
+    fn begin(
+        rt: &impl Abort,
+        alloc: Global,
+        frag_size: u8,
+        parity: u16,
+        group: Option<PlanGroup>,
+        window: Option<PlanWindow>,
+    ) -> Result<Self, Fail> {
+        let plan = plan(alloc, frag_size, parity, group, window, 1)?;
+        assert!(rt; is_image(&IMAGE));
+        match Server::new(alloc, plan, &IMAGE) {
+            Ok(server) => Ok(OneDevice { server }),
+            Err(_) => panic!(rt; "no server"),
+        }
+    }
+
+    /// What is asked now; none where there are no bytes.
+    fn asks(&self, rt: &impl Abort, port: u8, bytes: &[u8]) {
+        match self.server.ask(1) {
+            Some(down) => assert!(rt; is_down(&down, To::Unicast, port, bytes)),
+            None => assert!(rt; bytes.is_empty()),
+        }
+    }
+
+    /// The stage behind an uplink.
+    fn after(&mut self, rt: &impl Abort, port: u8, payload: &[u8]) -> Stage {
+        assert!(rt; self.uplink(port, payload, 0).is_ok());
+        self.server.ledger(1)
+    }
+
+    #[tactic(auto, unfolding(crate::specs::Uplinks::uplink_step, crate::specs::Uplinks::read_uplink))]
+    fn uplink(&mut self, port: u8, payload: &[u8], t: u64) -> Result<Option<Downlink>, Refusal> {
+        self.server.uplink(1, port, payload, t)
+    }
+
+    #[tactic(auto, unfolding(crate::specs::Fragments::after_fragment))]
+    fn fragment(&mut self) -> Result<Downlink, Spent> {
+        self.server.next_fragment()
+    }
+
+    #[tactic(auto, unfolding(crate::specs::Fragments::after_status_to_all))]
+    fn status_all(&mut self) -> Option<Downlink> {
+        self.server.status_all()
+    }
+}
+
+/// Whether this goes down.
+fn is_down(down: &Downlink, to: To, port: u8, bytes: &[u8]) -> bool {
+    down.to == to && down.port == port && down.payload.as_slice() == bytes
+}
+
+/// Each is asked, and its answer moves once: the same uplink again does nothing.
+fn asked(rt: &impl Abort, campaign: &mut OneDevice, all: &[Asked]) {
+    for (port, request, from, answer, stage) in all {
+        campaign.asks(rt, *port, request);
+        assert!(rt; campaign.after(rt, *from, answer) == *stage);
+        assert!(rt; campaign.after(rt, *from, answer) == *stage);
+    }
+}
+
+#[test]
+fn a_campaign_is_sent_in_bytes(rt: HostRuntime) -> Result<(), Fail> {
+    let mut campaign = OneDevice::begin(&rt, rt.alloc(), 13, 4, None, None)?;
+    for fragment in &FRAGMENTS {
+        match campaign.fragment() {
+            Ok(down) => assert!(rt; is_down(&down, To::Unicast, 201, fragment)),
+            Err(_) => assert!(rt; false),
+        }
+    }
+    assert!(rt; matches!(campaign.fragment(), Err(Spent::Fragments)));
+    asked(&rt, &mut campaign, &CAMPAIGN);
+    campaign.asks(&rt, 0, &[]);
+    Ok(())
+}
+
+#[test]
+fn a_group_is_asked_and_sent_to_in_bytes(rt: HostRuntime) -> Result<(), Fail> {
+    let few = PlanGroup { max: 2, ..GROUP };
+    let mut campaign = OneDevice::begin(&rt, rt.alloc(), 52, 0, Some(GROUP), Some(WINDOW))?;
+    asked(&rt, &mut campaign, &GROUP_CAMPAIGN);
+    assert!(rt; campaign.after(&rt, 200, &[0x02, 0x04]) == Stage::At(Request::Status));
+    let mut refused = OneDevice::begin(&rt, rt.alloc(), 52, 0, Some(GROUP), Some(WINDOW))?;
+    asked(&rt, &mut refused, &GROUP_CAMPAIGN[..3]);
+    assert!(rt;
+        refused.after(&rt, 200, &[0x04, 0x1c])
+            == Stage::Refused {
+                request: Request::Window,
+                bits: 0x1c
+            }
+    );
+    // the counts of a group end before its fragments, and with them
+    let mut short = OneDevice::begin(&rt, rt.alloc(), 26, 1, Some(few), Some(WINDOW))?;
+    assert!(rt; short.fragment().is_ok());
+    match short.status_all() {
+        Some(down) => {
+            let to = To::Group {
+                addr: 0x1122_3344,
+                count: 1,
+            };
+            assert!(rt; is_down(&down, to, 201, &[0x01, 0x00]));
+        }
+        None => assert!(rt; false),
+    }
+    assert!(rt; matches!(short.fragment(), Err(Spent::Counts)));
+    assert!(rt; short.status_all().is_none());
+    let mut even = OneDevice::begin(&rt, rt.alloc(), 26, 0, Some(few), Some(WINDOW))?;
+    assert!(rt; even.fragment().is_ok() && even.fragment().is_ok());
+    assert!(rt; matches!(even.fragment(), Err(Spent::Fragments)));
+    Ok(())
+}
+
+#[test]
+fn an_answer_moves_its_own_stage_alone(rt: HostRuntime) -> Result<(), Fail> {
+    for (number, port, payload, stage) in &OTHERS {
+        let mut campaign = OneDevice::begin(&rt, rt.alloc(), 13, 4, None, None)?;
+        assert!(rt; *number <= 6);
+        asked(&rt, &mut campaign, &CAMPAIGN[..*number]);
+        assert!(rt; campaign.after(&rt, *port, payload) == *stage);
+    }
+    Ok(())
+}
+
+#[test]
+fn the_time_is_answered_anew_each_time(rt: HostRuntime) -> Result<(), Fail> {
+    let mut campaign = OneDevice::begin(&rt, rt.alloc(), 13, 4, None, None)?;
+    for (t, payload, answer) in &TIMES {
+        match campaign.uplink(202, payload, *t) {
+            Ok(Some(down)) => assert!(rt; is_down(&down, To::Unicast, 202, answer)),
+            Ok(None) => assert!(rt; answer.is_empty()),
+            Err(_) => assert!(rt; false),
+        }
+    }
+    assert!(rt;
+        campaign
+            .uplink(202, &[0x01, 0x0f, 0, 0, 0], 10_000)
+            .is_err()
+    );
+    campaign.asks(&rt, 203, &[0x01]);
     Ok(())
 }

@@ -4,6 +4,7 @@ ghost use Rattle.std.specs.Prelude.{◌≤◌, length};
 ghost use Rattle.wire_base.specs.declared.payload.TheConstants.{MAX_PAYLOAD};
 
 use super::*;
+use image_slots::ImageState;
 use package_grammar::{Downlink, To};
 use std::alloc::Global;
 use std::process::Abort;
@@ -141,6 +142,127 @@ const FIRMWARE: [Exchange; 8] = [
     (203, &[0x05, 2, 0, 0, 0], &[0x05, 0x01]),
 ];
 
+/// A campaign of four fragments, of which two are lost and two coded ones heard: what the server
+/// sends, and what is answered.
+const CAMPAIGN: [Exchange; 10] = [
+    (
+        203,
+        &[0x01],
+        &[0x01, 0x00, 0x00, 0x00, 0x00, 0x01, 0x00, 0x00, 0x00],
+    ),
+    (
+        201,
+        &[
+            0x02, 0x00, 0x04, 0x00, 0x0d, 0x00, 0x00, 0x02, 0x00, 0x00, 0x00,
+        ],
+        &[0x02, 0x00],
+    ),
+    (
+        201,
+        &[
+            0x08, 0x01, 0x00, 0x46, 0x55, 0x49, 0x4d, 0x01, 0x01, 0x00, 0x00, 0x00, 0x02, 0x00,
+            0x00, 0x00,
+        ],
+        &[],
+    ),
+    (
+        201,
+        &[
+            0x08, 0x03, 0x00, 0x41, 0x40, 0xde, 0x5d, 0xae, 0x22, 0x23, 0xb0, 0x03, 0x61, 0xa3,
+            0x96, 0x17,
+        ],
+        &[],
+    ),
+    (
+        201,
+        &[
+            0x08, 0x07, 0x00, 0x79, 0x9c, 0xb4, 0x10, 0x45, 0x19, 0xe4, 0xbf, 0x9a, 0xac, 0xae,
+            0x88, 0x22,
+        ],
+        &[],
+    ),
+    (
+        201,
+        &[
+            0x08, 0x08, 0x00, 0x42, 0x40, 0xde, 0x5d, 0x14, 0x5a, 0x35, 0x0f, 0x8c, 0x60, 0x6c,
+            0x7c, 0x56,
+        ],
+        &[],
+    ),
+    (201, &[0x01, 0x01], &[0x01, 0x04, 0x00, 0x00, 0x00]),
+    (203, &[0x04], &[0x04, 0x03, 0x02, 0x00, 0x00, 0x00]),
+    (203, &[0x03, 0x00, 0x00, 0x00], &[0x03, 0x00, 0x00, 0x00]),
+    (
+        203,
+        &[0x01],
+        &[0x01, 0x02, 0x00, 0x00, 0x00, 0x01, 0x00, 0x00, 0x00],
+    ),
+];
+
+/// Sessions of class C on group 0: one is refused, and one replaces the other.
+const WINDOWS: [Exchange; 5] = [
+    (
+        200,
+        &[0x04, 0x00, 0xf2, 0x03, 0, 0, 0, 0, 0, 0, 6],
+        &[0x04, 0x1c],
+    ),
+    (
+        200,
+        &[
+            0x02, 0, 0x44, 0x33, 0x22, 0x11, 0, 0, 0, 0, 0, 0, 0, 0, 0, 0, 0, 0, 0, 0, 0, 0, 0, 0,
+            0, 0, 10, 0, 0, 0,
+        ],
+        &[0x02, 0x00],
+    ),
+    (
+        200,
+        &[0x04, 0x00, 0xf2, 0x03, 0, 0, 0, 0x28, 0x76, 0x84, 0],
+        &[0x04, 0x00, 0x0a, 0, 0],
+    ),
+    (
+        200,
+        &[0x04, 0x00, 0xe8, 0x03, 0, 0, 0, 0xd2, 0xad, 0x84, 0],
+        &[0x04, 0x00, 0, 0, 0],
+    ),
+    (
+        201,
+        &[0x02, 0x01, 1, 0, 52, 0x00, 0, 2, 0, 0, 0],
+        &[0x02, 0x00],
+    ),
+];
+
+/// An image is deleted by its version alone, and once; all ones cancel a reboot.
+const DELETIONS: [Exchange; 5] = [
+    (203, &[0x05, 3, 0, 0, 0], &[0x05, 0x02]),
+    (203, &[0x05, 2, 0, 0, 0], &[0x05, 0x00]),
+    (203, &[0x05, 2, 0, 0, 0], &[0x05, 0x01]),
+    (
+        203,
+        &[0x02, 0xff, 0xff, 0xff, 0xff],
+        &[0x02, 0xff, 0xff, 0xff, 0xff],
+    ),
+    (203, &[0x01], &[0x01, 0, 0, 0, 0, 1, 0, 0, 0]),
+];
+
+/// Commands in one payload at 1,000 ms, to a device whose clock is 5 s ahead; then a moment, and the
+/// version that runs there.
+const REBOOTS: [(&[u8], u64, u32); 14] = [
+    (&[0x03, 0, 0, 0], 1000, 2),
+    (&[0x03, 10, 0, 0], 10_999, 0),
+    (&[0x03, 10, 0, 0], 11_000, 2),
+    (&[0x03, 0xff, 0xff, 0xff], 20_000_000_000, 0),
+    (&[0x02, 0, 0, 0, 0], 1000, 2),
+    (&[0x02, 16, 0, 0, 0], 10_999, 0),
+    (&[0x02, 16, 0, 0, 0], 11_000, 2),
+    (&[0x02, 0xff, 0xff, 0xff, 0xff], 20_000_000_000, 0),
+    (&[0x02, 0x06, 0, 0, 0x80], 1000, 0),
+    (&[0x02, 0x07, 0, 0, 0x80], 1000, 2),
+    (&[0x03, 10, 0, 0, 0x03, 0xff, 0xff, 0xff], 11_000, 0),
+    (&[0x03, 10, 0, 0, 0x03, 20, 0, 0], 20_999, 0),
+    (&[0x03, 10, 0, 0, 0x03, 20, 0, 0], 21_000, 2),
+    (&[0x03, 20, 0, 0, 0x02, 16, 0, 0, 0], 11_000, 2),
+];
+
 /// Payloads at a fresh device: the port, the payload, and the uplinks that it may make.
 const WEIGHTS: [(u8, &[u8], u16); 6] = [
     (202, &[0x03, 0x07], 7),
@@ -192,6 +314,17 @@ fn taken(rt: &impl Abort, device: &mut Device, due: u64, port: u8, bytes: &[u8])
     }
 }
 
+/// How many uplinks are held, at most 8; none is afterwards.
+fn uplinks(device: &mut Device) -> u16 {
+    let mut number = 0;
+    for taken in 0..9 {
+        if device.take_uplink().is_some() {
+            number = taken + 1;
+        }
+    }
+    number
+}
+
 /// Payloads that come at one moment.
 fn exchanges(rt: &impl Abort, device: &mut Device, t: u64, all: &[Exchange]) {
     for (port, payload, answer) in all {
@@ -226,24 +359,76 @@ fn commands_are_answered(rt: HostRuntime) {
     taken(&rt, &mut small, 0, 200, &[0x02, 0x07]);
 }
 
+/// A device that received the image at 0 ms.
+fn with_image(rt: &impl Abort, alloc: Global, config: DeviceConfig) -> Device {
+    let mut device = reserved(rt, alloc, config);
+    receive_image(rt, &mut device);
+    device
+}
+
+/// The image comes in one fragment, at 0 ms.
+fn receive_image(rt: &impl Abort, device: &mut Device) {
+    let setup = [0x02, 0x00, 1, 0, 52, 0x00, 0, 0, 0, 0, 0];
+    exchanges(rt, device, 0, &[(201, &[0x01, 0x01], &[])]);
+    assert!(rt; delivered(rt, device, 0, To::Unicast, 201, &setup) == Delivered::Done);
+    taken(rt, device, 0, 201, &[0x02, 0x00]);
+    assert!(rt; delivered(rt, device, 0, To::Unicast, 201, &fragment()) == Delivered::Done);
+}
+
+/// The image as one fragment of session 0.
+fn fragment() -> [u8; 55] {
+    let mut payload = [0; 55];
+    payload[0] = 0x08;
+    payload[1] = 0x01;
+    payload[3..].copy_from_slice(&IMAGE);
+    payload
+}
+
 #[test]
 fn a_received_image_runs_after_a_reboot(rt: HostRuntime) {
-    let mut device = reserved(&rt, rt.alloc(), CONFIG);
-    let setup = [0x02, 0x00, 1, 0, 52, 0x00, 0, 0, 0, 0, 0];
-    exchanges(&rt, &mut device, 0, &[(201, &[0x01, 0x01], &[])]);
-    assert!(rt; delivered(&rt, &mut device, 0, To::Unicast, 201, &setup) == Delivered::Done);
-    taken(&rt, &mut device, 0, 201, &[0x02, 0x00]);
-    let mut fragment = [0; 55];
-    fragment[0] = 0x08;
-    fragment[1] = 0x01;
-    fragment[3..].copy_from_slice(&IMAGE);
-    assert!(rt; delivered(&rt, &mut device, 0, To::Unicast, 201, &fragment) == Delivered::Done);
+    let mut device = with_image(&rt, rt.alloc(), CONFIG);
     match device.session(0) {
         Some(view) => assert!(rt; view.file == &IMAGE[..]),
         None => assert!(rt; false),
     }
     exchanges(&rt, &mut device, 0, &FIRMWARE);
     assert!(rt; device.slots().running().1 == &IMAGE[..]);
+    let mut other = with_image(&rt, rt.alloc(), CONFIG);
+    exchanges(&rt, &mut other, 0, &DELETIONS);
+}
+
+#[test]
+fn a_campaign_is_answered_in_bytes(rt: HostRuntime) {
+    let mut device = reserved(&rt, rt.alloc(), DeviceConfig { rows: 4, ..CONFIG });
+    exchanges(&rt, &mut device, 1000, &CAMPAIGN);
+    assert!(rt; device.slots().running().1 == &IMAGE[..]);
+}
+
+#[test]
+fn a_reboot_comes_at_its_moment(rt: HostRuntime) {
+    let ahead = DeviceConfig {
+        offset: 5,
+        ..CONFIG
+    };
+    for (payload, t, version) in &REBOOTS {
+        let mut device = with_image(&rt, rt.alloc(), ahead);
+        assert!(rt;
+            delivered(&rt, &mut device, 1000, To::Unicast, 203, payload) == Delivered::Done
+        );
+        assert!(rt; delivered(&rt, &mut device, *t, To::Unicast, 203, &[]) == Delivered::Done);
+        assert!(rt; device.slots().running().0 == *version);
+    }
+    // without an image the moment is cleared all the same
+    let mut device = reserved(&rt, rt.alloc(), CONFIG);
+    exchanges(
+        &rt,
+        &mut device,
+        0,
+        &[(203, &[0x03, 0, 0, 0], &[0x03, 0, 0, 0])],
+    );
+    receive_image(&rt, &mut device);
+    assert!(rt; device.wake(1000).is_ok());
+    assert!(rt; device.slots().running().0 == 0);
 }
 
 #[test]
@@ -274,9 +459,10 @@ fn nothing_acts_where_too_many_uplinks_could_come(rt: HostRuntime) {
         let answer = delivered(&rt, &mut device, 0, To::Unicast, *port, payload);
         if *weight <= 8 {
             assert!(rt; answer == Delivered::Done);
+            assert!(rt; uplinks(&mut device) == *weight);
         } else {
             assert!(rt; answer == Delivered::OutboxFull(*weight));
-            taken(&rt, &mut device, 0, 0, &[]);
+            assert!(rt; uplinks(&mut device) == 0);
             assert!(rt; device.counts().full == 1);
         }
     }
@@ -357,6 +543,45 @@ fn a_group_is_heard_while_its_session_runs(rt: HostRuntime) {
             taken(&rt, &mut device, 0, 0, &[]);
         }
     }
+}
+
+#[test]
+fn a_file_comes_by_the_group_in_its_window(rt: HostRuntime) {
+    let mut device = reserved(&rt, rt.alloc(), CONFIG);
+    exchanges(&rt, &mut device, 1_000_000, &WINDOWS);
+    let to = To::Group {
+        addr: 0x11223344,
+        count: 0,
+    };
+    let whole = fragment();
+    // only fragments and status requests act, and what is skipped has its weight all the same
+    let table: [(u64, u8, &[u8], Delivered); 6] = [
+        (999_999, 201, &whole, Delivered::Deaf),
+        (1_000_000, 200, &[0x03, 0x00], Delivered::Done),
+        (
+            1_000_000,
+            203,
+            &[1, 1, 1, 1, 1, 1, 1, 1, 1],
+            Delivered::OutboxFull(9),
+        ),
+        (1_000_999, 201, &whole, Delivered::Done),
+        (1_000_999, 200, &[0x03, 0x00], Delivered::Done),
+        (1_001_000, 201, &whole, Delivered::Deaf),
+    ];
+    for (t, port, payload, answer) in table {
+        assert!(rt; delivered(&rt, &mut device, t, to, port, payload) == answer);
+        taken(&rt, &mut device, 0, 0, &[]);
+    }
+    assert!(rt; device.slots().next() == ImageState::Valid(2));
+    assert!(rt; device.counts().deaf == 2);
+    // by unicast the group is deleted, and its session ends
+    exchanges(
+        &rt,
+        &mut device,
+        1_000_999,
+        &[(200, &[0x03, 0x00], &[0x03, 0x00])],
+    );
+    assert!(rt; delivered(&rt, &mut device, 1_000_999, to, 201, &[]) == Delivered::Deaf);
 }
 
 #[test]
