@@ -3,7 +3,7 @@ use Rattle.std.proofs.Common.{◌≡◌, ◌≢◌, ◌⊎◌, ℕ, suc, ◌+◌
 use Rattle.std.proofs.Math.Pow.{pow-lt}
 use Rattle.std.proofs.lemmas.Nat.Bits.{bit_at-pow_same, bit_at-pow_other}
 use Rattle.std.proofs.lemmas.Bool.{cases_eq, cases_lt}
-use Rattle.std.proofs.lemmas.List.{take_at, set-get_or, get_or-take, get_or_past, get_or-replicate, length-replicate, ext_get_or}
+use Rattle.std.proofs.lemmas.List.{take_at, set-set, set-get_or, get_or-take, get_or_past, get_or-replicate, length-replicate, ext_get_or}
 use Rattle.frag_model.specs.Parity.{number_of}
 use Rattle.frag_model.specs.Fragments.{Shape, Equation, IsPiece}
 use Rattle.row_elimination.specs.declared.columns.Column.{Column}
@@ -227,14 +227,9 @@ place_read nb size rows count gained k columns spare area coefs cells g x kept h
     ∙ ap (place_in nb size area coefs cells k) (column_read columns nb k x inside (omega (arith, h.most, h.columns_sized)) is ∙ at)
 
 -- a piece of which nothing was known, where no row is held
-set_twice : (ps : List Place) (k : ℕ) (x y : Place) → set (set ps k x) k y ≡ set ps k y
-set_twice [] k x y = refl
-set_twice (p ∷ ps) zero x y = refl
-set_twice (p ∷ ps) (suc k) x y = ap (λ l. p ∷ l) (set_twice ps k x y)
-
 pub put_places : (k y : ℕ) (q : List ℕ) (ps : List Place) (x : Place) → rows_held ps ≡ 0 → set (grown k y q ps) k x ≡ set ps k x
 unfolding grown
-put_places k y q ps x none = ap (λ l. set (set l k (row y q)) k x) (no_rows_cleared k y q ps none) ∙ set_twice ps k (row y q) x
+put_places k y q ps x none = ap (λ l. set (set l k (row y q)) k x) (no_rows_cleared k y q ps none) ∙ set-set ps k (row y q) x
 
 pub put_reduced : (shape : Shape) (k : ℕ) (ps : List Place) (part : List ℕ) → IsReduced shape.nb_frag shape.frag_size ps → k < shape.nb_frag → IsPiece shape.frag_size part → get_or ps k free ≡ free
     → rows_held ps ≡ 0 → IsReduced shape.nb_frag shape.frag_size (set ps k (piece part))
