@@ -106,11 +106,13 @@ fn reply_for<F: Files>(
 {
     match what {
         None => say(alloc, Status::Usage, USAGE),
-        Some(Asked::Script {
-            what,
-            image,
-            script,
-        }) => campaign(alloc, files, what, image, script),
+        Some(
+            Asked::Script {
+                what,
+                image,
+                script,
+            },
+        ) => campaign(alloc, files, what, image, script),
         Some(Asked::Payloads { what, file }) => payloads(alloc, files, what, file),
     }
 }
@@ -269,12 +271,7 @@ fn why_word(why: LineWhy) -> &'static str
 }
 
 /// What is told of the campaign that image and script define.
-fn play(
-    alloc: Global,
-    what: ScriptForm,
-    image: &[u8],
-    script: &[u8],
-) -> Result<Reply, LineError>
+fn play(alloc: Global, what: ScriptForm, image: &[u8], script: &[u8]) -> Result<Reply, LineError>
     requires { is_image image.now ≡ true }
     ensures { IsPlayed what (campaign_of image.now script.now) (seen_reply result) }
 {

@@ -19,7 +19,10 @@ pub enum Asked<'a> {
         script: &'a str,
     },
     /// A form with one file of payloads: what is told of it.
-    Payloads { what: FileForm, file: &'a str },
+    Payloads {
+        what: FileForm,
+        file: &'a str,
+    },
 }
 
 /// What is told of a campaign.

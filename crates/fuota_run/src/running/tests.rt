@@ -84,7 +84,7 @@ fn all_held(files: &MemFiles, what: Option<Asked>) -> bool
 {
     match what {
         None => true,
-        Some(Asked::Campaign { image, script }) => files.holds(image) && files.holds(script),
+        Some(Asked::Script { image, script, .. }) => files.holds(image) && files.holds(script),
         Some(Asked::Payloads { file, .. }) => files.holds(file),
     }
 }
@@ -97,6 +97,18 @@ fn ends(
     status: Status,
     text: &str,
 ) -> Result<(), Fail> {
+    wrote(rt, alloc, words, outside, status, text.as_bytes())
+}
+
+/// Runs the words, and compares the status and what was written.
+fn wrote(
+    rt: &impl Abort,
+    alloc: Global,
+    words: &[&str],
+    outside: &Outside,
+    status: Status,
+    text: &[u8],
+) -> Result<(), Fail> {
     let mut owned = Vec::new(alloc);
     for word in words {
         owned.push(format!(in alloc; "{word}")?)?;
@@ -108,7 +120,7 @@ fn ends(
         run_held(alloc, &owned, &mut files, &mut sink),
         Some(status)
     );
-    assert_eq!(rt; sink.bytes(), text.as_bytes());
+    assert_eq!(rt; sink.bytes(), text);
     Ok(())
 }
 
@@ -170,155 +182,65 @@ fn says(
     ends(rt, alloc, words, &outside, status, text)
 }
 
-const DECODE: [&str; 5] = ["fuota", "decode", "201", "down", "script"];
-
 #[test]
-fn payloads_are_decoded_line_by_line(rt: HostRuntime) -> Result<(), Fail> {
+fn payloads_are_decoded_and_replayed(rt: HostRuntime) -> Result<(), Fail> {
     let time = ["fuota", "decode", "202", "down", "script"];
     let versions = ["fuota", "decode", "203", "down", "--", "script"];
+    let replay = ["fuota", "replay", "script"];
     let rows = [
         (
             &time[..],
             "0105000000f3\n",
+            Status::Done,
             "line 1\nAppTimeAns correction=5 token=3\nend\n",
         ),
-        (&time[..], "", "end\n"),
-        (&DECODE[..], "020004", "line 1\nrefused 3 short\nend\n"),
-        (&versions[..], "017f\n", "line 1\nrefused 1 unknown\nend\n"),
         (
-            &DECODE[..],
-            "\n00010A\n",
-            "line 1\nline 2\nPackageVersionReq\nFragSessionStatusReq index=1 all=0\nend\n",
-        ),
-    ];
-    for (words, lines, text) in &rows {
-        says(&rt, rt.alloc(), words, lines, Status::Done, text)?;
-    }
-    let refused = Status::ScriptRefused;
-    says(
-        &rt,
-        rt.alloc(),
-        &DECODE,
-        "00\n000\n",
-        refused,
-        "line 2 syntax\n",
-    )?;
-    says(
-        &rt,
-        rt.alloc(),
-        &DECODE,
-        "00\nzz",
-        refused,
-        "line 2 syntax\n",
-    )
-}
-
-const REPLAY: [&str; 3] = ["fuota", "replay", "script"];
-
-/// The rows kept, the payloads behind a setup of four pieces, and what is said of the session; the pieces are 11 22 33 44.
-const REPLAYS: [(u8, &str, &str); 11] = [
-    (
-        0,
-        "08040044\n08010011\n08030033\n08020022\n",
-        "received 4 missing 0 complete at 6\nfile 11223344\n",
-    ),
-    (
-        2,
-        "08010011\n08030033\n08070066\n08080011\n",
-        "received 4 missing 0 complete at 6\nfile 11223344\n",
-    ),
-    (
-        2,
-        "08070066\n08080011\n08010011\n08030033\n",
-        "received 4 missing 0 complete at 6\nfile 11223344\n",
-    ),
-    (
-        2,
-        "08010011\n08050022\n08060022\n",
-        "received 3 missing 2 receiving\n",
-    ),
-    (
-        1,
-        "08010011\n08020022\n08030033\n080b0044\n",
-        "received 4 missing 0 complete at 6\nfile 11223344\n",
-    ),
-    (
-        1,
-        "08070066\n08080011\n",
-        "received 2 missing 3 norows at 4\n",
-    ),
-    (
-        1,
-        "08010011\n08030033\n08070066\n08080011\n",
-        "received 4 missing 1 norows at 6\n",
-    ),
-    (
-        0,
-        "08010011\n08010012\n",
-        "received 2 missing 3 conflict at 4\n",
-    ),
-    (
-        0,
-        "08020022\n08020022\n08020022\n",
-        "received 3 missing 3 receiving\n",
-    ),
-    (
-        0,
-        "08010011\n08020022\n0200040001000000000000\n08030033\n",
-        "received 3 missing 1 receiving\n",
-    ),
-    (
-        0,
-        "08010011\n08020022\n0200040001000000000000\n08030033\n0200040001000001000000\n",
-        "received 0 missing 4 receiving\n",
-    ),
-];
-
-#[test]
-fn payloads_are_replayed_to_a_device(rt: HostRuntime) -> Result<(), Fail> {
-    for (rows, payloads, session) in &REPLAYS {
-        let lines = format!(in rt.alloc(); "replay 1 {rows}\n0200040001000000000000\n{payloads}")?;
-        let text = format!(in rt.alloc();
-            "fuota replay 1\ncounts deaf 0 refused 0 full 0 dropped 0\nsession 0 {session}end\n"
-        )?;
-        says(
-            &rt,
-            rt.alloc(),
-            &REPLAY,
-            lines.as_str(),
+            &versions[..],
+            "017f\n",
             Status::Done,
-            text.as_str(),
-        )?;
-    }
-    Ok(())
-}
-
-#[test]
-fn a_replay_counts_what_it_drops_and_names_a_refused_line(rt: HostRuntime) -> Result<(), Fail> {
-    let refused = Status::ScriptRefused;
-    let rows = [
-        (
-            "replay 1 0\n0200040001000000000000\n08000011\n0801001122\n08014011\n020004\n",
-            Status::Done,
-            "fuota replay 1\ncounts deaf 0 refused 1 full 0 dropped 3\nsession 0 received 0 missing 4 receiving\nend\n",
+            "line 1\nrefused 1 unknown\nend\n",
         ),
         (
+            &time[..],
+            "00\n000\n",
+            Status::ScriptRefused,
+            "line 2 syntax\n",
+        ),
+        (
+            &replay[..],
             "replay 1 1\n0200010001000000000000\n08020000\n0801005a",
             Status::Done,
             "fuota replay 1\ncounts deaf 0 refused 0 full 0 dropped 0\nsession 0 received 2 missing 0 complete at 4\nfile 5a\nend\n",
         ),
         (
-            "replay 1 64\n\n000000000000000000\n",
-            Status::Done,
-            "fuota replay 1\ncounts deaf 0 refused 0 full 1 dropped 0\nend\n",
+            &replay[..],
+            "replay 1 65\n",
+            Status::ScriptRefused,
+            "line 1 range\n",
         ),
-        ("", refused, "line 1 syntax\n"),
-        ("replay 2 0\n", refused, "line 1 syntax\n"),
-        ("replay 1 65\n", refused, "line 1 range\n"),
-        ("replay 1 0\n0\n", refused, "line 2 syntax\n"),
     ];
-    for (lines, status, text) in &rows {
-        says(&rt, rt.alloc(), &REPLAY, lines, *status, text)?;
+    for (words, lines, status, text) in &rows {
+        says(&rt, rt.alloc(), words, lines, *status, text)?;
+    }
+    Ok(())
+}
+
+/// A device's file, and what is said of one that has none.
+#[test]
+fn a_file_is_recovered(rt: HostRuntime) -> Result<(), Fail> {
+    let open = "ask 1\ndown 1 1\nup 1\nask 1\ndown 2 1\nend\n";
+    let first = ["fuota", "recover", "image", "script", "1"];
+    let second = ["fuota", "recover", "image", "script", "2"];
+    wrote(&rt, rt.alloc(), &first, &SOUND, Status::Done, &IMAGE)?;
+    let rows = [
+        (&second, EVENTS, Status::NotComplete, "device 2 none\n"),
+        (&first, "end\n", Status::NotComplete, "device 1 none\n"),
+        (&first, open, Status::NotComplete, "device 1 receiving\n"),
+        (&first, "ask 1\n", Status::ScriptRefused, "line 5 syntax\n"),
+    ];
+    for (words, events, status, text) in &rows {
+        let outside = Outside { events, ..SOUND };
+        ends(&rt, rt.alloc(), *words, &outside, *status, text)?;
     }
     Ok(())
 }
@@ -335,6 +257,9 @@ fn words_that_are_no_form_are_usage(rt: HostRuntime) -> Result<(), Fail> {
         &["fuota", "campaign", "--help"][..],
         &["fuota", "replay"][..],
         &["fuota", "replay", "script", "script"][..],
+        &["fuota", "recover", "image", "script"][..],
+        &["fuota", "recover", "image", "script", "0"][..],
+        &["fuota", "recover", "image", "script", "65"][..],
         &["fuota", "generate", "1"][..],
         &["fuota"][..],
     ];
