@@ -1,0 +1,5 @@
+pub mod Limits
+pub mod Rows
+pub mod Sums
+pub mod ArenaInside
+pub mod Steps

@@ -1,0 +1,17 @@
+//! Rows of bits and bytes in storage of fixed size, and their sums by XOR. (How a device recovers a file that TS004-1.0.0
+//! sends in fragments is this project's profile; this layer is its storage and its arithmetic.) Each call of a `RowArena`
+//! says exactly which rows there are afterwards, and `pick` and `sum_pieces` what they take out of a line and add to a part.
+//! Which rows are worth keeping, and what they mean, is left to the elimination above.
+#![tactic(auto)]
+
+mod arena;
+mod lanes;
+mod lines;
+mod picks;
+mod pieces;
+mod stretches;
+
+pub use arena::{NoRoom, RowArena, words_for};
+pub use lanes::{xor_bytes, xor_words};
+pub use picks::pick;
+pub use pieces::sum_pieces;
