@@ -4,7 +4,7 @@ use Rattle.std.specs.Result.{result_ok}
 use Rattle.std.specs.List.{AllByRecursion}
 use Rattle.frag_session.specs.declared.setups.Limits.{Limits}
 use Rattle.frag_session.specs.declared.answers.Via.{Via}
-use Rattle.frag_session.specs.Setup.{Room}
+use Rattle.frag_session.specs.Setup.{Room, rows_of}
 use Rattle.frag_session.specs.Session.{Session, new_session, after_setup, followed, after_fragment}
 use Rattle.frag_session.specs.Stands.{IsSetUp}
 use Rattle.frag_encoder.specs.Encoding.{nb_frag_of, data_of}
@@ -16,7 +16,7 @@ use Rattle.package_grammar.specs.declared.command.Command.TheVariants.{Sync, Cas
 use Rattle.package_grammar.specs.declared.downlink.To.TheVariants.{Unicast}
 use Rattle.device_core.specs.declared.config.DeviceConfig.{DeviceConfig}
 use Rattle.device_core.specs.SessionTable.{SessionTable}
-use Rattle.device_core.specs.Device.{DeviceState}
+use Rattle.device_core.specs.Device.{DeviceState, limits_of}
 use Rattle.campaign_server.specs.declared.plan.Kind.{Kind}
 use Rattle.campaign_server.specs.declared.plan.Kind.TheVariants as kind
 use Rattle.campaign_server.specs.declared.plan.PlanGroup.{PlanGroup}
@@ -71,18 +71,48 @@ fragment_set image cut s way n part mark f k =
 
 -- ---- a device
 
+-- what the lines of devices allow
+pub record IsBounded (config : DeviceConfig) : Type 0 where
+  pub sessions : config.sessions ≡ 4
+  pub area : config.area ≡ 65774
+  pub rows : config.rows ≤ 64
+
+-- the session has the rows that the device keeps, or a row a piece
+abbrev HasRows : List ℕ → Cut → DeviceConfig → Session → Type 0
+HasRows image cut config s = s.rows ≡ rows_of config.rows (setup_req image cut)
+
 -- it holds no uplink, and its session, if it has one, is the server's
 pub record IsDeviceFor (image : List ℕ) (cut : Cut) (d : DeviceState) : Type 0 where
   pub empty : d.outbox ≡ []
   pub session : IfSome d.sessions.first (IsSetFor image cut)
+  pub rows : IfSome d.sessions.first (HasRows image cut d.config)
   pub alone : HasNoOther d.sessions
+  pub bounds : IsBounded d.config
+
+setup_rows : (image : List ℕ) (cut : Cut) (config : DeviceConfig) (here : Room) (s : Option Session)
+    → IfSome s (HasRows image cut config)
+    → IfSome (after_setup (limits_of config) here s (setup_req image cut)) (HasRows image cut config)
+unfolding new_session
+setup_rows image cut config here s k =
+    setup_keeps (HasRows image cut config) (limits_of config) here s (setup_req image cut) (λ makes. refl) k
+
+fragment_rows : (image : List ℕ) (cut : Cut) (config : DeviceConfig) (s : Option Session) (way : Via) (n : ℕ)
+    (part : List ℕ) (mark : ℕ) → IfSome s (HasRows image cut config)
+    → IfSome (after_fragment s way n part mark) (HasRows image cut config)
+unfolding followed
+fragment_rows image cut config s way n part mark k =
+    fragment_keeps (HasRows image cut config) s way n part mark (λ x r. r) k
 
 moved : (image : List ℕ) (cut : Cut) (F : DeviceConfig → Option Session → Option Session) (d e : DeviceState)
     → IsDeviceFor image cut d → Moves F d e → e.outbox ≡ []
-    → IfSome (F d.config d.sessions.first) (IsSetFor image cut) → IsDeviceFor image cut e
-moved image cut F d e k m empty session = record {
+    → IfSome (F d.config d.sessions.first) (IsSetFor image cut)
+    → IfSome (F d.config d.sessions.first) (HasRows image cut d.config) → IsDeviceFor image cut e
+moved image cut F d e k m empty session rows = record {
   empty = empty;
   session = subst (λ (t : SessionTable). IfSome t.first (IsSetFor image cut)) (sym m.sessions) session;
+  rows = subst (λ (x : DeviceConfig). IfSome e.sessions.first (HasRows image cut x)) (sym m.config)
+      (subst (λ (t : SessionTable). IfSome t.first (HasRows image cut d.config)) (sym m.sessions) rows);
+  bounds = subst IsBounded (sym m.config) k.bounds;
   alone = subst HasNoOther (sym m.sessions) (record {
     second = k.alone.second;
     third = k.alone.third;
@@ -93,18 +123,28 @@ moved image cut F d e k m empty session = record {
 
 pub stays_for : (image : List ℕ) (cut : Cut) (d e : DeviceState) → IsDeviceFor image cut d → Moves stays d e
     → e.outbox ≡ [] → IsDeviceFor image cut e
-stays_for image cut d e k m empty = moved image cut stays d e k m empty k.session
+stays_for image cut d e k m empty = moved image cut stays d e k m empty k.session k.rows
 
 pub acts_keep : (image : List ℕ) (cut : Cut) (t mark : ℕ) (d e : DeviceState) (down : DownlinkCommand)
     → IsDeviceFor image cut d → Acts image cut t mark d e down → e.outbox ≡ [] → IsDeviceFor image cut e
 acts_keep image cut t mark d e down k (inl deaf) empty = stays_for image cut d e k deaf.1 empty
 acts_keep image cut t mark d e down k (inr (on, inl a)) empty =
     moved image cut _ d e k a.2 empty (setup_set image cut _ _ d.sessions.first k.session)
+    (setup_rows image cut d.config _ d.sessions.first k.rows)
 acts_keep image cut t mark d e down k (inr (on, inr (inl a))) empty =
     moved image cut _ d e k a.3 empty
     (fragment_set image cut d.sessions.first _ a.0 (data_of image cut.size a.0) mark
     (record { first = a.1.0; last = a.1.1; part = refl }) k.session)
+    (fragment_rows image cut d.config d.sessions.first _ a.0 (data_of image cut.size a.0) mark k.rows)
 acts_keep image cut t mark d e down k (inr (on, inr (inr a))) empty = stays_for image cut d e k a.1 empty
+
+-- whatever is sent, the configuration stays
+pub acts_config : (image : List ℕ) (cut : Cut) (t mark : ℕ) (d e : DeviceState) (down : DownlinkCommand)
+    → Acts image cut t mark d e down → e.config ≡ d.config
+acts_config image cut t mark d e down (inl deaf) = deaf.1.config
+acts_config image cut t mark d e down (inr (on, inl a)) = a.2.config
+acts_config image cut t mark d e down (inr (on, inr (inl a))) = a.3.config
+acts_config image cut t mark d e down (inr (on, inr (inr a))) = a.1.config
 
 -- ---- a server
 

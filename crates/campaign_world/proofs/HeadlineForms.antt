@@ -1,5 +1,5 @@
 -- What each form that is not refused makes of a campaign.
-use Rattle.std.proofs.Common.{◌&&◌, nat_le, ◌≡◌, ◌⊎◌, inl, inr, ℕ, zero, suc, ◌+◌, ◌-◌, ◌^◌, ◌<◌, ◌≤◌, Bool, true, false, cond, not, ◌==◌, List, [], ◌∷◌, length, All, slice_get, Option, None, Some, IfSome, Ok, Err, append-nil, refl, sym, ap, ◌∙◌, subst, arith, true≢false, eqb-true}
+use Rattle.std.proofs.Common.{◌&&◌, nat_le, nat_lt, ◌≡◌, ◌⊎◌, inl, inr, ℕ, zero, suc, ◌+◌, ◌-◌, ◌^◌, ◌<◌, ◌≤◌, Bool, true, false, cond, not, ◌==◌, List, [], ◌∷◌, length, All, slice_get, Option, None, Some, IfSome, Ok, Err, append-nil, refl, sym, ap, ◌∙◌, subst, arith, true≢false, eqb-true}
 use Rattle.std.proofs.lemmas.Bool.{leb-true, and_parts}
 use Rattle.std.specs.Result.{result_ok}
 use Rattle.std.specs.List.{AllByRecursion, slice_set}
@@ -18,7 +18,7 @@ use Rattle.campaign_server.specs.Time.{time_answer}
 use Rattle.campaign_server.specs.Uplinks.{with_answers, read_uplink, uplink_step}
 use Rattle.script_lines.specs.declared.forms.Form.{Form}
 use Rattle.script_lines.specs.declared.forms.Form.TheVariants.{Header, Image, Group, WindowC, WindowB, Device, At as Time, Wake, Ask, Frag, Status, Down, Up, End}
-use Rattle.script_lines.specs.Ranges.{in_range}
+use Rattle.script_lines.specs.Ranges.{in_range, is_device as ranged}
 use Rattle.campaign_world.specs.declared.section.Section.{Section}
 use Rattle.campaign_world.specs.declared.section.Section.TheVariants as section
 use Rattle.campaign_world.specs.declared.faults.LineWhy.{LineWhy}
@@ -316,6 +316,12 @@ few_groups : (group : Option PlanGroup) → mask_of group ≤ 1
 few_groups None = omega arith
 few_groups (Some group) = omega arith
 
+few_rows : (id hw rows offset : ℕ) → ranged id hw rows offset ≡ true → rows ≤ 64
+few_rows id hw rows offset all =
+    let a = and_parts (nat_le 1 id && nat_le id 64 && nat_lt hw (2 ^ 32) && nat_le rows 64) (nat_lt offset (2 ^ 32)) all in
+    let b = and_parts (nat_le 1 id && nat_le id 64 && nat_lt hw (2 ^ 32)) (nat_le rows 64) a.0 in
+    leb-true _ _ b.1
+
 pub form_turn : (image : List ℕ) (w : WorldState) (form : Form) → All (λ b. b < 2 ^ 8) image → Keeps image w
     → form_cause w form ≡ None → Turns image form w (after_form w form)
 unfolding after_form is_early in_range
@@ -362,19 +368,29 @@ form_turn image w (WindowB start periodicity timeout freq dr) bytes k fine =
     (record { image_is = k.server.image_is; next = omega arith; few = k.server.few })
     (late_cut image w (WindowB start periodicity timeout freq dr) w.section refl
     (passes w (WindowB start periodicity timeout freq dr) fine).may k.stands) refl refl refl refl
-form_turn image w (Device id class hw rows offset key descriptor) bytes k fine = record {
-  lines = refl;
-  server = record { image_is = k.server.image_is; next = omega arith; few = k.server.few };
-  stands = late_cut image w (Device id class hw rows offset key descriptor) w.section refl
-      (passes w (Device id class hw rows offset key descriptor) fine).may k.stands;
-  how = inr (inr (inl (record {
-    other = refl;
-    cut = refl;
-    config = (device_of class hw rows offset key descriptor).config;
-    devices = refl;
-    sent = refl;
-  })));
-}
+form_turn image w (Device id class hw rows offset key descriptor) bytes k fine =
+    let p = passes w (Device id class hw rows offset key descriptor) fine in
+    let both = and_parts (ranged id hw rows offset) (id == length w.devices + 1) p.ranged in
+    let next : id ≡ length w.devices + 1 = eqb-true _ _ both.1 in
+    record {
+      lines = refl;
+      server = record { image_is = k.server.image_is; next = omega arith; few = k.server.few };
+      stands = late_cut image w (Device id class hw rows offset key descriptor) w.section refl p.may k.stands;
+      how = inr (inr (inl (record {
+        other = refl;
+        cut = refl;
+        class = class;
+        hw = hw;
+        rows = rows;
+        offset = offset;
+        key = key;
+        descriptor = descriptor;
+        form_is = ap (λ (n : ℕ). Device n class hw rows offset key descriptor) next;
+        few = few_rows id hw rows offset both.0;
+        devices = refl;
+        sent = refl;
+      })));
+    }
 form_turn image w (Time time) bytes k fine =
     still_turn image (Time time) w _ refl k.server
     (late_cut image w (Time time) w.section refl (passes w (Time time) fine).may k.stands) refl refl refl refl

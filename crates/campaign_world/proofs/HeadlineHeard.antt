@@ -16,7 +16,7 @@ use Rattle.campaign_world.specs.declared.faults.LineFault.{LineFault}
 use Rattle.campaign_world.specs.declared.numbered.SentPayload.{SentPayload}
 use Rattle.campaign_world.specs.World.{WorldState, first_world}
 use Rattle.campaign_world.specs.Causes.{cause_of_form, cause_of}
-use Rattle.campaign_world.specs.Making.{after_form}
+use Rattle.campaign_world.specs.Making.{device_of, after_form}
 use Rattle.campaign_world.specs.Script.{after_form_of, after_line, line_result, read_line, read_lines, campaign_of}
 use Rattle.campaign_world.specs.Headline.{Brings, WasBrought}
 use Rattle.campaign_world.proofs.LineItems.{if_some, none_there, numbered_push, numbered_put, numbered_there, numbered_next, within}
@@ -162,7 +162,7 @@ turn_full image lines sent more w v form line bytes k read turn grown line_is fo
           (numbered v.devices id)) (sym j.cut)
           (subst (λ (ds : List DeviceState). DeviceHears image (cut_of w.server.plan) (Brings image lines sent id)
           (w.lines + 1) (numbered ds id)) (sym j.devices)
-          (joined_hear image (cut_of w.server.plan) lines sent id w.lines w.devices (first_device j.config) refl
+          (joined_hear image (cut_of w.server.plan) lines sent id w.lines w.devices (device_of j.class j.hw j.rows j.offset j.key j.descriptor) refl
           (no_delivery image lines sent id (w.lines + 1) line form line_is form_is j.other) (h id)))
       | inr r ↦ λ id. subst (λ (x : Cut). DeviceHears image x (Brings image lines sent id) (w.lines + 1)
           (numbered v.devices id)) (sym r.cut)

@@ -1,5 +1,5 @@
 -- The headline: what is seen of the session in each campaign, and what the report says of it.
-use Rattle.std.proofs.Common.{◌≡◌, ◌≢◌, ◌⊎◌, inl, inr, ℕ, zero, suc, ◌+◌, ◌-◌, ◌<◌, ◌≤◌, ◌^◌, Bool, true, false, cond, ◌==◌, List, [], ◌∷◌, ◌++◌, length, take, drop, slice_get, codes, All, None, Some, Option, Ok, arith, refl, sym, ap, ◌∙◌, subst, append-nil, append_assoc, bytes_eq}
+use Rattle.std.proofs.Common.{◌≡◌, ◌≢◌, ◌⊎◌, inl, inr, ℕ, zero, suc, ◌+◌, ◌-◌, ◌<◌, ◌≤◌, ◌^◌, Bool, true, false, cond, ◌==◌, List, [], ◌∷◌, ◌++◌, length, min, take, drop, slice_get, codes, All, None, Some, Option, Ok, arith, refl, sym, ap, ◌∙◌, subst, append-nil, append_assoc, bytes_eq}
 use Rattle.std.specs.List.{AllByRecursion}
 use Rattle.std.proofs.lemmas.Slice.Eq.{bytes_eq-Decides}
 use Rattle.frag_model.specs.Fragments.{Fragment, Shape}
@@ -23,10 +23,11 @@ use Rattle.campaign_world.specs.World.{WorldState}
 use Rattle.campaign_world.specs.Report.{◌⧺◌, image_line, device_line, counts_line, same_word, verdict_text, session_text, session_line, session_lines, device_part, device_parts, report_of}
 use Rattle.campaign_world.specs.Script.{campaign_of}
 use Rattle.campaign_world.specs.Recovery.{file_by, file_of, recovery_by, recovery, RecoversTheImage}
-use Rattle.campaign_world.specs.Headline.{WholeAt, HasNoOther, IsFragmentOf, IsServed, Brings, CameInOrder, setup_command, HearsBrought, text_before, text_behind, IsRecovered, IsReported, IsCampaign, Headline}
+use Rattle.campaign_world.specs.Headline.{WholeAt, HasNoOther, IsOfItsLine, IsFragmentOf, IsServed, Brings, CameInOrder, setup_command, HearsBrought, text_before, text_behind, IsRecovered, IsReported, IsCampaign, Headline}
 use Rattle.campaign_world.proofs.HeadlineCommands.{Cut, cut_of, setup_request}
 use Rattle.campaign_world.proofs.HeadlineEnds.{IsSetFor, IsServerOf}
-use Rattle.campaign_world.proofs.HeadlineLines.{campaign_reads, campaign_device, campaign_session, campaign_came}
+use Rattle.campaign_world.proofs.LineItems.{if_some}
+use Rattle.campaign_world.proofs.HeadlineLines.{campaign_reads, campaign_device, campaign_session, campaign_configured, campaign_came}
 use Rattle.campaign_world.proofs.HeadlineHeard.{campaign_hears}
 use Rattle.campaign_world.proofs.HeadlineImage.{IsShapeFor, image_fits, alone_is_image, behind}
 
@@ -90,8 +91,17 @@ server_of : (image script : List ℕ) (world : WorldState) (id : ℕ) (stage : S
 server_of image script world id stage device session c =
     (campaign_reads image script world c.bytes c.accepted).keeps.server
 
+session_rows : (image script : List ℕ) (world : WorldState) (id : ℕ) (stage : Stage) (device : DeviceState)
+    (session : Session) → IsCampaign image script world id stage device session
+    → session.rows ≡ min device.config.rows (nb_frag_of (length image) world.server.plan.frag_size)
+session_rows image script world id stage device session c =
+    if_some (λ (s : Session). s.rows ≡ min device.config.rows (nb_frag_of (length image) world.server.plan.frag_size))
+    device.sessions.first session c.session_is
+    (campaign_device image script world id device c.bytes c.accepted c.device_is).rows
+
 served : (image script : List ℕ) (world : WorldState) (id : ℕ) (stage : Stage) (device : DeviceState)
-    (session : Session) → IsCampaign image script world id stage device session → IsServed image world.server session
+    (session : Session) → IsCampaign image script world id stage device session
+    → IsServed image world.server device.config.rows session
 served image script world id stage device session c =
     let k = set_for image script world id stage device session c in
     record {
@@ -99,6 +109,7 @@ served image script world id stage device session c =
       nb_frag = ap (λ (r : SetupReq). r.nb_frag) k.setup;
       frag_size = ap (λ (r : SetupReq). r.frag_size) k.setup;
       padding = ap (λ (r : SetupReq). r.padding) k.setup;
+      rows_are = session_rows image script world id stage device session c;
       heard = k.heard;
     }
 
@@ -268,12 +279,17 @@ reported image script world id stage device session c =
       receiving = λ stays. text ∙ ap whole (line_is server.image seen verdict.Receiving (r.decided.receiving.1 stays));
     }
 
+configured : (image script : List ℕ) (world : WorldState) (id : ℕ) (device : DeviceState) → All (λ b. b < 2 ^ 8) image
+    → campaign_of image script ≡ Ok world → numbered world.devices id ≡ Some device
+    → IsOfItsLine (lines_of script) id device.config
+configured image script world id device bytes is there = campaign_configured image script world id device bytes is there
+
 one : (image script : List ℕ) (world : WorldState) (id : ℕ) (device : DeviceState) → All (λ b. b < 2 ^ 8) image
     → campaign_of image script ≡ Ok world → numbered world.devices id ≡ Some device → HasNoOther device.sessions
 one image script world id device bytes is there = (campaign_device image script world id device bytes is there).alone
 
 pub headline : Headline
-headline = record { one = one; served = served; brought = brought; recovered = recovered; reported = reported }
+headline = record { configured = configured; one = one; served = served; brought = brought; recovered = recovered; reported = reported }
 
 -- ---- what is recovered
 

@@ -23,7 +23,7 @@ use Rattle.device_core.specs.Device.{DeviceState, first_device}
 use Rattle.device_core.specs.ClassSessions.{hears}
 use Rattle.campaign_server.specs.Server.{DownlinkCommand, numbered, downlink_of}
 use Rattle.script_lines.specs.declared.forms.Form.{Form}
-use Rattle.script_lines.specs.declared.forms.Form.TheVariants.{Down}
+use Rattle.script_lines.specs.declared.forms.Form.TheVariants.{Device, Down}
 use Rattle.script_lines.specs.Lines.{lines_of}
 use Rattle.script_lines.specs.Forms.{form_of}
 use Rattle.campaign_world.specs.declared.section.Section.{Section}
@@ -33,14 +33,14 @@ use Rattle.campaign_world.specs.declared.faults.LineFault.{LineFault}
 use Rattle.campaign_world.specs.declared.numbered.SentPayload.{SentPayload}
 use Rattle.campaign_world.specs.World.{WorldState, first_world}
 use Rattle.campaign_world.specs.Causes.{cause_of_form, cause_of}
-use Rattle.campaign_world.specs.Making.{after_form}
+use Rattle.campaign_world.specs.Making.{config_of, device_of, after_form}
 use Rattle.campaign_world.specs.Script.{after_form_of, after_line, line_result, read_line, read_lines, end_result_at, end_result, campaign_of}
-use Rattle.campaign_world.specs.Headline.{Delivers, Listens, campaign_before, Brings, WasBrought, CameInOrder}
+use Rattle.campaign_world.specs.Headline.{IsOfItsLine, Delivers, Listens, campaign_before, Brings, WasBrought, CameInOrder}
 use Rattle.campaign_world.proofs.LineItems.{if_some, some_is, some_weaker, none_there, numbered_more, numbered_push, numbered_put, numbered_there, numbered_next, take_next}
 use Rattle.campaign_world.proofs.HeadlineCommands.{Cut, cut_of, setup_req, command_of, setup_request, fragment_command, IsGood, setup_good, fragment_good}
 use Rattle.campaign_world.proofs.HeadlinePayloads.{Moves, stays, comes_to, way_of}
-use Rattle.campaign_world.proofs.HeadlineEnds.{IsSetFor, IsDeviceFor}
-use Rattle.campaign_world.proofs.HeadlineWorlds.{Keeps, first_keeps, HasStayed, IsQuiet, Turns, IsReached, turn_keeps}
+use Rattle.campaign_world.proofs.HeadlineEnds.{IsSetFor, IsDeviceFor, acts_config}
+use Rattle.campaign_world.proofs.HeadlineWorlds.{Keeps, first_keeps, HasStayed, IsQuiet, Turns, IsJoined, IsReached, turn_keeps}
 use Rattle.campaign_world.proofs.HeadlineForms.{form_turn}
 
 -- ---- deliveries as the campaign goes on
@@ -344,7 +344,8 @@ turn_came image lines w v form line bytes k read turn line_is form_is h = elim t
     | inr another ↦ elim another [
       | inl j ↦ subst (λ (ss : List SentPayload). AllCame image lines ss (w.lines + 1) v.devices) (sym j.sent)
           (subst (AllCame image lines w.sent (w.lines + 1)) (sym j.devices)
-          (joined_came image lines w.sent w.lines w.devices j.config h))
+          (joined_came image lines w.sent w.lines w.devices
+          (config_of j.class j.hw j.rows j.offset j.key j.descriptor) h))
       | inr r ↦ subst (λ (ss : List SentPayload). AllCame image lines ss (w.lines + 1) v.devices) (sym r.sent)
           (subst (AllCame image lines w.sent (w.lines + 1)) (sym r.devices) (reached r))
     ]
@@ -369,12 +370,83 @@ turn_came image lines w v form line bytes k read turn line_is form_is h = elim t
           (if_some (DeviceCame image lines w.sent r.id w.lines) (numbered w.devices r.id) r.old r.before (h r.id))))
     ]
 
+-- ---- the lines of devices
+
+-- a device that is there is configured as its line says
+pub AllConfigured : List (List ℕ) → List DeviceState → Type 0
+AllConfigured lines ds = (id : ℕ) → IfSome (numbered ds id) (λ d. IsOfItsLine lines id d.config)
+
+configured_by : (lines : List (List ℕ)) (id : ℕ) (old new : Option DeviceState)
+    → IfSome old (λ d. IsOfItsLine lines id d.config) → (new ≡ old) ⊎ HasStayed old new
+    → IfSome new (λ d. IsOfItsLine lines id d.config)
+configured_by lines id old new h (inl same) =
+    subst (λ (o : Option DeviceState). IfSome o (λ d. IsOfItsLine lines id d.config)) (sym same) h
+configured_by lines id old new h (inr s) =
+    some_is (λ (d : DeviceState). IsOfItsLine lines id d.config) new s.e s.is
+    (subst (IsOfItsLine lines id) (sym s.moves.config)
+    (if_some (λ (d : DeviceState). IsOfItsLine lines id d.config) old s.d s.was h))
+
+turn_configured : (image : List ℕ) (lines : List (List ℕ)) (w v : WorldState) (form : Form) (line : List ℕ)
+    → Turns image form w v → numbered lines (w.lines + 1) ≡ Some line → form_of line ≡ Some form
+    → AllConfigured lines w.devices → AllConfigured lines v.devices
+unfolding AllConfigured
+turn_configured image lines w v form line turn line_is form_is h = elim turn.how [
+  | inl q ↦ λ id. configured_by lines id (numbered w.devices id) (numbered v.devices id) (h id) (q.devices id)
+  | inr other ↦ elim other [
+    | inl b ↦ λ id. subst (λ (o : Option DeviceState). IfSome o (λ d. IsOfItsLine lines id d.config))
+        (sym (none_there v.devices id b.devices)) tt
+    | inr another ↦ elim another [
+      | inl j ↦ λ id. subst (λ (ds : List DeviceState). IfSome (numbered ds id) (λ d. IsOfItsLine lines id d.config))
+          (sym j.devices) (joined j id)
+      | inr r ↦ λ id. subst (λ (ds : List DeviceState). IfSome (numbered ds id) (λ d. IsOfItsLine lines id d.config))
+          (sym r.devices) (reached r id)
+    ]
+  ]
+]
+  where
+    joined : (j : IsJoined form w v) → (id : ℕ)
+        → IfSome (numbered (w.devices ++ device_of j.class j.hw j.rows j.offset j.key j.descriptor ∷ []) id)
+        (λ d. IsOfItsLine lines id d.config)
+    joined j id = elim (numbered_push w.devices (device_of j.class j.hw j.rows j.offset j.key j.descriptor) id) [
+      | inl same ↦ subst (λ (o : Option DeviceState). IfSome o (λ d. IsOfItsLine lines id d.config)) (sym same) (h id)
+      | inr new ↦ some_is (λ (d : DeviceState). IsOfItsLine lines id d.config) _
+          (device_of j.class j.hw j.rows j.offset j.key j.descriptor) new.1 (
+            w.lines + 1,
+            line,
+            j.class,
+            j.hw,
+            j.rows,
+            j.offset,
+            j.key,
+            j.descriptor,
+            record {
+              line_is = line_is;
+              form = form_is ∙ ap (λ (f : Form). Some f) j.form_is
+                  ∙ ap (λ (n : ℕ). Some (Device n j.class j.hw j.rows j.offset j.key j.descriptor)) (sym new.2);
+              config_is = refl;
+            },
+          )
+    ]
+
+    reached : (r : IsReached image form w v) → (id : ℕ)
+        → IfSome (numbered (slice_set w.devices (r.id - 1) r.new) id) (λ d. IsOfItsLine lines id d.config)
+    reached r id = elim (numbered_put w.devices r.id id r.new r.first) [
+      | inr same ↦ subst (λ (o : Option DeviceState). IfSome o (λ d. IsOfItsLine lines id d.config)) (sym same) (h id)
+      | inl is ↦ some_is (λ (d : DeviceState). IsOfItsLine lines id d.config) _ r.new
+          (ap (λ (x : ℕ). numbered (slice_set w.devices (r.id - 1) r.new) x) is
+          ∙ numbered_there w.devices r.id r.old r.new r.before)
+          (subst (IsOfItsLine lines id) (sym (acts_config image (cut_of w.server.plan) w.time (w.lines + 1) r.old r.new r.down r.acts))
+          (if_some (λ (d : DeviceState). IsOfItsLine lines id d.config) (numbered w.devices id) r.old
+          (ap (λ (x : ℕ). numbered w.devices x) is ∙ r.before) (h id)))
+    ]
+
 -- what holds between two lines, with these lines left
 pub record Reads (image : List ℕ) (lines : List (List ℕ)) (rest : List (List ℕ)) (w : WorldState) : Type 0 where
   pub keeps : Keeps image w
   pub came : AllCame image lines w.sent w.lines w.devices
   pub left : drop w.lines lines ≡ rest
   pub read : read_lines (Ok (first_world image)) (take w.lines lines) ≡ Ok w
+  pub configured : AllConfigured lines w.devices
 
 -- lines are read one after another
 read_more : (r : Result WorldState LineFault) (xs : List (List ℕ)) (x : List ℕ)
@@ -416,6 +488,7 @@ form_reads image lines w line rest (Some form) bytes r is none fine =
       keeps = record { server = keeps.server; stands = keeps.stands; sent = keeps.sent; devices = keeps.devices };
       came = subst (λ (n : ℕ). AllCame image lines after.sent (n + 1) after.devices) (sym turn.lines) came;
       left = ap (λ (n : ℕ). drop (n + 1) lines) turn.lines ∙ next.1;
+      configured = turn_configured image lines w after form line turn next.0 is r.configured;
       read = ap (λ (n : ℕ). read_lines (Ok (first_world image)) (take (n + 1) lines)) turn.lines
           ∙ read_next image lines w line rest r.read r.left none
           ∙ ap (λ (f : Option Form). let o : Result WorldState LineFault = Ok (after_form_of w f) in o) is;
@@ -446,6 +519,11 @@ all_read image lines (Ok w) (line ∷ rest) bytes h =
     all_read image lines (read_line w line) rest bytes
     (line_reads image lines w line rest (cause_of w line) bytes h refl)
 
+none_configured : (lines : List (List ℕ)) → AllConfigured lines []
+unfolding AllConfigured
+none_configured lines id = subst (λ (o : Option DeviceState). IfSome o (λ d. IsOfItsLine lines id d.config))
+    (sym (none_there [] id refl)) tt
+
 pub first_reads : (image : List ℕ) (lines : List (List ℕ)) → Reads image lines lines (first_world image)
 unfolding read_lines
 first_reads image lines = record {
@@ -453,6 +531,7 @@ first_reads image lines = record {
   came = none_came image lines [] 0 [] refl;
   left = refl;
   read = refl;
+  configured = none_configured lines;
 }
 
 end_by : (here : Section) (w world : WorldState) → end_result_at here w ≡ Ok world → w ≡ world
@@ -497,6 +576,14 @@ pub campaign_session : (image script : List ℕ) (world : WorldState) (id : ℕ)
 campaign_session image script world id device session bytes is d s =
     if_some (IsSetFor image (cut_of world.server.plan)) device.sessions.first session s
     (campaign_device image script world id device bytes is d).session
+
+pub campaign_configured : (image script : List ℕ) (world : WorldState) (id : ℕ) (device : DeviceState)
+    → All (λ b. b < 2 ^ 8) image → campaign_of image script ≡ Ok world → numbered world.devices id ≡ Some device
+    → IsOfItsLine (lines_of script) id device.config
+unfolding AllConfigured
+campaign_configured image script world id device bytes is d =
+    if_some (λ (x : DeviceState). IsOfItsLine (lines_of script) id x.config) (numbered world.devices id) device d
+    ((campaign_reads image script world bytes is).configured id)
 
 pub campaign_came : (image script : List ℕ) (world : WorldState) (id : ℕ) (device : DeviceState) (session : Session)
     → All (λ b. b < 2 ^ 8) image → campaign_of image script ≡ Ok world

@@ -1,19 +1,21 @@
 -- What holds of each campaign: its devices hear nothing but what the server sends.
-use Rattle.std.proofs.Common.{◌≡◌, ◌⊎◌, inl, inr, ℕ, ◌+◌, ◌-◌, ◌≤◌, Bool, true, false, List, [], ◌∷◌, ◌++◌, Option, Some, IfSome, refl, sym, ap, ◌∙◌, subst, arith}
+use Rattle.std.proofs.Common.{◌≡◌, ◌⊎◌, inl, inr, ℕ, ◌+◌, ◌-◌, ◌≤◌, Bool, true, false, List, [], ◌∷◌, ◌++◌, length, Option, Some, IfSome, refl, sym, ap, ◌∙◌, subst, arith}
 use Rattle.std.specs.List.{AllByRecursion, slice_set}
 use Rattle.device_core.specs.declared.config.DeviceConfig.{DeviceConfig}
 use Rattle.device_core.specs.Device.{DeviceState, first_device}
 use Rattle.campaign_server.specs.Server.{DownlinkCommand, numbered, downlink_of}
 use Rattle.script_lines.specs.declared.forms.Form.{Form}
-use Rattle.script_lines.specs.declared.forms.Form.TheVariants.{Down}
+use Rattle.script_lines.specs.declared.forms.Class.{Class}
+use Rattle.script_lines.specs.declared.forms.Form.TheVariants.{Device, Down}
 use Rattle.campaign_world.specs.declared.section.Section.{Section}
 use Rattle.campaign_world.specs.declared.section.Section.TheVariants as section
 use Rattle.campaign_world.specs.declared.numbered.SentPayload.{SentPayload}
 use Rattle.campaign_world.specs.World.{WorldState, first_world}
+use Rattle.campaign_world.specs.Making.{config_of, device_of}
 use Rattle.campaign_world.proofs.LineItems.{some_is, if_some, none_there, numbered_push, numbered_put, numbered_there}
 use Rattle.campaign_world.proofs.HeadlineCommands.{Cut, cut_of, IsSentOf, IsCut}
 use Rattle.campaign_world.proofs.HeadlinePayloads.{Moves, stays, Acts}
-use Rattle.campaign_world.proofs.HeadlineEnds.{IsDeviceFor, stays_for, acts_keep, IsServerOf}
+use Rattle.campaign_world.proofs.HeadlineEnds.{IsBounded, IsDeviceFor, stays_for, acts_keep, IsServerOf}
 
 -- ---- a campaign
 
@@ -92,8 +94,15 @@ pub record IsBegun (form : Form) (w v : WorldState) : Type 0 where
 pub record IsJoined (form : Form) (w v : WorldState) : Type 0 where
   pub other : is_down form ≡ false
   pub cut : cut_of v.server.plan ≡ cut_of w.server.plan
-  pub config : DeviceConfig
-  pub devices : v.devices ≡ w.devices ++ first_device config ∷ []
+  pub class : Class
+  pub hw : ℕ
+  pub rows : ℕ
+  pub offset : ℕ
+  pub key : List ℕ
+  pub descriptor : Option ℕ
+  pub form_is : form ≡ Device (length w.devices + 1) class hw rows offset key descriptor
+  pub few : rows ≤ 64
+  pub devices : v.devices ≡ w.devices ++ device_of class hw rows offset key descriptor ∷ []
   pub sent : v.sent ≡ w.sent
 
 -- a payload reaches a device
@@ -138,14 +147,16 @@ quiet_devices image cut old new k (inr s) =
     some_is (IsDeviceFor image cut) new s.e s.is
     (stays_for image cut s.d s.e (if_some (IsDeviceFor image cut) old s.d s.was k) s.moves s.empty)
 
-joined_devices : (image : List ℕ) (cut : Cut) (ds : List DeviceState) (config : DeviceConfig)
+joined_devices : (image : List ℕ) (cut : Cut) (ds : List DeviceState) (config : DeviceConfig) → IsBounded config
     → DevicesAre image cut ds → DevicesAre image cut (ds ++ first_device config ∷ [])
-joined_devices image cut ds config k id = elim (numbered_push ds (first_device config) id) [
+joined_devices image cut ds config bounds k id = elim (numbered_push ds (first_device config) id) [
   | inl same ↦ subst (λ (o : Option DeviceState). IfSome o (IsDeviceFor image cut)) (sym same) (k id)
   | inr new ↦ some_is (IsDeviceFor image cut) _ (first_device config) new.1 (record {
     empty = refl;
     session = tt;
+    rows = tt;
     alone = record { second = refl; third = refl; fourth = refl };
+    bounds = bounds;
   })
 ]
 
@@ -192,7 +203,9 @@ turn_keeps image form w v k turn = elim turn.how [
         sent = same_sent image w v j.cut j.sent k.sent;
         devices = subst (λ (x : Cut). DevicesAre image x v.devices) (sym j.cut)
             (subst (DevicesAre image (cut_of w.server.plan)) (sym j.devices)
-            (joined_devices image (cut_of w.server.plan) w.devices j.config k.devices));
+            (joined_devices image (cut_of w.server.plan) w.devices
+            (config_of j.class j.hw j.rows j.offset j.key j.descriptor)
+            (record { sessions = refl; area = refl; rows = j.few }) k.devices));
       }
       | inr r ↦
           let its = if_some (IsDeviceFor image (cut_of w.server.plan)) (numbered w.devices r.id) r.old r.before

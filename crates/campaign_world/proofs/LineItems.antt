@@ -42,22 +42,34 @@ pub numbered_more : {A : Type 0} (xs ys : List A) (n : ℕ) (x : A) → numbered
 numbered_more xs ys n x is = more_by xs ys (n == 0) (n - 1) x is
 
 -- one item more: what is at a place is what was there, or the new item where nothing was
-abbrev IsPushed : {A : Type 0} → (old new : Option A) → A → Type 0
-IsPushed old new y = (new ≡ old) ⊎ ((old ≡ None) × (new ≡ Some y))
+abbrev IsPushed : {A : Type 0} → (old new : Option A) → A → (at end : ℕ) → Type 0
+IsPushed old new y at end = (new ≡ old) ⊎ ((old ≡ None) × (new ≡ Some y) × (at ≡ end))
 
-get_push : {A : Type 0} (xs : List A) (y : A) (k : ℕ) → IsPushed (slice_get xs k) (slice_get (xs ++ y ∷ []) k) y
-get_push [] y zero = inr (refl, refl)
+get_push : {A : Type 0} (xs : List A) (y : A) (k : ℕ)
+    → IsPushed (slice_get xs k) (slice_get (xs ++ y ∷ []) k) y k (length xs)
+get_push [] y zero = inr (refl, refl, refl)
 get_push [] y (suc k) = inl refl
 get_push (x ∷ xs) y zero = inl refl
-get_push (x ∷ xs) y (suc k) = get_push xs y k
+get_push (x ∷ xs) y (suc k) = elim (get_push xs y k) [
+  | inl same ↦ inl same
+  | inr new ↦ inr (new.0, new.1, omega (arith, new.2))
+]
 
-push_by : {A : Type 0} (xs : List A) (y : A) (b : Bool) (k : ℕ)
-    → IsPushed (cond b None (slice_get xs k)) (cond b None (slice_get (xs ++ y ∷ []) k)) y
-push_by xs y true k = inl refl
-push_by xs y false k = get_push xs y k
+push_by : {A : Type 0} (xs : List A) (y : A) (n : ℕ) (b : Bool) → (n == 0) ≡ b
+    → IsPushed (cond b None (slice_get xs (n - 1))) (cond b None (slice_get (xs ++ y ∷ []) (n - 1))) y n (length xs + 1)
+push_by xs y n true is = inl refl
+push_by xs y n false is = elim (get_push xs y (n - 1)) [
+  | inl same ↦ inl same
+  | inr new ↦ inr (new.0, new.1, some n is new.2)
+]
+  where
+    some : (n : ℕ) → (n == 0) ≡ false → n - 1 ≡ length xs → n ≡ length xs + 1
+    some zero is same = absurd cc
+    some (suc n) is same = omega (arith, same)
 
-pub numbered_push : {A : Type 0} (xs : List A) (y : A) (n : ℕ) → IsPushed (numbered xs n) (numbered (xs ++ y ∷ []) n) y
-numbered_push xs y n = push_by xs y (n == 0) (n - 1)
+pub numbered_push : {A : Type 0} (xs : List A) (y : A) (n : ℕ)
+    → IsPushed (numbered xs n) (numbered (xs ++ y ∷ []) n) y n (length xs + 1)
+numbered_push xs y n = push_by xs y n (n == 0) refl
 
 -- ---- another item at a place
 

@@ -1,6 +1,6 @@
 -- The headline in the field's own words: what the session of a campaign hears, when it is decided, and what the report says.
 -- (This project's profile.)
-use Rattle.std.specs.Prelude.{◌≡◌, ◌≢◌, ◌⊎◌, ℕ, ◌+◌, ◌-◌, ◌^◌, ◌<◌, ◌≤◌, true, false, List, [], ◌∷◌, ◌++◌, length, take, drop, All, codes, Option, Some, None, Result, Ok}
+use Rattle.std.specs.Prelude.{◌≡◌, ◌≢◌, ◌⊎◌, ℕ, ◌+◌, ◌-◌, ◌^◌, ◌<◌, ◌≤◌, true, false, List, [], ◌∷◌, ◌++◌, length, min, take, drop, All, codes, Option, Some, None, Result, Ok}
 use Rattle.std.specs.List.{AllByRecursion}
 use Rattle.std.specs.Fmt.{decimal}
 use Rattle.frag_model.specs.Limits.{max_parity_index}
@@ -16,6 +16,7 @@ use Rattle.package_grammar.specs.declared.command.Command.TheVariants.{Cast}
 use Rattle.package_grammar.specs.declared.command.Command.{Command}
 use Rattle.package_grammar.specs.declared.downlink.To.{To}
 use Rattle.package_grammar.specs.Grammar.{IsValid}
+use Rattle.device_core.specs.declared.config.DeviceConfig.{DeviceConfig}
 use Rattle.device_core.specs.SessionTable.{SessionTable}
 use Rattle.device_core.specs.Device.{DeviceState}
 use Rattle.device_core.specs.ClassSessions.{hears}
@@ -25,12 +26,14 @@ use Rattle.campaign_server.specs.declared.stage.Stage.{Stage}
 use Rattle.campaign_server.specs.Server.{ServerState, DownlinkCommand, numbered, ledger, downlink_of}
 use Rattle.campaign_server.specs.Plan.{session_index}
 use Rattle.campaign_server.specs.Asking.{mask_of, fragments_request}
-use Rattle.script_lines.specs.declared.forms.Form.TheVariants.{Down}
+use Rattle.script_lines.specs.declared.forms.Class.{Class}
+use Rattle.script_lines.specs.declared.forms.Form.TheVariants.{Device, Down}
 use Rattle.script_lines.specs.Lines.{lines_of}
 use Rattle.script_lines.specs.Forms.{form_of}
 use Rattle.campaign_world.specs.declared.numbered.SentPayload.{SentPayload}
 use Rattle.campaign_world.specs.declared.faults.LineFault.{LineFault}
 use Rattle.campaign_world.specs.World.{WorldState, first_world}
+use Rattle.campaign_world.specs.Making.{config_of}
 use Rattle.campaign_world.specs.Script.{read_lines, campaign_of}
 use Rattle.campaign_world.specs.Report.{◌⧺◌, image_line, device_line, counts_line, session_text, device_parts, report_of}
 
@@ -48,12 +51,25 @@ pub record HasNoOther (all : SessionTable) : Type 0 where
   pub third : all.third ≡ None
   pub fourth : all.fourth ≡ None
 
--- the session is the one that the server sets up for the image, and hears nothing but the image's fragments
-pub record IsServed (image : List ℕ) (server : ServerState) (session : Session) : Type 0 where
+-- line n of the script is the line of device id, which says this configuration
+pub record IsConfigured (lines : List (List ℕ)) (id : ℕ) (config : DeviceConfig) (n : ℕ) (line : List ℕ) (class : Class) (hw rows offset : ℕ) (key : List ℕ) (descriptor : Option ℕ) : Type 0 where
+  pub line_is : numbered lines n ≡ Some line
+  pub form : form_of line ≡ Some (Device id class hw rows offset key descriptor)
+  pub config_is : config ≡ config_of class hw rows offset key descriptor
+
+-- the configuration is that of the device's line
+abbrev pub IsOfItsLine : List (List ℕ) → (id : ℕ) → DeviceConfig → Type 0
+IsOfItsLine lines id config = (n : ℕ) × (line : List ℕ) × (class : Class) × (hw : ℕ) × (rows : ℕ) × (offset : ℕ) × (key : List ℕ) × (descriptor : Option ℕ)
+    × IsConfigured lines id config n line class hw rows offset key descriptor
+
+-- the session is the one that the server sets up for the image on a device with so many rows, and hears nothing but the
+-- image's fragments
+pub record IsServed (image : List ℕ) (server : ServerState) (rows : ℕ) (session : Session) : Type 0 where
   pub image_is : server.image ≡ image
   pub nb_frag : session.setup.nb_frag ≡ nb_frag_of (length image) server.plan.frag_size
   pub frag_size : session.setup.frag_size ≡ server.plan.frag_size
   pub padding : session.setup.padding ≡ padding_of (length image) server.plan.frag_size
+  pub rows_are : session.rows ≡ min rows (nb_frag_of (length image) server.plan.frag_size)
   pub heard : AllByRecursion (IsFragmentOf image server.plan.frag_size) session.heard
 
 -- line n of the script is a down to device id, and the server sent this valid command as the payload that it names
@@ -179,12 +195,16 @@ pub record IsCampaign (image script : List ℕ) (world : WorldState) (id : ℕ) 
 
 -- whatever image and accepted script of losses, repeats and reorderings there are
 pub record Headline : Type 0 where
-  -- a device has no session but the server's
+  -- a device is configured as its line says
+  pub configured : (image script : List ℕ) (world : WorldState) (id : ℕ) (device : DeviceState) → All (λ b. b < 2 ^ 8) image
+      → campaign_of image script ≡ Ok world → numbered world.devices id ≡ Some device
+      → IsOfItsLine (lines_of script) id device.config
+  -- it has no session but the server's
   pub one : (image script : List ℕ) (world : WorldState) (id : ℕ) (device : DeviceState) → All (λ b. b < 2 ^ 8) image
       → campaign_of image script ≡ Ok world → numbered world.devices id ≡ Some device → HasNoOther device.sessions
   -- which is the one for the image
   pub served : (image script : List ℕ) (world : WorldState) (id : ℕ) (stage : Stage) (device : DeviceState) (session : Session)
-      → IsCampaign image script world id stage device session → IsServed image world.server session
+      → IsCampaign image script world id stage device session → IsServed image world.server device.config.rows session
   -- it hears what the script brings
   pub brought : (image script : List ℕ) (world : WorldState) (id : ℕ) (stage : Stage) (device : DeviceState) (session : Session)
       → IsCampaign image script world id stage device session → HearsBrought image (lines_of script) world id session

@@ -4,6 +4,7 @@ use Rattle.std.specs.Result.{result_ok}
 use Rattle.wire_base.specs.declared.refusal.Refusal.{Refusal}
 use Rattle.device_core.specs.declared.config.Class.{Class as DeviceClass}
 use Rattle.device_core.specs.declared.config.Class.TheVariants as device_class
+use Rattle.device_core.specs.declared.config.DeviceConfig.{DeviceConfig}
 use Rattle.device_core.specs.declared.uplink.Uplink.{Uplink}
 use Rattle.device_core.specs.Device.{DeviceState, first_device}
 use Rattle.device_core.specs.Deliver.{delivery, waking}
@@ -38,9 +39,9 @@ abbrev pub class_of : Class → DeviceClass
 class_of class.A = device_class.A
 class_of class.C = device_class.C
 
--- a device with 4 sessions, 4 groups, and an area for the largest file
-abbrev pub device_of : Class → (hw rows offset : ℕ) → (key : List ℕ) → (descriptor : Option ℕ) → DeviceState
-device_of class hw rows offset key descriptor = first_device (record {
+-- a device has 4 sessions, 4 groups, and an area for the largest file
+abbrev pub config_of : Class → (hw rows offset : ℕ) → (key : List ℕ) → (descriptor : Option ℕ) → DeviceConfig
+config_of class hw rows offset key descriptor = record {
   class = class_of class;
   hw = hw;
   rows = rows;
@@ -50,7 +51,10 @@ device_of class hw rows offset key descriptor = first_device (record {
   sessions = 4;
   groups = 4;
   area = 65774;
-})
+}
+
+abbrev pub device_of : Class → (hw rows offset : ℕ) → (key : List ℕ) → (descriptor : Option ℕ) → DeviceState
+device_of class hw rows offset key descriptor = first_device (config_of class hw rows offset key descriptor)
 
 -- ---- what goes down
 
