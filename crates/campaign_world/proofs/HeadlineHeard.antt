@@ -259,6 +259,15 @@ campaign_full image script world bytes is =
     (first_reads image (lines_of script), first_full image (lines_of script) world.sent) (end_is _ world is)
 
 -- so it is in each accepted campaign
+pub campaign_full_at : (image script : List ℕ) (world : WorldState) (id : ℕ) (device : DeviceState)
+    → All (λ b. b < 2 ^ 8) image → campaign_of image script ≡ Ok world → numbered world.devices id ≡ Some device
+    → SessionHears image (cut_of world.server.plan) (Brings image (lines_of script) world.sent id) world.lines
+    device.config device.sessions.first
+unfolding AllHear
+campaign_full_at image script world id device bytes is d =
+    subst (DeviceHears image (cut_of world.server.plan) (Brings image (lines_of script) world.sent id) world.lines) d
+    (campaign_full image script world bytes is id)
+
 pub campaign_hears : (image script : List ℕ) (world : WorldState) (id : ℕ) (device : DeviceState) (session : Session)
     → All (λ b. b < 2 ^ 8) image → campaign_of image script ≡ Ok world
     → numbered world.devices id ≡ Some device → device.sessions.first ≡ Some session → (f : Fragment) (n : ℕ)
@@ -270,7 +279,7 @@ campaign_hears image script world id device session bytes is d e f n setup later
     let cut : Cut = cut_of world.server.plan in
     let brings : ℕ → Command → Type 0 = Brings image lines world.sent id in
     let all : SessionHears image cut brings world.lines device.config device.sessions.first =
-    subst (DeviceHears image cut brings world.lines) d (campaign_full image script world bytes is id) in
+    campaign_full_at image script world id device bytes is d in
     let its : SessionHears image cut brings world.lines device.config (Some session) =
     subst (λ (x : Option Session). SessionHears image cut brings world.lines device.config x) e all in
     let left : length (drop world.lines lines) ≡ 0 = ap length (campaign_reads image script world bytes is).left in

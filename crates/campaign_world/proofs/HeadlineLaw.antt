@@ -114,7 +114,7 @@ served image script world id stage device session c =
     }
 
 -- the setup that the server sends
-setup_is : (image : List ℕ) (server : ServerState) → IsServerOf image server
+pub setup_is : (image : List ℕ) (server : ServerState) → IsServerOf image server
     → setup_command server ≡ setup_request image (cut_of server.plan)
 setup_is image server k =
     ap (λ (i : List ℕ). let c : Command = Cast (fragments_request server.plan i) in c) k.image_is
