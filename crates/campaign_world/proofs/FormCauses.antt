@@ -306,7 +306,7 @@ at_events_only test one two three four five six place.Devices comes = inl refl
 at_events_only test one two three four five six place.Events comes = inr refl
 at_events_only test one two three four five six place.Ended comes = absurd cc
 
-event_at : (s : Section) (f : Form) → is_event_or_end f ≡ true → may_come s f ≡ true → (s ≡ place.Devices) ⊎ (s ≡ place.Events)
+pub event_at : (s : Section) (f : Form) → is_event_or_end f ≡ true → may_come s f ≡ true → (s ≡ place.Devices) ⊎ (s ≡ place.Events)
 event_at s form.Header event comes = absurd cc
 event_at s (form.Image frag_size parity) event comes = absurd cc
 event_at s (form.Group addr key min max) event comes = absurd cc

@@ -105,7 +105,7 @@ same_by section.Devices w world is = absurd cc
 same_by section.Events w world is = absurd cc
 same_by section.Ended w world is = cc
 
-ended : (r : Result WorldState LineFault) (world : WorldState) → end_result r ≡ Ok world → world.section ≡ section.Ended
+pub ended : (r : Result WorldState LineFault) (world : WorldState) → end_result r ≡ Ok world → world.section ≡ section.Ended
 ended (Err fault) world is = absurd cc
 ended (Ok w) world is =
     ap (λ (x : WorldState). x.section) (sym (same_by w.section w world is)) ∙ ended_by w.section w world is

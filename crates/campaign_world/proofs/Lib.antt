@@ -17,3 +17,4 @@ pub mod HeadlineSessions
 pub mod HeadlineHeard
 pub mod HeadlineLaw
 pub mod HeadlineLives
+pub mod HeadlineCounts

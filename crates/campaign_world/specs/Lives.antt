@@ -1,5 +1,5 @@
 -- That sessions live: what an accepted script brings about whatever else it does (this project's profile).
-use Rattle.std.specs.Prelude.{◌≡◌, ℕ, ◌^◌, ◌<◌, true, false, List, All, Some, is_some, Ok}
+use Rattle.std.specs.Prelude.{◌≡◌, ℕ, ◌^◌, ◌<◌, ◌≤◌, true, false, List, length, All, Some, is_some, Ok}
 use Rattle.frag_session.specs.Setup.{other_descriptor}
 use Rattle.image_slots.specs.Image.{is_image, firmware_of}
 use Rattle.device_core.specs.Device.{DeviceState}
@@ -8,6 +8,11 @@ use Rattle.script_lines.specs.Lines.{lines_of}
 use Rattle.campaign_world.specs.World.{WorldState}
 use Rattle.campaign_world.specs.Script.{campaign_of}
 use Rattle.campaign_world.specs.Headline.{Brings, setup_command}
+
+-- an accepted script has devices, and its server a stage for each; so the report has a line for each
+abbrev pub HasItsDevices : Type 0
+HasItsDevices = (image script : List ℕ) (world : WorldState) → campaign_of image script ≡ Ok world
+    → (1 ≤ length world.devices) × (length world.server.stages ≡ length world.devices)
 
 -- a device to which a line brought the server's setup, and that takes its descriptor, has its session: the setup of an image
 -- always has room

@@ -1,7 +1,7 @@
 //! Laws about the definitions, each the contract of a function that does nothing.
 
 ghost use Rattle.campaign_world.specs.Headline.{Headline};
-ghost use Rattle.campaign_world.specs.Lives.{SessionsLive};
+ghost use Rattle.campaign_world.specs.Lives.{HasItsDevices, SessionsLive};
 ghost use Rattle.campaign_world.specs.Recovery.{RecoversTheImage};
 
 /// Whatever image and accepted script there are: the session of each device hears what the script brings, it is complete from the first
@@ -13,6 +13,11 @@ pub fn headline()
 /// Whatever image and accepted script there are, what a device recovered is the image.
 pub fn recovers_the_image()
     ensures { RecoversTheImage }
+{}
+
+/// Every accepted script has its devices, and a stage for each.
+pub fn a_script_has_its_devices()
+    ensures { HasItsDevices }
 {}
 
 /// In every accepted script a device to which a line brought the server's setup, and that takes its descriptor, has its
