@@ -1,15 +1,12 @@
 -- An accepted script has its devices, with a stage for each.
-use Rattle.std.proofs.Common.{◌≡◌, ◌⊎◌, inl, inr, ℕ, ◌+◌, ◌-◌, ◌≤◌, Bool, true, false, cond, List, [], ◌∷◌, ◌++◌, length, replicate, Option, None, Some, Result, Ok, Err, IfOk, is_ok, is_some, refl, sym, ap, ◌∙◌, subst, arith}
-use Rattle.std.specs.List.{slice_set}
+use Rattle.std.proofs.Common.{◌≡◌, inl, inr, ℕ, ◌+◌, ◌-◌, ◌≤◌, Bool, true, false, cond, List, [], ◌∷◌, ◌++◌, length, replicate, Option, None, Some, Result, Ok, Err, IfOk, is_ok, is_some, refl, sym, ap, ◌∙◌, subst, arith}
 use Rattle.std.specs.Result.{result_ok}
 use Rattle.std.proofs.lemmas.List.{length-set, length_push, length-replicate}
 use Rattle.wire_base.specs.declared.refusal.Direction.TheVariants.{Up as Upwards}
-use Rattle.wire_base.specs.declared.refusal.Refusal.{Refusal}
 use Rattle.package_grammar.specs.declared.command.Command.{Command}
 use Rattle.package_grammar.specs.Reading.{Reading, reading_of}
 use Rattle.device_core.specs.Device.{DeviceState}
 use Rattle.device_core.specs.Deliver.{delivery, waking}
-use Rattle.campaign_server.specs.declared.plan.PlanDevice.{PlanDevice}
 use Rattle.campaign_server.specs.declared.stage.Stage.{Stage}
 use Rattle.campaign_server.specs.declared.stage.Stage.TheVariants.{At as AtRequest}
 use Rattle.campaign_server.specs.declared.stage.Request.TheVariants.{Version}
@@ -17,7 +14,7 @@ use Rattle.campaign_server.specs.Plan.{Plan}
 use Rattle.campaign_server.specs.Server.{ServerState, DownlinkCommand, numbered, ledger}
 use Rattle.campaign_server.specs.Asking.{request_of}
 use Rattle.campaign_server.specs.Fragments.{after_count, next_fragment, after_fragment as server_after_fragment, status_to_all, after_status_to_all}
-use Rattle.campaign_server.specs.Uplinks.{UplinkStep, with_answers, read_uplink, uplink_step}
+use Rattle.campaign_server.specs.Uplinks.{with_answers, read_uplink, uplink_step}
 use Rattle.script_lines.specs.declared.forms.Form.{Form}
 use Rattle.script_lines.specs.declared.forms.Form.TheVariants.{Header, Image, Group, WindowC, WindowB, Device, At, Wake, Ask, Frag, Status, Down, Up, End}
 use Rattle.script_lines.specs.Lines.{lines_of}
@@ -31,7 +28,7 @@ use Rattle.campaign_world.specs.declared.numbered.MadeUplink.{MadeUplink}
 use Rattle.campaign_world.specs.World.{WorldState, first_world}
 use Rattle.campaign_world.specs.Causes.{is_event_or_end, may_come, form_cause, cause_of_form, cause_of}
 use Rattle.campaign_world.specs.Making.{with_sent, with_device, after_wake, after_down, after_answer, after_up, at_events, after_form}
-use Rattle.campaign_world.specs.Script.{after_form_of, after_line, line_result, read_line, read_lines, end_result, campaign_of}
+use Rattle.campaign_world.specs.Script.{after_form_of, after_line, line_result, read_line, read_lines, campaign_of}
 use Rattle.campaign_world.specs.Lives.{HasItsDevices}
 use Rattle.campaign_world.proofs.FormCauses.{event_at, passes}
 use Rattle.campaign_world.proofs.HeadlineLines.{cause_by, end_is}

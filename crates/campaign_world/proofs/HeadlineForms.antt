@@ -26,7 +26,7 @@ use Rattle.campaign_world.specs.declared.numbered.SentPayload.{SentPayload}
 use Rattle.campaign_world.specs.declared.numbered.MadeUplink.{MadeUplink}
 use Rattle.campaign_world.specs.World.{WorldState}
 use Rattle.campaign_world.specs.Causes.{may_come, fits_script, is_device, names_device, may_reach, has_come, form_cause}
-use Rattle.campaign_world.specs.Making.{device_of, with_sent, with_device, after_wake, after_down, after_answer, after_up, at_events, after_form}
+use Rattle.campaign_world.specs.Making.{with_sent, with_device, after_wake, after_down, after_answer, after_up, at_events, after_form}
 use Rattle.campaign_world.proofs.LineItems.{if_some, numbered_put, numbered_there}
 use Rattle.campaign_world.proofs.HeadlineCommands.{cut_of, IsCut}
 use Rattle.campaign_world.proofs.HeadlinePayloads.{sent_acts, waking_stays}

@@ -22,6 +22,8 @@ use Rattle.device_core.specs.SessionTable.{SessionTable}
 use Rattle.device_core.specs.Device.{DeviceState, first_device}
 use Rattle.device_core.specs.ClassSessions.{hears}
 use Rattle.campaign_server.specs.Server.{DownlinkCommand, numbered, downlink_of}
+use Rattle.script_lines.specs.declared.forms.Class.{Class}
+use Rattle.script_lines.specs.declared.forms.Class.TheVariants as class
 use Rattle.script_lines.specs.declared.forms.Form.{Form}
 use Rattle.script_lines.specs.declared.forms.Form.TheVariants.{Device, Down}
 use Rattle.script_lines.specs.Lines.{lines_of}
@@ -33,9 +35,9 @@ use Rattle.campaign_world.specs.declared.faults.LineFault.{LineFault}
 use Rattle.campaign_world.specs.declared.numbered.SentPayload.{SentPayload}
 use Rattle.campaign_world.specs.World.{WorldState, first_world}
 use Rattle.campaign_world.specs.Causes.{cause_of_form, cause_of}
-use Rattle.campaign_world.specs.Making.{config_of, device_of, after_form}
+use Rattle.campaign_world.specs.Making.{class_of, config_of, device_of, after_form}
 use Rattle.campaign_world.specs.Script.{after_form_of, after_line, line_result, read_line, read_lines, end_result_at, end_result, campaign_of}
-use Rattle.campaign_world.specs.Headline.{IsOfItsLine, Delivers, Listens, campaign_before, Brings, WasBrought, CameInOrder}
+use Rattle.campaign_world.specs.Headline.{IsClass, IsOfItsLine, Delivers, Listens, campaign_before, Brings, WasBrought, CameInOrder}
 use Rattle.campaign_world.proofs.LineItems.{if_some, some_is, some_weaker, none_there, numbered_more, numbered_push, numbered_put, numbered_there, numbered_next, take_next}
 use Rattle.campaign_world.proofs.HeadlineCommands.{Cut, cut_of, setup_req, command_of, setup_request, fragment_command, IsGood, setup_good, fragment_good}
 use Rattle.campaign_world.proofs.HeadlinePayloads.{Moves, stays, comes_to, way_of}
@@ -386,6 +388,10 @@ configured_by lines id old new h (inr s) =
     (subst (IsOfItsLine lines id) (sym s.moves.config)
     (if_some (λ (d : DeviceState). IsOfItsLine lines id d.config) old s.d s.was h))
 
+class_same : (k : Class) → IsClass k (class_of k)
+class_same class.A = refl
+class_same class.C = refl
+
 turn_configured : (image : List ℕ) (lines : List (List ℕ)) (w v : WorldState) (form : Form) (line : List ℕ)
     → Turns image form w v → numbered lines (w.lines + 1) ≡ Some line → form_of line ≡ Some form
     → AllConfigured lines w.devices → AllConfigured lines v.devices
@@ -423,7 +429,15 @@ turn_configured image lines w v form line turn line_is form_is h = elim turn.how
               line_is = line_is;
               form = form_is ∙ ap (λ (f : Form). Some f) j.form_is
                   ∙ ap (λ (n : ℕ). Some (Device n j.class j.hw j.rows j.offset j.key j.descriptor)) (sym new.2);
-              config_is = refl;
+              class_is = class_same j.class;
+              hw_is = refl;
+              rows_are = refl;
+              offset_is = refl;
+              key_is = refl;
+              descriptor_is = refl;
+              sessions_are = refl;
+              groups_are = refl;
+              area_is = refl;
             },
           )
     ]

@@ -1,32 +1,31 @@
 -- A device to which the setup was brought, and that takes its descriptor, has its session.
-use Rattle.std.proofs.Common.{◌≡◌, ◌⊎◌, inl, inr, ℕ, zero, suc, ◌+◌, ◌-◌, ◌*◌, ◌/◌, ◌^◌, ◌<◌, ◌≤◌, Bool, true, false, cond, not, ◌==◌, ◌&&◌, ◌||◌, nat_lt, nat_le, List, [], ◌∷◌, length, min, drop, All, Option, None, Some, is_some, Result, Ok, Err, refl, sym, ap, ◌∙◌, subst, arith, ne_eqb, le-ltb, length-drop, mul-le-mul}
+use Rattle.std.proofs.Common.{◌≡◌, ℕ, zero, suc, ◌*◌, ◌^◌, ◌<◌, ◌≤◌, true, false, nat_le, List, length, min, drop, All, Option, None, Some, is_some, Result, Ok, Err, refl, sym, ap, ◌∙◌, subst, arith, ne_eqb, le-ltb, length-drop, mul-le-mul}
 use Rattle.std.proofs.lemmas.Bool.{le-leb}
 use Rattle.std.proofs.lemmas.Bool.Decides.{nat_tests}
 use Rattle.std.proofs.lemmas.Grind.{div_ceil_times}
 use Rattle.frag_encoder.specs.Encoding.{nb_frag_of, padding_of}
 use Rattle.row_elimination.specs.Room.{words_for, has_room}
-use Rattle.frag_session.specs.Setup.{wrong_coding, too_large, other_descriptor, setup_bits, rows_of}
+use Rattle.frag_session.specs.Setup.{wrong_coding, too_large, other_descriptor, setup_bits}
 use Rattle.frag_session.specs.Session.{Session}
 use Rattle.image_slots.specs.Image.{is_image, firmware_of}
 use Rattle.image_slots.proofs.ImageLemmas.{image_long, image_short}
 use Rattle.package_grammar.specs.declared.command.Command.{Command}
 use Rattle.device_core.specs.declared.config.DeviceConfig.{DeviceConfig}
-use Rattle.device_core.specs.Device.{DeviceState, limits_of, room_of}
-use Rattle.campaign_server.specs.Server.{numbered}
+use Rattle.device_core.specs.Device.{limits_of, room_of}
 use Rattle.script_lines.specs.Lines.{lines_of}
 use Rattle.campaign_world.specs.declared.section.Section.{Section}
 use Rattle.campaign_world.specs.declared.section.Section.TheVariants as section
 use Rattle.campaign_world.specs.declared.faults.LineFault.{LineFault}
 use Rattle.campaign_world.specs.World.{WorldState, first_world}
 use Rattle.campaign_world.specs.Script.{read_lines, end_result_at, end_result, campaign_of}
-use Rattle.campaign_world.specs.Headline.{Brings, setup_command}
+use Rattle.campaign_world.specs.Headline.{Brings}
 use Rattle.campaign_world.specs.Lives.{SessionsLive}
 use Rattle.campaign_world.proofs.LineItems.{within}
 use Rattle.campaign_world.proofs.HeadlineCommands.{Cut, cut_of, setup_req, setup_request, IsCut}
 use Rattle.campaign_world.proofs.HeadlineEnds.{IsBounded}
 use Rattle.campaign_world.proofs.HeadlineWorlds.{StandsIn}
 use Rattle.campaign_world.proofs.HeadlineLines.{campaign_reads, campaign_device}
-use Rattle.campaign_world.proofs.HeadlineSessions.{SessionHears, DeviceHears}
+use Rattle.campaign_world.proofs.HeadlineSessions.{SessionHears}
 use Rattle.campaign_world.proofs.HeadlineHeard.{campaign_full_at}
 use Rattle.campaign_world.proofs.HeadlineLaw.{setup_is}
 

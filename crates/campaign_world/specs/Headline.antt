@@ -16,6 +16,8 @@ use Rattle.package_grammar.specs.declared.command.Command.TheVariants.{Cast}
 use Rattle.package_grammar.specs.declared.command.Command.{Command}
 use Rattle.package_grammar.specs.declared.downlink.To.{To}
 use Rattle.package_grammar.specs.Grammar.{IsValid}
+use Rattle.device_core.specs.declared.config.Class.{Class as DeviceClass}
+use Rattle.device_core.specs.declared.config.Class.TheVariants as device_class
 use Rattle.device_core.specs.declared.config.DeviceConfig.{DeviceConfig}
 use Rattle.device_core.specs.SessionTable.{SessionTable}
 use Rattle.device_core.specs.Device.{DeviceState}
@@ -27,13 +29,13 @@ use Rattle.campaign_server.specs.Server.{ServerState, DownlinkCommand, numbered,
 use Rattle.campaign_server.specs.Plan.{session_index}
 use Rattle.campaign_server.specs.Asking.{mask_of, fragments_request}
 use Rattle.script_lines.specs.declared.forms.Class.{Class}
+use Rattle.script_lines.specs.declared.forms.Class.TheVariants as class
 use Rattle.script_lines.specs.declared.forms.Form.TheVariants.{Device, Down}
 use Rattle.script_lines.specs.Lines.{lines_of}
 use Rattle.script_lines.specs.Forms.{form_of}
 use Rattle.campaign_world.specs.declared.numbered.SentPayload.{SentPayload}
 use Rattle.campaign_world.specs.declared.faults.LineFault.{LineFault}
 use Rattle.campaign_world.specs.World.{WorldState, first_world}
-use Rattle.campaign_world.specs.Making.{config_of}
 use Rattle.campaign_world.specs.Script.{read_lines, campaign_of}
 use Rattle.campaign_world.specs.Report.{◌⧺◌, image_line, device_line, counts_line, session_text, device_parts, report_of}
 
@@ -51,11 +53,24 @@ pub record HasNoOther (all : SessionTable) : Type 0 where
   pub third : all.third ≡ None
   pub fourth : all.fourth ≡ None
 
+-- `a` is class A, and `c` is class C
+abbrev pub IsClass : Class → DeviceClass → Type 0
+IsClass class.A k = k ≡ device_class.A
+IsClass class.C k = k ≡ device_class.C
+
 -- line n of the script is the line of device id, which says this configuration
 pub record IsConfigured (lines : List (List ℕ)) (id : ℕ) (config : DeviceConfig) (n : ℕ) (line : List ℕ) (class : Class) (hw rows offset : ℕ) (key : List ℕ) (descriptor : Option ℕ) : Type 0 where
   pub line_is : numbered lines n ≡ Some line
   pub form : form_of line ≡ Some (Device id class hw rows offset key descriptor)
-  pub config_is : config ≡ config_of class hw rows offset key descriptor
+  pub class_is : IsClass class config.class
+  pub hw_is : config.hw ≡ hw
+  pub rows_are : config.rows ≡ rows
+  pub offset_is : config.offset ≡ offset
+  pub key_is : config.key ≡ key
+  pub descriptor_is : config.descriptor ≡ descriptor
+  pub sessions_are : config.sessions ≡ 4
+  pub groups_are : config.groups ≡ 4
+  pub area_is : config.area ≡ 65774
 
 -- the configuration is that of the device's line
 abbrev pub IsOfItsLine : List (List ℕ) → (id : ℕ) → DeviceConfig → Type 0
