@@ -3,3 +3,4 @@ pub mod Lines
 pub mod Numbers
 pub mod Forms
 pub mod Ranges
+pub mod WorkedLines

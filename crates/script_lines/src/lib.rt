@@ -4,6 +4,7 @@
 #![tactic(auto)]
 
 mod forms;
+mod laws;
 mod lines;
 mod numbers;
 mod ranges;
@@ -13,6 +14,7 @@ mod tests;
 mod words;
 
 pub use forms::{Class, Form, Key};
+pub use laws::worked_lines;
 pub use lines::first_line;
 pub use numbers::decimal;
 pub use ranges::in_range;

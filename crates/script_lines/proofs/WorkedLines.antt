@@ -1,0 +1,46 @@
+-- The worked lines spell their forms.
+use Rattle.std.proofs.Common.{refl}
+use Rattle.hex.specs.Hex.{decode_pairs}
+use Rattle.script_lines.specs.Lines.{words_of, word}
+use Rattle.script_lines.specs.Numbers.{decimal_of, key_of, hex_number_of}
+use Rattle.script_lines.specs.Forms.{form_of}
+use Rattle.script_lines.specs.WorkedLines.{AreForms, AreNone}
+
+pub forms : AreForms
+unfolding form_of words_of word decimal_of key_of hex_number_of decode_pairs
+forms = record {
+  header = refl;
+  image = refl;
+  group = refl;
+  window_c = refl;
+  window_b = refl;
+  device_a = refl;
+  device_c = refl;
+  at = refl;
+  wake = refl;
+  ask = refl;
+  frag = refl;
+  status = refl;
+  down = refl;
+  down_with_word = refl;
+  up = refl;
+  end = refl;
+}
+
+pub none : AreNone
+unfolding form_of words_of word decimal_of key_of hex_number_of decode_pairs
+none = record {
+  empty = refl;
+  version = refl;
+  another = refl;
+  capital = refl;
+  space_behind = refl;
+  two_spaces = refl;
+  no_word = refl;
+  one_word_more = refl;
+  leading_zero = refl;
+  sign = refl;
+  short_key = refl;
+  class_b = refl;
+  window_a = refl;
+}

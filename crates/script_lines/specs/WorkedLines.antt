@@ -1,0 +1,41 @@
+-- Lines of a script, each with the form that it spells, or with none.
+use Rattle.std.specs.Prelude.{◌≡◌, [], ◌∷◌, codes, Some, None}
+use Rattle.script_lines.specs.declared.forms.Class.TheVariants as class
+use Rattle.script_lines.specs.declared.forms.Form.TheVariants.{Header, Image, Group, WindowC, WindowB, Device, At, Wake, Ask, Frag, Status, Down, Up, End}
+use Rattle.script_lines.specs.Forms.{form_of}
+
+pub record AreForms : Type 0 where
+  pub header : form_of (codes "fuota 1") ≡ Some Header
+  pub image : form_of (codes "image 13 4") ≡ Some (Image 13 4)
+  pub group : form_of (codes "group 1122334a 000102030405060708090A0B0C0D0E0F 0 10")
+      ≡ Some (Group 0x1122334a (0 ∷ 1 ∷ 2 ∷ 3 ∷ 4 ∷ 5 ∷ 6 ∷ 7 ∷ 8 ∷ 9 ∷ 10 ∷ 11 ∷ 12 ∷ 13 ∷ 14 ∷ 15 ∷ []) 0 10)
+  pub window_c : form_of (codes "window c 1000 1 8695250 5") ≡ Some (WindowC 1000 1 8695250 5)
+  pub window_b : form_of (codes "window b 1000 3 1 8695250 5") ≡ Some (WindowB 1000 3 1 8695250 5)
+  pub device_a : form_of (codes "device 1 a 2 3 4 000102030405060708090a0b0c0d0e0f")
+      ≡ Some (Device 1 class.A 2 3 4 (0 ∷ 1 ∷ 2 ∷ 3 ∷ 4 ∷ 5 ∷ 6 ∷ 7 ∷ 8 ∷ 9 ∷ 10 ∷ 11 ∷ 12 ∷ 13 ∷ 14 ∷ 15 ∷ []) None)
+  pub device_c : form_of (codes "device 2 c 2 3 4 000102030405060708090a0b0c0d0e0f 0000000a")
+      ≡ Some (Device 2 class.C 2 3 4 (0 ∷ 1 ∷ 2 ∷ 3 ∷ 4 ∷ 5 ∷ 6 ∷ 7 ∷ 8 ∷ 9 ∷ 10 ∷ 11 ∷ 12 ∷ 13 ∷ 14 ∷ 15 ∷ []) (Some 10))
+  pub at : form_of (codes "at 4294967295999") ≡ Some (At 4294967295999)
+  pub wake : form_of (codes "wake 7") ≡ Some (Wake 7)
+  pub ask : form_of (codes "ask 7") ≡ Some (Ask 7)
+  pub frag : form_of (codes "frag") ≡ Some Frag
+  pub status : form_of (codes "status") ≡ Some Status
+  pub down : form_of (codes "down 3 7") ≡ Some (Down 3 7 0)
+  pub down_with_word : form_of (codes "down 3 7 12") ≡ Some (Down 3 7 12)
+  pub up : form_of (codes "up 3") ≡ Some (Up 3)
+  pub end : form_of (codes "end") ≡ Some End
+
+pub record AreNone : Type 0 where
+  pub empty : form_of [] ≡ None
+  pub version : form_of (codes "fuota 2") ≡ None
+  pub another : form_of (codes "stop") ≡ None
+  pub capital : form_of (codes "End") ≡ None
+  pub space_behind : form_of (codes "end ") ≡ None
+  pub two_spaces : form_of (codes "at  5") ≡ None
+  pub no_word : form_of (codes "at") ≡ None
+  pub one_word_more : form_of (codes "at 5 5") ≡ None
+  pub leading_zero : form_of (codes "at 05") ≡ None
+  pub sign : form_of (codes "at -5") ≡ None
+  pub short_key : form_of (codes "group 11223344 00 0 10") ≡ None
+  pub class_b : form_of (codes "device 1 b 2 3 4 000102030405060708090a0b0c0d0e0f") ≡ None
+  pub window_a : form_of (codes "window a 1000 1 8695250 5") ≡ None
