@@ -18,3 +18,4 @@ pub mod HeadlineHeard
 pub mod HeadlineLaw
 pub mod HeadlineLives
 pub mod HeadlineCounts
+pub mod WorkedCampaigns

@@ -1,0 +1,61 @@
+-- Campaigns worked out: their reports, and the first refused lines of scripts.
+use Rattle.std.specs.Prelude.{◌≡◌, ℕ, List, [], ◌∷◌, ◌++◌, codes, Result, Ok, Err}
+use Rattle.campaign_world.specs.declared.faults.LineFault.{LineFault}
+use Rattle.campaign_world.specs.declared.faults.LineWhy.{LineWhy}
+use Rattle.campaign_world.specs.declared.faults.LineWhy.TheVariants as why
+use Rattle.campaign_world.specs.World.{WorldState}
+use Rattle.campaign_world.specs.Script.{campaign_of}
+use Rattle.campaign_world.specs.Report.{report_of}
+
+-- an image file for hardware 1 with firmware 2, of 52 bytes
+abbrev pub worked_image : List ℕ
+worked_image =
+    0x46 ∷ 0x55 ∷ 0x49 ∷ 0x4d ∷ 0x01 ∷ 0x01 ∷ 0x00 ∷ 0x00 ∷ 0x00 ∷ 0x02 ∷ 0x00 ∷ 0x00 ∷ 0x00 ∷ 0x03 ∷ 0x00 ∷ 0x00 ∷ 0x00
+    ∷ 0xba ∷ 0x78 ∷ 0x16 ∷ 0xbf ∷ 0x8f ∷ 0x01 ∷ 0xcf ∷ 0xea ∷ 0x41 ∷ 0x41 ∷ 0x40 ∷ 0xde ∷ 0x5d ∷ 0xae ∷ 0x22
+    ∷ 0x23 ∷ 0xb0 ∷ 0x03 ∷ 0x61 ∷ 0xa3 ∷ 0x96 ∷ 0x17 ∷ 0x7a ∷ 0x9c ∷ 0xb4 ∷ 0x10 ∷ 0xff ∷ 0x61 ∷ 0xf2 ∷ 0x00 ∷ 0x15
+    ∷ 0xad ∷ 0x61 ∷ 0x62 ∷ 0x63 ∷ []
+
+abbrev pub report_or_fault : Result WorldState LineFault → Result (List ℕ) LineFault
+report_or_fault (Ok world) = Ok (report_of world)
+report_or_fault (Err fault) = Err fault
+
+-- what is told of the worked image and a script
+abbrev pub told : (script : List ℕ) → Result (List ℕ) LineFault
+told script = report_or_fault (campaign_of worked_image script)
+
+abbrev pub reported : List ℕ → Result (List ℕ) LineFault
+reported text = Ok text
+
+abbrev pub refused : (line : ℕ) → LineWhy → Result (List ℕ) LineFault
+refused line cause = Err (record { line = line; why = cause })
+
+-- a plan with one device whose clock is 5 s ahead, and what follows
+abbrev pub one_device : List ℕ → List ℕ
+one_device events = codes "fuota 1\nimage 13 0\ndevice 1 c 1 0 5 00000000000000000000000000000000\n" ++ events
+
+pub record AreReported : Type 0 where
+  -- a device that wakes is set right once
+  pub clock : told (one_device (codes "at 10000\nwake 1\nup 1\ndown 1 1\ndown 1 1\nend\n")) ≡ reported (codes
+      "fuota report 1\nimage 52 fragments 4 size 13 padding 0 parity 0\ndevice 1 version clock 0 token 1 running 0 next none\ncounts deaf 0 refused 0 full 0 dropped 0\nend\n")
+  -- the answer of the device's version leads on
+  pub version : told (one_device (codes "ask 1\ndown 1 1\nup 1\nask 1\nfrag\nend\n")) ≡ reported (codes
+      "fuota report 1\nimage 52 fragments 4 size 13 padding 0 parity 0\ndevice 1 fragments clock 5 token 0 running 0 next none\ncounts deaf 0 refused 0 full 0 dropped 0\nend\n")
+  -- other hardware is refused, and a device of class A is deaf before its first uplink
+  pub others : told (codes
+      "fuota 1\nimage 50 2\ndevice 1 c 7 0 0 00000000000000000000000000000000\ndevice 2 a 1 0 0 00000000000000000000000000000000\nask 1\nask 2\ndown 1 1\nup 1\ndown 2 2\nend\n")
+      ≡ reported (codes
+      "fuota report 1\nimage 52 fragments 2 size 50 padding 48 parity 2\ndevice 1 refused version 1 clock 0 token 0 running 0 next none\ncounts deaf 0 refused 0 full 0 dropped 0\ndevice 2 version clock 0 token 0 running 0 next none\ncounts deaf 1 refused 0 full 0 dropped 0\nend\n")
+
+pub record AreRefused : Type 0 where
+  pub no_end : told (one_device []) ≡ refused 4 why.Syntax
+  pub no_form : told (one_device (codes "stop\n")) ≡ refused 4 why.Syntax
+  pub order : told (one_device (codes "image 13 0\n")) ≡ refused 4 why.Order
+  pub behind_the_end : told (one_device (codes "end\nend\n")) ≡ refused 5 why.Order
+  pub range : told (one_device (codes "at 4294967296000\n")) ≡ refused 4 why.Range
+  pub next_id : told (one_device (codes "device 3 c 1 0 0 00000000000000000000000000000000\n")) ≡ refused 4 why.Range
+  pub device : told (one_device (codes "ask 2\n")) ≡ refused 4 why.Device
+  pub payload : told (one_device (codes "down 1 1\n")) ≡ refused 4 why.Unsent
+  pub uplink : told (one_device (codes "up 1\n")) ≡ refused 4 why.Unsent
+  pub time : told (one_device (codes "at 5\nat 4\n")) ≡ refused 5 why.Time
+  pub limit : told (one_device (codes "frag\nfrag\nfrag\nfrag\nfrag\n")) ≡ refused 8 why.Limit
+  pub size : told (codes "fuota 1\nimage 240 0\n") ≡ refused 2 why.Range
