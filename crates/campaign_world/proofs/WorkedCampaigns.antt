@@ -32,7 +32,7 @@ use Rattle.campaign_world.specs.Causes.{form_cause, cause_of}
 use Rattle.campaign_world.specs.Making.{with_device, after_form}
 use Rattle.campaign_world.specs.Script.{after_line, read_line, read_lines, campaign_of}
 use Rattle.campaign_world.specs.Report.{device_parts, report_of}
-use Rattle.campaign_world.specs.WorkedCampaigns.{AreReported, AreRefused}
+use Rattle.campaign_world.specs.WorkedCampaigns.{AreReported, AreRefused, AreWords}
 
 pub refused_so : AreRefused
 unfolding campaign_of read_lines read_line after_line cause_of form_cause in_range after_form lines_of words_of word decimal_of key_of hex_number_of decode_pairs form_of next_fragment after_fragment request_of request_at
@@ -54,3 +54,31 @@ refused_so = record {
 pub reported_so : AreReported
 unfolding digits int_wrap campaign_of read_lines read_line after_line cause_of form_cause in_range after_form with_device report_of device_parts view_of lines_of words_of word decimal_of key_of hex_number_of decode_pairs form_of next_fragment after_fragment request_of request_at hardware_of firmware_of number_at uplink_step read_uplink reading_of read_from command_at named_at stop_at is_known sync.is_known sync.samples cast.is_known cast.samples clock_up clock_down firmware_up firmware_down fragment_up fragment_down group_up group_down stage_after_all stage_after time_answer delivery heard_delivery read_delivery message_delivery after_due_reboot after_swap hears is_after_uplink after_commands step command_step after_answers answer_step version_step waking time_asking
 reported_so = record { clock = refl; version = refl; others = refl }
+
+pub words_are : AreWords
+unfolding digits
+words_are = record {
+  version = refl;
+  group = refl;
+  fragments = refl;
+  window = refl;
+  status = refl;
+  image = refl;
+  reboot = refl;
+  check = refl;
+  updated = refl;
+  refused_with_bits = refl;
+  no_next = refl;
+  corrupt = refl;
+  incompatible = refl;
+  valid = refl;
+  device = refl;
+  counts = refl;
+  session = refl;
+  receiving = refl;
+  complete = refl;
+  no_rows = refl;
+  conflict = refl;
+  same = refl;
+  other = refl;
+}

@@ -3,7 +3,7 @@
 ghost use Rattle.campaign_world.specs.Headline.{Headline};
 ghost use Rattle.campaign_world.specs.Lives.{HasItsDevices, SessionsLive};
 ghost use Rattle.campaign_world.specs.Recovery.{RecoversTheImage};
-ghost use Rattle.campaign_world.specs.WorkedCampaigns.{AreRefused, AreReported};
+ghost use Rattle.campaign_world.specs.WorkedCampaigns.{AreRefused, AreReported, AreWords};
 
 /// Whatever image and accepted script there are: the session of each device hears what the script brings, it is complete from the first
 /// heard fragment on after which one file alone fits, that file is the server's image, and the report says so.
@@ -27,8 +27,9 @@ pub fn sessions_live()
     ensures { SessionsLive }
 {}
 
-/// Campaigns that are worked out have these reports, and these first refused lines.
+/// Campaigns that are worked out have these reports, and these first refused lines; and the words of a report.
 pub fn worked_campaigns()
     ensures reported { AreReported }
     ensures refused { AreRefused }
+    ensures words { AreWords }
 {}
