@@ -18,7 +18,9 @@ mod world;
 
 pub use deliveries::throw_away;
 pub use faults::{LineError, LineFault, LineWhy};
-pub use laws::{a_script_has_its_devices, headline, recovers_the_image, sessions_live, worked_campaigns};
+pub use laws::{
+    a_script_has_its_devices, headline, recovers_the_image, sessions_live, worked_campaigns,
+};
 pub use recovery::NoFile;
 pub use report::{counts_line, session_text, sessions_text, verdict_text};
 pub use world::{MAX_LINE, MAX_LINES, World};
