@@ -6,4 +6,5 @@ pub mod Playing
 pub mod CommandLine
 pub mod OneAnswer
 pub mod HeadlineAnswered
+pub mod RunHeadline
 pub mod ReplayAnswered

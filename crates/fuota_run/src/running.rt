@@ -12,6 +12,7 @@ ghost use Rattle.campaign_world.specs.World.{WorldState};
 ghost use Rattle.campaign_world.specs.HeldWorld.{WorldStands};
 ghost use Rattle.campaign_world.specs.Script.{end_result, campaign_of};
 ghost use Rattle.fuota_run.specs.Reply.{HoldsForm, HoldsAsked, IsPlayed, GivesScript, GivesCampaign, GivesFile, Gives, Says, IsReadUp, Ends, AppendsAnswer, IsNoForm, IsFinished};
+ghost use Rattle.fuota_run.specs.Headline.{IsCampaignRun, IsRecoveryRun};
 ghost use Rattle.fuota_run.specs.Replies.{answer_in, seen_reply, IsUnread, IsMadeOf, IsRecovery, IsSaid};
 ghost use Rattle.campaign_world.specs.Texts.{seen_text};
 
@@ -54,6 +55,15 @@ pub fn run<F: Files, O: Sink>(alloc: Global, words: &[String], files: &mut F, ou
     // answer to the words.
     ensures exact { IfSome (F.held files.old) (λ held. ¬ HasRisen (F.faults files.old) (F.faults files.new) → ¬ HasRisen (O.faults out.old) (O.faults out.new) → result ≢ Status.Memory
         → AppendsAnswer (Some held) (map string_bytes words.now) result (O.written out.old) (O.written out.new)) }
+
+    // So a campaign's whole report is written, and what it says of each device's session is the headline: the session hears
+    // what the script delivers, and is complete from the first fragment on after which one file alone fits, the image.
+    ensures headline { IfSome (F.held files.old) (λ held. ¬ HasRisen (F.faults files.old) (F.faults files.new) → ¬ HasRisen (O.faults out.old) (O.faults out.new) → result ≢ Status.Memory
+        → IsCampaignRun (map string_bytes words.now) held result (O.written out.old) (O.written out.new)) }
+
+    // And what is recovered of a device that has its file is the image.
+    ensures recovery { IfSome (F.held files.old) (λ held. ¬ HasRisen (F.faults files.old) (F.faults files.new) → ¬ HasRisen (O.faults out.old) (O.faults out.new) → result ≢ Status.Memory
+        → IsRecoveryRun (map string_bytes words.now) held result (O.written out.old) (O.written out.new)) }
 
     // What each status says, whatever failed.
     ensures ends { Ends (F.held files.old) (map string_bytes words.now) (record {
