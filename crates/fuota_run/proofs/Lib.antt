@@ -4,6 +4,7 @@ pub mod ReplyLemmas
 pub mod Outcomes
 pub mod Playing
 pub mod CommandLine
+pub mod FormWords
 pub mod OneAnswer
 pub mod HeadlineAnswered
 pub mod RunHeadline
