@@ -5,6 +5,7 @@ pub mod Outcomes
 pub mod Playing
 pub mod CommandLine
 pub mod FormWords
+pub mod NamesAsked
 pub mod OneAnswer
 pub mod HeadlineAnswered
 pub mod RunHeadline

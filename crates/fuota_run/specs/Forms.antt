@@ -1,11 +1,13 @@
 -- The words of each form, spelled out. (This project's profile.)
-use Rattle.std.specs.Prelude.{◌≡◌, ◌≢◌, ◌==◌, ℕ, Bool, true, not, List, [], ◌∷◌, length, codes, Some, None}
-use Rattle.std.specs.List.{AllByRecursion}
+use Rattle.std.specs.Prelude.{◌≡◌, ◌≢◌, ◌==◌, ℕ, Bool, true, not, List, [], ◌∷◌, length, codes, Option, Some, None, IsSome}
+use Rattle.std.specs.List.{AllByRecursion, Contains}
 use Rattle.wire_base.specs.declared.refusal.Direction.{Direction}
 use Rattle.clap.specs.Words.{Text}
 use Rattle.fuota_run.specs.declared.words.FileForm.TheVariants.{Replay, Decode}
 use Rattle.fuota_run.specs.declared.words.ScriptForm.TheVariants.{Campaign, Recover}
-use Rattle.fuota_run.specs.Words.{plays, payloads, asked, port_of_word, device_of_word, direction_of_word}
+use Rattle.fuota_run.specs.Outside.{Held}
+use Rattle.fuota_run.specs.Reply.{HoldsForm}
+use Rattle.fuota_run.specs.Words.{Asked, plays, payloads, asked, port_of_word, device_of_word, direction_of_word}
 
 -- a word that is taken as it stands: it does not begin with a dash (45)
 abbrev pub is_name : Text → Bool
@@ -33,3 +35,16 @@ pub record OtherCountsAreNone : Type 0 where
   pub replay : (program : Text) (names : List Text) → AllByRecursion IsName names → length names ≢ 1 → asked (program ∷ codes "replay" ∷ names) ≡ None
   pub decode : (program : Text) (names : List Text) → AllByRecursion IsName names → length names ≢ 3 → asked (program ∷ codes "decode" ∷ names) ≡ None
   pub nothing : (program : Text) → asked (program ∷ []) ≡ None
+
+-- ---- the files that are asked for
+
+-- their names
+abbrev pub names_asked : Option Asked → List Text
+names_asked None = []
+names_asked (Some (plays what image script)) = image ∷ script ∷ []
+names_asked (Some (payloads what file)) = file ∷ []
+
+-- whatever the words: those names are among them, and a run needs no others to be held
+pub record NamesAreWords : Type 0 where
+  pub among : (words : List Text) → AllByRecursion (Contains words) (names_asked (asked words))
+  pub enough : (held : Held) (words : List Text) → AllByRecursion (λ name. IsSome (held name)) (names_asked (asked words)) → HoldsForm (Some held) words
