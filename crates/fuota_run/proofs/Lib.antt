@@ -1,5 +1,6 @@
 pub mod Named
 pub mod Writing
+pub mod Taken
 pub mod ReplyLemmas
 pub mod Outcomes
 pub mod Playing
