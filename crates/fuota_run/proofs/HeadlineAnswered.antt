@@ -1,5 +1,5 @@
 -- A campaign is answered with its report, and the recovery of a device with the image.
-use Rattle.std.proofs.Common.{◌≡◌, ℕ, ◌^◌, ◌<◌, List, All, Option, Some, Ok, Err, refl, ap, ◌∙◌, subst}
+use Rattle.std.proofs.Common.{◌≡◌, ℕ, ◌^◌, ◌<◌, List, All, Option, Ok, Err, refl, ap, ◌∙◌, subst}
 use Rattle.std.proofs.lemmas.Bool.{le-ltb}
 use Rattle.campaign_world.specs.World.{WorldState}
 use Rattle.campaign_world.specs.Script.{campaign_of}

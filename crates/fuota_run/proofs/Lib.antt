@@ -1,9 +1,13 @@
 pub mod Named
 pub mod Writing
+pub mod Taken
 pub mod ReplyLemmas
 pub mod Outcomes
 pub mod Playing
 pub mod CommandLine
+pub mod FormWords
+pub mod NamesAsked
 pub mod OneAnswer
 pub mod HeadlineAnswered
+pub mod RunHeadline
 pub mod ReplayAnswered

@@ -166,14 +166,15 @@ pub record IsMade (a : Answer) : Type 0 where
   pub replied : IsReplied a.status
   pub sound : a.status ≢ status.ReadFault
   pub used : a.status ≢ status.Usage
+  pub short : (taken : ℕ) → a.status ≢ status.TooLong taken
 
 -- the answer with what a script made
 recovered_made : (device : ℕ) (r : Result (List ℕ) NoFile) → IsMade (recovered device r)
-recovered_made device (Ok file) = record { replied = tt; sound = λ e. cc; used = λ e. cc }
-recovered_made device (Err why) = record { replied = tt; sound = λ e. cc; used = λ e. cc }
+recovered_made device (Ok file) = record { replied = tt; sound = λ e. cc; used = λ e. cc; short = λ taken e. cc }
+recovered_made device (Err why) = record { replied = tt; sound = λ e. cc; used = λ e. cc; short = λ taken e. cc }
 
 told_made : (what : ScriptForm) (w : WorldState) → IsMade (told_of what w)
-told_made Campaign w = record { replied = tt; sound = λ e. cc; used = λ e. cc }
+told_made Campaign w = record { replied = tt; sound = λ e. cc; used = λ e. cc; short = λ taken e. cc }
 told_made (Recover device) w = recovered_made device (recovery w device)
 
 pub says_played : (what : ScriptForm) (image script : List ℕ) (r : Result Answer LineError) (a : Answer) → IsPlayed what (campaign_of image script) r → IsMadeOf r a
@@ -185,7 +186,7 @@ says_played what image script (Ok x) a made said =
     )
 says_played what image script (Err (world.Line fault)) a made said = (
   said ∙ sym (ap (played what) made),
-  subst IsMade (sym said) (record { replied = tt; sound = λ e. cc; used = λ e. cc }),
+  subst IsMade (sym said) (record { replied = tt; sound = λ e. cc; used = λ e. cc; short = λ taken e. cc }),
 )
 says_played what image script (Err world.Memory) a made said = absurd said
 
@@ -194,11 +195,11 @@ pub says_told : (Tells : Telling) (file : List ℕ) (r : Result (List ℕ) LineE
     → ((said : Result (List ℕ) LineFault) × Tells file said × (a ≡ told said)) × IsMade a
 says_told Tells file (Ok text) a made said = (
   (Ok text, made, said),
-  subst IsMade (sym said) (record { replied = tt; sound = λ e. cc; used = λ e. cc }),
+  subst IsMade (sym said) (record { replied = tt; sound = λ e. cc; used = λ e. cc; short = λ taken e. cc }),
 )
 says_told Tells file (Err (world.Line fault)) a made said = (
   (Err fault, made, said),
-  subst IsMade (sym said) (record { replied = tt; sound = λ e. cc; used = λ e. cc }),
+  subst IsMade (sym said) (record { replied = tt; sound = λ e. cc; used = λ e. cc; short = λ taken e. cc }),
 )
 says_told Tells file (Err world.Memory) a made said = absurd said
 

@@ -1,9 +1,15 @@
 -- The program answers a campaign with its report, of which the headline speaks, and a replay with its text.
-use Rattle.std.specs.Prelude.{◌≡◌, ℕ, ◌^◌, ◌<◌, ◌≤◌, List, length, All, true, Some, Ok, Err}
+use Rattle.std.specs.Prelude.{◌≡◌, ℕ, ◌^◌, ◌<◌, ◌≤◌, List, length, All, true, Option, Some, Ok, Err}
+use Rattle.std.specs.Io.KnownBytes.{Appends}
 use Rattle.image_slots.specs.Image.{is_image}
 use Rattle.campaign_world.specs.World.{WorldState}
 use Rattle.campaign_world.specs.Script.{campaign_of}
 use Rattle.campaign_world.specs.Report.{report_of}
+use Rattle.campaign_world.specs.Headline.{IsOfItsLine, HasNoOther, IsServed, HearsBrought, IsRecovered, IsReported, IsCampaign}
+use Rattle.campaign_server.specs.declared.stage.Stage.{Stage}
+use Rattle.campaign_server.specs.Server.{numbered}
+use Rattle.frag_session.specs.Session.{Session}
+use Rattle.fuota_run.specs.declared.status.Status.{Status}
 use Rattle.fuota_run.specs.declared.status.Status.TheVariants as status
 use Rattle.fuota_run.specs.Outside.{Held}
 use Rattle.fuota_run.specs.Limits.{image_limit, script_limit}
@@ -51,3 +57,40 @@ abbrev pub IsReplayAnswered : Type 0
 IsReplayAnswered = (words : List (List ℕ)) (held : Held) (name file : List ℕ) (device : DeviceState) → asked words ≡ Some (payloads Replay name)
     → held name ≡ Some file → length file ≤ script_limit → Reaches (lines_of file) (Ok device) → (a : Answer) → IsAnswer words held a
     → a ≡ answer status.Done (replay_text device)
+
+-- ---- the same of a run: its status, and the bytes of the sink before and after it
+
+-- what the headline says of a device that has a session
+pub record IsHeadline (image script : List ℕ) (world : WorldState) (id : ℕ) (stage : Stage) (device : DeviceState) (session : Session) : Type 0 where
+  pub served : IsServed image world.server device.config.rows session
+  pub brought : HearsBrought image (lines_of script) world id session
+  pub recovered : IsRecovered image session
+  pub reported : IsReported image world id stage device session
+
+-- the whole report of that campaign was appended, and of each device that has a session it says what the headline says
+pub record IsReportWritten (image script : List ℕ) (world : WorldState) (s : Status) (old new : Option (List ℕ)) : Type 0 where
+  pub done : s ≡ status.Done
+  pub report : Appends old new (report_of world)
+  pub configured : (id : ℕ) (device : DeviceState) → numbered world.devices id ≡ Some device
+      → IsOfItsLine (lines_of script) id device.config
+  pub one : (id : ℕ) (device : DeviceState) → numbered world.devices id ≡ Some device → HasNoOther device.sessions
+  pub headline : (id : ℕ) (stage : Stage) (device : DeviceState) (session : Session)
+      → IsCampaign image script world id stage device session → IsHeadline image script world id stage device session
+
+-- so it is of whatever image and accepted script the words ask for
+abbrev pub IsCampaignRun : List (List ℕ) → Held → Status → Option (List ℕ) → Option (List ℕ) → Type 0
+IsCampaignRun words held s old new = (image script : List ℕ) (world : WorldState) → AreHandedIn words held Campaign image script
+    → All (λ b. b < 2 ^ 8) image → campaign_of image script ≡ Ok world → IsReportWritten image script world s old new
+
+-- what was appended is this answer's text
+abbrev pub IsWritten : Answer → Status → Option (List ℕ) → Option (List ℕ) → Type 0
+IsWritten a s old new = (s ≡ a.status) × Appends old new a.text
+
+-- of a device that has its file the image was appended, and of one that has none how it stands
+pub record IsRecoveryWritten (image : List ℕ) (world : WorldState) (device : ℕ) (s : Status) (old new : Option (List ℕ)) : Type 0 where
+  pub image_is : (file : List ℕ) → All (λ b. b < 2 ^ 8) image → recovery world device ≡ Ok file → IsWritten (answer status.Done image) s old new
+  pub no_file : (why : NoFile) → recovery world device ≡ Err why → IsWritten (not_complete device why) s old new
+
+abbrev pub IsRecoveryRun : List (List ℕ) → Held → Status → Option (List ℕ) → Option (List ℕ) → Type 0
+IsRecoveryRun words held s old new = (device : ℕ) (image script : List ℕ) (world : WorldState) → AreHandedIn words held (Recover device) image script
+    → campaign_of image script ≡ Ok world → IsRecoveryWritten image world device s old new

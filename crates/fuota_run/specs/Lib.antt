@@ -3,6 +3,7 @@ pub mod Outside
 pub mod Source
 pub mod Memory
 pub mod Words
+pub mod Forms
 pub mod Answer
 pub mod Reply
 pub mod Replies

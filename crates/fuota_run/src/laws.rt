@@ -1,6 +1,7 @@
 //! Laws about the definitions, each the contract of a function that does nothing.
 
 ghost use Rattle.fuota_run.specs.Answer.{HasOneReply};
+ghost use Rattle.fuota_run.specs.Forms.{NamesAreWords, OtherCountsAreNone, WordsAreForms};
 ghost use Rattle.fuota_run.specs.Headline.{IsRecoveryAnswered, IsReplayAnswered, IsReportAnswered};
 
 /// Whatever image and accepted script are handed in, the answer is the report of that campaign, of which the headline of
@@ -24,4 +25,19 @@ pub fn replay_is_answered()
 /// Words have one answer over the files that are held: one status, and one text.
 pub fn run_has_one_answer()
     ensures { HasOneReply }
+{}
+
+/// A keyword and its names, which do not begin with a dash, are that form.
+pub fn words_are_forms()
+    ensures { WordsAreForms }
+{}
+
+/// With fewer names than its form has, or with more, a keyword is none.
+pub fn other_counts_are_no_forms()
+    ensures { OtherCountsAreNone }
+{}
+
+/// The names of the files that are asked for are among the words, and a run needs no others to be held.
+pub fn names_are_words()
+    ensures { NamesAreWords }
 {}

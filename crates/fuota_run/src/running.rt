@@ -1,5 +1,5 @@
 // The whole program: words and files in, one text and a status out.
-ghost use Rattle.std.specs.Prelude.{◌≡◌, ◌≢◌, ◌↔◌, ◌≤◌, ◌++◌, true, false, None, Ok, map, codes, string_bytes, IfOk, IfSome};
+ghost use Rattle.std.specs.Prelude.{◌≡◌, ◌≢◌, ◌↔◌, ◌⊎◌, ◌≤◌, ◌++◌, ℕ, true, false, None, Ok, map, codes, string_bytes, IfOk, IfSome};
 ghost use Rattle.std.specs.Fmt.{decimal};
 ghost use Rattle.std.specs.Io.KnownBytes.{Appends};
 ghost use Rattle.fuota_run.specs.Outside.{HoldsName, HasRisen};
@@ -12,6 +12,8 @@ ghost use Rattle.campaign_world.specs.World.{WorldState};
 ghost use Rattle.campaign_world.specs.HeldWorld.{WorldStands};
 ghost use Rattle.campaign_world.specs.Script.{end_result, campaign_of};
 ghost use Rattle.fuota_run.specs.Reply.{HoldsForm, HoldsAsked, IsPlayed, GivesScript, GivesCampaign, GivesFile, Gives, Says, IsReadUp, Ends, AppendsAnswer, IsNoForm, IsFinished};
+ghost use Rattle.fuota_run.specs.Headline.{IsCampaignRun, IsRecoveryRun};
+ghost use Rattle.fuota_run.specs.Source.{IsTaken, IsTakenOf};
 ghost use Rattle.fuota_run.specs.Replies.{answer_in, seen_reply, IsUnread, IsMadeOf, IsRecovery, IsSaid};
 ghost use Rattle.campaign_world.specs.Texts.{seen_text};
 
@@ -55,6 +57,15 @@ pub fn run<F: Files, O: Sink>(alloc: Global, words: &[String], files: &mut F, ou
     ensures exact { IfSome (F.held files.old) (λ held. ¬ HasRisen (F.faults files.old) (F.faults files.new) → ¬ HasRisen (O.faults out.old) (O.faults out.new) → result ≢ Status.Memory
         → AppendsAnswer (Some held) (map string_bytes words.now) result (O.written out.old) (O.written out.new)) }
 
+    // So a campaign's whole report is written, and what it says of each device's session is the headline: the session hears
+    // what the script delivers, and is complete from the first fragment on after which one file alone fits, the image.
+    ensures headline { IfSome (F.held files.old) (λ held. ¬ HasRisen (F.faults files.old) (F.faults files.new) → ¬ HasRisen (O.faults out.old) (O.faults out.new) → result ≢ Status.Memory
+        → IsCampaignRun (map string_bytes words.now) held result (O.written out.old) (O.written out.new)) }
+
+    // And what is recovered of a device that has its file is the image.
+    ensures recovery { IfSome (F.held files.old) (λ held. ¬ HasRisen (F.faults files.old) (F.faults files.new) → ¬ HasRisen (O.faults out.old) (O.faults out.new) → result ≢ Status.Memory
+        → IsRecoveryRun (map string_bytes words.now) held result (O.written out.old) (O.written out.new)) }
+
     // What each status says, whatever failed.
     ensures ends { Ends (F.held files.old) (map string_bytes words.now) (record {
       files_before = F.faults files.old;
@@ -69,6 +80,8 @@ pub fn run<F: Files, O: Sink>(alloc: Global, words: &[String], files: &mut F, ou
     ensures no_form { asked (map string_bytes words.now) ≡ None → IsNoForm result }
     ensures finished { IsFinished result (O.finished out.new) }
     ensures whole { IsReadUp result (F.left files.new) }
+    // Where a source is too long, so many bytes of it were taken as the status says, and no more.
+    ensures taken { (taken : ℕ) → result ≡ Status.TooLong taken → IsTakenOf (F.held files.old) (asked (map string_bytes words.now)) taken (F.left files.new) }
 {
     match reply_to(alloc, words, files) {
         Err(_) => Status::Memory,
@@ -85,6 +98,7 @@ fn reply_to<F: Files>(alloc: Global, words: &[String], files: &mut F) -> Result<
     requires { HoldsForm (F.held files.old) (map string_bytes words.now) }
     ensures reply { IfOk result (λ r. Says (Gives (F.held files.old) (asked (map string_bytes words.now)) (answer_in r)) (F.faults files.old) (F.faults files.new) (F.left files.new) (answer_in r)) }
     ensures usage { IfOk result (λ r. (r.status ≡ Status.Usage) ↔ (asked (map string_bytes words.now) ≡ None)) }
+    ensures taken { IfOk result (λ r. (taken : ℕ) → r.status ≡ Status.TooLong taken → IsTakenOf (F.held files.old) (asked (map string_bytes words.now)) taken (F.left files.new)) }
     ensures kept { F.faults files.old ≤ F.faults files.new }
 {
     match read_words(alloc, words) {
@@ -102,6 +116,7 @@ fn reply_for<F: Files>(
     requires { HoldsAsked (F.held files.old) (seen_asked what) }
     ensures reply { IfOk result (λ r. Says (Gives (F.held files.old) (seen_asked what.entry) (answer_in r)) (F.faults files.old) (F.faults files.new) (F.left files.new) (answer_in r)) }
     ensures usage { IfOk result (λ r. (r.status ≡ Status.Usage) ↔ (seen_asked what.entry ≡ None)) }
+    ensures taken { IfOk result (λ r. (taken : ℕ) → r.status ≡ Status.TooLong taken → IsTakenOf (F.held files.old) (seen_asked what.entry) taken (F.left files.new)) }
     ensures kept { F.faults files.old ≤ F.faults files.new }
 {
     match what {
@@ -139,6 +154,7 @@ fn campaign<F: Files>(
     requires script { HoldsName (F.held files.old) script_name.now }
     ensures reply { IfOk result (λ r. Says (GivesCampaign (F.held files.old) what image_name.now script_name.now (answer_in r)) (F.faults files.old) (F.faults files.new) (F.left files.new) (answer_in r)) }
     ensures usage { IfOk result (λ r. r.status ≢ Status.Usage) }
+    ensures taken { IfOk result (λ r. (taken : ℕ) → r.status ≡ Status.TooLong taken → IsTaken (F.held files.old) image_name.now taken (F.left files.new) ⊎ IsTaken (F.held files.old) script_name.now taken (F.left files.new)) }
     ensures kept { F.faults files.old ≤ F.faults files.new }
 {
     let image = match read_source(alloc, files, image_name, IMAGE_LIMIT) {
@@ -163,6 +179,7 @@ fn script<F: Files>(
     requires script { HoldsName (F.held files.old) name.now }
     ensures reply { IfOk result (λ r. Says (GivesScript (F.held files.old) what image.now name.now (answer_in r)) (F.faults files.old) (F.faults files.new) (F.left files.new) (answer_in r)) }
     ensures usage { IfOk result (λ r. r.status ≢ Status.Usage) }
+    ensures taken { IfOk result (λ r. (taken : ℕ) → r.status ≡ Status.TooLong taken → IsTaken (F.held files.old) name.now taken (F.left files.new)) }
     ensures kept { F.faults files.old ≤ F.faults files.new }
 {
     let script = match read_source(alloc, files, name, SCRIPT_LIMIT) {
@@ -182,6 +199,7 @@ fn payloads<F: Files>(
     requires { HoldsName (F.held files.old) name.now }
     ensures reply { IfOk result (λ r. Says (GivesFile (F.held files.old) (tells what) name.now (answer_in r)) (F.faults files.old) (F.faults files.new) (F.left files.new) (answer_in r)) }
     ensures usage { IfOk result (λ r. r.status ≢ Status.Usage) }
+    ensures taken { IfOk result (λ r. (taken : ℕ) → r.status ≡ Status.TooLong taken → IsTaken (F.held files.old) name.now taken (F.left files.new)) }
     ensures kept { F.faults files.old ≤ F.faults files.new }
 {
     let file = match read_source(alloc, files, name, SCRIPT_LIMIT) {

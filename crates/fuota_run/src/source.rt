@@ -2,7 +2,7 @@
 ghost use Rattle.std.specs.Prelude.{◌≡◌, ◌≢◌, ℕ, ◌+◌, ◌<◌, ◌≤◌, ◌^◌, true, List, length, vec_len, Err, IfOk, OnOk, IsErrOf};
 ghost use Rattle.std.specs.Io.KnownBytes.{IsAtEnd};
 ghost use Rattle.fuota_run.specs.Outside.{HoldsName, HasRisen, IsReadSoFar};
-ghost use Rattle.fuota_run.specs.Source.{IsSource, IsTooLong};
+ghost use Rattle.fuota_run.specs.Source.{IsSource, IsTaken, IsTooLong};
 
 use crate::files::Files;
 use std::alloc::{AllocError, Global};
@@ -22,6 +22,7 @@ pub enum SourceError {
 }
 
 /// All bytes of a file, read to its end, or to one byte more than the limit.
+#[tactic(auto, using(crate::proofs::Taken::taken_so_far))]
 pub fn read_source<F: Files>(
     alloc: Global,
     files: &mut F,
@@ -37,6 +38,7 @@ pub fn read_source<F: Files>(
 
     ensures long { (taken : ℕ) → IsErrOf result (SourceError.TooLong taken) → IsTooLong (F.held files.old) name.now limit }
     ensures taken { (taken : ℕ) → IsErrOf result (SourceError.TooLong taken) → taken ≡ limit + 1 }
+    ensures consumed { (taken : ℕ) → IsErrOf result (SourceError.TooLong taken) → IsTaken (F.held files.old) name.now taken (F.left files.new) }
     ensures failed { IsErrOf result SourceError.Failed → HasRisen (F.faults files.old) (F.faults files.new) }
 
     ensures held { F.held files.new ≡ F.held files.old }

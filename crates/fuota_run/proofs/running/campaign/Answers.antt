@@ -1,8 +1,11 @@
-use Rattle.std.proofs.Common.{rules, ◌≡◌, true, false, ℕ, List, sym, ap, subst, ◌∙◌}
+use Rattle.std.proofs.Common.{rules, ◌≡◌, inl, inr, true, false, ℕ, List, Option, sym, ap, subst, ◌∙◌}
 use Rattle.image_slots.specs.Image.{is_image}
 use Rattle.fuota_run.specs.Answer.{Answer, campaign_answer}
+use Rattle.fuota_run.specs.Outside.{Held}
+use Rattle.fuota_run.specs.Source.{IsTaken}
 use Rattle.fuota_run.specs.Reply.{IsReplied, Says, GivesScript}
 use Rattle.fuota_run.specs.Replies.{answer_in}
+use Rattle.fuota_run.proofs.Taken.{unread_taken}
 use Rattle.fuota_run.proofs.ReplyLemmas.{says_unread, says_source, says_behind, image_long, image_given_refused, if_ok_map}
 use Rattle.fuota_run.proofs.running.campaign.Goals as goal
 
@@ -29,3 +32,11 @@ returns-clause-reply g c = if_ok_map c.script.result (λ r says.
     says_behind (g.F.Files.held c.args.files.now) (g.F.Files.held c.read_source.new.files) c.args.what c.args.image_name.now c.args.script_name.now _ _ _ _ image (answer_in r)
     c.in-Ok.ensures.held c.in-Ok.ensures.kept c.in-Ok.ensures.source c.in-Ok.ensures.within good
     (subst (λ (i : List ℕ). Says (GivesScript (g.F.Files.held c.read_source.new.files) c.args.what i c.args.script_name.now (answer_in r)) (g.F.Files.faults c.read_source.new.files) (g.F.Files.faults c.script.new.files) (g.F.Files.left c.script.new.files) (answer_in r)) c.deref-2.ensures.value says)) c.script.ensures.reply
+
+pub returns-in-Err-clause-taken : goal.returns-in-Err-clause-taken
+returns-in-Err-clause-taken g c = if_ok_map c.unread.result (λ r is taken long. inl (unread_taken c.in-Err.error (answer_in r)
+    (λ n. IsTaken (g.F.Files.held c.args.files.now) c.args.image_name.now n (g.F.Files.left c.read_source.new.files)) is (λ n e. c.in-Err.ensures.consumed n cc) taken long)) c.unread.ensures
+
+pub returns-clause-taken : goal.returns-clause-taken
+returns-clause-taken g c = if_ok_map c.script.result (λ r took taken long.
+    inr (subst (λ (held : Option Held). IsTaken held c.args.script_name.now taken (g.F.Files.left c.script.new.files)) c.in-Ok.ensures.held (took taken long))) c.script.ensures.taken

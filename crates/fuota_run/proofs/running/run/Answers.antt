@@ -3,12 +3,23 @@ use Rattle.std.specs.Io.KnownBytes.{Appends}
 use Rattle.fuota_run.specs.Outside.{AppendsFront}
 use Rattle.fuota_run.specs.Replies.{answer_in}
 use Rattle.fuota_run.proofs.ReplyLemmas.{ends_written, exact_of, front_of}
+use Rattle.fuota_run.proofs.RunHeadline.{if_some_map, campaign_run, recovery_run}
 use Rattle.fuota_run.proofs.running.run.Goals as goal
 
 pub returns-in-Ok-write_text-clause-exact : goal.returns-in-Ok-write_text-clause-exact
 returns-in-Ok-write_text-clause-exact g c =
     let written = subst (λ (text : List ℕ). Appends (g.O.Sink.written c.args.out.now) (g.O.Sink.written c.write_text.new.out) text) c.deref.ensures.value c.in-Ok-write_text.ensures.written in
     exact_of _ _ _ _ _ _ _ (answer_in c.in-Ok.reply) _ _ c.in-Ok.ensures.reply written
+
+pub returns-in-Ok-write_text-clause-headline : goal.returns-in-Ok-write_text-clause-headline
+returns-in-Ok-write_text-clause-headline g c =
+    if_some_map (g.F.Files.held c.args.files.now) (λ held exact quiet sound enough. campaign_run _ held _ _ _ (exact quiet sound enough))
+    (returns-in-Ok-write_text-clause-exact g c)
+
+pub returns-in-Ok-write_text-clause-recovery : goal.returns-in-Ok-write_text-clause-recovery
+returns-in-Ok-write_text-clause-recovery g c =
+    if_some_map (g.F.Files.held c.args.files.now) (λ held exact quiet sound enough. recovery_run _ held _ _ _ (exact quiet sound enough))
+    (returns-in-Ok-write_text-clause-exact g c)
 
 pub returns-in-Ok-write_text-clause-ends : goal.returns-in-Ok-write_text-clause-ends
 returns-in-Ok-write_text-clause-ends g c =

@@ -3,6 +3,8 @@ use Rattle.campaign_world.specs.Script.{campaign_of}
 use Rattle.fuota_run.specs.Answer.{script_answer}
 use Rattle.fuota_run.specs.Reply.{IsPlayed}
 use Rattle.fuota_run.specs.Replies.{answer_in, seen_reply}
+use Rattle.fuota_run.specs.Source.{IsTaken}
+use Rattle.fuota_run.proofs.Taken.{unread_taken}
 use Rattle.fuota_run.proofs.ReplyLemmas.{says_unread, says_source, says_played, script_long, script_given, if_ok_map}
 use Rattle.fuota_run.proofs.running.script.Goals as goal
 
@@ -24,3 +26,11 @@ returns-clause-reply g c = if_ok_map c.reply_of.result (λ r said.
 pub returns-clause-usage : goal.returns-clause-usage
 returns-clause-usage g c = if_ok_map c.reply_of.result (λ r said.
     (says_played c.args.what c.args.image.now c.deref.result.now _ (answer_in r) c.play.ensures said).1.used) c.reply_of.ensures
+
+pub returns-in-Err-clause-taken : goal.returns-in-Err-clause-taken
+returns-in-Err-clause-taken g c = if_ok_map c.unread.result (λ r is. unread_taken c.in-Err.error (answer_in r)
+    (λ n. IsTaken (g.F.Files.held c.args.files.now) c.args.name.now n (g.F.Files.left c.read_source.new.files)) is (λ taken e. c.in-Err.ensures.consumed taken cc)) c.unread.ensures
+
+pub returns-clause-taken : goal.returns-clause-taken
+returns-clause-taken g c = if_ok_map c.reply_of.result (λ r said taken long. absurd (
+    (says_played c.args.what c.args.image.now c.deref.result.now _ (answer_in r) c.play.ensures said).1.short taken long)) c.reply_of.ensures

@@ -1,0 +1,48 @@
+-- What a run wrote whose words ask for a campaign, or for the recovery of a device.
+use Rattle.std.proofs.Common.{◌≡◌, ℕ, List, Option, Some, None, IfSome, ap, ◌∙◌, subst}
+use Rattle.std.specs.Io.KnownBytes.{Appends}
+use Rattle.campaign_world.specs.Report.{report_of}
+use Rattle.campaign_world.proofs.HeadlineLaw.{headline}
+use Rattle.fuota_run.specs.declared.status.Status.{Status}
+use Rattle.fuota_run.specs.declared.status.Status.TheVariants as status
+use Rattle.fuota_run.specs.Outside.{Held}
+use Rattle.fuota_run.specs.Answer.{Answer, answer, IsAnswer}
+use Rattle.fuota_run.specs.Reply.{AppendsAnswer}
+use Rattle.fuota_run.specs.Headline.{IsCampaignRun, IsWritten, IsRecoveryRun}
+use Rattle.fuota_run.proofs.HeadlineAnswered.{answered, recovery_answered}
+
+-- what holds of every Some
+pub if_some_map : {T : Type 0} {P Q : T → Type 0} (o : Option T) → ((x : T) → P x → Q x) → IfSome o P → IfSome o Q
+if_some_map (Some x) turns holds = turns x holds
+if_some_map None turns holds = tt
+
+-- the answer that was appended is this one
+written : (words : List (List ℕ)) (held : Held) (s : Status) (old new : Option (List ℕ)) (one : Answer)
+    → AppendsAnswer (Some held) words s old new → ((a : Answer) → IsAnswer words held a → a ≡ one) → IsWritten one s old new
+written words held s old new one given is =
+    let here : given.0 ≡ one = is given.0 given.1 in
+    (given.2 ∙ ap (λ (x : Answer). x.status) here, subst (λ (x : Answer). Appends old new x.text) here given.3)
+
+pub campaign_run : (words : List (List ℕ)) (held : Held) (s : Status) (old new : Option (List ℕ)) → AppendsAnswer (Some held) words s old new → IsCampaignRun words held s old new
+campaign_run words held s old new given image script world handed bytes accepted =
+    let here = written words held s old new (answer status.Done (report_of world)) given
+    (answered words held image script world handed accepted) in
+    record {
+      done = here.0;
+      report = here.1;
+      one = λ id device there. headline.one image script world id device bytes accepted there;
+      headline = λ id stage device session is. record {
+        served = headline.served image script world id stage device session is;
+        brought = headline.brought image script world id stage device session is;
+        recovered = headline.recovered image script world id stage device session is;
+        reported = headline.reported image script world id stage device session is;
+      };
+    }
+
+pub recovery_run : (words : List (List ℕ)) (held : Held) (s : Status) (old new : Option (List ℕ)) → AppendsAnswer (Some held) words s old new → IsRecoveryRun words held s old new
+recovery_run words held s old new given device image script world handed accepted = record {
+  image_is = λ file bytes there. written words held s old new _ given
+      (recovery_answered.image_is words held device image script world file bytes handed accepted there);
+  no_file = λ why there. written words held s old new _ given
+      (recovery_answered.no_file words held device image script world why handed accepted there);
+}
