@@ -16,3 +16,4 @@ pub mod HeadlineLines
 pub mod HeadlineSessions
 pub mod HeadlineHeard
 pub mod HeadlineLaw
+pub mod Independence

@@ -8,3 +8,4 @@ pub mod HeldWorld
 pub mod WorldInside
 pub mod Texts
 pub mod Headline
+pub mod Independence

@@ -1,6 +1,7 @@
 //! Laws about the definitions, each the contract of a function that does nothing.
 
 ghost use Rattle.campaign_world.specs.Headline.{Headline};
+ghost use Rattle.campaign_world.specs.Independence.{DevicesAreIndependent};
 ghost use Rattle.campaign_world.specs.Recovery.{RecoversTheImage};
 
 /// Whatever image and accepted script there are: the session of each device hears what the script brings, it is complete from the first
@@ -12,4 +13,10 @@ pub fn headline()
 /// Whatever image and accepted script there are, what a device recovered is the image.
 pub fn recovers_the_image()
     ensures { RecoversTheImage }
+{}
+
+/// Whatever image and accepted script there are: the record of each device is its own first one, behind the events of the
+/// script that name it alone, all its uplinks taken after each.
+pub fn devices_are_independent()
+    ensures { DevicesAreIndependent }
 {}
