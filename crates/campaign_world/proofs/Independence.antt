@@ -49,7 +49,7 @@ pub read_first : (w end : WorldState) (line : List ℕ) (lines : List (List ℕ)
 unfolding read_lines read_line
 read_first w end line lines is = read_by w end line (cause_of w line) lines is
 
-line_fine : (w : WorldState) (line : List ℕ) → cause_of w line ≡ None → cause_of_form w (form_of line) ≡ None
+pub line_fine : (w : WorldState) (line : List ℕ) → cause_of w line ≡ None → cause_of_form w (form_of line) ≡ None
 unfolding cause_of
 line_fine w line is = cause_by _ _ _ is
 
@@ -82,13 +82,13 @@ there_by xs n true is first last = let none : n ≡ 0 = eqb-true _ _ is in absur
 there_by xs n false is first last = get_there xs (n - 1) (omega (arith, first, last))
 
 -- an item that is there has each number that a list of that length has
-is_there : {A : Type 0} (xs : List A) (n : ℕ) → is_device (length xs) n ≡ true
+pub is_there : {A : Type 0} (xs : List A) (n : ℕ) → is_device (length xs) n ≡ true
     → (1 ≤ n) × ((x : A) × (numbered xs n ≡ Some x))
 is_there xs n is =
     let parts = and_parts (nat_le 1 n) (nat_le n (length xs)) is in
     (leb-true _ _ parts.0, there_by xs n (n == 0) refl (leb-true _ _ parts.0) (leb-true _ _ parts.1))
 
-payload_there : (device : ℕ) (o : Option SentPayload) → may_reach device o ≡ true → (p : SentPayload) × (o ≡ Some p)
+pub payload_there : (device : ℕ) (o : Option SentPayload) → may_reach device o ≡ true → (p : SentPayload) × (o ≡ Some p)
 payload_there device None may = absurd cc
 payload_there device (Some p) may = (p, refl)
 

@@ -17,3 +17,6 @@ pub mod HeadlineSessions
 pub mod HeadlineHeard
 pub mod HeadlineLaw
 pub mod Independence
+pub mod LedgerDevices
+pub mod LedgerServers
+pub mod Ledger

@@ -9,3 +9,4 @@ pub mod WorldInside
 pub mod Texts
 pub mod Headline
 pub mod Independence
+pub mod Ledger

@@ -2,6 +2,7 @@
 
 ghost use Rattle.campaign_world.specs.Headline.{Headline};
 ghost use Rattle.campaign_world.specs.Independence.{DevicesAreIndependent};
+ghost use Rattle.campaign_world.specs.Ledger.{TheLedgerIsTrue};
 ghost use Rattle.campaign_world.specs.Recovery.{RecoversTheImage};
 
 /// Whatever image and accepted script there are: the session of each device hears what the script brings, it is complete from the first
@@ -19,4 +20,10 @@ pub fn recovers_the_image()
 /// script that name it alone, all its uplinks taken after each.
 pub fn devices_are_independent()
     ensures { DevicesAreIndependent }
+{}
+
+/// Whatever image file and accepted script there are: where the ledger says that a device is updated, it runs the image,
+/// with exactly its bytes.
+pub fn the_ledger_is_true()
+    ensures { TheLedgerIsTrue }
 {}

@@ -18,7 +18,7 @@ mod world;
 
 pub use deliveries::throw_away;
 pub use faults::{LineError, LineFault, LineWhy};
-pub use laws::{devices_are_independent, headline, recovers_the_image};
+pub use laws::{devices_are_independent, headline, recovers_the_image, the_ledger_is_true};
 pub use recovery::NoFile;
 pub use report::{counts_line, session_text, sessions_text, verdict_text};
 pub use world::{MAX_LINE, MAX_LINES, World};
