@@ -88,7 +88,8 @@ is_there xs n is =
     let parts = and_parts (nat_le 1 n) (nat_le n (length xs)) is in
     (leb-true _ _ parts.0, there_by xs n (n == 0) refl (leb-true _ _ parts.0) (leb-true _ _ parts.1))
 
-pub payload_there : (device : ℕ) (o : Option SentPayload) → may_reach device o ≡ true → (p : SentPayload) × (o ≡ Some p)
+pub payload_there : (device : ℕ) (o : Option SentPayload) → may_reach device o ≡ true →
+    (p : SentPayload) × (o ≡ Some p)
 payload_there device None may = absurd cc
 payload_there device (Some p) may = (p, refl)
 
@@ -125,7 +126,8 @@ sends_still : (w : WorldState) (s : ServerState) (to : Option ℕ) (down : Optio
 sends_still w s to None = same_still w _ refl refl refl refl
 sends_still w s to (Some down) = record { devices = refl; time = refl; lines = refl; sent = (_, refl) }
 
-read_still : (w : WorldState) (dev t : ℕ) (r : Reading) → IsStill w (after_answer w dev (read_uplink w.server dev t r))
+read_still : (w : WorldState) (dev t : ℕ) (r : Reading)
+    → IsStill w (after_answer w dev (read_uplink w.server dev t r))
 unfolding read_uplink
 read_still w dev t (Ok cs) =
     sends_still w (with_answers w.server dev cs (ledger w.server dev)) (Some dev) (by_unicast (time_answer t cs))
@@ -143,8 +145,8 @@ up_still w (Some made) =
 abbrev folded : List Event → Option DeviceState → Option DeviceState
 folded events start = option_map (λ (first : DeviceState). fold after_event first events) start
 
--- what holds behind a form that is not refused: the line's number, what was sent, and for each device its record, behind
--- what the form tells, with these devices and events to come
+-- what holds behind a form that is not refused: the line's number, the time, what was sent, and the record of a device
+-- behind what the form tells of it, with these devices and events to come
 record IsTold (id : ℕ) (all : List SentPayload) (w v : WorldState) (form : Form) : Type 0 where
   lines : v.lines ≡ w.lines
   time : v.time ≡ time_after w.time (Some form)
@@ -188,7 +190,8 @@ woken_told id n all w d first there = rw (there) (record {
   lines = refl;
   time = refl;
   sent = same_sent w;
-  record_is = λ grows later events. happened id n w.devices (filter_map device_in later) d (Wakes w.time) events (n == id) refl first there;
+  record_is = λ grows later events. happened id n w.devices (filter_map device_in later) d
+      (Wakes w.time) events (n == id) refl first there;
 })
 
 reached_told : (id number n word : ℕ) (all : List SentPayload) (w : WorldState) (d : DeviceState) (p : SentPayload)
@@ -201,7 +204,8 @@ reached_told id number n word all w d p first there got = rw (there, got) (recor
   sent = same_sent w;
   record_is = λ grows later events.
       let late : numbered all number ≡ Some p = rw (grows.1) (numbered_more w.sent grows.0 number p got) in
-      rw (late) (happened id n w.devices (filter_map device_in later) d (Receives w.time word (w.lines + 1) p.down) events (n == id) refl first there);
+      rw (late) (happened id n w.devices (filter_map device_in later) d
+      (Receives w.time word (w.lines + 1) p.down) events (n == id) refl first there);
 })
 
 form_told : (id : ℕ) (all : List SentPayload) (w : WorldState) (form : Form) → form_cause w form ≡ None
@@ -216,12 +220,14 @@ form_told id all w (Group addr key min max) fine =
 form_told id all w (WindowC start timeout freq dr) fine =
     still_told id all w _ (WindowC start timeout freq dr) (same_still w _ refl refl refl refl) refl refl refl
 form_told id all w (WindowB start periodicity timeout freq dr) fine =
-    still_told id all w _ (WindowB start periodicity timeout freq dr) (same_still w _ refl refl refl refl) refl refl refl
+    still_told id all w _ (WindowB start periodicity timeout freq dr)
+    (same_still w _ refl refl refl refl) refl refl refl
 form_told id all w (Device name class hw rows offset key descriptor) fine = record {
   lines = refl;
   time = refl;
   sent = same_sent w;
-  record_is = λ grows later events. ap (λ (ds : List DeviceState). folded events (numbered ds id)) (append_assoc w.devices (_ ∷ []) (filter_map device_in later));
+  record_is = λ grows later events. ap (λ (ds : List DeviceState). folded events (numbered ds id))
+      (append_assoc w.devices (_ ∷ []) (filter_map device_in later));
 }
 form_told id all w (At time) fine = record {
   lines = refl;
@@ -254,7 +260,8 @@ form_told id all w End fine =
 
 -- ---- all lines
 
-form_grows : (w : WorldState) (form : Option Form) → cause_of_form w form ≡ None → Grows w.sent (after_form_of w form).sent
+form_grows : (w : WorldState) (form : Option Form) → cause_of_form w form ≡ None
+    → Grows w.sent (after_form_of w form).sent
 form_grows w None fine = absurd cc
 form_grows w (Some form) fine = (form_told 0 [] w form fine).sent
 
@@ -264,8 +271,11 @@ sent_grows w end [] is = let same : w ≡ end = cc in subst (λ (e : WorldState)
 sent_grows w end (line ∷ lines) is =
     let first = read_first w end line lines is in
     let here = form_grows w (form_of line) (line_fine w line first.0) in
-    let rest = sent_grows (after_form_of w (form_of line)) end lines first.1 in
-    (here.0 ++ rest.0, rest.1 ∙ ap (λ (ss : List SentPayload). ss ++ rest.0) here.1 ∙ append_assoc w.sent here.0 rest.0)
+    let rest = sent_grows (after_form_of w (form_of line)) end lines first.1 in (
+      here.0 ++ rest.0,
+      rest.1 ∙ ap (λ (ss : List SentPayload). ss ++ rest.0) here.1
+          ∙ append_assoc w.sent here.0 rest.0,
+    )
 
 -- what is told from a line on is what it tells, and what is told behind it
 line_told : (id : ℕ) (all : List SentPayload) (w : WorldState) (form : Option Form) (rest : List (List ℕ))

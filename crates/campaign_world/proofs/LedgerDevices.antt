@@ -1,25 +1,20 @@
--- What a device of a campaign runs and offers is the image, and what it tells of its version is true.
-use Rattle.std.proofs.Common.{◌≡◌, ◌⊎◌, inl, inr, ⊎_elim, ℕ, zero, suc, ◌^◌, ◌<◌, Bool, true, false, cond, ◌==◌, List, [], ◌∷◌, ◌++◌, length, map, replicate, get_or, All, Option, None, Some, IfSome, Result, Ok, Err, refl, sym, ap, ◌∙◌, subst, arith, eqb-true}
+-- A device of a campaign has the image in its slots, and what it tells of its version is true.
+use Rattle.std.proofs.Common.{◌≡◌, ◌⊎◌, inl, inr, ⊎_elim, ℕ, zero, suc, ◌^◌, ◌<◌, Bool, true, false, cond, ◌==◌, List, [], ◌∷◌, ◌++◌, length, map, replicate, get_or, All, Option, None, Some, IfSome, Result, Ok, Err, refl, sym, ◌∙◌, subst, arith, eqb-true}
 use Rattle.std.proofs.lemmas.Bool.{cases_lt}
 use Rattle.std.proofs.lemmas.List.{get_or_past}
 use Rattle.std.specs.List.{AllByRecursion}
 use Rattle.wire_base.specs.declared.refusal.Direction.TheVariants.{Down, Up}
 use Rattle.wire_base.specs.Numbers.{number_at}
 use Rattle.wire_base.specs.Rows.{IsListed}
-use Rattle.frag_encoder.specs.Encoding.{nb_frag_of, padding_of, data_of}
-use Rattle.frag_session.specs.declared.answers.Verdict.{Verdict}
-use Rattle.frag_session.specs.declared.answers.Verdict.TheVariants as verdict
+use Rattle.frag_encoder.specs.Encoding.{data_of}
 use Rattle.frag_session.specs.declared.answers.StatusAns.{StatusAns}
 use Rattle.frag_session.specs.declared.setups.Limits.{Limits}
-use Rattle.frag_session.specs.declared.setups.SetupReq.{SetupReq}
-use Rattle.frag_session.specs.Session.{Session, shape_of, seen_of, view_of, new_session, followed, after_fragment}
+use Rattle.frag_session.specs.Session.{Session, new_session, followed, after_fragment}
 use Rattle.frag_session.specs.Stands.{IsSetUp}
-use Rattle.frag_session.specs.FirstMoment.{IsDecidedAtFirst}
-use Rattle.frag_session.proofs.FirstMoments.{decided_at_first}
 use Rattle.image_slots.specs.declared.view.ImageState.{ImageState}
 use Rattle.image_slots.specs.declared.view.ImageState.TheVariants as state
-use Rattle.image_slots.specs.Image.{is_image, firmware_of, hardware_of, image_state}
-use Rattle.image_slots.specs.Slots.{Slots, without_next, after_offer, after_swap, after_delete}
+use Rattle.image_slots.specs.Image.{is_image, firmware_of}
+use Rattle.image_slots.specs.Slots.{Slots}
 use Rattle.cast_wire.specs.declared.cmd.Cmd.{Cmd as CastCmd}
 use Rattle.cast_wire.specs.declared.cmd.Cmd.TheVariants as c
 use Rattle.cast_wire.specs.declared.cmd.Cmd.TheVariants.{DataFragment}
@@ -28,10 +23,8 @@ use Rattle.sync_wire.specs.declared.cmd.Cmd.TheVariants as s
 use Rattle.package_grammar.specs.declared.command.Command.{Command}
 use Rattle.package_grammar.specs.declared.command.Command.TheVariants.{Sync, Cast}
 use Rattle.package_grammar.specs.declared.downlink.Downlink.{Downlink}
-use Rattle.package_grammar.specs.Grammar.{row, canonical, IsValid, SpellsTo}
+use Rattle.package_grammar.specs.Grammar.{row, canonical, IsValid}
 use Rattle.package_grammar.specs.Reading.{Reading, reading_of}
-use Rattle.package_grammar.proofs.Written.{message_of}
-use Rattle.package_grammar.proofs.ReadingLaw.{read_as, answered}
 use Rattle.device_core.specs.declared.config.DeviceConfig.{DeviceConfig}
 use Rattle.device_core.specs.declared.arrival.Arrival.{Arrival}
 use Rattle.device_core.specs.declared.uplink.Uplink.{Uplink}
@@ -48,190 +41,13 @@ use Rattle.device_core.specs.Clock.{time_request, answer_step, periodicity_step,
 use Rattle.device_core.specs.ClassSessions.{class_session_step}
 use Rattle.device_core.specs.Groups.{groups_step, group_setup_step, group_delete_step}
 use Rattle.device_core.specs.Firmware.{version_step, upgrade_answer, upgrade_step, delete_image_step, reboot_time_step, countdown_step, after_due_reboot}
-use Rattle.device_core.specs.Fragments.{setup_step, status_answers, status_step, delete_step, is_complete, whole_file, slots_after, heard_step, fragment_step}
+use Rattle.device_core.specs.Fragments.{setup_step, status_answers, status_step, delete_step, heard_step, fragment_step}
 use Rattle.device_core.specs.Step.{command_step, acts, step, after_commands}
-use Rattle.campaign_world.specs.Headline.{IsFragmentOf}
 use Rattle.campaign_world.specs.Ledger.{IsRunning}
 use Rattle.campaign_world.proofs.SessionSteps.{setup_keeps, fragment_keeps}
 use Rattle.campaign_world.proofs.HeadlineCommands.{Cut, setup_req, setup_request, fragment_command, IsNumber}
 use Rattle.campaign_world.proofs.HeadlineEnds.{IsSetFor}
-use Rattle.campaign_world.proofs.HeadlineImage.{IsShapeFor, alone_is_image, behind}
-
--- ---- a file that is whole
-
--- the session's shape is the image's
-shape_for : (image : List ℕ) (cut : Cut) (s : Session) → All (λ b. b < 2 ^ 8) image → IsSetFor image cut s
-    → IsShapeFor image (shape_of s) s.setup.padding × ((shape_of s).frag_size ≡ cut.size)
-unfolding shape_of
-shape_for image cut s bytes k =
-    let size : s.setup.frag_size ≡ cut.size = ap (λ (r : SetupReq). r.frag_size) k.setup in
-    let count : s.setup.nb_frag ≡ nb_frag_of (length image) cut.size = ap (λ (r : SetupReq). r.nb_frag) k.setup in
-    let pad : s.setup.padding ≡ padding_of (length image) cut.size = ap (λ (r : SetupReq). r.padding) k.setup in (
-      record {
-        count = count ∙ ap (nb_frag_of (length image)) (sym size);
-        padded = pad ∙ ap (padding_of (length image)) (sym size);
-        makes = record {
-          some = subst (λ (n : ℕ). 0 < n) (sym count) k.makes.some;
-          short = subst (λ (n : ℕ). s.setup.padding < n) (sym size)
-              (subst (λ (n : ℕ). n < cut.size) (sym pad) k.makes.short);
-        };
-        bytes = bytes;
-      },
-      size,
-    )
-
--- a session of the server's that is complete has the image
-complete_is : (image : List ℕ) (cut : Cut) (s : Session) (mark : ℕ) → All (λ b. b < 2 ^ 8) image
-    → IsSetFor image cut s → (seen_of s).verdict ≡ verdict.Complete mark → (seen_of s).file ≡ image
-complete_is image cut s mark bytes k is =
-    let h = shape_for image cut s bytes k in
-    let heard = subst (λ (n : ℕ). AllByRecursion (IsFragmentOf image n) s.heard) (sym h.1) k.heard in
-    let decided : IsDecidedAtFirst s = decided_at_first s h.0.makes in
-    let at = (decided.complete mark).0 is in
-    let from = behind (IsFragmentOf image (shape_of s).frag_size) at.1.0 (at.1.1 ∷ at.1.2)
-    (subst (AllByRecursion (IsFragmentOf image (shape_of s).frag_size)) at.1.3.parted heard) in
-    decided.file mark at.0 at.1 ∙ alone_is_image image (shape_of s) s.setup.padding (at.1.1 ∷ at.1.2) at.0 h.0 from
-    at.1.3.now.alone
-
-file_by : (v : Verdict) (file x : List ℕ) → cond (is_complete v) (Some file) None ≡ Some x
-    → ((mark : ℕ) × (v ≡ verdict.Complete mark)) × (file ≡ x)
-file_by verdict.Receiving file x is = absurd cc
-file_by (verdict.Complete mark) file x is = ((mark, refl), cc)
-file_by (verdict.NoRows mark) file x is = absurd cc
-file_by (verdict.Conflict mark) file x is = absurd cc
-
--- so is the file that it shows
-whole_is : (image : List ℕ) (cut : Cut) (s : Option Session) (file : List ℕ) → All (λ b. b < 2 ^ 8) image
-    → IfSome s (IsSetFor image cut) → whole_file (view_of s) ≡ Some file → file ≡ image
-unfolding view_of
-whole_is image cut None file bytes k is = absurd cc
-whole_is image cut (Some s) file bytes k is =
-    let r = file_by (seen_of s).verdict (seen_of s).file file is in
-    sym r.1 ∙ complete_is image cut s r.0.0 bytes k r.0.1
-
--- ---- slots
-
--- what runs is nothing or the image, and a valid next is the image
-pub record HasSlots (image : List ℕ) (slots : Slots) : Type 0 where
-  pub running : (slots.version ≡ 0) ⊎ IsRunning image slots
-  pub next : (version : ℕ) → slots.next ≡ state.Valid version → (version ≡ firmware_of image) × (slots.next_file ≡ image)
-
--- slots go on: what runs the image runs it
-pub record SlotsGo (image : List ℕ) (old new : Slots) : Type 0 where
-  pub has : HasSlots image new
-  pub runs : IsRunning image old → IsRunning image new
-
-valid_by : (a b : Bool) (firmware version : ℕ)
-    → cond a (cond b (state.Valid firmware) state.Incompatible) state.Corrupt ≡ state.Valid version → version ≡ firmware
-valid_by true true firmware version is = cc
-valid_by true false firmware version is = absurd cc
-valid_by false b firmware version is = absurd cc
-
-valid_is : (file : List ℕ) (hw version : ℕ) → image_state file hw ≡ state.Valid version → version ≡ firmware_of file
-unfolding image_state
-valid_is file hw version is = valid_by (is_image file) (hardware_of file == hw) (firmware_of file) version is
-
-same_slots : (image : List ℕ) (slots : Slots) → HasSlots image slots → SlotsGo image slots slots
-same_slots image slots k = record { has = k; runs = λ r. r }
-
-emptied_slots : (image : List ℕ) (slots : Slots) → HasSlots image slots → SlotsGo image slots (without_next slots)
-emptied_slots image slots k = record {
-  has = record {
-    running = ⊎_elim (λ none. inl none) (λ r. inr (record { version = r.version; bytes = r.bytes })) k.running;
-    next = λ version is. absurd cc;
-  };
-  runs = λ r. record { version = r.version; bytes = r.bytes };
-}
-
-swap_by : (image : List ℕ) (version : ℕ) (running : List ℕ) (next : ImageState) (file : List ℕ)
-    → HasSlots image (record { version = version; running = running; next = next; next_file = file })
-    → SlotsGo image (record { version = version; running = running; next = next; next_file = file })
-    (after_swap (record { version = version; running = running; next = next; next_file = file }))
-unfolding after_swap
-swap_by image version running state.None file k = same_slots image _ k
-swap_by image version running state.Corrupt file k = same_slots image _ k
-swap_by image version running state.Incompatible file k = same_slots image _ k
-swap_by image version running (state.Valid held) file k =
-    let is = k.next held refl in
-    let now : IsRunning image (record { version = held; running = file; next = state.None; next_file = [] }) =
-    record { version = is.0; bytes = is.1 } in
-    record {
-      has = record { running = inr now; next = λ v none. absurd cc };
-      runs = λ r. now;
-    }
-
-swapped_slots : (image : List ℕ) (slots : Slots) → HasSlots image slots → SlotsGo image slots (after_swap slots)
-swapped_slots image slots k = swap_by image slots.version slots.running slots.next slots.next_file k
-
-deleted_by : (image : List ℕ) (slots : Slots) (b : Bool) → HasSlots image slots
-    → SlotsGo image slots (cond b (without_next slots) slots)
-deleted_by image slots true k = emptied_slots image slots k
-deleted_by image slots false k = same_slots image slots k
-
-deleted_slots : (image : List ℕ) (version : ℕ) (slots : Slots) → HasSlots image slots
-    → SlotsGo image slots (after_delete version slots)
-unfolding after_delete
-deleted_slots image version slots k = deleted_by image slots _ k
-
-offered_slots : (image : List ℕ) (hw : ℕ) (was_whole : Bool) (file : Option (List ℕ)) (slots : Slots)
-    → ((x : List ℕ) → file ≡ Some x → x ≡ image) → HasSlots image slots
-    → SlotsGo image slots (slots_after hw was_whole file slots)
-unfolding after_offer
-offered_slots image hw true file slots is k = same_slots image slots k
-offered_slots image hw false None slots is k = same_slots image slots k
-offered_slots image hw false (Some file) slots is k = record {
-  has = record {
-    running = ⊎_elim (λ none. inl none) (λ r. inr (record { version = r.version; bytes = r.bytes })) k.running;
-    next = λ version valid. (
-      valid_is file hw version valid ∙ ap firmware_of (is file refl),
-      is file refl,
-    );
-  };
-  runs = λ r. record { version = r.version; bytes = r.bytes };
-}
-
--- ---- what is told of a version
-
--- where a command tells the image's version, this holds
-abbrev pub Tells : (image : List ℕ) → Type 0 → Command → Type 0
-Tells image R command = (hardware : ℕ) → command ≡ Sync (s.DevVersionAns (firmware_of image) hardware) → R
-
--- and so where one of an uplink does
-abbrev pub TellsTruly : (image : List ℕ) → Type 0 → Uplink → Type 0
-TellsTruly image R uplink = (cs : List Command) → reading_of uplink.port Up uplink.payload ≡ Ok cs → AllByRecursion (Tells image R) cs
-
-pub tells_on : (image : List ℕ) (R S : Type 0) → (R → S) → (us : List Uplink) → AllByRecursion (TellsTruly image R) us
-    → AllByRecursion (TellsTruly image S) us
-tells_on image R S on [] all = tt
-tells_on image R S on (u ∷ us) all = (λ cs is. tell cs (all.0 cs is), tells_on image R S on us all.1)
-  where
-    tell : (cs : List Command) → AllByRecursion (Tells image R) cs → AllByRecursion (Tells image S) cs
-    tell [] told = tt
-    tell (x ∷ xs) told = (λ hardware is. on (told.0 hardware is), tell xs told.1)
-
--- the versions are told on port 203 alone
-far_tells : (image : List ℕ) (R : Type 0) (cs : List Command) (port : ℕ) (bytes : List ℕ) (from end : ℕ)
-    → (port ≡ 203 → ⊥) → SpellsTo cs port Up bytes from end → AllByRecursion (Tells image R) cs
-far_tells image R [] port bytes from end far all = tt
-far_tells image R (x ∷ cs) port bytes from end far all = (
-  λ hardware is.
-      let listed : IsListed (row (Sync (s.DevVersionAns (firmware_of image) hardware))) port Up =
-      subst (λ (y : Command). IsListed (row y) port Up) is all.1.listed in
-      absurd (far listed.port_is),
-  far_tells image R cs port bytes all.0 end far all.2,
-)
-
-other_port : (image : List ℕ) (R : Type 0) (u : Uplink) → (u.port ≡ 203 → ⊥) → TellsTruly image R u
-other_port image R u far cs is =
-    far_tells image R cs u.port u.payload 0 (length u.payload) far (answered u.port Up u.payload (Ok cs) is).all
-
--- a valid command of port 203 is read as it is
-one_told : (image : List ℕ) (R : Type 0) (due : ℕ) (x : Command) → IsValid x → IsListed (row x) 203 Up → Tells image R x
-    → TellsTruly image R (record { due = due; port = 203; payload = canonical x })
-one_told image R due x valid listed tells cs is =
-    let read = read_as 203 Up (canonical x) (Ok (x ∷ [])) (message_of x 203 Up valid listed) in
-    let same : x ∷ [] ≡ cs = cc in
-    subst (AllByRecursion (Tells image R)) same (tells, tt)
+use Rattle.campaign_world.proofs.LedgerSlots.{whole_is, HasSlots, SlotsGo, same_slots, swapped_slots, deleted_slots, offered_slots, TellsTruly, tells_on, other_port, one_told}
 
 -- ---- a device
 
@@ -247,7 +63,8 @@ pub record Goes (image : List ℕ) (cut : Cut) (d e : DeviceState) : Type 0 wher
   pub sound : IsSound image cut e
   pub runs : IsRunning image d.slots → IsRunning image e.slots
 
-pub goes_on : (image : List ℕ) (cut : Cut) (d e f : DeviceState) → Goes image cut d e → Goes image cut e f → Goes image cut d f
+pub goes_on : (image : List ℕ) (cut : Cut) (d e f : DeviceState) → Goes image cut d e → Goes image cut e f
+    → Goes image cut d f
 goes_on image cut d e f one more = record { sound = more.sound; runs = λ r. more.runs (one.runs r) }
 
 -- all but its answers
@@ -257,7 +74,8 @@ record Makes (image : List ℕ) (cut : Cut) (d e : DeviceState) : Type 0 where
   slots : SlotsGo image d.slots e.slots
   outbox : e.outbox ≡ d.outbox
 
-made_goes : (image : List ℕ) (cut : Cut) (d e : DeviceState) → IsSound image cut d → Makes image cut d e → Goes image cut d e
+made_goes : (image : List ℕ) (cut : Cut) (d e : DeviceState) → IsSound image cut d → Makes image cut d e
+    → Goes image cut d e
 made_goes image cut d e k m = record {
   sound = record {
     hardware = subst (λ (x : DeviceConfig). x.hw < 2 ^ 32) (sym m.config) k.hardware;
@@ -329,14 +147,17 @@ made_by_test image cut m false one other k l = l
 cast_makes : (image : List ℕ) (cut : Cut) (at : Arrival) (m : DeviceState) (cmd : CastCmd) → IsCalmCast cmd
     → IsSound image cut m → Makes image cut m (command_step at m (Cast cmd)).device
 unfolding command_step status_step groups_step group_setup_step group_delete_step class_session_step
-cast_makes image cut at m (c.FragSessionSetupReq index mask nb_frag frag_size algo delay padding descriptor) calm k = absurd calm
+cast_makes image cut at m
+    (c.FragSessionSetupReq index mask nb_frag frag_size algo delay padding descriptor) calm k = absurd calm
 cast_makes image cut at m (c.FragSessionDeleteReq index) calm k = absurd calm
 cast_makes image cut at m (c.DataFragment index n part) calm k = absurd calm
 cast_makes image cut at m c.PackageVersionReq calm k = same_made image cut m _ k refl refl refl refl
 cast_makes image cut at m (c.McGroupSetupReq id addr key min max) calm k =
-    made_by_test image cut m _ _ _ (same_made image cut m _ k refl refl refl refl) (same_made image cut m _ k refl refl refl refl)
+    made_by_test image cut m _ _ _ (same_made image cut m _ k refl refl refl refl)
+    (same_made image cut m _ k refl refl refl refl)
 cast_makes image cut at m (c.McGroupDeleteReq id) calm k =
-    made_by_test image cut m _ _ _ (same_made image cut m _ k refl refl refl refl) (same_made image cut m _ k refl refl refl refl)
+    made_by_test image cut m _ _ _ (same_made image cut m _ k refl refl refl refl)
+    (same_made image cut m _ k refl refl refl refl)
 cast_makes image cut at m cmd calm k = same_made image cut m _ k refl refl refl refl
 
 -- ---- a setup and a fragment
@@ -351,7 +172,8 @@ setup_makes : (image : List ℕ) (cut : Cut) (at : Arrival) (m : DeviceState) �
 unfolding command_step setup_step
 setup_makes image cut at m k = record {
   config = refl;
-  session = setup_keeps (IsSetFor image cut) (limits_of m.config) (room_of m.config) m.sessions.first (setup_req image cut)
+  session = setup_keeps (IsSetFor image cut) (limits_of m.config) (room_of m.config) m.sessions.first
+      (setup_req image cut)
       (λ makes. new_set image cut (limits_of m.config) makes) k.session;
   slots = same_slots image m.slots k.slots;
   outbox = refl;
@@ -379,7 +201,8 @@ heard_makes image cut at m n bytes number k =
       config = refl;
       session = set;
       slots = offered_slots image m.config.hw _ _ m.slots
-          (λ file is. whole_is image cut (after_fragment m.sessions.first at.via n part at.mark) file bytes set is) k.slots;
+          (λ file is. whole_is image cut
+          (after_fragment m.sessions.first at.via n part at.mark) file bytes set is) k.slots;
       outbox = refl;
     }
 
@@ -400,14 +223,16 @@ fragment_makes image cut at m n bytes number k =
 -- a command of the server's: the setup, a fragment, or one that no session hears
 abbrev pub IsOneOf : (image : List ℕ) → Cut → Command → Type 0
 IsOneOf image cut x =
-    (x ≡ setup_request image cut) ⊎ (((n : ℕ) × IsNumber image cut.size n × (x ≡ fragment_command image cut.size n)) ⊎ IsCalm x)
+    (x ≡ setup_request image cut) ⊎
+    (((n : ℕ) × IsNumber image cut.size n × (x ≡ fragment_command image cut.size n)) ⊎ IsCalm x)
 
 -- of firmware management it sends these
 abbrev pub IsAskedOfFirmware : Command → Type 0
 IsAskedOfFirmware x =
     (x ≡ Sync s.DevVersionReq) ⊎ ((x ≡ Sync s.DevUpgradeImageReq) ⊎ (x ≡ Sync (s.DevRebootCountdownReq 0)))
 
-command_makes : (image : List ℕ) (cut : Cut) (at : Arrival) (m : DeviceState) (x : Command) → All (λ b. b < 2 ^ 8) image
+command_makes : (image : List ℕ) (cut : Cut) (at : Arrival) (m : DeviceState) (x : Command)
+    → All (λ b. b < 2 ^ 8) image
     → IsOneOf image cut x → IsSound image cut m → Makes image cut m (command_step at m x).device
 command_makes image cut at m x bytes (inl is) k =
     subst (λ (y : Command). Makes image cut m (command_step at m y).device) (sym is) (setup_makes image cut at m k)
@@ -480,14 +305,16 @@ far_answers image R port (answer ∷ answers) far all =
 
 byte_at : (image : List ℕ) (at : ℕ) → All (λ b. b < 2 ^ 8) image → get_or image at 0 < 256
 byte_at image at bytes = ⊎_elim (λ lt. bytes at 0 lt)
-    (λ ge. let none : get_or image at 0 ≡ 0 = get_or_past image at 0 ge in omega (arith, none)) (cases_lt at (length image))
+    (λ ge. let none : get_or image at 0 ≡ 0 = get_or_past image at 0 ge in omega (arith, none))
+    (cases_lt at (length image))
 
 firmware_small : (image : List ℕ) → All (λ b. b < 2 ^ 8) image → firmware_of image < 2 ^ 32
 unfolding firmware_of number_at
 firmware_small image bytes =
     omega (arith, byte_at image 9 bytes, byte_at image 10 bytes, byte_at image 11 bytes, byte_at image 12 bytes)
 
-version_small : (image : List ℕ) (slots : Slots) → All (λ b. b < 2 ^ 8) image → HasSlots image slots → slots.version < 2 ^ 32
+version_small : (image : List ℕ) (slots : Slots) → All (λ b. b < 2 ^ 8) image → HasSlots image slots
+    → slots.version < 2 ^ 32
 version_small image slots bytes k =
     ⊎_elim (λ none. omega (arith, none)) (λ r. omega (arith, r.version, firmware_small image bytes)) k.running
 
@@ -496,45 +323,62 @@ version_some : (image : List ℕ) → is_image image ≡ true → firmware_of im
 unfolding is_image
 version_some image is none = grind (arith, is, none)
 
+version_is : (image : List ℕ) (slots : Slots) (hw hardware : ℕ) → is_image image ≡ true → HasSlots image slots
+    → Sync (s.DevVersionAns slots.version hw) ≡ Sync (s.DevVersionAns (firmware_of image) hardware)
+    → IsRunning image slots
+version_is image slots hw hardware is k same =
+    let told : slots.version ≡ firmware_of image = cc in
+    ⊎_elim (λ none. absurd (version_some image is (sym told ∙ none))) (λ r. r) k.running
+
 version_told : (image : List ℕ) (cut : Cut) (at : Arrival) (m : DeviceState) → All (λ b. b < 2 ^ 8) image
     → is_image image ≡ true → at.port ≡ 203 → IsSound image cut m
-    → AllByRecursion (TellsTruly image (IsRunning image m.slots)) (map uplink_of (command_step at m (Sync s.DevVersionReq)).answers)
+    → AllByRecursion (TellsTruly image (IsRunning image m.slots))
+    (map uplink_of (command_step at m (Sync s.DevVersionReq)).answers)
 unfolding command_step version_step
 version_told image cut at m bytes is port k = rw (port) (
-  one_told image (IsRunning image m.slots) at.t
-      (Sync (s.DevVersionAns m.slots.version m.config.hw))
+  one_told image (IsRunning image m.slots) at.t (Sync (s.DevVersionAns m.slots.version m.config.hw))
       (record { fields = (version_small image m.slots bytes k.slots, (k.hardware, tt)); whole = tt })
       (record { port_is = refl; direction_is = refl })
-      (λ hardware same. tells same),
+      (λ hardware same. version_is image m.slots m.config.hw hardware is k.slots same),
   tt,
 )
-  where
-    tells : {hardware : ℕ} → Sync (s.DevVersionAns m.slots.version m.config.hw) ≡ Sync (s.DevVersionAns (firmware_of image) hardware) → IsRunning image m.slots
-    tells same =
-        let told : m.slots.version ≡ firmware_of image = cc in
-        ⊎_elim (λ none. absurd (version_some image is (sym told ∙ none))) (λ r. r) k.slots.running
+
+-- the answer to the wish to upgrade is valid
+upgrade_valid : (next : ImageState) → ((version : ℕ) → next ≡ state.Valid version → version < 2 ^ 32)
+    → IsValid (Sync (upgrade_answer next))
+upgrade_valid state.None small = record { fields = ((omega arith, tt), tt); whole = refl }
+upgrade_valid state.Corrupt small = record { fields = ((omega arith, tt), tt); whole = refl }
+upgrade_valid state.Incompatible small = record { fields = ((omega arith, tt), tt); whole = refl }
+upgrade_valid (state.Valid version) small =
+    record { fields = ((omega arith, tt), (small version refl, tt)); whole = refl }
+
+upgrade_listed : (next : ImageState) → IsListed (row (Sync (upgrade_answer next))) 203 Up
+upgrade_listed state.None = record { port_is = refl; direction_is = refl }
+upgrade_listed state.Corrupt = record { port_is = refl; direction_is = refl }
+upgrade_listed state.Incompatible = record { port_is = refl; direction_is = refl }
+upgrade_listed (state.Valid version) = record { port_is = refl; direction_is = refl }
+
+-- and tells no version that runs
+upgrade_tells : (next : ImageState) (firmware hardware : ℕ)
+    → Sync (upgrade_answer next) ≡ Sync (s.DevVersionAns firmware hardware) → ⊥
+upgrade_tells state.None firmware hardware same = cc
+upgrade_tells state.Corrupt firmware hardware same = cc
+upgrade_tells state.Incompatible firmware hardware same = cc
+upgrade_tells (state.Valid version) firmware hardware same = cc
 
 upgrade_told : (image : List ℕ) (cut : Cut) (at : Arrival) (m : DeviceState) → All (λ b. b < 2 ^ 8) image
     → at.port ≡ 203 → IsSound image cut m
-    → AllByRecursion (TellsTruly image (IsRunning image m.slots)) (map uplink_of (command_step at m (Sync s.DevUpgradeImageReq)).answers)
+    → AllByRecursion (TellsTruly image (IsRunning image m.slots))
+    (map uplink_of (command_step at m (Sync s.DevUpgradeImageReq)).answers)
 unfolding command_step upgrade_step
-upgrade_told image cut at m bytes port k = rw (port) (told m.slots.next k.slots.next, tt)
-  where
-    R : Type 0
-    R = IsRunning image m.slots
-
-    told : (next : ImageState) → ((version : ℕ) → next ≡ state.Valid version → (version ≡ firmware_of image) × (m.slots.next_file ≡ image))
-        → TellsTruly image R (record { due = at.t; port = 203; payload = canonical (Sync (upgrade_answer next)) })
-    told state.None is = one_told image R at.t (Sync (upgrade_answer state.None))
-        (record { fields = ((omega arith, tt), tt); whole = refl }) (record { port_is = refl; direction_is = refl }) (λ hardware same. absurd cc)
-    told state.Corrupt is = one_told image R at.t (Sync (upgrade_answer state.Corrupt))
-        (record { fields = ((omega arith, tt), tt); whole = refl }) (record { port_is = refl; direction_is = refl }) (λ hardware same. absurd cc)
-    told state.Incompatible is = one_told image R at.t (Sync (upgrade_answer state.Incompatible))
-        (record { fields = ((omega arith, tt), tt); whole = refl }) (record { port_is = refl; direction_is = refl }) (λ hardware same. absurd cc)
-    told (state.Valid version) is =
-        let small : version < 2 ^ 32 = omega (arith, (is version refl).0, firmware_small image bytes) in
-        one_told image R at.t (Sync (upgrade_answer (state.Valid version)))
-        (record { fields = ((omega arith, tt), (small, tt)); whole = refl }) (record { port_is = refl; direction_is = refl }) (λ hardware same. absurd cc)
+upgrade_told image cut at m bytes port k = rw (port) (
+  one_told image (IsRunning image m.slots) at.t (Sync (upgrade_answer m.slots.next))
+      (upgrade_valid m.slots.next
+      (λ version is. omega (arith, (k.slots.next version is).0, firmware_small image bytes)))
+      (upgrade_listed m.slots.next)
+      (λ hardware same. absurd (upgrade_tells m.slots.next (firmware_of image) hardware same)),
+  tt,
+)
 
 countdown_told : (image : List ℕ) (at : Arrival) (m : DeviceState) → at.port ≡ 203
     → AllByRecursion (TellsTruly image (IsRunning image m.slots))
@@ -542,7 +386,8 @@ countdown_told : (image : List ℕ) (at : Arrival) (m : DeviceState) → at.port
 unfolding command_step countdown_step
 countdown_told image at m port = rw (port) (
   one_told image (IsRunning image m.slots) at.t (Sync (s.DevRebootCountdownAns 0))
-      (record { fields = (omega arith, tt); whole = tt }) (record { port_is = refl; direction_is = refl }) (λ hardware same. absurd cc),
+      (record { fields = (omega arith, tt); whole = tt }) (record { port_is = refl; direction_is = refl })
+      (λ hardware same. absurd cc),
   tt,
 )
 
@@ -552,20 +397,25 @@ countdown_told image at m port = rw (port) (
 abbrev pub ComesOn : (image : List ℕ) → Cut → (port : ℕ) → Command → Type 0
 ComesOn image cut port x = IsOneOf image cut x × ((port ≡ 203) → IsAskedOfFirmware x)
 
-firmware_told : (image : List ℕ) (cut : Cut) (at : Arrival) (m : DeviceState) (x : Command) → All (λ b. b < 2 ^ 8) image
+firmware_told : (image : List ℕ) (cut : Cut) (at : Arrival) (m : DeviceState) (x : Command)
+    → All (λ b. b < 2 ^ 8) image
     → is_image image ≡ true → at.port ≡ 203 → IsAskedOfFirmware x → IsSound image cut m
     → AllByRecursion (TellsTruly image (IsRunning image m.slots)) (map uplink_of (command_step at m x).answers)
 firmware_told image cut at m x bytes is port (inl asked) k =
-    subst (λ (y : Command). AllByRecursion (TellsTruly image (IsRunning image m.slots)) (map uplink_of (command_step at m y).answers))
+    subst (λ (y : Command). AllByRecursion (TellsTruly image (IsRunning image m.slots))
+    (map uplink_of (command_step at m y).answers))
     (sym asked) (version_told image cut at m bytes is port k)
 firmware_told image cut at m x bytes is port (inr (inl asked)) k =
-    subst (λ (y : Command). AllByRecursion (TellsTruly image (IsRunning image m.slots)) (map uplink_of (command_step at m y).answers))
+    subst (λ (y : Command). AllByRecursion (TellsTruly image (IsRunning image m.slots))
+    (map uplink_of (command_step at m y).answers))
     (sym asked) (upgrade_told image cut at m bytes port k)
 firmware_told image cut at m x bytes is port (inr (inr asked)) k =
-    subst (λ (y : Command). AllByRecursion (TellsTruly image (IsRunning image m.slots)) (map uplink_of (command_step at m y).answers))
+    subst (λ (y : Command). AllByRecursion (TellsTruly image (IsRunning image m.slots))
+    (map uplink_of (command_step at m y).answers))
     (sym asked) (countdown_told image at m port)
 
-told_by : (image : List ℕ) (cut : Cut) (at : Arrival) (m : DeviceState) (x : Command) (b : Bool) → (at.port == 203) ≡ b
+told_by : (image : List ℕ) (cut : Cut) (at : Arrival) (m : DeviceState) (x : Command) (b : Bool)
+    → (at.port == 203) ≡ b
     → All (λ b. b < 2 ^ 8) image → is_image image ≡ true → ComesOn image cut at.port x → IsSound image cut m
     → AllByRecursion (TellsTruly image (IsRunning image m.slots)) (map uplink_of (command_step at m x).answers)
 told_by image cut at m x true same bytes is comes k =
@@ -595,12 +445,14 @@ answers_go image cut m made k makes told =
         slots = goes.sound.slots;
         outbox = both_tell image (IsRunning image made.device.slots) made.device.outbox (map uplink_of made.answers)
             goes.sound.outbox
-            (tells_on image (IsRunning image m.slots) (IsRunning image made.device.slots) goes.runs (map uplink_of made.answers) told);
+            (tells_on image (IsRunning image m.slots) (IsRunning image made.device.slots) goes.runs
+            (map uplink_of made.answers) told);
       };
       runs = goes.runs;
     }
 
-step_by : (image : List ℕ) (cut : Cut) (at : Arrival) (m : DeviceState) (x : Command) (b : Bool) → All (λ b. b < 2 ^ 8) image
+step_by : (image : List ℕ) (cut : Cut) (at : Arrival) (m : DeviceState) (x : Command) (b : Bool)
+    → All (λ b. b < 2 ^ 8) image
     → is_image image ≡ true → ComesOn image cut at.port x → IsSound image cut m
     → Goes image cut m (after_answers (cond {A = DeviceStep} b (command_step at m x) (no_answer m)))
 step_by image cut at m x true bytes is comes k =
@@ -609,7 +461,8 @@ step_by image cut at m x true bytes is comes k =
 step_by image cut at m x false bytes is comes k =
     answers_go image cut m (no_answer m) k (same_made image cut m m k refl refl refl refl) tt
 
-commands_go : (image : List ℕ) (cut : Cut) (at : Arrival) (cs : List Command) (m : DeviceState) → All (λ b. b < 2 ^ 8) image
+commands_go : (image : List ℕ) (cut : Cut) (at : Arrival) (cs : List Command) (m : DeviceState)
+    → All (λ b. b < 2 ^ 8) image
     → is_image image ≡ true → AllByRecursion (ComesOn image cut at.port) cs → IsSound image cut m
     → Goes image cut m (after_commands at m cs)
 unfolding after_commands step
@@ -624,7 +477,8 @@ counted_goes : (image : List ℕ) (cut : Cut) (m : DeviceState) (after : Counts 
     → Goes image cut m (with_counts after m)
 counted_goes image cut m after k = made_goes image cut m _ k (same_made image cut m _ k refl refl refl refl)
 
-room_by : (image : List ℕ) (cut : Cut) (m e : DeviceState) (n : ℕ) (b : Bool) → IsSound image cut m → Goes image cut m e
+room_by : (image : List ℕ) (cut : Cut) (m e : DeviceState) (n : ℕ) (b : Bool) → IsSound image cut m
+    → Goes image cut m e
     → Goes image cut m (cond {A = Outcome Delivered} b (record { device = with_counts after_full m; answer = OutboxFull n })
     (record { device = e; answer = Done })).device
 room_by image cut m e n true k goes = counted_goes image cut m after_full k
@@ -636,7 +490,8 @@ ReadsAs image cut port (Ok cs) = AllByRecursion (ComesOn image cut port) cs
 ReadsAs image cut port (Err refusal) = Unit {0}
 
 read_goes : (image : List ℕ) (cut : Cut) (at : Arrival) (m : DeviceState) (r : Reading) → All (λ b. b < 2 ^ 8) image
-    → is_image image ≡ true → ReadsAs image cut at.port r → IsSound image cut m → Goes image cut m (read_delivery at m r).device
+    → is_image image ≡ true → ReadsAs image cut at.port r → IsSound image cut m
+    → Goes image cut m (read_delivery at m r).device
 unfolding read_delivery message_delivery
 read_goes image cut at m (Ok cs) bytes is all k =
     room_by image cut m _ _ _ k (commands_go image cut at cs m bytes is all k)
@@ -648,12 +503,15 @@ heard_by : (image : List ℕ) (cut : Cut) (m : DeviceState) (o : Outcome Deliver
 heard_by image cut m o true k goes = goes
 heard_by image cut m o false k goes = counted_goes image cut m after_deaf k
 
-heard_goes : (image : List ℕ) (cut : Cut) (t word mark : ℕ) (down : Downlink) (m : DeviceState) → All (λ b. b < 2 ^ 8) image
-    → is_image image ≡ true → ReadsAs image cut down.port (reading_of down.port Down down.payload) → IsSound image cut m
+heard_goes : (image : List ℕ) (cut : Cut) (t word mark : ℕ) (down : Downlink) (m : DeviceState)
+    → All (λ b. b < 2 ^ 8) image
+    → is_image image ≡ true → ReadsAs image cut down.port (reading_of down.port Down down.payload)
+    → IsSound image cut m
     → Goes image cut m (heard_delivery t word mark down m).device
 unfolding heard_delivery
 heard_goes image cut t word mark down m bytes is all k =
-    heard_by image cut m _ _ k (read_goes image cut (arrival t word mark down m) m (reading_of down.port Down down.payload) bytes is all k)
+    heard_by image cut m _ _ k
+    (read_goes image cut (arrival t word mark down m) m (reading_of down.port Down down.payload) bytes is all k)
 
 pub delivery_goes : (image : List ℕ) (cut : Cut) (t word mark : ℕ) (down : Downlink) (d : DeviceState)
     → All (λ b. b < 2 ^ 8) image → is_image image ≡ true
@@ -669,7 +527,8 @@ delivery_goes image cut t word mark down d bytes is all k =
 
 -- ---- a device wakes
 
-time_by : (image : List ℕ) (cut : Cut) (m : DeviceState) (one other : Outcome (Result (Unit {0}) outbox.OutboxFull)) (b : Bool)
+time_by : (image : List ℕ) (cut : Cut) (m : DeviceState)
+    (one other : Outcome (Result (Unit {0}) outbox.OutboxFull)) (b : Bool)
     → Goes image cut m one.device → Goes image cut m other.device
     → Goes image cut m (cond {A = Outcome (Result (Unit {0}) outbox.OutboxFull)} b one other).device
 time_by image cut m one other true k l = k
@@ -680,7 +539,8 @@ asking_goes : (image : List ℕ) (cut : Cut) (t : ℕ) (m : DeviceState) → IsS
 unfolding time_asking
 asking_goes image cut t m k = time_by image cut m _ _ _ (record { sound = k; runs = λ r. r })
     (answers_go image cut m (asks_time t m) k (same_made image cut m m k refl refl refl refl) (
-      other_port image (IsRunning image m.slots) (record { due = t; port = 202; payload = canonical (time_request m.clock t true) })
+      other_port image (IsRunning image m.slots)
+          (record { due = t; port = 202; payload = canonical (time_request m.clock t true) })
           (λ port. omega (arith, port)),
       tt,
     ))
@@ -692,7 +552,8 @@ waking_goes image cut t d k =
     let m : DeviceState = after_due_reboot t d in
     let before = reboot_goes image cut t d k in
     let asks = asking_goes image cut t m before.sound in
-    goes_on image cut d m _ before (goes_on image cut m _ _ asks (reboot_goes image cut t (time_asking t m).device asks.sound))
+    goes_on image cut d m _ before
+    (goes_on image cut m _ _ asks (reboot_goes image cut t (time_asking t m).device asks.sound))
 
 -- its uplinks are taken
 pub taken_goes : (image : List ℕ) (cut : Cut) (d e : DeviceState) → Goes image cut d e

@@ -1,5 +1,6 @@
--- Devices are independent of one another (this project's profile): the record of each is its own first one, folded over what
--- its script tells of it. No campaign stands in what is folded: the forms of the lines, and the payloads that were sent in all.
+-- Devices are independent of one another (this project's profile): the record of each is its own first one, folded over
+-- what its script tells of it. No campaign stands in what is folded: only the forms of the lines, and the payloads that
+-- were sent in all.
 use Rattle.std.specs.Prelude.{◌≡◌, ℕ, ◌+◌, ◌==◌, if◌then◌else◌, List, [], ◌∷◌, ◌++◌, map, fold, filter_map, Option, Some, None, option_map, option_to_list, Ok}
 use Rattle.package_grammar.specs.declared.downlink.Downlink.{Downlink}
 use Rattle.device_core.specs.Device.{DeviceState}

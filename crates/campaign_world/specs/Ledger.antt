@@ -1,5 +1,5 @@
--- The ledger is true: where the server says that a device is updated, the device runs the server's image (this project's
--- profile).
+-- The ledger is true: where the server says that a device is updated, the device runs the server's image
+-- (this project's profile).
 use Rattle.std.specs.Prelude.{◌≡◌, ℕ, ◌^◌, ◌<◌, true, List, All, Some, Ok}
 use Rattle.image_slots.specs.Image.{is_image, firmware_of}
 use Rattle.image_slots.specs.Slots.{Slots}
@@ -20,5 +20,6 @@ Runs image devices id = (device : DeviceState) × (numbered devices id ≡ Some 
 
 -- whatever image file and accepted script there are
 abbrev pub TheLedgerIsTrue : Type 0
-TheLedgerIsTrue = (image script : List ℕ) (world : WorldState) (id : ℕ) → All (λ b. b < 2 ^ 8) image → is_image image ≡ true
-    → campaign_of image script ≡ Ok world → ledger world.server id ≡ Some Updated → Runs image world.devices id
+TheLedgerIsTrue = (image script : List ℕ) (world : WorldState) (id : ℕ) → All (λ b. b < 2 ^ 8) image
+    → is_image image ≡ true → campaign_of image script ≡ Ok world → ledger world.server id ≡ Some Updated
+    → Runs image world.devices id
