@@ -19,3 +19,8 @@ pub mod HeadlineLaw
 pub mod HeadlineLives
 pub mod HeadlineCounts
 pub mod WorkedCampaigns
+pub mod Independence
+pub mod LedgerSlots
+pub mod LedgerDevices
+pub mod LedgerServers
+pub mod Ledger

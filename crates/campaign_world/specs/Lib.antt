@@ -10,3 +10,5 @@ pub mod Texts
 pub mod Headline
 pub mod Lives
 pub mod WorkedCampaigns
+pub mod Independence
+pub mod Ledger

@@ -2,6 +2,8 @@
 
 ghost use Rattle.campaign_world.specs.Headline.{Headline};
 ghost use Rattle.campaign_world.specs.Lives.{HasItsDevices, SessionsLive};
+ghost use Rattle.campaign_world.specs.Independence.{DevicesAreIndependent};
+ghost use Rattle.campaign_world.specs.Ledger.{TheLedgerIsTrue};
 ghost use Rattle.campaign_world.specs.Recovery.{RecoversTheImage};
 ghost use Rattle.campaign_world.specs.WorkedCampaigns.{AreRefused, AreReported, AreWords};
 
@@ -32,4 +34,16 @@ pub fn worked_campaigns()
     ensures reported { AreReported }
     ensures refused { AreRefused }
     ensures words { AreWords }
+{}
+
+/// Whatever image and accepted script there are: the record of each device is its own first one, behind the events of the
+/// script that name it alone, all its uplinks taken after each.
+pub fn devices_are_independent()
+    ensures { DevicesAreIndependent }
+{}
+
+/// Whatever image file and accepted script there are: where the ledger says that a device is updated, it runs the image,
+/// with exactly its bytes.
+pub fn the_ledger_is_true()
+    ensures { TheLedgerIsTrue }
 {}
