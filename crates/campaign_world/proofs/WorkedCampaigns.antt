@@ -53,7 +53,7 @@ refused_so = record {
 
 pub reported_so : AreReported
 unfolding digits int_wrap campaign_of read_lines read_line after_line cause_of form_cause in_range after_form with_device report_of device_parts view_of lines_of words_of word decimal_of key_of hex_number_of decode_pairs form_of next_fragment after_fragment request_of request_at hardware_of firmware_of number_at uplink_step read_uplink reading_of read_from command_at named_at stop_at is_known sync.is_known sync.samples cast.is_known cast.samples clock_up clock_down firmware_up firmware_down fragment_up fragment_down group_up group_down stage_after_all stage_after time_answer delivery heard_delivery read_delivery message_delivery after_due_reboot after_swap hears is_after_uplink after_commands step command_step after_answers answer_step version_step waking time_asking
-reported_so = record { clock = refl; version = refl; others = refl }
+reported_so = record { clock = refl; version = refl; numbers = refl; others = refl }
 
 pub words_are : AreWords
 unfolding digits

@@ -44,6 +44,9 @@ pub record AreReported : Type 0 where
   -- the answer of the device's version leads on
   pub version : told (one_device (codes "ask 1\ndown 1 1\nup 1\nask 1\nfrag\nend\n")) ≡ reported (codes
       "fuota report 1\nimage 52 fragments 4 size 13 padding 0 parity 0\ndevice 1 fragments clock 5 token 0 running 0 next none\ncounts deaf 0 refused 0 full 0 dropped 0\nend\n")
+  -- uplinks are numbered in the order of their making
+  pub numbers : told (one_device (codes "wake 1\nask 1\ndown 1 1\nup 2\nend\n")) ≡ reported (codes
+      "fuota report 1\nimage 52 fragments 4 size 13 padding 0 parity 0\ndevice 1 fragments clock 5 token 0 running 0 next none\ncounts deaf 0 refused 0 full 0 dropped 0\nend\n")
   -- other hardware is refused, and a device of class A is deaf before its first uplink
   pub others : told (codes
       "fuota 1\nimage 50 2\ndevice 1 c 7 0 0 00000000000000000000000000000000\ndevice 2 a 1 0 0 00000000000000000000000000000000\nask 1\nask 2\ndown 1 1\nup 1\ndown 2 2\nend\n")
