@@ -17,6 +17,7 @@ pub mod HeadlineSessions
 pub mod HeadlineHeard
 pub mod HeadlineLaw
 pub mod Independence
+pub mod IndependentExample
 pub mod LedgerSlots
 pub mod LedgerDevices
 pub mod LedgerServers
