@@ -20,6 +20,7 @@ pub mod HeadlineLives
 pub mod HeadlineCounts
 pub mod WorkedCampaigns
 pub mod Independence
+pub mod IndependentExample
 pub mod LedgerSlots
 pub mod LedgerDevices
 pub mod LedgerServers
