@@ -548,7 +548,7 @@ first_reads image lines = record {
   configured = none_configured lines;
 }
 
-end_by : (here : Section) (w world : WorldState) → end_result_at here w ≡ Ok world → w ≡ world
+pub end_by : (here : Section) (w world : WorldState) → end_result_at here w ≡ Ok world → w ≡ world
 end_by section.Header w world is = absurd cc
 end_by section.Image w world is = absurd cc
 end_by section.Group w world is = absurd cc

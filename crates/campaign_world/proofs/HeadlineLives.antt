@@ -24,7 +24,7 @@ use Rattle.campaign_world.proofs.LineItems.{within}
 use Rattle.campaign_world.proofs.HeadlineCommands.{Cut, cut_of, setup_req, setup_request, IsCut}
 use Rattle.campaign_world.proofs.HeadlineEnds.{IsBounded}
 use Rattle.campaign_world.proofs.HeadlineWorlds.{StandsIn}
-use Rattle.campaign_world.proofs.HeadlineLines.{campaign_reads, campaign_device}
+use Rattle.campaign_world.proofs.HeadlineLines.{end_by, campaign_reads, campaign_device}
 use Rattle.campaign_world.proofs.HeadlineSessions.{SessionHears}
 use Rattle.campaign_world.proofs.HeadlineHeard.{campaign_full_at}
 use Rattle.campaign_world.proofs.HeadlineLaw.{setup_is}
@@ -94,20 +94,10 @@ ended_by section.Devices w world is = absurd cc
 ended_by section.Events w world is = absurd cc
 ended_by section.Ended w world is = refl
 
-same_by : (here : Section) (w world : WorldState) → end_result_at here w ≡ Ok world → w ≡ world
-same_by section.Header w world is = absurd cc
-same_by section.Image w world is = absurd cc
-same_by section.Group w world is = absurd cc
-same_by section.Window w world is = absurd cc
-same_by section.Device w world is = absurd cc
-same_by section.Devices w world is = absurd cc
-same_by section.Events w world is = absurd cc
-same_by section.Ended w world is = cc
-
 pub ended : (r : Result WorldState LineFault) (world : WorldState) → end_result r ≡ Ok world → world.section ≡ section.Ended
 ended (Err fault) world is = absurd cc
 ended (Ok w) world is =
-    ap (λ (x : WorldState). x.section) (sym (same_by w.section w world is)) ∙ ended_by w.section w world is
+    ap (λ (x : WorldState). x.section) (sym (end_by w.section w world is)) ∙ ended_by w.section w world is
 
 campaign_cut : (image script : List ℕ) (world : WorldState) → All (λ b. b < 2 ^ 8) image
     → campaign_of image script ≡ Ok world → IsCut image (cut_of world.server.plan)

@@ -30,6 +30,7 @@ campaign_run words held s old new given image script world handed bytes accepted
     record {
       done = here.0;
       report = here.1;
+      configured = λ id device there. headline.configured image script world id device bytes accepted there;
       one = λ id device there. headline.one image script world id device bytes accepted there;
       headline = λ id stage device session is. record {
         served = headline.served image script world id stage device session is;
