@@ -1,7 +1,9 @@
 -- The words of a form, read one after another.
-use Rattle.std.proofs.Common.{◌≡◌, ◌≢◌, ℕ, length, Bool, true, false, ◌==◌, not, is_some, List, [], ◌∷◌, ◌++◌, codes, fold, Option, Some, None, option_and_then, if◌then◌else◌, refl, sym, ap, ◌∙◌, append-nil, append_assoc}
+use Rattle.std.proofs.Common.{◌≡◌, ◌≢◌, ◌≤◌, ◌<◌, ◌+◌, zero, suc, ◌&&◌, arith, ℕ, length, Bool, true, false, ◌==◌, not, is_some, List, [], ◌∷◌, ◌++◌, codes, fold, Option, Some, None, option_and_then, if◌then◌else◌, refl, sym, ap, ◌∙◌, append-nil, append_assoc}
 use Rattle.std.specs.List.{AllByRecursion, find}
-use Rattle.std.proofs.lemmas.Bool.{eqb-true}
+use Rattle.std.specs.Fmt.{decimal, digits}
+use Rattle.std.proofs.lemmas.Bool.{eqb-true, eqb-false}
+use Rattle.clap.proofs.WalkLemmas.{both}
 use Rattle.std.specs.Option.{option_map_or}
 use Rattle.std.specs.Str.{bytes_eq}
 use Rattle.clap.specs.declared.error.kind.ErrorKind.{ErrorKind}
@@ -268,8 +270,51 @@ decode_form program port_word direction_word file port direction first second na
     ∙ ap (λ (o : Option ℕ). decodes file o (direction_of_word direction_word)) first
     ∙ ap (decodes file (Some port)) second
 
+-- the number that is read is this one
+abbrev reads : Option ℕ → ℕ → Bool
+reads None n = false
+reads (Some m) n = m == n
+
+read_is : (o : Option ℕ) (n : ℕ) → reads o n ≡ true → o ≡ Some n
+read_is None n same = absurd cc
+read_is (Some m) n same = ap (λ (k : ℕ). let found : Option ℕ = Some k in found) (eqb-true m n same)
+
+-- a test holds of so many numbers from the first on
+abbrev hold : (ℕ → Bool) → ℕ → ℕ → Bool
+hold test first zero = true
+hold test first (suc n) = test (first + n) && hold test first n
+
+holds_at : (test : ℕ → Bool) (first n k : ℕ) → hold test first n ≡ true → first ≤ k → k < first + n → test k ≡ true
+holds_at test first zero k all low high = absurd (omega arith)
+holds_at test first (suc n) k all low high =
+    let parts = both (test (first + n)) (hold test first n) all in
+    of_last (k == first + n) refl parts.0 (λ below. holds_at test first n k parts.1 low below)
+  where
+    of_last : (b : Bool) → (k == first + n) ≡ b → test (first + n) ≡ true → (k < first + n → test k ≡ true) → test k ≡ true
+    of_last true e last before = ap test (eqb-true k (first + n) e) ∙ last
+    of_last false e last before = let apart = eqb-false k (first + n) e in before (omega (arith, apart))
+
+device_word : (device : ℕ) → 1 ≤ device → device ≤ 64 → device_of_word (decimal device) ≡ Some device
+unfolding decimal_of digits
+device_word device low high =
+    read_is (device_of_word (decimal device)) device (holds_at (λ d. reads (device_of_word (decimal d)) d) 1 64 device refl low (omega arith))
+
+port_word : (port : ℕ) → 200 ≤ port → port ≤ 203 → port_of_word (decimal port) ≡ Some port
+unfolding decimal_of digits
+port_word port low high =
+    read_is (port_of_word (decimal port)) port (holds_at (λ p. reads (port_of_word (decimal p)) p) 200 4 port refl low (omega arith))
+
 pub words_are_forms : WordsAreForms
-words_are_forms = record { campaign = campaign_form; recover = recover_form; replay = replay_form; decode = decode_form }
+words_are_forms = record {
+  campaign = campaign_form;
+  recover = recover_form;
+  replay = replay_form;
+  decode = decode_form;
+  device_word = device_word;
+  port_word = port_word;
+  down_word = refl;
+  up_word = refl;
+}
 
 -- ---- other counts
 

@@ -1,7 +1,10 @@
 -- The words of each form, spelled out. (This project's profile.)
-use Rattle.std.specs.Prelude.{◌≡◌, ◌≢◌, ◌==◌, ℕ, Bool, true, not, List, [], ◌∷◌, length, codes, Option, Some, None, IsSome}
+use Rattle.std.specs.Prelude.{◌≡◌, ◌≢◌, ◌==◌, ◌≤◌, ℕ, Bool, true, not, List, [], ◌∷◌, length, codes, Option, Some, None, IsSome}
 use Rattle.std.specs.List.{AllByRecursion, Contains}
+use Rattle.std.specs.Fmt.{decimal}
+use Rattle.script_lines.specs.Limits.{max_devices}
 use Rattle.wire_base.specs.declared.refusal.Direction.{Direction}
+use Rattle.wire_base.specs.declared.refusal.Direction.TheVariants.{Down, Up}
 use Rattle.clap.specs.Words.{Text}
 use Rattle.fuota_run.specs.declared.words.FileForm.TheVariants.{Replay, Decode}
 use Rattle.fuota_run.specs.declared.words.ScriptForm.TheVariants.{Campaign, Recover}
@@ -27,6 +30,11 @@ pub record WordsAreForms : Type 0 where
   pub decode : (program port_word direction_word file : Text) (port : ℕ) (direction : Direction)
       → port_of_word port_word ≡ Some port → direction_of_word direction_word ≡ Some direction → IsName file
       → asked (program ∷ codes "decode" ∷ port_word ∷ direction_word ∷ file ∷ []) ≡ Some (payloads (Decode port direction) file)
+  -- the decimal of each device, and of each port, is its word
+  pub device_word : (device : ℕ) → 1 ≤ device → device ≤ max_devices → device_of_word (decimal device) ≡ Some device
+  pub port_word : (port : ℕ) → 200 ≤ port → port ≤ 203 → port_of_word (decimal port) ≡ Some port
+  pub down_word : direction_of_word (codes "down") ≡ Some Down
+  pub up_word : direction_of_word (codes "up") ≡ Some Up
 
 -- a keyword with fewer names than its form has, or more, is none
 pub record OtherCountsAreNone : Type 0 where
