@@ -21,7 +21,7 @@ use Rattle.device_core.specs.Step.{command_step, step, after_commands}
 use Rattle.device_core.specs.Deliver.{message_delivery, read_delivery, heard_delivery, time_asking, delivery, waking}
 use Rattle.campaign_server.specs.Asking.{request_at, request_of}
 use Rattle.campaign_server.specs.Answers.{stage_after, stage_after_all}
-use Rattle.campaign_server.specs.Fragments.{next_fragment, after_fragment}
+use Rattle.campaign_server.specs.Fragments.{next_fragment, after_fragment, status_to_all, after_status_to_all}
 use Rattle.campaign_server.specs.Time.{time_answer}
 use Rattle.campaign_server.specs.Uplinks.{read_uplink, uplink_step}
 use Rattle.script_lines.specs.Lines.{lines_of, words_of, word}
@@ -35,7 +35,7 @@ use Rattle.campaign_world.specs.Report.{device_parts, report_of}
 use Rattle.campaign_world.specs.WorkedCampaigns.{AreReported, AreRefused, AreWords}
 
 pub refused_so : AreRefused
-unfolding campaign_of read_lines read_line after_line cause_of form_cause in_range after_form lines_of words_of word decimal_of key_of hex_number_of decode_pairs form_of next_fragment after_fragment request_of request_at
+unfolding campaign_of read_lines read_line after_line cause_of form_cause in_range after_form lines_of words_of word decimal_of key_of hex_number_of decode_pairs form_of next_fragment after_fragment status_to_all after_status_to_all request_of request_at
 refused_so = record {
   no_end = refl;
   no_form = refl;
@@ -45,15 +45,20 @@ refused_so = record {
   next_id = refl;
   device = refl;
   payload = refl;
+  to_another = refl;
+  no_window = refl;
   uplink = refl;
   time = refl;
   limit = refl;
   size = refl;
+  counts = refl;
+  due = refl;
+  not_due = refl;
 }
 
 pub reported_so : AreReported
-unfolding digits int_wrap campaign_of read_lines read_line after_line cause_of form_cause in_range after_form with_device report_of device_parts view_of lines_of words_of word decimal_of key_of hex_number_of decode_pairs form_of next_fragment after_fragment request_of request_at hardware_of firmware_of number_at uplink_step read_uplink reading_of read_from command_at named_at stop_at is_known sync.is_known sync.samples cast.is_known cast.samples clock_up clock_down firmware_up firmware_down fragment_up fragment_down group_up group_down stage_after_all stage_after time_answer delivery heard_delivery read_delivery message_delivery after_due_reboot after_swap hears is_after_uplink after_commands step command_step after_answers answer_step version_step waking time_asking
-reported_so = record { clock = refl; version = refl; numbers = refl; others = refl }
+unfolding digits int_wrap campaign_of read_lines read_line after_line cause_of form_cause in_range after_form with_device report_of device_parts view_of lines_of words_of word decimal_of key_of hex_number_of decode_pairs form_of next_fragment after_fragment status_to_all after_status_to_all request_of request_at hardware_of firmware_of number_at uplink_step read_uplink reading_of read_from command_at named_at stop_at is_known sync.is_known sync.samples cast.is_known cast.samples clock_up clock_down firmware_up firmware_down fragment_up fragment_down group_up group_down stage_after_all stage_after time_answer delivery heard_delivery read_delivery message_delivery after_due_reboot after_swap hears is_after_uplink after_commands step command_step after_answers answer_step version_step waking time_asking
+reported_so = record { clock = refl; version = refl; numbers = refl; others = refl; group = refl }
 
 pub words_are : AreWords
 unfolding digits

@@ -1,5 +1,5 @@
 -- Campaigns worked out: their reports, and the first refused lines of scripts.
-use Rattle.std.specs.Prelude.{◌≡◌, ℕ, true, false, List, [], ◌∷◌, ◌++◌, codes, Result, Ok, Err}
+use Rattle.std.specs.Prelude.{◌≡◌, ℕ, true, false, List, [], ◌∷◌, ◌++◌, codes, Some, Result, Ok, Err}
 use Rattle.frag_session.specs.declared.answers.Verdict.TheVariants as verdict
 use Rattle.image_slots.specs.declared.view.ImageState.TheVariants as next
 use Rattle.campaign_server.specs.declared.stage.Stage.TheVariants.{At, Updated, Refused}
@@ -8,6 +8,7 @@ use Rattle.campaign_world.specs.declared.faults.LineFault.{LineFault}
 use Rattle.campaign_world.specs.declared.faults.LineWhy.{LineWhy}
 use Rattle.campaign_world.specs.declared.faults.LineWhy.TheVariants as why
 use Rattle.campaign_world.specs.World.{WorldState}
+use Rattle.campaign_world.specs.Causes.{is_due_by}
 use Rattle.campaign_world.specs.Script.{campaign_of}
 use Rattle.campaign_world.specs.Report.{stage_text, next_text, device_text, counts_line, same_word, verdict_text, session_text, report_of}
 
@@ -52,6 +53,11 @@ pub record AreReported : Type 0 where
       "fuota 1\nimage 50 2\ndevice 1 c 7 0 0 00000000000000000000000000000000\ndevice 2 a 1 0 0 00000000000000000000000000000000\nask 1\nask 2\ndown 1 1\nup 1\ndown 2 2\nend\n")
       ≡ reported (codes
       "fuota report 1\nimage 52 fragments 2 size 50 padding 48 parity 2\ndevice 1 refused version 1 clock 0 token 0 running 0 next none\ncounts deaf 0 refused 0 full 0 dropped 0\ndevice 2 version clock 0 token 0 running 0 next none\ncounts deaf 1 refused 0 full 0 dropped 0\nend\n")
+  -- a device of a group is asked for it first, and is deaf to the group until it has its session
+  pub group : told (codes
+      "fuota 1\nimage 52 0\ngroup 11223344 00000000000000000000000000000000 0 10\nwindow c 1000 0 8695250 0\ndevice 1 c 1 0 0 00000000000000000000000000000000\nask 1\ndown 1 1\nup 1\nfrag\nstatus\ndown 2 1\ndown 3 1\nend\n")
+      ≡ reported (codes
+      "fuota report 1\nimage 52 fragments 1 size 52 padding 0 parity 0\ndevice 1 group clock 0 token 0 running 0 next none\ncounts deaf 2 refused 0 full 0 dropped 0\nend\n")
 
 pub record AreRefused : Type 0 where
   pub no_end : told (one_device []) ≡ refused 4 why.Syntax
@@ -62,10 +68,25 @@ pub record AreRefused : Type 0 where
   pub next_id : told (one_device (codes "device 3 c 1 0 0 00000000000000000000000000000000\n")) ≡ refused 4 why.Range
   pub device : told (one_device (codes "ask 2\n")) ≡ refused 4 why.Device
   pub payload : told (one_device (codes "down 1 1\n")) ≡ refused 4 why.Unsent
+  -- it was sent to device 1
+  pub to_another : told (codes
+      "fuota 1\nimage 13 0\ndevice 1 c 1 0 0 00000000000000000000000000000000\ndevice 2 c 1 0 0 00000000000000000000000000000000\nask 1\ndown 1 2\n")
+      ≡ refused 6 why.Unsent
+  -- a window of the group is to come
+  pub no_window : told (codes
+      "fuota 1\nimage 13 0\ngroup 11223344 00000000000000000000000000000000 0 10\ndevice 1 c 1 0 0 00000000000000000000000000000000\n")
+      ≡ refused 4 why.Order
   pub uplink : told (one_device (codes "up 1\n")) ≡ refused 4 why.Unsent
   pub time : told (one_device (codes "at 5\nat 4\n")) ≡ refused 5 why.Time
   pub limit : told (one_device (codes "frag\nfrag\nfrag\nfrag\nfrag\n")) ≡ refused 8 why.Limit
   pub size : told (codes "fuota 1\nimage 240 0\n") ≡ refused 2 why.Range
+  -- the group's one frame count is used up
+  pub counts : told (codes
+      "fuota 1\nimage 13 0\ngroup 11223344 00000000000000000000000000000000 9 10\nwindow b 1000 0 0 8695250 0\ndevice 1 c 1 0 0 00000000000000000000000000000000\nfrag\nstatus\n")
+      ≡ refused 7 why.Limit
+  -- an uplink comes when it is due, and not before
+  pub due : is_due_by 6 (Some (record { device = 1; uplink = record { due = 6; port = 202; payload = [] } })) ≡ true
+  pub not_due : is_due_by 5 (Some (record { device = 1; uplink = record { due = 6; port = 202; payload = [] } })) ≡ false
 
 -- the words of a report
 pub record AreWords : Type 0 where
