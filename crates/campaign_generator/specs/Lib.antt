@@ -1,0 +1,4 @@
+pub mod Draws
+pub mod Firmware
+pub mod Script
+pub mod WorkedSeed
