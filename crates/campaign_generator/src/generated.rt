@@ -17,8 +17,8 @@ pub struct Generated {
     pub script: Vec<u8>,
 }
 
-/// The image and the script of a seed; every seed has its own. The error is that memory ran out.
-#[tactic(auto, unfolding(crate::specs::Firmware::image_of, crate::specs::Firmware::body_of, crate::specs::Firmware::size_of, crate::specs::Firmware::after_image, crate::specs::Firmware::fragments_of, crate::specs::Script::script_of,))]
+/// The image and the script of a seed: the same ones whenever it is called. The error is that memory ran out.
+#[tactic(auto, unfolding(crate::specs::Firmware::image_of, crate::specs::Firmware::body_of, crate::specs::Firmware::size_of, crate::specs::Firmware::after_image, crate::specs::Firmware::fragments_of, crate::specs::Script::script_of))]
 pub fn generate(alloc: Global, seed: u32) -> Result<Generated, AllocError>
     ensures image { IfOk result (λ made. made.image.items ≡ image_of seed) }
     ensures script { IfOk result (λ made. made.script.items ≡ script_of seed) }
