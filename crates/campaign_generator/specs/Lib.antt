@@ -1,0 +1,5 @@
+pub mod Draws
+pub mod Firmware
+pub mod Script
+pub mod ImageFile
+pub mod WorkedSeed

@@ -1,0 +1,18 @@
+//! Campaigns that are made from a seed (this project's profile): an image file, and a script in which eight devices
+//! of class C take it as fragments of which some are lost and some come twice.
+//! `generate` gives exactly the image and the script that the definitions draw from the seed, or says that memory ran out.
+//! How a script is read and played, and what a device makes of it, is left to the crates above.
+#![tactic(auto)]
+
+mod draws;
+mod generated;
+mod image;
+mod laws;
+mod lines;
+mod script;
+
+pub use generated::{Generated, generate};
+pub use laws::{image_files, worked_seed};
+
+#[cfg(test)]
+mod tests;

@@ -1,0 +1,67 @@
+//! The lines of a script, each put at the end of the text.
+
+ghost use Rattle.std.specs.Prelude.{◌≡◌, ◌++◌, IfOk, string_bytes};
+ghost use Rattle.campaign_generator.specs.Script.{device_line, ask_line, down_line, up_line};
+
+use std::alloc::{AllocError, Global};
+
+/// A device of class C with hardware 1, 64 rows, a clock's offset in seconds, and a key of zeros.
+pub fn put_device(
+    alloc: Global,
+    text: &mut Vec<u8>,
+    device: u32,
+    offset: u32,
+) -> Result<(), AllocError>
+    ensures { IfOk result (λ _. text.new.items ≡ text.old.items ++ device_line device offset) }
+{
+    let line = device_line(alloc, device, offset)?;
+    text.extend_from_slice(line.as_bytes())
+}
+
+fn device_line(alloc: Global, device: u32, offset: u32) -> Result<String, AllocError>
+    ensures { IfOk result (λ line. string_bytes line ≡ device_line device offset) }
+{
+    format!(in alloc; "device {device} c 1 64 {offset} 00000000000000000000000000000000\n")
+}
+
+/// The server asks a device.
+pub fn put_ask(alloc: Global, text: &mut Vec<u8>, device: u32) -> Result<(), AllocError>
+    ensures { IfOk result (λ _. text.new.items ≡ text.old.items ++ ask_line device) }
+{
+    let line = ask_line(alloc, device)?;
+    text.extend_from_slice(line.as_bytes())
+}
+
+fn ask_line(alloc: Global, device: u32) -> Result<String, AllocError>
+    ensures { IfOk result (λ line. string_bytes line ≡ ask_line device) }
+{
+    format!(in alloc; "ask {device}\n")
+}
+
+/// A device takes a payload by its sent number.
+pub fn put_down(alloc: Global, text: &mut Vec<u8>, sent: u32, device: u32) -> Result<(), AllocError>
+    ensures { IfOk result (λ _. text.new.items ≡ text.old.items ++ down_line sent device) }
+{
+    let line = down_line(alloc, sent, device)?;
+    text.extend_from_slice(line.as_bytes())
+}
+
+fn down_line(alloc: Global, sent: u32, device: u32) -> Result<String, AllocError>
+    ensures { IfOk result (λ line. string_bytes line ≡ down_line sent device) }
+{
+    format!(in alloc; "down {sent} {device}\n")
+}
+
+/// An uplink comes to the server.
+pub fn put_up(alloc: Global, text: &mut Vec<u8>, uplink: u32) -> Result<(), AllocError>
+    ensures { IfOk result (λ _. text.new.items ≡ text.old.items ++ up_line uplink) }
+{
+    let line = up_line(alloc, uplink)?;
+    text.extend_from_slice(line.as_bytes())
+}
+
+fn up_line(alloc: Global, uplink: u32) -> Result<String, AllocError>
+    ensures { IfOk result (λ line. string_bytes line ≡ up_line uplink) }
+{
+    format!(in alloc; "up {uplink}\n")
+}
