@@ -38,12 +38,14 @@ pub refused_so : AreRefused
 unfolding campaign_of read_lines read_line after_line cause_of form_cause in_range after_form lines_of words_of word decimal_of key_of hex_number_of decode_pairs form_of next_fragment after_fragment status_to_all after_status_to_all request_of request_at
 refused_so = record {
   no_end = refl;
+  no_end_behind_events = refl;
   no_form = refl;
   order = refl;
   behind_the_end = refl;
   range = refl;
   next_id = refl;
   device = refl;
+  device_of_no_payload = refl;
   payload = refl;
   to_another = refl;
   no_window = refl;

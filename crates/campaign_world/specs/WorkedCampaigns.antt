@@ -61,12 +61,15 @@ pub record AreReported : Type 0 where
 
 pub record AreRefused : Type 0 where
   pub no_end : told (one_device []) ≡ refused 4 why.Syntax
+  pub no_end_behind_events : told (one_device (codes "ask 1\n")) ≡ refused 5 why.Syntax
   pub no_form : told (one_device (codes "stop\n")) ≡ refused 4 why.Syntax
   pub order : told (one_device (codes "image 13 0\n")) ≡ refused 4 why.Order
   pub behind_the_end : told (one_device (codes "end\nend\n")) ≡ refused 5 why.Order
   pub range : told (one_device (codes "at 4294967296000\n")) ≡ refused 4 why.Range
   pub next_id : told (one_device (codes "device 3 c 1 0 0 00000000000000000000000000000000\n")) ≡ refused 4 why.Range
   pub device : told (one_device (codes "ask 2\n")) ≡ refused 4 why.Device
+  -- the device is asked for before the payload
+  pub device_of_no_payload : told (one_device (codes "down 1 2\n")) ≡ refused 4 why.Device
   pub payload : told (one_device (codes "down 1 1\n")) ≡ refused 4 why.Unsent
   -- it was sent to device 1
   pub to_another : told (codes
