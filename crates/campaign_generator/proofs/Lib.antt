@@ -1,2 +1,5 @@
+pub mod Decimals
 pub mod Drawing
 pub mod ImageFile
+pub mod LineForms
+pub mod ScriptForms

@@ -1,5 +1,6 @@
 pub mod Draws
 pub mod Firmware
 pub mod Script
+pub mod Forms
 pub mod ImageFile
 pub mod WorkedSeed

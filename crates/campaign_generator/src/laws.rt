@@ -1,5 +1,6 @@
 //! Laws about the definitions, each as the contract of a function that does nothing.
 
+ghost use Rattle.campaign_generator.specs.Forms.{AllLinesSpellForms};
 ghost use Rattle.campaign_generator.specs.ImageFile.{AreImageFiles};
 ghost use Rattle.campaign_generator.specs.WorkedSeed.{IsWorkedSeed};
 
@@ -11,4 +12,10 @@ pub fn image_files()
 /// Seed 0 draws 15470 first: its image has 7,327 bytes in 115 fragments, and its script sends 291 payloads.
 pub fn worked_seed()
     ensures { IsWorkedSeed }
+{}
+
+/// The lines of the script of every seed spell its forms, one each; none has more than 60 bytes, and there are no more
+/// than 4,524.
+pub fn lines_are_forms()
+    ensures { AllLinesSpellForms }
 {}

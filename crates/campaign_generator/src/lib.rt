@@ -12,7 +12,7 @@ mod lines;
 mod script;
 
 pub use generated::{Generated, generate};
-pub use laws::{image_files, worked_seed};
+pub use laws::{image_files, lines_are_forms, worked_seed};
 
 #[cfg(test)]
 mod tests;
