@@ -1,4 +1,4 @@
--- A number's digits are read as the number.
+-- The digits that a number is written with are read as that number.
 use Rattle.std.proofs.Common.{◌≡◌, ℕ, ◌+◌, ◌-◌, ◌*◌, ◌/◌, ◌%◌, ◌^◌, ◌<◌, ◌≤◌, min, Bool, true, false, nat_lt, ◌==◌, ◌&&◌, List, [], ◌∷◌, ◌++◌, length, Some, refl, ap, ◌∙◌, arith}
 use Rattle.std.specs.List.{list_all}
 use Rattle.std.specs.Char.{is_ascii_digit}
@@ -12,6 +12,7 @@ abbrev pub StartsWell : ℕ → List ℕ → Type 0
 StartsWell n [] = ⊥
 StartsWell n (d ∷ ds) = (0 < n) → (d ≡ 48 → ⊥)
 
+-- what is known of the digits of a number, made digit by digit
 pub record IsDecimalOf (n : ℕ) (ds : List ℕ) : Type 0 where
   pub digits : list_all is_ascii_digit ds ≡ true
   pub value : decimal_number ds ≡ n

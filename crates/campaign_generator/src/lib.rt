@@ -1,7 +1,8 @@
 //! Campaigns that are made from a seed (this project's profile): an image file, and a script in which eight devices
 //! of class C take it as fragments of which some are lost and some come twice.
-//! `generate` gives exactly the image and the script that the definitions draw from the seed, or says that memory ran out.
-//! How a script is read and played, and what a device makes of it, is left to the crates above.
+//! `generate` gives exactly the image and the script that the definitions draw from the seed, or says that memory ran out;
+//! a law says which form each line of that script spells.
+//! How a script is played, and what a device makes of it, is left to the crates above.
 #![tactic(auto)]
 
 mod draws;
