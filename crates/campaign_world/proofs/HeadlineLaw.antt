@@ -32,7 +32,7 @@ use Rattle.campaign_world.proofs.HeadlineHeard.{campaign_hears}
 use Rattle.campaign_world.proofs.HeadlineImage.{IsShapeFor, image_fits, alone_is_image, behind}
 
 -- the session's shape is the image's
-shape_for : (image : List ℕ) (whole : Cut) (s : Session) → All (λ b. b < 2 ^ 8) image → IsSetFor image whole s
+pub shape_for : (image : List ℕ) (whole : Cut) (s : Session) → All (λ b. b < 2 ^ 8) image → IsSetFor image whole s
     → IsShapeFor image (shape_of s) s.setup.padding × ((shape_of s).frag_size ≡ whole.size)
 unfolding shape_of
 shape_for image whole s bytes k =
@@ -61,7 +61,7 @@ only_image image shape padding heard newer older file h all parted one =
     (behind (IsFragmentOf image shape.frag_size) newer older
     (subst (AllByRecursion (IsFragmentOf image shape.frag_size)) parted all)) one
 
-recovered_by : (image : List ℕ) (s : Session) → IsShapeFor image (shape_of s) s.setup.padding
+pub recovered_by : (image : List ℕ) (s : Session) → IsShapeFor image (shape_of s) s.setup.padding
     → AllByRecursion (IsFragmentOf image (shape_of s).frag_size) s.heard → IsRecovered image s
 recovered_by image s h all =
     let shape : Shape = shape_of s in

@@ -5,6 +5,7 @@ pub mod Outcomes
 pub mod FormCauses
 pub mod Steps
 pub mod Lines
+pub mod Counting
 pub mod SessionSteps
 pub mod HeadlineCommands
 pub mod HeadlinePayloads

@@ -62,13 +62,13 @@ told held world server text stands there is = subst (λ (w : WorldState). text �
 
 -- ---- the parts of its devices
 
-drop_at : {A : Type 0} (xs : List A) (i j : ℕ) (x : A) → j ≡ i + 1 → slice_get xs i ≡ Some x → drop i xs ≡ x ∷ drop j xs
+pub drop_at : {A : Type 0} (xs : List A) (i j : ℕ) (x : A) → j ≡ i + 1 → slice_get xs i ≡ Some x → drop i xs ≡ x ∷ drop j xs
 drop_at [] i j x next there = absurd cc
 drop_at (a ∷ xs) zero j x next there = let same : a ≡ x = cc in rw (same, next) refl
 drop_at (a ∷ xs) (suc i) zero x next there = absurd (omega (arith, next))
 drop_at (a ∷ xs) (suc i) (suc j) x next there = drop_at xs i j x (omega (arith, next)) there
 
-drop_all : {A : Type 0} (xs : List A) (i : ℕ) → length xs ≤ i → drop i xs ≡ []
+pub drop_all : {A : Type 0} (xs : List A) (i : ℕ) → length xs ≤ i → drop i xs ≡ []
 drop_all [] zero past = refl
 drop_all [] (suc i) past = refl
 drop_all (a ∷ xs) zero past = absurd (omega (arith, past))
@@ -85,7 +85,7 @@ all_told image text all id i stages ds past so_far =
     let empty : text ++ [] ≡ all = rw (none, no_parts image id stages) at so_far in
     sym (append-nil text) ∙ empty
 
-got_at : {A : Type 0} (items : List A) (n i : ℕ) (x : A) → n ≡ i + 1 → numbered items n ≡ Some x → slice_get items i ≡ Some x
+pub got_at : {A : Type 0} (items : List A) (n i : ℕ) (x : A) → n ≡ i + 1 → numbered items n ≡ Some x → slice_get items i ≡ Some x
 got_at items n i x is there =
     let first : n - 1 ≡ i = omega (arith, is) in
     let some : (n == 0) ≡ false = grind (arith, nat_tests, is) in

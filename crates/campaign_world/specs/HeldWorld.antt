@@ -19,6 +19,7 @@ use Rattle.campaign_world.specs.Causes.{form_cause, cause_of}
 use Rattle.campaign_world.specs.Making.{made_by}
 use Rattle.campaign_world.specs.Script.{after_line, end_result}
 use Rattle.campaign_world.specs.Report.{report_of}
+use Rattle.campaign_world.specs.Summary.{summary_of}
 
 -- a world without the histories of its devices; the server is made at the first event
 pub record HeldWorld : Type 0 where
@@ -103,11 +104,17 @@ IsLineAnswer world line new (Ok done) = (cause_of world line ≡ None) × WorldS
 IsLineAnswer world line new (Err (error.Line fault)) = (cause_of world line ≡ Some fault.why) × (fault.line ≡ world.lines + 1) × WorldStands new world
 IsLineAnswer world line new (Err error.Memory) = Unit {0}
 
--- the answer to a report: the text, where the script has ended, else that it has not
+-- the answer of a text: that one, where the script has ended, else that it has not
+abbrev pub IsTextOf : (WorldState → List ℕ) → WorldState → Result (List ℕ) LineError → Type 0
+IsTextOf text_of world (Ok text) = (end_result (Ok world) ≡ Ok world) × (text ≡ text_of world)
+IsTextOf text_of world (Err (error.Line fault)) = end_result (Ok world) ≡ Err fault
+IsTextOf text_of world (Err error.Memory) = Unit {0}
+
 abbrev pub IsReport : WorldState → Result (List ℕ) LineError → Type 0
-IsReport world (Ok text) = (end_result (Ok world) ≡ Ok world) × (text ≡ report_of world)
-IsReport world (Err (error.Line fault)) = end_result (Ok world) ≡ Err fault
-IsReport world (Err error.Memory) = Unit {0}
+IsReport = IsTextOf report_of
+
+abbrev pub IsSummary : WorldState → Result (List ℕ) LineError → Type 0
+IsSummary = IsTextOf summary_of
 
 -- the answer to whether the script has ended
 abbrev pub IsEnded : WorldState → Result (Unit {0}) LineError → Type 0

@@ -3,6 +3,7 @@ pub mod Causes
 pub mod Making
 pub mod Script
 pub mod Report
+pub mod Summary
 pub mod Recovery
 pub mod HeldWorld
 pub mod WorldInside

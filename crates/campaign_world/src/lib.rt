@@ -12,6 +12,7 @@ mod numbered;
 mod recovery;
 mod report;
 mod section;
+mod summary;
 #[cfg(test)]
 mod tests;
 mod world;

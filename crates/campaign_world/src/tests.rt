@@ -48,6 +48,12 @@ fn a_campaign_is_reported(rt: HostRuntime) -> Result<(), Fail> {
         ),
         Err(_) => assert!(rt; false),
     }
+    match world.summary(rt.alloc()) {
+        Ok(text) => assert!(rt;
+            text.as_slice() == b"image 52 fragments 4\nsent 6 heard 5\ncomplete 1 updated 0\nend\n".as_slice()
+        ),
+        Err(_) => assert!(rt; false),
+    }
     match world.recovered(1) {
         Ok(file) => assert!(rt; file == IMAGE.as_slice()),
         Err(_) => assert!(rt; false),

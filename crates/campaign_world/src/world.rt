@@ -33,6 +33,7 @@ use crate::numbered::{MadeUplink, SentPayload, numbered};
 use crate::recovery::{NoFile, recovered_by};
 use crate::report::report;
 use crate::section::Section;
+use crate::summary::summary;
 use campaign_server::{Kind, Plan, PlanDevice, PlanGroup, PlanWindow, Server, ServerError};
 use device_core::{Class, Device, DeviceConfig, ReserveError};
 use package_grammar::Downlink;
@@ -93,7 +94,7 @@ impl Model for World {
 
 impl World {
     ghost use Rattle.campaign_world.specs.declared.faults.LineError.{LineError};
-    ghost use Rattle.campaign_world.specs.HeldWorld.{WorldStands, WorldBecomes, IsLineAnswer, IsReport, IsEnded, IsFine, IsCauseOf, HasBegun, world_of};
+    ghost use Rattle.campaign_world.specs.HeldWorld.{WorldStands, WorldBecomes, IsLineAnswer, IsReport, IsSummary, IsEnded, IsFine, IsCauseOf, HasBegun, world_of};
     ghost use Rattle.campaign_world.specs.WorldInside.{IsToJoin, IsToBegin};
     ghost use Rattle.campaign_world.specs.Texts.{seen_text};
 
@@ -155,6 +156,25 @@ impl World {
                 Err(_) => Err(LineError::Memory),
             },
             // no script ends without one, but where memory was wanting
+            None => Err(LineError::Memory),
+        }
+    }
+
+    /// The summary of the campaign, once `end` has come: what was sent and heard, and how many devices have the image.
+    pub fn summary(&self, alloc: Global) -> Result<Vec<u8>, LineError>
+        ensures summary { (world : WorldState) → WorldStands self.now world → self.now.kept ≡ None
+            → IsSummary world (seen_text result) }
+        ensures same { (e : LineError) → self.now.kept ≡ Some e → result ≡ Err e }
+    {
+        match self.ended() {
+            Ok(()) => {}
+            Err(error) => return Err(error),
+        }
+        match &self.server {
+            Some(server) => match summary(alloc, server, self.sent.len(), &self.devices) {
+                Ok(text) => Ok(text),
+                Err(_) => Err(LineError::Memory),
+            },
             None => Err(LineError::Memory),
         }
     }

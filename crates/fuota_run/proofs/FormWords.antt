@@ -1,8 +1,8 @@
 -- The words of a form, read one after another.
-use Rattle.std.proofs.Common.{◌≡◌, ◌≢◌, ◌≤◌, ◌<◌, ◌+◌, zero, suc, ◌&&◌, arith, ℕ, length, Bool, true, false, ◌==◌, not, is_some, List, [], ◌∷◌, ◌++◌, codes, fold, Option, Some, None, option_and_then, if◌then◌else◌, refl, sym, ap, ◌∙◌, append-nil, append_assoc}
+use Rattle.std.proofs.Common.{◌≡◌, ◌≢◌, ◌≤◌, ◌<◌, ◌+◌, zero, suc, ◌&&◌, arith, ℕ, length, ◌^◌, nat_lt, Bool, true, false, ◌==◌, not, is_some, List, [], ◌∷◌, ◌++◌, codes, fold, Option, Some, None, option_and_then, if◌then◌else◌, refl, sym, ap, ◌∙◌, append-nil, append_assoc}
 use Rattle.std.specs.List.{AllByRecursion, find}
 use Rattle.std.specs.Fmt.{decimal, digits}
-use Rattle.std.proofs.lemmas.Bool.{eqb-true, eqb-false}
+use Rattle.std.proofs.lemmas.Bool.{eqb-true, eqb-false, lt-ltb}
 use Rattle.clap.proofs.WalkLemmas.{both}
 use Rattle.std.specs.Option.{option_map_or}
 use Rattle.std.specs.Str.{bytes_eq}
@@ -14,7 +14,8 @@ use Rattle.clap.specs.Walk.{Held, Names, Row, Rule, Step, Text, Walk, idle, valu
 use Rattle.clap.specs.Simple.{App, Shape, built, built_leaf, entered, label_of, names_of}
 use Rattle.clap.specs.Faults.{bundle_fault, check_fault, defaults_fault, flag_word_fault, level_fault, settle_fault, step_fault, turn_fault, walk_fault, word_fault}
 use Rattle.clap.proofs.OnLiterals.{clap_on_literals}
-use Rattle.fuota_run.specs.Words.{Asked, plays, payloads, asked, asked_by, device_by, device_of_word, direction_of_word, form, fuota, parsed, port_by, port_of_word, where_none}
+use Rattle.campaign_generator.proofs.Decimals.{decimal_is_read}
+use Rattle.fuota_run.specs.Words.{Asked, plays, payloads, generates, asked, asked_by, device_by, device_of_word, direction_of_word, form, fuota, parsed, port_by, port_of_word, seed_by, seed_of_word, where_none}
 use Rattle.script_lines.specs.Numbers.{decimal_of, ◌>>=◌}
 use Rattle.wire_base.specs.declared.refusal.Direction.{Direction}
 use Rattle.fuota_run.specs.declared.words.FileForm.TheVariants.{Replay, Decode}
@@ -170,6 +171,9 @@ of_replay = leaf (codes "replay") (codes "FILE" ∷ [])
 abbrev of_decode : Shape
 of_decode = leaf (codes "decode") (codes "PORT" ∷ codes "DIR" ∷ codes "FILE" ∷ [])
 
+abbrev of_generate : Shape
+of_generate = leaf (codes "generate") (codes "SEED" ∷ [])
+
 reads_campaign : (program : Text) (words : List Text) → asked (program ∷ codes "campaign" ∷ words) ≡ asks (codes "campaign") of_campaign nothing_held 1 words
 unfolding fuota clap_on_literals
 reads_campaign program words = reads_form program (codes "campaign") of_campaign words refl refl
@@ -189,6 +193,11 @@ reads_decode : (program : Text) (words : List Text) → asked (program ∷ codes
 unfolding fuota clap_on_literals
 reads_decode program words = reads_form program (codes "decode") of_decode words refl refl
     (ap (λ (k : Kinds). then_asked (where_none k (Some (codes "decode", finished of_decode.rules (walk of_decode.rules [] nothing_held words).held)))) (or_else_none (level_fault of_decode [] nothing_held words false [])))
+
+reads_generate : (program : Text) (words : List Text) → asked (program ∷ codes "generate" ∷ words) ≡ asks (codes "generate") of_generate nothing_held 1 words
+unfolding fuota clap_on_literals
+reads_generate program words = reads_form program (codes "generate") of_generate words refl refl
+    (ap (λ (k : Kinds). then_asked (where_none k (Some (codes "generate", finished of_generate.rules (walk of_generate.rules [] nothing_held words).held)))) (or_else_none (level_fault of_generate [] nothing_held words false [])))
 
 -- what is held behind one name more
 abbrev behind : Shape → ℕ → Text → Held → Held
@@ -223,6 +232,9 @@ device_name word device is = name_of device_of_word word device (λ more. ap (λ
 
 port_name : (word : Text) (port : ℕ) → port_of_word word ≡ Some port → IsName word
 port_name word port is = name_of port_of_word word port (λ more. ap (λ (o : Option ℕ). o >>= port_by) (decimal_refused more)) is
+
+seed_name : (word : Text) (seed : ℕ) → seed_of_word word ≡ Some seed → IsName word
+seed_name word seed is = name_of seed_of_word word seed (λ more. ap (λ (o : Option ℕ). o >>= seed_by) (decimal_refused more)) is
 
 direction_name : (word : Text) (direction : Direction) → direction_of_word word ≡ Some direction → IsName word
 direction_name word direction is = name_of direction_of_word word direction (λ more. refl) is
@@ -270,6 +282,25 @@ decode_form program port_word direction_word file port direction first second na
     ∙ ap (λ (o : Option ℕ). decodes file o (direction_of_word direction_word)) first
     ∙ ap (decodes file (Some port)) second
 
+abbrev generates_by : Option ℕ → Option Asked
+generates_by found = do
+  seed ← found
+  Some (generates seed)
+
+generate_form : (program word : Text) (seed : ℕ) → seed_of_word word ≡ Some seed
+    → asked (program ∷ codes "generate" ∷ word ∷ []) ≡ Some (generates seed)
+unfolding fuota asked_by clap_on_literals
+generate_form program word seed is =
+    reads_generate program (word ∷ [])
+    ∙ takes_name (codes "generate") of_generate nothing_held (behind of_generate 1 word nothing_held) 1 2 word [] (seed_name word seed is) refl refl
+    ∙ ap generates_by is
+
+seed_word : (seed : ℕ) → seed < 2 ^ 32 → seed_of_word (decimal seed) ≡ Some seed
+seed_word seed low =
+    let small : nat_lt seed (2 ^ 32) ≡ true = lt-ltb _ _ low in
+    let bounded : seed < 2 ^ 64 = omega (arith, low) in
+    ap (λ (o : Option ℕ). o >>= seed_by) (decimal_is_read seed bounded) ∙ ap (λ (b : Bool). let o : Option ℕ = if b then Some seed else None in o) small
+
 -- the number that is read is this one
 abbrev reads : Option ℕ → ℕ → Bool
 reads None n = false
@@ -310,8 +341,10 @@ words_are_forms = record {
   recover = recover_form;
   replay = replay_form;
   decode = decode_form;
+  generate = generate_form;
   device_word = device_word;
   port_word = port_word;
+  seed_word = seed_word;
   down_word = refl;
   up_word = refl;
 }
@@ -387,9 +420,19 @@ decode_counts program (a ∷ b ∷ c ∷ d ∷ more) are other =
     ∙ takes_name (codes "decode") of_decode two three 3 4 c (d ∷ more) are.1.1.0 refl refl
     ∙ takes_no_name (codes "decode") of_decode three 4 kind.UnknownArgument [] d more are.1.1.1.0 refl
 
+generate_counts : (program : Text) (names : List Text) → AllByRecursion IsName names → length names ≢ 1 → asked (program ∷ codes "generate" ∷ names) ≡ None
+unfolding fuota asked_by clap_on_literals
+generate_counts program [] are other = reads_generate program []
+generate_counts program (a ∷ []) are other = absurd (other refl)
+generate_counts program (a ∷ b ∷ more) are other =
+    let one = behind of_generate 1 a nothing_held in
+    reads_generate program (a ∷ b ∷ more)
+    ∙ takes_name (codes "generate") of_generate nothing_held one 1 2 a (b ∷ more) are.0 refl refl
+    ∙ takes_no_name (codes "generate") of_generate one 2 kind.UnknownArgument [] b more are.1.0 refl
+
 nothing_asked : (program : Text) → asked (program ∷ []) ≡ None
 unfolding asked parsed fuota clap_on_literals asked_by
 nothing_asked program = refl
 
 pub other_counts : OtherCountsAreNone
-other_counts = record { campaign = campaign_counts; recover = recover_counts; replay = replay_counts; decode = decode_counts; nothing = nothing_asked }
+other_counts = record { campaign = campaign_counts; recover = recover_counts; replay = replay_counts; decode = decode_counts; generate = generate_counts; nothing = nothing_asked }

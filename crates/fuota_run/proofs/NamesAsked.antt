@@ -18,9 +18,9 @@ use Rattle.clap.specs.Faults.{fault_of}
 use Rattle.clap.proofs.WalkLemmas.{both}
 use Rattle.script_lines.specs.Numbers.{◌>>=◌}
 use Rattle.fuota_run.specs.Outside.{Held as Contents}
-use Rattle.fuota_run.specs.Words.{Asked, plays, payloads, asked, asked_by, campaign_asked, recover_asked, replay_asked, decode_asked, device_of_word, direction_of_word, fuota, parsed, port_of_word, where_none}
+use Rattle.fuota_run.specs.Words.{Asked, plays, payloads, generates, asked, asked_by, names_asked, campaign_asked, recover_asked, replay_asked, decode_asked, generate_asked, device_of_word, direction_of_word, fuota, parsed, port_of_word, seed_of_word, where_none}
 use Rattle.fuota_run.specs.Reply.{HoldsAsked}
-use Rattle.fuota_run.specs.Forms.{names_asked, NamesAreWords}
+use Rattle.fuota_run.specs.Forms.{NamesAreWords}
 
 -- ---- lists
 
@@ -380,13 +380,17 @@ decode_kept Is rows all =
     asked_then Is (first_of (codes "DIR") rows) _ (λ way y. asked_then Is (direction_of_word way) _ (λ direction d.
     asked_then Is (first_of (codes "FILE") rows) _ (λ file f. (first_kept Is _ rows file all f, tt))))))
 
+generate_kept : (Is : Text → Type 0) (rows : List Row) → AreAsked Is (generate_asked rows)
+generate_kept Is rows = asked_then Is (first_of (codes "SEED") rows) _ (λ word w. asked_then Is (seed_of_word word) _ (λ seed s. tt))
+
 by_keyword_kept : (Is : Text → Type 0) (keyword : Text) (rows : List Row) → AreRows Is rows → AreAsked Is (asked_by keyword rows)
 unfolding asked_by
 by_keyword_kept Is keyword rows all =
     asked_test Is (bytes_eq keyword (codes "campaign")) _ _ (campaign_kept Is rows all)
     (asked_test Is (bytes_eq keyword (codes "recover")) _ _ (recover_kept Is rows all)
     (asked_test Is (bytes_eq keyword (codes "replay")) _ _ (replay_kept Is rows all)
-    (asked_test Is (bytes_eq keyword (codes "decode")) _ None (decode_kept Is rows all) tt)))
+    (asked_test Is (bytes_eq keyword (codes "decode")) _ _ (decode_kept Is rows all)
+    (asked_test Is (bytes_eq keyword (codes "generate")) _ None (generate_kept Is rows) tt))))
 
 found_kept : (Is : Text → Type 0) (o : Option (Text × List Row)) → ((x : Text × List Row) → o ≡ Some x → AreRows Is x.1) → AreAsked Is (option_and_then (λ x. asked_by x.0 x.1) o)
 found_kept Is None all = tt
@@ -410,6 +414,7 @@ holds_by : (held : Contents) (o : Option Asked) → AllByRecursion (λ name. IsS
 holds_by held None all = tt
 holds_by held (Some (plays what image script)) all = (all.0, all.1.0)
 holds_by held (Some (payloads what file)) all = all.0
+holds_by held (Some (generates seed)) all = tt
 
 pub names_are_words : NamesAreWords
 names_are_words = record {

@@ -6,7 +6,7 @@ use Rattle.fuota_run.specs.declared.words.FileForm.{FileForm}
 use Rattle.fuota_run.specs.declared.words.FileForm.TheVariants.{Replay, Decode}
 use Rattle.fuota_run.specs.Outside.{Held}
 use Rattle.payload_replay.specs.PayloadLines.{Telling, TellsOnce}
-use Rattle.fuota_run.specs.Words.{Asked, plays, payloads, asked}
+use Rattle.fuota_run.specs.Words.{Asked, plays, payloads, generates, asked}
 use Rattle.fuota_run.specs.Answer.{Answer, tells, told, IsReadAnswer, IsFileAnswer, IsAnswerTo, IsAnswer, HasOneReply}
 use Rattle.payload_replay.proofs.Payloads.{decode_one}
 use Rattle.payload_replay.proofs.ReplayLines.{replay_one}
@@ -33,6 +33,7 @@ to_one : (what : Option Asked) (held : Held) (one other : Answer) → IsAnswerTo
     → IsAnswerTo what held other → one ≡ other
 to_one None held one other first second = first ∙ sym second
 to_one (Some (plays what image script)) held one other first second = first ∙ sym second
+to_one (Some (generates seed)) held one other first second = first ∙ sym second
 to_one (Some (payloads what file)) held one other first second =
     file_one (tells what) (held file) one other (tells_one what) first second
 

@@ -20,9 +20,9 @@ use Rattle.campaign_world.specs.Recovery.{recovery}
 use Rattle.fuota_run.specs.declared.words.ScriptForm.{ScriptForm}
 use Rattle.fuota_run.specs.declared.words.ScriptForm.TheVariants.{Campaign, Recover}
 use Rattle.fuota_run.specs.declared.words.FileForm.{FileForm}
-use Rattle.fuota_run.specs.Words.{Asked, plays, payloads, asked}
+use Rattle.fuota_run.specs.Words.{Asked, plays, payloads, generates, asked, asks_files}
 use Rattle.payload_replay.specs.PayloadLines.{Telling, IsTold}
-use Rattle.fuota_run.specs.Answer.{Answer, answer, read_fault, usage, image_refused, too_long, taken_text, recovered, told_of, played, tells, told, script_answer, campaign_answer, IsFileAnswer, IsAnswer}
+use Rattle.fuota_run.specs.Answer.{Answer, answer, read_fault, usage, image_refused, too_long, taken_text, recovered, told_of, summed_up, played, tells, told, script_answer, campaign_answer, generate_answer, IsFileAnswer, IsAnswer}
 use Rattle.fuota_run.specs.Reply.{HoldsAsked, HoldsForm, Gives, Effects, Ends, AppendsAnswer, AppendsAnswerFront, GivesBy, GivesScript, GivesCampaign, GivesFile, IsPlayed, IsReplied, IsReply, IsCaused, Says, ends_source}
 use Rattle.fuota_run.specs.Replies.{IsUnread, IsMadeOf, IsSaid}
 
@@ -31,6 +31,7 @@ none_asked : (what : Option Asked) → HoldsAsked None what
 none_asked None = tt
 none_asked (Some (plays what image script)) = (tt, tt)
 none_asked (Some (payloads what file)) = tt
+none_asked (Some (generates seed)) = tt
 
 pub holds_asked : (held : Option Held) (words : List (List ℕ)) → HoldsForm held words → HoldsAsked held (asked words)
 holds_asked None words holds = none_asked (asked words)
@@ -56,7 +57,7 @@ too_long_given (Some h) name IsFor limit says holds long = by_file (h name) refl
 pub says_unread : (held : Option Held) (name : List ℕ) (IsFor : Held → Option (List ℕ) → Answer → Type 0) (limit before now : ℕ) (left : Option (List ℕ)) (e : SourceError) (a : Answer)
     → ((h : Held) (bytes : List ℕ) → limit < length bytes → IsFor h (Some bytes) (too_long limit)) → HoldsName held name
     → ((taken : ℕ) → e ≡ error.TooLong taken → IsTooLong held name limit) → ((taken : ℕ) → e ≡ error.TooLong taken → taken ≡ limit + 1) → (e ≡ error.Failed → HasRisen before now)
-    → IsUnread e a → Says (GivesBy held name IsFor a) before now left a × (a.status ≢ status.Usage)
+    → IsUnread e a → Says true (GivesBy held name IsFor a) before now left a × (a.status ≢ status.Usage)
 says_unread held name IsFor limit before now left error.Memory a says holds long taken failed is = absurd is
 says_unread held name IsFor limit before now left error.Failed a says holds long taken failed is = (
   record { reply = inr (is, failed refl); replied = subst (λ (x : Answer). IsReplied x.status) (sym is) tt; caused = λ _. (failed refl, is); read_up = λ ends. absurd (let s = ap ends_source (ap (λ (x : Answer). x.status) is) in cc) },
@@ -77,7 +78,7 @@ says_unread held name IsFor limit before now left (error.TooLong n) a says holds
 
 -- what is said where a source was read to its end
 pub says_source : (held : Option Held) (name : List ℕ) (IsFor : Held → Option (List ℕ) → Answer → Type 0) (limit before now : ℕ) (left : Option (List ℕ)) (bytes : List ℕ) (a : Answer)
-    → IsSource held name limit bytes → ((h : Held) → IsFor h (Some bytes) a) → IsReplied a.status → a.status ≢ status.ReadFault → IsAtEnd left → Says (GivesBy held name IsFor a) before now left a
+    → IsSource held name limit bytes → ((h : Held) → IsFor h (Some bytes) a) → IsReplied a.status → a.status ≢ status.ReadFault → IsAtEnd left → Says true (GivesBy held name IsFor a) before now left a
 says_source None name IsFor limit before now left bytes a source is text fine ends = record { reply = inl ((λ _. []), bytes, is (λ _. Some [])); replied = text; caused = λ fault. absurd (fine fault); read_up = λ _. ends }
 says_source (Some h) name IsFor limit before now left bytes a source is text fine ends =
     record { reply = inl (subst (λ (f : Option (List ℕ)). IsFor h f a) (sym source) (is h)); replied = text; caused = λ fault. absurd (fine fault); read_up = λ _. ends }
@@ -88,7 +89,7 @@ unfolding script_answer
 script_long what image script long = let t : nat_lt 1048576 (length script) ≡ true = lt-ltb _ _ long in rw t refl
 
 -- one within its limit
-pub script_given : (what : ScriptForm) (image script : List ℕ) (a : Answer) → length script ≤ 1048576 → a ≡ played what (campaign_of image script) → a ≡ script_answer what image (Some script)
+pub script_given : (what : ScriptForm) (image script : List ℕ) (a : Answer) → length script ≤ 1048576 → a ≡ played (told_of what) (campaign_of image script) → a ≡ script_answer what image (Some script)
 unfolding script_answer
 script_given what image script a within is = let t : nat_lt 1048576 (length script) ≡ false = le-ltb _ _ within in rw t is
 
@@ -114,9 +115,9 @@ if_ok_map (Err e) turns holds = tt
 
 -- the reply behind an image file is the campaign's
 pub says_behind : (held middle : Option Held) (what : ScriptForm) (image_name script_name : List ℕ) (before between now : ℕ) (left : Option (List ℕ)) (image : List ℕ) (a : Answer) → middle ≡ held → before ≤ between
-    → IsSource held image_name 65536 image → length image ≤ 65536 → is_image image ≡ true → Says (GivesScript middle what image script_name a) between now left a → Says (GivesCampaign held what image_name script_name a) before now left a
+    → IsSource held image_name 65536 image → length image ≤ 65536 → is_image image ≡ true → Says true (GivesScript middle what image script_name a) between now left a → Says true (GivesCampaign held what image_name script_name a) before now left a
 says_behind held middle what image_name script_name before between now left image a same kept source within good says =
-    let here = subst (λ (m : Option Held). Says (GivesScript m what image script_name a) between now left a) same says in
+    let here = subst (λ (m : Option Held). Says true (GivesScript m what image script_name a) between now left a) same says in
     record {
       reply = replies held source here.reply;
       replied = here.replied;
@@ -129,20 +130,37 @@ says_behind held middle what image_name script_name before between now left imag
     replies (Some h) source (inl is) = inl (is ∙ image_given what image (h script_name) within good ∙ ap (λ (i : Option (List ℕ)). campaign_answer what i (h script_name)) (sym source))
     replies h source (inr fault) = inr (fault.0, risen_before before between now kept fault.1)
 
+-- an answer that whole files made, or a seed
+pub record IsMade (a : Answer) : Type 0 where
+  pub replied : IsReplied a.status
+  pub sound : a.status ≢ status.ReadFault
+  pub used : a.status ≢ status.Usage
+  pub short : (taken : ℕ) → a.status ≢ status.TooLong taken
+
 -- what is said where nothing is asked for
-pub says_usage : (held : Option Held) (before : ℕ) (left : Option (List ℕ)) (a : Answer) → a ≡ usage → Says (Gives held None a) before before left a
+pub says_usage : (held : Option Held) (before : ℕ) (left : Option (List ℕ)) (a : Answer) → a ≡ usage → Says false (Gives held None a) before before left a
 says_usage held before left a is =
     let s : a.status ≡ status.Usage = ap (λ (x : Answer). x.status) is in
     let text = subst (λ (x : Answer). IsReplied x.status) (sym is) tt in
-    record { reply = inl (given held); replied = text; caused = λ fault. absurd cc; read_up = λ ends. absurd (let t = ap ends_source s in cc) }
+    record { reply = inl (given held); replied = text; caused = λ fault. absurd cc; read_up = tt }
   where
     given : (h : Option Held) → Gives h None a
     given None = is
     given (Some h) = is
 
+-- what is said of a seed is said of the form
+pub says_generated : (held : Option Held) (seed before : ℕ) (left : Option (List ℕ)) (a : Answer)
+    → (a ≡ generate_answer seed) × IsMade a → Says false (Gives held (Some (generates seed)) a) before before left a
+says_generated held seed before left a made =
+    record { reply = inl (given held); replied = made.1.replied; caused = λ fault. absurd (made.1.sound fault); read_up = tt }
+  where
+    given : (h : Option Held) → Gives h (Some (generates seed)) a
+    given None = made.0
+    given (Some h) = made.0
+
 -- what is said of a form's files is said of the form
 pub says_campaign : (held : Option Held) (what : ScriptForm) (image script : List ℕ) (before now : ℕ) (left : Option (List ℕ)) (a : Answer)
-    → Says (GivesCampaign held what image script a) before now left a → Says (Gives held (Some (plays what image script)) a) before now left a
+    → Says true (GivesCampaign held what image script a) before now left a → Says true (Gives held (Some (plays what image script)) a) before now left a
 says_campaign None what image script before now left a says = record {
   reply = elim says.reply [ inl given ↦ inl (given.1, given.0 script, given.2) | inr fault ↦ inr fault ];
   replied = says.replied;
@@ -152,7 +170,7 @@ says_campaign None what image script before now left a says = record {
 says_campaign (Some h) what image script before now left a says = record { reply = says.reply; replied = says.replied; caused = says.caused; read_up = says.read_up }
 
 pub says_file : (held : Option Held) (what : FileForm) (file : List ℕ) (before now : ℕ) (left : Option (List ℕ)) (a : Answer)
-    → Says (GivesFile held (tells what) file a) before now left a → Says (Gives held (Some (payloads what file)) a) before now left a
+    → Says true (GivesFile held (tells what) file a) before now left a → Says true (Gives held (Some (payloads what file)) a) before now left a
 says_file None what file before now left a says = record {
   reply = elim says.reply [ inl given ↦ inl (given.1, given.2) | inr fault ↦ inr fault ];
   replied = says.replied;
@@ -161,34 +179,30 @@ says_file None what file before now left a says = record {
 }
 says_file (Some h) what file before now left a says = record { reply = says.reply; replied = says.replied; caused = says.caused; read_up = says.read_up }
 
--- an answer that a whole file made
-pub record IsMade (a : Answer) : Type 0 where
-  pub replied : IsReplied a.status
-  pub sound : a.status ≢ status.ReadFault
-  pub used : a.status ≢ status.Usage
-  pub short : (taken : ℕ) → a.status ≢ status.TooLong taken
-
 -- the answer with what a script made
 recovered_made : (device : ℕ) (r : Result (List ℕ) NoFile) → IsMade (recovered device r)
 recovered_made device (Ok file) = record { replied = tt; sound = λ e. cc; used = λ e. cc; short = λ taken e. cc }
 recovered_made device (Err why) = record { replied = tt; sound = λ e. cc; used = λ e. cc; short = λ taken e. cc }
 
-told_made : (what : ScriptForm) (w : WorldState) → IsMade (told_of what w)
+pub told_made : (what : ScriptForm) (w : WorldState) → IsMade (told_of what w)
 told_made Campaign w = record { replied = tt; sound = λ e. cc; used = λ e. cc; short = λ taken e. cc }
 told_made (Recover device) w = recovered_made device (recovery w device)
 
-pub says_played : (what : ScriptForm) (image script : List ℕ) (r : Result Answer LineError) (a : Answer) → IsPlayed what (campaign_of image script) r → IsMadeOf r a
-    → (a ≡ played what (campaign_of image script)) × IsMade a
-says_played what image script (Ok x) a made said =
-    let is : a ≡ told_of what made.0 = said ∙ made.2 in (
-      is ∙ sym (ap (played what) made.1),
-      subst IsMade (sym is) (told_made what made.0),
+pub summed_made : (seed : ℕ) (w : WorldState) → IsMade (summed_up seed w)
+summed_made seed w = record { replied = tt; sound = λ e. cc; used = λ e. cc; short = λ taken e. cc }
+
+pub says_played : (tell : WorldState → Answer) (outcome : Result WorldState LineFault) (r : Result Answer LineError) (a : Answer)
+    → ((w : WorldState) → IsMade (tell w)) → IsPlayed tell outcome r → IsMadeOf r a → (a ≡ played tell outcome) × IsMade a
+says_played tell outcome (Ok x) a each made said =
+    let is : a ≡ tell made.0 = said ∙ made.2 in (
+      is ∙ sym (ap (played tell) made.1),
+      subst IsMade (sym is) (each made.0),
     )
-says_played what image script (Err (world.Line fault)) a made said = (
-  said ∙ sym (ap (played what) made),
+says_played tell outcome (Err (world.Line fault)) a each made said = (
+  said ∙ sym (ap (played tell) made),
   subst IsMade (sym said) (record { replied = tt; sound = λ e. cc; used = λ e. cc; short = λ taken e. cc }),
 )
-says_played what image script (Err world.Memory) a made said = absurd said
+says_played tell outcome (Err world.Memory) a each made said = absurd said
 
 -- and with what a file of payloads made
 pub says_told : (Tells : Telling) (file : List ℕ) (r : Result (List ℕ) LineError) (a : Answer) → IsTold Tells file r → IsSaid r a
@@ -234,7 +248,7 @@ ends_by held words e status.WriteFault text gives told caused appends = absurd t
 ends_by held words e status.Memory text gives told caused appends = absurd told
 
 -- how a run ends whose text was written
-pub ends_written : (held : Option Held) (words : List (List ℕ)) (e : Effects) (left : Option (List ℕ)) (a : Answer) → Says (Gives held (asked words) a) e.files_before e.files_after left a → Appends e.old e.new a.text → Ends held words e a.status
+pub ends_written : (held : Option Held) (words : List (List ℕ)) (e : Effects) (left : Option (List ℕ)) (a : Answer) → Says (asks_files (asked words)) (Gives held (asked words) a) e.files_before e.files_after left a → Appends e.old e.new a.text → Ends held words e a.status
 ends_written held words e left a says appends =
     elim says.reply [
       | inl gives ↦ ends_by held words e a.status a.text gives says.replied says.caused appends
@@ -242,7 +256,7 @@ ends_written held words e left a says appends =
     ]
 
 -- where no call failed and memory sufficed, what was written is an answer
-pub exact_of : (X Y : Type 0) (held : Option Held) (words : List (List ℕ)) (before now : ℕ) (left : Option (List ℕ)) (a : Answer) (old new : Option (List ℕ)) → Says (Gives held (asked words) a) before now left a → Appends old new a.text
+pub exact_of : (X Y : Type 0) (held : Option Held) (words : List (List ℕ)) (before now : ℕ) (left : Option (List ℕ)) (a : Answer) (old new : Option (List ℕ)) → Says (asks_files (asked words)) (Gives held (asked words) a) before now left a → Appends old new a.text
     → IfSome held (λ h. ¬ HasRisen before now → X → Y → AppendsAnswer (Some h) words a.status old new)
 unfolding IsAnswer
 exact_of X Y None words before now left a old new says appends = tt
@@ -253,7 +267,7 @@ exact_of X Y (Some h) words before now left a old new says appends = λ quiet so
     ]
 
 -- where writing failed, a front of it was
-pub front_of : (held : Option Held) (words : List (List ℕ)) (before now : ℕ) (left : Option (List ℕ)) (a : Answer) (old new : Option (List ℕ)) → Says (Gives held (asked words) a) before now left a → AppendsFront old new a.text
+pub front_of : (held : Option Held) (words : List (List ℕ)) (before now : ℕ) (left : Option (List ℕ)) (a : Answer) (old new : Option (List ℕ)) → Says (asks_files (asked words)) (Gives held (asked words) a) before now left a → AppendsFront old new a.text
     → AppendsAnswerFront held words old new ⊎ (HasRisen before now × AppendsFront old new read_fault.text)
 unfolding IsAnswer
 front_of None words before now left a old new says front =

@@ -12,7 +12,7 @@ use Rattle.campaign_world.specs.declared.faults.LineWhy.{LineWhy}
 use Rattle.campaign_world.specs.declared.faults.LineWhy.TheVariants as why
 use Rattle.campaign_world.specs.declared.faults.LineFault.{LineFault}
 use Rattle.fuota_run.specs.Outside.{Held}
-use Rattle.fuota_run.specs.Words.{Asked, plays, payloads, asked}
+use Rattle.fuota_run.specs.Words.{Asked, plays, payloads, generates, asked}
 use Rattle.payload_replay.specs.PayloadLines.{Telling}
 use Rattle.payload_replay.specs.Decode.{Decodes}
 use Rattle.payload_replay.specs.Replay.{Replays}
@@ -20,6 +20,9 @@ use Rattle.image_slots.specs.Image.{is_image}
 use Rattle.campaign_world.specs.World.{WorldState}
 use Rattle.campaign_world.specs.Script.{campaign_of}
 use Rattle.campaign_world.specs.Report.{report_of}
+use Rattle.campaign_world.specs.Summary.{summary_of}
+use Rattle.campaign_generator.specs.Firmware.{image_of}
+use Rattle.campaign_generator.specs.Script.{script_of}
 use Rattle.campaign_world.specs.declared.recovery.NoFile.{NoFile}
 use Rattle.campaign_world.specs.declared.recovery.NoFile.TheVariants as no_file
 use Rattle.campaign_world.specs.Recovery.{recovery}
@@ -86,16 +89,20 @@ abbrev pub told_of : ScriptForm → WorldState → Answer
 told_of Campaign world = answer status.Done (report_of world)
 told_of (Recover device) world = recovered device (recovery world device)
 
--- the answer to a campaign, or to its first refused line
-abbrev pub played : ScriptForm → Result WorldState LineFault → Answer
-played what (Ok world) = told_of what world
-played what (Err fault) = refused fault
+-- the summary of the campaign of a seed
+abbrev pub summed_up : (seed : ℕ) → WorldState → Answer
+summed_up seed world = answer status.Done (codes "generate " ++ decimal seed ++ (codes "\n" ++ summary_of world))
+
+-- the answer with what is told of a campaign, or its first refused line
+abbrev pub played : (tell : WorldState → Answer) → Result WorldState LineFault → Answer
+played tell (Ok world) = tell world
+played tell (Err fault) = refused fault
 
 -- the answer once the image is an image file
 unfoldable pub script_answer : ScriptForm → List ℕ → Option (List ℕ) → Answer
 script_answer what image None = read_fault
 script_answer what image (Some script) =
-    if nat_lt script_limit (length script) then too_long script_limit else played what (campaign_of image script)
+    if nat_lt script_limit (length script) then too_long script_limit else played (told_of what) (campaign_of image script)
 
 -- the answer to `campaign IMAGE SCRIPT` and to `recover IMAGE SCRIPT DEVICE`: of the image first too long, then refused; then
 -- of the script
@@ -126,11 +133,16 @@ unfoldable pub IsFileAnswer : Telling → Option (List ℕ) → Answer → Type 
 IsFileAnswer Tells None a = a ≡ read_fault
 IsFileAnswer Tells (Some file) a = IsReadAnswer Tells (nat_lt script_limit (length file)) file a
 
+-- the answer to `generate SEED`: the campaign of the seed's image and script, summed up
+unfoldable pub generate_answer : (seed : ℕ) → Answer
+generate_answer seed = played (summed_up seed) (campaign_of (image_of seed) (script_of seed))
+
 -- the answer to what is asked for, over the files that are held
 abbrev pub IsAnswerTo : Option Asked → Held → Answer → Type 0
 IsAnswerTo None held a = a ≡ usage
 IsAnswerTo (Some (plays what image script)) held a = a ≡ campaign_answer what (held image) (held script)
 IsAnswerTo (Some (payloads what file)) held a = IsFileAnswer (tells what) (held file) a
+IsAnswerTo (Some (generates seed)) held a = a ≡ generate_answer seed
 
 -- the answer to the words
 unfoldable pub IsAnswer : List (List ℕ) → Held → Answer → Type 0

@@ -1,5 +1,5 @@
 -- The words of each form, spelled out. (This project's profile.)
-use Rattle.std.specs.Prelude.{◌≡◌, ◌≢◌, ◌==◌, ◌≤◌, ℕ, Bool, true, not, List, [], ◌∷◌, length, codes, Option, Some, None, IsSome}
+use Rattle.std.specs.Prelude.{◌≡◌, ◌≢◌, ◌==◌, ◌≤◌, ◌<◌, ◌^◌, ℕ, Bool, true, not, List, [], ◌∷◌, length, codes, Some, None, IsSome}
 use Rattle.std.specs.List.{AllByRecursion, Contains}
 use Rattle.std.specs.Fmt.{decimal}
 use Rattle.script_lines.specs.Limits.{max_devices}
@@ -10,7 +10,7 @@ use Rattle.fuota_run.specs.declared.words.FileForm.TheVariants.{Replay, Decode}
 use Rattle.fuota_run.specs.declared.words.ScriptForm.TheVariants.{Campaign, Recover}
 use Rattle.fuota_run.specs.Outside.{Held}
 use Rattle.fuota_run.specs.Reply.{HoldsForm}
-use Rattle.fuota_run.specs.Words.{Asked, plays, payloads, asked, port_of_word, device_of_word, direction_of_word}
+use Rattle.fuota_run.specs.Words.{plays, payloads, generates, asked, names_asked, port_of_word, device_of_word, seed_of_word, direction_of_word}
 
 -- a word that is taken as it stands: it does not begin with a dash (45)
 abbrev pub is_name : Text → Bool
@@ -30,9 +30,12 @@ pub record WordsAreForms : Type 0 where
   pub decode : (program port_word direction_word file : Text) (port : ℕ) (direction : Direction)
       → port_of_word port_word ≡ Some port → direction_of_word direction_word ≡ Some direction → IsName file
       → asked (program ∷ codes "decode" ∷ port_word ∷ direction_word ∷ file ∷ []) ≡ Some (payloads (Decode port direction) file)
-  -- the decimal of each device, and of each port, is its word
+  pub generate : (program word : Text) (seed : ℕ) → seed_of_word word ≡ Some seed
+      → asked (program ∷ codes "generate" ∷ word ∷ []) ≡ Some (generates seed)
+  -- the decimal of each device, each port and each seed is its word
   pub device_word : (device : ℕ) → 1 ≤ device → device ≤ max_devices → device_of_word (decimal device) ≡ Some device
   pub port_word : (port : ℕ) → 200 ≤ port → port ≤ 203 → port_of_word (decimal port) ≡ Some port
+  pub seed_word : (seed : ℕ) → seed < 2 ^ 32 → seed_of_word (decimal seed) ≡ Some seed
   pub down_word : direction_of_word (codes "down") ≡ Some Down
   pub up_word : direction_of_word (codes "up") ≡ Some Up
 
@@ -42,17 +45,12 @@ pub record OtherCountsAreNone : Type 0 where
   pub recover : (program : Text) (names : List Text) → AllByRecursion IsName names → length names ≢ 3 → asked (program ∷ codes "recover" ∷ names) ≡ None
   pub replay : (program : Text) (names : List Text) → AllByRecursion IsName names → length names ≢ 1 → asked (program ∷ codes "replay" ∷ names) ≡ None
   pub decode : (program : Text) (names : List Text) → AllByRecursion IsName names → length names ≢ 3 → asked (program ∷ codes "decode" ∷ names) ≡ None
+  pub generate : (program : Text) (names : List Text) → AllByRecursion IsName names → length names ≢ 1 → asked (program ∷ codes "generate" ∷ names) ≡ None
   pub nothing : (program : Text) → asked (program ∷ []) ≡ None
 
 -- ---- the files that are asked for
 
--- their names
-abbrev pub names_asked : Option Asked → List Text
-names_asked None = []
-names_asked (Some (plays what image script)) = image ∷ script ∷ []
-names_asked (Some (payloads what file)) = file ∷ []
-
--- whatever the words: those names are among them, and a run needs no others to be held
+-- whatever the words: their names are among them, and a run needs no others to be held
 pub record NamesAreWords : Type 0 where
   pub among : (words : List Text) → AllByRecursion (Contains words) (names_asked (asked words))
   pub enough : (held : Held) (words : List Text) → AllByRecursion (λ name. IsSome (held name)) (names_asked (asked words)) → HoldsForm (Some held) words

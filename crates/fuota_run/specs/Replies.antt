@@ -1,11 +1,14 @@
 -- A reply of the program as an answer.
-use Rattle.std.specs.Prelude.{◌≡◌, ℕ, List, ⊤, Result, Ok, Err}
-use Rattle.fuota_run.specs.declared.running.Reply.{Reply}
+use Rattle.std.specs.Prelude.{◌≡◌, ℕ, List, ⊤, None, Result, Ok, Err}
+use Rattle.fuota_run.specs.declared.reply.Reply.{Reply}
 use Rattle.fuota_run.specs.declared.source.SourceError.{SourceError}
 use Rattle.fuota_run.specs.declared.source.SourceError.TheVariants as error
 use Rattle.fuota_run.specs.declared.status.Status.TheVariants as status
 use Rattle.campaign_world.specs.declared.faults.LineError.{LineError}
 use Rattle.campaign_world.specs.declared.faults.LineError.TheVariants as world
+use Rattle.campaign_world.specs.declared.faults.LineFault.{LineFault}
+use Rattle.campaign_world.specs.World.{WorldState}
+use Rattle.campaign_world.specs.HeldWorld.{HeldWorld, WorldStands}
 use Rattle.fuota_run.specs.Answer.{Answer, answer, read_fault, refused, taken_text}
 
 -- its status and its text
@@ -15,6 +18,12 @@ answer_in r = answer r.status r.text.items
 abbrev pub seen_reply : Result Reply LineError → Result Answer LineError
 seen_reply (Ok r) = Ok (answer_in r)
 seen_reply (Err e) = Err e
+
+-- the campaign behind all lines stands, or a line was refused; or memory was wanting
+abbrev pub IsBehind : Result WorldState LineFault → Result HeldWorld LineError → Type 0
+IsBehind outcome (Ok held) = (held.kept ≡ None) × ((w : WorldState) × WorldStands held w × (outcome ≡ Ok w))
+IsBehind outcome (Err (world.Line fault)) = outcome ≡ Err fault
+IsBehind outcome (Err world.Memory) = ⊤
 
 -- the answer with what a campaign made, or its first refused line; for want of memory there is none
 abbrev pub IsMadeOf : Result Answer LineError → Answer → Type 0

@@ -8,26 +8,27 @@ use Rattle.campaign_world.specs.declared.faults.LineError.TheVariants as error
 use Rattle.campaign_world.specs.declared.faults.LineFault.{LineFault}
 use Rattle.fuota_run.specs.Outside.{Held, HoldsName, HasRisen, AppendsFront}
 use Rattle.campaign_world.specs.World.{WorldState}
-use Rattle.fuota_run.specs.Words.{Asked, plays, payloads, asked}
+use Rattle.fuota_run.specs.Words.{Asked, plays, payloads, generates, asked}
 use Rattle.payload_replay.specs.PayloadLines.{Telling}
 use Rattle.fuota_run.specs.declared.words.ScriptForm.{ScriptForm}
-use Rattle.fuota_run.specs.Answer.{Answer, answer, read_fault, usage, told_of, tells, script_answer, campaign_answer, IsFileAnswer, IsAnswerTo, IsAnswer}
+use Rattle.fuota_run.specs.Answer.{Answer, answer, read_fault, usage, tells, script_answer, campaign_answer, generate_answer, IsFileAnswer, IsAnswerTo, IsAnswer}
 
 -- where it is told what is held, something is held under the names of the files that are asked for
 abbrev pub HoldsAsked : Option Held → Option Asked → Type 0
 HoldsAsked held None = ⊤
 HoldsAsked held (Some (plays what image script)) = HoldsName held image × HoldsName held script
 HoldsAsked held (Some (payloads what file)) = HoldsName held file
+HoldsAsked held (Some (generates seed)) = ⊤
 
 abbrev pub HoldsForm : Option Held → List (List ℕ) → Type 0
 HoldsForm None words = ⊤
 HoldsForm (Some held) words = HoldsAsked (Some held) (asked words)
 
 -- what is told of a campaign, or its first refused line
-abbrev pub IsPlayed : ScriptForm → Result WorldState LineFault → Result Answer LineError → Type 0
-IsPlayed what outcome (Ok a) = (world : WorldState) × (outcome ≡ Ok world) × (a ≡ told_of what world)
-IsPlayed what outcome (Err (error.Line fault)) = outcome ≡ Err fault
-IsPlayed what outcome (Err error.Memory) = ⊤
+abbrev pub IsPlayed : (tell : WorldState → Answer) → Result WorldState LineFault → Result Answer LineError → Type 0
+IsPlayed tell outcome (Ok a) = (world : WorldState) × (outcome ≡ Ok world) × (a ≡ tell world)
+IsPlayed tell outcome (Err (error.Line fault)) = outcome ≡ Err fault
+IsPlayed tell outcome (Err error.Memory) = ⊤
 
 -- a status that has a text: all but these two
 abbrev pub IsReplied : Status → Type 0
@@ -64,6 +65,7 @@ IsAnswerToSome None a = a ≡ usage
 IsAnswerToSome (Some (plays what image_name script_name)) a =
     (image : List ℕ) × (script : List ℕ) × (a ≡ campaign_answer what (Some image) (Some script))
 IsAnswerToSome (Some (payloads what name)) a = (file : List ℕ) × IsFileAnswer (tells what) (Some file) a
+IsAnswerToSome (Some (generates seed)) a = a ≡ generate_answer seed
 
 abbrev pub Gives : Option Held → Option Asked → Answer → Type 0
 Gives None what a = IsAnswerToSome what a
@@ -77,16 +79,17 @@ IsReply gives before now a = gives ⊎ ((a ≡ read_fault) × HasRisen before no
 abbrev pub IsCaused : (before now : ℕ) → Answer → Type 0
 IsCaused before now a = a.status ≡ status.ReadFault → HasRisen before now × (a ≡ read_fault)
 
--- where the source was read to its end, nothing is left of it
-abbrev pub IsReadUp : Status → Option (List ℕ) → Type 0
-IsReadUp s left = ends_source s ≡ true → IsAtEnd left
+-- where there are files, and the one chosen last was read to its end, nothing is left of it
+abbrev pub IsReadUp : (has_files : Bool) → Status → Option (List ℕ) → Type 0
+IsReadUp true s left = ends_source s ≡ true → IsAtEnd left
+IsReadUp false s left = ⊤
 
 -- all that is said of a reply
-pub record Says (gives : Type 0) (before now : ℕ) (left : Option (List ℕ)) (a : Answer) : Type 0 where
+pub record Says (has_files : Bool) (gives : Type 0) (before now : ℕ) (left : Option (List ℕ)) (a : Answer) : Type 0 where
   pub reply : IsReply gives before now a
   pub replied : IsReplied a.status
   pub caused : IsCaused before now a
-  pub read_up : IsReadUp a.status left
+  pub read_up : IsReadUp has_files a.status left
 
 -- ---- the run as a whole
 

@@ -1,5 +1,5 @@
 -- The words of the command line, as clap takes them, and what they ask for. (This project's profile.)
-use Rattle.std.specs.Prelude.{◌≡◌, ℕ, true, false, ◌&&◌, nat_le, if◌then◌else◌, List, [], ◌∷◌, codes, Option, Some, None, option_and_then}
+use Rattle.std.specs.Prelude.{◌≡◌, ℕ, ◌^◌, Bool, true, false, ◌&&◌, nat_le, nat_lt, if◌then◌else◌, List, [], ◌∷◌, codes, Option, Some, None, option_and_then}
 use Rattle.std.specs.Str.{bytes_eq}
 use Rattle.wire_base.specs.declared.refusal.Direction.{Direction}
 use Rattle.wire_base.specs.declared.refusal.Direction.TheVariants.{Down, Up}
@@ -54,10 +54,11 @@ parsed words = where_none (fault_of fuota words) (subcommand_of fuota words)
 
 -- ---- what is asked for
 
--- what is told of the campaign of an image and a script, or of a file of payloads
+-- what is told of the campaign of an image and a script, or of a file of payloads, or of the campaign that a seed makes
 pub data Asked : Type 0 where
   plays : (what : ScriptForm) (image script : List ℕ) → Asked
   payloads : (what : FileForm) (file : List ℕ) → Asked
+  generates : (seed : ℕ) → Asked
 
 -- a decimal from 200 to 203
 abbrev pub port_by : ℕ → Option ℕ
@@ -72,6 +73,13 @@ device_by device = if nat_le 1 device && nat_le device max_devices then Some dev
 
 abbrev pub device_of_word : Text → Option ℕ
 device_of_word word = decimal_of word >>= device_by
+
+-- a decimal below 2^32
+abbrev pub seed_by : ℕ → Option ℕ
+seed_by seed = if nat_lt seed (2 ^ 32) then Some seed else None
+
+abbrev pub seed_of_word : Text → Option ℕ
+seed_of_word word = decimal_of word >>= seed_by
 
 abbrev pub direction_of_word : Text → Option Direction
 direction_of_word word = if bytes_eq word (codes "down") then Some Down else if bytes_eq word (codes "up") then Some Up else None
@@ -104,18 +112,38 @@ decode_asked rows = do
   file ← first_of (codes "FILE") rows
   Some (payloads (Decode port direction) file)
 
--- the forms that are there so far: all but `generate`
+abbrev pub generate_asked : List Row → Option Asked
+generate_asked rows = do
+  seed_word ← first_of (codes "SEED") rows
+  seed ← seed_of_word seed_word
+  Some (generates seed)
+
 unfoldable pub asked_by : Text → List Row → Option Asked
 asked_by keyword rows =
     if bytes_eq keyword (codes "campaign") then campaign_asked rows
     else if bytes_eq keyword (codes "recover") then recover_asked rows
     else if bytes_eq keyword (codes "replay") then replay_asked rows
     else if bytes_eq keyword (codes "decode") then decode_asked rows
+    else if bytes_eq keyword (codes "generate") then generate_asked rows
     else None
 
 -- what the words ask for; none where they are no form
 unfoldable pub asked : List Text → Option Asked
 asked words = option_and_then (λ found. asked_by found.0 found.1) (parsed words)
+
+-- the names of the files that are asked for
+abbrev pub names_asked : Option Asked → List Text
+names_asked None = []
+names_asked (Some (plays what image script)) = image ∷ script ∷ []
+names_asked (Some (payloads what file)) = file ∷ []
+names_asked (Some (generates seed)) = []
+
+-- whether there are any
+abbrev pub asks_files : Option Asked → Bool
+asks_files None = false
+asks_files (Some (plays what image script)) = true
+asks_files (Some (payloads what file)) = true
+asks_files (Some (generates seed)) = false
 
 -- ---- as it is held
 
@@ -124,6 +152,7 @@ abbrev pub seen_asked : Option Read → Option Asked
 seen_asked None = None
 seen_asked (Some (read.Script what image script)) = Some (plays what image.now script.now)
 seen_asked (Some (read.Payloads what file)) = Some (payloads what file.now)
+seen_asked (Some (read.Generate seed)) = Some (generates seed)
 
 -- a command as it is built so far
 pub record IsCommand (command : Command) (app : App) : Type 0 where

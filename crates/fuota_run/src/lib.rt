@@ -10,11 +10,13 @@ mod files;
 mod laws;
 mod memory;
 mod output;
+mod reply;
 mod running;
 mod sink;
 mod source;
 mod status;
 mod system;
+mod telling;
 mod words;
 
 pub use files::{Failed, Files};

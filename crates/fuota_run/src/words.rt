@@ -1,7 +1,7 @@
 // The words of the command line: what they ask for, as clap takes them.
 ghost use Rattle.std.specs.Prelude.{◌≡◌, ◌≤◌, List, [], ◌∷◌, ℕ, Option, option_map, option_and_then, map, string_bytes, IfOk, IfSome, codes};
 ghost use Rattle.clap.specs.Words.{App, Row, app_of, first_of, first_value, found_of, new_app, rows_of, subcommand_rows_of, with_rule, with_subcommand};
-ghost use Rattle.fuota_run.specs.Words.{IsCommand, positional, form, with_words, fuota, seen_asked, campaign_asked, recover_asked, replay_asked, decode_asked, asked_by, asked, port_of_word, device_of_word, direction_of_word};
+ghost use Rattle.fuota_run.specs.Words.{IsCommand, positional, form, with_words, fuota, seen_asked, campaign_asked, recover_asked, replay_asked, decode_asked, generate_asked, asked_by, asked, port_of_word, device_of_word, seed_of_word, direction_of_word};
 
 use clap::error::ErrorKind;
 use clap::{Arg, ArgMatches, Command};
@@ -22,6 +22,10 @@ pub enum Asked<'a> {
     Payloads {
         what: FileForm,
         file: &'a str,
+    },
+    /// `generate SEED`: the summary of the campaign that the seed makes.
+    Generate {
+        seed: u32,
     },
 }
 
@@ -142,6 +146,8 @@ fn asked_by<'a>(keyword: &str, found: &ArgMatches<'a>) -> Option<Asked<'a>>
         replay_asked(found)
     } else if keyword == "decode" {
         decode_asked(found)
+    } else if keyword == "generate" {
+        generate_asked(found)
     } else {
         None
     }
@@ -200,6 +206,13 @@ fn decode_asked<'a>(found: &ArgMatches<'a>) -> Option<Asked<'a>>
     })
 }
 
+fn generate_asked<'a>(found: &ArgMatches<'a>) -> Option<Asked<'a>>
+    ensures { seen_asked result ≡ generate_asked (rows_of (found_of found.now)) }
+{
+    let seed = seed_of_word(word_of(found, "SEED")?)?;
+    Some(Asked::Generate { seed })
+}
+
 /// The port that a word spells, 200 to 203.
 fn port_of_word(word: &str) -> Option<u8>
     ensures { result ≡ port_of_word word.now }
@@ -219,6 +232,18 @@ fn device_of_word(word: &str) -> Option<u8>
     let device = decimal(word.as_bytes())?;
     if 1 <= device && device <= 64 {
         Some(device as u8)
+    } else {
+        None
+    }
+}
+
+/// The seed that a word spells, 0 to 4,294,967,295.
+fn seed_of_word(word: &str) -> Option<u32>
+    ensures { result ≡ seed_of_word word.now }
+{
+    let seed = decimal(word.as_bytes())?;
+    if seed < 1 << 32 {
+        Some(seed as u32)
     } else {
         None
     }

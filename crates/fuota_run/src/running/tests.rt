@@ -260,11 +260,48 @@ fn words_that_are_no_form_are_usage(rt: HostRuntime) -> Result<(), Fail> {
         &["fuota", "recover", "image", "script"][..],
         &["fuota", "recover", "image", "script", "0"][..],
         &["fuota", "recover", "image", "script", "65"][..],
-        &["fuota", "generate", "1"][..],
+        &["fuota", "generate"][..],
+        &["fuota", "generate", "01"][..],
+        &["fuota", "generate", "4294967296"][..],
+        &["fuota", "generate", "1", "2"][..],
         &["fuota"][..],
     ];
     for words in &rows {
         says(&rt, rt.alloc(), words, "", Status::Usage, USAGE)?;
+    }
+    Ok(())
+}
+
+/// No file is named, so none is read, whatever there is.
+#[test]
+fn seeds_are_summed_up(rt: HostRuntime) -> Result<(), Fail> {
+    let rows = [
+        (
+            "0",
+            "generate 0\nimage 7327 fragments 115\nsent 291 heard 1975\ncomplete 8 updated 8\nend\n",
+        ),
+        (
+            "1",
+            "generate 1\nimage 7353 fragments 115\nsent 291 heard 1951\ncomplete 8 updated 8\nend\n",
+        ),
+        (
+            "999",
+            "generate 999\nimage 8125 fragments 127\nsent 303 heard 2035\ncomplete 8 updated 8\nend\n",
+        ),
+        (
+            "4294967295",
+            "generate 4294967295\nimage 7302 fragments 115\nsent 291 heard 1960\ncomplete 8 updated 8\nend\n",
+        ),
+    ];
+    for (seed, text) in &rows {
+        says(
+            &rt,
+            rt.alloc(),
+            &["fuota", "generate", *seed],
+            "",
+            Status::Done,
+            text,
+        )?;
     }
     Ok(())
 }

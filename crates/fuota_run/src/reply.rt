@@ -1,0 +1,99 @@
+//! What a run says: replies with a text, and what they say where a source or a line is refused.
+
+ghost use Rattle.std.specs.Prelude.{◌≡◌, ◌++◌, IfOk, codes, string_bytes};
+ghost use Rattle.std.specs.Fmt.{decimal};
+ghost use Rattle.fuota_run.specs.Answer.{answer, why_word, refused};
+ghost use Rattle.fuota_run.specs.Replies.{answer_in, seen_reply, IsUnread, IsMadeOf, IsSaid};
+ghost use Rattle.campaign_world.specs.Texts.{seen_text};
+
+use crate::source::SourceError;
+use crate::status::Status;
+use campaign_world::{LineError, LineFault, LineWhy};
+use std::alloc::{AllocError, Global};
+
+/// What a run says: its status, and the text that is written with it.
+#[derive(Drop)]
+pub struct Reply {
+    pub status: Status,
+    pub text: Vec<u8>,
+}
+
+/// A reply with a fixed text.
+pub fn say(alloc: Global, status: Status, text: &str) -> Result<Reply, AllocError>
+    ensures { IfOk result (λ r. answer_in r ≡ answer status text.now) }
+{
+    Ok(Reply {
+        status,
+        text: text.as_bytes().to_vec(alloc)?,
+    })
+}
+
+/// The reply for a source that was not read.
+pub fn unread(alloc: Global, error: SourceError) -> Result<Reply, AllocError>
+    ensures { IfOk result (λ r. IsUnread error (answer_in r)) }
+{
+    match error {
+        SourceError::Memory => Err(AllocError),
+        SourceError::Failed => say(alloc, Status::ReadFault, "read fault\n"),
+        SourceError::TooLong(taken) => Ok(Reply {
+            status: Status::TooLong(taken),
+            text: format!(in alloc; "too long {taken}\n")?.into_bytes(),
+        }),
+    }
+}
+
+/// The reply with the text that a file made, or for its first refused line.
+pub fn reply_with(alloc: Global, said: Result<Vec<u8>, LineError>) -> Result<Reply, AllocError>
+    ensures { IfOk result (λ r. IsSaid (seen_text said) (answer_in r)) }
+{
+    match said {
+        Ok(text) => Ok(Reply {
+            status: Status::Done,
+            text,
+        }),
+        Err(LineError::Memory) => Err(AllocError),
+        Err(LineError::Line(fault)) => refused(alloc, fault),
+    }
+}
+
+/// The reply that a campaign made, or for its first refused line.
+pub fn reply_of(alloc: Global, made: Result<Reply, LineError>) -> Result<Reply, AllocError>
+    ensures { IfOk result (λ r. IsMadeOf (seen_reply made) (answer_in r)) }
+{
+    match made {
+        Ok(reply) => Ok(reply),
+        Err(LineError::Memory) => Err(AllocError),
+        Err(LineError::Line(fault)) => refused(alloc, fault),
+    }
+}
+
+/// The reply for a refused line.
+fn refused(alloc: Global, fault: LineFault) -> Result<Reply, AllocError>
+    ensures { IfOk result (λ r. answer_in r ≡ refused fault) }
+{
+    Ok(Reply {
+        status: Status::ScriptRefused,
+        text: refused_text(alloc, fault.line, why_word(fault.why))?.into_bytes(),
+    })
+}
+
+fn refused_text(alloc: Global, line: u32, why: &str) -> Result<String, AllocError>
+    ensures { IfOk result (λ text. string_bytes text ≡ codes "line " ++ decimal line ++ (codes " " ++ why.now ++ codes "\n")) }
+{
+    format!(in alloc; "line {line} {why}\n")
+}
+
+fn why_word(why: LineWhy) -> &'static str
+    ensures { result.now ≡ why_word why }
+{
+    match why {
+        LineWhy::Limit => "limit",
+        LineWhy::Syntax => "syntax",
+        LineWhy::Order => "order",
+        LineWhy::Range => "range",
+        LineWhy::Device => "device",
+        LineWhy::Unsent => "unsent",
+        LineWhy::Time => "time",
+    }
+}
+

@@ -1,0 +1,10 @@
+pub mod Plays
+pub mod Stands
+pub mod Rounds
+pub mod Devices
+pub mod Sessions
+pub mod Orders
+pub mod Hearing
+pub mod Late
+pub mod Deliveries
+pub mod Seeds

@@ -1,0 +1,194 @@
+-- What a session of the server's shows while it hears fragments of the image.
+use Rattle.std.proofs.Common.{◌≡◌, ◌≢◌, ◌⊎◌, inl, inr, ⊎_elim, ℕ, ◌+◌, ◌-◌, ◌^◌, ◌<◌, ◌≤◌, Bool, true, false, List, [], ◌∷◌, ◌++◌, length, get_or, All, Option, None, Some, refl, sym, ap, ◌∙◌, subst, arith}
+use Rattle.std.specs.List.{AllByRecursion}
+use Rattle.std.proofs.lemmas.List.Elements.{recursion_from_All, All-get_or}
+use Rattle.frag_model.specs.Fragments.{Fragment, Shape, IsPiece, IsBlock, IsUncoded, line_of, pieces_at, xor_all}
+use Rattle.frag_model.specs.Gain.{gain, direct, excess}
+use Rattle.frag_model.specs.Laws.{AreNumbered}
+use Rattle.frag_model.specs.Verdict.{Verdict, receiving, complete, no_rows, conflict, verdict, verdict_now, first_verdict, missing, missing_next, missing_now, lacking, IsVerdict, IsVerdictNow, FittingBlock, TwoBlocksFit}
+use Rattle.frag_model.proofs.Enough.{enough_after, gain-most}
+use Rattle.frag_model.proofs.Uncoded.{excess-uncoded, line_of_piece, xor_all_piece}
+use Rattle.frag_model.proofs.Uniqueness.{unique_at_full_gain}
+use Rattle.frag_model.proofs.Verdicts.{verdict-right}
+use Rattle.frag_encoder.specs.Encoding.{nb_frag_of, data_of, block_of}
+use Rattle.frag_encoder.proofs.Blocks.{block_shaped}
+use Rattle.frag_session.specs.declared.setups.SetupReq.{SetupReq}
+use Rattle.frag_session.specs.declared.answers.Verdict.{Verdict as Shown}
+use Rattle.frag_session.specs.declared.answers.Verdict.TheVariants as shown
+use Rattle.frag_session.specs.Session.{Session, followed, seen_of, shape_of, shown_verdict, shown_file}
+use Rattle.frag_session.specs.FirstMoment.{IsDecidedAtFirst, IsMoment}
+use Rattle.frag_session.proofs.FirstMoments.{decided_at_first}
+use Rattle.campaign_world.specs.Headline.{IsFragmentOf, IsRecovered}
+use Rattle.campaign_world.proofs.HeadlineCommands.{Cut}
+use Rattle.campaign_world.proofs.HeadlineEnds.{IsSetFor}
+use Rattle.campaign_world.proofs.HeadlineImage.{IsShapeFor, behind}
+use Rattle.campaign_world.proofs.HeadlineLaw.{shape_for, recovered_by}
+
+-- how a seed's image is cut
+abbrev pub cut : Cut
+cut = record { size = 64; mask = 0 }
+
+-- ---- what is missing
+
+-- where two blocks fit, not all is gained
+some_lacking : (shape : Shape) (heard : List Fragment) → AreNumbered heard
+    → (first : List (List ℕ)) (second : List (List ℕ)) → TwoBlocksFit shape heard first second → 1 ≤ lacking shape heard
+unfolding lacking
+some_lacking shape heard numbered first second two =
+    let most = gain-most shape heard numbered in
+    let apart : gain shape heard ≢ shape.nb_frag = λ full. two.differ (unique_at_full_gain shape heard second first numbered full two.other two.one) in
+    omega (arith, most, apart)
+
+receiving_lacks : (shape : Shape) (f : Fragment) (older : List Fragment) → AreNumbered (f ∷ older) → IsVerdict shape (f ∷ older) receiving → 1 ≤ lacking shape (f ∷ older)
+unfolding IsVerdict IsVerdictNow
+receiving_lacks shape f older numbered (inl stayed) = absurd (stayed.1 refl)
+receiving_lacks shape f older numbered (inr (was, low, first, second, two)) = some_lacking shape (f ∷ older) numbered first second two
+
+-- a session that receives has received before
+before_receiving : (v next : Verdict) → first_verdict v next ≡ receiving → v ≡ receiving
+unfolding first_verdict
+before_receiving receiving next is = refl
+before_receiving (complete mark block) next is = absurd cc
+before_receiving (no_rows mark) next is = absurd cc
+before_receiving (conflict mark) next is = absurd cc
+
+-- while it receives, something is missing
+missing_some : (shape : Shape) (heard : List Fragment) → AreNumbered heard → 1 ≤ shape.nb_frag → verdict shape heard ≡ receiving → 1 ≤ missing shape heard
+unfolding missing missing_next missing_now verdict
+missing_some shape [] numbered some is = some
+missing_some shape (f ∷ older) numbered some is =
+    let was : verdict shape older ≡ receiving = before_receiving (verdict shape older) (verdict_now shape (f ∷ older) f.mark) is in
+    let right : IsVerdict shape (f ∷ older) receiving = subst (IsVerdict shape (f ∷ older)) is (verdict-right shape (f ∷ older)) in
+    rw (is, was) (receiving_lacks shape f older numbered right)
+
+-- with its whole file, nothing is
+missing_by : (v w : Verdict) (mark : ℕ) (block : List (List ℕ)) (kept now before : ℕ) → first_verdict v w ≡ complete mark block
+    → (v ≡ complete mark block → kept ≡ 0) → missing_next v kept (missing_now (first_verdict v w) now before) ≡ 0
+unfolding missing_next missing_now first_verdict
+missing_by receiving w mark block kept now before is old = rw is refl
+missing_by (complete at b) w mark block kept now before is old = old is
+missing_by (no_rows at) w mark block kept now before is old = absurd cc
+missing_by (conflict at) w mark block kept now before is old = absurd cc
+
+missing_none : (shape : Shape) (heard : List Fragment) (mark : ℕ) (block : List (List ℕ)) → verdict shape heard ≡ complete mark block → missing shape heard ≡ 0
+unfolding missing verdict
+missing_none shape [] mark block is = absurd cc
+missing_none shape (f ∷ older) mark block is =
+    missing_by (verdict shape older) (verdict_now shape (f ∷ older) f.mark) mark block (missing shape older) (lacking shape (f ∷ older)) (lacking shape older) is
+    (λ was. missing_none shape older mark block was)
+
+shown_receives : (v : Verdict) → shown_verdict v ≡ shown.Receiving → v ≡ receiving
+unfolding shown_verdict
+shown_receives receiving is = refl
+shown_receives (complete mark block) is = absurd cc
+shown_receives (no_rows mark) is = absurd cc
+shown_receives (conflict mark) is = absurd cc
+
+shown_complete : (v : Verdict) (mark : ℕ) → shown_verdict v ≡ shown.Complete mark → (block : List (List ℕ)) × (v ≡ complete mark block)
+unfolding shown_verdict
+shown_complete receiving mark is = absurd cc
+shown_complete (complete at block) mark is = let same : at ≡ mark = cc in (block, ap (λ (n : ℕ). complete n block) same)
+shown_complete (no_rows at) mark is = absurd cc
+shown_complete (conflict at) mark is = absurd cc
+
+-- ---- a session of the server's
+
+-- its setup is the server's, its rows are 64, and it heard fragments of the image
+pub record IsOurs (image : List ℕ) (x : Session) : Type 0 where
+  pub set : IsSetFor image cut x
+  pub rows : x.rows ≡ 64
+
+shape_is : (image : List ℕ) (x : Session) → All (λ b. b < 2 ^ 8) image → IsOurs image x → IsShapeFor image (shape_of x) x.setup.padding × ((shape_of x).frag_size ≡ 64)
+shape_is image x bytes ours = shape_for image cut x bytes ours.set
+
+recovered_is : (image : List ℕ) (x : Session) → All (λ b. b < 2 ^ 8) image → IsOurs image x → IsRecovered image x
+recovered_is image x bytes ours =
+    let h = shape_is image x bytes ours in
+    recovered_by image x h.0 (subst (λ (n : ℕ). AllByRecursion (IsFragmentOf image n) x.heard) (sym h.1) ours.set.heard)
+
+pub complete_is_image : (image : List ℕ) (x : Session) (mark : ℕ) → All (λ b. b < 2 ^ 8) image → IsOurs image x → (seen_of x).verdict ≡ shown.Complete mark → (seen_of x).file ≡ image
+complete_is_image image x mark bytes ours is = (recovered_is image x bytes ours).shown mark is
+
+fragments_numbered : (image : List ℕ) (heard : List Fragment) → AllByRecursion (IsFragmentOf image 64) heard → AreNumbered heard
+fragments_numbered image [] all = tt
+fragments_numbered image (f ∷ heard) all = (all.0.first, fragments_numbered image heard all.1)
+
+pub something_missing : (image : List ℕ) (x : Session) → All (λ b. b < 2 ^ 8) image → IsOurs image x → (seen_of x).verdict ≡ shown.Receiving → 1 ≤ (seen_of x).missing
+unfolding seen_of
+something_missing image x bytes ours is =
+    missing_some (shape_of x) x.heard (fragments_numbered image x.heard ours.set.heard) (shape_is image x bytes ours).0.makes.some (shown_receives (verdict (shape_of x) x.heard) is)
+
+pub nothing_missing : (x : Session) (mark : ℕ) → (seen_of x).verdict ≡ shown.Complete mark → (seen_of x).missing ≡ 0
+unfolding seen_of
+nothing_missing x mark is = let v = shown_complete (verdict (shape_of x) x.heard) mark is in missing_none (shape_of x) x.heard mark v.0 v.1
+
+-- ---- enough rows
+
+parted : (xs ys us vs : List Fragment) → xs ++ ys ≡ us ++ vs → ((k : List Fragment) × (vs ≡ k ++ ys)) ⊎ ((k : List Fragment) × (ys ≡ k ++ vs))
+parted xs ys [] vs is = inl (xs, sym is)
+parted [] ys (u ∷ us) vs is = inr (u ∷ us, is)
+parted (x ∷ xs) ys (u ∷ us) vs is = parted xs ys us vs (let tails : xs ++ ys ≡ us ++ vs = cc in tails)
+
+front : (P : Fragment → Type 0) (newer older : List Fragment) → AllByRecursion P (newer ++ older) → AllByRecursion P newer
+front P [] older all = tt
+front P (f ∷ newer) older all = (all.0, front P newer older all.1)
+
+-- the excess passes the rows nowhere
+no_excess : (shape : Shape) (heard newer older ours theirs : List Fragment) → AreNumbered heard → heard ≡ newer ++ older → AllByRecursion (IsUncoded shape) older
+    → shape.nb_frag ≤ direct shape older + shape.rows → heard ≡ ours ++ theirs → excess shape theirs ≤ shape.rows
+no_excess shape heard newer older ours theirs numbered here uncoded enough there = by (parted newer older ours theirs (sym here ∙ there))
+  where
+    by : ((k : List Fragment) × (theirs ≡ k ++ older)) ⊎ ((k : List Fragment) × (older ≡ k ++ theirs)) → excess shape theirs ≤ shape.rows
+    by (inl (k, is)) =
+        let all : AreNumbered theirs = behind (λ (f : Fragment). 1 ≤ f.number) ours theirs (subst AreNumbered there numbered) in
+        let k_all : AreNumbered k = front (λ (f : Fragment). 1 ≤ f.number) k older (subst AreNumbered is all) in
+        subst (λ (fs : List Fragment). excess shape fs ≤ shape.rows) (sym is) (enough_after shape k older uncoded enough k_all)
+    by (inr (k, is)) =
+        let none = excess-uncoded shape theirs (behind (IsUncoded shape) k theirs (subst (AllByRecursion (IsUncoded shape)) is uncoded)) in
+        omega (arith, none)
+
+-- where at most as many pieces as rows were unheard at the first coded fragment, the rows suffice
+pub rows_suffice : (image : List ℕ) (x : Session) (newer older : List Fragment) (mark : ℕ) → All (λ b. b < 2 ^ 8) image → IsOurs image x → x.heard ≡ newer ++ older
+    → AllByRecursion (IsUncoded (shape_of x)) older → (shape_of x).nb_frag ≤ direct (shape_of x) older + 64 → (seen_of x).verdict ≢ shown.NoRows mark
+unfolding shape_of
+rows_suffice image x newer older mark bytes ours here uncoded enough is =
+    let at = ((decided_at_first x (shape_is image x bytes ours).0.makes).no_rows mark).0 is in
+    let low = no_excess (shape_of x) x.heard newer older at.0 (at.1 ∷ at.2) (fragments_numbered image x.heard ours.set.heard) here uncoded
+    (omega (arith, enough, ours.rows)) at.3.parted in
+    omega (arith, at.3.now.over, low)
+
+pub no_conflict : (image : List ℕ) (x : Session) (mark : ℕ) → All (λ b. b < 2 ^ 8) image → IsOurs image x → (seen_of x).verdict ≢ shown.Conflict mark
+no_conflict image x mark bytes ours = (recovered_is image x bytes ours).agrees mark
+
+-- ---- an uncoded fragment of the image
+
+piece_of : (image : List ℕ) (n : ℕ) → All (λ b. b < 2 ^ 8) image → 1 ≤ n → n ≤ nb_frag_of (length image) 64 → IsPiece 64 (data_of image 64 n)
+unfolding data_of
+piece_of image n bytes low high =
+    let block : List (List ℕ) = block_of image 64 in
+    let shaped = block_shaped image 64 64 (omega arith) bytes in
+    let inside : n - 1 < length block = omega (arith, shaped.counted, low, high) in
+    let same : xor_all 64 (pieces_at (line_of (nb_frag_of (length image) 64) n) block) ≡ get_or block (n - 1) [] =
+    xor_all_piece 64 (n - 1) (line_of (nb_frag_of (length image) 64) n) block (line_of_piece (nb_frag_of (length image) 64) n high) inside
+    (recursion_from_All (IsPiece 64) block shaped.pieces) in
+    subst (IsPiece 64) (sym same) (All-get_or (IsPiece 64) block (n - 1) [] inside shaped.pieces)
+
+pub uncoded_is : (image : List ℕ) (x : Session) (f : Fragment) → All (λ b. b < 2 ^ 8) image → IsOurs image x → IsFragmentOf image 64 f
+    → f.number ≤ nb_frag_of (length image) 64 → IsUncoded (shape_of x) f
+uncoded_is image x f bytes ours fragment high =
+    let h = shape_is image x bytes ours in
+    let count : (shape_of x).nb_frag ≡ nb_frag_of (length image) 64 = h.0.count ∙ ap (nb_frag_of (length image)) h.1 in
+    record {
+      first = fragment.first;
+      last = omega (arith, count, high);
+      piece = subst (λ (n : ℕ). IsPiece n f.part) (sym h.1) (subst (IsPiece 64) (sym fragment.part) (piece_of image f.number bytes fragment.first high));
+    }
+
+-- ---- a verdict stays
+
+stays_by : (shape : Shape) (padding mark : ℕ) (v next : Verdict) → shown_verdict v ≡ shown.Complete mark → shown_verdict (first_verdict v next) ≡ shown.Complete mark
+unfolding first_verdict shown_verdict
+stays_by shape padding mark receiving next is = absurd cc
+stays_by shape padding mark (complete at block) next is = is
+stays_by shape padding mark (no_rows at) next is = absurd cc
+stays_by shape padding mark (conflict at) next is = absurd cc
