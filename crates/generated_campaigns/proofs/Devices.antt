@@ -1,5 +1,5 @@
 -- A device of a seed's campaign between two lines, and what a turn makes of it.
-use Rattle.std.proofs.Common.{◌≡◌, ℕ, ◌+◌, ◌^◌, ◌<◌, ◌≤◌, nat_lt, Bool, true, false, List, [], ◌∷◌, ◌++◌, length, Option, None, Some, Result, Ok, refl, sym, ap, ◌∙◌, subst, le-ltb, arith}
+use Rattle.std.proofs.Common.{◌≡◌, ℕ, ◌+◌, ◌^◌, ◌<◌, ◌≤◌, nat_lt, false, List, [], ◌∷◌, length, None, Some, Ok, refl, sym, ap, ◌∙◌, subst, le-ltb, arith}
 use Rattle.wire_base.specs.declared.refusal.Direction.{Direction}
 use Rattle.wire_base.specs.declared.refusal.Direction.TheVariants.{Down, Up}
 use Rattle.wire_base.specs.Rows.{IsListed}
@@ -8,7 +8,7 @@ use Rattle.sync_wire.specs.declared.cmd.Cmd.TheVariants.{DevVersionReq, DevVersi
 use Rattle.package_grammar.specs.declared.command.Command.{Command}
 use Rattle.package_grammar.specs.declared.command.Command.TheVariants.{Sync, Cast}
 use Rattle.package_grammar.specs.Grammar.{row, canonical, IsValid}
-use Rattle.package_grammar.specs.Reading.{Reading, reading_of}
+use Rattle.package_grammar.specs.Reading.{reading_of}
 use Rattle.package_grammar.proofs.Written.{message_of}
 use Rattle.package_grammar.proofs.ReadingLaw.{read_as}
 use Rattle.frag_session.specs.declared.answers.Via.TheVariants as via

@@ -1,37 +1,28 @@
 -- A device that is set up, and hears fragments of the image.
-use Rattle.std.proofs.Common.{◌≡◌, ◌⊎◌, inl, inr, ℕ, ◌+◌, ◌-◌, ◌*◌, ◌/◌, ◌^◌, ◌<◌, ◌≤◌, ◌==◌, ◌||◌, nat_lt, nat_le, min, Bool, true, false, cond, List, [], ◌∷◌, ◌++◌, length, append-nil, All, Option, None, Some, is_none, option_map, Ok, refl, sym, ap, ◌∙◌, subst, arith}
-use Rattle.std.specs.List.{AllByRecursion}
+use Rattle.std.proofs.Common.{◌≡◌, ◌⊎◌, ℕ, ◌+◌, ◌*◌, ◌/◌, ◌^◌, ◌<◌, ◌≤◌, ◌==◌, nat_lt, nat_le, min, Bool, true, false, cond, List, [], ◌∷◌, length, All, None, Some, refl, sym, ap, ◌∙◌, subst, arith}
 use Rattle.std.proofs.lemmas.Grind.{div_ceil_times}
-use Rattle.wire_base.specs.declared.refusal.Direction.TheVariants.{Down}
 use Rattle.frag_model.specs.Fragments.{Fragment}
 use Rattle.frag_encoder.specs.Encoding.{nb_frag_of, padding_of, data_of}
 use Rattle.row_elimination.specs.Room.{has_room, words_for}
-use Rattle.frag_session.specs.declared.setups.SetupReq.{SetupReq}
-use Rattle.frag_session.specs.declared.answers.Cause.{Cause}
 use Rattle.frag_session.specs.declared.answers.Via.TheVariants as via
 use Rattle.frag_session.specs.declared.answers.Verdict.{Verdict as Shown}
 use Rattle.frag_session.specs.declared.answers.Verdict.TheVariants as shown
 use Rattle.frag_session.specs.Setup.{setup_bits, wrong_coding, too_large, other_descriptor}
-use Rattle.frag_session.specs.Session.{Session, Seen, new_session, after_setup, renewed, followed, after_fragment, excludes, cause_of, drop_cause, seen_of, view_of, shown_verdict}
+use Rattle.frag_session.specs.Session.{Session, new_session, followed, after_fragment, excludes, cause_of, drop_cause, seen_of, view_of, shown_verdict}
 use Rattle.frag_session.specs.Stands.{IsSetUp}
 use Rattle.frag_model.specs.Verdict.{verdict}
 use Rattle.image_slots.specs.declared.view.ImageState.TheVariants as state
 use Rattle.image_slots.specs.Image.{is_image, hardware_of, firmware_of, image_state}
 use Rattle.image_slots.specs.Slots.{Slots, after_offer}
-use Rattle.package_grammar.specs.Grammar.{canonical}
-use Rattle.package_grammar.specs.Reading.{reading_of}
-use Rattle.device_core.specs.declared.uplink.Uplink.{Uplink}
 use Rattle.device_core.specs.Answers.{after_answers}
 use Rattle.device_core.specs.Device.{DeviceState, room_of, limits_of}
 use Rattle.device_core.specs.Firmware.{after_due_reboot}
-use Rattle.device_core.specs.Fragments.{is_complete, is_whole, whole_file, slots_after, heard_step, fragment_step}
+use Rattle.device_core.specs.Fragments.{is_complete, slots_after, heard_step, fragment_step}
 use Rattle.device_core.specs.Step.{command_step}
 use Rattle.campaign_server.specs.declared.stage.Stage.{Stage}
 use Rattle.campaign_server.specs.declared.stage.Stage.TheVariants.{At}
 use Rattle.campaign_server.specs.declared.stage.Request.TheVariants as request
-use Rattle.campaign_world.specs.Headline.{IsFragmentOf}
 use Rattle.campaign_world.proofs.HeadlineCommands.{setup_req, IsCut, fragment_sized, fragment_good, good_read}
-use Rattle.campaign_world.proofs.HeadlineEnds.{IsSetFor}
 use Rattle.generated_campaigns.proofs.Stands.{fragment_command, behind}
 use Rattle.generated_campaigns.proofs.Devices.{IsPlain, at_of, delivered_is}
 use Rattle.generated_campaigns.proofs.Sessions.{cut, IsOurs, complete_is_image}
@@ -83,6 +74,7 @@ no_bits image d made plain =
 pub record IsNew (d : DeviceState) : Type 0 where
   pub plain : IsPlain d
   pub session : d.sessions.first ≡ None
+  pub version : d.slots.version ≡ 0
 
 -- its session is set up, and heard nothing
 pub record IsReady (image : List ℕ) (d : DeviceState) : Type 0 where
@@ -189,6 +181,7 @@ next_by image file slots hw false made one is before = rw (one, is) (valid_next 
 pub hears_fragment : (image : List ℕ) (n m m' skipped : ℕ) (d : DeviceState) (s : Stage) → IsMade image → 1 ≤ n → n ≤ count_of image + 128
     → ((heard : List Fragment) (f : Fragment) → f.number ≡ n → OrderOf (count_of image) m skipped heard → OrderOf (count_of image) m' skipped (f ∷ heard))
     → Hears image m skipped d s → (mark : ℕ) → ((behind mark (fragment_command image n) d).outbox ≡ []) × Hears image m' skipped (behind mark (fragment_command image n) d) s
+unfolding followed
 hears_fragment image n m m' skipped d s made low high go (at, (x, h, order)) mark =
     let is = fragment_behind image d x n mark made h low high in
     (ap (λ (z : DeviceState). z.outbox) is, (at, (y, subst (IsHearing image y) (sym is) hearing, go x.heard f refl order)))

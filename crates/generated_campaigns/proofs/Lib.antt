@@ -5,6 +5,6 @@ pub mod Devices
 pub mod Sessions
 pub mod Orders
 pub mod Hearing
-pub mod Late
+pub mod Turns
 pub mod Deliveries
 pub mod Seeds

@@ -1,7 +1,6 @@
 -- Fragments that come in their order, of which some are skipped and some come twice.
-use Rattle.std.proofs.Common.{◌≡◌, ◌⊎◌, inl, inr, ⊎_elim, ℕ, ◌+◌, ◌-◌, ◌<◌, ◌≤◌, ◌&&◌, not, nat_le, ◌==◌, Bool, true, false, cond, List, [], ◌∷◌, ◌++◌, map, refl, sym, ap, ◌∙◌, subst, arith}
+use Rattle.std.proofs.Common.{◌≡◌, ◌⊎◌, inl, inr, ⊎_elim, ℕ, ◌+◌, ◌-◌, ◌<◌, ◌≤◌, ◌&&◌, not, nat_le, ◌==◌, Bool, true, false, cond, List, [], ◌∷◌, ◌++◌, refl, sym, ap, ◌∙◌, subst, arith}
 use Rattle.std.specs.List.{AllByRecursion, list_any}
-use Rattle.frag_model.specs.Members.{In}
 use Rattle.frag_model.specs.Fragments.{Fragment}
 use Rattle.frag_model.specs.Gain.{direct_of, numbers_of}
 use Rattle.frag_model.proofs.Uncoded.{each-In, direct_of-new}

@@ -1,22 +1,19 @@
 -- What a session of the server's shows while it hears fragments of the image.
-use Rattle.std.proofs.Common.{◌≡◌, ◌≢◌, ◌⊎◌, inl, inr, ⊎_elim, ℕ, ◌+◌, ◌-◌, ◌^◌, ◌<◌, ◌≤◌, Bool, true, false, List, [], ◌∷◌, ◌++◌, length, get_or, All, Option, None, Some, refl, sym, ap, ◌∙◌, subst, arith}
+use Rattle.std.proofs.Common.{◌≡◌, ◌≢◌, ◌⊎◌, inl, inr, ℕ, ◌+◌, ◌-◌, ◌^◌, ◌<◌, ◌≤◌, List, [], ◌∷◌, ◌++◌, length, get_or, All, refl, sym, ap, ◌∙◌, subst, arith}
 use Rattle.std.specs.List.{AllByRecursion}
 use Rattle.std.proofs.lemmas.List.Elements.{recursion_from_All, All-get_or}
-use Rattle.frag_model.specs.Fragments.{Fragment, Shape, IsPiece, IsBlock, IsUncoded, line_of, pieces_at, xor_all}
+use Rattle.frag_model.specs.Fragments.{Fragment, Shape, IsPiece, IsUncoded, line_of, pieces_at, xor_all}
 use Rattle.frag_model.specs.Gain.{gain, direct, excess}
 use Rattle.frag_model.specs.Laws.{AreNumbered}
-use Rattle.frag_model.specs.Verdict.{Verdict, receiving, complete, no_rows, conflict, verdict, verdict_now, first_verdict, missing, missing_next, missing_now, lacking, IsVerdict, IsVerdictNow, FittingBlock, TwoBlocksFit}
+use Rattle.frag_model.specs.Verdict.{Verdict, receiving, complete, no_rows, conflict, verdict, verdict_now, first_verdict, missing, missing_next, missing_now, lacking, IsVerdict, IsVerdictNow, TwoBlocksFit}
 use Rattle.frag_model.proofs.Enough.{enough_after, gain-most}
 use Rattle.frag_model.proofs.Uncoded.{excess-uncoded, line_of_piece, xor_all_piece}
 use Rattle.frag_model.proofs.Uniqueness.{unique_at_full_gain}
 use Rattle.frag_model.proofs.Verdicts.{verdict-right}
 use Rattle.frag_encoder.specs.Encoding.{nb_frag_of, data_of, block_of}
 use Rattle.frag_encoder.proofs.Blocks.{block_shaped}
-use Rattle.frag_session.specs.declared.setups.SetupReq.{SetupReq}
-use Rattle.frag_session.specs.declared.answers.Verdict.{Verdict as Shown}
 use Rattle.frag_session.specs.declared.answers.Verdict.TheVariants as shown
-use Rattle.frag_session.specs.Session.{Session, followed, seen_of, shape_of, shown_verdict, shown_file}
-use Rattle.frag_session.specs.FirstMoment.{IsDecidedAtFirst, IsMoment}
+use Rattle.frag_session.specs.Session.{Session, seen_of, shape_of, shown_verdict}
 use Rattle.frag_session.proofs.FirstMoments.{decided_at_first}
 use Rattle.campaign_world.specs.Headline.{IsFragmentOf, IsRecovered}
 use Rattle.campaign_world.proofs.HeadlineCommands.{Cut}
@@ -42,7 +39,7 @@ some_lacking shape heard numbered first second two =
 receiving_lacks : (shape : Shape) (f : Fragment) (older : List Fragment) → AreNumbered (f ∷ older) → IsVerdict shape (f ∷ older) receiving → 1 ≤ lacking shape (f ∷ older)
 unfolding IsVerdict IsVerdictNow
 receiving_lacks shape f older numbered (inl stayed) = absurd (stayed.1 refl)
-receiving_lacks shape f older numbered (inr (was, low, first, second, two)) = some_lacking shape (f ∷ older) numbered first second two
+receiving_lacks shape f older numbered (inr right) = some_lacking shape (f ∷ older) numbered right.1.1.0 right.1.1.1 right.1.1.2
 
 -- a session that receives has received before
 before_receiving : (v next : Verdict) → first_verdict v next ≡ receiving → v ≡ receiving

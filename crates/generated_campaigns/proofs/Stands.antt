@@ -1,5 +1,5 @@
 -- Where a campaign stands whose lines are those of a seed, and how single lines move it.
-use Rattle.std.proofs.Common.{◌≡◌, ◌⊎◌, inl, inr, ⊎_elim, ℕ, zero, suc, ◌+◌, ◌-◌, ◌<◌, ◌≤◌, ◌==◌, nat_lt, nat_le, ◌&&◌, Bool, true, false, List, [], ◌∷◌, ◌++◌, length, map, slice_get, Option, None, Some, Result, Ok, refl, sym, ap, ◌∙◌, subst, arith}
+use Rattle.std.proofs.Common.{◌≡◌, ◌⊎◌, inl, inr, ⊎_elim, ℕ, zero, suc, ◌+◌, ◌-◌, ◌<◌, ◌≤◌, ◌==◌, nat_lt, nat_le, Bool, true, false, List, [], ◌∷◌, ◌++◌, length, map, slice_get, None, Some, Ok, refl, sym, ap, ◌∙◌, subst, arith}
 use Rattle.std.specs.List.{slice_set}
 use Rattle.std.proofs.lemmas.List.{length-append}
 use Rattle.wire_base.specs.declared.refusal.Direction.TheVariants.{Up as Upwards}
@@ -7,9 +7,8 @@ use Rattle.frag_encoder.specs.Encoding.{nb_frag_of, data_of}
 use Rattle.cast_wire.specs.declared.cmd.Cmd.TheVariants.{DataFragment}
 use Rattle.package_grammar.specs.declared.command.Command.{Command}
 use Rattle.package_grammar.specs.declared.command.Command.TheVariants.{Cast}
-use Rattle.package_grammar.specs.declared.downlink.To.TheVariants.{Unicast}
 use Rattle.package_grammar.specs.Grammar.{canonical}
-use Rattle.package_grammar.specs.Reading.{Reading, reading_of}
+use Rattle.package_grammar.specs.Reading.{reading_of}
 use Rattle.device_core.specs.declared.uplink.Uplink.{Uplink}
 use Rattle.device_core.specs.Device.{DeviceState}
 use Rattle.device_core.specs.Answers.{uplink_of}
@@ -17,14 +16,13 @@ use Rattle.device_core.specs.Deliver.{delivery}
 use Rattle.campaign_server.specs.declared.plan.PlanDevice.{PlanDevice}
 use Rattle.campaign_server.specs.declared.stage.Stage.{Stage}
 use Rattle.campaign_server.specs.Plan.{Plan}
-use Rattle.campaign_server.specs.Server.{ServerState, numbered, ledger, downlink_of}
+use Rattle.campaign_server.specs.Server.{ServerState, numbered}
 use Rattle.campaign_server.specs.Sent.{unicast_of}
-use Rattle.campaign_server.specs.Asking.{request_at, request_of, by_unicast}
+use Rattle.campaign_server.specs.Asking.{request_at, request_of}
 use Rattle.campaign_server.specs.Answers.{stage_after, stage_after_all}
-use Rattle.campaign_server.specs.Fragments.{next_fragment, after_fragment, last_fragment}
+use Rattle.campaign_server.specs.Fragments.{next_fragment, after_fragment}
 use Rattle.campaign_server.specs.Time.{time_answer_to, time_answer}
-use Rattle.campaign_server.specs.Uplinks.{with_answers, read_uplink, uplink_step}
-use Rattle.script_lines.specs.declared.forms.Form.{Form}
+use Rattle.campaign_server.specs.Uplinks.{read_uplink, uplink_step}
 use Rattle.script_lines.specs.declared.forms.Form.TheVariants.{Ask, Frag, Down, Up, End}
 use Rattle.script_lines.specs.Ranges.{in_range}
 use Rattle.campaign_generator.specs.Forms.{forms_of_turn}
@@ -33,11 +31,11 @@ use Rattle.campaign_world.specs.declared.section.Section.TheVariants as section
 use Rattle.campaign_world.specs.declared.numbered.SentPayload.{SentPayload}
 use Rattle.campaign_world.specs.declared.numbered.MadeUplink.{MadeUplink}
 use Rattle.campaign_world.specs.World.{WorldState}
-use Rattle.campaign_world.specs.Causes.{may_come, is_device, may_reach, form_cause}
-use Rattle.campaign_world.specs.Making.{made_by, with_device, after_answer, after_form}
+use Rattle.campaign_world.specs.Causes.{may_come, is_device, may_reach}
+use Rattle.campaign_world.specs.Making.{made_by, with_device, after_form}
 use Rattle.campaign_world.proofs.FormCauses.{none as no_cause}
 use Rattle.campaign_world.proofs.LineItems.{numbered_more, numbered_put, numbered_there}
-use Rattle.generated_campaigns.proofs.Plays.{To, none, one, both, weaker}
+use Rattle.generated_campaigns.proofs.Plays.{To, one, both, weaker}
 
 -- ---- lists
 

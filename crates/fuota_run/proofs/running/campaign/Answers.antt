@@ -31,7 +31,7 @@ returns-clause-reply g c = if_ok_map c.script.result (λ r says.
     let good : is_image image ≡ true = ap is_image (sym c.deref.ensures.value) ∙ sym c.is_image.ensures.value ∙ search rules in
     says_behind (g.F.Files.held c.args.files.now) (g.F.Files.held c.read_source.new.files) c.args.what c.args.image_name.now c.args.script_name.now _ _ _ _ image (answer_in r)
     c.in-Ok.ensures.held c.in-Ok.ensures.kept c.in-Ok.ensures.source c.in-Ok.ensures.within good
-    (subst (λ (i : List ℕ). Says (GivesScript (g.F.Files.held c.read_source.new.files) c.args.what i c.args.script_name.now (answer_in r)) (g.F.Files.faults c.read_source.new.files) (g.F.Files.faults c.script.new.files) (g.F.Files.left c.script.new.files) (answer_in r)) c.deref-2.ensures.value says)) c.script.ensures.reply
+    (subst (λ (i : List ℕ). Says true (GivesScript (g.F.Files.held c.read_source.new.files) c.args.what i c.args.script_name.now (answer_in r)) (g.F.Files.faults c.read_source.new.files) (g.F.Files.faults c.script.new.files) (g.F.Files.left c.script.new.files) (answer_in r)) c.deref-2.ensures.value says)) c.script.ensures.reply
 
 pub returns-in-Err-clause-taken : goal.returns-in-Err-clause-taken
 returns-in-Err-clause-taken g c = if_ok_map c.unread.result (λ r is taken long. inl (unread_taken c.in-Err.error (answer_in r)
