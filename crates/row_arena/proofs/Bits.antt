@@ -16,7 +16,7 @@ first_small w ws small = small 0
 rest_small : (w : ℕ) (ws : List ℕ) → AreWords (w ∷ ws) → AreWords ws
 rest_small w ws small = λ i. small (suc i)
 
-line_step : (w : ℕ) (ws : List ℕ) → line_in (w ∷ ws) ≡ line_in ws * 2 ^ 64 + w
+pub line_step : (w : ℕ) (ws : List ℕ) → line_in (w ∷ ws) ≡ line_in ws * 2 ^ 64 + w
 unfolding line_in
 line_step w ws = omega arith
 

@@ -10,7 +10,7 @@ use Rattle.row_arena.specs.Rows.{line_in}
 use Rattle.row_arena.specs.Sums.{after_flips}
 use Rattle.row_arena.proofs.Bits.{AreWords, bit_of_word}
 
-after_flips-more : (l : ℕ) (cs : List ℕ) (c : ℕ) → after_flips l (cs ++ c ∷ []) ≡ bit_xor (after_flips l cs) (2 ^ c)
+pub after_flips-more : (l : ℕ) (cs : List ℕ) (c : ℕ) → after_flips l (cs ++ c ∷ []) ≡ bit_xor (after_flips l cs) (2 ^ c)
 unfolding after_flips
 after_flips-more l [] c = refl
 after_flips-more l (d ∷ cs) c = after_flips-more (bit_xor l (2 ^ d)) cs c

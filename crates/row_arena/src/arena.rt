@@ -75,6 +75,20 @@ impl<const WORDS: usize, const BYTES: usize> RowArena<WORDS, BYTES> {
         Ok(())
     }
 
+    /// How many rows there are.
+    pub fn rows(&self) -> u16
+        ensures { result ≡ length self.now.rows }
+    {
+        self.rows
+    }
+
+    /// How many columns each row has.
+    pub fn cols(&self) -> u16
+        ensures { result ≡ self.now.cols }
+    {
+        self.cols
+    }
+
     /// Adds row `from` to row `into`, bit by bit; they are two different rows. All others stay.
     pub fn xor_row(&mut self, into: u16, from: u16)
         requires into { into < length self.old.rows }

@@ -13,5 +13,6 @@ mod stretches;
 
 pub use arena::{NoRoom, RowArena, words_for};
 pub use lanes::{xor_bytes, xor_words};
+pub use lines::{clear_bits, first_bit, flip_bit};
 pub use picks::pick;
 pub use pieces::sum_pieces;

@@ -15,7 +15,7 @@ use Rattle.row_elimination.specs.declared.stages.Stage.TheVariants as stage
 use Rattle.row_elimination.specs.Places.{Place, free, piece, row, told, is_piece, pieces_held, rows_held, gained_held, lines_held, grown, FitsHeld}
 use Rattle.row_elimination.specs.Inside.{IsReduced}
 use Rattle.row_elimination.specs.Storage.{chunk}
-use Rattle.row_elimination.specs.Steps.{IsNew, Knows, Tells, Agrees, AgreesAll}
+use Rattle.row_elimination.specs.Steps.{IsNew, Knows, Tells, Agrees, AgreesAll, Reduced}
 use Rattle.row_elimination.specs.Grid.{Grid, SameRoom}
 use Rattle.row_elimination.specs.Held.{Held, IsMarked, line_for, equation_for, IsLeft, is_new_piece, Takes, Receives, Completes, Contradicts, Overflows}
 use Rattle.row_elimination.specs.Taking.{held_of, IsReady, IsZero, stage_after, FedAs, DecidedAs}
@@ -339,7 +339,7 @@ completes g now new n part sized held t reduced full places room parts =
 -- ---- as the code goes
 
 same_room : (a b c : Grid) → SameRoom a b → SameRoom b c → SameRoom a c
-same_room a b c h k = record { shape = k.shape ∙ h.shape; area = k.area ∙ h.area; lines = k.lines ∙ h.lines; parts = k.parts ∙ h.parts }
+same_room a b c h k = record { shape = k.shape ∙ h.shape; area = k.area ∙ h.area }
 
 -- what decides after a fragment was taken in
 pub decided : (answer : Fed) (g now new : Grid) (n : ℕ) (part : List ℕ) → length part ≡ g.shape.frag_size → IsReduced g.shape.nb_frag g.shape.frag_size g.places → 1 ≤ g.shape.frag_size
@@ -377,8 +377,6 @@ pub room_grown : (g now : Grid) (ps : List Place) → now ≡ record g { places 
 room_grown g now ps e = record {
   shape = ap (λ (x : Grid). x.shape) e;
   area = ap (λ (x : Grid). length x.area) e;
-  lines = ap (λ (x : Grid). x.lines) e;
-  parts = ap (λ (x : Grid). x.parts) e;
 }
 
 pub conflict_is : (g : Grid) (n i : ℕ) (part q : List ℕ) (l : ℕ) → l ≡ 0 → IsReady g n part l q → get_or q i 0 ≢ 0 → FedAs fed.Conflict (held_of stage.Receiving g) (held_of (stage_after fed.Conflict) g) n part
@@ -409,3 +407,17 @@ known_piece_is g now n part q l e h none le room places =
     let nb : now.shape.nb_frag ≡ g.shape.nb_frag = ap (λ (s : Shape). s.nb_frag) room.shape in
     let same : gained_held now.places ≡ gained_held g.places = ap gained_held places ∙ settled_gained g.shape g.places (n - 1) part known in
     (receives g now n part (takes_known_piece g now n (n - 1) part q ready none is le room places) held (omega (arith, size, h.some)) (omega (arith, same, nb, h.more)), held)
+
+-- a table that receives, and what was left of a fragment
+pub ready_reduced : (g : Grid) (n : ℕ) (part : List ℕ) (line l : ℕ) (q : List ℕ) → line ≡ line_of g.shape.nb_frag n → IsReduced g.shape.nb_frag g.shape.frag_size g.places
+    → rows_held g.places ≤ g.shape.rows → gained_held g.places < g.shape.nb_frag → 1 ≤ g.shape.frag_size → 1 ≤ n → IsPiece g.shape.frag_size part
+    → Reduced g.shape.nb_frag g.shape.frag_size g.places line part l q → IsReady g n part l q
+ready_reduced g n part line l q is held room more some first sized left = record {
+  held = held;
+  room = room;
+  more = more;
+  some = some;
+  first = first;
+  piece = sized;
+  left = subst (λ (m : ℕ). Reduced g.shape.nb_frag g.shape.frag_size g.places m part l q) is left;
+}

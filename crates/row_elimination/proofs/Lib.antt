@@ -1,14 +1,15 @@
 pub mod Agreeing
 pub mod Telling
+pub mod Lines
+pub mod Chunks
 pub mod Reducing
 pub mod Growing
 pub mod Blocks
 pub mod Counting
+pub mod Marking
 pub mod Settling
 pub mod Saying
 pub mod Standing
-pub mod Lines
-pub mod Chunks
 pub mod Storing
 pub mod Placing
 pub mod Slotting
@@ -16,5 +17,4 @@ pub mod Adding
 pub mod Gridding
 pub mod Answering
 pub mod Repeating
-pub mod Spreading
 pub mod Solving

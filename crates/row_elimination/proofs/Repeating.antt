@@ -16,7 +16,7 @@ use Rattle.row_elimination.specs.Inside.{IsReduced}
 use Rattle.row_elimination.specs.Steps.{Reduced, Tells}
 use Rattle.row_elimination.specs.Grid.{Grid, SameRoom}
 use Rattle.row_elimination.specs.Taking.{held_of, IsReady, stage_after, FedAs, DecidedAs}
-use Rattle.row_elimination.proofs.Reducing.{Reducing, reducing_begins, reducing_takes}
+use Rattle.row_elimination.proofs.Reducing.{taken_begins, taken_more}
 use Rattle.row_elimination.proofs.Settling.{unit_off}
 use Rattle.row_elimination.proofs.Gridding.{put_places, put_reduced}
 use Rattle.row_elimination.proofs.Answering.{number_piece, takes_new_piece, reduced_in, decided, conflict_is, known_piece_is}
@@ -24,7 +24,7 @@ use Rattle.row_elimination.proofs.Answering.{number_piece, takes_new_piece, redu
 -- nothing leads a free column: the line of its piece stays as it is
 reduced_free : (cols size k : ℕ) (ps : List Place) (part : List ℕ) → k < cols → get_or ps k free ≡ free → IsPiece size part → Reduced cols size ps (2 ^ k) part (2 ^ k) part
 reduced_free cols size k ps part lt none sized =
-    let begun = reducing_begins cols size ps (2 ^ k) part (pow-lt lt) sized in
+    let begun = taken_begins cols size ps (2 ^ k) part (pow-lt lt) sized in
     record {
       agrees = begun.agrees;
       sum = begun.sum;
@@ -40,15 +40,7 @@ unfolding told
 reduced_again cols size k ps part held t lt is sized =
     let e : Equation = record { line = 2 ^ k; part = held } in
     let tells : Tells ps k e = ap (told k) is in
-    let begun = reducing_begins cols size ps (2 ^ k) part (pow-lt lt) sized in
-    let at : Reducing cols size ps (2 ^ k) part k (2 ^ k) part = record {
-      agrees = begun.agrees;
-      sum = begun.sum;
-      clear = λ d f below u. bit_at-pow_other k d (λ same. absurd (omega arith));
-      within = begun.within;
-      piece = begun.piece;
-    } in
-    let after = reducing_takes cols size ps (2 ^ k) part k (2 ^ k) part e t tells (bit_at-pow_same k) at in
+    let after = taken_more cols size ps (2 ^ k) part k (2 ^ k) part e t tells (taken_begins cols size ps (2 ^ k) part (pow-lt lt) sized) in
     let none : bit_xor (2 ^ k) (2 ^ k) ≡ 0 = xor_self (2 ^ k) in
     let P : ℕ → Type 0 = λ l. Reduced cols size ps (2 ^ k) part l (xor_bytes part held) in
     subst P none (record {
@@ -96,7 +88,7 @@ pub again_is : (g : Grid) (n : ℕ) (part held : List ℕ) → IsReady g n part 
 again_is g n part held ready le before same =
     (known_piece_is g g n part (xor_bytes part held) 0 refl ready
     (λ i. get_or-xor_bytes part held i ∙ ap (λ (x : List ℕ). bit_xor (get_or part i 0) (get_or x i 0)) same ∙ xor_self (get_or part i 0))
-    le (record { shape = refl; area = refl; lines = refl; parts = refl })
+    le (record { shape = refl; area = refl })
     (sym (ap (λ p. set g.places (n - 1) p) (ap piece (sym same) ∙ sym before) ∙ set-get_or g.places (n - 1) free))).0
 
 -- two lists of one length that are not the same differ somewhere

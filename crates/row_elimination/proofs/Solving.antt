@@ -12,6 +12,7 @@ use Rattle.row_elimination.specs.Inside.{IsReduced}
 use Rattle.row_elimination.specs.Grid.{Grid, SameRoom}
 use Rattle.row_elimination.specs.Held.{Held, TwoFit, Receives, Completes, Contradicts, Overflows}
 use Rattle.row_elimination.specs.Taking.{held_of, stage_after, FedAs}
+use Rattle.row_arena.specs.Rows.{words_for as arena_words, has_room as has_arena_room}
 use Rattle.row_elimination.specs.Room.{words_for, has_room}
 use Rattle.row_elimination.specs.SolverInside.{IsSolver}
 use Rattle.row_elimination.proofs.Telling.{fits_from_agrees}
@@ -21,20 +22,14 @@ use Rattle.row_elimination.proofs.Gridding.{none_reduced, free_everywhere, gaine
 -- ---- room
 
 pub record Roomy (words bytes area nb size rows : ℕ) : Type 0 where
-  pub lines : rows * nb ≤ 64 * words
-  pub parts : rows * size ≤ bytes
+  pub arena : has_arena_room words bytes rows nb size ≡ true
   pub pieces : nb * size ≤ area
 
 pub roomy : (words bytes area nb size rows : ℕ) → has_room words bytes area nb size rows ≡ true → Roomy words bytes area nb size rows
-unfolding has_room words_for
+unfolding has_room words_for has_arena_room arena_words
 roomy words bytes area nb size rows h =
     let a = and_parts (nat_le (rows * ((nb + 63) / 64)) words && nat_le (rows * size) bytes) (nat_le (nb * size) area) h in
-    let b = and_parts (nat_le (rows * ((nb + 63) / 64)) words) (nat_le (rows * size) bytes) a.0 in
-    let enough : rows * nb ≤ rows * (64 * ((nb + 63) / 64)) = mul-le rows nb rows (64 * ((nb + 63) / 64)) (omega arith) (omega arith) in
-    let turned : rows * (64 * ((nb + 63) / 64)) ≡ 64 * (rows * ((nb + 63) / 64)) = mul_left_comm rows 64 ((nb + 63) / 64) in
-    let fits : rows * ((nb + 63) / 64) ≤ words = leb-true (rows * ((nb + 63) / 64)) words b.0 in
-    let times : 64 * (rows * ((nb + 63) / 64)) ≤ 64 * words = mul-le 64 (rows * ((nb + 63) / 64)) 64 words (omega arith) fits in
-    record { lines = omega (arith, enough, turned, times); parts = leb-true (rows * size) bytes b.1; pieces = leb-true (nb * size) area a.1 }
+    record { arena = a.0; pieces = leb-true (nb * size) area a.1 }
 
 -- ---- a solver that has just begun
 
@@ -73,15 +68,15 @@ unfolding FedAs
 fed_contradicts answer old new n part h e = subst (λ a. FedAs a old new n part) e h
 
 -- the fields afterwards
-pub still_solver : (words bytes : ℕ) (g new : Grid) (answer : Fed) (line line' : List Bool) (part part' : List ℕ) → IsSolver words bytes g stage.Receiving line part → SameRoom g new
-    → length line' ≡ length line → length part' ≡ length part → (answer ≡ fed.Receiving → gained_held new.places < new.shape.nb_frag) → IsSolver words bytes new (stage_after answer) line' part'
-still_solver words bytes g new answer line line' part part' h room l p more =
+pub still_solver : (g new : Grid) (answer : Fed) (line line' picks picks' part part' : List ℕ) → IsSolver g stage.Receiving line picks part → SameRoom g new
+    → length line' ≡ length line → length picks' ≡ length picks → length part' ≡ length part → (answer ≡ fed.Receiving → gained_held new.places < new.shape.nb_frag)
+    → IsSolver new (stage_after answer) line' picks' part'
+still_solver g new answer line line' picks picks' part part' h room l k p more =
     let nb : new.shape.nb_frag ≡ g.shape.nb_frag = ap (λ (s : Shape). s.nb_frag) room.shape in
     let size : new.shape.frag_size ≡ g.shape.frag_size = ap (λ (s : Shape). s.frag_size) room.shape in
     record {
-      lines = room.lines ∙ h.lines;
-      parts = room.parts ∙ h.parts;
       line_sized = l ∙ h.line_sized;
+      picks_sized = k ∙ h.picks_sized;
       part_sized = p ∙ h.part_sized;
       most = omega (arith, nb, h.most);
       small = omega (arith, size, h.small);

@@ -1,38 +1,46 @@
 -- The table as a value, and what its fields keep true.
-use Rattle.std.specs.Prelude.{◌≡◌, ℕ, ◌*◌, ◌<◌, ◌≤◌, ◌^◌, Bool, List, length, take}
+use Rattle.std.specs.Prelude.{◌≡◌, ℕ, ◌*◌, ◌<◌, ◌≤◌, ◌^◌, List, length, take}
 use Rattle.frag_model.specs.Fragments.{Shape}
+use Rattle.frag_model.specs.Limits.{max_pieces}
+use Rattle.row_arena.specs.Limits.{max_bytes, max_words}
+use Rattle.row_arena.specs.Rows.{Arena, line_in, words_for}
 use Rattle.row_elimination.specs.declared.columns.Column.{Column}
 use Rattle.row_elimination.specs.Places.{Place, rows_held, gained_held}
-use Rattle.row_elimination.specs.Inside.{IsReduced}
+use Rattle.row_elimination.specs.Inside.{IsReduced, Marks}
+use Rattle.row_elimination.specs.Room.{max_line_words}
 use Rattle.row_elimination.specs.Storage.{places_in, Slots}
-use Rattle.frag_model.specs.Limits.{max_pieces}
 
--- what is held, the bytes of the area, and how many coefficients and bytes the slots have in all
+-- what is held, and the bytes of the area
 pub record Grid : Type 0 where
   pub shape : Shape
   pub places : List Place
   pub area : List ℕ
-  pub lines : ℕ
-  pub parts : ℕ
 
 -- the fields of a table
-pub record IsGrid (nb_frag size rows count gained : ℕ) (columns : List Column) (spare area : List ℕ) (coefs : List Bool) (cells : List ℕ) : Type 0 where
+pub record IsGrid (nb_frag size rows count gained : ℕ) (columns : List Column) (spare known area : List ℕ) (arena : Arena) : Type 0 where
   pub most : nb_frag ≤ max_pieces
   pub few : rows ≤ nb_frag
   pub columns_sized : length columns ≡ max_pieces
   pub spare_sized : length spare ≡ max_pieces
+  pub known_sized : length known ≡ max_line_words
   pub area_sized : length area < 2 ^ 32
   pub room_area : nb_frag * size ≤ length area
-  pub room_lines : rows * nb_frag ≤ length coefs
-  pub room_parts : rows * size ≤ length cells
+  pub arena_cols : arena.cols ≡ nb_frag
+  pub arena_cell : arena.cell ≡ size
+  pub arena_rows : length arena.rows ≡ rows
   pub slots : Slots (take nb_frag columns) spare rows count
-  pub reduced : IsReduced nb_frag size (places_in nb_frag size area coefs cells (take nb_frag columns))
-  pub counted : count ≡ rows_held (places_in nb_frag size area coefs cells (take nb_frag columns))
-  pub gained_all : gained ≡ gained_held (places_in nb_frag size area coefs cells (take nb_frag columns))
+  pub reduced : IsReduced nb_frag size (places_in size area arena (take nb_frag columns))
+  pub marks : Marks (line_in (take (words_for nb_frag) known)) (places_in size area arena (take nb_frag columns))
+  pub counted : count ≡ rows_held (places_in size area arena (take nb_frag columns))
+  pub gained_all : gained ≡ gained_held (places_in size area arena (take nb_frag columns))
+
+-- the same, of a table whose rows have so many words and bytes in all
+pub record IsTable (words bytes nb_frag size rows count gained : ℕ) (columns : List Column) (spare known area : List ℕ) (arena : Arena) : Type 0 where
+  pub words_few : words ≤ max_words
+  pub bytes_few : bytes ≤ max_bytes
+  pub grid : IsGrid nb_frag size rows count gained columns spare known area arena
 
 -- the storage itself stays
 pub record SameRoom (old new : Grid) : Type 0 where
   pub shape : new.shape ≡ old.shape
   pub area : length new.area ≡ length old.area
-  pub lines : new.lines ≡ old.lines
-  pub parts : new.parts ≡ old.parts

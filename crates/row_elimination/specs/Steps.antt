@@ -1,11 +1,16 @@
 -- What the steps of taking a fragment in ask of each other.
-use Rattle.std.specs.Prelude.{◌≡◌, ℕ, ◌^◌, ◌<◌, List, get_or, Some, bit_xor}
+use Rattle.std.specs.Prelude.{◌≡◌, ◌≢◌, ℕ, ◌^◌, ◌<◌, List, length, get_or, Some, bit_xor}
+use Rattle.std.specs.Simd.Lanes.{zip2}
 use Rattle.std.specs.Int.{bit_at}
 use Rattle.frag_model.specs.Fragments.{Shape, Equation, IsPiece, xor_bytes}
 use Rattle.frag_model.proofs.Parts.{byte_at}
 use Rattle.frag_model.proofs.Tables.{IsSum}
+use Rattle.row_arena.specs.Rows.{Arena, row_at}
+use Rattle.row_elimination.specs.declared.columns.Column.{Column}
+use Rattle.row_elimination.specs.declared.columns.Column.TheVariants.{Row}
 use Rattle.row_elimination.specs.Places.{Place, free, told, lines_held}
 use Rattle.row_elimination.specs.Inside.{IsReduced}
+use Rattle.row_elimination.specs.Storage.{places_in}
 
 -- byte by byte, the pieces at the line's columns add up to the part
 abbrev pub Agrees : List (List ℕ) → ℕ → List ℕ → Type 0
@@ -18,6 +23,13 @@ Tells ps c e = told c (get_or ps c free) ≡ Some e
 -- the block agrees with each equation held
 abbrev pub AgreesAll : List (List ℕ) → List Place → Type 0
 AgreesAll b ps = (c : ℕ) (e : Equation) → Tells ps c e → Agrees b e.line e.part
+
+-- some of the equations held were taken out of an equation: what was added is a sum, with which every fitting block agrees
+pub record Taken (cols size : ℕ) (ps : List Place) (line : ℕ) (part : List ℕ) (l : ℕ) (q : List ℕ) : Type 0 where
+  pub agrees : (b : List (List ℕ)) → AgreesAll b ps → Agrees b (bit_xor l line) (xor_bytes q part)
+  pub sum : IsSum (bit_xor l line) (lines_held ps)
+  pub within : l < 2 ^ cols
+  pub piece : IsPiece size q
 
 -- an equation reduced by all columns: what was added is a sum, with which every fitting block agrees
 pub record Reduced (cols size : ℕ) (ps : List Place) (line : ℕ) (part : List ℕ) (l : ℕ) (q : List ℕ) : Type 0 where
@@ -43,3 +55,13 @@ pub record Knows (shape : Shape) (ps : List Place) (k : ℕ) (part : List ℕ) :
   pub sum : IsSum (2 ^ k) (lines_held ps)
   pub agrees : (b : List (List ℕ)) → AgreesAll b ps → Agrees b (2 ^ k) part
   pub piece : IsPiece shape.frag_size part
+
+-- the row of a column, if it leads one, was added to an equation
+pub record TakesRow (arena : Arena) (column : Column) (l : ℕ) (q : List ℕ) (l' : ℕ) (q' : List ℕ) : Type 0 where
+  pub none : ((slot : ℕ) → column ≢ Row slot) → (l' ≡ l) × (q' ≡ q)
+  pub row : (slot : ℕ) → column ≡ Row slot → (l' ≡ bit_xor l (row_at arena slot).line) × (q' ≡ zip2 bit_xor q (row_at arena slot).part)
+
+-- of an equation of which all pieces were taken out, all rows were too
+pub record TakesRows (size : ℕ) (arena : Arena) (os : List Column) (l : ℕ) (q : List ℕ) (l' : ℕ) (q' : List ℕ) : Type 0 where
+  pub reduces : (area : List ℕ) (y : ℕ) (part : List ℕ) → IsReduced (length os) size (places_in size area arena os)
+      → Taken (length os) size (places_in size area arena os) y part l q → Reduced (length os) size (places_in size area arena os) y part l' q'

@@ -1,119 +1,139 @@
-//! The passes over all columns: taking the columns that lead out of an equation, and a new row's column out of the rows.
+//! Taking the columns that lead out of an equation, and a new row's column out of the rows.
 
-ghost use Rattle.std.specs.Prelude.{◌≡◌, ◌≢◌, ℕ, ◌+◌, ◌*◌, ◌<◌, ◌≤◌, ◌^◌, length, get_or, true, false, All, List};
+ghost use Rattle.std.specs.Prelude.{◌≡◌, ◌≢◌, ℕ, List, ◌+◌, ◌*◌, ◌<◌, ◌≤◌, ◌^◌, length, take, get_or, slice_index};
+ghost use Rattle.std.specs.Int.{bit_at};
 ghost use Rattle.frag_model.specs.Fragments.{IsPiece};
-ghost use Rattle.frag_model.specs.Parity.{number_of};
-ghost use Rattle.row_elimination.specs.Places.{all_cleared};
-ghost use Rattle.row_elimination.specs.Inside.{IsReduced};
-ghost use Rattle.row_elimination.specs.Storage.{place_in, places_in, IsStored, TakesOut, Clears};
-ghost use Rattle.row_elimination.specs.Steps.{Reduced};
+ghost use Rattle.row_arena.specs.Rows.{line_in, words_for};
+ghost use Rattle.row_arena.specs.Sums.{after_flips};
+ghost use Rattle.row_elimination.specs.Inside.{IsReduced, Marks};
+ghost use Rattle.row_elimination.specs.Storage.{places_in, IsStored, IsRowOf, Clears, ClearsAll};
+ghost use Rattle.row_elimination.specs.Steps.{Reduced, TakesRow, TakesRows};
 
-use crate::bytes::{chunk, xor_bytes, xor_bytes_at, xor_line, xor_line_at};
 use crate::columns::Column;
+use row_arena::{RowArena, pick, sum_pieces, xor_bytes, xor_words};
 
-/// Takes out of an equation all columns of which a piece or a row is kept.
-pub fn reduce(
+/// The most words of a line.
+const LINE_WORDS: usize = 16;
+
+/// Takes out of a line, and out of the bytes `part`, all columns of which a piece or a row is kept, and writes what is left
+/// of the bytes over `rest`. `known` has the columns of which a piece is kept, and `picks` room for the columns of a line.
+pub fn reduce<const W: usize, const B: usize>(
     columns: &[Column],
     area: &[u8],
-    coefs: &[bool],
-    cells: &[u8],
-    line: &mut [bool],
-    part: &mut [u8],
+    known: &[u64],
+    arena: &RowArena<W, B>,
+    line: &mut [u64],
+    picks: &mut [u16],
+    part: &[u8],
+    rest: &mut [u8],
 )
-    requires stored { IsStored (length line.old) (length part.old) coefs.now cells.now columns.now }
-    requires room { length line.old * length part.old ≤ length area.now }
-    requires reduced { IsReduced (length line.old) (length part.old) (places_in (length line.old) (length part.old) area.now coefs.now cells.now columns.now) }
-    requires piece { IsPiece (length part.old) part.old }
-    ensures { Reduced (length line.old) (length part.old) (places_in (length line.old) (length part.old) area.now coefs.now cells.now columns.now)
-        (number_of line.old) part.old (number_of line.new) part.new }
+    requires stored { IsStored (length part.now) arena.now columns.now }
+    requires marks { Marks (line_in known.now) (places_in (length part.now) area.now arena.now columns.now) }
+    requires room { length columns.now * length part.now ≤ length area.now }
+    requires reduced { IsReduced (length columns.now) (length part.now) (places_in (length part.now) area.now arena.now columns.now) }
+    requires piece { IsPiece (length part.now) part.now }
+    requires words { length line.old ≡ words_for (length columns.now) }
+    requires same { length line.old ≡ length known.now }
+    requires few { length line.old ≤ 16 }
+    requires within { line_in line.old < 2 ^ length columns.now }
+    requires picks { 1024 ≤ length picks.old }
+    requires sized { length rest.old ≡ length part.now }
+    ensures { Reduced (length columns.now) (length part.now) (places_in (length part.now) area.now arena.now columns.now)
+        (line_in line.old) part.now (line_in line.new) rest.new }
 {
-    for c in 0..columns.len() {
-        if line[c] {
-            take_out(columns[c], c, area, coefs, cells, line, part);
-        }
-    }
+    let count = pick(line, known, picks);
+    sum_pieces(area, &picks[..count], part, rest);
+    take_rows(columns, arena, line, picks, rest);
 }
 
-/// Takes one column, which the line has, out of an equation, where something is kept of it.
-fn take_out(
-    column: Column,
-    c: usize,
-    area: &[u8],
-    coefs: &[bool],
-    cells: &[u8],
-    line: &mut [bool],
-    part: &mut [u8],
-)
-    requires inside { c < length line.old }
-    requires has { get_or line.old c false ≡ true }
-    requires room { length line.old * length part.old ≤ length area.now }
-    requires lines { (slot : ℕ) → column ≡ Column.Row slot → slot * length line.old + length line.old ≤ length coefs.now }
-    requires parts { (slot : ℕ) → column ≡ Column.Row slot → slot * length part.old + length part.old ≤ length cells.now }
-    ensures { TakesOut c (place_in (length line.old) (length part.old) area.now coefs.now cells.now c column) (number_of line.old) part.old (number_of line.new) part.new }
-{
-    match column {
-        Column::Free => {}
-        Column::Piece => {
-            line[c] = false;
-            xor_bytes(part, chunk(area, c, part.len()));
-        }
-        Column::Row(slot) => {
-            xor_line(line, chunk(coefs, slot as usize, line.len()));
-            xor_bytes(part, chunk(cells, slot as usize, part.len()));
-        }
-    }
-}
-
-/// Adds a new row to each row that has its column `p`.
-pub fn clear(
+/// Takes out of an equation, which has no column of which a piece is kept, all columns that lead rows.
+fn take_rows<const W: usize, const B: usize>(
     columns: &[Column],
-    coefs: &mut [bool],
-    cells: &mut [u8],
-    p: usize,
-    line: &[bool],
-    part: &[u8],
+    arena: &RowArena<W, B>,
+    line: &mut [u64],
+    picks: &mut [u16],
+    rest: &mut [u8],
 )
-    requires inside { p < length line.now }
-    requires stored { IsStored (length line.now) (length part.now) coefs.old cells.old columns.now }
-    ensures { (area : List ℕ) → places_in (length line.now) (length part.now) area coefs.new cells.new columns.now ≡
-        all_cleared p (number_of line.now) part.now (places_in (length line.now) (length part.now) area coefs.old cells.old columns.now) }
+    requires stored { IsStored (length rest.old) arena.now columns.now }
+    requires words { length line.old ≡ words_for (length columns.now) }
+    requires few { length line.old ≤ 16 }
+    requires within { line_in line.old < 2 ^ length columns.now }
+    requires none { (c : ℕ) → get_or columns.now c Column.Free ≡ Column.Piece → bit_at (line_in line.old) c ≡ 0 }
+    requires picks { 1024 ≤ length picks.old }
+    ensures { TakesRows (length rest.old) arena.now columns.now (line_in line.old) rest.old (line_in line.new) rest.new }
 {
-    for c in 0..columns.len() {
-        clear_column(columns[c], coefs, cells, p, line, part);
+    let count = list_bits(line, picks);
+    for n in 0..count {
+        take_row(columns[picks[n] as usize], arena, line, rest);
     }
 }
 
-/// Adds a new row to the row of one column, if there is one and it has the column `p`.
-fn clear_column(
+/// Takes the row of a column, if it leads one, out of an equation.
+fn take_row<const W: usize, const B: usize>(
     column: Column,
-    coefs: &mut [bool],
-    cells: &mut [u8],
-    p: usize,
-    line: &[bool],
-    part: &[u8],
+    arena: &RowArena<W, B>,
+    line: &mut [u64],
+    rest: &mut [u8],
 )
-    requires inside { p < length line.now }
-    requires lines { (slot : ℕ) → column ≡ Column.Row slot → slot * length line.now + length line.now ≤ length coefs.old }
-    requires parts { (slot : ℕ) → column ≡ Column.Row slot → slot * length part.now + length part.now ≤ length cells.old }
-    ensures { Clears (length line.now) (length part.now) column p (number_of line.now) part.now coefs.old coefs.new cells.old cells.new }
+    requires rows { (slot : ℕ) → column ≡ Column.Row slot → slot < length arena.now.rows }
+    requires words { length line.old ≡ words_for arena.now.cols }
+    requires part { length rest.old ≡ arena.now.cell }
+    ensures { TakesRow arena.now column (line_in line.old) rest.old (line_in line.new) rest.new }
 {
     match column {
         Column::Free => {}
         Column::Piece => {}
-        Column::Row(slot) => clear_row(coefs, cells, slot, p, line, part),
+        Column::Row(slot) => {
+            xor_words(line, arena.words(slot));
+            xor_bytes(rest, arena.bytes(slot));
+        }
+    }
+}
+
+/// Lists the columns of a line of at most 16 words in front of `picks`, and says how many there are.
+fn list_bits(line: &[u64], picks: &mut [u16]) -> usize
+    requires few { length line.now ≤ 16 }
+    requires picks { 1024 ≤ length picks.old }
+    ensures listed { (c : ℕ) → bit_at (after_flips (line_in line.now) (take result picks.new)) c ≡ 0 }
+    ensures columns { (n : ℕ) → n < result → bit_at (line_in line.now) (slice_index picks.new n) ≡ 1 }
+    ensures few { result ≤ length picks.new }
+{
+    let mut left = [0; LINE_WORDS];
+    let left = &mut left[..line.len()];
+    left.copy_from_slice(line);
+    pick(left, line, picks)
+}
+
+/// Adds a new row to each row that has its column `p`.
+pub fn clear<const W: usize, const B: usize>(
+    arena: &mut RowArena<W, B>,
+    p: u16,
+    line: &[u64],
+    part: &[u8],
+)
+    requires inside { p < arena.old.cols }
+    requires new { IsRowOf arena.old line.now part.now }
+    ensures { ClearsAll p (line_in line.now) part.now arena.old arena.new }
+{
+    for s in 0..arena.rows() {
+        clear_row(arena, s, p, line, part);
     }
 }
 
 /// Adds a new row to the row in a slot, where that has the column `p`.
-fn clear_row(coefs: &mut [bool], cells: &mut [u8], slot: u16, p: usize, line: &[bool], part: &[u8])
-    requires inside { p < length line.now }
-    requires lines { slot * length line.now + length line.now ≤ length coefs.old }
-    requires parts { slot * length part.now + length part.now ≤ length cells.old }
-    ensures { Clears (length line.now) (length part.now) (Column.Row slot) p (number_of line.now) part.now coefs.old coefs.new cells.old cells.new }
+fn clear_row<const W: usize, const B: usize>(
+    arena: &mut RowArena<W, B>,
+    slot: u16,
+    p: u16,
+    line: &[u64],
+    part: &[u8],
+)
+    requires slot { slot < length arena.old.rows }
+    requires inside { p < arena.old.cols }
+    requires new { IsRowOf arena.old line.now part.now }
+    ensures { Clears slot p (line_in line.now) part.now arena.old arena.new }
 {
-    let slot = slot as usize;
-    if coefs[slot * line.len() + p] {
-        xor_line_at(coefs, slot, line);
-        xor_bytes_at(cells, slot, part);
+    if arena.bit(slot, p) {
+        arena.add_to_row(slot, line, part);
     }
 }

@@ -8,7 +8,7 @@ ghost use Rattle.row_elimination.specs.Taking.{stage_after};
 ghost use Rattle.frag_model.specs.Limits.{max_frag_size, max_parity_index, max_pieces};
 
 use crate::stages::{Fed, Stage};
-use crate::tables::{MAX_PIECES, Table};
+use crate::tables::{LINE_WORDS, MAX_PIECES, Table};
 use crate::taking::take;
 use std::alloc::Global;
 use std::marker::Model;
@@ -28,8 +28,9 @@ pub struct NoRoom;
 /// rows, and an area for the pieces. A contract sees what it holds of each column.
 #[derive(Drop)]
 pub struct Solver<const W: usize, const B: usize> {
-    table: Table,
-    line: Vec<bool>,
+    table: Table<W, B>,
+    line: Vec<u64>,
+    picks: Vec<u16>,
     part: Vec<u8>,
     stage: Stage,
 }
@@ -43,7 +44,7 @@ impl<const W: usize, const B: usize> Model for Solver<W, B> {
 
     ghost view = { λ s. held_of s.stage s.table };
 
-    ghost invariant = { λ s. IsSolver W B s.table s.stage s.line.items s.part.items };
+    ghost invariant = { λ s. IsSolver s.table s.stage s.line.items s.picks.items s.part.items };
 }
 
 impl<const W: usize, const B: usize> Solver<W, B> {
@@ -53,10 +54,13 @@ impl<const W: usize, const B: usize> Solver<W, B> {
         requires bytes { B ≤ 61184 }
         ensures { IfOk result (λ solver. (solver.stage ≡ Stage.Idle) × (solver.area ≡ area)) }
     {
-        let Ok(table) = Table::new(alloc, area, 64 * W, B) else {
+        let Ok(table) = Table::new(alloc, area) else {
             return Err(Memory);
         };
-        let Ok(line) = vec![in alloc; false; MAX_PIECES] else {
+        let Ok(line) = vec![in alloc; 0u64; LINE_WORDS] else {
+            return Err(Memory);
+        };
+        let Ok(picks) = vec![in alloc; 0u16; MAX_PIECES] else {
             return Err(Memory);
         };
         let Ok(part) = vec![in alloc; 0u8; MAX_FRAG_SIZE] else {
@@ -65,6 +69,7 @@ impl<const W: usize, const B: usize> Solver<W, B> {
         Ok(Solver {
             table,
             line,
+            picks,
             part,
             stage: Stage::Idle,
         })
@@ -126,7 +131,14 @@ impl<const W: usize, const B: usize> Solver<W, B> {
         ensures conflict { result ≡ Fed.Conflict → Contradicts self.old self.new n part.now }
         ensures area { self.new.area ≡ self.old.area }
     {
-        let fed = take(&mut self.table, n, part, &mut self.line, &mut self.part);
+        let fed = take(
+            &mut self.table,
+            n,
+            part,
+            &mut self.line,
+            &mut self.picks,
+            &mut self.part,
+        );
         self.stage = stage_after(fed);
         fed
     }

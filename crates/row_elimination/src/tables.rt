@@ -1,29 +1,35 @@
 //! The table of all that is held: pieces in their area, and the rows in slots.
 
-ghost use Rattle.std.specs.Prelude.{◌≡◌, ◌≢◌, ℕ, ◌+◌, ◌-◌, ◌*◌, ◌<◌, ◌≤◌, ◌==◌, length, get_or, set, replicate, take, false, IfOk, MatchOption, nat_le};
+ghost use Rattle.std.specs.Prelude.{◌≡◌, ◌≢◌, ℕ, ◌+◌, ◌-◌, ◌*◌, ◌<◌, ◌≤◌, ◌==◌, length, get_or, set, replicate, take, true, false, IfOk, bit_xor, ◌^◌, MatchOption, nat_le};
 ghost use Rattle.frag_model.specs.Fragments.{Equation, IsPiece};
-ghost use Rattle.frag_model.specs.Parity.{number_of};
+ghost use Rattle.row_arena.specs.Limits.{max_bytes, max_words};
+ghost use Rattle.row_arena.specs.Rows.{has_room, line_in, words_for};
 ghost use Rattle.row_elimination.specs.Places.{free, piece as known, is_piece, grown, rows_held, gained_held};
 ghost use Rattle.row_elimination.specs.Inside.{IsReduced};
 ghost use Rattle.row_elimination.specs.Storage.{chunk};
 ghost use Rattle.row_elimination.specs.Steps.{Reduced, IsNew, Knows, Tells};
 ghost use Rattle.row_elimination.specs.Grid.{Grid, SameRoom};
 ghost use Rattle.frag_model.specs.Limits.{max_pieces};
+ghost use Rattle.row_elimination.specs.Room.{max_line_words};
 
 use crate::additions::{add_piece, add_piece_and_row, add_row};
 use crate::bytes::chunk;
 use crate::columns::Column;
 use crate::entries::put_parts;
 use crate::passes::reduce;
+use row_arena::{RowArena, clear_bits, flip_bit, words_for};
 use std::alloc::{AllocError, Global};
 use std::marker::Model;
 
 /// The most pieces of a file.
 pub const MAX_PIECES: usize = 1024;
 
-/// All that is held of a file: a piece, a row or nothing for each of its columns.
+/// How many words of 64 columns the line of the largest file takes.
+pub const LINE_WORDS: usize = 16;
+
+/// All that is held of a file: a piece, a row or nothing for each of its columns. Rows have `W` words and `B` bytes in all.
 #[derive(Drop)]
-pub struct Table {
+pub struct Table<const W: usize, const B: usize> {
     nb_frag: u16,
     frag_size: u8,
     rows: u16,
@@ -31,34 +37,33 @@ pub struct Table {
     gained: u16,
     columns: Vec<Column>,
     spare: Vec<u16>,
+    known: Vec<u64>,
     area: Vec<u8>,
-    coefs: Vec<bool>,
-    cells: Vec<u8>,
+    arena: Box<RowArena<W, B>>,
 }
 
-impl Model for Table {
-    ghost use Rattle.std.specs.Prelude.{length, take};
-    ghost use Rattle.row_elimination.specs.Grid.{Grid, IsGrid};
+impl<const W: usize, const B: usize> Model for Table<W, B> {
+    ghost use Rattle.std.specs.Prelude.{take};
+    ghost use Rattle.row_elimination.specs.Grid.{Grid, IsTable};
     ghost use Rattle.row_elimination.specs.Storage.{places_in};
 
     ghost Value = { Grid };
 
     ghost view = { λ t. record {
       shape = record { nb_frag = t.nb_frag; frag_size = t.frag_size; rows = t.rows };
-      places = places_in t.nb_frag t.frag_size t.area.items t.coefs.items t.cells.items (take t.nb_frag t.columns.items);
+      places = places_in t.frag_size t.area.items t.arena.value (take t.nb_frag t.columns.items);
       area = t.area.items;
-      lines = length t.coefs.items;
-      parts = length t.cells.items;
     } };
 
-    ghost invariant = { λ t. IsGrid t.nb_frag t.frag_size t.rows t.count t.gained t.columns.items t.spare.items t.area.items t.coefs.items t.cells.items };
+    ghost invariant = { λ t. IsTable W B t.nb_frag t.frag_size t.rows t.count t.gained t.columns.items t.spare.items t.known.items t.area.items t.arena.value };
 }
 
-impl Table {
-    /// A table for no file yet, with an area of so many bytes and so many coefficients and bytes for rows.
-    pub fn new(alloc: Global, area: u32, lines: usize, parts: usize) -> Result<Table, AllocError>
+impl<const W: usize, const B: usize> Table<W, B> {
+    /// A table for no file yet, with an area of so many bytes.
+    pub fn new(alloc: Global, area: u32) -> Result<Table<W, B>, AllocError>
+        requires words { W ≤ max_words }
+        requires bytes { B ≤ max_bytes }
         ensures area { IfOk result (λ table. length table.area ≡ area) }
-        ensures room { IfOk result (λ table. (table.lines ≡ lines) × (table.parts ≡ parts)) }
         ensures shape { IfOk result (λ table. table.shape ≡ record { nb_frag = 0; frag_size = 0; rows = 0 }) }
     {
         Ok(Table {
@@ -69,9 +74,9 @@ impl Table {
             gained: 0,
             columns: vec![in alloc; Column::Free; MAX_PIECES]?,
             spare: vec![in alloc; 0; MAX_PIECES]?,
+            known: vec![in alloc; 0; LINE_WORDS]?,
             area: vec![in alloc; 0; area as usize]?,
-            coefs: vec![in alloc; false; lines]?,
-            cells: vec![in alloc; 0; parts]?,
+            arena: Box::new(alloc, RowArena::new())?,
         })
     }
 
@@ -138,32 +143,52 @@ impl Table {
         self.count == 0
     }
 
-    /// Takes out of an equation all columns of which something is held.
-    pub fn reduce(&self, line: &mut [bool], part: &mut [u8])
-        requires columns { length line.old ≡ self.now.shape.nb_frag }
-        requires sized { length part.old ≡ self.now.shape.frag_size }
-        requires piece { IsPiece (length part.old) part.old }
-        ensures left { Reduced self.now.shape.nb_frag self.now.shape.frag_size self.now.places (number_of line.old) part.old (number_of line.new) part.new }
+    /// How many words of 64 columns a line of the file takes.
+    pub fn width(&self) -> usize
+        ensures value { result ≡ words_for self.now.shape.nb_frag }
+        ensures few { result ≤ max_line_words }
+    {
+        words_for(self.nb_frag)
+    }
+
+    /// Takes out of a line, and out of the bytes `part`, all columns of which something is held, and writes what is left of
+    /// the bytes over `rest`. `picks` is room for the columns of a line.
+    pub fn reduce(&self, line: &mut [u64], picks: &mut [u16], part: &[u8], rest: &mut [u8])
+        requires words { length line.old ≡ words_for self.now.shape.nb_frag }
+        requires within { line_in line.old < 2 ^ self.now.shape.nb_frag }
+        requires picks { max_pieces ≤ length picks.old }
+        requires sized { length rest.old ≡ length part.now }
+        requires piece { IsPiece self.now.shape.frag_size part.now }
+        ensures left { Reduced self.now.shape.nb_frag self.now.shape.frag_size self.now.places (line_in line.old) part.now (line_in line.new) rest.new }
         ensures held { IsReduced self.now.shape.nb_frag self.now.shape.frag_size self.now.places }
         ensures room { rows_held self.now.places ≤ self.now.shape.rows }
     {
         let columns = &self.columns[..self.nb_frag as usize];
-        reduce(columns, &self.area, &self.coefs, &self.cells, line, part);
+        let known = &self.known[..line.len()];
+        reduce(
+            columns,
+            &self.area,
+            known,
+            &self.arena,
+            line,
+            picks,
+            part,
+            rest,
+        );
     }
 
     /// Takes in a new row, which its column `p` leads.
-    pub fn push(&mut self, p: usize, line: &[bool], part: &[u8])
-        requires columns { length line.now ≡ self.old.shape.nb_frag }
+    pub fn push(&mut self, p: u16, line: &[u64], part: &[u8])
+        requires words { length line.now ≡ words_for self.old.shape.nb_frag }
         requires sized { length part.now ≡ self.old.shape.frag_size }
-        requires new { IsNew self.old.shape.nb_frag self.old.shape.frag_size self.old.places p (number_of line.now) part.now }
+        requires new { IsNew self.old.shape.nb_frag self.old.shape.frag_size self.old.places p (line_in line.now) part.now }
         requires room { rows_held self.old.places < self.old.shape.rows }
-        ensures { self.new ≡ record self.old { places = grown p (number_of line.now) part.now self.old.places } }
+        ensures { self.new ≡ record self.old { places = grown p (line_in line.now) part.now self.old.places } }
     {
         let slot = self.spare[self.count as usize];
         add_row(
             &mut self.columns,
-            &mut self.coefs,
-            &mut self.cells,
+            &mut self.arena,
             slot,
             p,
             line,
@@ -189,31 +214,32 @@ impl Table {
             k,
             piece,
         );
+        mark(&mut self.known, self.nb_frag, k);
         self.gained += 1;
     }
 
     /// Takes in a piece and a new row that column `p` leads, which is the piece itself or takes the place of the row that
     /// the piece's column led.
-    pub fn learn(&mut self, k: usize, piece: &[u8], p: usize, line: &[bool], part: &[u8])
-        requires columns { length line.now ≡ self.old.shape.nb_frag }
+    pub fn learn(&mut self, k: usize, piece: &[u8], p: u16, line: &[u64], part: &[u8])
+        requires words { length line.now ≡ words_for self.old.shape.nb_frag }
         requires sized { length part.now ≡ self.old.shape.frag_size }
-        requires new { IsNew self.old.shape.nb_frag self.old.shape.frag_size self.old.places p (number_of line.now) part.now }
-        requires known { Knows self.old.shape (grown p (number_of line.now) part.now self.old.places) k piece.now }
+        requires new { IsNew self.old.shape.nb_frag self.old.shape.frag_size self.old.places p (line_in line.now) part.now }
+        requires known { Knows self.old.shape (grown p (line_in line.now) part.now self.old.places) k piece.now }
         requires fresh { is_piece (get_or self.old.places k free) ≡ false }
-        ensures places { self.new.places ≡ set (grown p (number_of line.now) part.now self.old.places) k (known piece.now) }
+        ensures places { self.new.places ≡ set (grown p (line_in line.now) part.now self.old.places) k (known piece.now) }
         ensures room { SameRoom self.old self.new }
     {
         add_piece_and_row(
             &mut self.columns,
             &mut self.area,
-            &mut self.coefs,
-            &mut self.cells,
+            &mut self.arena,
             k,
             piece,
             p,
             line,
             part,
         );
+        mark(&mut self.known, self.nb_frag, k);
         self.gained += 1;
     }
 
@@ -231,6 +257,7 @@ impl Table {
                 k,
                 piece,
             );
+            mark(&mut self.known, self.nb_frag, k);
             self.count -= 1;
             self.spare[self.count as usize] = slot;
         }
@@ -243,12 +270,7 @@ impl Table {
         ensures room { SameRoom self.old self.new }
     {
         let columns = &self.columns[..self.nb_frag as usize];
-        put_parts(
-            columns,
-            &mut self.area,
-            &self.cells,
-            self.frag_size as usize,
-        );
+        put_parts(columns, &mut self.area, &self.arena);
     }
 
     /// Holds nothing any more, and takes fragments of another file.
@@ -256,12 +278,13 @@ impl Table {
         requires most { nb_frag ≤ max_pieces }
         requires few { rows ≤ nb_frag }
         requires area { nb_frag * frag_size ≤ length self.old.area }
-        requires lines { rows * nb_frag ≤ self.old.lines }
-        requires parts { rows * frag_size ≤ self.old.parts }
+        requires room { has_room W B rows nb_frag frag_size ≡ true }
         ensures { self.new ≡ record self.old { shape = record { nb_frag = nb_frag; frag_size = frag_size; rows = rows }; places = replicate nb_frag free } }
     {
         free_all(&mut self.columns);
         count_up(&mut self.spare);
+        clear_bits(&mut self.known);
+        let _ = self.arena.shape(rows, nb_frag, frag_size);
         self.nb_frag = nb_frag;
         self.frag_size = frag_size;
         self.rows = rows;
@@ -287,4 +310,13 @@ fn count_up(spare: &mut [u16])
     for i in 0..spare.len() {
         spare[i] = i as u16;
     }
+}
+
+/// Marks column `k` of a line, which does not have it, among the words that a line of so many columns takes.
+fn mark(known: &mut [u64], cols: u16, k: usize)
+    requires words { words_for cols ≤ length known.old }
+    requires inside { k < cols }
+    ensures { line_in (take (words_for cols) known.new) ≡ bit_xor (line_in (take (words_for cols) known.old)) (2 ^ k) }
+{
+    flip_bit(&mut known[..words_for(cols)], k);
 }

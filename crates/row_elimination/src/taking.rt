@@ -1,8 +1,9 @@
 //! Taking one fragment into a table.
 
 ghost use Rattle.std.specs.Prelude.{◌≡◌, ◌≢◌, ℕ, ◌+◌, ◌-◌, ◌^◌, ◌<◌, ◌≤◌, length, get_or, true, false, All, MatchOption};
+ghost use Rattle.std.specs.Int.{bit_at};
 ghost use Rattle.frag_model.specs.Fragments.{IsPiece, line_of, xor_bytes};
-ghost use Rattle.frag_model.specs.Parity.{number_of};
+ghost use Rattle.row_arena.specs.Rows.{line_in, words_for};
 ghost use Rattle.row_elimination.specs.declared.stages.Stage.{Stage};
 ghost use Rattle.row_elimination.specs.declared.stages.Stage.TheVariants as stage;
 ghost use Rattle.row_elimination.specs.Places.{free, piece as known, gained_held, rows_held};
@@ -11,15 +12,25 @@ ghost use Rattle.row_elimination.specs.Grid.{SameRoom};
 ghost use Rattle.row_elimination.specs.Held.{Takes, Receives};
 ghost use Rattle.row_elimination.specs.Taking.{held_of, IsReady, IsZero, stage_after, FedAs, DecidedAs};
 ghost use Rattle.frag_model.specs.Limits.{max_parity_index, max_pieces};
+ghost use Rattle.row_elimination.specs.Room.{max_line_words};
 
 use crate::drawing::draw;
 use crate::stages::Fed;
 use crate::tables::Table;
+use row_arena::first_bit;
 
 /// Takes fragment `n` in, or answers why not. A piece that came before is only compared, and where no row is held one that
-/// did not needs no line. `line` and `rest` are room for a line and for the bytes of a piece.
-pub fn take(table: &mut Table, n: u16, part: &[u8], line: &mut [bool], rest: &mut [u8]) -> Fed
-    requires columns { table.old.shape.nb_frag ≤ length line.old }
+/// did not needs no line. `line`, `picks` and `rest` are room for a line, for its columns and for the bytes of a piece.
+pub fn take<const W: usize, const B: usize>(
+    table: &mut Table<W, B>,
+    n: u16,
+    part: &[u8],
+    line: &mut [u64],
+    picks: &mut [u16],
+    rest: &mut [u8],
+) -> Fed
+    requires words { max_line_words ≤ length line.old }
+    requires picks { max_pieces ≤ length picks.old }
     requires most { table.old.shape.nb_frag ≤ max_pieces }
     requires bytes { length part.now ≤ length rest.old }
     requires sized { length part.now ≡ table.old.shape.frag_size }
@@ -40,15 +51,19 @@ pub fn take(table: &mut Table, n: u16, part: &[u8], line: &mut [bool], rest: &mu
             return take_first(table, n, part);
         }
     }
-    let line = &mut line[..table.nb_frag() as usize];
-    let rest = &mut rest[..table.frag_size() as usize];
-    draw(n, line);
-    rest.copy_from_slice(part);
-    take_in(table, n, part, line, rest)
+    let line = &mut line[..table.width()];
+    let rest = &mut rest[..part.len()];
+    draw(n, table.nb_frag(), line);
+    take_in(table, n, part, line, picks, rest)
 }
 
 /// Takes in a piece that came before: it has to be the same.
-fn take_again(table: &Table, n: u16, part: &[u8], piece: &[u8]) -> Fed
+fn take_again<const W: usize, const B: usize>(
+    table: &Table<W, B>,
+    n: u16,
+    part: &[u8],
+    piece: &[u8],
+) -> Fed
     requires ready { IsReady table.now n part.now 0 (xor_bytes part.now piece.now) }
     requires uncoded { n ≤ table.now.shape.nb_frag }
     requires before { get_or table.now.places (n - 1) free ≡ known piece.now }
@@ -62,7 +77,7 @@ fn take_again(table: &Table, n: u16, part: &[u8], piece: &[u8]) -> Fed
 }
 
 /// Takes in a piece that did not come before, where no row is held.
-fn take_first(table: &mut Table, n: u16, part: &[u8]) -> Fed
+fn take_first<const W: usize, const B: usize>(table: &mut Table<W, B>, n: u16, part: &[u8]) -> Fed
     requires ready { IsReady table.old n part.now (2 ^ (n - 1)) part.now }
     requires uncoded { n ≤ table.old.shape.nb_frag }
     requires fresh { get_or table.old.places (n - 1) free ≡ free }
@@ -75,11 +90,20 @@ fn take_first(table: &mut Table, n: u16, part: &[u8]) -> Fed
     decide(table)
 }
 
-/// Takes fragment `n` in, or answers why not. `line` and `rest` are its line and a copy of its bytes, and are used up.
-fn take_in(table: &mut Table, n: u16, part: &[u8], line: &mut [bool], rest: &mut [u8]) -> Fed
-    requires columns { length line.old ≡ table.old.shape.nb_frag }
-    requires drawn { number_of line.old ≡ line_of table.old.shape.nb_frag n }
-    requires copied { rest.old ≡ part.now }
+/// Takes fragment `n` in, or answers why not. `line` is its line and is used up, `picks` and `rest` are room.
+fn take_in<const W: usize, const B: usize>(
+    table: &mut Table<W, B>,
+    n: u16,
+    part: &[u8],
+    line: &mut [u64],
+    picks: &mut [u16],
+    rest: &mut [u8],
+) -> Fed
+    requires words { length line.old ≡ words_for table.old.shape.nb_frag }
+    requires few { length line.old ≤ max_line_words }
+    requires drawn { line_in line.old ≡ line_of table.old.shape.nb_frag n }
+    requires picks { max_pieces ≤ length picks.old }
+    requires sized { length rest.old ≡ length part.now }
     requires piece { IsPiece table.old.shape.frag_size part.now }
     requires some { 1 ≤ table.old.shape.frag_size }
     requires first { 1 ≤ n }
@@ -88,7 +112,7 @@ fn take_in(table: &mut Table, n: u16, part: &[u8], line: &mut [bool], rest: &mut
     ensures room { SameRoom table.old table.new }
     ensures held { IsReduced table.new.shape.nb_frag table.new.shape.frag_size table.new.places }
 {
-    table.reduce(line, rest);
+    table.reduce(line, picks, part, rest);
     match first_set(line) {
         Some(p) => take_new(table, n, part, p, line, rest),
         None => take_old(table, n, part, line, rest),
@@ -96,9 +120,15 @@ fn take_in(table: &mut Table, n: u16, part: &[u8], line: &mut [bool], rest: &mut
 }
 
 /// Takes in a fragment whose line is a sum of the lines held.
-fn take_old(table: &mut Table, n: u16, part: &[u8], line: &[bool], rest: &[u8]) -> Fed
-    requires ready { IsReady table.old n part.now (number_of line.now) rest.now }
-    requires none { number_of line.now ≡ 0 }
+fn take_old<const W: usize, const B: usize>(
+    table: &mut Table<W, B>,
+    n: u16,
+    part: &[u8],
+    line: &[u64],
+    rest: &[u8],
+) -> Fed
+    requires ready { IsReady table.old n part.now (line_in line.now) rest.now }
+    requires none { line_in line.now ≡ 0 }
     ensures fed { FedAs result (held_of stage.Receiving table.old) (held_of (stage_after result) table.new) n part.now }
     ensures room { SameRoom table.old table.new }
     ensures held { IsReduced table.new.shape.nb_frag table.new.shape.frag_size table.new.places }
@@ -113,11 +143,18 @@ fn take_old(table: &mut Table, n: u16, part: &[u8], line: &[bool], rest: &[u8]) 
 }
 
 /// Takes in a fragment whose line is no sum of the lines held.
-fn take_new(table: &mut Table, n: u16, part: &[u8], p: usize, line: &[bool], rest: &[u8]) -> Fed
-    requires ready { IsReady table.old n part.now (number_of line.now) rest.now }
-    requires columns { length line.now ≡ table.old.shape.nb_frag }
-    requires inside { p < length line.now }
-    requires has { get_or line.now p false ≡ true }
+fn take_new<const W: usize, const B: usize>(
+    table: &mut Table<W, B>,
+    n: u16,
+    part: &[u8],
+    p: u16,
+    line: &[u64],
+    rest: &[u8],
+) -> Fed
+    requires ready { IsReady table.old n part.now (line_in line.now) rest.now }
+    requires words { length line.now ≡ words_for table.old.shape.nb_frag }
+    requires inside { p < table.old.shape.nb_frag }
+    requires has { bit_at (line_in line.now) p ≡ 1 }
     ensures fed { FedAs result (held_of stage.Receiving table.old) (held_of (stage_after result) table.new) n part.now }
     ensures room { SameRoom table.old table.new }
     ensures held { IsReduced table.new.shape.nb_frag table.new.shape.frag_size table.new.places }
@@ -132,11 +169,18 @@ fn take_new(table: &mut Table, n: u16, part: &[u8], p: usize, line: &[bool], res
 }
 
 /// Takes in a piece whose line is no sum of the lines held.
-fn take_piece(table: &mut Table, n: u16, part: &[u8], p: usize, line: &[bool], rest: &[u8]) -> Fed
-    requires ready { IsReady table.old n part.now (number_of line.now) rest.now }
-    requires columns { length line.now ≡ table.old.shape.nb_frag }
-    requires inside { p < length line.now }
-    requires has { get_or line.now p false ≡ true }
+fn take_piece<const W: usize, const B: usize>(
+    table: &mut Table<W, B>,
+    n: u16,
+    part: &[u8],
+    p: u16,
+    line: &[u64],
+    rest: &[u8],
+) -> Fed
+    requires ready { IsReady table.old n part.now (line_in line.now) rest.now }
+    requires words { length line.now ≡ words_for table.old.shape.nb_frag }
+    requires inside { p < table.old.shape.nb_frag }
+    requires has { bit_at (line_in line.now) p ≡ 1 }
     requires uncoded { n ≤ table.old.shape.nb_frag }
     ensures fed { FedAs result (held_of stage.Receiving table.old) (held_of (stage_after result) table.new) n part.now }
     ensures room { SameRoom table.old table.new }
@@ -148,11 +192,18 @@ fn take_piece(table: &mut Table, n: u16, part: &[u8], p: usize, line: &[bool], r
 
 /// Takes in a coded fragment whose line is no sum of the lines held, where a slot is spare. Its own bytes are told by the
 /// row that is left of it.
-fn take_row(table: &mut Table, n: u16, part: &[u8], p: usize, line: &[bool], rest: &[u8]) -> Fed
-    requires ready { IsReady table.old n part.now (number_of line.now) rest.now }
-    requires columns { length line.now ≡ table.old.shape.nb_frag }
-    requires inside { p < length line.now }
-    requires has { get_or line.now p false ≡ true }
+fn take_row<const W: usize, const B: usize>(
+    table: &mut Table<W, B>,
+    n: u16,
+    part: &[u8],
+    p: u16,
+    line: &[u64],
+    rest: &[u8],
+) -> Fed
+    requires ready { IsReady table.old n part.now (line_in line.now) rest.now }
+    requires words { length line.now ≡ words_for table.old.shape.nb_frag }
+    requires inside { p < table.old.shape.nb_frag }
+    requires has { bit_at (line_in line.now) p ≡ 1 }
     requires coded { table.old.shape.nb_frag < n }
     requires spare { rows_held table.old.places < table.old.shape.rows }
     ensures fed { FedAs result (held_of stage.Receiving table.old) (held_of (stage_after result) table.new) n part.now }
@@ -164,7 +215,7 @@ fn take_row(table: &mut Table, n: u16, part: &[u8], p: usize, line: &[bool], res
 }
 
 /// Whether one block alone fits, and then puts it into the area.
-fn decide(table: &mut Table) -> Fed
+fn decide<const W: usize, const B: usize>(table: &mut Table<W, B>) -> Fed
     requires held { IsReduced table.old.shape.nb_frag table.old.shape.frag_size table.old.places }
     ensures { DecidedAs result table.old table.new }
 {
@@ -177,15 +228,14 @@ fn decide(table: &mut Table) -> Fed
 }
 
 /// The first column of a line.
-fn first_set(line: &[bool]) -> Option<usize>
-    ensures { MatchOption result (number_of line.now ≡ 0) (λ p. (p < length line.now) × (get_or line.now p false ≡ true)) }
+fn first_set(line: &[u64]) -> Option<u16>
+    requires { length line.now ≤ max_line_words }
+    ensures { MatchOption result (line_in line.now ≡ 0) (λ p. bit_at (line_in line.now) p ≡ 1) }
 {
-    for c in 0..line.len() {
-        if line[c] {
-            return Some(c);
-        }
+    match first_bit(line) {
+        Some(p) => Some(p as u16),
+        None => None,
     }
-    None
 }
 
 /// Whether all bytes are zero.

@@ -1,8 +1,9 @@
-//! Solvers over a few pieces of one byte, by worked rows and against plain sums of lines.
+//! Solvers over a few pieces of one byte, by worked rows and against plain sums of lines, and over pieces of many sizes.
 
 use super::*;
 use frag_model::gains::{plain_excess, plain_gain, plain_line_of};
 use frag_model::lines::MAX_PARITY_INDEX;
+use parity_lines::line_uncounted;
 use std::process::Abort;
 use std::test::Fail;
 
@@ -279,5 +280,84 @@ fn room_is_needed_for_rows_and_for_pieces(rt: HostRuntime) -> Result<(), Fail> {
     assert_eq!(rt; solver.begin(4, 5, 4, 3), Err(NoRoom));
     assert_eq!(rt; solver.begin(4, 5, 4, 2), Ok(()));
     assert_eq!(rt; solver.missing(), 4);
+    Ok(())
+}
+
+type LongSolver = Solver<16, 1912>;
+
+/// Byte `i` of piece `k`.
+fn byte_in(k: u16, i: u8) -> u8 {
+    ((k % 251) as u8).wrapping_mul(7) ^ i.wrapping_mul(13) ^ (k % 5) as u8
+}
+
+/// Piece `k`.
+fn piece(alloc: Global, size: u8, k: u16) -> Result<Vec<u8>, Fail> {
+    let mut part = Vec::new(alloc);
+    for i in 0..size {
+        part.push(byte_in(k, i))?;
+    }
+    Ok(part)
+}
+
+/// The coded fragment `n` of so many pieces, summed plainly.
+fn coded(rt: &impl Abort, alloc: Global, pieces: u16, size: u8, n: u16) -> Result<Vec<u8>, Fail> {
+    assert!(rt; 1 <= n && n <= MAX_PARITY_INDEX && 1 <= pieces && pieces <= 70);
+    let mut words = [0; 2];
+    line_uncounted(n, pieces, &mut words);
+    let mut part = Vec::new(alloc);
+    for i in 0..size {
+        let mut byte = 0;
+        for k in 0..pieces {
+            if words[k as usize / 64] >> (k % 64) & 1 == 1 {
+                byte ^= byte_in(k, i);
+            }
+        }
+        part.push(byte)?;
+    }
+    Ok(part)
+}
+
+fn feed_long(rt: &impl Abort, solver: &mut LongSolver, n: u16, part: &[u8]) -> Fed {
+    assert_eq!(rt; solver.stage, Stage::Receiving);
+    assert!(rt; 1 <= n && n as u32 <= solver.table.nb_frag() as u32 + MAX_PARITY_INDEX as u32);
+    assert_eq!(rt; part.len(), solver.table.frag_size() as usize);
+    solver.feed(n, part)
+}
+
+/// Recovers a file of which each tenth piece comes by coded fragments alone.
+fn recovers(rt: &impl Abort, alloc: Global, pieces: u16, size: u8) -> Result<(), Fail> {
+    assert!(rt; 8 <= pieces && pieces <= 70 && 1 <= size && size <= 239);
+    let mut solver = LongSolver::reserve(alloc, 16730).expect(rt, "no memory");
+    assert!(rt; solver.begin(pieces, size, 0, 8).is_ok());
+    let mut whole = Vec::new(alloc);
+    for k in 0..pieces {
+        let part = piece(alloc, size, k)?;
+        if k % 10 != 3 {
+            assert_eq!(rt; feed_long(rt, &mut solver, k + 1, &part), Fed::Receiving);
+        }
+        for byte in &part {
+            whole.push(*byte)?;
+        }
+    }
+    let mut answer = Fed::Receiving;
+    for n in 1..40 {
+        if answer == Fed::Receiving {
+            let part = coded(rt, alloc, pieces, size, n)?;
+            answer = feed_long(rt, &mut solver, pieces + n, &part);
+        }
+    }
+    assert_eq!(rt; answer, Fed::Complete);
+    assert_eq!(rt; solver.stage, Stage::Complete);
+    assert!(rt; solver.block() == whole.as_slice());
+    Ok(())
+}
+
+#[test]
+fn pieces_of_many_sizes(rt: HostRuntime) -> Result<(), Fail> {
+    for pieces in [8, 63, 64, 65, 70] {
+        for size in [1, 3, 31, 32, 63, 64, 65, 127, 128, 191, 239] {
+            recovers(&rt, rt.alloc(), pieces, size)?;
+        }
+    }
     Ok(())
 }

@@ -1,6 +1,6 @@
-use Rattle.std.proofs.Common.{length}
-use Rattle.row_elimination.proofs.Spreading.{one_marked}
+use Rattle.std.proofs.Common.{◌^◌, bit_xor, ap, ◌∙◌}
+use Rattle.std.specs.Int.Bits.{xor_zero_l}
 use Rattle.row_elimination.proofs.drawing.mark_piece.Goals as goal
 
 pub returns : goal.returns
-returns c = one_marked (length c.args.line.now) c.args.c c.fill.new.self (c.fill.ensures.after (λ y e. e)) c.requires
+returns c = c.flip_bit.ensures ∙ ap (λ n. bit_xor n (2 ^ c.args.c)) c.clear_bits.ensures ∙ xor_zero_l (2 ^ c.args.c)

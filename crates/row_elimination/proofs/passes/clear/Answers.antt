@@ -1,27 +1,14 @@
-use Rattle.std.proofs.Common.{◌∙◌, length, refl}
-use Rattle.frag_model.specs.Parity.{number_of}
+use Rattle.std.proofs.Common.{◌+◌, refl, arith}
+use Rattle.row_arena.specs.Rows.{line_in}
 use Rattle.row_elimination.proofs.Storing.{clearing_begins, clearing_turn, clearing_ends}
 use Rattle.row_elimination.proofs.passes.clear.Goals as goal
 
-pub loop-c-init : goal.loop-c-init
-loop-c-init c = record {
-  clearing = clearing_begins (length c.args.line.now) (length c.args.part.now) c.args.columns.now c.args.p (number_of c.args.line.now) c.args.part.now c.args.coefs.now c.args.cells.now;
-  coefs_sized = refl;
-  cells_sized = refl;
-}
+pub loop-s-init : goal.loop-s-init
+loop-s-init g c = clearing_begins c.args.p (line_in c.args.line.now) c.args.part.now c.args.arena.now
 
-pub loop-c-preserved : goal.loop-c-preserved
-loop-c-preserved c =
-    let i = c.loop-c.invariant in
-    record {
-      clearing = clearing_turn (length c.args.line.now) (length c.args.part.now) c.args.columns.now c.args.p (number_of c.args.line.now) c.args.part.now
-          c.args.coefs.now c.loop-c.coefs c.clear_column.new.coefs c.args.cells.now c.loop-c.cells c.clear_column.new.cells c.loop-c.c
-          c.requires.stored.alone c.clear_column.ensures i.clearing;
-      coefs_sized = c.clear_column.auto.coefs ∙ i.coefs_sized;
-      cells_sized = c.clear_column.auto.cells ∙ i.cells_sized;
-    }
+pub loop-s-preserved : goal.loop-s-preserved
+loop-s-preserved g c =
+    clearing_turn c.args.p (line_in c.args.line.now) c.args.part.now c.args.arena.now c.loop-s.arena c.clear_row.new.arena c.loop-s.s (c.loop-s.s + 1) refl c.clear_row.ensures c.loop-s.invariant
 
 pub returns : goal.returns
-returns c = λ area.
-    clearing_ends (length c.args.line.now) (length c.args.part.now) c.args.columns.now c.args.p (number_of c.args.line.now) c.args.part.now
-    c.args.coefs.now c.loop-c.coefs c.args.cells.now c.loop-c.cells c.loop-c.c area c.loop-c-test.false c.loop-c.invariant.clearing
+returns g c = clearing_ends c.args.p (line_in c.args.line.now) c.args.part.now c.args.arena.now c.loop-s.arena c.loop-s.s (omega arith) c.loop-s.invariant

@@ -1,13 +1,12 @@
-use Rattle.std.proofs.Common.{length}
+use Rattle.std.proofs.Common.{◌≡◌, sym, ◌∙◌}
+use Rattle.row_arena.specs.Rows.{line_in}
 use Rattle.row_elimination.proofs.Storing.{clears_row, clears_no_row}
 use Rattle.row_elimination.proofs.passes.clear_row.Goals as goal
 
-pub returns-then-coefs-slot : goal.returns-then-coefs-slot
-returns-then-coefs-slot c =
-    clears_row (length c.args.line.now) (length c.args.part.now) c.args.slot c.args.p c.args.line.now c.args.part.now c.args.coefs.now _ c.args.cells.now _ c.requires.inside
-    c.if-coefs-slot.true c.xor_line_at.ensures.there c.xor_bytes_at.ensures.there c.xor_line_at.ensures.others c.xor_bytes_at.ensures.others
+pub returns-then-bit : goal.returns-then-bit
+returns-then-bit g c =
+    clears_row c.args.arena.now c.add_to_row.new.self c.args.slot c.args.p (line_in c.args.line.now) c.args.part.now c.requires.slot (sym c.bit.ensures ∙ c.if-bit.true) c.add_to_row.ensures
 
-pub returns-else-coefs-slot : goal.returns-else-coefs-slot
-returns-else-coefs-slot c =
-    clears_no_row (length c.args.line.now) (length c.args.part.now) c.args.slot c.args.p c.args.line.now c.args.part.now c.args.coefs.now c.args.cells.now c.requires.inside
-    c.if-coefs-slot.false
+pub returns-else-bit : goal.returns-else-bit
+returns-else-bit g c =
+    clears_no_row c.args.arena.now c.args.slot c.args.p (line_in c.args.line.now) c.args.part.now (sym c.bit.ensures ∙ c.if-bit.false)

@@ -1,42 +1,39 @@
-use Rattle.std.proofs.Common.{◌≡◌, ◌∙◌, length, refl, subst, arith}
-use Rattle.frag_model.specs.Parity.{number_of}
-use Rattle.row_elimination.specs.Storage.{places_in}
-use Rattle.row_elimination.proofs.Lines.{number_of-lt}
-use Rattle.row_elimination.proofs.Reducing.{Reducing, reducing_begins, reducing_ends}
-use Rattle.row_elimination.proofs.Storing.{length-places, reducing_turn_in, reducing_skip_in}
+use Rattle.std.proofs.Common.{◌≡◌, ℕ, List, length, sym, ap, subst, ◌∙◌, arith}
+use Rattle.row_arena.specs.Rows.{line_in}
+use Rattle.row_elimination.specs.Storage.{IsStored, places_in}
+use Rattle.row_elimination.specs.Steps.{Taken, Reduced, TakesRows}
+use Rattle.row_elimination.proofs.Storing.{column_piece, known_room, pieces_taken}
 use Rattle.row_elimination.proofs.passes.reduce.Goals as goal
-use Rattle.row_elimination.proofs.passes.reduce.Goals.{then-line-c, else-line-c}
+use Rattle.row_elimination.proofs.passes.reduce.Goals.{After-sum_pieces, After-take_rows}
 
-pub loop-c-init : goal.loop-c-init
-loop-c-init c = record {
-  reducing = reducing_begins _ _ _ _ c.args.part.now (number_of-lt c.args.line.now) c.requires.piece;
-  line_sized = refl;
-  part_sized = refl;
-}
+pub sum_pieces-requires-clause-picks : goal.sum_pieces-requires-clause-picks
+sum_pieces-requires-clause-picks g c = λ n lt.
+    known_room (length c.args.part.now) c.args.area.now c.args.arena.now c.args.columns.now (line_in c.args.known.now) n c.pick-count.result c.pick-count.new.picks
+    c.requires.marks c.pick-count.ensures.known lt c.requires.room
 
-pub loop-c-preserved : goal.loop-c-preserved
-loop-c-preserved c =
-    let i = c.loop-c.invariant in
-    elim c.if-line-c.branch [
-      | then-line-c w ↦ rw (w.line-is, w.part-is) (record {
-        reducing = reducing_turn_in (length c.args.line.now) (length c.args.part.now) (length c.loop-c.line) (length c.loop-c.part) c.args.area.now c.args.coefs.now c.args.cells.now c.args.columns.now
-            (number_of c.args.line.now) c.args.part.now c.loop-c.c c.loop-c.line (number_of w.take_out.new.line) c.loop-c.part w.take_out.new.part
-            i.line_sized i.part_sized c.requires.reduced w.if-line-c.true w.take_out.ensures i.reducing;
-        line_sized = w.take_out.auto.line ∙ i.line_sized;
-        part_sized = w.take_out.auto.part ∙ i.part_sized;
-      })
-      | else-line-c w ↦ rw (w.line-is, w.part-is) (record {
-        reducing = reducing_skip_in (length c.args.line.now) (length c.args.part.now) _ (number_of c.args.line.now) c.args.part.now c.loop-c.c c.loop-c.line c.loop-c.part w.if-line-c.false i.reducing;
-        line_sized = i.line_sized;
-        part_sized = i.part_sized;
-      })
-    ]
+pub take_rows-requires : goal.take_rows-requires
+take_rows-requires g c =
+    let size : ℕ = length c.args.part.now in
+    let os = c.args.columns.now in
+    let sized : length c.sum_pieces.new.rest ≡ size = c.sum_pieces.auto.rest ∙ c.requires.sized in
+    let taken : Taken (length os) size (places_in size c.args.area.now c.args.arena.now os) (line_in c.args.line.now) c.args.part.now (line_in c.pick-count.new.line) c.sum_pieces.new.rest =
+    pieces_taken size c.args.area.now c.args.arena.now os (line_in c.args.known.now) (line_in c.args.line.now) c.pick-count.result c.pick-count.new.picks (line_in c.pick-count.new.line)
+    c.args.part.now c.sum_pieces.new.rest c.requires.reduced c.requires.marks c.requires.piece c.requires.within c.pick-count.ensures.known c.pick-count.ensures.line sized c.sum_pieces.ensures in
+    (search, (subst (λ (n : ℕ). IsStored n c.args.arena.now os) (sym sized) c.requires.stored,
+      (c.pick-count.auto.line ∙ c.requires.words,
+      (omega (arith, c.pick-count.auto.line, c.requires.few),
+      (taken.within,
+      (λ k is. c.pick-count.ensures.none k (c.requires.marks.all k (column_piece size c.args.area.now c.args.arena.now k os is)),
+      omega (arith, c.pick-count.auto.picks, c.requires.picks)))))))
 
 pub returns : goal.returns
-returns c =
-    let i = c.loop-c.invariant in
-    let ps = places_in (length c.args.line.now) (length c.args.part.now) c.args.area.now c.args.coefs.now c.args.cells.now c.args.columns.now in
-    let all : c.loop-c.c ≡ length c.args.line.now = omega (arith, c.requires.stored.columns) in
-    reducing_ends (length c.args.line.now) (length c.args.part.now) ps (number_of c.args.line.now) c.args.part.now (number_of c.loop-c.line) c.loop-c.part
-    (length-places (length c.args.line.now) (length c.args.part.now) c.args.area.now c.args.coefs.now c.args.cells.now c.args.columns.now ∙ c.requires.stored.columns)
-    (subst (λ k. Reducing (length c.args.line.now) (length c.args.part.now) ps (number_of c.args.line.now) c.args.part.now k (number_of c.loop-c.line) c.loop-c.part) all i.reducing)
+returns g c =
+    let size : ℕ = length c.args.part.now in
+    let os = c.args.columns.now in
+    let sized : length c.sum_pieces.new.rest ≡ size = c.sum_pieces.auto.rest ∙ c.requires.sized in
+    let taken : Taken (length os) size (places_in size c.args.area.now c.args.arena.now os) (line_in c.args.line.now) c.args.part.now (line_in c.pick-count.new.line) c.sum_pieces.new.rest =
+    pieces_taken size c.args.area.now c.args.arena.now os (line_in c.args.known.now) (line_in c.args.line.now) c.pick-count.result c.pick-count.new.picks (line_in c.pick-count.new.line)
+    c.args.part.now c.sum_pieces.new.rest c.requires.reduced c.requires.marks c.requires.piece c.requires.within c.pick-count.ensures.known c.pick-count.ensures.line sized c.sum_pieces.ensures in
+    let rows : TakesRows size c.args.arena.now os (line_in c.pick-count.new.line) c.sum_pieces.new.rest (line_in c.take_rows.new.line) c.take_rows.new.rest =
+    subst (λ (n : ℕ). TakesRows n c.args.arena.now os (line_in c.pick-count.new.line) c.sum_pieces.new.rest (line_in c.take_rows.new.line) c.take_rows.new.rest) sized c.take_rows.ensures in
+    rows.reduces c.args.area.now (line_in c.args.line.now) c.args.part.now c.requires.reduced taken

@@ -1,24 +1,51 @@
-use Rattle.std.proofs.Common.{◌-◌, ◌<◌, ◌^◌, sym, ◌∙◌, arith, eqb-true}
+use Rattle.std.proofs.Common.{◌≡◌, ◌-◌, ◌<◌, ◌^◌, ℕ, length, take, get_or, sym, ap, ◌∙◌, arith, eqb-true, length-take-le}
 use Rattle.std.proofs.lemmas.List.Elements.{All-from_get_or}
-use Rattle.row_elimination.specs.Places.{rows_held}
+use Rattle.frag_model.specs.Fragments.{line_of}
+use Rattle.row_arena.specs.Rows.{words_for}
+use Rattle.row_elimination.specs.Places.{free, rows_held}
 use Rattle.row_elimination.proofs.Counting.{no_rows_free}
+use Rattle.row_elimination.proofs.Gridding.{width_holds}
 use Rattle.row_elimination.proofs.Repeating.{ready_free, ready_again}
 use Rattle.row_elimination.proofs.taking.take.Goals as goal
 
-pub take_again-requires-clause-ready : goal.take_again-requires-clause-ready
-take_again-requires-clause-ready c =
-    ready_again c.args.table.now c.args.n (c.args.n - 1) c.args.part.now c.in-Some.piece.now c.piece.ensures.held c.piece.ensures.room c.requires.more c.requires.some (omega (arith, c.requires.first))
-    (omega arith) (record { sized = c.requires.sized; bytes = All-from_get_or (λ b. b < 2 ^ 8) c.args.part.now 0 (λ i lt. omega (arith, c.type_inv.part i)) }) c.in-Some.ensures.value
+pub take_again-requires : goal.take_again-requires
+take_again-requires g c =
+    let t = c.args.table.now in (
+      omega arith,
+      (ready_again t c.args.n (c.args.n - 1) c.args.part.now c.in-Some.piece.now c.piece.ensures.held c.piece.ensures.room c.requires.more c.requires.some (omega (arith, c.requires.first)) (omega arith)
+      (record { sized = c.requires.sized; bytes = All-from_get_or (λ b. b < 2 ^ 8) c.args.part.now 0 (λ i lt. omega (arith, c.type_inv.part i)) }) c.in-Some.ensures.value,
+      (omega arith, c.in-Some.ensures.value)),
+    )
 
-pub take_first-requires-clause-none : goal.take_first-requires-clause-none
-take_first-requires-clause-none c = eqb-true (rows_held c.args.table.now.places) 0 (sym c.has_no_rows.ensures ∙ c.if-has_no_rows.true)
+pub take_first-requires : goal.take_first-requires
+take_first-requires g c =
+    let t = c.args.table.now in
+    let none : rows_held t.places ≡ 0 = eqb-true (rows_held t.places) 0 (sym c.has_no_rows.ensures ∙ c.if-has_no_rows.true) in
+    let fresh : get_or t.places (c.args.n - 1) free ≡ free = no_rows_free t.places (c.args.n - 1) none c.in_default.ensures.value in (
+      omega arith,
+      (ready_free t c.args.n (c.args.n - 1) c.args.part.now c.piece.ensures.held c.piece.ensures.room c.requires.more c.requires.some (omega (arith, c.requires.first)) (omega arith)
+      (record { sized = c.requires.sized; bytes = All-from_get_or (λ b. b < 2 ^ 8) c.args.part.now 0 (λ i lt. omega (arith, c.type_inv.part i)) }) fresh,
+      (omega arith, (fresh, none))),
+    )
 
-pub take_first-requires-clause-fresh : goal.take_first-requires-clause-fresh
-take_first-requires-clause-fresh c =
-    no_rows_free c.args.table.now.places (c.args.n - 1) (eqb-true (rows_held c.args.table.now.places) 0 (sym c.has_no_rows.ensures ∙ c.if-has_no_rows.true)) c.in_default.ensures.value
+pub draw-requires-clause-room : goal.draw-requires-clause-room
+draw-requires-clause-room g c =
+    let nb : ℕ = c.args.table.now.shape.nb_frag in
+    let long : length (take c.width.result c.args.line.now) ≡ c.width.result = length-take-le c.width.result c.args.line.now (omega (arith, c.width.ensures.few, c.requires.words)) in
+    omega (arith, c.nb_frag-2.ensures, long, c.width.ensures.value, width_holds nb)
 
-pub take_first-requires-clause-ready : goal.take_first-requires-clause-ready
-take_first-requires-clause-ready c =
-    ready_free c.args.table.now c.args.n (c.args.n - 1) c.args.part.now c.piece.ensures.held c.piece.ensures.room c.requires.more c.requires.some (omega (arith, c.requires.first))
-    (omega arith) (record { sized = c.requires.sized; bytes = All-from_get_or (λ b. b < 2 ^ 8) c.args.part.now 0 (λ i lt. omega (arith, c.type_inv.part i)) })
-    (no_rows_free c.args.table.now.places (c.args.n - 1) (eqb-true (rows_held c.args.table.now.places) 0 (sym c.has_no_rows.ensures ∙ c.if-has_no_rows.true)) c.in_default.ensures.value)
+pub take_in-requires : goal.take_in-requires
+take_in-requires g c =
+    let t = c.args.table.now in
+    let long : length (take c.width.result c.args.line.now) ≡ c.width.result = length-take-le c.width.result c.args.line.now (omega (arith, c.width.ensures.few, c.requires.words)) in
+    let words : length c.draw.new.line ≡ words_for t.shape.nb_frag = c.draw.auto.line ∙ long ∙ c.width.ensures.value in (
+      omega arith,
+      (words,
+      (omega (arith, c.draw.auto.line, long, c.width.ensures.few),
+      (c.draw.ensures ∙ ap (λ (m : ℕ). line_of m c.args.n) c.nb_frag-2.ensures,
+      (c.requires.picks,
+      (length-take-le (length c.args.part.now) c.args.rest.now c.requires.bytes,
+      (record { sized = c.requires.sized; bytes = All-from_get_or (λ b. b < 2 ^ 8) c.args.part.now 0 (λ i lt. omega (arith, c.type_inv.part i)) },
+      (c.requires.some,
+      (c.requires.first, c.requires.more)))))))),
+    )

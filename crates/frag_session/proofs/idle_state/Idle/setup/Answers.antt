@@ -21,6 +21,9 @@ returns-in-Ok-clause-stands g c =
     let fine = accepted c.args.limits (record { words = g.row.W; bytes = g.row.B; area = c.self.inside.solver.area }) c.args.req (sym c.refusal-bits.ensures ∙ c.if-bits-ne0.false) in
     rw c.begin-in-Ok.ensures (begun_holds c.args.limits c.args.req c.begin.new.self fine.0 c.in-Ok.ensures.begun (c.in-Ok.ensures.shape ∙ ap (λ n. let x : Shape = record { nb_frag = c.args.req.nb_frag; frag_size = c.args.req.frag_size; rows = n } in x) c.rows_of.ensures.value))
 
+pub returns-in-Ok-clause-two : goal.returns-in-Ok-clause-two
+returns-in-Ok-clause-two g c = rw c.begin-in-Ok.ensures c.in-Ok.ensures.two
+
 pub returns-in-Err-clause-bits : goal.returns-in-Err-clause-bits
 returns-in-Err-clause-bits g c =
     let fine = accepted c.args.limits (record { words = g.row.W; bytes = g.row.B; area = c.self.inside.solver.area }) c.args.req (sym c.refusal-bits.ensures ∙ c.if-bits-ne0.false) in

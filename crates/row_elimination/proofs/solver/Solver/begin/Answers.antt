@@ -6,21 +6,15 @@ use Rattle.row_elimination.specs.declared.stages.Stage.TheVariants as stage
 use Rattle.row_elimination.proofs.Solving.{roomy, two_at_first, more_at_first}
 use Rattle.row_elimination.proofs.solver.Solver.begin.Goals as goal
 
-pub begin-requires-clause-area : goal.begin-requires-clause-area
-begin-requires-clause-area g c =
+pub begin-requires : goal.begin-requires
+begin-requires g c =
     let r = roomy g.row.W g.row.B c.args.self.now.area c.args.nb_frag c.args.frag_size c.args.rows (sym c.fits.ensures ∙ c.if-not-fits.false) in
-    let area : length c.self.inside.table.area ≡ c.args.self.now.area = ap (λ (h : Held). h.area) c.self.view_is in
-    omega (arith, r.pieces, area)
-
-pub begin-requires-clause-lines : goal.begin-requires-clause-lines
-begin-requires-clause-lines g c =
-    let r = roomy g.row.W g.row.B c.args.self.now.area c.args.nb_frag c.args.frag_size c.args.rows (sym c.fits.ensures ∙ c.if-not-fits.false) in
-    omega (arith, r.lines, c.self.invariant.lines)
-
-pub begin-requires-clause-parts : goal.begin-requires-clause-parts
-begin-requires-clause-parts g c =
-    let r = roomy g.row.W g.row.B c.args.self.now.area c.args.nb_frag c.args.frag_size c.args.rows (sym c.fits.ensures ∙ c.if-not-fits.false) in
-    omega (arith, r.parts, c.self.invariant.parts)
+    let area : length c.self.inside.table.area ≡ c.args.self.now.area = ap (λ (h : Held). h.area) c.self.view_is in (
+      omega arith,
+      (c.requires.most,
+      (c.requires.few,
+      (omega (arith, r.pieces, area), r.arena))),
+    )
 
 pub invariant_of-self : goal.invariant_of-self
 invariant_of-self g c =
@@ -30,9 +24,8 @@ invariant_of-self g c =
     let nb : c.begin.new.self.shape.nb_frag ≡ c.args.nb_frag = ap (λ (x : Grid). x.shape.nb_frag) c.begin.ensures in
     let area : length c.begin.new.self.area ≡ length c.self.inside.table.area = ap (λ (x : Grid). length x.area) c.begin.ensures in
     record {
-      lines = ap (λ (x : Grid). x.lines) c.begin.ensures ∙ c.self.invariant.lines;
-      parts = ap (λ (x : Grid). x.parts) c.begin.ensures ∙ c.self.invariant.parts;
       line_sized = c.self.invariant.line_sized;
+      picks_sized = c.self.invariant.picks_sized;
       part_sized = c.self.invariant.part_sized;
       most = omega (arith, nb, c.requires.most);
       small = omega (arith, small, c.requires.small);

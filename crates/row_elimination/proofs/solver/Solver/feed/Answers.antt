@@ -1,4 +1,4 @@
-use Rattle.std.proofs.Common.{◌≡◌, List, Bool, ℕ, length, ap, ◌∙◌, subst}
+use Rattle.std.proofs.Common.{◌≡◌, List, ℕ, length, ap, ◌∙◌, subst}
 use Rattle.row_elimination.specs.declared.stages.Stage.TheVariants as stage
 use Rattle.row_elimination.specs.Held.{Held}
 use Rattle.row_elimination.specs.SolverInside.{IsSolver}
@@ -8,17 +8,19 @@ use Rattle.row_elimination.proofs.solver.Solver.feed.Goals as goal
 
 pub invariant_of-self : goal.invariant_of-self
 invariant_of-self g c =
-    let line : List Bool = c.self.inside.line.items in
+    let line : List ℕ = c.self.inside.line.items in
+    let picks : List ℕ = c.self.inside.picks.items in
     let part : List ℕ = c.self.inside.part.items in
     let at : c.self.inside.stage ≡ stage.Receiving = ap (λ (h : Held). h.stage) c.self.view_is ∙ c.requires.receiving in
-    let was : IsSolver g.row.W g.row.B c.self.inside.table stage.Receiving line part = subst (λ s. IsSolver g.row.W g.row.B c.self.inside.table s line part) at c.self.invariant in
+    let was : IsSolver c.self.inside.table stage.Receiving line picks part = subst (λ s. IsSolver c.self.inside.table s line picks part) at c.self.invariant in
     rw (
       c.stage_after-self-inside.ensures,
       written c.self.inside.line.len c.take-fed.new.line line (c.take-fed.auto.line ∙ c.deref_mut.ensures.len),
-      written c.self.inside.part.len c.take-fed.new.rest part (c.take-fed.auto.rest ∙ c.deref_mut-2.ensures.len),
+      written c.self.inside.picks.len c.take-fed.new.picks picks (c.take-fed.auto.picks ∙ c.deref_mut-2.ensures.len),
+      written c.self.inside.part.len c.take-fed.new.rest part (c.take-fed.auto.rest ∙ c.deref_mut-3.ensures.len),
     )
-    (still_solver g.row.W g.row.B c.self.inside.table c.take-fed.new.table c.take-fed.result line c.take-fed.new.line part c.take-fed.new.rest was c.take-fed.ensures.room
-    (c.take-fed.auto.line ∙ ap length c.deref_mut.ensures.value) (c.take-fed.auto.rest ∙ ap length c.deref_mut-2.ensures.value)
+    (still_solver c.self.inside.table c.take-fed.new.table c.take-fed.result line c.take-fed.new.line picks c.take-fed.new.picks part c.take-fed.new.rest was c.take-fed.ensures.room
+    (c.take-fed.auto.line ∙ ap length c.deref_mut.ensures.value) (c.take-fed.auto.picks ∙ ap length c.deref_mut-2.ensures.value) (c.take-fed.auto.rest ∙ ap length c.deref_mut-3.ensures.value)
     (left_to_gain c.take-fed.result c.self.inside.table c.take-fed.new.table c.args.n c.args.part.now c.take-fed.ensures.fed c.take-fed.ensures.held))
 
 pub returns-clause-receiving : goal.returns-clause-receiving

@@ -1,97 +1,99 @@
-use Rattle.std.proofs.Common.{◌≡◌, ℕ, List, Bool, false, length, get_or, take, set, sym, ap, subst, ◌∙◌, arith}
+use Rattle.std.proofs.Common.{◌≡◌, ◌^◌, ◌⊎◌, ◌≢◌, ℕ, List, false, bit_xor, length, get_or, take, set, sym, ap, subst, ◌∙◌, arith}
 use Rattle.frag_model.specs.Fragments.{Shape}
-use Rattle.frag_model.specs.Parity.{number_of}
+use Rattle.row_arena.specs.Rows.{Arena, line_in, words_for}
 use Rattle.row_elimination.specs.declared.columns.Column.{Column}
 use Rattle.row_elimination.specs.Places.{Place, free, piece, is_piece, grown}
-use Rattle.row_elimination.specs.Storage.{places_in, Slots}
+use Rattle.row_elimination.specs.Storage.{places_in, Slots, SameShape}
 use Rattle.row_elimination.specs.Steps.{IsNew, Knows}
 use Rattle.row_elimination.specs.Grid.{Grid}
 use Rattle.row_elimination.proofs.Counting.{gained-le}
-use Rattle.row_elimination.proofs.Gridding.{stored, written, lead_free, learned_kind, learned}
+use Rattle.row_elimination.proofs.Gridding.{stored_at, file_row, piece_room, width_few, written, lead_free, learned_kind, learned}
 use Rattle.row_elimination.proofs.tables.Table.learn.Goals as goal
 
-line_sized : (c : goal.After-deref_mut-4) → length c.args.line.now ≡ c.self.inside.nb_frag
-line_sized c = c.requires.columns ∙ ap (λ (g : Grid). g.shape.nb_frag) (sym c.self.view_is)
-
-part_sized : (c : goal.After-deref_mut-4) → length c.args.part.now ≡ c.self.inside.frag_size
-part_sized c = c.requires.sized ∙ ap (λ (g : Grid). g.shape.frag_size) (sym c.self.view_is)
-
-places : (c : goal.After-deref_mut-4) → List Place
-places c =
-    places_in c.self.inside.nb_frag c.self.inside.frag_size c.self.inside.area.items c.self.inside.coefs.items c.self.inside.cells.items (take c.self.inside.nb_frag c.self.inside.columns.items)
-
-new : (c : goal.After-deref_mut-4) → IsNew c.self.inside.nb_frag c.self.inside.frag_size (places c) c.args.p (number_of c.args.line.now) c.args.part.now
-unfolding places
-new c = subst (λ (g : Grid). IsNew g.shape.nb_frag g.shape.frag_size g.places c.args.p (number_of c.args.line.now) c.args.part.now) (sym c.self.view_is) c.requires.new
-
-pub add_piece_and_row-requires-clause-stored : goal.add_piece_and_row-requires-clause-stored
-add_piece_and_row-requires-clause-stored c =
-    rw (line_sized c, part_sized c, c.deref_mut.ensures.value, c.deref_mut-3.ensures.value, c.deref_mut-4.ensures.value)
-    (stored c.self.inside.nb_frag c.self.inside.frag_size c.self.inside.rows c.self.inside.count c.self.inside.gained c.self.inside.columns.items c.self.inside.spare.items c.self.inside.area.items
-    c.self.inside.coefs.items c.self.inside.cells.items c.self.invariant)
-
-pub add_piece_and_row-requires-clause-kind : goal.add_piece_and_row-requires-clause-kind
-unfolding places
-add_piece_and_row-requires-clause-kind c =
-    let shape : Shape = record { nb_frag = c.self.inside.nb_frag; frag_size = c.self.inside.frag_size; rows = c.self.inside.rows } in
-    let known : Knows shape (grown c.args.p (number_of c.args.line.now) c.args.part.now (places c)) c.args.k c.args.piece.now =
-    subst (λ (g : Grid). Knows g.shape (grown c.args.p (number_of c.args.line.now) c.args.part.now g.places) c.args.k c.args.piece.now) (sym c.self.view_is) c.requires.known in
-    let fresh : is_piece (get_or (places c) c.args.k free) ≡ false = subst (λ (g : Grid). is_piece (get_or g.places c.args.k free) ≡ false) (sym c.self.view_is) c.requires.fresh in
-    rw (line_sized c, c.deref_mut.ensures.value)
-    (learned_kind shape c.self.inside.area.items c.self.inside.coefs.items c.self.inside.cells.items (take c.self.inside.nb_frag c.self.inside.columns.items) c.args.k c.args.p
-    (number_of c.args.line.now) c.args.part.now c.args.piece.now (new c) known fresh)
-
-pub add_piece_and_row-requires-clause-lead : goal.add_piece_and_row-requires-clause-lead
-unfolding places
-add_piece_and_row-requires-clause-lead c =
-    rw (line_sized c, c.deref_mut.ensures.value)
-    (lead_free c.self.inside.nb_frag c.self.inside.frag_size c.self.inside.area.items c.self.inside.coefs.items c.self.inside.cells.items (take c.self.inside.nb_frag c.self.inside.columns.items) c.args.p
-    (number_of c.args.line.now) c.args.part.now (new c))
-
-pub overflow_add-self : goal.overflow_add-self
-overflow_add-self c =
-    omega (
-      arith,
-      c.self.invariant.gained_all,
-      c.self.invariant.most,
-      c.self.invariant.reduced.sized,
-      gained-le (places_in c.self.inside.nb_frag c.self.inside.frag_size c.self.inside.area.items c.self.inside.coefs.items c.self.inside.cells.items (take c.self.inside.nb_frag c.self.inside.columns.items)),
-    )
-
-pub invariant_of-self : goal.invariant_of-self
-invariant_of-self c =
-    let nb : ℕ = c.self.inside.nb_frag in
-    let size : ℕ = c.self.inside.frag_size in
-    let rows : ℕ = c.self.inside.rows in
-    let columns : List Column = c.self.inside.columns.items in
-    let spare : List ℕ = c.self.inside.spare.items in
-    let area : List ℕ = c.self.inside.area.items in
-    let coefs : List Bool = c.self.inside.coefs.items in
-    let cells : List ℕ = c.self.inside.cells.items in
-    let ps : List Place = places_in nb size area coefs cells (take nb columns) in
-    let shape : Shape = record { nb_frag = nb; frag_size = size; rows = rows } in
+pub add_piece_and_row-requires : goal.add_piece_and_row-requires
+add_piece_and_row-requires g c =
+    let s = c.self.inside in
+    let i = c.self.invariant.grid in
     let line = c.args.line.now in
     let part = c.args.part.now in
-    let l : ℕ = number_of line in
-    let ln : length line ≡ nb = c.requires.columns ∙ ap (λ (g : Grid). g.shape.nb_frag) (sym c.self.view_is) in
-    let sz : length part ≡ size = c.requires.sized ∙ ap (λ (g : Grid). g.shape.frag_size) (sym c.self.view_is) in
-    let new_row : IsNew nb size ps c.args.p l part = subst (λ (g : Grid). IsNew g.shape.nb_frag g.shape.frag_size g.places c.args.p l part) (sym c.self.view_is) c.requires.new in
-    let known : Knows shape (grown c.args.p l part ps) c.args.k c.args.piece.now =
-    subst (λ (g : Grid). Knows g.shape (grown c.args.p l part g.places) c.args.k c.args.piece.now) (sym c.self.view_is) c.requires.known in
-    let fresh : is_piece (get_or ps c.args.k free) ≡ false = subst (λ (g : Grid). is_piece (get_or g.places c.args.k free) ≡ false) (sym c.self.view_is) c.requires.fresh in
-    let slots : Slots (take (length line) columns) spare rows c.self.inside.count → Slots (take (length line) c.add_piece_and_row.new.columns) spare rows c.self.inside.count =
-    rw (← c.deref_mut.ensures.value) (c.add_piece_and_row.ensures.slots spare rows c.self.inside.count) in
-    let told : places_in (length line) (length part) c.add_piece_and_row.new.area c.add_piece_and_row.new.coefs c.add_piece_and_row.new.cells (take (length line) c.add_piece_and_row.new.columns)
-    ≡ set (grown c.args.p l part (places_in (length line) (length part) area coefs cells (take (length line) columns))) c.args.k (piece c.args.piece.now) =
-    rw (← c.deref_mut.ensures.value, ← c.deref_mut-2.ensures.value, ← c.deref_mut-3.ensures.value, ← c.deref_mut-4.ensures.value) c.add_piece_and_row.ensures.places in
+    let l : ℕ = line_in line in
+    let shape : Shape = record { nb_frag = s.nb_frag; frag_size = s.frag_size; rows = s.rows } in
+    let os : List Column = take s.nb_frag s.columns.items in
+    let ps : List Place = places_in s.frag_size s.area.items s.arena.value os in
+    let ln = c.requires.words ∙ ap (λ (x : Grid). words_for x.shape.nb_frag) (sym c.self.view_is) in
+    let sz : length part ≡ s.frag_size = c.requires.sized ∙ ap (λ (x : Grid). x.shape.frag_size) (sym c.self.view_is) in
+    let new : IsNew s.nb_frag s.frag_size ps c.args.p l part = subst (λ (x : Grid). IsNew x.shape.nb_frag x.shape.frag_size x.places c.args.p l part) (sym c.self.view_is) c.requires.new in
+    let known_is : Knows shape (grown c.args.p l part ps) c.args.k c.args.piece.now =
+    subst (λ (x : Grid). Knows x.shape (grown c.args.p l part x.places) c.args.k c.args.piece.now) (sym c.self.view_is) c.requires.known in
+    let fresh : is_piece (get_or ps c.args.k free) ≡ false = subst (λ (x : Grid). is_piece (get_or x.places c.args.k free) ≡ false) (sym c.self.view_is) c.requires.fresh in
+    let cols = ap (λ (a : Arena). a.cols) c.deref_mut-3.ensures.value in
+    (omega (arith, c.self.invariant.words_few, c.self.invariant.bytes_few),
+      (omega (arith, i.arena_cols, cols, ap length c.deref_mut.ensures.value, i.most, i.columns_sized),
+      (omega (arith, new.inside, i.arena_cols, cols),
+      (omega (arith, known_is.inside, i.arena_cols, cols),
+      (known_is.piece.sized ∙ sym sz,
+      (rw (sz, c.deref_mut-2.ensures.value)
+      (piece_room s.nb_frag s.frag_size s.rows s.count s.gained c.args.k s.columns.items s.spare.items s.known.items s.area.items s.arena.value i known_is.inside),
+      (rw (c.deref_mut.ensures.value, c.deref_mut-3.ensures.value)
+      (stored_at s.nb_frag s.frag_size s.arena.value.cols (length part) s.rows s.count s.gained s.columns.items s.spare.items s.known.items s.area.items s.arena.value i i.arena_cols sz),
+      (rw (c.deref_mut-3.ensures.value)
+      (file_row s.nb_frag s.frag_size s.rows s.count s.gained s.columns.items s.spare.items s.known.items s.area.items s.arena.value line part i ln new.within sz),
+      (rw (c.deref_mut.ensures.value, c.deref_mut-3.ensures.value, i.arena_cols)
+      (learned_kind shape s.area.items s.arena.value os c.args.k c.args.p l part c.args.piece.now new known_is fresh),
+      rw (c.deref_mut.ensures.value, c.deref_mut-3.ensures.value, i.arena_cols) (lead_free s.nb_frag s.frag_size s.area.items s.arena.value os c.args.p l part new))))))))))
+
+pub mark-requires-clause-words : goal.mark-requires-clause-words
+mark-requires-clause-words g c =
+    omega (arith, ap length c.deref_mut-4.ensures.value, c.self.invariant.grid.known_sized, width_few c.self.inside.nb_frag c.self.invariant.grid.most)
+
+pub overflow_add-self : goal.overflow_add-self
+overflow_add-self g c =
+    let i = c.self.invariant.grid in
+    omega (arith, i.gained_all, i.most, i.reduced.sized,
+    gained-le (places_in c.self.inside.frag_size c.self.inside.area.items c.self.inside.arena.value (take c.self.inside.nb_frag c.self.inside.columns.items)))
+
+pub invariant_of-self : goal.invariant_of-self
+invariant_of-self g c =
+    let s = c.self.inside in
+    let i = c.self.invariant.grid in
+    let nb : ℕ = s.nb_frag in
+    let size : ℕ = s.frag_size in
+    let columns : List Column = s.columns.items in
+    let area : List ℕ = s.area.items in
+    let arena : Arena = s.arena.value in
+    let ps : List Place = places_in size area arena (take nb columns) in
+    let shape : Shape = record { nb_frag = nb; frag_size = size; rows = s.rows } in
+    let part = c.args.part.now in
+    let l : ℕ = line_in c.args.line.now in
+    let now = c.add_piece_and_row.new in
+    let cols : ℕ = c.deref_mut-3.result.now.cols in
+    let cn : cols ≡ nb = ap (λ (a : Arena). a.cols) c.deref_mut-3.ensures.value ∙ i.arena_cols in
+    let sz : length part ≡ size = c.requires.sized ∙ ap (λ (x : Grid). x.shape.frag_size) (sym c.self.view_is) in
+    let new : IsNew nb size ps c.args.p l part = subst (λ (x : Grid). IsNew x.shape.nb_frag x.shape.frag_size x.places c.args.p l part) (sym c.self.view_is) c.requires.new in
+    let known_is : Knows shape (grown c.args.p l part ps) c.args.k c.args.piece.now =
+    subst (λ (x : Grid). Knows x.shape (grown c.args.p l part x.places) c.args.k c.args.piece.now) (sym c.self.view_is) c.requires.known in
+    let fresh : is_piece (get_or ps c.args.k free) ≡ false = subst (λ (x : Grid). is_piece (get_or x.places c.args.k free) ≡ false) (sym c.self.view_is) c.requires.fresh in
+    let slots : Slots (take cols columns) s.spare.items s.rows s.count → Slots (take cols now.columns) s.spare.items s.rows s.count =
+    subst (λ (os : List Column). Slots (take cols os) s.spare.items s.rows s.count → Slots (take cols now.columns) s.spare.items s.rows s.count) c.deref_mut.ensures.value
+    (c.add_piece_and_row.ensures.slots s.spare.items s.rows s.count) in
+    let P : List ℕ → Arena → List Column → Type 0 = λ r a os. places_in (length part) now.area now.arena (take cols now.columns)
+        ≡ set (grown c.args.p l part (places_in (length part) r a (take cols os))) c.args.k (piece c.args.piece.now) in
+    let told : P area arena columns =
+    subst (λ (os : List Column). P area arena os) c.deref_mut.ensures.value
+    (subst (λ (a : Arena). P area a c.deref_mut.result.now) c.deref_mut-3.ensures.value
+    (subst (λ (r : List ℕ). P r c.deref_mut-3.result.now c.deref_mut.result.now) c.deref_mut-2.ensures.value c.add_piece_and_row.ensures.places)) in
+    let same : SameShape arena now.arena = subst (λ (a : Arena). SameShape a now.arena) c.deref_mut-3.ensures.value c.add_piece_and_row.ensures.shape in
+    let marked : line_in (take (words_for nb) c.mark.new.known) ≡ bit_xor (line_in (take (words_for nb) s.known.items)) (2 ^ c.args.k) =
+    subst (λ (x : List ℕ). line_in (take (words_for nb) c.mark.new.known) ≡ bit_xor (line_in (take (words_for nb) x)) (2 ^ c.args.k)) c.deref_mut-4.ensures.value c.mark.ensures in
     rw (
-      written c.self.inside.columns.len c.add_piece_and_row.new.columns columns (c.add_piece_and_row.auto.columns ∙ c.deref_mut.ensures.len),
-      written c.self.inside.area.len c.add_piece_and_row.new.area area (c.add_piece_and_row.auto.area ∙ c.deref_mut-2.ensures.len),
-      written c.self.inside.coefs.len c.add_piece_and_row.new.coefs coefs (c.add_piece_and_row.auto.coefs ∙ c.deref_mut-3.ensures.len),
-      written c.self.inside.cells.len c.add_piece_and_row.new.cells cells (c.add_piece_and_row.auto.cells ∙ c.deref_mut-4.ensures.len),
+      written s.columns.len now.columns columns (c.add_piece_and_row.auto.columns ∙ c.deref_mut.ensures.len),
+      written s.area.len now.area area (c.add_piece_and_row.auto.area ∙ c.deref_mut-2.ensures.len),
+      written s.known.len c.mark.new.known s.known.items (c.mark.auto.known ∙ c.deref_mut-4.ensures.len),
     )
-    (learned nb size rows c.self.inside.count c.self.inside.gained c.args.k c.args.p columns c.add_piece_and_row.new.columns spare area c.add_piece_and_row.new.area coefs c.add_piece_and_row.new.coefs
-    cells c.add_piece_and_row.new.cells line part c.args.piece.now c.self.invariant ln sz new_row known fresh
-    (c.add_piece_and_row.auto.columns ∙ ap length c.deref_mut.ensures.value) (c.add_piece_and_row.auto.area ∙ ap length c.deref_mut-2.ensures.value)
-    (c.add_piece_and_row.auto.coefs ∙ ap length c.deref_mut-3.ensures.value) (c.add_piece_and_row.auto.cells ∙ ap length c.deref_mut-4.ensures.value)
-    slots told)
+    (record {
+      words_few = c.self.invariant.words_few;
+      bytes_few = c.self.invariant.bytes_few;
+      grid = learned nb size s.rows s.count s.gained cols (length part) c.args.k c.args.p columns now.columns s.spare.items s.known.items c.mark.new.known area now.area arena now.arena l part c.args.piece.now
+          i cn sz new known_is fresh (c.add_piece_and_row.auto.columns ∙ ap length c.deref_mut.ensures.value) (c.mark.auto.known ∙ ap length c.deref_mut-4.ensures.value)
+          (c.add_piece_and_row.auto.area ∙ ap length c.deref_mut-2.ensures.value) same slots told marked;
+    })

@@ -1,10 +1,15 @@
-use Rattle.std.proofs.Common.{arith}
+use Rattle.std.proofs.Common.{◌∙◌, arith}
 use Rattle.row_elimination.proofs.Gridding.{no_file}
 use Rattle.row_elimination.proofs.tables.Table.new.Goals as goal
 
 pub invariant_of-result : goal.invariant_of-result
-invariant_of-result c =
-    no_file c.in_ok-vec.field-0.items c.in_ok-vec-2.field-0.items c.in_ok-vec-3.field-0.items c.in_ok-vec-4.field-0.items c.in_ok-vec-5.field-0.items
-    (omega (arith, c.in_ok-vec.field-0.ok.0, c.in_ok-vec.ensures.len))
-    (omega (arith, c.in_ok-vec-2.field-0.ok.0, c.in_ok-vec-2.ensures.len))
-    (omega (arith, c.in_ok-vec-3.field-0.ok.0, c.in_ok-vec-3.ensures.len, c.ranges.area.fits))
+invariant_of-result g c = record {
+  words_few = c.requires.words;
+  bytes_few = c.requires.bytes;
+  grid = no_file c.in_ok-vec.field-0.items c.in_ok-vec-2.field-0.items c.in_ok-vec-3.field-0.items c.in_ok-vec-4.field-0.items c.in_ok-new.field-0.value
+      (omega (arith, c.in_ok-vec.field-0.ok.0, c.in_ok-vec.ensures.len))
+      (omega (arith, c.in_ok-vec-2.field-0.ok.0, c.in_ok-vec-2.ensures.len))
+      (omega (arith, c.in_ok-vec-3.field-0.ok.0, c.in_ok-vec-3.ensures.len))
+      (omega (arith, c.in_ok-vec-4.field-0.ok.0, c.in_ok-vec-4.ensures.len, c.ranges.area.fits))
+      (c.in_ok-new.ensures.ok ∙ c.new.ensures);
+}

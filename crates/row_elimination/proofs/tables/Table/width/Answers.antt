@@ -1,0 +1,7 @@
+use Rattle.std.proofs.Common.{ap, arith, ◌∙◌}
+use Rattle.row_arena.specs.Rows.{words_for}
+use Rattle.row_elimination.proofs.Gridding.{width_few}
+use Rattle.row_elimination.proofs.tables.Table.width.Goals as goal
+
+pub returns-clause-few : goal.returns-clause-few
+returns-clause-few g c = omega (arith, c.words_for.ensures.value, width_few c.self.inside.nb_frag c.self.invariant.grid.most)
