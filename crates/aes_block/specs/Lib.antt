@@ -1,3 +1,4 @@
 pub mod Field
 pub mod Cipher
 pub mod CipherInside
+pub mod WorkedBlocks

@@ -1,9 +1,10 @@
-ghost use Rattle.std.specs.Prelude.{◌≡◌, List, ℕ};
+ghost use Rattle.std.specs.Prelude.{◌≡◌, List, ℕ, replicate};
 ghost use Rattle.aes_block.specs.Cipher.{IsBlock, cipher};
 ghost use Rattle.aes_block.specs.CipherInside.{AreRoundKeys};
 
 use crate::expansion::round_keys;
 use crate::steps::{last_round, mixed_round};
+use crate::tables::ROUND_KEYS_OF_ZEROS;
 use crate::undo::{undo_add_round_key, undo_last_round, undo_mix_columns};
 use crate::words::{add_round_key, from_block, to_block};
 use std::marker::Model;
@@ -51,6 +52,14 @@ impl Aes128 {
     {
         decrypted(&self.key, &self.round_keys, block)
     }
+}
+
+/// The encryption of a block under the key of 16 zeros, whose round keys stand in a table.
+#[tactic(auto, using(crate::proofs::ZeroKey::round_keys_are))]
+pub fn encrypt_under_zeros(block: &[u8; 16]) -> [u8; 16]
+    ensures { result ≡ cipher (replicate 16 0) block.now }
+{
+    encrypted(&[0; 16], &ROUND_KEYS_OF_ZEROS, block)
 }
 
 fn encrypted(key: &[u8; 16], round_keys: &[[u32; 11]; 4], block: &[u8; 16]) -> [u8; 16]

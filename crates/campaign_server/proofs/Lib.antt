@@ -1,4 +1,4 @@
 pub mod Wrapping
-pub mod Examples
+pub mod WorkedSteps
 pub mod Plans
 pub mod Times

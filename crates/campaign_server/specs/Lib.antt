@@ -7,4 +7,5 @@ pub mod Fragments
 pub mod Time
 pub mod Uplinks
 pub mod Sent
+pub mod WorkedSteps
 pub mod ServerInside

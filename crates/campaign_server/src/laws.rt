@@ -2,20 +2,33 @@
 
 ghost use Rattle.std.specs.Prelude.{◌≡◌, List, ℕ, Err};
 ghost use Rattle.aes_block.specs.Cipher.{IsBlock};
-ghost use Rattle.mc_keys.specs.Keys.{mc_key};
+ghost use Rattle.mc_keys.specs.Keys.{mc_root_key, mc_ke_key, mc_key};
 ghost use Rattle.wire_base.specs.declared.refusal.Refusal.{Refusal};
 ghost use Rattle.package_grammar.specs.declared.command.Command.{Command};
+ghost use Rattle.cast_wire.specs.declared.cmd.Cmd.TheVariants.{McGroupSetupReq};
+ghost use Rattle.campaign_server.specs.declared.plan.PlanGroup.{PlanGroup};
 ghost use Rattle.campaign_server.specs.declared.stage.Stage.{Stage};
 ghost use Rattle.campaign_server.specs.Plan.{Plan};
 ghost use Rattle.campaign_server.specs.Server.{ServerState};
 ghost use Rattle.campaign_server.specs.Answers.{stage_after};
+ghost use Rattle.campaign_server.specs.Asking.{group_request};
 ghost use Rattle.campaign_server.specs.Uplinks.{uplink_step};
 ghost use Rattle.campaign_server.specs.Wrapping.{wrapped_key};
+ghost use Rattle.campaign_server.specs.WorkedSteps.{AskSteps, AnswerSteps, TimeSteps, SendSteps, PlanSteps};
 
 /// The wrapped key that the server sends is the one block that is unwrapped to the group's key: what `wrap_key` answers.
 pub fn wrapped_key_is_the_one()
     ensures { (kek key block : List ℕ) → IsBlock block → mc_key kek block ≡ key
         → ((x : List ℕ) → IsBlock x → mc_key kek x ≡ key → x ≡ block) → wrapped_key kek key ≡ block }
+{}
+
+/// The request for a group carries what a device unwraps to the group's key, under the key that it derives of its GenAppKey.
+pub fn a_device_unwraps_the_key()
+    ensures { (gen_app_key block : List ℕ) (group : PlanGroup)
+        → let kek = mc_ke_key (mc_root_key gen_app_key) in
+        IsBlock block → mc_key kek block ≡ group.key
+        → ((x : List ℕ) → IsBlock x → mc_key kek x ≡ group.key → x ≡ block)
+        → group_request gen_app_key group ≡ McGroupSetupReq 0 group.addr block group.min group.max }
 {}
 
 /// An answer that comes again does nothing more.
@@ -32,4 +45,13 @@ pub fn a_refused_uplink_changes_nothing()
     ensures { (server : ServerState) (dev port t : ℕ) (payload : List ℕ) (refusal : Refusal)
         → let made = uplink_step server dev port payload t in
         made.answer ≡ Err refusal → made.server ≡ server }
+{}
+
+/// What a server asks and sends, and where answers lead, worked out in bytes.
+pub fn worked_steps()
+    ensures asking { AskSteps }
+    ensures answers { AnswerSteps }
+    ensures times { TimeSteps }
+    ensures sending { SendSteps }
+    ensures plans { PlanSteps }
 {}

@@ -18,7 +18,10 @@ mod tests;
 mod time;
 
 pub use fragments::Spent;
-pub use laws::{a_refused_uplink_changes_nothing, an_answer_moves_once, wrapped_key_is_the_one};
+pub use laws::{
+    a_device_unwraps_the_key, a_refused_uplink_changes_nothing, an_answer_moves_once, worked_steps,
+    wrapped_key_is_the_one,
+};
 pub use plan::{Field, Kind, Plan, PlanDevice, PlanGroup, PlanWindow};
 pub use server::{Server, ServerError};
 pub use stage::{Request, Stage};

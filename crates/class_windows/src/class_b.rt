@@ -3,7 +3,7 @@
 ghost use Rattle.std.specs.Prelude.{◌<◌};
 
 use crate::running::is_running;
-use aes_block::Aes128;
+use aes_block::encrypt_under_zeros;
 
 /// A class B session (TS005-1.0.0, McClassBSessionReq): it runs from the beacon of its start on, and hears in its slots.
 #[derive(Clone, Copy, Debug)]
@@ -62,7 +62,7 @@ fn rand(beacon: u32, addr: u32) -> [u8; 16]
 {
     let [b0, b1, b2, b3] = beacon.to_le_bytes();
     let [a0, a1, a2, a3] = addr.to_le_bytes();
-    Aes128::new(&[0; 16]).encrypt(&[b0, b1, b2, b3, a0, a1, a2, a3, 0, 0, 0, 0, 0, 0, 0, 0])
+    encrypt_under_zeros(&[b0, b1, b2, b3, a0, a1, a2, a3, 0, 0, 0, 0, 0, 0, 0, 0])
 }
 
 fn ping_offset(beacon: u32, addr: u32, periodicity: u8) -> u16

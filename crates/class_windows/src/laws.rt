@@ -3,6 +3,7 @@
 ghost use Rattle.std.specs.Prelude.{◌≡◌, ◌↔◌, ◌<◌, ◌*◌, ◌^◌, ℕ, IsTrue, Some};
 ghost use Rattle.class_windows.specs.Windows.{IsAfterUplink, IsRunning, IsInSlot, IsPinged};
 ghost use Rattle.class_windows.specs.Open.{is_after_uplink, is_running, is_in_slot, is_open_a, is_open_b, is_open_c};
+ghost use Rattle.class_windows.specs.WorkedWindows.{WorkedWindows, WorkedSlots, WorkedAnswers};
 
 /// Each test of a window is true exactly where its interval has the moment.
 pub fn window_tests()
@@ -20,4 +21,11 @@ pub fn classes_hear_in_their_intervals()
     ensures class_b { (time periodicity timeout ms addr : ℕ) → time < 2 ^ 32 → timeout < 16
         → IsTrue (is_open_b time periodicity timeout ms addr)
         ↔ IsPinged time periodicity timeout ms addr }
+{}
+
+/// Windows, slots and answers that are worked out.
+pub fn worked_windows()
+    ensures windows { WorkedWindows }
+    ensures slots { WorkedSlots }
+    ensures answers { WorkedAnswers }
 {}

@@ -4,6 +4,7 @@ ghost use Rattle.std.specs.Prelude.{◌≡◌, ℕ, ◌/◌, ◌%◌, ◌^◌, �
 ghost use Rattle.std.specs.Int.{w32};
 ghost use Rattle.clock_sync.specs.Clock.{Clock, device_time, device_millis, correction_of, after_answer};
 ghost use Rattle.clock_sync.specs.Clock.{IsCongruent, IsCorrection, IsCorrected};
+ghost use Rattle.clock_sync.specs.WorkedClocks.{WorkedClocks};
 
 /// The correction that is answered is the one number that brings the device's time to the server's.
 pub fn correction_is_the_one()
@@ -36,4 +37,9 @@ pub fn congruent_by_a_multiple()
 pub fn an_answer_corrects()
     ensures { (correction : ℤ) (clock : Clock) → FitsSigned w32 correction → clock.offset < 2 ^ 32
         → IsCorrected clock correction (after_answer correction clock.token clock) }
+{}
+
+/// Times and corrections of clocks that are worked out.
+pub fn worked_clocks()
+    ensures { WorkedClocks }
 {}

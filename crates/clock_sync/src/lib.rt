@@ -11,7 +11,7 @@ pub use clock::{DeviceClock, Taken};
 pub use corrections::{answer_needed, correction};
 pub use laws::{
     an_answer_corrects, congruent_by_a_multiple, correction_is_the_one, correction_mends_the_clock,
-    millis_are_of_the_seconds,
+    millis_are_of_the_seconds, worked_clocks,
 };
 
 #[cfg(test)]

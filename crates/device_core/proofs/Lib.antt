@@ -1,5 +1,6 @@
 pub mod Deliveries
-pub mod Examples
+pub mod WholeFiles
+pub mod WorkedSteps
 pub mod Sending
 pub mod Statuses
 pub mod Heard

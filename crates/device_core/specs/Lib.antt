@@ -8,6 +8,8 @@ pub mod ClassSessions
 pub mod Firmware
 pub mod Step
 pub mod Deliver
+pub mod WholeFiles
+pub mod WorkedSteps
 pub mod Sendable
 pub mod HeldSessions
 pub mod HeldDevice

@@ -7,6 +7,8 @@ ghost use Rattle.device_core.specs.declared.delivered.Delivered.TheVariants.{Dea
 ghost use Rattle.device_core.specs.Device.{DeviceState, outbox_size, after_deaf, after_refused, after_full, with_counts};
 ghost use Rattle.device_core.specs.Firmware.{after_due_reboot};
 ghost use Rattle.device_core.specs.Deliver.{delivery, waking};
+ghost use Rattle.device_core.specs.WholeFiles.{WholeFiles};
+ghost use Rattle.device_core.specs.WorkedSteps.{UplinkSteps, ClockSteps, SessionSteps, GroupSteps, HearingSteps, FirmwareSteps, ConfigSteps};
 
 /// A reboot that is due is carried out once.
 pub fn due_reboot_is_once()
@@ -33,4 +35,21 @@ pub fn a_full_device_wakes_for_its_reboot_alone()
         → IsErr (waking t device).answer ↔ (outbox_size ≤ length device.outbox) }
     ensures unchanged { (t : ℕ) (device : DeviceState)
         → IsErr (waking t device).answer → (waking t device).device ≡ after_due_reboot t device }
+{}
+
+/// The fragment that makes a file whole brings it to the next slot, and no other fragment does.
+#[tactic(auto, using(crate::proofs::WholeFiles::whole_files))]
+pub fn a_whole_file_comes_once()
+    ensures { WholeFiles }
+{}
+
+/// What a device sends, holds and hears, worked out in bytes.
+pub fn worked_steps()
+    ensures uplinks { UplinkSteps }
+    ensures clock { ClockSteps }
+    ensures sessions { SessionSteps }
+    ensures groups { GroupSteps }
+    ensures hearing { HearingSteps }
+    ensures firmware { FirmwareSteps }
+    ensures configs { ConfigSteps }
 {}

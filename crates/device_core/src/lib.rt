@@ -23,7 +23,8 @@ pub use counts::Counts;
 pub use delivered::{Delivered, OutboxFull};
 pub use device::Device;
 pub use laws::{
-    a_full_device_wakes_for_its_reboot_alone, due_reboot_is_once, what_does_not_act_is_counted,
+    a_full_device_wakes_for_its_reboot_alone, a_whole_file_comes_once, due_reboot_is_once,
+    what_does_not_act_is_counted, worked_steps,
 };
 pub use uplink::{Uplink, UplinkCommand};
 

@@ -7,3 +7,4 @@ pub mod Shows
 pub mod Steps
 pub mod Stands
 pub mod FirstMoment
+pub mod WorkedSessions

@@ -1,9 +1,18 @@
 //! Laws about the definitions, each the contract of a function that does nothing.
 
 ghost use Rattle.frag_session.specs.FirstMoment.{FirstMoment};
+ghost use Rattle.frag_session.specs.WorkedSessions.{WorkedSetups, WorkedSessions, WorkedFragments, WorkedStatus};
 
 /// A session is decided by the first heard fragment after which its file is no longer open: it is whole
 /// from the first one on after which one file alone fits, and shows that file.
 pub fn first_moment()
     ensures { FirstMoment }
+{}
+
+/// Setups, fragments and answers of a session that are worked out.
+pub fn worked_sessions()
+    ensures setups { WorkedSetups }
+    ensures sessions { WorkedSessions }
+    ensures fragments { WorkedFragments }
+    ensures status { WorkedStatus }
 {}

@@ -1,3 +1,4 @@
 pub mod Image
 pub mod Slots
 pub mod HeldSlots
+pub mod WorkedImages

@@ -7,10 +7,12 @@
 #![tactic(auto)]
 
 mod image;
+mod laws;
 mod slots;
 mod view;
 
 pub use image::{MAX_IMAGE, firmware, hardware, is_image};
+pub use laws::worked_images;
 pub use slots::{Memory, Slots};
 pub use view::{ImageState, ImageView};
 

@@ -2,6 +2,7 @@
 
 ghost use Rattle.std.specs.Prelude.{◌≡◌, ◌<◌, length, Some};
 ghost use Rattle.mc_group.specs.Groups.{group_at};
+ghost use Rattle.mc_group.specs.WorkedGroups.{WorkedGroups, WorkedSetup};
 
 use crate::group::Group;
 use crate::table::GroupTable;
@@ -15,3 +16,9 @@ pub fn the_wrapped_key_is_held(table: &mut GroupTable, gen_app_key: &Key, id: u8
     let wrapped = wrap_key(&kek(&root_1_0(gen_app_key)), &group.key);
     table.setup(gen_app_key, id, group.addr, &wrapped, group.min, group.max);
 }
+
+/// Groups, the frames that are for them, and their states that are worked out.
+pub fn worked_groups()
+    ensures groups { WorkedGroups }
+    ensures setup { WorkedSetup }
+{}

@@ -5,8 +5,10 @@
 #![tactic(auto)]
 
 mod keys;
+mod laws;
 
 pub use keys::{Key, app_s_key, kek, net_s_key, root_1_0, unwrap_key, wrap_key};
+pub use laws::worked_keys;
 
 #[cfg(test)]
 mod tests;

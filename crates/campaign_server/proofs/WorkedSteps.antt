@@ -1,0 +1,115 @@
+-- The worked steps of a server, each by computing.
+use Rattle.std.proofs.Common.{refl}
+use Rattle.wire_base.specs.Numbers.{number_at}
+use Rattle.cast_wire.specs.Tests as cast
+use Rattle.sync_wire.specs.Tests as sync
+use Rattle.sync_wire.specs.Reading.{clock_up, firmware_up}
+use Rattle.cast_wire.specs.Reading.{fragment_up, group_up}
+use Rattle.image_slots.specs.Image.{hardware_of, firmware_of}
+use Rattle.package_grammar.specs.Reading.{named_at, command_at, is_known, stop_at, read_from, reading_of}
+use Rattle.frag_model.specs.Fragments.{line_of, pieces_at, xor_bytes, xor_all}
+use Rattle.frag_encoder.specs.Encoding.{pieces_of, data_of}
+use Rattle.campaign_server.specs.Plan.{bad_field}
+use Rattle.campaign_server.specs.Asking.{request_at, request_of}
+use Rattle.campaign_server.specs.Answers.{stage_after, stage_after_all}
+use Rattle.campaign_server.specs.Fragments.{next_fragment, after_fragment, status_to_all, after_status_to_all}
+use Rattle.campaign_server.specs.Time.{time_answer}
+use Rattle.campaign_server.specs.Uplinks.{read_uplink, uplink_step}
+use Rattle.campaign_server.specs.WorkedSteps.{AskSteps, AnswerSteps, TimeSteps, SendSteps, PlanSteps}
+
+pub asking : AskSteps
+unfolding request_of request_at hardware_of firmware_of number_at
+asking = record {
+  start = refl;
+  version = refl;
+  fragments = refl;
+  padded = refl;
+  fed = refl;
+  window = refl;
+  window_b = refl;
+  status = refl;
+  image_ = refl;
+  reboot = refl;
+  check = refl;
+  updated = refl;
+  refused = refl;
+}
+
+pub answers : AnswerSteps
+unfolding reading_of read_from command_at named_at stop_at is_known sync.is_known sync.samples cast.is_known cast.samples clock_up firmware_up fragment_up group_up uplink_step read_uplink stage_after_all stage_after time_answer hardware_of firmware_of number_at
+answers = record {
+  hardware = refl;
+  to_group = refl;
+  other_hardware = refl;
+  group = refl;
+  group_error = refl;
+  other_id = refl;
+  set_up = refl;
+  to_window = refl;
+  setup_bits = refl;
+  other_index = refl;
+  window = refl;
+  window_bits = refl;
+  other_class = refl;
+  whole = refl;
+  missing = refl;
+  no_rows = refl;
+  valid = refl;
+  other_version = refl;
+  corrupt = refl;
+  none = refl;
+  reboot = refl;
+  updated = refl;
+  old_firmware = refl;
+  repeated = refl;
+  in_order = refl;
+  cut = refl;
+  second = refl;
+  third = refl;
+}
+
+pub times : TimeSteps
+unfolding reading_of read_from command_at named_at stop_at is_known sync.is_known sync.samples cast.is_known cast.samples clock_up firmware_up fragment_up group_up uplink_step read_uplink stage_after_all stage_after time_answer hardware_of firmware_of number_at
+times = record {
+  ahead = refl;
+  right = refl;
+  required = refl;
+  first = refl;
+}
+
+pub sending : SendSteps
+unfolding next_fragment after_fragment status_to_all after_status_to_all data_of pieces_of line_of pieces_at xor_bytes xor_all
+sending = record {
+  first = refl;
+  eighth = refl;
+  spent = refl;
+  moves = refl;
+  last_count = refl;
+  counts = refl;
+  spent_first = refl;
+  stays = refl;
+  status = refl;
+  counted = refl;
+  no_status = refl;
+}
+
+pub plans : PlanSteps
+unfolding bad_field
+plans = record {
+  fine = refl;
+  frag_size = refl;
+  large = refl;
+  largest = refl;
+  pieces = refl;
+  more_pieces = refl;
+  most = refl;
+  parity = refl;
+  group = refl;
+  no_window = refl;
+  no_group = refl;
+  timeout = refl;
+  periodicity = refl;
+  no_devices = refl;
+  devices = refl;
+  more_devices = refl;
+}

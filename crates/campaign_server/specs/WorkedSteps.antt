@@ -1,0 +1,170 @@
+-- Steps of a server that are worked out: what it asks and sends, in bytes, and where answers lead.
+use Rattle.std.specs.Prelude.{◌≡◌, ℕ, true, List, [], ◌∷◌, replicate, Option, Some, None, Result, Ok, Err, is_ok}
+use Rattle.wire_base.specs.declared.refusal.Refusal.{Refusal}
+use Rattle.wire_base.specs.declared.refusal.Why.TheVariants as why
+use Rattle.package_grammar.specs.declared.downlink.Downlink.{Downlink}
+use Rattle.package_grammar.specs.declared.downlink.To.TheVariants as to
+use Rattle.campaign_server.specs.declared.plan.Kind.TheVariants as kind
+use Rattle.campaign_server.specs.declared.plan.Field.TheVariants as field
+use Rattle.campaign_server.specs.declared.plan.PlanGroup.{PlanGroup}
+use Rattle.campaign_server.specs.declared.plan.PlanWindow.{PlanWindow}
+use Rattle.campaign_server.specs.declared.fragments.Spent.TheVariants.{Fragments as AllSent, Counts}
+use Rattle.campaign_server.specs.declared.stage.Stage.{Stage}
+use Rattle.campaign_server.specs.declared.stage.Stage.TheVariants.{At, Updated, Refused}
+use Rattle.campaign_server.specs.declared.stage.Request.TheVariants.{Version, Group, Fragments, Window, Status, Image, Reboot, Check}
+use Rattle.campaign_server.specs.Plan.{Plan, bad_field}
+use Rattle.campaign_server.specs.Server.{ServerState, first_server, ledger}
+use Rattle.campaign_server.specs.Asking.{request_of}
+use Rattle.campaign_server.specs.Fragments.{next_fragment, after_fragment, status_to_all, after_status_to_all}
+use Rattle.campaign_server.specs.Sent.{down_of, result_of, answer_of}
+use Rattle.campaign_server.specs.Uplinks.{uplink_step}
+
+-- ---- a campaign: an image of hardware 1 and firmware 2, 52 bytes (its digest plays no part here), and one device
+
+abbrev pub image : List ℕ
+image = 0x46 ∷ 0x55 ∷ 0x49 ∷ 0x4d ∷ 0x01 ∷ 0x01 ∷ 0 ∷ 0 ∷ 0 ∷ 0x02 ∷ 0 ∷ 0 ∷ 0 ∷ 0x03 ∷ 0 ∷ 0 ∷ 0 ∷ replicate 35 0
+
+abbrev pub alone : Plan
+alone = record { frag_size = 13; parity = 4; group = None; window = None; devices = record { key = replicate 16 0 } ∷ [] }
+
+-- a group with the frame counts 5 and 6, and its class C session
+abbrev pub worked_group : PlanGroup
+worked_group = record { addr = 0x11223344; key = replicate 16 0; min = 5; max = 7 }
+
+abbrev pub worked_window : PlanWindow
+worked_window = record { kind = kind.C; start = 1000; timeout = 0; freq = 8695250; dr = 0 }
+
+abbrev pub grouped : Plan
+grouped = record alone { group = Some worked_group; window = Some worked_window }
+
+abbrev pub two_devices : Plan
+two_devices = record alone { devices = record { key = replicate 16 0 } ∷ record { key = replicate 16 1 } ∷ [] }
+
+-- a server whose device stands at a stage
+abbrev pub at_stage : Plan → Stage → ServerState
+at_stage plan stage = record (first_server image plan) { stages = stage ∷ [] }
+
+-- ---- what it asks of a device
+
+abbrev pub asks : Plan → Stage → Option Downlink
+asks plan stage = down_of (request_of (at_stage plan stage) 1)
+
+abbrev pub by_unicast : (port : ℕ) → List ℕ → Option Downlink
+by_unicast port payload = Some (record { to = to.Unicast; port = port; payload = payload })
+
+pub record AskSteps : Type 0 where
+  pub start : first_server image two_devices
+      ≡ record { plan = two_devices; image = image; stages = At Version ∷ At Version ∷ []; next = 1; count = 0 }
+  pub version : asks alone (At Version) ≡ by_unicast 203 (0x01 ∷ [])
+  -- 4 fragments of 13 bytes, or 2 of 50 with 48 of padding; the descriptor is the firmware version, and a group may feed the session
+  pub fragments : asks alone (At Fragments) ≡ by_unicast 201 (0x02 ∷ 0x00 ∷ 0x04 ∷ 0x00 ∷ 0x0d ∷ 0x00 ∷ 0x00 ∷ 0x02 ∷ 0x00 ∷ 0x00 ∷ 0x00 ∷ [])
+  pub padded : asks (record alone { frag_size = 50 }) (At Fragments)
+      ≡ by_unicast 201 (0x02 ∷ 0x00 ∷ 0x02 ∷ 0x00 ∷ 0x32 ∷ 0x00 ∷ 0x30 ∷ 0x02 ∷ 0x00 ∷ 0x00 ∷ 0x00 ∷ [])
+  pub fed : asks grouped (At Fragments) ≡ by_unicast 201 (0x02 ∷ 0x01 ∷ 0x04 ∷ 0x00 ∷ 0x0d ∷ 0x00 ∷ 0x00 ∷ 0x02 ∷ 0x00 ∷ 0x00 ∷ 0x00 ∷ [])
+  pub window : asks grouped (At Window) ≡ by_unicast 200 (0x04 ∷ 0x00 ∷ 0xe8 ∷ 0x03 ∷ 0x00 ∷ 0x00 ∷ 0x00 ∷ 0xd2 ∷ 0xad ∷ 0x84 ∷ 0x00 ∷ [])
+  pub window_b : asks (record grouped { window = Some (record worked_window { kind = kind.B 3; timeout = 1 }) }) (At Window)
+      ≡ by_unicast 200 (0x05 ∷ 0x00 ∷ 0xe8 ∷ 0x03 ∷ 0x00 ∷ 0x00 ∷ 0x31 ∷ 0xd2 ∷ 0xad ∷ 0x84 ∷ 0x00 ∷ [])
+  pub status : asks alone (At Status) ≡ by_unicast 201 (0x01 ∷ 0x01 ∷ [])
+  pub image_ : asks alone (At Image) ≡ by_unicast 203 (0x04 ∷ [])
+  pub reboot : asks alone (At Reboot) ≡ by_unicast 203 (0x03 ∷ 0x00 ∷ 0x00 ∷ 0x00 ∷ [])
+  pub check : asks alone (At Check) ≡ by_unicast 203 (0x01 ∷ [])
+  pub updated : asks alone Updated ≡ None
+  pub refused : asks alone (Refused Version 1) ≡ None
+
+-- ---- where an uplink leads from a stage
+
+abbrev pub leads : Plan → Stage → (port : ℕ) → List ℕ → Option Stage
+leads plan stage port payload = ledger (uplink_step (at_stage plan stage) 1 port payload 0).server 1
+
+-- DevVersionAns
+abbrev pub versions : (firmware hardware : ℕ) → List ℕ
+versions firmware hardware = 0x01 ∷ firmware ∷ 0 ∷ 0 ∷ 0 ∷ hardware ∷ 0 ∷ 0 ∷ 0 ∷ []
+
+pub record AnswerSteps : Type 0 where
+  pub hardware : leads alone (At Version) 203 (versions 0 1) ≡ Some (At Fragments)
+  pub to_group : leads grouped (At Version) 203 (versions 0 1) ≡ Some (At Group)
+  pub other_hardware : leads alone (At Version) 203 (versions 0 2) ≡ Some (Refused Version 1)
+  pub group : leads grouped (At Group) 200 (0x02 ∷ 0x00 ∷ []) ≡ Some (At Fragments)
+  pub group_error : leads grouped (At Group) 200 (0x02 ∷ 0x04 ∷ []) ≡ Some (Refused Group 4)
+  pub other_id : leads grouped (At Group) 200 (0x02 ∷ 0x05 ∷ []) ≡ Some (At Group)
+  pub set_up : leads alone (At Fragments) 201 (0x02 ∷ 0x00 ∷ []) ≡ Some (At Status)
+  pub to_window : leads grouped (At Fragments) 201 (0x02 ∷ 0x00 ∷ []) ≡ Some (At Window)
+  pub setup_bits : leads alone (At Fragments) 201 (0x02 ∷ 0x0a ∷ []) ≡ Some (Refused Fragments 10)
+  pub other_index : leads alone (At Fragments) 201 (0x02 ∷ 0x42 ∷ []) ≡ Some (At Fragments)
+  pub window : leads grouped (At Window) 200 (0x04 ∷ 0x00 ∷ 0x0a ∷ 0x00 ∷ 0x00 ∷ []) ≡ Some (At Status)
+  pub window_bits : leads grouped (At Window) 200 (0x04 ∷ 0x1c ∷ []) ≡ Some (Refused Window 28)
+  pub other_class : leads grouped (At Window) 200 (0x05 ∷ 0x00 ∷ 0x0a ∷ 0x00 ∷ 0x00 ∷ []) ≡ Some (At Window)
+  pub whole : leads alone (At Status) 201 (0x01 ∷ 0x04 ∷ 0x00 ∷ 0x00 ∷ 0x00 ∷ []) ≡ Some (At Image)
+  pub missing : leads alone (At Status) 201 (0x01 ∷ 0x04 ∷ 0x00 ∷ 0x01 ∷ 0x00 ∷ []) ≡ Some (At Status)
+  pub no_rows : leads alone (At Status) 201 (0x01 ∷ 0x04 ∷ 0x00 ∷ 0x01 ∷ 0x01 ∷ []) ≡ Some (Refused Status 1)
+  pub valid : leads alone (At Image) 203 (0x04 ∷ 0x03 ∷ 0x02 ∷ 0x00 ∷ 0x00 ∷ 0x00 ∷ []) ≡ Some (At Reboot)
+  pub other_version : leads alone (At Image) 203 (0x04 ∷ 0x03 ∷ 0x03 ∷ 0x00 ∷ 0x00 ∷ 0x00 ∷ []) ≡ Some (Refused Image 3)
+  pub corrupt : leads alone (At Image) 203 (0x04 ∷ 0x01 ∷ []) ≡ Some (Refused Image 1)
+  pub none : leads alone (At Image) 203 (0x04 ∷ 0x00 ∷ []) ≡ Some (At Image)
+  pub reboot : leads alone (At Reboot) 203 (0x03 ∷ 0x07 ∷ 0x00 ∷ 0x00 ∷ []) ≡ Some (At Check)
+  pub updated : leads alone (At Check) 203 (versions 2 1) ≡ Some Updated
+  pub old_firmware : leads alone (At Check) 203 (versions 0 1) ≡ Some (At Check)
+  -- a repeated answer moves nothing, several in one uplink act in order, and a refused payload changes nothing
+  pub repeated : leads alone (At Fragments) 203 (versions 0 1) ≡ Some (At Fragments)
+  pub in_order : leads alone (At Reboot) 203 (0x03 ∷ 0x00 ∷ 0x00 ∷ 0x00 ∷ versions 2 1) ≡ Some Updated
+  pub cut : uplink_step (at_stage alone (At Reboot)) 1 203 (0x03 ∷ 0x00 ∷ 0x00 ∷ 0x00 ∷ 0x01 ∷ 0x02 ∷ []) 0
+      ≡ record { server = at_stage alone (At Reboot); answer = Err (record { at = 6; why = why.Short }) }
+  -- a device moves its own stage
+  pub second : (uplink_step (first_server image two_devices) 2 203 (versions 0 1) 0).server.stages ≡ At Version ∷ At Fragments ∷ []
+  pub third : (uplink_step (first_server image two_devices) 3 203 (versions 0 1) 0).server.stages ≡ At Version ∷ At Version ∷ []
+
+-- ---- the time: a device 5 s ahead is answered, and one that is right only where it asks for it
+
+abbrev pub answers : (t : ℕ) → List ℕ → Result (Option Downlink) Refusal
+answers t payload = answer_of (uplink_step (at_stage alone (At Version)) 1 202 payload t).answer
+
+pub record TimeSteps : Type 0 where
+  pub ahead : answers 10000 (0x01 ∷ 0x0f ∷ 0x00 ∷ 0x00 ∷ 0x00 ∷ 0x10 ∷ []) ≡ Ok (by_unicast 202 (0x01 ∷ 0xfb ∷ 0xff ∷ 0xff ∷ 0xff ∷ 0x00 ∷ []))
+  pub right : answers 10000 (0x01 ∷ 0x0a ∷ 0x00 ∷ 0x00 ∷ 0x00 ∷ 0x03 ∷ []) ≡ Ok None
+  pub required : answers 10999 (0x01 ∷ 0x0a ∷ 0x00 ∷ 0x00 ∷ 0x00 ∷ 0x13 ∷ []) ≡ Ok (by_unicast 202 (0x01 ∷ 0x00 ∷ 0x00 ∷ 0x00 ∷ 0x00 ∷ 0x03 ∷ []))
+  -- of several requests the first that needs an answer has it
+  pub first : answers 10000 (0x01 ∷ 0x0a ∷ 0x00 ∷ 0x00 ∷ 0x00 ∷ 0x03 ∷ 0x01 ∷ 0x09 ∷ 0x00 ∷ 0x00 ∷ 0x00 ∷ 0x04 ∷ 0x01 ∷ 0x08 ∷ 0x00 ∷ 0x00 ∷ 0x00 ∷ 0x05 ∷ [])
+      ≡ Ok (by_unicast 202 (0x01 ∷ 0x01 ∷ 0x00 ∷ 0x00 ∷ 0x00 ∷ 0x04 ∷ []))
+
+-- ---- what goes to all
+
+pub record SendSteps : Type 0 where
+  -- the first fragment is the first 13 bytes of the image
+  pub first : result_of (next_fragment (first_server image alone)) ≡ Ok (record {
+    to = to.Unicast;
+    port = 201;
+    payload = 0x08 ∷ 0x01 ∷ 0x00 ∷ 0x46 ∷ 0x55 ∷ 0x49 ∷ 0x4d ∷ 0x01 ∷ 0x01 ∷ 0 ∷ 0 ∷ 0 ∷ 0x02 ∷ 0 ∷ 0 ∷ 0 ∷ [];
+  })
+  -- 4 fragments, and 4 that are coded
+  pub eighth : is_ok (next_fragment (record (first_server image alone) { next = 8 })) ≡ true
+  pub spent : next_fragment (record (first_server image alone) { next = 9 }) ≡ Err AllSent
+  -- to the group with its next count, which ends before its MAX
+  pub moves : after_fragment (first_server image grouped) ≡ record (first_server image grouped) { next = 2; count = 6 }
+  pub last_count : is_ok (next_fragment (record (first_server image grouped) { count = 6 })) ≡ true
+  pub counts : next_fragment (record (first_server image grouped) { count = 7 }) ≡ Err Counts
+  pub spent_first : next_fragment (record (first_server image grouped) { next = 9; count = 7 }) ≡ Err AllSent
+  pub stays : after_fragment (record (first_server image grouped) { count = 7 }) ≡ record (first_server image grouped) { count = 7 }
+  pub status : down_of (status_to_all (first_server image grouped))
+      ≡ Some (record { to = to.Group 0x11223344 5; port = 201; payload = 0x01 ∷ 0x00 ∷ [] })
+  pub counted : after_status_to_all (first_server image grouped) ≡ record (first_server image grouped) { count = 6 }
+  pub no_status : status_to_all (record (first_server image grouped) { count = 7 }) ≡ None
+
+-- ---- which field of a plan is wrong, for a file of so many bytes: the first
+
+pub record PlanSteps : Type 0 where
+  pub fine : bad_field 52 grouped ≡ None
+  pub frag_size : bad_field 52 (record alone { frag_size = 0 }) ≡ Some field.FragSize
+  pub large : bad_field 52 (record alone { frag_size = 240; parity = 513 }) ≡ Some field.FragSize
+  pub largest : bad_field 52 (record alone { frag_size = 239 }) ≡ None
+  pub pieces : bad_field 1024 (record alone { frag_size = 1 }) ≡ None
+  pub more_pieces : bad_field 1025 (record alone { frag_size = 1 }) ≡ Some field.FragSize
+  pub most : bad_field 52 (record alone { parity = 512 }) ≡ None
+  pub parity : bad_field 52 (record alone { parity = 513 }) ≡ Some field.Parity
+  pub group : bad_field 52 (record grouped { group = Some (record worked_group { min = 7 }) }) ≡ Some field.Group
+  pub no_window : bad_field 52 (record grouped { window = None }) ≡ Some field.Window
+  pub no_group : bad_field 52 (record grouped { group = None }) ≡ Some field.Window
+  pub timeout : bad_field 52 (record grouped { window = Some (record worked_window { timeout = 16 }) }) ≡ Some field.Window
+  pub periodicity : bad_field 52 (record grouped { window = Some (record worked_window { kind = kind.B 8 }) }) ≡ Some field.Window
+  pub no_devices : bad_field 52 (record alone { devices = [] }) ≡ Some field.Devices
+  pub devices : bad_field 52 (record alone { devices = replicate 64 (record { key = replicate 16 0 }) }) ≡ None
+  pub more_devices : bad_field 52 (record alone { devices = replicate 65 (record { key = replicate 16 0 }) }) ≡ Some field.Devices

@@ -1,0 +1,148 @@
+-- The worked steps of a device, each by computing.
+use Rattle.std.proofs.Common.{refl}
+use Rattle.std.specs.Int.{int_wrap}
+use Rattle.wire_base.specs.Numbers.{number_at}
+use Rattle.sync_wire.specs.Tests as sync
+use Rattle.cast_wire.specs.Tests as cast
+use Rattle.sync_wire.specs.Reading.{clock_down, firmware_down}
+use Rattle.cast_wire.specs.Reading.{group_down, fragment_down}
+use Rattle.package_grammar.specs.Reading.{named_at, command_at, is_known, stop_at, read_from, reading_of}
+use Rattle.row_elimination.specs.Room.{has_room, words_for}
+use Rattle.frag_model.specs.Verdict.{verdict, missing}
+use Rattle.frag_session.specs.Setup.{setup_bits, wrong_coding, too_large, other_descriptor, same_setup}
+use Rattle.frag_session.specs.Session.{new_session, renewed, after_setup, excludes, cause_of, drop_cause, followed, after_fragment, shape_of, shown_verdict, seen_of, status_by, status_in, status_of}
+use Rattle.image_slots.specs.Slots.{after_swap, after_delete}
+use Rattle.class_windows.specs.Open.{is_after_uplink, is_running}
+use Rattle.device_core.specs.Answers.{after_answers}
+use Rattle.device_core.specs.Clock.{answer_step, periodicity_step, resync_step}
+use Rattle.device_core.specs.Fragments.{setup_step, delete_step, status_step, heard_step, fragment_step}
+use Rattle.device_core.specs.Groups.{groups_step, group_setup_step, group_delete_step}
+use Rattle.device_core.specs.ClassSessions.{hears, class_session_step}
+use Rattle.device_core.specs.Firmware.{version_step, upgrade_step, delete_image_step, reboot_time_step, countdown_step, after_due_reboot}
+use Rattle.device_core.specs.Step.{command_step, step, after_commands}
+use Rattle.device_core.specs.Deliver.{message_delivery, read_delivery, heard_delivery, delivery, time_asking, waking}
+use Rattle.device_core.specs.WorkedSteps.{UplinkSteps, ClockSteps, SessionSteps, GroupSteps, HearingSteps, FirmwareSteps, ConfigSteps}
+
+pub uplinks : UplinkSteps
+unfolding int_wrap delivery heard_delivery read_delivery message_delivery after_due_reboot after_swap after_delete hears is_after_uplink is_running reading_of read_from command_at named_at is_known stop_at sync.is_known sync.samples cast.is_known cast.samples number_at clock_down firmware_down group_down fragment_down after_commands step command_step after_answers answer_step periodicity_step resync_step waking time_asking groups_step group_setup_step group_delete_step class_session_step version_step upgrade_step delete_image_step reboot_time_step countdown_step setup_step delete_step status_step fragment_step heard_step setup_bits wrong_coding too_large other_descriptor has_room words_for new_session after_setup renewed same_setup excludes cause_of drop_cause followed after_fragment shape_of shown_verdict seen_of status_by status_in status_of verdict missing
+uplinks = record {
+  groups = refl;
+  fragments = refl;
+  clock = refl;
+  firmware = refl;
+  at_once = refl;
+  last_due = refl;
+  eight = refl;
+  oldest = refl;
+  seven_left = refl;
+  nine = refl;
+  nothing_acted = refl;
+  unknown = refl;
+  unread = refl;
+  full = refl;
+  refused = refl;
+  deaf = refl;
+  dropped = refl;
+  end = refl;
+}
+
+pub clock : ClockSteps
+unfolding int_wrap delivery heard_delivery read_delivery message_delivery after_due_reboot after_swap after_delete hears is_after_uplink is_running reading_of read_from command_at named_at is_known stop_at sync.is_known sync.samples cast.is_known cast.samples number_at clock_down firmware_down group_down fragment_down after_commands step command_step after_answers answer_step periodicity_step resync_step waking time_asking groups_step group_setup_step group_delete_step class_session_step version_step upgrade_step delete_image_step reboot_time_step countdown_step setup_step delete_step status_step fragment_step heard_step setup_bits wrong_coding too_large other_descriptor has_room words_for new_session after_setup renewed same_setup excludes cause_of drop_cause followed after_fragment shape_of shown_verdict seen_of status_by status_in status_of verdict missing
+clock = record {
+  wakes = refl;
+  resyncs = refl;
+  none = refl;
+  mends = refl;
+  other_token = refl;
+  periodicity = refl;
+}
+
+pub sessions : SessionSteps
+unfolding int_wrap delivery heard_delivery read_delivery message_delivery after_due_reboot after_swap after_delete hears is_after_uplink is_running reading_of read_from command_at named_at is_known stop_at sync.is_known sync.samples cast.is_known cast.samples number_at clock_down firmware_down group_down fragment_down after_commands step command_step after_answers answer_step periodicity_step resync_step waking time_asking groups_step group_setup_step group_delete_step class_session_step version_step upgrade_step delete_image_step reboot_time_step countdown_step setup_step delete_step status_step fragment_step heard_step setup_bits wrong_coding too_large other_descriptor has_room words_for new_session after_setup renewed same_setup excludes cause_of drop_cause followed after_fragment shape_of shown_verdict seen_of status_by status_in status_of verdict missing
+sessions = record {
+  setup = refl;
+  status = refl;
+  missing = refl;
+  other_index = refl;
+  undelayed = refl;
+  delayed = refl;
+  deleted = refl;
+  no_fragments = refl;
+  all_padding = refl;
+  too_many = refl;
+  coding = refl;
+  index = refl;
+  descriptor = refl;
+  rows = refl;
+  heard = refl;
+}
+
+pub groups : GroupSteps
+unfolding int_wrap delivery heard_delivery read_delivery message_delivery after_due_reboot after_swap after_delete hears is_after_uplink is_running reading_of read_from command_at named_at is_known stop_at sync.is_known sync.samples cast.is_known cast.samples number_at clock_down firmware_down group_down fragment_down after_commands step command_step after_answers answer_step periodicity_step resync_step waking time_asking groups_step group_setup_step group_delete_step class_session_step version_step upgrade_step delete_image_step reboot_time_step countdown_step setup_step delete_step status_step fragment_step heard_step setup_bits wrong_coding too_large other_descriptor has_room words_for new_session after_setup renewed same_setup excludes cause_of drop_cause followed after_fragment shape_of shown_verdict seen_of status_by status_in status_of verdict missing
+groups = record {
+  set_up = refl;
+  told = refl;
+  asked_for = refl;
+  no_group = refl;
+  deleted = refl;
+  id_error = refl;
+  start = refl;
+  errors = refl;
+  beacon = refl;
+  ends = refl;
+  stays = refl;
+}
+
+pub hearing : HearingSteps
+unfolding int_wrap delivery heard_delivery read_delivery message_delivery after_due_reboot after_swap after_delete hears is_after_uplink is_running reading_of read_from command_at named_at is_known stop_at sync.is_known sync.samples cast.is_known cast.samples number_at clock_down firmware_down group_down fragment_down after_commands step command_step after_answers answer_step periodicity_step resync_step waking time_asking groups_step group_setup_step group_delete_step class_session_step version_step upgrade_step delete_image_step reboot_time_step countdown_step setup_step delete_step status_step fragment_step heard_step setup_bits wrong_coding too_large other_descriptor has_room words_for new_session after_setup renewed same_setup excludes cause_of drop_cause followed after_fragment shape_of shown_verdict seen_of status_by status_in status_of verdict missing
+hearing = record {
+  before = refl;
+  first = refl;
+  last = refl;
+  behind = refl;
+  max_count = refl;
+  no_session = refl;
+  skipped = refl;
+  act = refl;
+  a_none = refl;
+  a_5999 = refl;
+  a_6000 = refl;
+  a_6100 = refl;
+  a_7000 = refl;
+}
+
+pub firmware : FirmwareSteps
+unfolding int_wrap delivery heard_delivery read_delivery message_delivery after_due_reboot after_swap after_delete hears is_after_uplink is_running reading_of read_from command_at named_at is_known stop_at sync.is_known sync.samples cast.is_known cast.samples number_at clock_down firmware_down group_down fragment_down after_commands step command_step after_answers answer_step periodicity_step resync_step waking time_asking groups_step group_setup_step group_delete_step class_session_step version_step upgrade_step delete_image_step reboot_time_step countdown_step setup_step delete_step status_step fragment_step heard_step setup_bits wrong_coding too_large other_descriptor has_room words_for new_session after_setup renewed same_setup excludes cause_of drop_cause followed after_fragment shape_of shown_verdict seen_of status_by status_in status_of verdict missing
+firmware = record {
+  version = refl;
+  no_next = refl;
+  corrupt = refl;
+  incompatible = refl;
+  valid = refl;
+  other = refl;
+  deleted = refl;
+  gone = refl;
+  time = refl;
+  countdown = refl;
+  round = refl;
+  cancelled = refl;
+  uncounted = refl;
+  at_once = refl;
+  old_version = refl;
+  new_version = refl;
+  due = refl;
+  early = refl;
+  behind = refl;
+  too_far = refl;
+  ahead = refl;
+}
+
+pub configs : ConfigSteps
+configs = record {
+  most = refl;
+  rows = refl;
+  sessions = refl;
+  no_session = refl;
+  groups = refl;
+  area = refl;
+}

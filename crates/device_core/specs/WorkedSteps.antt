@@ -1,0 +1,257 @@
+-- Steps of a device that are worked out: what comes to it, in bytes, and what it then sends and holds.
+use Rattle.std.specs.Prelude.{◌≡◌, ℕ, ◌-◌, ◌^◌, true, false, List, [], ◌∷◌, ◌++◌, length, map, Some, None, replicate}
+use Rattle.wire_base.specs.declared.refusal.Why.TheVariants as why
+use Rattle.package_grammar.specs.declared.downlink.To.TheVariants.{Unicast, Group}
+use Rattle.frag_session.specs.declared.answers.Via.TheVariants as via
+use Rattle.image_slots.specs.declared.view.ImageState.{ImageState}
+use Rattle.image_slots.specs.declared.view.ImageState.TheVariants as image
+use Rattle.device_core.specs.declared.config.Class.{Class}
+use Rattle.device_core.specs.declared.config.Class.TheVariants.{A, C}
+use Rattle.device_core.specs.declared.config.DeviceConfig.{DeviceConfig}
+use Rattle.device_core.specs.declared.uplink.Uplink.{Uplink}
+use Rattle.device_core.specs.declared.delivered.Delivered.{Delivered}
+use Rattle.device_core.specs.declared.delivered.Delivered.TheVariants.{Deaf, Refused, OutboxFull, Done}
+use Rattle.device_core.specs.Device.{DeviceState, first_device, is_config, counter_after}
+use Rattle.device_core.specs.Fragments.{answer_delay}
+use Rattle.device_core.specs.Firmware.{is_reached}
+use Rattle.device_core.specs.Deliver.{Outcome, delivery, waking, taking}
+
+-- ---- a device, and what comes to it
+
+-- a device of hardware 1, whose clock is so many seconds ahead
+abbrev pub worked_config : Class → (offset : ℕ) → DeviceConfig
+worked_config class offset = record {
+  class = class;
+  hw = 1;
+  rows = 2;
+  offset = offset;
+  key = replicate 16 0;
+  descriptor = None;
+  sessions = 4;
+  groups = 4;
+  area = 65774;
+}
+
+-- one of class C, whose clock is right
+abbrev pub fresh : DeviceState
+fresh = first_device (worked_config C 0)
+
+-- the same with another configuration
+abbrev pub fresh_with : DeviceConfig → DeviceState
+fresh_with config = first_device config
+
+-- behind a payload by unicast at t ms, with the random word 0, at line 1
+abbrev pub received : (t port : ℕ) → List ℕ → DeviceState → Outcome Delivered
+received t port payload device = delivery t 0 1 (record { to = Unicast; port = port; payload = payload }) device
+
+abbrev pub after : (t port : ℕ) → List ℕ → DeviceState → DeviceState
+after t port payload device = (received t port payload device).device
+
+abbrev pub answer : (t port : ℕ) → List ℕ → DeviceState → Delivered
+answer t port payload device = (received t port payload device).answer
+
+abbrev pub payload_of : Uplink → List ℕ
+payload_of uplink = uplink.payload
+
+-- what its outbox holds, in bytes
+abbrev pub payloads : DeviceState → List (List ℕ)
+payloads device = map payload_of device.outbox
+
+abbrev pub taken : DeviceState → DeviceState
+taken device = record device { outbox = [] }
+
+-- what a device with an empty outbox sends where a payload comes
+abbrev pub sends : (t port : ℕ) → List ℕ → DeviceState → List (List ℕ)
+sends t port payload device = payloads (after t port payload (taken device))
+
+-- ---- uplinks
+
+pub record UplinkSteps : Type 0 where
+  -- each package names itself, with version 1
+  pub groups : sends 0 200 (0x00 ∷ []) fresh ≡ (0x00 ∷ 0x02 ∷ 0x01 ∷ []) ∷ []
+  pub fragments : sends 0 201 (0x00 ∷ []) fresh ≡ (0x00 ∷ 0x03 ∷ 0x01 ∷ []) ∷ []
+  pub clock : sends 0 202 (0x00 ∷ []) fresh ≡ (0x00 ∷ 0x01 ∷ 0x01 ∷ []) ∷ []
+  pub firmware : sends 0 203 (0x00 ∷ []) fresh ≡ (0x00 ∷ 0x04 ∷ 0x01 ∷ []) ∷ []
+  -- an answer is due at once, on the port of the request
+  pub at_once : (after 7 202 (0x00 ∷ []) fresh).outbox ≡ record { due = 7; port = 202; payload = 0x00 ∷ 0x01 ∷ 0x01 ∷ [] } ∷ []
+  pub last_due : (after 7 202 (0x00 ∷ []) fresh).last_due ≡ Some 7
+  -- eight uplinks are held, oldest first; a ninth refuses its whole payload
+  pub eight : answer 0 202 (0x03 ∷ 0x07 ∷ 0x00 ∷ []) fresh ≡ Done
+  pub oldest : (taking (after 0 202 (0x00 ∷ 0x03 ∷ 0x07 ∷ []) fresh)).answer
+      ≡ Some (record { due = 0; port = 202; payload = 0x00 ∷ 0x01 ∷ 0x01 ∷ [] })
+  pub seven_left : length (taking (after 0 202 (0x00 ∷ 0x03 ∷ 0x07 ∷ []) fresh)).device.outbox ≡ 7
+  pub nine : answer 0 202 (0x03 ∷ 0x07 ∷ 0x00 ∷ 0x00 ∷ []) fresh ≡ OutboxFull 9
+  pub nothing_acted : payloads (after 0 202 (0x03 ∷ 0x07 ∷ 0x00 ∷ 0x00 ∷ []) fresh) ≡ []
+  -- what is read before the first command that is unknown does not act
+  pub unknown : answer 0 202 (0x00 ∷ 0x7f ∷ []) fresh ≡ Refused (record { at = 1; why = why.UnknownCommand })
+  pub unread : payloads (after 0 202 (0x00 ∷ 0x7f ∷ []) fresh) ≡ []
+  -- each is counted, to the end of its counter
+  pub full : (after 0 202 (0x03 ∷ 0x07 ∷ 0x00 ∷ 0x00 ∷ []) fresh).counts ≡ record { deaf = 0; refused = 0; full = 1; dropped = 0 }
+  pub refused : (after 0 202 (0x7f ∷ []) fresh).counts ≡ record { deaf = 0; refused = 1; full = 0; dropped = 0 }
+  pub deaf : (after 0 202 [] (first_device (worked_config A 0))).counts ≡ record { deaf = 1; refused = 0; full = 0; dropped = 0 }
+  pub dropped : (after 0 201 (0x08 ∷ 0x01 ∷ 0x00 ∷ 0x07 ∷ []) fresh).counts ≡ record { deaf = 0; refused = 0; full = 0; dropped = 1 }
+  pub end : counter_after (2 ^ 64 - 1) ≡ 2 ^ 64 - 1
+
+-- ---- the clock: 5 s ahead, and mended once
+
+abbrev pub ahead : DeviceState
+ahead = first_device (worked_config C 5)
+
+abbrev pub mended : DeviceState
+mended = after 10000 202 (0x01 ∷ 0xfb ∷ 0xff ∷ 0xff ∷ 0xff ∷ 0x00 ∷ []) ahead
+
+pub record ClockSteps : Type 0 where
+  -- it asks for the time on waking, with AnsRequired, and by ForceDeviceResyncReq without
+  pub wakes : (waking 10000 ahead).device.outbox
+      ≡ record { due = 10000; port = 202; payload = 0x01 ∷ 0x0f ∷ 0x00 ∷ 0x00 ∷ 0x00 ∷ 0x10 ∷ [] } ∷ []
+  pub resyncs : sends 10000 202 (0x03 ∷ 0x02 ∷ []) ahead
+      ≡ (0x01 ∷ 0x0f ∷ 0x00 ∷ 0x00 ∷ 0x00 ∷ 0x00 ∷ []) ∷ (0x01 ∷ 0x0f ∷ 0x00 ∷ 0x00 ∷ 0x00 ∷ 0x00 ∷ []) ∷ []
+  pub none : after 0 202 (0x03 ∷ 0x00 ∷ []) fresh ≡ fresh
+  pub mends : mended.clock ≡ record { offset = 0; token = 1 }
+  pub other_token : after 10000 202 (0x01 ∷ 0xfb ∷ 0xff ∷ 0xff ∷ 0xff ∷ 0x00 ∷ []) mended ≡ mended
+  -- a period is not supported
+  pub periodicity : sends 10000 202 (0x02 ∷ 0x05 ∷ []) ahead ≡ (0x02 ∷ 0x01 ∷ 0x0f ∷ 0x00 ∷ 0x00 ∷ 0x00 ∷ []) ∷ []
+
+-- ---- sessions of fragments
+
+-- a setup of index 1 for group 0: 4 fragments of 13 bytes, and BlockAckDelay 2
+abbrev pub setup_request : List ℕ
+setup_request = 0x02 ∷ 0x11 ∷ 0x04 ∷ 0x00 ∷ 0x0d ∷ 0x02 ∷ 0x00 ∷ 0x05 ∷ 0x00 ∷ 0x00 ∷ 0x00 ∷ []
+
+abbrev pub set_up : DeviceState
+set_up = taken (after 0 201 setup_request fresh)
+
+pub record SessionSteps : Type 0 where
+  pub setup : sends 0 201 setup_request fresh ≡ (0x02 ∷ 0x40 ∷ []) ∷ []
+  -- it is asked for its state: all, or where a fragment is missing; at another index there is no answer
+  pub status : sends 0 201 (0x01 ∷ 0x03 ∷ []) set_up ≡ (0x01 ∷ 0x00 ∷ 0x40 ∷ 0x04 ∷ 0x00 ∷ []) ∷ []
+  pub missing : sends 0 201 (0x01 ∷ 0x02 ∷ []) set_up ≡ (0x01 ∷ 0x00 ∷ 0x40 ∷ 0x04 ∷ 0x00 ∷ []) ∷ []
+  pub other_index : sends 0 201 (0x01 ∷ 0x01 ∷ []) set_up ≡ []
+  -- by unicast the answer is due at once, and by a group in so many whole seconds as the random word says
+  pub undelayed : answer_delay via.Unicast 77 2 ≡ 0
+  pub delayed : answer_delay (via.Group 0) 77 2 ≡ 13000
+  -- it is deleted once
+  pub deleted : sends 0 201 (0x03 ∷ 0x01 ∷ 0x03 ∷ 0x01 ∷ []) set_up ≡ (0x03 ∷ 0x01 ∷ []) ∷ (0x03 ∷ 0x05 ∷ []) ∷ []
+  -- setups that are refused: no fragments, all padding, too many, a coding of their own, an index or a descriptor that is not taken
+  pub no_fragments : sends 0 201 (0x02 ∷ 0x00 ∷ 0x00 ∷ 0x00 ∷ 0x01 ∷ 0x00 ∷ 0x00 ∷ 0x00 ∷ 0x00 ∷ 0x00 ∷ 0x00 ∷ []) fresh ≡ (0x02 ∷ 0x01 ∷ []) ∷ []
+  pub all_padding : sends 0 201 (0x02 ∷ 0x00 ∷ 0x04 ∷ 0x00 ∷ 0x01 ∷ 0x00 ∷ 0x01 ∷ 0x00 ∷ 0x00 ∷ 0x00 ∷ 0x00 ∷ []) fresh ≡ (0x02 ∷ 0x01 ∷ []) ∷ []
+  pub too_many : sends 0 201 (0x02 ∷ 0x00 ∷ 0x01 ∷ 0x04 ∷ 0x01 ∷ 0x00 ∷ 0x00 ∷ 0x00 ∷ 0x00 ∷ 0x00 ∷ 0x00 ∷ []) fresh ≡ (0x02 ∷ 0x02 ∷ []) ∷ []
+  pub coding : sends 0 201 (0x02 ∷ 0x30 ∷ 0x04 ∷ 0x00 ∷ 0x01 ∷ 0x08 ∷ 0x00 ∷ 0x00 ∷ 0x00 ∷ 0x00 ∷ 0x00 ∷ []) fresh ≡ (0x02 ∷ 0xc1 ∷ []) ∷ []
+  pub index : sends 0 201 setup_request (first_device (record (worked_config C 0) { sessions = 1 })) ≡ (0x02 ∷ 0x44 ∷ []) ∷ []
+  pub descriptor : sends 0 201 setup_request (first_device (record (worked_config C 0) { descriptor = Some 6 })) ≡ (0x02 ∷ 0x48 ∷ []) ∷ []
+  -- a fragment is heard with its number, its bytes and its line, by the session of its index
+  pub rows : set_up.sessions.second ≡ Some (record {
+    setup = record { index = 1; mask = 1; nb_frag = 4; frag_size = 13; algo = 0; delay = 2; padding = 0; descriptor = 5 };
+    rows = 2;
+    heard = [];
+  })
+  pub heard : (after 0 201 (0x08 ∷ 0x03 ∷ 0x40 ∷ replicate 13 7) set_up).sessions.second ≡ Some (record {
+    setup = record { index = 1; mask = 1; nb_frag = 4; frag_size = 13; algo = 0; delay = 2; padding = 0; descriptor = 5 };
+    rows = 2;
+    heard = record { number = 3; part = replicate 13 7; mark = 1 } ∷ [];
+  })
+
+-- ---- groups: id 0 with address 11223344 and id 2 with 55667788, for the frame counts 0 to 9
+
+abbrev pub group_setup : (id a b c d : ℕ) → List ℕ
+group_setup id a b c d = 0x02 ∷ id ∷ a ∷ b ∷ c ∷ d ∷ replicate 16 0 ++ replicate 4 0 ++ 0x0a ∷ 0x00 ∷ 0x00 ∷ 0x00 ∷ []
+
+abbrev pub grouped : DeviceState
+grouped = taken (after 0 200 (group_setup 2 0x88 0x77 0x66 0x55 ++ group_setup 0 0x44 0x33 0x22 0x11) fresh)
+
+-- a class C session of group 0 is asked for at 1,000 s: for one second from 1,010 s on
+abbrev pub session_request : List ℕ
+session_request = 0x04 ∷ 0x00 ∷ 0xf2 ∷ 0x03 ∷ 0x00 ∷ 0x00 ∷ 0x00 ∷ 0x28 ∷ 0x76 ∷ 0x84 ∷ 0x00 ∷ []
+
+abbrev pub with_session : DeviceState
+with_session = taken (after 1000000 200 session_request grouped)
+
+-- a payload to the group with address 11223344
+abbrev pub from_group : (t count : ℕ) → List ℕ → DeviceState → Outcome Delivered
+from_group t count payload device = delivery t 0 1 (record { to = Group 0x11223344 count; port = 201; payload = payload }) device
+
+pub record GroupSteps : Type 0 where
+  pub set_up : sends 0 200 (group_setup 2 0x88 0x77 0x66 0x55) fresh ≡ (0x02 ∷ 0x02 ∷ []) ∷ []
+  pub told : sends 0 200 (0x01 ∷ 0x0f ∷ []) grouped
+      ≡ (0x01 ∷ 0x25 ∷ 0x00 ∷ 0x44 ∷ 0x33 ∷ 0x22 ∷ 0x11 ∷ 0x02 ∷ 0x88 ∷ 0x77 ∷ 0x66 ∷ 0x55 ∷ []) ∷ []
+  pub asked_for : sends 0 200 (0x01 ∷ 0x0e ∷ []) grouped ≡ (0x01 ∷ 0x24 ∷ 0x02 ∷ 0x88 ∷ 0x77 ∷ 0x66 ∷ 0x55 ∷ []) ∷ []
+  pub no_group : sends 0 200 (0x03 ∷ 0x01 ∷ []) fresh ≡ (0x03 ∷ 0x05 ∷ []) ∷ []
+  pub deleted : sends 0 200 (0x03 ∷ 0x00 ∷ 0x03 ∷ 0x00 ∷ []) grouped ≡ (0x03 ∷ 0x00 ∷ []) ∷ (0x03 ∷ 0x04 ∷ []) ∷ []
+  pub id_error : sends 0 200 (group_setup 3 0 0 0 0) (first_device (record (worked_config C 0) { groups = 2 })) ≡ (0x02 ∷ 0x07 ∷ []) ∷ []
+  -- a class session starts in 10 s, or is refused with all its bits
+  pub start : sends 1000000 200 session_request grouped ≡ (0x04 ∷ 0x00 ∷ 0x0a ∷ 0x00 ∷ 0x00 ∷ []) ∷ []
+  pub errors : sends 1000000 200 (0x04 ∷ 0x00 ∷ 0xf2 ∷ 0x03 ∷ 0x00 ∷ 0x00 ∷ 0x00 ∷ 0x00 ∷ 0x00 ∷ 0x00 ∷ 0x06 ∷ []) fresh ≡ (0x04 ∷ 0x1c ∷ []) ∷ []
+  -- a class B session begins at the beacon before: 1,010 s are rounded down to 896 s, which is past
+  pub beacon : sends 1000000 200 (0x05 ∷ 0x00 ∷ 0xf2 ∷ 0x03 ∷ 0x00 ∷ 0x00 ∷ 0x00 ∷ 0x28 ∷ 0x76 ∷ 0x84 ∷ 0x00 ∷ []) grouped
+      ≡ (0x05 ∷ 0x00 ∷ 0x00 ∷ 0x00 ∷ 0x00 ∷ []) ∷ []
+  -- it ends with its group alone
+  pub ends : (after 0 200 (0x03 ∷ 0x00 ∷ []) with_session).class_session ≡ None
+  pub stays : (after 0 200 (0x03 ∷ 0x02 ∷ []) with_session).class_session ≡ with_session.class_session
+
+-- what is heard
+pub record HearingSteps : Type 0 where
+  -- of the group: in its window, and with a count below its MAX
+  pub before : (from_group 1009999 0 [] with_session).answer ≡ Deaf
+  pub first : (from_group 1010000 0 [] with_session).answer ≡ Done
+  pub last : (from_group 1010999 9 [] with_session).answer ≡ Done
+  pub behind : (from_group 1011000 0 [] with_session).answer ≡ Deaf
+  pub max_count : (from_group 1010000 10 [] with_session).answer ≡ Deaf
+  pub no_session : (from_group 1010000 0 [] grouped).answer ≡ Deaf
+  -- by the group only fragments and status requests act
+  pub skipped : payloads (from_group 1010000 0 (0x00 ∷ 0x03 ∷ 0x01 ∷ []) with_session).device ≡ []
+  pub act : payloads (from_group 1010000 0 (0x01 ∷ 0x03 ∷ []) (record with_session { sessions = set_up.sessions })).device
+      ≡ (0x01 ∷ 0x00 ∷ 0x40 ∷ 0x04 ∷ 0x00 ∷ []) ∷ []
+  -- by unicast: class A behind its own uplinks alone
+  pub a_none : answer 6000 201 [] (first_device (worked_config A 0)) ≡ Deaf
+  pub a_5999 : answer 5999 201 [] (record (first_device (worked_config A 0)) { last_due = Some 5000 }) ≡ Deaf
+  pub a_6000 : answer 6000 201 [] (record (first_device (worked_config A 0)) { last_due = Some 5000 }) ≡ Done
+  pub a_6100 : answer 6100 201 [] (record (first_device (worked_config A 0)) { last_due = Some 5000 }) ≡ Deaf
+  pub a_7000 : answer 7000 201 [] (record (first_device (worked_config A 0)) { last_due = Some 5000 }) ≡ Done
+
+-- ---- firmware
+
+-- a device that has this image next
+abbrev pub with_next : ImageState → DeviceState
+with_next next = record fresh { slots = record { version = 0; running = []; next = next; next_file = 0x07 ∷ [] } }
+
+abbrev pub ready : DeviceState
+ready = with_next (image.Valid 2)
+
+pub record FirmwareSteps : Type 0 where
+  pub version : sends 0 203 (0x01 ∷ []) ready ≡ (0x01 ∷ 0x00 ∷ 0x00 ∷ 0x00 ∷ 0x00 ∷ 0x01 ∷ 0x00 ∷ 0x00 ∷ 0x00 ∷ []) ∷ []
+  pub no_next : sends 0 203 (0x04 ∷ []) fresh ≡ (0x04 ∷ 0x00 ∷ []) ∷ []
+  pub corrupt : sends 0 203 (0x04 ∷ []) (with_next image.Corrupt) ≡ (0x04 ∷ 0x01 ∷ []) ∷ []
+  pub incompatible : sends 0 203 (0x04 ∷ []) (with_next image.Incompatible) ≡ (0x04 ∷ 0x02 ∷ []) ∷ []
+  pub valid : sends 0 203 (0x04 ∷ []) ready ≡ (0x04 ∷ 0x03 ∷ 0x02 ∷ 0x00 ∷ 0x00 ∷ 0x00 ∷ []) ∷ []
+  -- another version is not deleted; its own is, once
+  pub other : sends 0 203 (0x05 ∷ 0x03 ∷ 0x00 ∷ 0x00 ∷ 0x00 ∷ []) ready ≡ (0x05 ∷ 0x02 ∷ []) ∷ []
+  pub deleted : sends 0 203 (0x05 ∷ 0x02 ∷ 0x00 ∷ 0x00 ∷ 0x00 ∷ 0x05 ∷ 0x02 ∷ 0x00 ∷ 0x00 ∷ 0x00 ∷ []) ready ≡ (0x05 ∷ 0x00 ∷ []) ∷ (0x05 ∷ 0x01 ∷ []) ∷ []
+  pub gone : (after 0 203 (0x05 ∷ 0x02 ∷ 0x00 ∷ 0x00 ∷ 0x00 ∷ []) ready).slots ≡ fresh.slots
+  -- a reboot at a time, or in so many seconds; all ones cancel it, and 0 is now
+  pub time : (after 5000 203 (0x02 ∷ 0x0f ∷ 0x00 ∷ 0x00 ∷ 0x00 ∷ []) ready).reboot ≡ Some 15
+  pub countdown : (after 5000 203 (0x03 ∷ 0x0a ∷ 0x00 ∷ 0x00 ∷ []) ready).reboot ≡ Some 15
+  pub round : (after 5000 203 (0x03 ∷ 0x0a ∷ 0x00 ∷ 0x00 ∷ []) (record ready { clock = record { offset = 2 ^ 32 - 6; token = 0 } })).reboot ≡ Some 9
+  pub cancelled : (after 5000 203 (0x02 ∷ 0xff ∷ 0xff ∷ 0xff ∷ 0xff ∷ []) (record ready { reboot = Some 15 })).reboot ≡ None
+  pub uncounted : (after 5000 203 (0x03 ∷ 0xff ∷ 0xff ∷ 0xff ∷ []) (record ready { reboot = Some 15 })).reboot ≡ None
+  pub at_once : (after 0 203 (0x03 ∷ 0x00 ∷ 0x00 ∷ 0x00 ∷ []) ready).slots ≡ record { version = 2; running = 0x07 ∷ []; next = image.None; next_file = [] }
+  -- a reboot that a command makes due is carried out behind the payload: the version behind it is still the old one
+  pub old_version : sends 0 203 (0x03 ∷ 0x00 ∷ 0x00 ∷ 0x00 ∷ 0x01 ∷ []) ready
+      ≡ (0x03 ∷ 0x00 ∷ 0x00 ∷ 0x00 ∷ []) ∷ (0x01 ∷ 0x00 ∷ 0x00 ∷ 0x00 ∷ 0x00 ∷ 0x01 ∷ 0x00 ∷ 0x00 ∷ 0x00 ∷ []) ∷ []
+  -- and one that is due before the payload: the version behind it is the new one
+  pub new_version : sends 15000 203 (0x01 ∷ []) (record ready { reboot = Some 15 }) ≡ (0x01 ∷ 0x02 ∷ 0x00 ∷ 0x00 ∷ 0x00 ∷ 0x01 ∷ 0x00 ∷ 0x00 ∷ 0x00 ∷ []) ∷ []
+  pub due : (waking 15000 (record ready { reboot = Some 15 })).device.slots.version ≡ 2
+  pub early : (waking 14999 (record ready { reboot = Some 15 })).device.slots.version ≡ 0
+  -- a moment is reached at itself and less than 2^31 s behind it, modulo 2^32
+  pub behind : is_reached (2 ^ 31 - 2) (2 ^ 32 - 1) ≡ true
+  pub too_far : is_reached (2 ^ 31 - 1) (2 ^ 32 - 1) ≡ false
+  pub ahead : is_reached 14 15 ≡ false
+
+-- ---- what a configuration may be
+
+pub record ConfigSteps : Type 0 where
+  pub most : is_config (record (worked_config C 0) { rows = 64 }) ≡ true
+  pub rows : is_config (record (worked_config C 0) { rows = 65 }) ≡ false
+  pub sessions : is_config (record (worked_config C 0) { sessions = 5 }) ≡ false
+  pub no_session : is_config (record (worked_config C 0) { sessions = 0 }) ≡ false
+  pub groups : is_config (record (worked_config C 0) { groups = 5 }) ≡ false
+  pub area : is_config (record (worked_config C 0) { area = 65775 }) ≡ false

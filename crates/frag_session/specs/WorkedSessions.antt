@@ -1,0 +1,128 @@
+-- Setups, fragments and answers of a session that are worked out (TS004-1.0.0).
+use Rattle.std.specs.Prelude.{◌≡◌, ℕ, true, false, List, [], ◌∷◌, replicate, Option, Some, None}
+use Rattle.frag_model.specs.Fragments.{Fragment}
+use Rattle.frag_session.specs.declared.setups.SetupReq.{SetupReq}
+use Rattle.frag_session.specs.declared.setups.Limits.{Limits}
+use Rattle.frag_session.specs.declared.answers.Via.TheVariants.{Unicast, Group}
+use Rattle.frag_session.specs.declared.answers.Cause.{Cause}
+use Rattle.frag_session.specs.declared.answers.Cause.TheVariants as cause
+use Rattle.frag_session.specs.declared.answers.Verdict.{Verdict}
+use Rattle.frag_session.specs.declared.answers.Verdict.TheVariants.{Receiving, Complete, NoRows, Conflict}
+use Rattle.frag_session.specs.Setup.{Room, setup_bits}
+use Rattle.frag_session.specs.Session.{Session, Seen, after_setup, drop_cause, after_fragment, received_count, seen_of, status_in, status_of}
+
+-- ---- setups
+
+-- index 0 for group 0: 4 fragments of 13 bytes, of which the last 5 are padding; BlockAckDelay 2, descriptor 7
+abbrev pub worked_setup : SetupReq
+worked_setup = record { index = 0; mask = 1; nb_frag = 4; frag_size = 13; algo = 0; delay = 2; padding = 5; descriptor = 7 }
+
+-- four sessions, 64 rows, and any descriptor
+abbrev pub worked_limits : Limits
+worked_limits = record { sessions = 4; rows = 64; descriptor = None }
+
+abbrev pub worked_room : Room
+worked_room = record { words = 1024; bytes = 15296; area = 65774 }
+
+abbrev pub bits : SetupReq → ℕ
+bits req = setup_bits worked_limits worked_room req
+
+pub record WorkedSetups : Type 0 where
+  pub fine : bits worked_setup ≡ 0
+  -- 1: another coding, or no file
+  pub coding : bits (record worked_setup { algo = 1 }) ≡ 1
+  pub no_fragments : bits (record worked_setup { nb_frag = 0 }) ≡ 1
+  pub no_bytes : bits (record worked_setup { frag_size = 0 }) ≡ 1
+  pub most_padding : bits (record worked_setup { padding = 12 }) ≡ 0
+  pub all_padding : bits (record worked_setup { padding = 13 }) ≡ 1
+  -- 2: too large for any session, or for this room: a word and 13 bytes a row, 52 bytes in all
+  pub most_fragments : bits (record worked_setup { nb_frag = 1024 }) ≡ 0
+  pub too_many : bits (record worked_setup { nb_frag = 1025 }) ≡ 2
+  pub most_bytes : bits (record worked_setup { frag_size = 239 }) ≡ 0
+  pub too_long : bits (record worked_setup { frag_size = 240 }) ≡ 2
+  pub room : setup_bits worked_limits (record { words = 4; bytes = 52; area = 52 }) worked_setup ≡ 0
+  pub words : setup_bits worked_limits (record { words = 3; bytes = 52; area = 52 }) worked_setup ≡ 2
+  pub bytes : setup_bits worked_limits (record { words = 4; bytes = 51; area = 52 }) worked_setup ≡ 2
+  pub area : setup_bits worked_limits (record { words = 4; bytes = 52; area = 51 }) worked_setup ≡ 2
+  -- 4: no such index; 8: another descriptor than the one that is taken; and all together
+  pub last_index : bits (record worked_setup { index = 3 }) ≡ 0
+  pub index : bits (record worked_setup { index = 4 }) ≡ 4
+  pub descriptor : setup_bits (record worked_limits { descriptor = Some 8 }) worked_room worked_setup ≡ 8
+  pub own_descriptor : setup_bits (record worked_limits { descriptor = Some 7 }) worked_room worked_setup ≡ 0
+  pub all : setup_bits (record { sessions = 0; rows = 64; descriptor = Some 8 }) worked_room (record worked_setup { algo = 1; frag_size = 240 }) ≡ 15
+
+-- ---- a session
+
+abbrev pub one_heard : Fragment
+one_heard = record { number = 2; part = replicate 13 9; mark = 1 }
+
+abbrev pub session_of : SetupReq → (rows : ℕ) → List Fragment → Session
+session_of req rows heard = record { setup = req; rows = rows; heard = heard }
+
+abbrev pub worked_session : Session
+worked_session = session_of worked_setup 4 (one_heard ∷ [])
+
+-- what another setup makes of the session
+abbrev pub renewed_by : SetupReq → Option Session
+renewed_by req = after_setup worked_limits worked_room (Some worked_session) req
+
+pub record WorkedSessions : Type 0 where
+  -- a session has no more rows than fragments, and no more than are kept
+  pub new : after_setup worked_limits worked_room None worked_setup ≡ Some (session_of worked_setup 4 [])
+  pub rows : after_setup (record worked_limits { rows = 3 }) worked_room None worked_setup ≡ Some (session_of worked_setup 3 [])
+  -- an equal setup keeps it, one with another field begins anew, and one that is refused changes nothing
+  pub equal : renewed_by worked_setup ≡ Some worked_session
+  pub mask : renewed_by (record worked_setup { mask = 3 }) ≡ Some (session_of (record worked_setup { mask = 3 }) 4 [])
+  pub nb_frag : renewed_by (record worked_setup { nb_frag = 3 }) ≡ Some (session_of (record worked_setup { nb_frag = 3 }) 3 [])
+  pub frag_size : renewed_by (record worked_setup { frag_size = 14 }) ≡ Some (session_of (record worked_setup { frag_size = 14 }) 4 [])
+  pub delay : renewed_by (record worked_setup { delay = 3 }) ≡ Some (session_of (record worked_setup { delay = 3 }) 4 [])
+  pub padding : renewed_by (record worked_setup { padding = 6 }) ≡ Some (session_of (record worked_setup { padding = 6 }) 4 [])
+  pub descriptor : renewed_by (record worked_setup { descriptor = 8 }) ≡ Some (session_of (record worked_setup { descriptor = 8 }) 4 [])
+  pub refused : renewed_by (record worked_setup { algo = 1 }) ≡ Some worked_session
+
+-- ---- fragments
+
+pub record WorkedFragments : Type 0 where
+  -- by unicast and by a group of the mask
+  pub unicast : drop_cause (Some worked_session) Unicast 1 (replicate 13 9) ≡ None
+  pub own_group : drop_cause (Some worked_session) (Group 0) 1 (replicate 13 9) ≡ None
+  pub other_group : drop_cause (Some worked_session) (Group 1) 1 (replicate 13 9) ≡ Some cause.Group
+  -- from 1 to the last that is coded
+  pub no_number : drop_cause (Some worked_session) Unicast 0 (replicate 13 9) ≡ Some cause.Index
+  pub last : drop_cause (Some worked_session) Unicast 8384 (replicate 13 9) ≡ None
+  pub behind : drop_cause (Some worked_session) Unicast 8385 (replicate 13 9) ≡ Some cause.Index
+  -- with the bytes of a fragment
+  pub short : drop_cause (Some worked_session) Unicast 1 (replicate 12 9) ≡ Some cause.Size
+  pub long : drop_cause (Some worked_session) Unicast 1 (replicate 14 9) ≡ Some cause.Size
+  pub no_session : drop_cause None Unicast 1 (replicate 13 9) ≡ Some cause.NoSession
+  -- the first cause counts
+  pub first : drop_cause (Some worked_session) (Group 1) 0 [] ≡ Some cause.Group
+  pub second : drop_cause (Some worked_session) Unicast 0 [] ≡ Some cause.Index
+  -- one that is heard is the newest, a repeat too, and one that is dropped changes nothing
+  pub heard : after_fragment (Some worked_session) Unicast 6 (replicate 13 8) 5
+      ≡ Some (session_of worked_setup 4 (record { number = 6; part = replicate 13 8; mark = 5 } ∷ one_heard ∷ []))
+  pub repeated : after_fragment (Some worked_session) Unicast 2 (replicate 13 9) 5
+      ≡ Some (session_of worked_setup 4 (record { number = 2; part = replicate 13 9; mark = 5 } ∷ one_heard ∷ []))
+  pub dropped : after_fragment (Some worked_session) Unicast 0 (replicate 13 8) 5 ≡ Some worked_session
+
+-- ---- FragSessionStatusReq
+
+-- of a session that heard so many fragments and misses so many
+abbrev pub seen_with : (received missing : ℕ) → Verdict → Seen
+seen_with received missing verdict = record { received = received; missing = missing; verdict = verdict; file = [] }
+
+pub record WorkedStatus : Type 0 where
+  pub fresh : seen_of (session_of worked_setup 4 []) ≡ seen_with 0 4 Receiving
+  pub most : received_count 16383 ≡ 16383
+  pub more : received_count 16384 ≡ 16383
+  -- asked of all, or where a fragment is missing
+  pub all : status_in worked_setup (seen_with 4 0 (Complete 9)) Unicast true ≡ Some (record { received = 4; missing = 0; norows = false; delay = 2 })
+  pub whole : status_in worked_setup (seen_with 4 0 (Complete 9)) Unicast false ≡ None
+  pub missing : status_in worked_setup (seen_with 3 1 Receiving) Unicast false ≡ Some (record { received = 3; missing = 1; norows = false; delay = 2 })
+  pub own_group : status_in worked_setup (seen_with 3 1 Receiving) (Group 0) false ≡ Some (record { received = 3; missing = 1; norows = false; delay = 2 })
+  pub other_group : status_in worked_setup (seen_with 3 1 Receiving) (Group 1) true ≡ None
+  pub no_session : status_of None Unicast true ≡ None
+  -- 8 bits of missing fragments, and whether the rows did not suffice
+  pub many : status_in worked_setup (seen_with 3 300 Receiving) Unicast true ≡ Some (record { received = 3; missing = 255; norows = false; delay = 2 })
+  pub no_rows : status_in worked_setup (seen_with 3 1 (NoRows 9)) Unicast true ≡ Some (record { received = 3; missing = 1; norows = true; delay = 2 })
+  pub conflict : status_in worked_setup (seen_with 3 1 (Conflict 9)) Unicast true ≡ Some (record { received = 3; missing = 1; norows = false; delay = 2 })

@@ -1,0 +1,41 @@
+-- The worked images and slots, by computing.
+use Rattle.std.proofs.Common.{refl}
+use Rattle.wire_base.specs.Numbers.{number_at}
+use Rattle.sha2.specs.Sha256.{first_words, schedule, rounds, compress, hash_after, digest_bytes, sha256}
+use Rattle.image_slots.specs.Image.{image_start, hardware_of, firmware_of, is_image, image_state}
+use Rattle.image_slots.specs.Slots.{after_offer, after_swap, after_delete}
+use Rattle.image_slots.specs.WorkedImages.{WorkedImages, WorkedSlots}
+
+pub images : WorkedImages
+unfolding number_at image_start hardware_of firmware_of is_image image_state first_words schedule rounds compress hash_after digest_bytes sha256
+images = record {
+  hardware = refl;
+  firmware = refl;
+  valid = refl;
+  other_hardware = refl;
+  other_body = refl;
+  other_mark = refl;
+  other_format = refl;
+  no_version = refl;
+  longer = refl;
+  shorter = refl;
+  cut = refl;
+  empty = refl;
+}
+
+pub slots : WorkedSlots
+unfolding number_at image_start hardware_of firmware_of is_image image_state after_offer after_swap after_delete first_words schedule rounds compress hash_after digest_bytes sha256
+slots = record {
+  first = refl;
+  offered = refl;
+  corrupt_too = refl;
+  swapped = refl;
+  corrupt_stays = refl;
+  incompatible_stays = refl;
+  none_stays = refl;
+  own = refl;
+  other_version = refl;
+  no_valid = refl;
+  deleted = refl;
+  kept = refl;
+}
