@@ -1,4 +1,4 @@
--- A campaign is answered with its report, and the recovery of a device with the image.
+-- A campaign is answered with its report, the recovery of a device with the image, and a seed with its summary.
 use Rattle.std.proofs.Common.{◌≡◌, ℕ, ◌^◌, ◌<◌, List, All, Option, Ok, Err, refl, ap, ◌∙◌, subst}
 use Rattle.std.proofs.lemmas.Bool.{le-ltb}
 use Rattle.campaign_world.specs.World.{WorldState}
@@ -7,13 +7,14 @@ use Rattle.campaign_world.specs.Report.{report_of}
 use Rattle.campaign_world.specs.declared.recovery.NoFile.{NoFile}
 use Rattle.campaign_world.specs.Recovery.{recovery}
 use Rattle.campaign_world.proofs.HeadlineLaw.{recovers}
+use Rattle.campaign_laws.proofs.Seeds.{generated}
 use Rattle.fuota_run.specs.declared.status.Status.TheVariants as status
 use Rattle.fuota_run.specs.Outside.{Held}
 use Rattle.fuota_run.specs.Words.{Asked}
 use Rattle.fuota_run.specs.declared.words.ScriptForm.{ScriptForm}
 use Rattle.fuota_run.specs.declared.words.ScriptForm.TheVariants.{Campaign, Recover}
-use Rattle.fuota_run.specs.Answer.{Answer, answer, not_complete, recovered, told_of, script_answer, campaign_answer, IsAnswerTo, IsAnswer}
-use Rattle.fuota_run.specs.Headline.{AreHandedIn, IsRecoveryAnswered}
+use Rattle.fuota_run.specs.Answer.{Answer, answer, not_complete, recovered, told_of, summed_up, played, script_answer, campaign_answer, generate_answer, IsAnswerTo, IsAnswer}
+use Rattle.fuota_run.specs.Headline.{AreHandedIn, IsRecoveryAnswered, IsSeedAnswered}
 
 -- the answer is what is told of the campaign
 told : (words : List (List ℕ)) (held : Held) (what : ScriptForm) (image script : List ℕ) (world : WorldState)
@@ -48,3 +49,10 @@ no_file words held device image script world why h is there a given =
 
 pub recovery_answered : IsRecoveryAnswered
 recovery_answered = record { image_is = recovered_image; no_file = no_file }
+
+-- a seed is answered with the summary of its campaign, of which no line is refused
+pub seed_answered : IsSeedAnswered
+unfolding IsAnswer generate_answer
+seed_answered words held seed form =
+    let its = generated seed in
+    (its.0, its.1, λ a given. subst (λ (o : Option Asked). IsAnswerTo o held a) form given ∙ ap (played (summed_up seed)) its.1.accepted)

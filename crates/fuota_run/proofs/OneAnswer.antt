@@ -1,15 +1,15 @@
--- The words have one answer over the files that are held.
-use Rattle.std.proofs.Common.{◌≡◌, ℕ, Bool, true, false, nat_lt, List, length, Option, Some, None, Result, sym, ap, ◌∙◌}
+-- The words have an answer over the files that are held, and no other.
+use Rattle.std.proofs.Common.{◌≡◌, ℕ, Bool, true, false, nat_lt, List, length, Option, Some, None, Result, refl, sym, ap, ◌∙◌}
 use Rattle.campaign_world.specs.declared.faults.LineFault.{LineFault}
 use Rattle.fuota_run.specs.Limits.{script_limit}
 use Rattle.fuota_run.specs.declared.words.FileForm.{FileForm}
 use Rattle.fuota_run.specs.declared.words.FileForm.TheVariants.{Replay, Decode}
 use Rattle.fuota_run.specs.Outside.{Held}
-use Rattle.payload_replay.specs.PayloadLines.{Telling, TellsOnce}
+use Rattle.payload_replay.specs.PayloadLines.{Telling, TellsOnce, TellsAlways}
 use Rattle.fuota_run.specs.Words.{Asked, plays, payloads, generates, asked}
-use Rattle.fuota_run.specs.Answer.{Answer, tells, told, IsReadAnswer, IsFileAnswer, IsAnswerTo, IsAnswer, HasOneReply}
-use Rattle.payload_replay.proofs.Payloads.{decode_one}
-use Rattle.payload_replay.proofs.ReplayLines.{replay_one}
+use Rattle.fuota_run.specs.Answer.{Answer, usage, read_fault, too_long, campaign_answer, generate_answer, tells, told, IsReadAnswer, IsFileAnswer, IsAnswerTo, IsAnswer, HasOneReply, HasAReply}
+use Rattle.payload_replay.proofs.Payloads.{decode_one, decode_always}
+use Rattle.payload_replay.proofs.ReplayLines.{replay_one, replay_always}
 
 read_one : (Tells : Telling) (is_long : Bool) (file : List ℕ) (one other : Answer) → TellsOnce Tells
     → IsReadAnswer Tells is_long file one → IsReadAnswer Tells is_long file other → one ≡ other
@@ -40,3 +40,28 @@ to_one (Some (payloads what file)) held one other first second =
 pub reply_one : HasOneReply
 unfolding IsAnswer
 reply_one words held one other first second = to_one (asked words) held one other first second
+
+-- ---- and all words have one
+
+read_always : (Tells : Telling) (is_long : Bool) (file : List ℕ) → TellsAlways Tells → (a : Answer) × IsReadAnswer Tells is_long file a
+read_always Tells true file always = (too_long script_limit, refl)
+read_always Tells false file always = let said = always file in (told said.0, (said.0, said.1, refl))
+
+file_always : (Tells : Telling) (file : Option (List ℕ)) → TellsAlways Tells → (a : Answer) × IsFileAnswer Tells file a
+unfolding IsFileAnswer
+file_always Tells None always = (read_fault, refl)
+file_always Tells (Some file) always = read_always Tells (nat_lt script_limit (length file)) file always
+
+tells_always : (what : FileForm) → TellsAlways (tells what)
+tells_always Replay = replay_always
+tells_always (Decode port dir) = decode_always port dir
+
+to_always : (what : Option Asked) (held : Held) → (a : Answer) × IsAnswerTo what held a
+to_always None held = (usage, refl)
+to_always (Some (plays what image script)) held = (campaign_answer what (held image) (held script), refl)
+to_always (Some (generates seed)) held = (generate_answer seed, refl)
+to_always (Some (payloads what file)) held = file_always (tells what) (held file) (tells_always what)
+
+pub reply_always : HasAReply
+unfolding IsAnswer
+reply_always words held = to_always (asked words) held

@@ -151,3 +151,7 @@ IsAnswer words held a = IsAnswerTo (asked words) held a
 -- no words have two answers over the files that are held
 abbrev pub HasOneReply : Type 0
 HasOneReply = (words : List (List ℕ)) (held : Held) (one other : Answer) → IsAnswer words held one → IsAnswer words held other → one ≡ other
+
+-- and all have one
+abbrev pub HasAReply : Type 0
+HasAReply = (words : List (List ℕ)) (held : Held) → (a : Answer) × IsAnswer words held a

@@ -6,6 +6,7 @@ use Rattle.campaign_world.specs.World.{WorldState}
 use Rattle.campaign_world.specs.Script.{campaign_of}
 use Rattle.campaign_world.specs.Report.{report_of}
 use Rattle.campaign_world.specs.Headline.{IsOfItsLine, HasNoOther, IsServed, HearsBrought, IsRecovered, IsReported, IsCampaign}
+use Rattle.campaign_laws.specs.Accepted.{IsCampaignOf}
 use Rattle.campaign_server.specs.declared.stage.Stage.{Stage}
 use Rattle.campaign_server.specs.Server.{numbered}
 use Rattle.frag_session.specs.Session.{Session}
@@ -21,8 +22,8 @@ use Rattle.fuota_run.specs.declared.words.ScriptForm.{ScriptForm}
 use Rattle.fuota_run.specs.declared.words.ScriptForm.TheVariants.{Campaign, Recover}
 use Rattle.campaign_world.specs.declared.recovery.NoFile.{NoFile}
 use Rattle.campaign_world.specs.Recovery.{recovery}
-use Rattle.fuota_run.specs.Words.{plays, payloads, asked}
-use Rattle.fuota_run.specs.Answer.{Answer, answer, not_complete, IsAnswer}
+use Rattle.fuota_run.specs.Words.{plays, payloads, generates, asked}
+use Rattle.fuota_run.specs.Answer.{Answer, answer, not_complete, summed_up, IsAnswer}
 
 -- the words and the files of a form over a campaign: both files are within their limits, and the image is an image file
 pub record AreHandedIn (words : List (List ℕ)) (held : Held) (what : ScriptForm) (image script : List ℕ) : Type 0 where
@@ -57,6 +58,11 @@ abbrev pub IsReplayAnswered : Type 0
 IsReplayAnswered = (words : List (List ℕ)) (held : Held) (name file : List ℕ) (device : DeviceState) → asked words ≡ Some (payloads Replay name)
     → held name ≡ Some file → length file ≤ script_limit → Reaches (lines_of file) (Ok device) → (a : Answer) → IsAnswer words held a
     → a ≡ answer status.Done (replay_text device)
+
+-- whatever seed is asked for, no line of its campaign is refused, and the answer is what that comes to
+abbrev pub IsSeedAnswered : Type 0
+IsSeedAnswered = (words : List (List ℕ)) (held : Held) (seed : ℕ) → asked words ≡ Some (generates seed)
+    → (world : WorldState) × IsCampaignOf seed world × ((a : Answer) → IsAnswer words held a → a ≡ summed_up seed world)
 
 -- ---- the same of a run: its status, and the bytes of the sink before and after it
 

@@ -1,8 +1,8 @@
 //! Laws about the definitions, each the contract of a function that does nothing.
 
-ghost use Rattle.fuota_run.specs.Answer.{HasOneReply};
+ghost use Rattle.fuota_run.specs.Answer.{HasAReply, HasOneReply};
 ghost use Rattle.fuota_run.specs.Forms.{NamesAreWords, OtherCountsAreNone, WordsAreForms};
-ghost use Rattle.fuota_run.specs.Headline.{IsRecoveryAnswered, IsReplayAnswered, IsReportAnswered};
+ghost use Rattle.fuota_run.specs.Headline.{IsRecoveryAnswered, IsReplayAnswered, IsReportAnswered, IsSeedAnswered};
 
 /// Whatever image and accepted script are handed in, the answer is the report of that campaign, of which the headline of
 /// `campaign_world` speaks.
@@ -22,9 +22,16 @@ pub fn replay_is_answered()
     ensures { IsReplayAnswered }
 {}
 
+/// Whatever seed is asked for, its campaign is accepted line by line, and the answer is its summary: as many devices are
+/// updated as have the file.
+pub fn seeds_are_summed_up()
+    ensures { IsSeedAnswered }
+{}
+
 /// Words have one answer over the files that are held: one status, and one text.
 pub fn run_has_one_answer()
-    ensures { HasOneReply }
+    ensures once { HasOneReply }
+    ensures always { HasAReply }
 {}
 
 /// A keyword and its names, which do not begin with a dash, are that form.

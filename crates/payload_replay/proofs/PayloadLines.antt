@@ -58,3 +58,26 @@ lines_once Takes lines state [] one other once first second = first ∙ sym seco
 lines_once Takes lines state (line ∷ rest) one other once first second =
     line_once Takes lines state (payload_of lines line) (λ next. TakesLines Takes (lines + 1) next rest) one other once
     (λ next. lines_once Takes (lines + 1) next rest one other once) first second
+
+-- ---- where each step leads somewhere, so do lines
+
+-- from each state a line's payload leads to a next
+abbrev pub LeadsOn : {S : Type 0} → Step S → Type 0
+LeadsOn {S} Takes = (n : ℕ) (p : List ℕ) (s : S) → (next : S) × Takes n p s next
+
+line_leads : {S : Type 0} (Takes : Step S) (lines : ℕ) (state : S) (payload : Result (List ℕ) LineWhy)
+    (goes_on : S → Result S LineFault → Type 0) → LeadsOn Takes → ((next : S) → (outcome : Result S LineFault) × goes_on next outcome)
+    → (outcome : Result S LineFault) × BehindLine Takes lines state payload goes_on outcome
+line_leads Takes lines state (Err cause) goes_on leads behind = (Err (record { line = lines + 1; why = cause }), refl)
+line_leads Takes lines state (Ok payload) goes_on leads behind =
+    let to = leads (lines + 1) payload state in
+    let rest = behind to.0 in
+    (rest.0, (to.0, to.1, rest.1))
+
+pub lines_lead : {S : Type 0} (Takes : Step S) (lines : ℕ) (state : S) (rest : List (List ℕ)) → LeadsOn Takes
+    → (outcome : Result S LineFault) × TakesLines Takes lines state rest outcome
+unfolding TakesLines
+lines_lead Takes lines state [] leads = (Ok state, refl)
+lines_lead Takes lines state (line ∷ rest) leads =
+    line_leads Takes lines state (payload_of lines line) (λ next. TakesLines Takes (lines + 1) next rest) leads
+    (λ next. lines_lead Takes (lines + 1) next rest leads)

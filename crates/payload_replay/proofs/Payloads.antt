@@ -2,13 +2,14 @@
 use Rattle.std.proofs.Common.{◌≡◌, ℕ, List, [], ◌∷◌, ◌++◌, codes, Result, Ok, Err, refl, sym, ap, ◌∙◌, append_assoc}
 use Rattle.std.specs.Fmt.{decimal}
 use Rattle.wire_base.specs.declared.refusal.Direction.{Direction}
+use Rattle.package_grammar.specs.Reading.{reading_of}
 use Rattle.campaign_world.specs.declared.faults.LineFault.{LineFault}
 use Rattle.campaign_world.specs.declared.faults.LineError.{LineError}
 use Rattle.campaign_world.specs.declared.faults.LineError.TheVariants as error
 use Rattle.script_lines.specs.Lines.{lines_of}
 use Rattle.payload_replay.specs.PayloadLines.{TakesLines, told_by, IsLineRefused, IsTold}
-use Rattle.payload_replay.specs.Decode.{numbered_text, Writes, Decodes, HasOneAnswer}
-use Rattle.payload_replay.proofs.PayloadLines.{line_refused, lines_once}
+use Rattle.payload_replay.specs.Decode.{payload_text, numbered_text, Writes, Decodes, HasOneAnswer, HasAnAnswer}
+use Rattle.payload_replay.proofs.PayloadLines.{line_refused, lines_once, lines_lead}
 
 -- texts that were written one behind another
 pub three_on : (text one two rest : List ℕ) → ((text ++ one) ++ two) ++ rest ≡ text ++ (one ++ (two ++ rest))
@@ -46,3 +47,11 @@ decode_one port dir file one other first second =
     ∙ ap (told_by (λ text. text ++ codes "end\n")) (lines_once (Writes port dir) 0 [] (lines_of file) first.0 second.0
     (λ n payload text one other written again. written ∙ sym again) first.1 second.1)
     ∙ sym second.2
+
+-- and each step leads on
+pub decode_always : HasAnAnswer
+unfolding Decodes
+decode_always port dir file =
+    let t = lines_lead (Writes port dir) 0 [] (lines_of file)
+    (λ n payload text. (text ++ numbered_text n (payload_text (reading_of port dir payload)), refl)) in
+    (told_by (λ text. text ++ codes "end\n") t.0, (t.0, t.1, refl))

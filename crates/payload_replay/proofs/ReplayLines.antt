@@ -12,9 +12,9 @@ use Rattle.campaign_world.specs.declared.faults.LineError.{LineError}
 use Rattle.campaign_world.specs.declared.faults.LineError.TheVariants as error
 use Rattle.campaign_world.specs.Texts.{seen_text}
 use Rattle.payload_replay.specs.PayloadLines.{TakesLines, told_by, IsLineRefused, IsTold}
-use Rattle.payload_replay.specs.Replay.{header_rows, replay_device, Hears, ReachesBehind, Reaches, replay_text, Replays, ReplaysOnce}
+use Rattle.payload_replay.specs.Replay.{header_rows, replay_device, Hears, ReachesBehind, Reaches, replay_text, after_payload, Replays, ReplaysOnce, ReplaysAlways}
 use Rattle.payload_replay.specs.Replayed.{HearsLines}
-use Rattle.payload_replay.proofs.PayloadLines.{line_refused, lines_once}
+use Rattle.payload_replay.proofs.PayloadLines.{line_refused, lines_once, lines_lead}
 
 -- a file has one outcome, since each payload leads to one device
 
@@ -36,6 +36,23 @@ unfolding Replays
 replay_one file one other first second =
     first.2 ∙ ap (told_by (λ device. replay_text device))
     (reaches_once (lines_of file) first.0 second.0 first.1 second.1) ∙ sym second.2
+
+-- and each file has one
+
+behind_there : (rows : Result ℕ LineWhy) (lines : List (List ℕ)) → (outcome : Result DeviceState LineFault) × ReachesBehind rows lines outcome
+behind_there (Err cause) lines = (Err (record { line = 1; why = cause }), refl)
+behind_there (Ok rows) lines = lines_lead Hears 1 (replay_device rows) lines (λ n payload device. (after_payload n payload device, refl))
+
+reaches_there : (lines : List (List ℕ)) → (outcome : Result DeviceState LineFault) × Reaches lines outcome
+unfolding Reaches
+reaches_there [] = (Err (record { line = 1; why = why.Syntax }), refl)
+reaches_there (header ∷ lines) = behind_there (header_rows header) lines
+
+pub replay_always : ReplaysAlways
+unfolding Replays
+replay_always file =
+    let t = reaches_there (lines_of file) in
+    (told_by (λ device. replay_text device) t.0, (t.0, t.1, refl))
 
 -- ---- the lines behind the header
 

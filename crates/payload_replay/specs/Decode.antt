@@ -10,7 +10,7 @@ use Rattle.package_grammar.specs.Reading.{Reading, reading_of}
 use Rattle.package_grammar.specs.Texts.{text_of}
 use Rattle.campaign_world.specs.declared.faults.LineFault.{LineFault}
 use Rattle.script_lines.specs.Lines.{lines_of}
-use Rattle.payload_replay.specs.PayloadLines.{TakesLines, told_by, TellsOnce}
+use Rattle.payload_replay.specs.PayloadLines.{TakesLines, told_by, TellsOnce, TellsAlways}
 
 -- ---- the text of a payload
 
@@ -53,3 +53,7 @@ Decodes port direction file answer =
 -- no file is decoded in two ways
 abbrev pub HasOneAnswer : Type 0
 HasOneAnswer = (port : ℕ) (direction : Direction) → TellsOnce (Decodes port direction)
+
+-- and each in one
+abbrev pub HasAnAnswer : Type 0
+HasAnAnswer = (port : ℕ) (direction : Direction) → TellsAlways (Decodes port direction)

@@ -62,6 +62,10 @@ told_by text (Err fault) = Err fault
 abbrev pub TellsOnce : Telling → Type 0
 TellsOnce Tells = (file : List ℕ) (one other : Result (List ℕ) LineFault) → Tells file one → Tells file other → one ≡ other
 
+-- and each file is told in some way
+abbrev pub TellsAlways : Telling → Type 0
+TellsAlways Tells = (file : List ℕ) → (said : Result (List ℕ) LineFault) × Tells file said
+
 -- what was computed is what is told, or memory was wanting
 abbrev pub IsTold : Telling → List ℕ → Result (List ℕ) LineError → Type 0
 IsTold Tells file (Ok text) = Tells file (Ok text)

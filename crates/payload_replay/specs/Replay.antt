@@ -20,7 +20,7 @@ use Rattle.campaign_world.specs.declared.faults.LineWhy.{LineWhy}
 use Rattle.campaign_world.specs.declared.faults.LineWhy.TheVariants as why
 use Rattle.campaign_world.specs.declared.faults.LineFault.{LineFault}
 use Rattle.campaign_world.specs.Report.{counts_line, session_text, verdict_text, text_of_each}
-use Rattle.payload_replay.specs.PayloadLines.{TakesLines, told_by, TellsOnce}
+use Rattle.payload_replay.specs.PayloadLines.{TakesLines, told_by, TellsOnce, TellsAlways}
 
 -- ---- the header
 
@@ -99,3 +99,7 @@ Replays file answer = (outcome : Result DeviceState LineFault) × Reaches (lines
 -- no file is replayed in two ways
 abbrev pub ReplaysOnce : Type 0
 ReplaysOnce = TellsOnce Replays
+
+-- and each in one
+abbrev pub ReplaysAlways : Type 0
+ReplaysAlways = TellsAlways Replays

@@ -1,7 +1,7 @@
 //! Laws about the definitions, each the contract of a function that does nothing.
 
-ghost use Rattle.payload_replay.specs.Decode.{HasOneAnswer};
-ghost use Rattle.payload_replay.specs.Replay.{ReplaysOnce};
+ghost use Rattle.payload_replay.specs.Decode.{HasAnAnswer, HasOneAnswer};
+ghost use Rattle.payload_replay.specs.Replay.{ReplaysAlways, ReplaysOnce};
 ghost use Rattle.payload_replay.specs.ReplayHeadline.{ReplayHeadline};
 
 /// Whatever payloads are replayed: each session hears nothing but what the lines carry, it is complete from the first
@@ -13,10 +13,12 @@ pub fn replay_is_decided_at_first()
 
 /// A file of payloads is replayed in one way: one text, or one first refused line.
 pub fn replay_has_one_answer()
-    ensures { ReplaysOnce }
+    ensures once { ReplaysOnce }
+    ensures always { ReplaysAlways }
 {}
 
 /// A file of payloads has one answer on a port and in a direction: one text, or one first refused line.
 pub fn decode_has_one_answer()
-    ensures { HasOneAnswer }
+    ensures once { HasOneAnswer }
+    ensures always { HasAnAnswer }
 {}

@@ -10,10 +10,10 @@ use Rattle.campaign_generator.specs.Draws.{stepped, drawn, after_draws}
 use Rattle.campaign_generator.specs.Script.{is_skipped, skips}
 use Rattle.campaign_generator.specs.Forms.{forms_of_frags, forms_of_fragment, forms_of_downs, forms_of_deliveries}
 use Rattle.campaign_world.specs.World.{WorldState}
-use Rattle.generated_campaigns.proofs.Plays.{To, none, both}
-use Rattle.generated_campaigns.proofs.Stands.{Stand, stand_within, frag_to, down_to}
-use Rattle.generated_campaigns.proofs.Orders.{OrderOf, order_heard, order_again}
-use Rattle.generated_campaigns.proofs.Hearing.{IsMade, IsReady, Hears, count_of, ready_hears, skip_hears, hears_fragment}
+use Rattle.campaign_laws.proofs.Plays.{To, none, both}
+use Rattle.campaign_laws.proofs.Stands.{Stand, stand_within, frag_to, down_to}
+use Rattle.campaign_laws.proofs.Orders.{OrderOf, order_heard, order_again}
+use Rattle.campaign_laws.proofs.Hearing.{IsMade, IsReady, Hears, count_of, ready_hears, skip_hears, hears_fragment}
 
 -- ---- all are sent
 

@@ -5,8 +5,8 @@ use Rattle.device_core.specs.Device.{DeviceState}
 use Rattle.campaign_server.specs.declared.stage.Stage.{Stage}
 use Rattle.campaign_generator.specs.Forms.{forms_of_turn, forms_of_turns, forms_of_rounds}
 use Rattle.campaign_world.specs.World.{WorldState}
-use Rattle.generated_campaigns.proofs.Plays.{To, none, both}
-use Rattle.generated_campaigns.proofs.Stands.{Stand, TakesTurn, turn_to, stand_within}
+use Rattle.campaign_laws.proofs.Plays.{To, none, both}
+use Rattle.campaign_laws.proofs.Stands.{Stand, TakesTurn, turn_to, stand_within}
 
 -- how many turns device n has had, where k devices are done and the next one had j
 abbrev pub had : ℕ → ℕ → ℕ → ℕ → ℕ

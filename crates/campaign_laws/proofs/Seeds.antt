@@ -45,15 +45,15 @@ use Rattle.campaign_world.specs.Headline.{IsFragmentOf}
 use Rattle.campaign_world.proofs.HeadlineImage.{behind}
 use Rattle.campaign_world.proofs.FormCauses.{none as no_cause}
 use Rattle.campaign_world.proofs.LineItems.{numbered_more, within}
-use Rattle.generated_campaigns.specs.Accepted.{AllSeedsHaveCampaigns}
-use Rattle.generated_campaigns.proofs.Plays.{To, Plays, none, one, both, lines_read}
-use Rattle.generated_campaigns.proofs.Stands.{Stand, IsOne, IsPlan, Takes, takes_first_event, stand_within, numbered_last}
-use Rattle.generated_campaigns.proofs.Rounds.{had, AtTurn, rounds_to}
-use Rattle.generated_campaigns.proofs.Sessions.{IsOurs, rows_suffice, no_conflict, uncoded_is}
-use Rattle.generated_campaigns.proofs.Orders.{pieces_in}
-use Rattle.generated_campaigns.proofs.Hearing.{IsMade, IsNew, IsHearing, count_of}
-use Rattle.generated_campaigns.proofs.Turns.{Early, early_turns, AtStage, Late, late_turns}
-use Rattle.generated_campaigns.proofs.Deliveries.{HeardAll, Between, frags_to, deliveries_to}
+use Rattle.campaign_laws.specs.Accepted.{AllSeedsHaveCampaigns}
+use Rattle.campaign_laws.proofs.Plays.{To, Plays, none, one, both, lines_read}
+use Rattle.campaign_laws.proofs.Stands.{Stand, IsOne, IsPlan, Takes, takes_first_event, stand_within, numbered_last}
+use Rattle.campaign_laws.proofs.Rounds.{had, AtTurn, rounds_to}
+use Rattle.campaign_laws.proofs.Sessions.{IsOurs, rows_suffice, no_conflict, uncoded_is}
+use Rattle.campaign_laws.proofs.Orders.{pieces_in}
+use Rattle.campaign_laws.proofs.Hearing.{IsMade, IsNew, IsHearing, count_of}
+use Rattle.campaign_laws.proofs.Turns.{Early, early_turns, AtStage, Late, late_turns}
+use Rattle.campaign_laws.proofs.Deliveries.{HeardAll, Between, frags_to, deliveries_to}
 
 -- ---- the image
 

@@ -23,10 +23,10 @@ use Rattle.campaign_server.specs.declared.stage.Stage.{Stage}
 use Rattle.campaign_server.specs.declared.stage.Stage.TheVariants.{At}
 use Rattle.campaign_server.specs.declared.stage.Request.TheVariants as request
 use Rattle.campaign_world.proofs.HeadlineCommands.{setup_req, IsCut, fragment_sized, fragment_good, good_read}
-use Rattle.generated_campaigns.proofs.Stands.{fragment_command, behind}
-use Rattle.generated_campaigns.proofs.Devices.{IsPlain, at_of, delivered_is}
-use Rattle.generated_campaigns.proofs.Sessions.{cut, IsOurs, complete_is_image}
-use Rattle.generated_campaigns.proofs.Orders.{OrderOf, nothing_heard, order_skipped}
+use Rattle.campaign_laws.proofs.Stands.{fragment_command, behind}
+use Rattle.campaign_laws.proofs.Devices.{IsPlain, at_of, delivered_is}
+use Rattle.campaign_laws.proofs.Sessions.{cut, IsOurs, complete_is_image}
+use Rattle.campaign_laws.proofs.Orders.{OrderOf, nothing_heard, order_skipped}
 
 -- ---- the image of a seed
 

@@ -24,11 +24,11 @@ use Rattle.campaign_server.specs.Plan.{Plan}
 use Rattle.campaign_server.specs.Asking.{request_at}
 use Rattle.campaign_server.specs.Answers.{stage_after}
 use Rattle.campaign_world.proofs.HeadlineCommands.{setup_req, setup_request, setup_good, status_good, good_read}
-use Rattle.generated_campaigns.proofs.Stands.{IsPlan, TakesTurn}
-use Rattle.generated_campaigns.proofs.Rounds.{TakesTurns}
-use Rattle.generated_campaigns.proofs.Devices.{IsPlain, at_of, holding, still_due, takes_turn, version_asked, version_told, setup_told, status_told, image_asked, image_told, reboot_asked, reboot_told}
-use Rattle.generated_campaigns.proofs.Sessions.{cut, IsOurs, something_missing, nothing_missing}
-use Rattle.generated_campaigns.proofs.Hearing.{IsMade, IsNew, IsReady, is_cut, no_bits}
+use Rattle.campaign_laws.proofs.Stands.{IsPlan, TakesTurn}
+use Rattle.campaign_laws.proofs.Rounds.{TakesTurns}
+use Rattle.campaign_laws.proofs.Devices.{IsPlain, at_of, holding, still_due, takes_turn, version_asked, version_told, setup_told, status_told, image_asked, image_told, reboot_asked, reboot_told}
+use Rattle.campaign_laws.proofs.Sessions.{cut, IsOurs, something_missing, nothing_missing}
+use Rattle.campaign_laws.proofs.Hearing.{IsMade, IsNew, IsReady, is_cut, no_bits}
 
 -- its last uplink is no matter
 plain_holding : (e : DeviceState) → IsPlain e → IsPlain (holding [] e)

@@ -28,7 +28,7 @@ use Rattle.campaign_server.specs.Sent.{unicast_of}
 use Rattle.campaign_server.specs.Asking.{request_at}
 use Rattle.campaign_server.specs.Answers.{stage_after}
 use Rattle.campaign_server.specs.Time.{time_answer_to}
-use Rattle.generated_campaigns.proofs.Stands.{IsPlan, TakesTurn, behind}
+use Rattle.campaign_laws.proofs.Stands.{IsPlan, TakesTurn, behind}
 
 -- what a line of a seed's script makes of its configuration; no reboot is set, and no uplink held
 pub record IsPlain (d : DeviceState) : Type 0 where
