@@ -1,9 +1,9 @@
 -- The columns whose pieces came uncoded, as they become more.
-use Rattle.std.proofs.Common.{◌≡◌, ◌≢◌, ℕ, ◌<◌, ◌^◌, Bool, true, false, List, length, get_or, set, bit_xor, true≢false, refl, sym, ap, ◌∙◌, inl, inr, arith, get_or-set_same, get_or-set_other}
+use Rattle.std.proofs.Common.{◌≡◌, ◌≢◌, ℕ, ◌<◌, ◌^◌, true, false, List, length, get_or, set, bit_xor, true≢false, sym, ap, ◌∙◌, inl, inr, arith, get_or-set_same, get_or-set_other}
 use Rattle.std.specs.Int.{bit_at}
 use Rattle.std.proofs.lemmas.Nat.Bits.{bit_at-lt, bit_at-zero, bit_at_xor, bit_at-pow_same, bit_at-pow_other}
-use Rattle.std.proofs.lemmas.Bool.{cases_eq, cases_lt}
-use Rattle.row_elimination.specs.Places.{Place, free, piece, row, is_piece, grown}
+use Rattle.std.proofs.lemmas.Bool.{cases_eq}
+use Rattle.row_elimination.specs.Places.{Place, free, piece, is_piece, grown}
 use Rattle.row_elimination.specs.Inside.{Marks}
 use Rattle.row_elimination.proofs.Counting.{is_piece-cleared}
 use Rattle.row_elimination.proofs.Growing.{at_new, at_old}

@@ -1,20 +1,17 @@
 -- Taking equations that are held out of an equation.
-use Rattle.std.proofs.Common.{◌≡◌, ℕ, suc, ◌+◌, ◌<◌, ◌^◌, List, [], ◌∷◌, length, get_or, bit_xor, refl, sym, ap, ◌∙◌, subst, arith}
+use Rattle.std.proofs.Common.{◌≡◌, ℕ, suc, ◌<◌, ◌^◌, List, [], ◌∷◌, length, get_or, bit_xor, refl, sym, ap, ◌∙◌, subst, arith}
 use Rattle.std.proofs.lemmas.List.{ext_get_or}
-use Rattle.std.specs.Int.{bit_at}
 use Rattle.std.specs.Int.Bits.{xor_self}
 use Rattle.std.proofs.lemmas.Nat.{xor_lt}
-use Rattle.std.proofs.lemmas.Nat.Bits.{bit_at_xor}
-use Rattle.std.proofs.lemmas.Bool.{cases_eq, cases_lt}
 use Rattle.std.proofs.lemmas.List.Elements.{All-get_or, All-from_get_or}
 use Rattle.frag_model.specs.Fragments.{Equation, IsPiece, xor_bytes}
 use Rattle.frag_model.proofs.Parts.{byte_at, get_or-xor_bytes, length-xor_bytes}
 use Rattle.frag_model.proofs.Uniqueness.{byte_at-xor}
 use Rattle.frag_model.proofs.Tables.{IsSum, IsSum-zero, IsSum-xor}
-use Rattle.row_elimination.specs.Places.{Place, free, told, lines_held}
+use Rattle.row_elimination.specs.Places.{Place, told, lines_held}
 use Rattle.row_elimination.specs.Inside.{IsReduced}
-use Rattle.row_elimination.proofs.Agreeing.{Agrees, agrees_xor, agrees_same, xor_right}
-use Rattle.row_elimination.proofs.Telling.{Tells, AgreesAll, told-sum, told_within}
+use Rattle.row_elimination.proofs.Agreeing.{agrees_xor, agrees_same, xor_right}
+use Rattle.row_elimination.proofs.Telling.{Tells, told-sum}
 pub use Rattle.row_elimination.specs.Steps.{Reduced, Taken}
 use Rattle.row_elimination.specs.Storage.{chunk}
 use Rattle.row_elimination.proofs.Chunks.{get_or-chunk}
@@ -90,6 +87,6 @@ pub taken_picks : (cols size : ℕ) (ps : List Place) (line : ℕ) (part : List 
 taken_picks cols size ps line part l area q ks rest t told sized bytes h =
     let all : Taken cols size ps line part (after_flips l ks) (summed size area q ks) = taken_list cols size ps line part l area q ks t told h in
     let same : rest ≡ summed size area q ks = ext_get_or 0 rest (summed size area q ks) (sized ∙ sym all.piece.sized) (λ i lt.
-        let inside : i < size = omega (arith, sized) in
-        bytes i inside ∙ sym (get_or-summed size area q ks i inside)) in
+    let inside : i < size = omega (arith, sized) in
+    bytes i inside ∙ sym (get_or-summed size area q ks i inside)) in
     subst (λ p. Taken cols size ps line part (after_flips l ks) p) (sym same) all

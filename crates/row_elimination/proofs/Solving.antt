@@ -1,7 +1,6 @@
 -- What a solver keeps true, and what its calls are given.
-use Rattle.std.proofs.Common.{◌≡◌, ℕ, ◌+◌, ◌*◌, ◌/◌, ◌<◌, ◌≤◌, Bool, true, ◌&&◌, nat_le, List, length, get_or, replicate, refl, sym, ap, ◌∙◌, subst, inl, inr, arith, mul_left_comm}
+use Rattle.std.proofs.Common.{◌≡◌, ℕ, ◌+◌, ◌*◌, ◌/◌, ◌<◌, ◌≤◌, true, ◌&&◌, nat_le, List, length, get_or, replicate, refl, sym, ap, ◌∙◌, subst, inl, inr, arith}
 use Rattle.std.proofs.lemmas.Bool.{and_parts, leb-true, cases_lt}
-use Rattle.std.proofs.lemmas.Nat.{mul-le}
 use Rattle.frag_model.specs.Fragments.{Shape}
 use Rattle.row_elimination.specs.declared.stages.Stage.{Stage}
 use Rattle.row_elimination.specs.declared.stages.Stage.TheVariants as stage

@@ -1,5 +1,5 @@
 -- What the storage says of the places, column by column, and what the passes make of it.
-use Rattle.std.proofs.Common.{◌≡◌, ◌≢◌, ◌⊎◌, ℕ, zero, suc, ◌+◌, ◌*◌, ◌<◌, ◌≤◌, ◌^◌, Bool, true, false, cond, ◌==◌, List, [], ◌∷◌, ◌++◌, length, take, get_or, set, Some, bit_xor, true≢false, refl, sym, ap, ap₂, ◌∙◌, subst, inl, inr, arith, length-take, length-set, get_or-set_same, get_or-set_other}
+use Rattle.std.proofs.Common.{◌≡◌, ◌≢◌, ◌⊎◌, ℕ, zero, suc, ◌+◌, ◌*◌, ◌<◌, ◌≤◌, ◌^◌, true, false, cond, ◌==◌, List, [], ◌∷◌, ◌++◌, length, take, get_or, Some, bit_xor, true≢false, refl, sym, ap, ◌∙◌, subst, inl, inr, arith, length-take, length-set, get_or-set_same, get_or-set_other}
 use Rattle.std.specs.Int.{bit_at}
 use Rattle.std.specs.Simd.Lanes.{zip2}
 use Rattle.std.proofs.lemmas.List.{ext_get_or, get_or_past, get_or-take}
@@ -11,9 +11,9 @@ use Rattle.row_arena.specs.Sums.{after_flips, after_pieces}
 use Rattle.row_arena.proofs.Flips.{after_flips-more}
 use Rattle.row_elimination.specs.declared.columns.Column.{Column}
 use Rattle.row_elimination.specs.declared.columns.Column.TheVariants.{Free, Piece, Row}
-use Rattle.row_elimination.specs.Places.{Place, free, piece, row, told, is_piece, cleared, all_cleared}
+use Rattle.row_elimination.specs.Places.{Place, free, row, told, is_piece, cleared, all_cleared}
 use Rattle.row_elimination.specs.Inside.{IsReduced, Marks}
-use Rattle.row_elimination.specs.Storage.{chunk, place_in, places_from, places_in, line_cleared, IsStored, IsRowOf, SameShape, Clears, ClearsAll}
+use Rattle.row_elimination.specs.Storage.{place_in, places_from, places_in, line_cleared, IsStored, IsRowOf, SameShape, Clears, ClearsAll}
 use Rattle.row_elimination.specs.Steps.{Tells, Taken, Reduced, TakesRow}
 use Rattle.row_elimination.proofs.Lines.{sum_is}
 use Rattle.row_elimination.proofs.Growing.{at_all_cleared, length-all_cleared}

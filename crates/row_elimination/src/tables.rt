@@ -186,14 +186,7 @@ impl<const W: usize, const B: usize> Table<W, B> {
         ensures { self.new ≡ record self.old { places = grown p (line_in line.now) part.now self.old.places } }
     {
         let slot = self.spare[self.count as usize];
-        add_row(
-            &mut self.columns,
-            &mut self.arena,
-            slot,
-            p,
-            line,
-            part,
-        );
+        add_row(&mut self.columns, &mut self.arena, slot, p, line, part);
         self.count += 1;
         self.gained += 1;
     }

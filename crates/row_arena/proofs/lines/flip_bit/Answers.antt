@@ -1,4 +1,4 @@
-use Rattle.std.proofs.Common.{◌≡◌, ◌+◌, ◌*◌, ◌/◌, ◌%◌, ◌^◌, ◌<◌, set, get_or, bit_xor, subst, sym, arith}
+use Rattle.std.proofs.Common.{◌≡◌, ◌/◌, ◌%◌, ◌^◌, ◌<◌, set, get_or, bit_xor, subst, sym, arith}
 use Rattle.std.proofs.lemmas.Nat.{one_shl}
 use Rattle.row_arena.specs.Rows.{line_in}
 use Rattle.row_arena.proofs.Flips.{line_flipped}

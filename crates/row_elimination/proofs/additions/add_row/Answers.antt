@@ -1,4 +1,4 @@
-use Rattle.std.proofs.Common.{◌≡◌, ℕ, List, ◌++◌, length, take, drop, set, refl, ◌∙◌, ap, arith, length-take-le}
+use Rattle.std.proofs.Common.{ℕ, List, length, take, set, refl, ◌∙◌, ap, arith}
 use Rattle.row_arena.specs.Rows.{line_in}
 use Rattle.row_elimination.specs.declared.columns.Column.TheVariants.{Row}
 use Rattle.row_elimination.specs.Places.{Place, row, grown}
@@ -19,8 +19,8 @@ returns-clause-places g c = λ area.
     ap (places_in size area c.put_row.new.arena) (written_first c.args.arena.now.cols c.cols.result c.put_row.new.columns c.args.columns.now c.cols.ensures (omega (arith, c.requires.columns, c.cols.ensures)) c.put_row.auto.columns)
     ∙ c.put_row.ensures.places size area
     ∙ ap (λ (l : List Place). set l c.args.p (row (line_in c.args.line.now) c.args.part.now))
-      (ap (λ (n : ℕ). places_in size area c.clear.new.arena (take n columns)) c.cols.ensures
-      ∙ cleared_places size area c.args.arena.now c.clear.new.arena (take c.args.arena.now.cols columns) c.args.p (line_in c.args.line.now) c.args.part.now c.requires.stored refl c.clear.ensures)
+    (ap (λ (n : ℕ). places_in size area c.clear.new.arena (take n columns)) c.cols.ensures
+    ∙ cleared_places size area c.args.arena.now c.clear.new.arena (take c.args.arena.now.cols columns) c.args.p (line_in c.args.line.now) c.args.part.now c.requires.stored refl c.clear.ensures)
 
 pub returns-clause-shape : goal.returns-clause-shape
 returns-clause-shape g c = shape_then c.args.arena.now c.clear.new.arena c.put_row.new.arena c.clear.ensures.shape c.put_row.ensures.shape

@@ -1,4 +1,4 @@
-use Rattle.std.proofs.Common.{◌-◌, sym, ap, ◌∙◌, arith}
+use Rattle.std.proofs.Common.{sym, ◌∙◌, arith}
 use Rattle.frag_model.proofs.Sums.{line_of_coded}
 use Rattle.frag_model.proofs.Uncoded.{line_of_piece}
 use Rattle.row_elimination.proofs.Lines.{words_are}

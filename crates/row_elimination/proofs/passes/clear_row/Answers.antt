@@ -1,4 +1,4 @@
-use Rattle.std.proofs.Common.{◌≡◌, sym, ◌∙◌}
+use Rattle.std.proofs.Common.{sym, ◌∙◌}
 use Rattle.row_arena.specs.Rows.{line_in}
 use Rattle.row_elimination.proofs.Storing.{clears_row, clears_no_row}
 use Rattle.row_elimination.proofs.passes.clear_row.Goals as goal

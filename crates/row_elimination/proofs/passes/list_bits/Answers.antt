@@ -1,7 +1,4 @@
-use Rattle.std.proofs.Common.{◌≡◌, ◌<◌, ℕ, length, take, get_or, sym, ap, ◌∙◌, inl, inr, arith}
-use Rattle.std.specs.Int.{bit_at}
-use Rattle.std.proofs.lemmas.Bool.{cases_eq}
-use Rattle.std.proofs.lemmas.Nat.Bits.{bit_at-lt}
+use Rattle.std.proofs.Common.{take, ap, ◌∙◌}
 use Rattle.row_arena.specs.Rows.{line_in}
 use Rattle.row_arena.specs.Sums.{after_flips}
 use Rattle.row_elimination.proofs.Lines.{listed}

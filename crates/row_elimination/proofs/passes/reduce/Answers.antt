@@ -1,7 +1,7 @@
-use Rattle.std.proofs.Common.{◌≡◌, ℕ, List, length, sym, ap, subst, ◌∙◌, arith}
+use Rattle.std.proofs.Common.{◌≡◌, ℕ, length, sym, subst, ◌∙◌, arith}
 use Rattle.row_arena.specs.Rows.{line_in}
 use Rattle.row_elimination.specs.Storage.{IsStored, places_in}
-use Rattle.row_elimination.specs.Steps.{Taken, Reduced, TakesRows}
+use Rattle.row_elimination.specs.Steps.{Taken, TakesRows}
 use Rattle.row_elimination.proofs.Storing.{column_piece, known_room, pieces_taken}
 use Rattle.row_elimination.proofs.passes.reduce.Goals as goal
 use Rattle.row_elimination.proofs.passes.reduce.Goals.{After-sum_pieces, After-take_rows}
@@ -18,13 +18,25 @@ take_rows-requires g c =
     let sized : length c.sum_pieces.new.rest ≡ size = c.sum_pieces.auto.rest ∙ c.requires.sized in
     let taken : Taken (length os) size (places_in size c.args.area.now c.args.arena.now os) (line_in c.args.line.now) c.args.part.now (line_in c.pick-count.new.line) c.sum_pieces.new.rest =
     pieces_taken size c.args.area.now c.args.arena.now os (line_in c.args.known.now) (line_in c.args.line.now) c.pick-count.result c.pick-count.new.picks (line_in c.pick-count.new.line)
-    c.args.part.now c.sum_pieces.new.rest c.requires.reduced c.requires.marks c.requires.piece c.requires.within c.pick-count.ensures.known c.pick-count.ensures.line sized c.sum_pieces.ensures in
-    (search, (subst (λ (n : ℕ). IsStored n c.args.arena.now os) (sym sized) c.requires.stored,
-      (c.pick-count.auto.line ∙ c.requires.words,
-      (omega (arith, c.pick-count.auto.line, c.requires.few),
-      (taken.within,
-      (λ k is. c.pick-count.ensures.none k (c.requires.marks.all k (column_piece size c.args.area.now c.args.arena.now k os is)),
-      omega (arith, c.pick-count.auto.picks, c.requires.picks)))))))
+    c.args.part.now c.sum_pieces.new.rest c.requires.reduced c.requires.marks c.requires.piece c.requires.within c.pick-count.ensures.known c.pick-count.ensures.line sized c.sum_pieces.ensures in (
+      search,
+      (
+        subst (λ (n : ℕ). IsStored n c.args.arena.now os) (sym sized) c.requires.stored,
+        (
+          c.pick-count.auto.line ∙ c.requires.words,
+          (
+            omega (arith, c.pick-count.auto.line, c.requires.few),
+            (
+              taken.within,
+              (
+                λ k is. c.pick-count.ensures.none k (c.requires.marks.all k (column_piece size c.args.area.now c.args.arena.now k os is)),
+                omega (arith, c.pick-count.auto.picks, c.requires.picks),
+              ),
+            ),
+          ),
+        ),
+      ),
+    )
 
 pub returns : goal.returns
 returns g c =

@@ -1,4 +1,4 @@
-use Rattle.std.proofs.Common.{bit_xor, ap, ◌∙◌, refl, inl, inr}
+use Rattle.std.proofs.Common.{bit_xor, ap, ◌∙◌, inl, inr}
 use Rattle.std.specs.Simd.Lanes.{zip2}
 use Rattle.row_arena.specs.Rows.{line_in}
 use Rattle.row_elimination.proofs.Storing.{takes_none, takes_row}

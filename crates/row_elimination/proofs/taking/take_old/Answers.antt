@@ -13,8 +13,8 @@ pub settle-requires : goal.settle-requires
 settle-requires g c = (
   omega arith,
   knows_sum c.args.table.now c.args.n (c.args.n - 1) c.args.part.now c.args.rest.now
-  (subst (λ x. IsReady c.args.table.now c.args.n c.args.part.now x c.args.rest.now) c.requires.none c.requires.ready)
-  (c.is_zero.ensures.yes c.if-not-is_zero.false) (omega (arith, c.requires.ready.first)) (omega arith),
+      (subst (λ x. IsReady c.args.table.now c.args.n c.args.part.now x c.args.rest.now) c.requires.none c.requires.ready)
+      (c.is_zero.ensures.yes c.if-not-is_zero.false) (omega (arith, c.requires.ready.first)) (omega arith),
 )
 
 pub returns-then-n-nb_frag-clause-fed : goal.returns-then-n-nb_frag-clause-fed

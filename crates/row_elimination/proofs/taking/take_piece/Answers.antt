@@ -12,11 +12,19 @@ learn-requires g c =
     let l : ℕ = line_in c.args.line.now in
     let is : c.args.n ≡ suc (c.args.n - 1) = omega (arith, c.requires.ready.first) in (
       omega arith,
-      (c.requires.words,
-      (c.requires.ready.left.piece.sized,
-      (is_new_row t.shape.nb_frag t.shape.frag_size t.places _ c.args.part.now c.args.p l c.args.rest.now c.requires.ready.held c.requires.ready.left c.requires.inside c.requires.has,
-      (knows_grown t c.args.n (c.args.n - 1) c.args.p l c.args.part.now c.args.rest.now c.requires.ready is c.requires.uncoded c.requires.inside c.requires.has,
-      is_fresh t c.args.n (c.args.n - 1) c.args.p l c.args.part.now c.args.rest.now c.requires.ready is c.requires.uncoded c.requires.has)))),
+      (
+        c.requires.words,
+        (
+          c.requires.ready.left.piece.sized,
+          (
+            is_new_row t.shape.nb_frag t.shape.frag_size t.places _ c.args.part.now c.args.p l c.args.rest.now c.requires.ready.held c.requires.ready.left c.requires.inside c.requires.has,
+            (
+              knows_grown t c.args.n (c.args.n - 1) c.args.p l c.args.part.now c.args.rest.now c.requires.ready is c.requires.uncoded c.requires.inside c.requires.has,
+              is_fresh t c.args.n (c.args.n - 1) c.args.p l c.args.part.now c.args.rest.now c.requires.ready is c.requires.uncoded c.requires.has,
+            ),
+          ),
+        ),
+      ),
     )
 
 pub decide-requires : goal.decide-requires
@@ -26,7 +34,7 @@ decide-requires g c =
     let known = knows_grown t c.args.n (c.args.n - 1) c.args.p l c.args.part.now c.args.rest.now c.requires.ready (omega (arith, c.requires.ready.first)) c.requires.uncoded c.requires.inside c.requires.has in (
       omega arith,
       reduced_in t c.learn.new.self (set (grown c.args.p l c.args.rest.now t.places) (c.args.n - 1) (piece c.args.part.now)) c.learn.ensures.room c.learn.ensures.places
-      (settled_reduced t.shape (grown c.args.p l c.args.rest.now t.places) (c.args.n - 1) c.args.part.now known),
+          (settled_reduced t.shape (grown c.args.p l c.args.rest.now t.places) (c.args.n - 1) c.args.part.now known),
     )
 
 pub returns-clause-fed : goal.returns-clause-fed

@@ -11,10 +11,16 @@ pub push-requires : goal.push-requires
 push-requires g c =
     let t = c.args.table.now in (
       omega arith,
-      (c.requires.words,
-      (c.requires.ready.left.piece.sized,
-      (is_new_row t.shape.nb_frag t.shape.frag_size t.places _ c.args.part.now c.args.p (line_in c.args.line.now) c.args.rest.now c.requires.ready.held c.requires.ready.left c.requires.inside c.requires.has,
-      c.requires.spare))),
+      (
+        c.requires.words,
+        (
+          c.requires.ready.left.piece.sized,
+          (
+            is_new_row t.shape.nb_frag t.shape.frag_size t.places _ c.args.part.now c.args.p (line_in c.args.line.now) c.args.rest.now c.requires.ready.held c.requires.ready.left c.requires.inside c.requires.has,
+            c.requires.spare,
+          ),
+        ),
+      ),
     )
 
 pub decide-requires : goal.decide-requires
@@ -25,7 +31,7 @@ decide-requires g c =
     let new = is_new_row t.shape.nb_frag t.shape.frag_size t.places _ c.args.part.now c.args.p l q c.requires.ready.held c.requires.ready.left c.requires.inside c.requires.has in (
       omega arith,
       reduced_in t c.push.new.self (grown c.args.p l q t.places) (room_grown t c.push.new.self (grown c.args.p l q t.places) c.push.ensures) (ap (λ (x : Grid). x.places) c.push.ensures)
-      (grown_reduced t.shape.nb_frag t.shape.frag_size t.places c.args.p l q new),
+          (grown_reduced t.shape.nb_frag t.shape.frag_size t.places c.args.p l q new),
     )
 
 pub returns-clause-fed : goal.returns-clause-fed

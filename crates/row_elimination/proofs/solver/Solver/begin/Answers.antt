@@ -11,9 +11,13 @@ begin-requires g c =
     let r = roomy g.row.W g.row.B c.args.self.now.area c.args.nb_frag c.args.frag_size c.args.rows (sym c.fits.ensures ∙ c.if-not-fits.false) in
     let area : length c.self.inside.table.area ≡ c.args.self.now.area = ap (λ (h : Held). h.area) c.self.view_is in (
       omega arith,
-      (c.requires.most,
-      (c.requires.few,
-      (omega (arith, r.pieces, area), r.arena))),
+      (
+        c.requires.most,
+        (
+          c.requires.few,
+          (omega (arith, r.pieces, area), r.arena),
+        ),
+      ),
     )
 
 pub invariant_of-self : goal.invariant_of-self

@@ -1,6 +1,5 @@
-use Rattle.std.proofs.Common.{ap, sym, ◌∙◌, arith}
+use Rattle.std.proofs.Common.{ap, arith}
 use Rattle.frag_model.specs.Fragments.{Shape}
-use Rattle.row_elimination.specs.Grid.{Grid}
 use Rattle.row_elimination.proofs.solver.Solver.reserve.Goals as goal
 
 pub invariant_of-result : goal.invariant_of-result

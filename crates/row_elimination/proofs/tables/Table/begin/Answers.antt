@@ -1,6 +1,5 @@
 use Rattle.std.proofs.Common.{◌≡◌, ◌*◌, ◌≤◌, List, length, take, replicate, sym, ap, subst, ◌∙◌, arith}
 use Rattle.frag_model.specs.Fragments.{Shape}
-use Rattle.row_arena.specs.Rows.{Arena, zero_row}
 use Rattle.row_elimination.specs.declared.columns.Column.{Column}
 use Rattle.row_elimination.specs.Places.{Place, free}
 use Rattle.row_elimination.specs.Storage.{places_in}

@@ -1,4 +1,4 @@
-use Rattle.std.proofs.Common.{◌≡◌, ◌^◌, ◌⊎◌, ◌≢◌, ℕ, List, false, bit_xor, length, get_or, take, set, sym, ap, subst, ◌∙◌, arith}
+use Rattle.std.proofs.Common.{◌≡◌, ◌^◌, ℕ, List, false, bit_xor, length, get_or, take, set, sym, ap, subst, ◌∙◌, arith}
 use Rattle.frag_model.specs.Fragments.{Shape}
 use Rattle.row_arena.specs.Rows.{Arena, line_in, words_for}
 use Rattle.row_elimination.specs.declared.columns.Column.{Column}
@@ -26,21 +26,38 @@ add_piece_and_row-requires g c =
     let known_is : Knows shape (grown c.args.p l part ps) c.args.k c.args.piece.now =
     subst (λ (x : Grid). Knows x.shape (grown c.args.p l part x.places) c.args.k c.args.piece.now) (sym c.self.view_is) c.requires.known in
     let fresh : is_piece (get_or ps c.args.k free) ≡ false = subst (λ (x : Grid). is_piece (get_or x.places c.args.k free) ≡ false) (sym c.self.view_is) c.requires.fresh in
-    let cols = ap (λ (a : Arena). a.cols) c.deref_mut-3.ensures.value in
-    (omega (arith, c.self.invariant.words_few, c.self.invariant.bytes_few),
-      (omega (arith, i.arena_cols, cols, ap length c.deref_mut.ensures.value, i.most, i.columns_sized),
-      (omega (arith, new.inside, i.arena_cols, cols),
-      (omega (arith, known_is.inside, i.arena_cols, cols),
-      (known_is.piece.sized ∙ sym sz,
-      (rw (sz, c.deref_mut-2.ensures.value)
-      (piece_room s.nb_frag s.frag_size s.rows s.count s.gained c.args.k s.columns.items s.spare.items s.known.items s.area.items s.arena.value i known_is.inside),
-      (rw (c.deref_mut.ensures.value, c.deref_mut-3.ensures.value)
-      (stored_at s.nb_frag s.frag_size s.arena.value.cols (length part) s.rows s.count s.gained s.columns.items s.spare.items s.known.items s.area.items s.arena.value i i.arena_cols sz),
-      (rw (c.deref_mut-3.ensures.value)
-      (file_row s.nb_frag s.frag_size s.rows s.count s.gained s.columns.items s.spare.items s.known.items s.area.items s.arena.value line part i ln new.within sz),
-      (rw (c.deref_mut.ensures.value, c.deref_mut-3.ensures.value, i.arena_cols)
-      (learned_kind shape s.area.items s.arena.value os c.args.k c.args.p l part c.args.piece.now new known_is fresh),
-      rw (c.deref_mut.ensures.value, c.deref_mut-3.ensures.value, i.arena_cols) (lead_free s.nb_frag s.frag_size s.area.items s.arena.value os c.args.p l part new))))))))))
+    let cols = ap (λ (a : Arena). a.cols) c.deref_mut-3.ensures.value in (
+      omega (arith, c.self.invariant.words_few, c.self.invariant.bytes_few),
+      (
+        omega (arith, i.arena_cols, cols, ap length c.deref_mut.ensures.value, i.most, i.columns_sized),
+        (
+          omega (arith, new.inside, i.arena_cols, cols),
+          (
+            omega (arith, known_is.inside, i.arena_cols, cols),
+            (
+              known_is.piece.sized ∙ sym sz,
+              (
+                rw (sz, c.deref_mut-2.ensures.value)
+                    (piece_room s.nb_frag s.frag_size s.rows s.count s.gained c.args.k s.columns.items s.spare.items s.known.items s.area.items s.arena.value i known_is.inside),
+                (
+                  rw (c.deref_mut.ensures.value, c.deref_mut-3.ensures.value)
+                      (stored_at s.nb_frag s.frag_size s.arena.value.cols (length part) s.rows s.count s.gained s.columns.items s.spare.items s.known.items s.area.items s.arena.value i i.arena_cols sz),
+                  (
+                    rw (c.deref_mut-3.ensures.value)
+                        (file_row s.nb_frag s.frag_size s.rows s.count s.gained s.columns.items s.spare.items s.known.items s.area.items s.arena.value line part i ln new.within sz),
+                    (
+                      rw (c.deref_mut.ensures.value, c.deref_mut-3.ensures.value, i.arena_cols)
+                          (learned_kind shape s.area.items s.arena.value os c.args.k c.args.p l part c.args.piece.now new known_is fresh),
+                      rw (c.deref_mut.ensures.value, c.deref_mut-3.ensures.value, i.arena_cols) (lead_free s.nb_frag s.frag_size s.area.items s.arena.value os c.args.p l part new),
+                    ),
+                  ),
+                ),
+              ),
+            ),
+          ),
+        ),
+      ),
+    )
 
 pub mark-requires-clause-words : goal.mark-requires-clause-words
 mark-requires-clause-words g c =
@@ -49,8 +66,13 @@ mark-requires-clause-words g c =
 pub overflow_add-self : goal.overflow_add-self
 overflow_add-self g c =
     let i = c.self.invariant.grid in
-    omega (arith, i.gained_all, i.most, i.reduced.sized,
-    gained-le (places_in c.self.inside.frag_size c.self.inside.area.items c.self.inside.arena.value (take c.self.inside.nb_frag c.self.inside.columns.items)))
+    omega (
+      arith,
+      i.gained_all,
+      i.most,
+      i.reduced.sized,
+      gained-le (places_in c.self.inside.frag_size c.self.inside.area.items c.self.inside.arena.value (take c.self.inside.nb_frag c.self.inside.columns.items)),
+    )
 
 pub invariant_of-self : goal.invariant_of-self
 invariant_of-self g c =
@@ -77,7 +99,7 @@ invariant_of-self g c =
     subst (λ (os : List Column). Slots (take cols os) s.spare.items s.rows s.count → Slots (take cols now.columns) s.spare.items s.rows s.count) c.deref_mut.ensures.value
     (c.add_piece_and_row.ensures.slots s.spare.items s.rows s.count) in
     let P : List ℕ → Arena → List Column → Type 0 = λ r a os. places_in (length part) now.area now.arena (take cols now.columns)
-        ≡ set (grown c.args.p l part (places_in (length part) r a (take cols os))) c.args.k (piece c.args.piece.now) in
+    ≡ set (grown c.args.p l part (places_in (length part) r a (take cols os))) c.args.k (piece c.args.piece.now) in
     let told : P area arena columns =
     subst (λ (os : List Column). P area arena os) c.deref_mut.ensures.value
     (subst (λ (a : Arena). P area a c.deref_mut.result.now) c.deref_mut-3.ensures.value

@@ -23,21 +23,38 @@ add_row-requires g c =
     let more : s.count < s.rows = omega (arith, i.counted, room) in
     let new = subst (λ (g : Grid). IsNew g.shape.nb_frag g.shape.frag_size g.places c.args.p (line_in line) part) (sym c.self.view_is) c.requires.new in
     let slot : c.index-slot.result.now ≡ get_or s.spare.items s.count 0 =
-    c.index-slot.ensures ∙ get_or_default_zero s.spare.items s.count c.index-slot.result.now (omega (arith, more, i.few, i.most, i.spare_sized)) in
-    (omega (arith, c.self.invariant.words_few, c.self.invariant.bytes_few), (omega (arith, i.arena_cols, ap (λ (a : Arena). a.cols) c.deref_mut-2.ensures.value, ap length c.deref_mut.ensures.value, i.most, i.columns_sized),
-      (omega (arith, new.inside, i.arena_cols, ap (λ (a : Arena). a.cols) c.deref_mut-2.ensures.value),
-      (rw (c.deref_mut.ensures.value, c.deref_mut-2.ensures.value)
-      (stored_at s.nb_frag s.frag_size s.arena.value.cols (length part) s.rows s.count s.gained s.columns.items s.spare.items s.known.items s.area.items s.arena.value i i.arena_cols sz),
-      (rw (c.deref_mut-2.ensures.value)
-      (file_row s.nb_frag s.frag_size s.rows s.count s.gained s.columns.items s.spare.items s.known.items s.area.items s.arena.value line part i ln new.within sz),
-      (rw (c.deref_mut-2.ensures.value, i.arena_rows, slot) (i.slots.spare_within s.count (omega arith) more),
-      rw (c.deref_mut.ensures.value, c.deref_mut-2.ensures.value, i.arena_cols, slot) (λ d e. i.slots.spare_free s.count d (omega arith) more e)))))))
+    c.index-slot.ensures ∙ get_or_default_zero s.spare.items s.count c.index-slot.result.now (omega (arith, more, i.few, i.most, i.spare_sized)) in (
+      omega (arith, c.self.invariant.words_few, c.self.invariant.bytes_few),
+      (
+        omega (arith, i.arena_cols, ap (λ (a : Arena). a.cols) c.deref_mut-2.ensures.value, ap length c.deref_mut.ensures.value, i.most, i.columns_sized),
+        (
+          omega (arith, new.inside, i.arena_cols, ap (λ (a : Arena). a.cols) c.deref_mut-2.ensures.value),
+          (
+            rw (c.deref_mut.ensures.value, c.deref_mut-2.ensures.value)
+                (stored_at s.nb_frag s.frag_size s.arena.value.cols (length part) s.rows s.count s.gained s.columns.items s.spare.items s.known.items s.area.items s.arena.value i i.arena_cols sz),
+            (
+              rw (c.deref_mut-2.ensures.value)
+                  (file_row s.nb_frag s.frag_size s.rows s.count s.gained s.columns.items s.spare.items s.known.items s.area.items s.arena.value line part i ln new.within sz),
+              (
+                rw (c.deref_mut-2.ensures.value, i.arena_rows, slot) (i.slots.spare_within s.count (omega arith) more),
+                rw (c.deref_mut.ensures.value, c.deref_mut-2.ensures.value, i.arena_cols, slot) (λ d e. i.slots.spare_free s.count d (omega arith) more e),
+              ),
+            ),
+          ),
+        ),
+      ),
+    )
 
 pub overflow_add-self-2 : goal.overflow_add-self-2
 overflow_add-self-2 g c =
     let i = c.self.invariant.grid in
-    omega (arith, i.gained_all, i.most, i.reduced.sized,
-    gained-le (places_in c.self.inside.frag_size c.self.inside.area.items c.self.inside.arena.value (take c.self.inside.nb_frag c.self.inside.columns.items)))
+    omega (
+      arith,
+      i.gained_all,
+      i.most,
+      i.reduced.sized,
+      gained-le (places_in c.self.inside.frag_size c.self.inside.area.items c.self.inside.arena.value (take c.self.inside.nb_frag c.self.inside.columns.items)),
+    )
 
 pub invariant_of-self : goal.invariant_of-self
 invariant_of-self g c =

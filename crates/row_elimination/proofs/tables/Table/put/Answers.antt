@@ -17,8 +17,13 @@ mark-requires-clause-words g c =
 pub overflow_add-self : goal.overflow_add-self
 overflow_add-self g c =
     let i = c.self.invariant.grid in
-    omega (arith, i.gained_all, i.most, i.reduced.sized,
-    gained-le (places_in c.self.inside.frag_size c.self.inside.area.items c.self.inside.arena.value (take c.self.inside.nb_frag c.self.inside.columns.items)))
+    omega (
+      arith,
+      i.gained_all,
+      i.most,
+      i.reduced.sized,
+      gained-le (places_in c.self.inside.frag_size c.self.inside.area.items c.self.inside.arena.value (take c.self.inside.nb_frag c.self.inside.columns.items)),
+    )
 
 pub invariant_of-self : goal.invariant_of-self
 invariant_of-self g c =

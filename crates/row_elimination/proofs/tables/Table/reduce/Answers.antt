@@ -23,18 +23,37 @@ reduce-requires g c =
     let sz : length c.args.part.now ≡ s.frag_size = c.requires.piece.sized ∙ ap (λ (x : Grid). x.shape.frag_size) (sym c.self.view_is) in
     let long : length (take s.nb_frag s.columns.items) ≡ s.nb_frag = length-take-le s.nb_frag s.columns.items (omega (arith, i.most, i.columns_sized)) in
     let within : line_in c.args.line.now < 2 ^ s.nb_frag = subst (λ (x : Grid). line_in c.args.line.now < 2 ^ x.shape.nb_frag) (sym c.self.view_is) c.requires.within in
-    let few = width_few s.nb_frag i.most in
-    (omega (arith, c.self.invariant.words_few, c.self.invariant.bytes_few),
-      (rw (c.deref.ensures.value, c.deref-4.ensures, sz) (stored s.nb_frag s.frag_size s.rows s.count s.gained s.columns.items s.spare.items s.known.items s.area.items s.arena.value i),
-      (rw (c.deref.ensures.value, c.deref-2.ensures.value, c.deref-3.ensures.value, c.deref-4.ensures, sz, ln) i.marks,
-      (rw (c.deref.ensures.value, c.deref-3.ensures.value, sz, long) i.room_area,
-      (rw (c.deref.ensures.value, c.deref-3.ensures.value, c.deref-4.ensures, sz, long) i.reduced,
-      (record { sized = refl; bytes = c.requires.piece.bytes },
-      (rw (c.deref.ensures.value, long) ln,
-      (rw (c.deref-2.ensures.value) (sym (length-take-le (length c.args.line.now) s.known.items (omega (arith, ln, few, i.known_sized)))),
-      (omega (arith, ln, few),
-      (rw (c.deref.ensures.value, long) within,
-      (c.requires.picks, c.requires.sized)))))))))))
+    let few = width_few s.nb_frag i.most in (
+      omega (arith, c.self.invariant.words_few, c.self.invariant.bytes_few),
+      (
+        rw (c.deref.ensures.value, c.deref-4.ensures, sz) (stored s.nb_frag s.frag_size s.rows s.count s.gained s.columns.items s.spare.items s.known.items s.area.items s.arena.value i),
+        (
+          rw (c.deref.ensures.value, c.deref-2.ensures.value, c.deref-3.ensures.value, c.deref-4.ensures, sz, ln) i.marks,
+          (
+            rw (c.deref.ensures.value, c.deref-3.ensures.value, sz, long) i.room_area,
+            (
+              rw (c.deref.ensures.value, c.deref-3.ensures.value, c.deref-4.ensures, sz, long) i.reduced,
+              (
+                record { sized = refl; bytes = c.requires.piece.bytes },
+                (
+                  rw (c.deref.ensures.value, long) ln,
+                  (
+                    rw (c.deref-2.ensures.value) (sym (length-take-le (length c.args.line.now) s.known.items (omega (arith, ln, few, i.known_sized)))),
+                    (
+                      omega (arith, ln, few),
+                      (
+                        rw (c.deref.ensures.value, long) within,
+                        (c.requires.picks, c.requires.sized),
+                      ),
+                    ),
+                  ),
+                ),
+              ),
+            ),
+          ),
+        ),
+      ),
+    )
 
 pub returns-clause-left : goal.returns-clause-left
 returns-clause-left g c =

@@ -1,5 +1,4 @@
-use Rattle.std.proofs.Common.{ap, arith, ◌∙◌}
-use Rattle.row_arena.specs.Rows.{words_for}
+use Rattle.std.proofs.Common.{arith}
 use Rattle.row_elimination.proofs.Gridding.{width_few}
 use Rattle.row_elimination.proofs.tables.Table.width.Goals as goal
 
