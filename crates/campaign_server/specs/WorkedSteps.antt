@@ -1,5 +1,5 @@
 -- Steps of a server that are worked out: what it asks and sends, in bytes, and where answers lead.
-use Rattle.std.specs.Prelude.{◌≡◌, ℕ, true, List, [], ◌∷◌, replicate, Option, Some, None, Result, Ok, Err, is_ok}
+use Rattle.std.specs.Prelude.{◌≡◌, ℕ, ◌^◌, true, List, [], ◌∷◌, replicate, Option, Some, None, Result, Ok, Err, is_ok}
 use Rattle.wire_base.specs.declared.refusal.Refusal.{Refusal}
 use Rattle.wire_base.specs.declared.refusal.Why.TheVariants as why
 use Rattle.package_grammar.specs.declared.downlink.Downlink.{Downlink}
@@ -163,6 +163,9 @@ pub record PlanSteps : Type 0 where
   pub group : bad_field 52 (record grouped { group = Some (record worked_group { min = 7 }) }) ≡ Some field.Group
   pub no_window : bad_field 52 (record grouped { window = None }) ≡ Some field.Window
   pub no_group : bad_field 52 (record grouped { group = None }) ≡ Some field.Window
+  pub start : bad_field 52 (record grouped { window = Some (record worked_window { start = 2 ^ 32 }) }) ≡ Some field.Window
+  pub freq : bad_field 52 (record grouped { window = Some (record worked_window { freq = 2 ^ 24 }) }) ≡ Some field.Window
+  pub data_rate : bad_field 52 (record grouped { window = Some (record worked_window { dr = 256 }) }) ≡ Some field.Window
   pub timeout : bad_field 52 (record grouped { window = Some (record worked_window { timeout = 16 }) }) ≡ Some field.Window
   pub periodicity : bad_field 52 (record grouped { window = Some (record worked_window { kind = kind.B 8 }) }) ≡ Some field.Window
   pub no_devices : bad_field 52 (record alone { devices = [] }) ≡ Some field.Devices

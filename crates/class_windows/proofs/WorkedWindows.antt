@@ -1,5 +1,5 @@
 -- The worked windows, by computing.
-use Rattle.std.proofs.Common.{refl}
+use Rattle.std.proofs.Common.{◌≡◌, true, false, refl}
 use Rattle.class_windows.specs.Open.{is_after_uplink, is_running, is_in_slot, is_ping_slot}
 use Rattle.aes_block.specs.Field.{xtime, sum_of_products, times, inverse, affine_bit, sub_byte}
 use Rattle.aes_block.specs.Cipher.{sub_bytes, shift_rows, mixed, mix_columns, add_round_key, next_words, words_from, after_round, cipher}
@@ -63,3 +63,12 @@ answers = record {
   answered = refl;
   refused = refl;
 }
+
+-- at 2,810 ms and 2,840 ms behind the beacon at 1,024 s
+pub ping_slot : is_ping_slot 1026810 0x11223344 0 ≡ true
+unfolding is_in_slot is_ping_slot xtime sum_of_products times inverse affine_bit sub_byte sub_bytes shift_rows mixed mix_columns add_round_key next_words words_from after_round cipher
+ping_slot = refl
+
+pub no_ping_slot : is_ping_slot 1026840 0x11223344 0 ≡ false
+unfolding is_in_slot is_ping_slot xtime sum_of_products times inverse affine_bit sub_byte sub_bytes shift_rows mixed mix_columns add_round_key next_words words_from after_round cipher
+no_ping_slot = refl

@@ -1,5 +1,5 @@
 -- The worked steps of a device, each by computing.
-use Rattle.std.proofs.Common.{refl}
+use Rattle.std.proofs.Common.{[], ◌∷◌, Some, refl, ap}
 use Rattle.std.specs.Int.{int_wrap}
 use Rattle.wire_base.specs.Numbers.{number_at}
 use Rattle.sync_wire.specs.Tests as sync
@@ -13,6 +13,9 @@ use Rattle.frag_session.specs.Setup.{setup_bits, wrong_coding, too_large, other_
 use Rattle.frag_session.specs.Session.{new_session, renewed, after_setup, excludes, cause_of, drop_cause, followed, after_fragment, shape_of, shown_verdict, seen_of, status_by, status_in, status_of}
 use Rattle.image_slots.specs.Slots.{after_swap, after_delete}
 use Rattle.class_windows.specs.Open.{is_after_uplink, is_running}
+use Rattle.class_windows.proofs.WorkedWindows.{ping_slot, no_ping_slot}
+use Rattle.mc_group.specs.declared.group.Group.{Group}
+use Rattle.mc_group.proofs.WorkedGroups.{setup}
 use Rattle.device_core.specs.Answers.{after_answers}
 use Rattle.device_core.specs.Clock.{answer_step, periodicity_step, resync_step}
 use Rattle.device_core.specs.Fragments.{setup_step, delete_step, status_step, heard_step, fragment_step}
@@ -21,7 +24,7 @@ use Rattle.device_core.specs.ClassSessions.{hears, class_session_step}
 use Rattle.device_core.specs.Firmware.{version_step, upgrade_step, delete_image_step, reboot_time_step, countdown_step, after_due_reboot}
 use Rattle.device_core.specs.Step.{command_step, step, after_commands}
 use Rattle.device_core.specs.Deliver.{message_delivery, read_delivery, heard_delivery, delivery, time_asking, waking}
-use Rattle.device_core.specs.WorkedSteps.{UplinkSteps, ClockSteps, SessionSteps, GroupSteps, HearingSteps, FirmwareSteps, ConfigSteps}
+use Rattle.device_core.specs.WorkedSteps.{UplinkSteps, ClockSteps, SessionSteps, KeySteps, GroupSteps, HearingSteps, FirmwareSteps, ConfigSteps}
 
 pub uplinks : UplinkSteps
 unfolding int_wrap delivery heard_delivery read_delivery message_delivery after_due_reboot after_swap after_delete hears is_after_uplink is_running reading_of read_from command_at named_at is_known stop_at sync.is_known sync.samples cast.is_known cast.samples number_at clock_down firmware_down group_down fragment_down after_commands step command_step after_answers answer_step periodicity_step resync_step waking time_asking groups_step group_setup_step group_delete_step class_session_step version_step upgrade_step delete_image_step reboot_time_step countdown_step setup_step delete_step status_step fragment_step heard_step setup_bits wrong_coding too_large other_descriptor has_room words_for new_session after_setup renewed same_setup excludes cause_of drop_cause followed after_fragment shape_of shown_verdict seen_of status_by status_in status_of verdict missing
@@ -37,6 +40,9 @@ uplinks = record {
   seven_left = refl;
   nine = refl;
   nothing_acted = refl;
+  held = refl;
+  time_answer = refl;
+  fragment = refl;
   unknown = refl;
   unread = refl;
   full = refl;
@@ -65,7 +71,6 @@ sessions = record {
   missing = refl;
   other_index = refl;
   undelayed = refl;
-  delayed = refl;
   deleted = refl;
   no_fragments = refl;
   all_padding = refl;
@@ -76,6 +81,10 @@ sessions = record {
   rows = refl;
   heard = refl;
 }
+
+pub keys : KeySteps
+unfolding int_wrap delivery heard_delivery read_delivery message_delivery after_due_reboot after_swap after_delete hears is_after_uplink is_running reading_of read_from command_at named_at is_known stop_at sync.is_known sync.samples cast.is_known cast.samples number_at clock_down firmware_down group_down fragment_down after_commands step command_step after_answers answer_step periodicity_step resync_step waking time_asking groups_step group_setup_step group_delete_step class_session_step version_step upgrade_step delete_image_step reboot_time_step countdown_step setup_step delete_step status_step fragment_step heard_step setup_bits wrong_coding too_large other_descriptor has_room words_for new_session after_setup renewed same_setup excludes cause_of drop_cause followed after_fragment shape_of shown_verdict seen_of status_by status_in status_of verdict missing
+keys = record { key = ap (λ (group : Group). Some group ∷ []) setup.key }
 
 pub groups : GroupSteps
 unfolding int_wrap delivery heard_delivery read_delivery message_delivery after_due_reboot after_swap after_delete hears is_after_uplink is_running reading_of read_from command_at named_at is_known stop_at sync.is_known sync.samples cast.is_known cast.samples number_at clock_down firmware_down group_down fragment_down after_commands step command_step after_answers answer_step periodicity_step resync_step waking time_asking groups_step group_setup_step group_delete_step class_session_step version_step upgrade_step delete_image_step reboot_time_step countdown_step setup_step delete_step status_step fragment_step heard_step setup_bits wrong_coding too_large other_descriptor has_room words_for new_session after_setup renewed same_setup excludes cause_of drop_cause followed after_fragment shape_of shown_verdict seen_of status_by status_in status_of verdict missing
@@ -88,6 +97,7 @@ groups = record {
   id_error = refl;
   start = refl;
   errors = refl;
+  refused = refl;
   beacon = refl;
   ends = refl;
   stays = refl;
@@ -101,9 +111,12 @@ hearing = record {
   last = refl;
   behind = refl;
   max_count = refl;
+  own_clock = refl;
   no_session = refl;
   skipped = refl;
-  act = refl;
+  answered = refl;
+  slot = rw ping_slot refl;
+  no_slot = rw no_ping_slot refl;
   a_none = refl;
   a_5999 = refl;
   a_6000 = refl;

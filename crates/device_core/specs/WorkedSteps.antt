@@ -2,9 +2,12 @@
 use Rattle.std.specs.Prelude.{◌≡◌, ℕ, ◌-◌, ◌^◌, true, false, List, [], ◌∷◌, ◌++◌, length, map, Some, None, replicate}
 use Rattle.wire_base.specs.declared.refusal.Why.TheVariants as why
 use Rattle.package_grammar.specs.declared.downlink.To.TheVariants.{Unicast, Group}
+use Rattle.mc_keys.specs.WorkedKeys.{worked_gen_app_key, worked_wrapped, worked_key}
 use Rattle.frag_session.specs.declared.answers.Via.TheVariants as via
 use Rattle.image_slots.specs.declared.view.ImageState.{ImageState}
 use Rattle.image_slots.specs.declared.view.ImageState.TheVariants as image
+use Rattle.device_core.specs.declared.class_session.ClassSession.{ClassSession}
+use Rattle.device_core.specs.declared.class_session.Kind.TheVariants.{ClassB}
 use Rattle.device_core.specs.declared.config.Class.{Class}
 use Rattle.device_core.specs.declared.config.Class.TheVariants.{A, C}
 use Rattle.device_core.specs.declared.config.DeviceConfig.{DeviceConfig}
@@ -66,6 +69,10 @@ sends t port payload device = payloads (after t port payload (taken device))
 
 -- ---- uplinks
 
+-- a device that holds eight uplinks, the first an answer on the port of clock synchronization
+abbrev pub eight_held : DeviceState
+eight_held = after 0 202 (0x00 ∷ 0x03 ∷ 0x07 ∷ []) fresh
+
 pub record UplinkSteps : Type 0 where
   -- each package names itself, with version 1
   pub groups : sends 0 200 (0x00 ∷ []) fresh ≡ (0x00 ∷ 0x02 ∷ 0x01 ∷ []) ∷ []
@@ -73,15 +80,18 @@ pub record UplinkSteps : Type 0 where
   pub clock : sends 0 202 (0x00 ∷ []) fresh ≡ (0x00 ∷ 0x01 ∷ 0x01 ∷ []) ∷ []
   pub firmware : sends 0 203 (0x00 ∷ []) fresh ≡ (0x00 ∷ 0x04 ∷ 0x01 ∷ []) ∷ []
   -- an answer is due at once, on the port of the request
-  pub at_once : (after 7 202 (0x00 ∷ []) fresh).outbox ≡ record { due = 7; port = 202; payload = 0x00 ∷ 0x01 ∷ 0x01 ∷ [] } ∷ []
+  pub at_once : (after 7 203 (0x00 ∷ []) fresh).outbox ≡ record { due = 7; port = 203; payload = 0x00 ∷ 0x04 ∷ 0x01 ∷ [] } ∷ []
   pub last_due : (after 7 202 (0x00 ∷ []) fresh).last_due ≡ Some 7
   -- eight uplinks are held, oldest first; a ninth refuses its whole payload
   pub eight : answer 0 202 (0x03 ∷ 0x07 ∷ 0x00 ∷ []) fresh ≡ Done
-  pub oldest : (taking (after 0 202 (0x00 ∷ 0x03 ∷ 0x07 ∷ []) fresh)).answer
-      ≡ Some (record { due = 0; port = 202; payload = 0x00 ∷ 0x01 ∷ 0x01 ∷ [] })
-  pub seven_left : length (taking (after 0 202 (0x00 ∷ 0x03 ∷ 0x07 ∷ []) fresh)).device.outbox ≡ 7
+  pub oldest : (taking eight_held).answer ≡ Some (record { due = 0; port = 202; payload = 0x00 ∷ 0x01 ∷ 0x01 ∷ [] })
+  pub seven_left : length (taking eight_held).device.outbox ≡ 7
   pub nine : answer 0 202 (0x03 ∷ 0x07 ∷ 0x00 ∷ 0x00 ∷ []) fresh ≡ OutboxFull 9
   pub nothing_acted : payloads (after 0 202 (0x03 ∷ 0x07 ∷ 0x00 ∷ 0x00 ∷ []) fresh) ≡ []
+  -- those that are held count, and what makes no answer acts still
+  pub held : answer 0 202 (0x00 ∷ []) eight_held ≡ OutboxFull 9
+  pub time_answer : answer 0 202 (0x01 ∷ 0x00 ∷ 0x00 ∷ 0x00 ∷ 0x00 ∷ 0x00 ∷ []) eight_held ≡ Done
+  pub fragment : answer 0 201 (0x08 ∷ 0x01 ∷ 0x00 ∷ 0x07 ∷ []) eight_held ≡ Done
   -- what is read before the first command that is unknown does not act
   pub unknown : answer 0 202 (0x00 ∷ 0x7f ∷ []) fresh ≡ Refused (record { at = 1; why = why.UnknownCommand })
   pub unread : payloads (after 0 202 (0x00 ∷ 0x7f ∷ []) fresh) ≡ []
@@ -127,9 +137,8 @@ pub record SessionSteps : Type 0 where
   pub status : sends 0 201 (0x01 ∷ 0x03 ∷ []) set_up ≡ (0x01 ∷ 0x00 ∷ 0x40 ∷ 0x04 ∷ 0x00 ∷ []) ∷ []
   pub missing : sends 0 201 (0x01 ∷ 0x02 ∷ []) set_up ≡ (0x01 ∷ 0x00 ∷ 0x40 ∷ 0x04 ∷ 0x00 ∷ []) ∷ []
   pub other_index : sends 0 201 (0x01 ∷ 0x01 ∷ []) set_up ≡ []
-  -- by unicast the answer is due at once, and by a group in so many whole seconds as the random word says
-  pub undelayed : answer_delay via.Unicast 77 2 ≡ 0
-  pub delayed : answer_delay (via.Group 0) 77 2 ≡ 13000
+  -- by unicast the answer is due at once
+  pub undelayed : answer_delay via.Unicast 109 2 ≡ 0
   -- it is deleted once
   pub deleted : sends 0 201 (0x03 ∷ 0x01 ∷ 0x03 ∷ 0x01 ∷ []) set_up ≡ (0x03 ∷ 0x01 ∷ []) ∷ (0x03 ∷ 0x05 ∷ []) ∷ []
   -- setups that are refused: no fragments, all padding, too many, a coding of their own, an index or a descriptor that is not taken
@@ -159,6 +168,12 @@ group_setup id a b c d = 0x02 ∷ id ∷ a ∷ b ∷ c ∷ d ∷ replicate 16 0 
 abbrev pub grouped : DeviceState
 grouped = taken (after 0 200 (group_setup 2 0x88 0x77 0x66 0x55 ++ group_setup 0 0x44 0x33 0x22 0x11) fresh)
 
+-- the group's key is unwrapped under the device's own
+pub record KeySteps : Type 0 where
+  pub key : (after 0 200 (0x02 ∷ 0x00 ∷ 0x44 ∷ 0x33 ∷ 0x22 ∷ 0x11 ∷ worked_wrapped ++ 0x03 ∷ 0x00 ∷ 0x00 ∷ 0x00 ∷ 0x0a ∷ 0x00 ∷ 0x00 ∷ 0x00 ∷ [])
+      (first_device (record (worked_config C 0) { key = worked_gen_app_key; groups = 1 }))).groups
+      ≡ Some (record { addr = 0x11223344; key = worked_key; min = 3; max = 10 }) ∷ []
+
 -- a class C session of group 0 is asked for at 1,000 s: for one second from 1,010 s on
 abbrev pub session_request : List ℕ
 session_request = 0x04 ∷ 0x00 ∷ 0xf2 ∷ 0x03 ∷ 0x00 ∷ 0x00 ∷ 0x00 ∷ 0x28 ∷ 0x76 ∷ 0x84 ∷ 0x00 ∷ []
@@ -166,9 +181,9 @@ session_request = 0x04 ∷ 0x00 ∷ 0xf2 ∷ 0x03 ∷ 0x00 ∷ 0x00 ∷ 0x00 ∷
 abbrev pub with_session : DeviceState
 with_session = taken (after 1000000 200 session_request grouped)
 
--- a payload to the group with address 11223344
+-- a payload to the group with address 11223344, with the random word 109
 abbrev pub from_group : (t count : ℕ) → List ℕ → DeviceState → Outcome Delivered
-from_group t count payload device = delivery t 0 1 (record { to = Group 0x11223344 count; port = 201; payload = payload }) device
+from_group t count payload device = delivery t 109 1 (record { to = Group 0x11223344 count; port = 201; payload = payload }) device
 
 pub record GroupSteps : Type 0 where
   pub set_up : sends 0 200 (group_setup 2 0x88 0x77 0x66 0x55) fresh ≡ (0x02 ∷ 0x02 ∷ []) ∷ []
@@ -181,12 +196,18 @@ pub record GroupSteps : Type 0 where
   -- a class session starts in 10 s, or is refused with all its bits
   pub start : sends 1000000 200 session_request grouped ≡ (0x04 ∷ 0x00 ∷ 0x0a ∷ 0x00 ∷ 0x00 ∷ []) ∷ []
   pub errors : sends 1000000 200 (0x04 ∷ 0x00 ∷ 0xf2 ∷ 0x03 ∷ 0x00 ∷ 0x00 ∷ 0x00 ∷ 0x00 ∷ 0x00 ∷ 0x00 ∷ 0x06 ∷ []) fresh ≡ (0x04 ∷ 0x1c ∷ []) ∷ []
+  pub refused : (after 1000000 200 (0x04 ∷ 0x00 ∷ 0xf2 ∷ 0x03 ∷ 0x00 ∷ 0x00 ∷ 0x00 ∷ 0x00 ∷ 0x00 ∷ 0x00 ∷ 0x06 ∷ []) with_session).class_session
+      ≡ with_session.class_session
   -- a class B session begins at the beacon before: 1,010 s are rounded down to 896 s, which is past
   pub beacon : sends 1000000 200 (0x05 ∷ 0x00 ∷ 0xf2 ∷ 0x03 ∷ 0x00 ∷ 0x00 ∷ 0x00 ∷ 0x28 ∷ 0x76 ∷ 0x84 ∷ 0x00 ∷ []) grouped
       ≡ (0x05 ∷ 0x00 ∷ 0x00 ∷ 0x00 ∷ 0x00 ∷ []) ∷ []
   -- it ends with its group alone
   pub ends : (after 0 200 (0x03 ∷ 0x00 ∷ []) with_session).class_session ≡ None
   pub stays : (after 0 200 (0x03 ∷ 0x02 ∷ []) with_session).class_session ≡ with_session.class_session
+
+-- a class B session of group 0: from the beacon at 1,024 s on, for 256 s
+abbrev pub class_b : ClassSession
+class_b = record { id = 0; kind = ClassB 0; time = 1030; timeout = 1 }
 
 -- what is heard
 pub record HearingSteps : Type 0 where
@@ -196,11 +217,15 @@ pub record HearingSteps : Type 0 where
   pub last : (from_group 1010999 9 [] with_session).answer ≡ Done
   pub behind : (from_group 1011000 0 [] with_session).answer ≡ Deaf
   pub max_count : (from_group 1010000 10 [] with_session).answer ≡ Deaf
+  pub own_clock : (from_group 1005000 0 [] (record with_session { clock = record { offset = 5; token = 0 } })).answer ≡ Done
   pub no_session : (from_group 1010000 0 [] grouped).answer ≡ Deaf
-  -- by the group only fragments and status requests act
+  -- by the group only fragments and status requests act, and the answer is due 109 modulo 2^(2 + 4) s later
   pub skipped : payloads (from_group 1010000 0 (0x00 ∷ 0x03 ∷ 0x01 ∷ []) with_session).device ≡ []
-  pub act : payloads (from_group 1010000 0 (0x01 ∷ 0x03 ∷ []) (record with_session { sessions = set_up.sessions })).device
-      ≡ (0x01 ∷ 0x00 ∷ 0x40 ∷ 0x04 ∷ 0x00 ∷ []) ∷ []
+  pub answered : (from_group 1010000 0 (0x01 ∷ 0x03 ∷ []) (record with_session { sessions = set_up.sessions })).device.outbox
+      ≡ record { due = 1055000; port = 201; payload = 0x01 ∷ 0x00 ∷ 0x40 ∷ 0x04 ∷ 0x00 ∷ [] } ∷ []
+  -- of a class B session, in its ping slots
+  pub slot : (from_group 1026810 0 [] (record grouped { class_session = Some class_b })).answer ≡ Done
+  pub no_slot : (from_group 1026840 0 [] (record grouped { class_session = Some class_b })).answer ≡ Deaf
   -- by unicast: class A behind its own uplinks alone
   pub a_none : answer 6000 201 [] (first_device (worked_config A 0)) ≡ Deaf
   pub a_5999 : answer 5999 201 [] (record (first_device (worked_config A 0)) { last_due = Some 5000 }) ≡ Deaf

@@ -8,7 +8,7 @@ ghost use Rattle.device_core.specs.Device.{DeviceState, outbox_size, after_deaf,
 ghost use Rattle.device_core.specs.Firmware.{after_due_reboot};
 ghost use Rattle.device_core.specs.Deliver.{delivery, waking};
 ghost use Rattle.device_core.specs.WholeFiles.{WholeFiles};
-ghost use Rattle.device_core.specs.WorkedSteps.{UplinkSteps, ClockSteps, SessionSteps, GroupSteps, HearingSteps, FirmwareSteps, ConfigSteps};
+ghost use Rattle.device_core.specs.WorkedSteps.{UplinkSteps, ClockSteps, SessionSteps, KeySteps, GroupSteps, HearingSteps, FirmwareSteps, ConfigSteps};
 
 /// A reboot that is due is carried out once.
 pub fn due_reboot_is_once()
@@ -48,6 +48,7 @@ pub fn worked_steps()
     ensures uplinks { UplinkSteps }
     ensures clock { ClockSteps }
     ensures sessions { SessionSteps }
+    ensures keys { KeySteps }
     ensures groups { GroupSteps }
     ensures hearing { HearingSteps }
     ensures firmware { FirmwareSteps }

@@ -1,4 +1,5 @@
 pub mod Standing
 pub mod Calls
 pub mod FirstMoments
+pub mod MissingPieces
 pub mod WorkedSessions

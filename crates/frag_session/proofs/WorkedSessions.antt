@@ -68,6 +68,7 @@ pub status : WorkedStatus
 unfolding excludes shape_of shown_verdict shown_file seen_of status_by status_in status_of verdict missing
 status = record {
   fresh = refl;
+  received = refl;
   most = refl;
   more = refl;
   all = refl;

@@ -7,4 +7,5 @@ pub mod Shows
 pub mod Steps
 pub mod Stands
 pub mod FirstMoment
+pub mod Missing
 pub mod WorkedSessions

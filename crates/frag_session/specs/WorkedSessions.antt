@@ -113,6 +113,8 @@ seen_with received missing verdict = record { received = received; missing = mis
 
 pub record WorkedStatus : Type 0 where
   pub fresh : seen_of (session_of worked_setup 4 []) ≡ seen_with 0 4 Receiving
+  -- repeats are counted, to the end of 14 bits
+  pub received : (seen_of (session_of worked_setup 4 (one_heard ∷ one_heard ∷ []))).received ≡ 2
   pub most : received_count 16383 ≡ 16383
   pub more : received_count 16384 ≡ 16383
   -- asked of all, or where a fragment is missing

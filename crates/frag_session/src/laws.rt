@@ -1,12 +1,19 @@
 //! Laws about the definitions, each the contract of a function that does nothing.
 
 ghost use Rattle.frag_session.specs.FirstMoment.{FirstMoment};
+ghost use Rattle.frag_session.specs.Missing.{MissingPieces};
 ghost use Rattle.frag_session.specs.WorkedSessions.{WorkedSetups, WorkedSessions, WorkedFragments, WorkedStatus};
 
 /// A session is decided by the first heard fragment after which its file is no longer open: it is whole
 /// from the first one on after which one file alone fits, and shows that file.
 pub fn first_moment()
     ensures { FirstMoment }
+{}
+
+/// A session misses the fragments that are still to be gained, and none of a whole file.
+#[tactic(auto, using(crate::proofs::MissingPieces::missing_pieces))]
+pub fn missing_is_counted()
+    ensures { MissingPieces }
 {}
 
 /// Setups, fragments and answers of a session that are worked out.

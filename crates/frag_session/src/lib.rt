@@ -18,7 +18,7 @@ pub use answers::{Cause, Heard, StatusAns, Verdict, Via, View};
 pub use complete_state::Complete;
 pub use conflicted_state::Conflicted;
 pub use idle_state::Idle;
-pub use laws::{first_moment, worked_sessions};
+pub use laws::{first_moment, missing_is_counted, worked_sessions};
 pub use overflowed_state::Overflowed;
 pub use receiving_state::{Next, Receiving};
 pub use setups::{Limits, SetupReq};

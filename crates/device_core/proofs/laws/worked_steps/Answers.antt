@@ -1,4 +1,4 @@
-use Rattle.device_core.proofs.WorkedSteps.{uplinks, clock, sessions, groups, hearing, firmware, configs}
+use Rattle.device_core.proofs.WorkedSteps.{uplinks, clock, sessions, keys, groups, hearing, firmware, configs}
 use Rattle.device_core.proofs.laws.worked_steps.Goals as goal
 
 pub returns-clause-uplinks : goal.returns-clause-uplinks
@@ -9,6 +9,9 @@ returns-clause-clock c = clock
 
 pub returns-clause-sessions : goal.returns-clause-sessions
 returns-clause-sessions c = sessions
+
+pub returns-clause-keys : goal.returns-clause-keys
+returns-clause-keys c = keys
 
 pub returns-clause-groups : goal.returns-clause-groups
 returns-clause-groups c = groups
