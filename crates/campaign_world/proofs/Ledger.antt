@@ -103,7 +103,7 @@ abbrev IsOwnPayload : SentPayload → Type 0
 IsOwnPayload p = (down : DownlinkCommand) × IsOwn down × (p.down ≡ downlink_of down)
 
 -- where an uplink tells the image's version, its device runs the image
-abbrev MadeTruly : List ℕ → List DeviceState → MadeUplink → Type 0
+abbrev pub MadeTruly : List ℕ → List DeviceState → MadeUplink → Type 0
 MadeTruly image ds made = TellsTruly image (Runs image ds made.device) made.uplink
 
 -- what holds after each line
@@ -461,3 +461,10 @@ unfolding campaign_of
 the_ledger_is_true image script world id bytes is accepted at =
     (all_hold image (first_world image) world (lines_of script) bytes is (first_keeps image) (first_holds image)
     (end_is (read_lines (Ok (first_world image)) (lines_of script)) world accepted)).ledger id at
+
+-- so it is with the uplinks that there are behind any lines
+pub uplinks_are_true : (image : List ℕ) (w : WorldState) (lines : List (List ℕ)) → All (λ b. b < 2 ^ 8) image
+    → is_image image ≡ true → read_lines (Ok (first_world image)) lines ≡ Ok w
+    → AllByRecursion (MadeTruly image w.devices) w.uplinks
+uplinks_are_true image w lines bytes is read =
+    (all_hold image (first_world image) w lines bytes is (first_keeps image) (first_holds image) read).uplinks
