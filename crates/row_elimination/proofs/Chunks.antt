@@ -1,15 +1,11 @@
 -- The stretches of a list after one of them was written.
-use Rattle.std.proofs.Common.{◌≡◌, ◌≢◌, ℕ, suc, ◌+◌, ◌*◌, ◌<◌, ◌≤◌, List, ◌++◌, length, take, drop, get_or, sym, ap, ◌∙◌, inl, inr, arith, suc-mul, length-take-le, length-drop}
+use Rattle.std.proofs.Common.{◌≡◌, ◌≢◌, ℕ, suc, ◌+◌, ◌*◌, ◌<◌, ◌≤◌, List, ◌++◌, length, take, drop, get_or, sym, ap, ◌∙◌, inl, inr, arith, suc-mul, length-take-le}
 use Rattle.std.proofs.lemmas.List.{take_at, drop_at, drop-take, get_or-take, get_or-drop}
 use Rattle.std.proofs.lemmas.Slice.{take-put_mid_below, drop-put_mid}
 use Rattle.std.proofs.lemmas.Nat.{mul-le}
 use Rattle.std.proofs.lemmas.Bool.{cases_lt}
 use borrow.Rule.Slice.PartMut.{put_mid, post_of}
 use Rattle.row_elimination.specs.Storage.{chunk}
-
-pub length-chunk : {A : Type 0} (k size : ℕ) (xs : List A) → k * size + size ≤ length xs → length (chunk k size xs) ≡ size
-unfolding chunk
-length-chunk k size xs room = length-take-le size (drop (k * size) xs) (omega (arith, length-drop (k * size) xs))
 
 pub get_or-chunk : {A : Type 0} (k size i : ℕ) (xs : List A) (d : A) → i < size → get_or (chunk k size xs) i d ≡ get_or xs (k * size + i) d
 unfolding chunk

@@ -186,14 +186,6 @@ learned nb size rows count gained cols len k p columns columns' spare known know
     (omega (arith, more, less, row_there, h.counted))
     (ap (λ x. x + 1) h.gained_all ∙ sym (gained_more p l q ps plt was) ∙ sym (settled_gained file next k part known_is))
 
--- a value as its fields
-pub grid_of : (nb size rows : ℕ) (columns : List Column) (area : List ℕ) (arena : Arena) → Grid
-grid_of nb size rows columns area arena = record {
-  shape = record { nb_frag = nb; frag_size = size; rows = rows };
-  places = places_in size area arena (take nb columns);
-  area = area;
-}
-
 -- a piece in the place of a row that says the same
 pub settled_count : (shape : Shape) (area : List ℕ) (arena : Arena) (os : List Column) (k slot : ℕ) (part : List ℕ)
     → Knows shape (places_in shape.frag_size area arena os) k part → get_or os k Free ≡ Row slot

@@ -6,14 +6,14 @@ use Rattle.std.proofs.lemmas.List.{ext_get_or, get_or_past, get_or-take}
 use Rattle.std.proofs.lemmas.Bool.{cases_eq, cases_lt}
 use Rattle.std.proofs.lemmas.Nat.Bits.{bit_at-lt, bit_at_xor, bit_at-pow_same, bit_at-pow_other}
 use Rattle.frag_model.specs.Fragments.{Equation, IsPiece, xor_bytes}
-use Rattle.row_arena.specs.Rows.{Arena, Row as Line, zero_row, row_at, with_row, row_sum, line_in, words_for}
+use Rattle.row_arena.specs.Rows.{Arena, Row as Line, zero_row, row_at, with_row, row_sum}
 use Rattle.row_arena.specs.Sums.{after_flips, after_pieces}
 use Rattle.row_arena.proofs.Flips.{after_flips-more}
 use Rattle.row_elimination.specs.declared.columns.Column.{Column}
 use Rattle.row_elimination.specs.declared.columns.Column.TheVariants.{Free, Piece, Row}
 use Rattle.row_elimination.specs.Places.{Place, free, row, told, is_piece, cleared, all_cleared}
 use Rattle.row_elimination.specs.Inside.{IsReduced, Marks}
-use Rattle.row_elimination.specs.Storage.{place_in, places_from, places_in, line_cleared, IsStored, IsRowOf, SameShape, Clears, ClearsAll}
+use Rattle.row_elimination.specs.Storage.{place_in, places_from, places_in, line_cleared, IsStored, SameShape, Clears, ClearsAll}
 use Rattle.row_elimination.specs.Steps.{Tells, Taken, Reduced, TakesRow}
 use Rattle.row_elimination.proofs.Lines.{sum_is}
 use Rattle.row_elimination.proofs.Growing.{at_all_cleared, length-all_cleared}
@@ -305,11 +305,3 @@ cleared_places size area old new os p y q stored sized h =
     by_column d (Row slot) is =
         let r : Line = row_at old slot in
         ap (λ (x : Line). row x.line x.part) (h.each slot (stored.rows d slot is)) ∙ row_cleared p y q r (stored.parts d slot is ∙ sym sized)
-
--- what one arena takes as a row another of that shape takes
-pub row_of_same : (old new : Arena) (line part : List ℕ) → SameShape old new → IsRowOf old line part → IsRowOf new line part
-row_of_same old new line part shape h = record {
-  words = h.words ∙ ap words_for (sym shape.cols);
-  within = subst (λ n. line_in line < 2 ^ n) (sym shape.cols) h.within;
-  sized = h.sized ∙ sym shape.cell;
-}

@@ -7,8 +7,11 @@ use Rattle.row_arena.specs.Rows.{Arena, line_in, words_for}
 use Rattle.row_elimination.specs.declared.columns.Column.{Column}
 use Rattle.row_elimination.specs.Places.{Place, rows_held, gained_held}
 use Rattle.row_elimination.specs.Inside.{IsReduced, Marks}
-use Rattle.row_elimination.specs.Room.{max_line_words}
 use Rattle.row_elimination.specs.Storage.{places_in, Slots}
+
+-- how many words of 64 columns the line of the largest file takes
+abbrev pub max_line_words : ℕ
+max_line_words = 16
 
 -- what is held, and the bytes of the area
 pub record Grid : Type 0 where

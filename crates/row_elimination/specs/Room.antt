@@ -1,10 +1,6 @@
 -- Whether a storage and an area are large enough for a file.
 use Rattle.std.specs.Prelude.{ℕ, ◌+◌, ◌*◌, ◌/◌, Bool, ◌&&◌, nat_le}
 
--- how many words of 64 columns the line of the largest file takes
-abbrev pub max_line_words : ℕ
-max_line_words = 16
-
 -- how many words of 64 columns a row takes
 unfoldable pub words_for : ℕ → ℕ
 words_for nb_frag = (nb_frag + 63) / 64

@@ -3,8 +3,7 @@ use Rattle.std.specs.Prelude.{◌≡◌, ℕ, ◌^◌, ◌<◌, ◌≤◌, List,
 use Rattle.row_elimination.specs.declared.stages.Stage.{Stage}
 use Rattle.row_elimination.specs.declared.stages.Stage.TheVariants as stage
 use Rattle.row_elimination.specs.Places.{gained_held}
-use Rattle.row_elimination.specs.Grid.{Grid}
-use Rattle.row_elimination.specs.Room.{max_line_words}
+use Rattle.row_elimination.specs.Grid.{Grid, max_line_words}
 use Rattle.frag_model.specs.Limits.{max_frag_size, max_pieces}
 
 -- the fields of a solver

@@ -5,15 +5,15 @@ ghost use Rattle.std.specs.Int.{bit_at};
 ghost use Rattle.frag_model.specs.Fragments.{IsPiece};
 ghost use Rattle.row_arena.specs.Rows.{line_in, words_for};
 ghost use Rattle.row_arena.specs.Sums.{after_flips};
+ghost use Rattle.frag_model.specs.Limits.{max_pieces};
+ghost use Rattle.row_elimination.specs.Grid.{max_line_words};
 ghost use Rattle.row_elimination.specs.Inside.{IsReduced, Marks};
 ghost use Rattle.row_elimination.specs.Storage.{places_in, IsStored, IsRowOf, Clears, ClearsAll};
 ghost use Rattle.row_elimination.specs.Steps.{Reduced, TakesRow, TakesRows};
 
 use crate::columns::Column;
+use crate::tables::LINE_WORDS;
 use row_arena::{RowArena, pick, sum_pieces, xor_bytes, xor_words};
-
-/// The most words of a line.
-const LINE_WORDS: usize = 16;
 
 /// Takes out of a line, and out of the bytes `part`, all columns of which a piece or a row is kept, and writes what is left
 /// of the bytes over `rest`. `known` has the columns of which a piece is kept, and `picks` room for the columns of a line.
@@ -34,9 +34,9 @@ pub fn reduce<const W: usize, const B: usize>(
     requires piece { IsPiece (length part.now) part.now }
     requires words { length line.old ≡ words_for (length columns.now) }
     requires same { length line.old ≡ length known.now }
-    requires few { length line.old ≤ 16 }
+    requires few { length line.old ≤ max_line_words }
     requires within { line_in line.old < 2 ^ length columns.now }
-    requires picks { 1024 ≤ length picks.old }
+    requires picks { max_pieces ≤ length picks.old }
     requires sized { length rest.old ≡ length part.now }
     ensures { Reduced (length columns.now) (length part.now) (places_in (length part.now) area.now arena.now columns.now)
         (line_in line.old) part.now (line_in line.new) rest.new }
@@ -56,10 +56,10 @@ fn take_rows<const W: usize, const B: usize>(
 )
     requires stored { IsStored (length rest.old) arena.now columns.now }
     requires words { length line.old ≡ words_for (length columns.now) }
-    requires few { length line.old ≤ 16 }
+    requires few { length line.old ≤ max_line_words }
     requires within { line_in line.old < 2 ^ length columns.now }
     requires none { (c : ℕ) → get_or columns.now c Column.Free ≡ Column.Piece → bit_at (line_in line.old) c ≡ 0 }
-    requires picks { 1024 ≤ length picks.old }
+    requires picks { max_pieces ≤ length picks.old }
     ensures { TakesRows (length rest.old) arena.now columns.now (line_in line.old) rest.old (line_in line.new) rest.new }
 {
     let count = list_bits(line, picks);
@@ -92,8 +92,8 @@ fn take_row<const W: usize, const B: usize>(
 
 /// Lists the columns of a line of at most 16 words in front of `picks`, and says how many there are.
 fn list_bits(line: &[u64], picks: &mut [u16]) -> usize
-    requires few { length line.now ≤ 16 }
-    requires picks { 1024 ≤ length picks.old }
+    requires few { length line.now ≤ max_line_words }
+    requires picks { max_pieces ≤ length picks.old }
     ensures listed { (c : ℕ) → bit_at (after_flips (line_in line.now) (take result picks.new)) c ≡ 0 }
     ensures columns { (n : ℕ) → n < result → bit_at (line_in line.now) (slice_index picks.new n) ≡ 1 }
     ensures few { result ≤ length picks.new }

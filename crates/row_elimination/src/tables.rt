@@ -8,9 +8,8 @@ ghost use Rattle.row_elimination.specs.Places.{free, piece as known, is_piece, g
 ghost use Rattle.row_elimination.specs.Inside.{IsReduced};
 ghost use Rattle.row_elimination.specs.Storage.{chunk};
 ghost use Rattle.row_elimination.specs.Steps.{Reduced, IsNew, Knows, Tells};
-ghost use Rattle.row_elimination.specs.Grid.{Grid, SameRoom};
+ghost use Rattle.row_elimination.specs.Grid.{Grid, SameRoom, max_line_words};
 ghost use Rattle.frag_model.specs.Limits.{max_pieces};
-ghost use Rattle.row_elimination.specs.Room.{max_line_words};
 
 use crate::additions::{add_piece, add_piece_and_row, add_row};
 use crate::bytes::chunk;

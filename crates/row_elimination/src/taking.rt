@@ -8,11 +8,10 @@ ghost use Rattle.row_elimination.specs.declared.stages.Stage.{Stage};
 ghost use Rattle.row_elimination.specs.declared.stages.Stage.TheVariants as stage;
 ghost use Rattle.row_elimination.specs.Places.{free, piece as known, gained_held, rows_held};
 ghost use Rattle.row_elimination.specs.Inside.{IsReduced};
-ghost use Rattle.row_elimination.specs.Grid.{SameRoom};
+ghost use Rattle.row_elimination.specs.Grid.{SameRoom, max_line_words};
 ghost use Rattle.row_elimination.specs.Held.{Takes, Receives};
 ghost use Rattle.row_elimination.specs.Taking.{held_of, IsReady, IsZero, stage_after, FedAs, DecidedAs};
 ghost use Rattle.frag_model.specs.Limits.{max_parity_index, max_pieces};
-ghost use Rattle.row_elimination.specs.Room.{max_line_words};
 
 use crate::drawing::draw;
 use crate::stages::Fed;
