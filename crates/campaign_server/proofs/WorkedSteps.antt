@@ -21,6 +21,7 @@ pub asking : AskSteps
 unfolding request_of request_at hardware_of firmware_of number_at
 asking = record {
   start = refl;
+  own_key = refl;
   version = refl;
   fragments = refl;
   padded = refl;

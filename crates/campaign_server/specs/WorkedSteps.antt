@@ -2,6 +2,7 @@
 use Rattle.std.specs.Prelude.{◌≡◌, ℕ, ◌^◌, true, List, [], ◌∷◌, replicate, Option, Some, None, Result, Ok, Err, is_ok}
 use Rattle.wire_base.specs.declared.refusal.Refusal.{Refusal}
 use Rattle.wire_base.specs.declared.refusal.Why.TheVariants as why
+use Rattle.package_grammar.specs.declared.command.Command.TheVariants.{Cast}
 use Rattle.package_grammar.specs.declared.downlink.Downlink.{Downlink}
 use Rattle.package_grammar.specs.declared.downlink.To.TheVariants as to
 use Rattle.campaign_server.specs.declared.plan.Kind.TheVariants as kind
@@ -14,7 +15,7 @@ use Rattle.campaign_server.specs.declared.stage.Stage.TheVariants.{At, Updated, 
 use Rattle.campaign_server.specs.declared.stage.Request.TheVariants.{Version, Group, Fragments, Window, Status, Image, Reboot, Check}
 use Rattle.campaign_server.specs.Plan.{Plan, bad_field}
 use Rattle.campaign_server.specs.Server.{ServerState, first_server, ledger}
-use Rattle.campaign_server.specs.Asking.{request_of}
+use Rattle.campaign_server.specs.Asking.{group_request, request_of}
 use Rattle.campaign_server.specs.Fragments.{next_fragment, after_fragment, status_to_all, after_status_to_all}
 use Rattle.campaign_server.specs.Sent.{down_of, result_of, answer_of}
 use Rattle.campaign_server.specs.Uplinks.{uplink_step}
@@ -55,6 +56,9 @@ by_unicast port payload = Some (record { to = to.Unicast; port = port; payload =
 pub record AskSteps : Type 0 where
   pub start : first_server image two_devices
       ≡ record { plan = two_devices; image = image; stages = At Version ∷ At Version ∷ []; next = 1; count = 0 }
+  -- the second device is asked for the group, with the key wrapped for it
+  pub own_key : request_of (record (first_server image (record grouped { devices = two_devices.devices })) { stages = At Version ∷ At Group ∷ [] }) 2
+      ≡ Some (record { to = to.Unicast; command = Cast (group_request (replicate 16 1) worked_group) })
   pub version : asks alone (At Version) ≡ by_unicast 203 (0x01 ∷ [])
   -- 4 fragments of 13 bytes, or 2 of 50 with 48 of padding; the descriptor is the firmware version, and a group may feed the session
   pub fragments : asks alone (At Fragments) ≡ by_unicast 201 (0x02 ∷ 0x00 ∷ 0x04 ∷ 0x00 ∷ 0x0d ∷ 0x00 ∷ 0x00 ∷ 0x02 ∷ 0x00 ∷ 0x00 ∷ 0x00 ∷ [])

@@ -24,7 +24,7 @@ pub record WorkedWindows : Type 0 where
   pub c_round : is_open_c (2 ^ 32 - 1) 1 999 ≡ true
   pub c_behind_the_round : is_open_c (2 ^ 32 - 1) 1 1000 ≡ false
   -- class B: slots of 30 ms from 2,120 ms behind the beacon on
-  pub beacon : beacon_at 1030 ≡ 1024
+  pub beacon : beacon_at 1279 ≡ 1152
   pub shortest : ping_period 0 ≡ 32
   pub longest : ping_period 7 ≡ 4096
   pub slot_before : is_in_slot 23 32 (2120 + 30 * 23 - 1) ≡ false

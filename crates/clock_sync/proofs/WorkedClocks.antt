@@ -12,6 +12,7 @@ worked = record {
   round_millis = refl;
   corrected = refl;
   put_ahead = refl;
+  raised = refl;
   other_token = refl;
   back = refl;
   on = refl;

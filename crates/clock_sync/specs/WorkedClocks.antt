@@ -15,6 +15,7 @@ pub record WorkedClocks : Type 0 where
   -- its correction is taken with its token, which is raised modulo 16, and with no other
   pub corrected : after_answer (neg_ℤ (pos 5)) 0 ahead ≡ record { offset = 0; token = 1 }
   pub put_ahead : after_answer (pos 5) 15 (record { offset = 2 ^ 32 - 2; token = 15 }) ≡ record { offset = 3; token = 0 }
+  pub raised : after_answer (pos 0) 7 (record { offset = 5; token = 7 }) ≡ record { offset = 5; token = 8 }
   pub other_token : after_answer (neg_ℤ (pos 5)) 1 ahead ≡ ahead
   -- the correction is the shorter way to the server's time
   pub back : correction_of 10 15 ≡ neg_ℤ (pos 5)

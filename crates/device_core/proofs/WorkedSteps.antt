@@ -111,6 +111,7 @@ hearing = record {
   last = refl;
   behind = refl;
   max_count = refl;
+  other_group = refl;
   own_clock = refl;
   no_session = refl;
   skipped = refl;

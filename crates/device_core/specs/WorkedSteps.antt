@@ -217,6 +217,7 @@ pub record HearingSteps : Type 0 where
   pub last : (from_group 1010999 9 [] with_session).answer ≡ Done
   pub behind : (from_group 1011000 0 [] with_session).answer ≡ Deaf
   pub max_count : (from_group 1010000 10 [] with_session).answer ≡ Deaf
+  pub other_group : (delivery 1010000 0 1 (record { to = Group 0x55667788 0; port = 201; payload = [] }) with_session).answer ≡ Deaf
   pub own_clock : (from_group 1005000 0 [] (record with_session { clock = record { offset = 5; token = 0 } })).answer ≡ Done
   pub no_session : (from_group 1010000 0 [] grouped).answer ≡ Deaf
   -- by the group only fragments and status requests act, and the answer is due 109 modulo 2^(2 + 4) s later

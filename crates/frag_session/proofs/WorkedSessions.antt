@@ -36,6 +36,7 @@ sessions = record {
   new = refl;
   rows = refl;
   equal = refl;
+  index = refl;
   mask = refl;
   nb_frag = refl;
   frag_size = refl;

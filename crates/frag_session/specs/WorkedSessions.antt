@@ -72,6 +72,7 @@ pub record WorkedSessions : Type 0 where
   pub rows : after_setup (record worked_limits { rows = 3 }) worked_room None worked_setup ≡ Some (session_of worked_setup 3 [])
   -- an equal setup keeps it, one with another field begins anew, and one that is refused changes nothing
   pub equal : renewed_by worked_setup ≡ Some worked_session
+  pub index : renewed_by (record worked_setup { index = 1 }) ≡ Some (session_of (record worked_setup { index = 1 }) 4 [])
   pub mask : renewed_by (record worked_setup { mask = 3 }) ≡ Some (session_of (record worked_setup { mask = 3 }) 4 [])
   pub nb_frag : renewed_by (record worked_setup { nb_frag = 3 }) ≡ Some (session_of (record worked_setup { nb_frag = 3 }) 3 [])
   pub frag_size : renewed_by (record worked_setup { frag_size = 14 }) ≡ Some (session_of (record worked_setup { frag_size = 14 }) 4 [])

@@ -17,6 +17,7 @@ images = record {
   other_mark = refl;
   other_format = refl;
   no_version = refl;
+  other_length = refl;
   longer = refl;
   shorter = refl;
   cut = refl;

@@ -26,6 +26,7 @@ pub record WorkedImages : Type 0 where
   pub other_mark : is_image (changed 0 0x66) ≡ false
   pub other_format : is_image (changed 4 2) ≡ false
   pub no_version : is_image (changed 9 0) ≡ false
+  pub other_length : is_image (changed 13 4) ≡ false
   pub longer : is_image (worked_image ++ 0 ∷ []) ≡ false
   pub shorter : is_image (take 51 worked_image) ≡ false
   pub cut : is_image (take 48 worked_image) ≡ false

@@ -12,7 +12,7 @@ mod slots;
 mod view;
 
 pub use image::{MAX_IMAGE, firmware, hardware, is_image};
-pub use laws::worked_images;
+pub use laws::{an_image_has_its_bounds, worked_images};
 pub use slots::{Memory, Slots};
 pub use view::{ImageState, ImageView};
 
