@@ -8,3 +8,7 @@ pub mod Hearing
 pub mod Turns
 pub mod Deliveries
 pub mod Seeds
+pub mod Ranks
+pub mod Calm
+pub mod Untouched
+pub mod Once

@@ -1,0 +1,363 @@
+-- While the server has not asked a device for more than its version, the device runs no file.
+use Rattle.std.proofs.Common.{◌≡◌, inl, inr, ⊎_elim, ℕ, ◌+◌, ◌-◌, ◌/◌, ◌≤◌, ◌==◌, Bool, true, false, cond, List, [], ◌∷◌, ◌++◌, slice_get, zero, suc, Option, None, Some, IfSome, is_some, is_ok, Result, Ok, Err, refl, sym, ap, ◌∙◌, subst, arith}
+use Rattle.std.specs.List.{AllByRecursion}
+use Rattle.std.specs.Result.{result_ok}
+use Rattle.wire_base.specs.declared.refusal.Direction.TheVariants.{Up as Upwards}
+use Rattle.clock_sync.specs.Clock.{correction_of, is_answer_needed}
+use Rattle.sync_wire.specs.declared.cmd.Cmd.TheVariants as s
+use Rattle.package_grammar.specs.declared.command.Command.{Command}
+use Rattle.package_grammar.specs.declared.command.Command.TheVariants.{Sync, Cast}
+use Rattle.package_grammar.specs.Reading.{Reading, reading_of}
+use Rattle.device_core.specs.Device.{DeviceState}
+use Rattle.device_core.specs.Deliver.{delivery, waking}
+use Rattle.campaign_server.specs.declared.plan.PlanDevice.{PlanDevice}
+use Rattle.campaign_server.specs.declared.stage.Stage.{Stage}
+use Rattle.campaign_server.specs.declared.stage.Stage.TheVariants.{At, Updated, Refused}
+use Rattle.campaign_server.specs.declared.stage.Request.TheVariants as request
+use Rattle.campaign_server.specs.Plan.{Plan}
+use Rattle.campaign_server.specs.Server.{ServerState, DownlinkCommand, port_of, downlink_of, numbered, ledger}
+use Rattle.campaign_server.specs.Asking.{request_at, command_for, by_unicast, request_of}
+use Rattle.campaign_server.specs.Answers.{stage_after_all}
+use Rattle.campaign_server.specs.declared.fragments.Spent.{Spent}
+use Rattle.campaign_server.specs.declared.fragments.Spent.TheVariants.{Fragments, Counts}
+use Rattle.campaign_server.specs.Fragments.{next_fragment, after_fragment, status_to_all, after_status_to_all}
+use Rattle.campaign_server.specs.Time.{time_answer_to, first_answer, time_answer}
+use Rattle.campaign_server.specs.Uplinks.{with_answers, read_uplink, uplink_step}
+use Rattle.script_lines.specs.declared.forms.Form.{Form}
+use Rattle.script_lines.specs.declared.forms.Form.TheVariants.{Header, Image, Group, WindowC, WindowB, Device, At as AtTime, Wake, Ask, Frag, Status, Down, Up, End}
+use Rattle.script_lines.specs.Forms.{form_of}
+use Rattle.campaign_world.specs.declared.section.Section.{Section}
+use Rattle.campaign_world.specs.declared.section.Section.TheVariants as section
+use Rattle.campaign_world.specs.declared.numbered.SentPayload.{SentPayload}
+use Rattle.campaign_world.specs.declared.numbered.MadeUplink.{MadeUplink}
+use Rattle.campaign_world.specs.World.{WorldState, first_world}
+use Rattle.campaign_world.specs.Causes.{is_event_or_end, may_come, may_reach, cause_of_form, form_cause}
+use Rattle.campaign_world.specs.Making.{with_plan, with_sent, with_device, after_wake, after_answer, after_up, at_events, device_of, after_form}
+use Rattle.campaign_world.specs.Script.{after_form_of, after_line, read_lines}
+use Rattle.campaign_world.proofs.LineItems.{numbered_push}
+use Rattle.campaign_world.proofs.HeadlineForms.{passes}
+use Rattle.campaign_world.proofs.Independence.{read_first, line_fine, is_there, payload_there}
+use Rattle.campaign_laws.specs.Once.{rank}
+use Rattle.campaign_laws.proofs.Stands.{put_cases}
+use Rattle.campaign_laws.proofs.Ranks.{ranks_up}
+use Rattle.campaign_laws.proofs.Calm.{IsUntouched, IsCalm, delivery_calm, waking_calm}
+
+-- ---- sections
+
+-- no event was yet
+abbrev pub is_planning : Section → Bool
+is_planning section.Events = false
+is_planning section.Ended = false
+is_planning here = true
+
+pub plan_at : (here : Section) (form : Form) → is_event_or_end form ≡ false → may_come here form ≡ true → is_planning here ≡ true
+plan_at section.Header form plan may = refl
+plan_at section.Image form plan may = refl
+plan_at section.Group form plan may = refl
+plan_at section.Window form plan may = refl
+plan_at section.Device form plan may = refl
+plan_at section.Devices form plan may = refl
+plan_at section.Events form plan may = absurd (let both : true ≡ false = sym may ∙ plan in cc)
+plan_at section.Ended form plan may = absurd cc
+
+-- ---- what holds after each line
+
+-- where this device may hear it, and is asked for its version, it asks for no more
+abbrev IsFor : List Stage → SentPayload → Type 0
+IsFor stages p = (id : ℕ) → may_reach id (Some p) ≡ true → numbered stages id ≡ Some (At request.Version) → IsCalm p.down
+
+pub record Waits (w : WorldState) : Type 0 where
+  pub none_sent : is_planning w.section ≡ true → w.sent ≡ []
+  pub all : is_planning w.section ≡ true → (id : ℕ) (d : DeviceState) → numbered w.devices id ≡ Some d → IsUntouched d
+  pub devices : (id : ℕ) (d : DeviceState) → numbered w.devices id ≡ Some d → numbered w.server.stages id ≡ Some (At request.Version) → IsUntouched d
+  pub sent : AllByRecursion (IsFor w.server.stages) w.sent
+
+pub get_all : {A : Type 0} (P : A → Type 0) (xs : List A) (n : ℕ) (x : A) → AllByRecursion P xs → numbered xs n ≡ Some x → P x
+get_all P xs n x all is = by (n == 0) is
+  where
+    get : (ys : List _) (k : ℕ) → AllByRecursion P ys → slice_get ys k ≡ Some x → P x
+    get [] k all there = absurd cc
+    get (y ∷ ys) zero all there = let here : y ≡ x = cc in subst P here all.0
+    get (y ∷ ys) (suc k) all there = get ys k all.1 there
+
+    by : (b : Bool) → cond b None (slice_get xs (n - 1)) ≡ Some x → P x
+    by true there = absurd cc
+    by false there = get xs (n - 1) all there
+
+-- ---- a payload is sent
+
+-- where the new stages are at version, so were the old
+abbrev Begin : (old new : List Stage) → Type 0
+Begin old new = (id : ℕ) → numbered new id ≡ Some (At request.Version) → numbered old id ≡ Some (At request.Version)
+
+older : (old new : List Stage) (ps : List SentPayload) → Begin old new → AllByRecursion (IsFor old) ps → AllByRecursion (IsFor new) ps
+older old new [] back all = tt
+older old new (p ∷ ps) back all = (λ id may at. all.0 id may (back id at), older old new ps back all.1)
+
+one_behind : (P : SentPayload → Type 0) (ps : List SentPayload) (p : SentPayload) → AllByRecursion P ps → P p → AllByRecursion P (ps ++ p ∷ [])
+one_behind P [] p all one = (one, tt)
+one_behind P (x ∷ xs) p all one = (all.0, one_behind P xs p all.1 one)
+
+sends_wait : (w : WorldState) (server : ServerState) (to : Option ℕ) (down : Option DownlinkCommand) → Waits w → Begin w.server.stages server.stages
+    → IfSome down (λ x. IsFor server.stages (record { receiver = to; down = downlink_of x })) → Waits (at_events (with_sent (record w { server = server }) to down))
+sends_wait w server to None k back own = record {
+  none_sent = λ plan. absurd cc;
+  all = λ plan. absurd cc;
+  devices = λ id d there at. k.devices id d there (back id at);
+  sent = older w.server.stages server.stages w.sent back k.sent;
+}
+sends_wait w server to (Some down) k back own = record {
+  none_sent = λ plan. absurd cc;
+  all = λ plan. absurd cc;
+  devices = λ id d there at. k.devices id d there (back id at);
+  sent = one_behind (IsFor server.stages) w.sent (record { receiver = to; down = downlink_of down }) (older w.server.stages server.stages w.sent back k.sent) own;
+}
+
+-- a request
+far_from : (n : ℕ) (stages : List Stage) (stage : Stage) (o : Option Command) → numbered stages n ≡ Some stage → (stage ≡ At request.Version → ⊥)
+    → IfSome (by_unicast o) (λ x. IsFor stages (record { receiver = Some n; down = downlink_of x }))
+far_from n stages stage None at other = tt
+far_from n stages stage (Some x) at other = λ id may here.
+    let same : n ≡ id = grind (arith, may) in
+    absurd (other (let e : Some stage ≡ Some (At request.Version) = sym at ∙ subst (λ (i : ℕ). numbered stages i ≡ Some (At request.Version)) (sym same) here in cc))
+
+asked_by : (plan : Plan) (image : List ℕ) (n : ℕ) (stages : List Stage) (k : PlanDevice) (stage : Stage) → numbered stages n ≡ Some stage
+    → IfSome (by_unicast (request_at plan image k.key stage)) (λ x. IsFor stages (record { receiver = Some n; down = downlink_of x }))
+unfolding request_at
+asked_by plan image n stages k (At request.Version) at = λ id may here. inr (refl, refl)
+asked_by plan image n stages k (At request.Group) at = far_from n stages (At request.Group) (request_at plan image k.key (At request.Group)) at (λ e. cc)
+asked_by plan image n stages k (At request.Fragments) at = far_from n stages (At request.Fragments) (request_at plan image k.key (At request.Fragments)) at (λ e. cc)
+asked_by plan image n stages k (At request.Window) at = far_from n stages (At request.Window) (request_at plan image k.key (At request.Window)) at (λ e. cc)
+asked_by plan image n stages k (At request.Status) at = far_from n stages (At request.Status) (request_at plan image k.key (At request.Status)) at (λ e. cc)
+asked_by plan image n stages k (At request.Image) at = far_from n stages (At request.Image) (request_at plan image k.key (At request.Image)) at (λ e. cc)
+asked_by plan image n stages k (At request.Reboot) at = far_from n stages (At request.Reboot) (request_at plan image k.key (At request.Reboot)) at (λ e. cc)
+asked_by plan image n stages k (At request.Check) at = far_from n stages (At request.Check) (request_at plan image k.key (At request.Check)) at (λ e. cc)
+asked_by plan image n stages k Updated at = tt
+asked_by plan image n stages k (Refused r bits) at = tt
+
+asked_calm : (server : ServerState) (n : ℕ) → IfSome (request_of server n) (λ x. IsFor server.stages (record { receiver = Some n; down = downlink_of x }))
+unfolding request_of
+asked_calm server n = by (numbered server.plan.devices n) (numbered server.stages n) refl
+  where
+    by : (k : Option PlanDevice) (stage : Option Stage) → numbered server.stages n ≡ stage
+        → IfSome (by_unicast (command_for server.plan server.image k stage)) (λ x. IsFor server.stages (record { receiver = Some n; down = downlink_of x }))
+    by None stage at = tt
+    by (Some k) None at = tt
+    by (Some k) (Some stage) at = asked_by server.plan server.image n server.stages k stage at
+
+-- what is on another port
+other_port : (stages : List Stage) (to : Option ℕ) (x : DownlinkCommand) → (port_of x.command ≡ 203 → ⊥) → IsFor stages (record { receiver = to; down = downlink_of x })
+other_port stages to x far = λ id may at. inl far
+
+fragment_by : (stages : List Stage) (a b : Bool) (x : DownlinkCommand) → (port_of x.command ≡ 203 → ⊥)
+    → IfSome (result_ok (cond {A = Result DownlinkCommand Spent} a (Err Fragments) (cond b (Err Counts) (Ok x)))) (λ y. IsFor stages (record { receiver = None; down = downlink_of y }))
+fragment_by stages true b x far = tt
+fragment_by stages false true x far = tt
+fragment_by stages false false x far = other_port stages None x far
+
+fragment_calm : (stages : List Stage) (server : ServerState) → IfSome (result_ok (next_fragment server)) (λ x. IsFor stages (record { receiver = None; down = downlink_of x }))
+unfolding next_fragment
+fragment_calm stages server = fragment_by stages _ _ _ (λ same. omega (arith, same))
+
+status_by : (stages : List Stage) (a : Bool) (x : DownlinkCommand) → (port_of x.command ≡ 203 → ⊥)
+    → IfSome (cond a None (Some x)) (λ y. IsFor stages (record { receiver = None; down = downlink_of y }))
+status_by stages true x far = tt
+status_by stages false x far = other_port stages None x far
+
+status_calm : (stages : List Stage) (server : ServerState) → IfSome (status_to_all server) (λ x. IsFor stages (record { receiver = None; down = downlink_of x }))
+unfolding status_to_all
+status_calm stages server = status_by stages _ _ (λ same. omega (arith, same))
+
+counted_same : (server counted : ServerState) (b : Bool) → counted.stages ≡ server.stages → (cond b counted server).stages ≡ server.stages
+counted_same server counted true same = same
+counted_same server counted false same = refl
+
+pub fragment_same : (server : ServerState) → (after_fragment server).stages ≡ server.stages
+unfolding after_fragment
+fragment_same server = counted_same server _ (is_ok (next_fragment server)) refl
+
+pub status_same : (server : ServerState) → (after_status_to_all server).stages ≡ server.stages
+unfolding after_status_to_all
+status_same server = counted_same server _ (is_some (status_to_all server)) refl
+
+same_begin : (old new : List Stage) → new ≡ old → Begin old new
+same_begin old new same id at = ap (λ (xs : List Stage). numbered xs id) (sym same) ∙ at
+
+-- ---- an uplink comes
+
+first_rank : (stage : Stage) → rank stage ≤ 0 → stage ≡ At request.Version
+first_rank (At request.Version) low = refl
+first_rank (At request.Group) low = absurd (omega (arith, low))
+first_rank (At request.Fragments) low = absurd (omega (arith, low))
+first_rank (At request.Window) low = absurd (omega (arith, low))
+first_rank (At request.Status) low = absurd (omega (arith, low))
+first_rank (At request.Image) low = absurd (omega (arith, low))
+first_rank (At request.Reboot) low = absurd (omega (arith, low))
+first_rank (At request.Check) low = absurd (omega (arith, low))
+first_rank Updated low = absurd (omega (arith, low))
+first_rank (Refused r bits) low = absurd (omega (arith, low))
+
+pub number_first : {A : Type 0} (xs : List A) (n : ℕ) (x : A) → numbered xs n ≡ Some x → 1 ≤ n
+number_first xs n x is = by (n == 0) refl is
+  where
+    by : (b : Bool) → (n == 0) ≡ b → cond b None (slice_get xs (n - 1)) ≡ Some x → 1 ≤ n
+    by true empty there = absurd cc
+    by false other there = grind (arith, other)
+
+answers_begin : (server : ServerState) (dev : ℕ) (cs : List Command) (old : Option Stage) → numbered server.stages dev ≡ old → Begin server.stages (with_answers server dev cs old).stages
+answers_begin server dev cs None there id at = at
+answers_begin server dev cs (Some old) there id at =
+    let new : Stage = stage_after_all server.plan server.image old cs in
+    ⊎_elim
+    (λ here.
+    let is : new ≡ At request.Version = (let e : Some new ≡ Some (At request.Version) = sym here.1 ∙ at in cc) in
+    let up = ranks_up server.plan server.image old cs in
+    let low : rank new ≡ 0 = ap rank is in
+    let was : old ≡ At request.Version = first_rank old (omega (arith, up, low)) in
+    subst (λ (i : ℕ). numbered server.stages i ≡ Some (At request.Version)) here.0 (there ∙ ap (λ (x : Stage). Some x) was))
+    (λ other. sym other.1 ∙ at)
+    (put_cases server.stages dev id old new (number_first server.stages dev old there) there)
+
+port_if : (b : Bool) (x : Command) → port_of x ≡ 202 → IfSome (cond b (Some x) None) (λ y. port_of y ≡ 202)
+port_if true x port = port
+port_if false x port = tt
+
+to_port : (t : ℕ) (x : Command) → IfSome (time_answer_to t x) (λ y. port_of y ≡ 202)
+to_port t (Sync (s.AppTimeReq time required token)) =
+    let correction = correction_of (t / 1000) time in
+    port_if (is_answer_needed required correction) (Sync (s.AppTimeAns correction token)) refl
+to_port t (Sync cmd) = tt
+to_port t (Cast cmd) = tt
+
+first_port : (one more : Option Command) → IfSome one (λ y. port_of y ≡ 202) → IfSome more (λ y. port_of y ≡ 202) → IfSome (first_answer one more) (λ y. port_of y ≡ 202)
+first_port None more one rest = rest
+first_port (Some x) more one rest = one
+
+time_port : (t : ℕ) (cs : List Command) → IfSome (time_answer t cs) (λ y. port_of y ≡ 202)
+unfolding time_answer
+time_port t [] = tt
+time_port t (x ∷ cs) = first_port (time_answer_to t x) (time_answer t cs) (to_port t x) (time_port t cs)
+
+time_calm : (stages : List Stage) (to : Option ℕ) (o : Option Command) → IfSome o (λ y. port_of y ≡ 202) → IfSome (by_unicast o) (λ x. IsFor stages (record { receiver = to; down = downlink_of x }))
+time_calm stages to None port = tt
+time_calm stages to (Some x) port = λ id may at. inl (λ same. omega (arith, same, port))
+
+read_waits : (w : WorldState) (dev : ℕ) (r : Reading) → Waits w → Waits (at_events (after_answer w dev (read_uplink w.server dev w.time r)))
+unfolding read_uplink
+read_waits w dev (Ok cs) k =
+    sends_wait w (with_answers w.server dev cs (ledger w.server dev)) (Some dev) (by_unicast (time_answer w.time cs)) k
+    (answers_begin w.server dev cs (ledger w.server dev) refl)
+    (time_calm (with_answers w.server dev cs (ledger w.server dev)).stages (Some dev) (time_answer w.time cs) (time_port w.time cs))
+read_waits w dev (Err refusal) k = record { none_sent = λ plan. absurd cc; all = λ plan. absurd cc; devices = k.devices; sent = k.sent }
+
+up_waits : (w : WorldState) (o : Option MadeUplink) → Waits w → Waits (at_events (after_up w o))
+unfolding uplink_step
+up_waits w None k = record { none_sent = λ plan. absurd cc; all = λ plan. absurd cc; devices = k.devices; sent = k.sent }
+up_waits w (Some made) k = read_waits w made.device (reading_of made.uplink.port Upwards made.uplink.payload) k
+
+-- ---- an event at a device
+
+device_waits : (w : WorldState) (n : ℕ) (d e : DeviceState) → numbered w.devices n ≡ Some d → (numbered w.server.stages n ≡ Some (At request.Version) → IsUntouched e) → Waits w
+    → Waits (at_events (with_device w n e))
+unfolding with_device
+device_waits w n d e there calm k = record {
+  none_sent = λ plan. absurd cc;
+  all = λ plan. absurd cc;
+  devices = λ id x is at.
+      ⊎_elim
+      (λ here.
+      let same : record e { outbox = [] } ≡ x = (let y : Some (record e { outbox = [] }) ≡ Some x = sym here.1 ∙ is in cc) in
+      let u = calm (subst (λ (i : ℕ). numbered w.server.stages i ≡ Some (At request.Version)) (sym here.0) at) in
+      subst IsUntouched same (record { reboot = u.reboot; version = u.version }))
+      (λ other. k.devices id x (sym other.1 ∙ is) at)
+      (put_cases w.devices n id d (record e { outbox = [] }) (number_first w.devices n d there) there);
+  sent = k.sent;
+}
+
+-- ---- a form
+
+-- a line of the plan
+plan_waits : (w : WorldState) (plan : Plan) (next : Section) → is_planning w.section ≡ true → Waits w → Waits (with_plan w plan next)
+plan_waits w plan next here k = record {
+  none_sent = λ still. k.none_sent here;
+  all = λ still. k.all here;
+  devices = λ id d there at. k.all here id d there;
+  sent = subst (AllByRecursion (IsFor _)) (sym (k.none_sent here)) tt;
+}
+
+joins_wait : (w : WorldState) (new : DeviceState) (plan : Plan) → is_planning w.section ≡ true → IsUntouched new → Waits w
+    → Waits (with_plan (record w { devices = w.devices ++ new ∷ [] }) plan section.Devices)
+joins_wait w new plan here fresh k = record {
+  none_sent = λ still. k.none_sent here;
+  all = λ still. everyone;
+  devices = λ id d there at. everyone id d there;
+  sent = subst (AllByRecursion (IsFor _)) (sym (k.none_sent here)) tt;
+}
+  where
+    everyone : (id : ℕ) (d : DeviceState) → numbered (w.devices ++ new ∷ []) id ≡ Some d → IsUntouched d
+    everyone id d there = ⊎_elim (λ same. k.all here id d (sym same ∙ there))
+        (λ last. let e : new ≡ d = (let y : Some new ≡ Some d = sym last.1 ∙ there in cc) in subst IsUntouched e fresh) (numbered_push w.devices new id)
+
+form_waits : (w : WorldState) (form : Form) → form_cause w form ≡ None → Waits w → Waits (after_form w form)
+unfolding after_form
+form_waits w Header fine k =
+    let here = plan_at w.section Header refl (passes w Header fine).may in
+    record { none_sent = λ still. k.none_sent here; all = λ still. k.all here; devices = k.devices; sent = k.sent }
+form_waits w (Image frag_size parity) fine k = plan_waits w _ section.Group (plan_at w.section (Image frag_size parity) refl (passes w (Image frag_size parity) fine).may) k
+form_waits w (Group addr key min max) fine k = plan_waits w _ section.Window (plan_at w.section (Group addr key min max) refl (passes w (Group addr key min max) fine).may) k
+form_waits w (WindowC start timeout freq dr) fine k = plan_waits w _ section.Device (plan_at w.section (WindowC start timeout freq dr) refl (passes w (WindowC start timeout freq dr) fine).may) k
+form_waits w (WindowB start periodicity timeout freq dr) fine k =
+    plan_waits w _ section.Device (plan_at w.section (WindowB start periodicity timeout freq dr) refl (passes w (WindowB start periodicity timeout freq dr) fine).may) k
+form_waits w (Device id class hw rows offset key descriptor) fine k =
+    joins_wait w (device_of class hw rows offset key descriptor) _ (plan_at w.section (Device id class hw rows offset key descriptor) refl (passes w (Device id class hw rows offset key descriptor) fine).may)
+    (record { reboot = refl; version = refl }) k
+form_waits w (AtTime time) fine k = record { none_sent = λ plan. absurd cc; all = λ plan. absurd cc; devices = k.devices; sent = k.sent }
+form_waits w (Wake n) fine k =
+    let there = is_there w.devices n (passes w (Wake n) fine).names in
+    subst (λ (o : Option DeviceState). Waits (at_events (after_wake w n o))) (sym there.1.1)
+    (device_waits w n there.1.0 (waking w.time there.1.0).device there.1.1 (λ at. waking_calm w.time there.1.0 (k.devices n there.1.0 there.1.1 at)) k)
+form_waits w (Ask n) fine k = sends_wait w w.server (Some n) (request_of w.server n) k (λ id at. at) (asked_calm w.server n)
+form_waits w Frag fine k =
+    sends_wait w (after_fragment w.server) None (result_ok (next_fragment w.server)) k (same_begin w.server.stages (after_fragment w.server).stages (fragment_same w.server)) (fragment_calm (after_fragment w.server).stages w.server)
+form_waits w Status fine k =
+    sends_wait w (after_status_to_all w.server) None (status_to_all w.server) k (same_begin w.server.stages (after_status_to_all w.server).stages (status_same w.server)) (status_calm (after_status_to_all w.server).stages w.server)
+form_waits w (Down number n word) fine k =
+    let p = passes w (Down number n word) fine in
+    let there = is_there w.devices n p.names in
+    let got = payload_there n (numbered w.sent number) p.come in
+    let may : may_reach n (Some got.0) ≡ true = subst (λ (o : Option SentPayload). may_reach n o ≡ true) got.1 p.come in
+    let own = get_all (IsFor w.server.stages) w.sent number got.0 k.sent got.1 in
+    rw (there.1.1, got.1) (device_waits w n there.1.0 (delivery w.time word (w.lines + 1) got.0.down there.1.0).device there.1.1
+    (λ at. delivery_calm w.time word (w.lines + 1) got.0.down there.1.0 (own n may at) (k.devices n there.1.0 there.1.1 at)) k)
+form_waits w (Up number) fine k = up_waits w (numbered w.uplinks number) k
+form_waits w End fine k = record { none_sent = λ plan. absurd cc; all = λ plan. absurd cc; devices = k.devices; sent = k.sent }
+
+-- ---- all lines
+
+line_waits : (w : WorldState) (form : Option Form) → cause_of_form w form ≡ None → Waits w → Waits (after_form_of w form)
+line_waits w None fine k = absurd cc
+line_waits w (Some form) fine k =
+    let m = form_waits w form fine k in
+    record { none_sent = m.none_sent; all = m.all; devices = m.devices; sent = m.sent }
+
+all_wait : (w end : WorldState) (lines : List (List ℕ)) → Waits w → read_lines (Ok w) lines ≡ Ok end → Waits end
+unfolding read_lines after_line
+all_wait w end [] k read = let same : w ≡ end = cc in subst Waits same k
+all_wait w end (line ∷ lines) k read =
+    let first = read_first w end line lines read in
+    all_wait (after_form_of w (form_of line)) end lines (line_waits w (form_of line) (line_fine w line first.0) k) first.1
+
+none_numbered : {A : Type 0} (n : ℕ) (x : A) → numbered {A = A} [] n ≡ Some x → ⊥
+none_numbered {A} n x is = by (n == 0) is
+  where
+    by : (b : Bool) → cond b None None ≡ Some x → ⊥
+    by true e = cc
+    by false e = cc
+
+pub waits_behind : (image : List ℕ) (w : WorldState) (lines : List (List ℕ)) → read_lines (Ok (first_world image)) lines ≡ Ok w → Waits w
+waits_behind image w lines read = all_wait (first_world image) w lines (record {
+  none_sent = λ plan. refl;
+  all = λ plan id d there. absurd (none_numbered id d there);
+  devices = λ id d there at. absurd (none_numbered id d there);
+  sent = tt;
+}) read

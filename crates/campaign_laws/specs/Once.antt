@@ -1,0 +1,65 @@
+-- An answer moves its own stage, and once: ranks of stages, and which answers are past.
+use Rattle.std.specs.Prelude.{◌≡◌, ◌≢◌, ℕ, ◌^◌, ◌<◌, true, List, [], ◌∷◌, All, Some, Ok}
+use Rattle.wire_base.specs.declared.refusal.Direction.TheVariants.{Up as Upwards}
+use Rattle.image_slots.specs.Image.{is_image}
+use Rattle.cast_wire.specs.declared.cmd.Cmd.TheVariants.{McGroupSetupAns, FragSessionSetupAns, McClassCSessionAns, McClassBSessionAns, FragSessionStatusAns}
+use Rattle.sync_wire.specs.declared.cmd.Cmd.TheVariants.{DevVersionAns, DevUpgradeImageAns, DevRebootCountdownAns}
+use Rattle.package_grammar.specs.declared.command.Command.{Command}
+use Rattle.package_grammar.specs.declared.command.Command.TheVariants.{Sync, Cast}
+use Rattle.package_grammar.specs.Reading.{reading_of}
+use Rattle.campaign_server.specs.declared.stage.Stage.{Stage}
+use Rattle.campaign_server.specs.declared.stage.Stage.TheVariants.{At, Updated, Refused}
+use Rattle.campaign_server.specs.declared.stage.Request.{Request}
+use Rattle.campaign_server.specs.declared.stage.Request.TheVariants.{Version, Group, Fragments, Window, Status, Image, Reboot, Check}
+use Rattle.campaign_server.specs.Plan.{Plan}
+use Rattle.campaign_server.specs.Server.{numbered}
+use Rattle.campaign_server.specs.Answers.{stage_after}
+use Rattle.script_lines.specs.declared.forms.Form.TheVariants.{Up}
+use Rattle.script_lines.specs.Forms.{form_of}
+use Rattle.campaign_world.specs.declared.numbered.MadeUplink.{MadeUplink}
+use Rattle.campaign_world.specs.World.{WorldState, first_world}
+use Rattle.campaign_world.specs.Making.{after_up}
+use Rattle.campaign_world.specs.Script.{read_lines}
+
+-- how far a device is
+abbrev pub request_rank : Request → ℕ
+request_rank Version = 0
+request_rank Group = 1
+request_rank Fragments = 2
+request_rank Window = 3
+request_rank Status = 4
+request_rank Image = 5
+request_rank Reboot = 6
+request_rank Check = 7
+
+abbrev pub rank : Stage → ℕ
+rank (At request) = request_rank request
+rank Updated = 8
+rank (Refused request bits) = 8
+
+-- how far the last stage is that an answer can move: that of DevVersionAns is past once check is
+abbrev pub last_moved : Command → ℕ
+last_moved (Sync (DevVersionAns firmware hardware)) = 7
+last_moved (Cast (McGroupSetupAns id error)) = 1
+last_moved (Cast (FragSessionSetupAns index descriptor unsupported memory encoding)) = 2
+last_moved (Cast (McClassCSessionAns id undefined freq dr start)) = 3
+last_moved (Cast (McClassBSessionAns id undefined freq dr start)) = 3
+last_moved (Cast (FragSessionStatusAns index received missing norows)) = 4
+last_moved (Sync (DevUpgradeImageAns status next)) = 5
+last_moved (Sync (DevRebootCountdownAns count)) = 6
+last_moved command = 0
+
+-- an answer whose stage is past moves none
+abbrev pub PastMovesNone : Type 0
+PastMovesNone = (plan : Plan) (image : List ℕ) (stage : Stage) (command : Command) → last_moved command < rank stage
+    → stage_after plan image stage command ≡ stage
+
+-- an uplink of one command that has moved a stage moves none when it comes again, whatever lines came between
+abbrev pub MovesOnce : Type 0
+MovesOnce = (image line : List ℕ) (before between : List (List ℕ)) (number : ℕ) (world later : WorldState) (made : MadeUplink) (command : Command)
+    → All (λ b. b < 2 ^ 8) image → is_image image ≡ true
+    → read_lines (Ok (first_world image)) before ≡ Ok world → form_of line ≡ Some (Up number)
+    → read_lines (Ok world) (line ∷ between) ≡ Ok later → numbered world.uplinks number ≡ Some made
+    → reading_of made.uplink.port Upwards made.uplink.payload ≡ Ok (command ∷ [])
+    → (after_up world (numbered world.uplinks number)).server.stages ≢ world.server.stages
+    → (after_up later (numbered later.uplinks number)).server.stages ≡ later.server.stages
