@@ -97,6 +97,7 @@ groups = record {
   id_error = refl;
   start = refl;
   errors = refl;
+  replaced = refl;
   refused = refl;
   beacon = refl;
   ends = refl;

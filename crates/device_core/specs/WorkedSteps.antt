@@ -7,7 +7,7 @@ use Rattle.frag_session.specs.declared.answers.Via.TheVariants as via
 use Rattle.image_slots.specs.declared.view.ImageState.{ImageState}
 use Rattle.image_slots.specs.declared.view.ImageState.TheVariants as image
 use Rattle.device_core.specs.declared.class_session.ClassSession.{ClassSession}
-use Rattle.device_core.specs.declared.class_session.Kind.TheVariants.{ClassB}
+use Rattle.device_core.specs.declared.class_session.Kind.TheVariants.{ClassC, ClassB}
 use Rattle.device_core.specs.declared.config.Class.{Class}
 use Rattle.device_core.specs.declared.config.Class.TheVariants.{A, C}
 use Rattle.device_core.specs.declared.config.DeviceConfig.{DeviceConfig}
@@ -196,7 +196,10 @@ pub record GroupSteps : Type 0 where
   -- a class session starts in 10 s, or is refused with all its bits
   pub start : sends 1000000 200 session_request grouped ≡ (0x04 ∷ 0x00 ∷ 0x0a ∷ 0x00 ∷ 0x00 ∷ []) ∷ []
   pub errors : sends 1000000 200 (0x04 ∷ 0x00 ∷ 0xf2 ∷ 0x03 ∷ 0x00 ∷ 0x00 ∷ 0x00 ∷ 0x00 ∷ 0x00 ∷ 0x00 ∷ 0x06 ∷ []) fresh ≡ (0x04 ∷ 0x1c ∷ []) ∷ []
-  pub refused : (after 1000000 200 (0x04 ∷ 0x00 ∷ 0xf2 ∷ 0x03 ∷ 0x00 ∷ 0x00 ∷ 0x00 ∷ 0x00 ∷ 0x00 ∷ 0x00 ∷ 0x06 ∷ []) with_session).class_session
+  -- it replaces the one that there was, and one that is refused does not
+  pub replaced : (after 1000000 200 (0x04 ∷ 0x00 ∷ 0xf3 ∷ 0x03 ∷ 0x00 ∷ 0x00 ∷ 0x00 ∷ 0x28 ∷ 0x76 ∷ 0x84 ∷ 0x00 ∷ []) with_session).class_session
+      ≡ Some (record { id = 0; kind = ClassC; time = 1011; timeout = 0 })
+  pub refused : (after 1000000 200 (0x04 ∷ 0x00 ∷ 0xf3 ∷ 0x03 ∷ 0x00 ∷ 0x00 ∷ 0x00 ∷ 0x00 ∷ 0x00 ∷ 0x00 ∷ 0x06 ∷ []) with_session).class_session
       ≡ with_session.class_session
   -- a class B session begins at the beacon before: 1,010 s are rounded down to 896 s, which is past
   pub beacon : sends 1000000 200 (0x05 ∷ 0x00 ∷ 0xf2 ∷ 0x03 ∷ 0x00 ∷ 0x00 ∷ 0x00 ∷ 0x28 ∷ 0x76 ∷ 0x84 ∷ 0x00 ∷ []) grouped
