@@ -39,10 +39,6 @@ worked_config class offset = record {
 abbrev pub fresh : DeviceState
 fresh = first_device (worked_config C 0)
 
--- the same with another configuration
-abbrev pub fresh_with : DeviceConfig → DeviceState
-fresh_with config = first_device config
-
 -- behind a payload by unicast at t ms, with the random word 0, at line 1
 abbrev pub received : (t port : ℕ) → List ℕ → DeviceState → Outcome Delivered
 received t port payload device = delivery t 0 1 (record { to = Unicast; port = port; payload = payload }) device
