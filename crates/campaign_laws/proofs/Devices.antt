@@ -94,13 +94,18 @@ still_due e unset us = still (holding us e) unset
 
 pub takes_turn : (image : List ℕ) (P' : DeviceState → Stage → Type 0) (d : DeviceState) (s : Stage) (c a : Command) (e f : DeviceState)
     → IsPlain d → TurnOf image P' d s c a e f → TakesTurn image P' d s
-takes_turn image P' d s c a e f plain t = (c, a, port_of c, record {
-  ask = t.ask;
-  answer = λ mark. ap (λ (z : DeviceState). z.outbox) (is mark);
-  read = t.up_read;
-  silent = t.silent;
-  after = λ mark plan planned. subst (λ (z : DeviceState). P' (record z { outbox = [] }) (stage_after plan image s a)) (sym (is mark)) (t.after plan planned);
-})
+takes_turn image P' d s c a e f plain t = (
+  c,
+  a,
+  port_of c,
+  record {
+    ask = t.ask;
+    answer = λ mark. ap (λ (z : DeviceState). z.outbox) (is mark);
+    read = t.up_read;
+    silent = t.silent;
+    after = λ mark plan planned. subst (λ (z : DeviceState). P' (record z { outbox = [] }) (stage_after plan image s a)) (sym (is mark)) (t.after plan planned);
+  },
+)
   where
     is : (mark : ℕ) → behind mark c d ≡ holding (uplink_of (record { due = 0; port = port_of c; command = a }) ∷ []) f
     is mark =

@@ -439,12 +439,14 @@ generated seed =
     let plays : Plays (first_world image) (forms_of seed) t.0 = subst (λ (m : ℕ). Plays (first_world image) (forms_from (after_image seed) m) t.0) (count_is seed) t.1 in
     let spelled = lines_spell_forms seed in
     let read : read_lines (Ok (first_world image)) (lines_of (script_of seed)) ≡ Ok t.0 =
-    lines_read (lines_of (script_of seed)) (forms_of seed) (first_world image) t.0 spelled.spelled spelled.short (omega (arith, spelled.few)) plays in
-    (t.0, record {
-      accepted = ap end_result read ∙ rw (t.2.section) refl;
-      sent = t.2.sent ∙ ap (λ (m : ℕ). 16 + (m + 128) + 32) (count_is seed);
-      uplinks = t.2.ups;
-      devices = t.2.count;
-      updated = updated_at image t.0 t.2;
-      as_many = counted_alike nothing_counted t.0.server.stages t.0.devices refl (λ i s d stage device. updated_at image t.0 t.2 (i + 1) s d (numbered_at t.0.server.stages i s stage) (numbered_at t.0.devices i d device));
-    })
+    lines_read (lines_of (script_of seed)) (forms_of seed) (first_world image) t.0 spelled.spelled spelled.short (omega (arith, spelled.few)) plays in (
+      t.0,
+      record {
+        accepted = ap end_result read ∙ rw (t.2.section) refl;
+        sent = t.2.sent ∙ ap (λ (m : ℕ). 16 + (m + 128) + 32) (count_is seed);
+        uplinks = t.2.ups;
+        devices = t.2.count;
+        updated = updated_at image t.0 t.2;
+        as_many = counted_alike nothing_counted t.0.server.stages t.0.devices refl (λ i s d stage device. updated_at image t.0 t.2 (i + 1) s d (numbered_at t.0.server.stages i s stage) (numbered_at t.0.devices i d device));
+      },
+    )

@@ -4,6 +4,4 @@
 
 mod laws;
 
-pub use laws::{
-    a_past_answer_moves_none, an_uplink_moves_once, generated_campaigns_are_accepted,
-};
+pub use laws::{a_past_answer_moves_none, an_uplink_moves_once, generated_campaigns_are_accepted};

@@ -50,7 +50,8 @@ fn a_campaign_is_reported(rt: HostRuntime) -> Result<(), Fail> {
     }
     match world.summary(rt.alloc()) {
         Ok(text) => assert!(rt;
-            text.as_slice() == b"image 52 fragments 4\nsent 6 heard 5\ncomplete 1 updated 0\nend\n".as_slice()
+            text.as_slice()
+                == b"image 52 fragments 4\nsent 6 heard 5\ncomplete 1 updated 0\nend\n".as_slice()
         ),
         Err(_) => assert!(rt; false),
     }

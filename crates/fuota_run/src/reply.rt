@@ -96,4 +96,3 @@ fn why_word(why: LineWhy) -> &'static str
         LineWhy::Time => "time",
     }
 }
-

@@ -62,7 +62,12 @@ fn first_line_of(alloc: Global, seed: u32) -> Result<String, AllocError>
 }
 
 /// What is told of the campaign that image and script define.
-pub fn tell_script(alloc: Global, what: ScriptForm, image: &[u8], script: &[u8]) -> Result<Reply, LineError>
+pub fn tell_script(
+    alloc: Global,
+    what: ScriptForm,
+    image: &[u8],
+    script: &[u8],
+) -> Result<Reply, LineError>
     requires { is_image image.now ≡ true }
     ensures { IsPlayed (told_of what) (campaign_of image.now script.now) (seen_reply result) }
 {

@@ -1,2 +1,4 @@
 pub mod SourceLines
+pub mod Stretches
+pub mod CutLines
 pub mod WorkedLines

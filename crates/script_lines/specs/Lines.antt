@@ -3,6 +3,10 @@ use Rattle.std.specs.Prelude.{ℕ, Bool, ◌==◌, List, [], ◌∷◌, slice_ge
 use Rattle.std.specs.List.{slice_split}
 use Rattle.std.specs.Str.{bytes_eq}
 
+-- a line feed
+abbrev pub is_feed : ℕ → Bool
+is_feed b = b == 10
+
 -- a list without its last member, where that is empty
 abbrev pub without_empty_last : List (List ℕ) → List (List ℕ)
 without_empty_last [] = []
@@ -10,9 +14,9 @@ without_empty_last ([] ∷ []) = []
 without_empty_last (xs ∷ []) = xs ∷ []
 without_empty_last (xs ∷ ys ∷ zss) = xs ∷ without_empty_last (ys ∷ zss)
 
--- the lines of a source: the stretches between line feeds (10), without an empty last one
+-- the lines of a source: the stretches between line feeds, without an empty last one
 unfoldable pub lines_of : List ℕ → List (List ℕ)
-lines_of bytes = without_empty_last (slice_split (λ b. b == 10) bytes)
+lines_of bytes = without_empty_last (slice_split is_feed bytes)
 
 -- the words of a line: the stretches between spaces (32)
 unfoldable pub words_of : List ℕ → List (List ℕ)

@@ -7,6 +7,7 @@ mod forms;
 mod laws;
 mod lines;
 mod numbers;
+mod pieces;
 mod ranges;
 mod reading;
 #[cfg(test)]
@@ -17,6 +18,7 @@ pub use forms::{Class, Form, Key};
 pub use laws::worked_lines;
 pub use lines::first_line;
 pub use numbers::decimal;
+pub use pieces::{Cut, Lines};
 pub use ranges::in_range;
 pub use reading::form;
 pub use words::{count_words, is_word, word};

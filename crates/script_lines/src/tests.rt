@@ -1,4 +1,4 @@
-use crate::{Class, Form, form, in_range};
+use crate::{Class, Cut, Form, Lines, form, in_range};
 
 /// Lines, the form that each spells, and whether its numbers are in their ranges.
 #[test]
@@ -149,4 +149,22 @@ fn hex_words_are_read(rt: HostRuntime) {
     assert!(rt; window == Some(wanted));
     assert!(rt; form(b"window c 1000 0 8695250") == None);
     assert!(rt; form(b"window c 1000 7 0 8695250 0") == None);
+}
+
+/// A line is the same however its bytes are cut into pieces; of one of 602 bytes, 601 are held.
+#[test]
+fn pieces_make_the_lines_of_the_whole(rt: HostRuntime) {
+    let mut lines = Lines::new();
+    assert!(rt; lines.take(b"ab") == (2, Cut::More));
+    assert!(rt; lines.take(b"\nc") == (1, Cut::Line) && lines.line() == b"ab".as_slice());
+    assert!(rt; lines.take(b"c") == (1, Cut::More));
+    assert!(rt; lines.take(b"d") == (1, Cut::More));
+    assert!(rt; lines.finish() && lines.line() == b"cd".as_slice());
+    assert!(rt; !lines.finish());
+    assert!(rt; lines.take(b"ab\ncd") == (3, Cut::Line) && lines.line() == b"ab".as_slice());
+    assert!(rt; lines.take(b"\n") == (1, Cut::Line) && lines.line() == b"".as_slice());
+    for byte in [b'a'; 602] {
+        assert!(rt; lines.take(&[byte]) == (1, Cut::More));
+    }
+    assert!(rt; lines.finish() && lines.line() == [b'a'; 601].as_slice());
 }

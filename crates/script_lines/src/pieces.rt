@@ -1,0 +1,120 @@
+//! The lines of a stream that comes in pieces.
+
+ghost use Rattle.std.specs.Prelude.{◌≡◌, ◌≢◌, ◌<◌, ◌≤◌, ◌↔◌, ℕ, List, [], ◌++◌, length, take, Some, IsSome, IsTrue};
+ghost use Rattle.script_lines.specs.Pieces.{cut};
+ghost use Rattle.script_lines.specs.HeldLines.{LinesStand, used_of, open_in, GoesOn, Ends};
+
+use crate::lines::line_feed;
+use arrayvec::ArrayVec;
+use std::marker::Model;
+
+/// How many bytes of a line are held: one more than a line may have, so that one of more is still too long.
+const HELD: usize = 601;
+
+/// What a piece brought.
+#[derive(Clone, Copy, Debug, PartialEq, Eq)]
+pub enum Cut {
+    /// The piece is used up; the line is still open.
+    More,
+    /// A line has ended.
+    Line,
+}
+
+/// The open line of a stream, in fixed memory. Contracts see it, and the line that has just ended.
+#[derive(Drop)]
+pub struct Lines {
+    held: ArrayVec<u8, HELD>,
+    /// The bytes held are those of a line that has ended.
+    ended: bool,
+}
+
+impl Model for Lines {
+    ghost use Rattle.std.specs.Prelude.{◌≤◌, length};
+    ghost use Rattle.script_lines.specs.HeldLines.{HeldLines, held_as};
+
+    ghost Value = { HeldLines };
+
+    ghost view = { λ l. held_as l.held.items l.ended };
+
+    ghost invariant = { λ l. length l.held.items ≤ 601 };
+}
+
+impl Lines {
+    /// Before the first byte of a stream.
+    pub fn new() -> Self
+        ensures { LinesStand result [] }
+    {
+        Lines {
+            held: ArrayVec::new(),
+            ended: false,
+        }
+    }
+
+    /// Takes a piece of the stream, up to and with its first line feed, and says how many bytes that are, and whether a line
+    /// has ended, which is exactly where there was a line feed. What is left of the piece is for the next call.
+    pub fn take(&mut self, piece: &[u8]) -> (usize, Cut)
+        ensures used { result ≡ used_of piece.now }
+        ensures within { result.0 ≤ length piece.now }
+        ensures moves { 0 < length piece.now → 0 < result.0 }
+        ensures ended { result.1 ≡ Cut.Line → IsSome self.new.line }
+        // Whatever the stream was so far, the lines handed out are its lines, cut.
+        ensures lines { (stream : List ℕ) → LinesStand self.old stream → GoesOn self.old self.new (take result.0 piece.now) result.1 stream }
+    {
+        open(&mut self.held, self.ended);
+        match line_feed(piece) {
+            Some(end) => {
+                hold(&mut self.held, &piece[..end]);
+                self.ended = true;
+                (end + 1, Cut::Line)
+            }
+            None => {
+                hold(&mut self.held, piece);
+                self.ended = false;
+                (piece.len(), Cut::More)
+            }
+        }
+    }
+
+    /// The line that has just ended, without its line feed; of one of more than 600 bytes the first 601.
+    pub fn line(&self) -> &[u8]
+        requires { IsSome self.now.line }
+        ensures { self.now.line ≡ Some result.now }
+    {
+        self.held.as_slice()
+    }
+
+    /// The stream is at its end: whether its last line had no line feed; that is then the line that has just ended. What is
+    /// taken next is of a new stream.
+    pub fn finish(&mut self) -> bool
+        ensures held { IsTrue result ↔ (self.old.open_line ≢ []) }
+        ensures lines { (stream : List ℕ) → LinesStand self.old stream → Ends self.new stream result }
+        ensures ended { IsTrue result ↔ IsSome self.new.line }
+        ensures again { LinesStand self.new [] }
+    {
+        open(&mut self.held, self.ended);
+        self.ended = !self.held.is_empty();
+        self.ended
+    }
+}
+
+/// Lets go of a line that has ended.
+fn open(held: &mut ArrayVec<u8, HELD>, ended: bool)
+    requires { length held.old.items ≤ 601 }
+    ensures open { held.new.items ≡ open_in held.old.items ended }
+    ensures within { length held.new.items ≤ 601 }
+{
+    if ended {
+        held.clear();
+    }
+}
+
+/// Puts bytes behind those that are held, as many as there is room for.
+fn hold(held: &mut ArrayVec<u8, HELD>, bytes: &[u8])
+    requires { length held.old.items ≤ 601 }
+    ensures held { held.new.items ≡ cut (held.old.items ++ bytes.now) }
+    ensures within { length held.new.items ≤ 601 }
+{
+    let room = HELD - held.len();
+    let front = &bytes[..room.min(bytes.len())];
+    let _fits = held.try_extend_from_slice(front);
+}
