@@ -1,4 +1,5 @@
 pub mod SourceLines
 pub mod Stretches
 pub mod CutLines
+pub mod Heard
 pub mod WorkedLines

@@ -2,6 +2,7 @@ pub mod Limits
 pub mod Lines
 pub mod Pieces
 pub mod HeldLines
+pub mod Hearing
 pub mod Numbers
 pub mod Forms
 pub mod Ranges

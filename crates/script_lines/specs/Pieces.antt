@@ -1,5 +1,5 @@
 -- A stream so far: the lines that it has ended, and the one that is still open (this project's profile).
-use Rattle.std.specs.Prelude.{ℕ, ◌+◌, List, [], ◌∷◌, take}
+use Rattle.std.specs.Prelude.{ℕ, ◌+◌, List, [], ◌∷◌, take, map}
 use Rattle.std.specs.List.{slice_split}
 use Rattle.script_lines.specs.Limits.{max_line}
 use Rattle.script_lines.specs.Lines.{is_feed}
@@ -25,3 +25,6 @@ open_of stream = last (slice_split is_feed stream)
 -- a line as it is handed out: of one that is too long, one byte more than a line may have
 abbrev pub cut : List ℕ → List ℕ
 cut line = take (max_line + 1) line
+
+abbrev pub cut_lines : List (List ℕ) → List (List ℕ)
+cut_lines lines = map cut lines

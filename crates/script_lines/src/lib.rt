@@ -4,6 +4,7 @@
 #![tactic(auto)]
 
 mod forms;
+mod hearing;
 mod laws;
 mod lines;
 mod numbers;
@@ -15,6 +16,7 @@ mod tests;
 mod words;
 
 pub use forms::{Class, Form, Key};
+pub use hearing::{HearsLine, hear_last, hear_piece};
 pub use laws::worked_lines;
 pub use lines::first_line;
 pub use numbers::decimal;

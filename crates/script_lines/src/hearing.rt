@@ -1,0 +1,52 @@
+//! A consumer that hears the lines of a stream in pieces.
+
+ghost use Rattle.std.specs.Prelude.{◌≡◌, ◌<◌, ◌≤◌, List, ℕ, length, take};
+ghost use Rattle.script_lines.specs.Hearing.{HasHeard, Hears, HearsLines};
+
+use crate::pieces::{Cut, Lines};
+
+/// A consumer of lines, that goes on whatever it hears.
+pub trait HearsLine {
+    /// How it goes from one state to the next by a line.
+    ghost hears: { Self → List ℕ → Self → Type 0 };
+
+    /// Hears a line, without its line feed; of one of more than 600 bytes the first 601.
+    fn line(&mut self, line: &[u8])
+        ensures { hears self.old line.now self.new };
+}
+
+/// Hands out the lines that end in a piece.
+pub fn hear_piece<W: HearsLine>(lines: &mut Lines, piece: &[u8], hearer: &mut W)
+    ensures { Hears W.hears lines.old lines.new hearer.old hearer.new piece.now }
+{
+    let mut rest = piece;
+    while !rest.is_empty() {
+        let used = hear_next(lines, rest, hearer);
+        rest = rest.split_at(used).1;
+    }
+}
+
+/// Hands out the first line that ends in a piece, and says how many bytes of it are used.
+fn hear_next<W: HearsLine>(lines: &mut Lines, piece: &[u8], hearer: &mut W) -> usize
+    ensures heard { Hears W.hears lines.old lines.new hearer.old hearer.new (take result piece.now) }
+    ensures within { result ≤ length piece.now }
+    ensures moves { 0 < length piece.now → 0 < result }
+{
+    match lines.take(piece) {
+        (used, Cut::Line) => {
+            hearer.line(lines.line());
+            used
+        }
+        (used, Cut::More) => used,
+    }
+}
+
+/// The stream is at its end: hands out the last line, where it had no line feed.
+pub fn hear_last<W: HearsLine>(lines: &mut Lines, hearer: &mut W)
+    ensures { (first : W) (stream : List ℕ) → HasHeard W.hears first lines.old hearer.old stream
+        → HearsLines W.hears first hearer.new stream }
+{
+    if lines.finish() {
+        hearer.line(lines.line());
+    }
+}
