@@ -86,6 +86,7 @@ fn all_held(files: &MemFiles, what: Option<Asked>) -> bool
         None => true,
         Some(Asked::Script { image, script, .. }) => files.holds(image) && files.holds(script),
         Some(Asked::Payloads { file, .. }) => files.holds(file),
+        Some(Asked::Generate { .. }) => true,
     }
 }
 
