@@ -11,3 +11,5 @@ pub mod OneAnswer
 pub mod HeadlineAnswered
 pub mod RunHeadline
 pub mod ReplayAnswered
+pub mod HeardWorld
+pub mod ReadOn

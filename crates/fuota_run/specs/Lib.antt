@@ -6,6 +6,8 @@ pub mod Words
 pub mod Forms
 pub mod Answer
 pub mod Reply
+pub mod Hearing
+pub mod HeardWorld
 pub mod Replies
 pub mod Exit
 pub mod Headline

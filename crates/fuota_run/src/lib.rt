@@ -7,6 +7,7 @@
 #![tactic(auto)]
 
 mod files;
+mod hearing;
 mod laws;
 mod memory;
 mod output;

@@ -1,5 +1,5 @@
 // The whole program: words and files in, one text and a status out.
-ghost use Rattle.std.specs.Prelude.{◌≡◌, ◌≢◌, ◌↔◌, ◌⊎◌, ◌≤◌, ℕ, true, false, None, map, string_bytes, IfOk, IfSome};
+ghost use Rattle.std.specs.Prelude.{◌≡◌, ◌≢◌, ◌↔◌, ◌⊎◌, ◌≤◌, ℕ, true, false, List, None, map, string_bytes, IfOk, IfSome};
 ghost use Rattle.std.specs.Io.KnownBytes.{Appends};
 ghost use Rattle.fuota_run.specs.Outside.{HoldsName, HasRisen};
 ghost use Rattle.image_slots.specs.Image.{is_image};
@@ -11,17 +11,20 @@ ghost use Rattle.fuota_run.specs.Headline.{IsCampaignRun, IsRecoveryRun};
 ghost use Rattle.fuota_run.specs.Source.{IsTaken, IsTakenOf};
 ghost use Rattle.fuota_run.specs.Replies.{answer_in};
 ghost use Rattle.campaign_world.specs.Texts.{seen_text};
+ghost use Rattle.campaign_world.specs.World.{first_world};
+ghost use Rattle.campaign_world.specs.HeldWorld.{WorldStands};
 
 use crate::files::Files;
+use crate::hearing::{ScriptWorld, hear_source};
 use crate::output::write_text;
 use crate::reply::{Reply, reply_of, reply_with, say, unread};
 use crate::sink::Sink;
 use crate::source::read_source;
 use crate::status::Status;
-use crate::telling::{sum_up, tell_script};
+use crate::telling::{sum_up, tell_of};
 use crate::words::{Asked, FileForm, ScriptForm, read_words};
 use campaign_generator::generate;
-use campaign_world::LineError;
+use campaign_world::{LineError, World};
 use image_slots::is_image;
 use payload_replay::{decode, replay};
 use std::alloc::{AllocError, Global};
@@ -167,11 +170,33 @@ fn script<F: Files>(
     ensures taken { IfOk result (λ r. (taken : ℕ) → r.status ≡ Status.TooLong taken → IsTaken (F.held files.old) name.now taken (F.left files.new)) }
     ensures kept { F.faults files.old ≤ F.faults files.new }
 {
-    let script = match read_source(alloc, files, name, SCRIPT_LIMIT) {
-        Ok(script) => script,
-        Err(error) => return unread(alloc, error),
+    let mut heard = ScriptWorld {
+        world: World::new(alloc, image)?,
     };
-    reply_of(alloc, tell_script(alloc, what, image, &script))
+    hear_script(alloc, files, what, &mut heard, name)
+}
+
+/// The reply behind the script that a new campaign hears.
+fn hear_script<F: Files>(
+    alloc: Global,
+    files: &mut F,
+    what: ScriptForm,
+    heard: &mut ScriptWorld,
+    name: &str,
+) -> Result<Reply, AllocError>
+    requires script { HoldsName (F.held files.old) name.now }
+    requires fresh { heard.old.world.kept ≡ None }
+    ensures reply { (image : List ℕ) → WorldStands heard.old.world (first_world image)
+        → IfOk result (λ r. Says true (GivesScript (F.held files.old) what image name.now (answer_in r)) (F.faults files.old) (F.faults files.new) (F.left files.new) (answer_in r)) }
+    ensures usage { (image : List ℕ) → WorldStands heard.old.world (first_world image) → IfOk result (λ r. r.status ≢ Status.Usage) }
+    ensures taken { (image : List ℕ) → WorldStands heard.old.world (first_world image)
+        → IfOk result (λ r. (taken : ℕ) → r.status ≡ Status.TooLong taken → IsTaken (F.held files.old) name.now taken (F.left files.new)) }
+    ensures kept { F.faults files.old ≤ F.faults files.new }
+{
+    match hear_source(files, name, SCRIPT_LIMIT, heard) {
+        Ok(()) => reply_of(alloc, tell_of(alloc, what, &heard.world)),
+        Err(error) => unread(alloc, error),
+    }
 }
 
 /// The reply to a form with one file of payloads.

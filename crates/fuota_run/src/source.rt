@@ -8,7 +8,7 @@ use crate::files::Files;
 use std::alloc::{AllocError, Global};
 
 /// How many bytes are asked for at a time.
-const PIECE: usize = 4096;
+pub const PIECE: usize = 4096;
 
 /// Why a source was not read.
 #[derive(Clone, Copy, Debug, PartialEq, Eq)]

@@ -1,15 +1,17 @@
 //! What is told of a campaign: its report, the file that a device recovered, or its summary.
 
-ghost use Rattle.std.specs.Prelude.{◌≡◌, ◌++◌, true, None, Ok, IfOk, codes, string_bytes};
+ghost use Rattle.std.specs.Prelude.{◌≡◌, ◌++◌, true, None, Result, Ok, IfOk, codes, string_bytes};
 ghost use Rattle.std.specs.Fmt.{decimal};
 ghost use Rattle.image_slots.specs.Image.{is_image};
 ghost use Rattle.script_lines.specs.Lines.{lines_of};
+ghost use Rattle.campaign_world.specs.declared.faults.LineFault.{LineFault};
 ghost use Rattle.campaign_world.specs.Recovery.{recovery};
 ghost use Rattle.campaign_world.specs.World.{WorldState, first_world};
 ghost use Rattle.campaign_world.specs.HeldWorld.{WorldStands};
 ghost use Rattle.campaign_world.specs.Script.{read_lines, end_result, campaign_of};
 ghost use Rattle.fuota_run.specs.Answer.{no_file_word, recovered, told_of, summed_up};
 ghost use Rattle.fuota_run.specs.Reply.{IsPlayed};
+ghost use Rattle.fuota_run.specs.HeardWorld.{WorldIsIf};
 ghost use Rattle.fuota_run.specs.Replies.{seen_reply, IsBehind, IsRecovery};
 
 use crate::reply::Reply;
@@ -61,22 +63,6 @@ fn first_line_of(alloc: Global, seed: u32) -> Result<String, AllocError>
     format!(in alloc; "generate {seed}\n")
 }
 
-/// What is told of the campaign that image and script define.
-pub fn tell_script(
-    alloc: Global,
-    what: ScriptForm,
-    image: &[u8],
-    script: &[u8],
-) -> Result<Reply, LineError>
-    requires { is_image image.now ≡ true }
-    ensures { IsPlayed (told_of what) (campaign_of image.now script.now) (seen_reply result) }
-{
-    match play(alloc, image, script) {
-        Ok(world) => tell_of(alloc, what, &world),
-        Err(error) => Err(error),
-    }
-}
-
 /// The campaign behind all lines of a script.
 fn play(alloc: Global, image: &[u8], script: &[u8]) -> Result<World, LineError>
     requires { is_image image.now ≡ true }
@@ -96,10 +82,9 @@ fn play(alloc: Global, image: &[u8], script: &[u8]) -> Result<World, LineError>
     Ok(world)
 }
 
-/// What is told of a campaign whose script has ended.
-fn tell_of(alloc: Global, what: ScriptForm, world: &World) -> Result<Reply, LineError>
-    requires { world.now.kept ≡ None }
-    ensures { (w : WorldState) → WorldStands world.now w → IsPlayed (told_of what) (end_result (Ok w)) (seen_reply result) }
+/// What is told of a campaign behind the lines that it has heard.
+pub fn tell_of(alloc: Global, what: ScriptForm, world: &World) -> Result<Reply, LineError>
+    ensures { (so_far : Result WorldState LineFault) → WorldIsIf world.now so_far → IsPlayed (told_of what) (end_result so_far) (seen_reply result) }
 {
     match what {
         ScriptForm::Campaign => match world.report(alloc) {

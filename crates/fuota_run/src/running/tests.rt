@@ -5,6 +5,7 @@ ghost use Rattle.fuota_run.specs.Reply.{HoldsAsked};
 ghost use Rattle.fuota_run.specs.Words.{seen_asked};
 
 use super::*;
+use crate::files::{Failed, Files};
 use crate::memory::{MemFiles, MemSink};
 use crate::system::{StdFiles, StdSink};
 use std::process::Abort;
@@ -452,4 +453,64 @@ fn the_system_has_no_such_file(rt: HostRuntime) {
     let mut sink = StdSink::new(&rt);
     assert!(rt; sink.write(&[]) == Ok(0));
     assert!(rt; sink.finish().is_ok());
+}
+
+/// An image and a script that come in pieces of at most so many bytes.
+#[derive(Drop)]
+struct InPieces<'a> {
+    script: &'a [u8],
+    most: usize,
+    rest: &'a [u8],
+    chosen: bool,
+}
+
+impl<'a> Files for InPieces<'a> {
+    ghost use Rattle.std.specs.Prelude.{None};
+
+    ghost held = { λ f. None };
+
+    ghost left = { λ f. None };
+
+    ghost chosen = { λ f. f.chosen };
+
+    ghost faults = { λ f. 0 };
+
+    fn choose(&mut self, name: &str) -> Result<(), Failed> {
+        self.rest = if name == "image" { &IMAGE } else { self.script };
+        self.chosen = true;
+        Ok(())
+    }
+
+    fn read(&mut self, buf: &mut [u8]) -> Result<usize, Failed> {
+        let count = self.most.min(self.rest.len()).min(buf.len());
+        let (front, behind) = self.rest.split_at(count);
+        buf[..count].copy_from_slice(front);
+        self.rest = behind;
+        Ok(count)
+    }
+}
+
+/// The report is the same, whatever pieces the files come in.
+#[test]
+fn pieces_make_the_report_of_the_whole(rt: HostRuntime) -> Result<(), Fail> {
+    let mut words = Vec::new(rt.alloc());
+    for word in &WORDS {
+        words.push(format!(in rt.alloc(); "{word}")?)?;
+    }
+    let script = format!(in rt.alloc(); "{START}{EVENTS}")?;
+    for most in 1..41usize {
+        let mut files = InPieces {
+            script: script.as_bytes(),
+            most,
+            rest: &[],
+            chosen: false,
+        };
+        let mut sink = MemSink::reserve(rt.alloc(), 4096, Vec::new(rt.alloc()))?;
+        assert_eq!(rt;
+            run(rt.alloc(), &words, &mut files, &mut sink),
+            Status::Done
+        );
+        assert_eq!(rt; sink.bytes(), REPORT.as_bytes());
+    }
+    Ok(())
 }

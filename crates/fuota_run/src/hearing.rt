@@ -1,0 +1,106 @@
+//! A source heard line by line as it is read, in pieces.
+
+ghost use Rattle.std.specs.Prelude.{◌≡◌, ◌≢◌, ℕ, ◌+◌, ◌<◌, ◌≤◌, ◌^◌, true, List, length, Err, IfOk, OnOk, OnErr, IsErrOf};
+ghost use Rattle.std.specs.Io.KnownBytes.{IsAtEnd};
+ghost use Rattle.script_lines.specs.Hearing.{HearsLines};
+ghost use Rattle.fuota_run.specs.Outside.{HoldsName, HasRisen, IsReadSoFar};
+ghost use Rattle.fuota_run.specs.Source.{IsSource, IsTaken, IsTooLong};
+ghost use Rattle.fuota_run.specs.Hearing.{HearsOn};
+ghost use Rattle.fuota_run.specs.HeardWorld.{HearsScriptLine};
+
+use crate::files::{Failed, Files};
+use crate::source::{PIECE, SourceError};
+use campaign_world::World;
+use script_lines::{HearsLine, Lines, hear_last, hear_piece};
+
+/// A campaign that hears the lines of its script.
+#[derive(Drop)]
+pub struct ScriptWorld {
+    pub world: World,
+}
+
+impl HearsLine for ScriptWorld {
+    ghost use Rattle.fuota_run.specs.HeardWorld.{HearsScript};
+
+    ghost hears = { HearsScript };
+
+    fn line(&mut self, line: &[u8]) {
+        hear(&mut self.world, line);
+    }
+}
+
+/// Takes a line, and keeps what comes of it: behind a refused line no line does more.
+fn hear(world: &mut World, line: &[u8])
+    ensures { HearsScriptLine world.old line.now world.new }
+{
+    let _kept = world.line(line);
+}
+
+/// Reads a file to its end, or to one byte more than the limit, and hands out its lines.
+pub fn hear_source<F: Files, W: HearsLine>(
+    files: &mut F,
+    name: &str,
+    limit: u32,
+    hearer: &mut W,
+) -> Result<(), SourceError>
+    requires held { HoldsName (F.held files.old) name.now }
+    requires limit { limit + 1 < 2 ^ 32 }
+
+    ensures heard { OnOk result ((bytes : List ℕ) × IsSource (F.held files.old) name.now limit bytes × (length bytes ≤ limit) × HearsLines W.hears hearer.old hearer.new bytes) }
+    ensures end { OnOk result (IsAtEnd (F.left files.new)) }
+
+    ensures long { (taken : ℕ) → IsErrOf result (SourceError.TooLong taken) → IsTooLong (F.held files.old) name.now limit }
+    ensures taken { (taken : ℕ) → IsErrOf result (SourceError.TooLong taken) → taken ≡ limit + 1 }
+    ensures consumed { (taken : ℕ) → IsErrOf result (SourceError.TooLong taken) → IsTaken (F.held files.old) name.now taken (F.left files.new) }
+    ensures failed { IsErrOf result SourceError.Failed → HasRisen (F.faults files.old) (F.faults files.new) }
+    ensures no_memory { result ≢ Err SourceError.Memory }
+
+    ensures held { F.held files.new ≡ F.held files.old }
+    ensures kept { F.faults files.old ≤ F.faults files.new }
+{
+    if files.choose(name).is_err() {
+        return Err(SourceError::Failed);
+    }
+    let mut lines = Lines::new();
+    let mut piece = [0; PIECE];
+    let most = limit as usize + 1;
+    let mut taken = 0;
+    while taken < most {
+        let room = PIECE.min(most - taken);
+        match hear_some(files, &mut piece[..room], &mut lines, hearer) {
+            Err(_) => return Err(SourceError::Failed),
+            Ok(0) => {
+                hear_last(&mut lines, hearer);
+                return Ok(());
+            }
+            Ok(count) => taken += count,
+        }
+    }
+    Err(SourceError::TooLong(limit + 1))
+}
+
+/// Reads a piece, and hands out the lines that end in it.
+fn hear_some<F: Files, W: HearsLine>(
+    files: &mut F,
+    piece: &mut [u8],
+    lines: &mut Lines,
+    hearer: &mut W,
+) -> Result<usize, Failed>
+    requires room { 0 < length piece.old }
+    requires chosen { F.chosen files.old ≡ true }
+    ensures heard { IfOk result (λ n. HearsOn W.hears (F.left files.old) (F.left files.new) lines.old lines.new hearer.old hearer.new n) }
+    ensures within { IfOk result (λ n. n ≤ length piece.old) }
+    ensures end { IfOk result (λ n. n ≡ 0 → IsAtEnd (F.left files.new)) }
+    ensures failed { OnErr result (HasRisen (F.faults files.old) (F.faults files.new)) }
+    ensures chosen { F.chosen files.new ≡ true }
+    ensures held { F.held files.new ≡ F.held files.old }
+    ensures kept { F.faults files.old ≤ F.faults files.new }
+{
+    match files.read(piece) {
+        Err(failed) => Err(failed),
+        Ok(count) => {
+            hear_piece(lines, &piece[..count], hearer);
+            Ok(count)
+        }
+    }
+}
