@@ -26,3 +26,4 @@ pub mod LedgerSlots
 pub mod LedgerDevices
 pub mod LedgerServers
 pub mod Ledger
+pub mod Recovered

@@ -51,6 +51,7 @@ refused_so = record {
   no_window = refl;
   uplink = refl;
   time = refl;
+  time_stays = refl;
   limit = refl;
   size = refl;
   counts = refl;

@@ -81,6 +81,8 @@ pub record AreRefused : Type 0 where
       ≡ refused 4 why.Order
   pub uplink : told (one_device (codes "up 1\n")) ≡ refused 4 why.Unsent
   pub time : told (one_device (codes "at 5\nat 4\n")) ≡ refused 5 why.Time
+  -- a campaign begins at 0, and the time may stay
+  pub time_stays : told (one_device (codes "at 0\nat 4\nat 4\nat 3\n")) ≡ refused 7 why.Time
   pub limit : told (one_device (codes "frag\nfrag\nfrag\nfrag\nfrag\n")) ≡ refused 8 why.Limit
   pub size : told (codes "fuota 1\nimage 240 0\n") ≡ refused 2 why.Range
   -- the group's one frame count is used up

@@ -4,7 +4,7 @@ ghost use Rattle.campaign_world.specs.Headline.{Headline};
 ghost use Rattle.campaign_world.specs.Lives.{HasItsDevices, SessionsLive};
 ghost use Rattle.campaign_world.specs.Independence.{DevicesAreIndependent};
 ghost use Rattle.campaign_world.specs.Ledger.{TheLedgerIsTrue};
-ghost use Rattle.campaign_world.specs.Recovery.{RecoversTheImage};
+ghost use Rattle.campaign_world.specs.Recovery.{RecoversTheImage, RecoversItsOwn};
 ghost use Rattle.campaign_world.specs.WorkedCampaigns.{AreRefused, AreReported, AreWords};
 
 /// Whatever image and accepted script there are: the session of each device hears what the script brings, it is complete from the first
@@ -13,9 +13,10 @@ pub fn headline()
     ensures { Headline }
 {}
 
-/// Whatever image and accepted script there are, what a device recovered is the image.
+/// Whatever image and accepted script there are, what a device recovered is the image; and it is that device's own.
 pub fn recovers_the_image()
-    ensures { RecoversTheImage }
+    ensures image { RecoversTheImage }
+    ensures own { RecoversItsOwn }
 {}
 
 /// Every accepted script has its devices, and a stage for each.
