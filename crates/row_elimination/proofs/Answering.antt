@@ -150,7 +150,7 @@ takes_known_piece g new n k part q h none is le room places =
     let known = knows_sum g n k part q h none is le in
     let says = says_settled g.shape g.places g.places k (line_of g.shape.nb_frag n) part (says_same g.shape g.places (line_of g.shape.nb_frag n) part q h.held h.left none) known in
     let klt : k < length g.places = omega (arith, h.held.sized) in
-    takes old next n part h.held h.piece.sized room.shape room.area (subst (λ ps. Says g.shape g.places ps (line_of g.shape.nb_frag n) part) (sym places) says)
+    takes old next n part h.held h.piece.sized room.shape room.room (subst (λ ps. Says g.shape g.places ps (line_of g.shape.nb_frag n) part) (sym places) says)
     (marked_piece old next n k is (ap (λ ps. is_piece (get_or ps k free)) places ∙ set_here g.places k part klt)
     (λ c ne. ap (λ ps. is_piece (get_or ps c free)) places ∙ set_kind g.places k c part ne))
     (omega (arith, ap pieces_held places, settled_pieces g.shape g.places k part known, new_or_not old n k is le))
@@ -210,7 +210,7 @@ takes_new_piece g new n k p l part q h is le plt own room places =
     let says = says_settled g.shape g.places (grown p l q g.places) k line part (says_grown g.shape g.places line part p l q h.held h.left plt own) known in
     let klt : k < length (grown p l q g.places) = omega (arith, known.reduced.sized) in
     let kind = grown_kind g.shape.nb_frag g.shape.frag_size g.places p l q row_new in
-    takes old next n part h.held h.piece.sized room.shape room.area (subst (λ ps. Says g.shape g.places ps line part) (sym places) says)
+    takes old next n part h.held h.piece.sized room.shape room.room (subst (λ ps. Says g.shape g.places ps line part) (sym places) says)
     (marked_piece old next n k is (ap (λ ps. is_piece (get_or ps k free)) places ∙ set_here (grown p l q g.places) k part klt)
     (λ c ne. ap (λ ps. is_piece (get_or ps c free)) places ∙ set_kind (grown p l q g.places) k c part ne ∙ kind c))
     (omega (
@@ -309,7 +309,7 @@ completes g now new n part sized held t reduced full places room parts =
     record {
       takes = record {
         shape = room.shape ∙ t.shape;
-        area = room.area ∙ t.area;
+        area = room.room ∙ t.area;
         fits = λ x.
             let P : Shape → Type 0 = λ s. FitsHeld s new.places x ↔ IsLeft old n part x in
             let Q : List Place → Type 0 = λ ps. FitsHeld now.shape ps x ↔ IsLeft old n part x in
@@ -339,7 +339,7 @@ completes g now new n part sized held t reduced full places room parts =
 -- ---- as the code goes
 
 same_room : (a b c : Grid) → SameRoom a b → SameRoom b c → SameRoom a c
-same_room a b c h k = record { shape = k.shape ∙ h.shape; area = k.area ∙ h.area }
+same_room a b c h k = record { shape = k.shape ∙ h.shape; area = k.area ∙ h.area; room = k.room ∙ h.room }
 
 -- what decides after a fragment was taken in
 pub decided : (answer : Fed) (g now new : Grid) (n : ℕ) (part : List ℕ) → length part ≡ g.shape.frag_size → IsReduced g.shape.nb_frag g.shape.frag_size g.places → 1 ≤ g.shape.frag_size
@@ -377,6 +377,7 @@ pub room_grown : (g now : Grid) (ps : List Place) → now ≡ record g { places 
 room_grown g now ps e = record {
   shape = ap (λ (x : Grid). x.shape) e;
   area = ap (λ (x : Grid). length x.area) e;
+  room = ap (λ (x : Grid). x.room) e;
 }
 
 pub conflict_is : (g : Grid) (n i : ℕ) (part q : List ℕ) (l : ℕ) → l ≡ 0 → IsReady g n part l q → get_or q i 0 ≢ 0 → FedAs fed.Conflict (held_of stage.Receiving g) (held_of (stage_after fed.Conflict) g) n part

@@ -37,7 +37,6 @@ grid_next nb size rows count count' gained gained' columns columns' spare spare'
   columns_sized = c ∙ h.columns_sized;
   spare_sized = s ∙ h.spare_sized;
   known_sized = k ∙ h.known_sized;
-  area_sized = omega (arith, h.area_sized);
   room_area = omega (arith, h.room_area);
   arena_cols = shape.cols ∙ h.arena_cols;
   arena_cell = shape.cell ∙ h.arena_cell;
@@ -239,15 +238,16 @@ pub column_read : (columns : List Column) (nb k : ℕ) (x : Column) → k < nb �
 column_read columns nb k x lt le is = get_or-take nb columns k Free lt ∙ any_default columns k Free x (omega arith) ∙ sym is
 
 -- what is held of a column, by what is kept of it
-pub place_read : (nb size rows count gained k : ℕ) (columns : List Column) (spare known area : List ℕ) (arena : Arena) (g : Grid) (x kept : Column)
+pub place_read : (nb size rows count gained room k : ℕ) (columns : List Column) (spare known area : List ℕ) (arena : Arena) (g : Grid) (x kept : Column)
     → IsGrid nb size rows count gained columns spare known area arena
     → record {
       shape = record { nb_frag = nb; frag_size = size; rows = rows };
       places = places_in size area arena (take nb columns);
       area = area;
+      room = room;
     } ≡ g
     → k < g.shape.nb_frag → x ≡ get_or columns k x → x ≡ kept → get_or g.places k free ≡ place_in size area arena k kept
-place_read nb size rows count gained k columns spare known area arena g x kept h view lt is at =
+place_read nb size rows count gained room k columns spare known area arena g x kept h view lt is at =
     let inside : k < nb = subst (λ (y : Grid). k < y.shape.nb_frag) (sym view) lt in
     ap (λ (y : Grid). get_or y.places k free) (sym view) ∙ at_places size area arena k (take nb columns)
     ∙ ap (place_in size area arena k) (column_read columns nb k x inside (omega (arith, h.most, h.columns_sized)) is ∙ at)
@@ -415,10 +415,10 @@ pub begun_places : (nb size : ℕ) (columns : List Column) (area : List ℕ) (ar
 begun_places nb size columns area arena le none = none_placed nb size area arena (take nb columns) (length-take-le nb columns le) (none_there nb columns le none)
 
 pub begun : (nb size rows : ℕ) (columns : List Column) (spare known area : List ℕ) (arena : Arena) → nb ≤ 1024 → rows ≤ nb → length columns ≡ 1024 → length spare ≡ 1024 → length known ≡ 16
-    → length area < 2 ^ 32 → nb * size ≤ length area → arena ≡ record { cols = nb; cell = size; rows = replicate rows (zero_row size) }
+    → nb * size ≤ length area → arena ≡ record { cols = nb; cell = size; rows = replicate rows (zero_row size) }
     → ((c : ℕ) → get_or columns c Free ≡ Free) → ((i : ℕ) → i < length spare → get_or spare i 0 ≡ i) → line_in known ≡ 0
     → IsGrid nb size rows 0 0 columns spare known area arena
-begun nb size rows columns spare known area arena most few c s k small a shaped none each unmarked =
+begun nb size rows columns spare known area arena most few c s k a shaped none each unmarked =
     let os : List Column = take nb columns in
     let le : nb ≤ length columns = omega arith in
     let is : places_in size area arena os ≡ replicate nb free = begun_places nb size columns area arena le none in
@@ -428,7 +428,6 @@ begun nb size rows columns spare known area arena most few c s k small a shaped 
       columns_sized = c;
       spare_sized = s;
       known_sized = k;
-      area_sized = small;
       room_area = a;
       arena_cols = ap (λ (x : Arena). x.cols) shaped;
       arena_cell = ap (λ (x : Arena). x.cell) shaped;
@@ -442,10 +441,10 @@ begun nb size rows columns spare known area arena most few c s k small a shaped 
     }
 
 -- a table for no file
-pub no_file : (columns : List Column) (spare known area : List ℕ) (arena : Arena) → length columns ≡ 1024 → length spare ≡ 1024 → length known ≡ 16 → length area < 2 ^ 32
+pub no_file : (columns : List Column) (spare known area : List ℕ) (arena : Arena) → length columns ≡ 1024 → length spare ≡ 1024 → length known ≡ 16
     → arena ≡ record { cols = 0; cell = 0; rows = replicate 0 (zero_row 0) } → IsGrid 0 0 0 0 0 columns spare known area arena
 unfolding words_for line_in
-no_file columns spare known area arena c s k small shaped =
+no_file columns spare known area arena c s k shaped =
     let none : (i : ℕ) → get_or {A = Column} [] i Free ≡ Free = λ i. get_or_past [] i Free (omega arith) in
     let is : places_in 0 area arena [] ≡ replicate 0 free = none_placed 0 0 area arena [] refl none in
     record {
@@ -454,7 +453,6 @@ no_file columns spare known area arena c s k small shaped =
       columns_sized = c;
       spare_sized = s;
       known_sized = k;
-      area_sized = small;
       room_area = omega arith;
       arena_cols = ap (λ (x : Arena). x.cols) shaped;
       arena_cell = ap (λ (x : Arena). x.cell) shaped;

@@ -79,7 +79,6 @@ still_solver g new answer line line' picks picks' part part' h room l k p more =
       part_sized = p ∙ h.part_sized;
       most = omega (arith, nb, h.most);
       small = omega (arith, size, h.small);
-      area_sized = omega (arith, room.area, h.area_sized);
       some = λ e. omega (arith, size, h.some refl);
       more = λ e. more (receiving_only answer e);
     }

@@ -1,5 +1,5 @@
 -- The table as a value, and what its fields keep true.
-use Rattle.std.specs.Prelude.{◌≡◌, ℕ, ◌*◌, ◌<◌, ◌≤◌, ◌^◌, List, length, take}
+use Rattle.std.specs.Prelude.{◌≡◌, ℕ, ◌*◌, ◌≤◌, List, length, take}
 use Rattle.frag_model.specs.Fragments.{Shape}
 use Rattle.frag_model.specs.Limits.{max_pieces}
 use Rattle.row_arena.specs.Limits.{max_bytes, max_words}
@@ -13,11 +13,12 @@ use Rattle.row_elimination.specs.Storage.{places_in, Slots}
 abbrev pub max_line_words : ℕ
 max_line_words = 16
 
--- what is held, and the bytes of the area
+-- what is held, the bytes of the area that were written so far, and how many it has room for
 pub record Grid : Type 0 where
   pub shape : Shape
   pub places : List Place
   pub area : List ℕ
+  pub room : ℕ
 
 -- the fields of a table
 pub record IsGrid (nb_frag size rows count gained : ℕ) (columns : List Column) (spare known area : List ℕ) (arena : Arena) : Type 0 where
@@ -26,7 +27,6 @@ pub record IsGrid (nb_frag size rows count gained : ℕ) (columns : List Column)
   pub columns_sized : length columns ≡ max_pieces
   pub spare_sized : length spare ≡ max_pieces
   pub known_sized : length known ≡ max_line_words
-  pub area_sized : length area < 2 ^ 32
   pub room_area : nb_frag * size ≤ length area
   pub arena_cols : arena.cols ≡ nb_frag
   pub arena_cell : arena.cell ≡ size
@@ -37,13 +37,17 @@ pub record IsGrid (nb_frag size rows count gained : ℕ) (columns : List Column)
   pub counted : count ≡ rows_held (places_in size area arena (take nb_frag columns))
   pub gained_all : gained ≡ gained_held (places_in size area arena (take nb_frag columns))
 
--- the same, of a table whose rows have so many words and bytes in all
-pub record IsTable (words bytes nb_frag size rows count gained : ℕ) (columns : List Column) (spare known area : List ℕ) (arena : Arena) : Type 0 where
+-- the same, of a table whose rows have so many words and bytes in all, and whose area room for so many bytes in memory for
+-- `capacity`
+pub record IsTable (words bytes nb_frag size rows count gained room capacity : ℕ) (columns : List Column) (spare known area : List ℕ) (arena : Arena) : Type 0 where
   pub words_few : words ≤ max_words
   pub bytes_few : bytes ≤ max_bytes
+  pub area_fits : length area ≤ room
+  pub room_held : room ≤ capacity
   pub grid : IsGrid nb_frag size rows count gained columns spare known area arena
 
 -- the storage itself stays
 pub record SameRoom (old new : Grid) : Type 0 where
   pub shape : new.shape ≡ old.shape
   pub area : length new.area ≡ length old.area
+  pub room : new.room ≡ old.room

@@ -1,5 +1,5 @@
 -- What a solver keeps true.
-use Rattle.std.specs.Prelude.{◌≡◌, ℕ, ◌^◌, ◌<◌, ◌≤◌, List, length}
+use Rattle.std.specs.Prelude.{◌≡◌, ℕ, ◌<◌, ◌≤◌, List, length}
 use Rattle.row_elimination.specs.declared.stages.Stage.{Stage}
 use Rattle.row_elimination.specs.declared.stages.Stage.TheVariants as stage
 use Rattle.row_elimination.specs.Places.{gained_held}
@@ -13,6 +13,5 @@ pub record IsSolver (g : Grid) (at : Stage) (line picks part : List ℕ) : Type 
   pub part_sized : length part ≡ max_frag_size
   pub most : g.shape.nb_frag ≤ max_pieces
   pub small : g.shape.frag_size ≤ max_frag_size
-  pub area_sized : length g.area < 2 ^ 32
   pub some : at ≡ stage.Receiving → 1 ≤ g.shape.frag_size
   pub more : at ≡ stage.Receiving → gained_held g.places < g.shape.nb_frag

@@ -1,5 +1,5 @@
 -- What taking a fragment in asks, and what each answer means.
-use Rattle.std.specs.Prelude.{◌≡◌, ℕ, ◌*◌, ◌<◌, ◌≤◌, List, length, get_or, take}
+use Rattle.std.specs.Prelude.{◌≡◌, ℕ, ◌*◌, ◌<◌, ◌≤◌, List, get_or, take}
 use Rattle.frag_model.specs.Fragments.{Equation, IsPiece, line_of}
 use Rattle.row_elimination.specs.declared.stages.Stage.{Stage}
 use Rattle.row_elimination.specs.declared.stages.Stage.TheVariants as stage
@@ -19,7 +19,7 @@ held_of at g = record {
   places = g.places;
   stage = at;
   content = take (g.shape.nb_frag * g.shape.frag_size) g.area;
-  area = length g.area;
+  area = g.room;
 }
 
 -- a table that receives, and a fragment of it that was reduced

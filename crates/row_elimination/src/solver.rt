@@ -83,7 +83,7 @@ impl<const W: usize, const B: usize> Solver<W, B> {
         requires few { rows ≤ nb_frag }
         ensures { result ≡ has_room W B self.now.area nb_frag frag_size rows }
     {
-        let area = self.table.area();
+        let area = self.table.room();
         has_room(W, B, area, nb_frag, frag_size, rows)
     }
 

@@ -1,6 +1,6 @@
 //! The table of all that is held: pieces in their area, and the rows in slots.
 
-ghost use Rattle.std.specs.Prelude.{◌≡◌, ◌≢◌, ℕ, ◌+◌, ◌-◌, ◌*◌, ◌<◌, ◌≤◌, ◌==◌, length, get_or, set, replicate, take, true, false, IfOk, bit_xor, ◌^◌, MatchOption, nat_le};
+ghost use Rattle.std.specs.Prelude.{◌≡◌, ◌≢◌, ℕ, ◌+◌, ◌-◌, ◌*◌, ◌<◌, ◌≤◌, ◌==◌, length, get_or, set, replicate, take, true, false, IfOk, bit_xor, ◌^◌, MatchOption, nat_le, vec_capacity};
 ghost use Rattle.frag_model.specs.Fragments.{Equation, IsPiece};
 ghost use Rattle.row_arena.specs.Limits.{max_bytes, max_words};
 ghost use Rattle.row_arena.specs.Rows.{has_room, line_in, words_for};
@@ -37,12 +37,14 @@ pub struct Table<const W: usize, const B: usize> {
     columns: Vec<Column>,
     spare: Vec<u16>,
     known: Vec<u64>,
+    /// The bytes of the pieces, as many as any file needed so far; its memory is for `room` bytes.
     area: Vec<u8>,
+    room: u32,
     arena: Box<RowArena<W, B>>,
 }
 
 impl<const W: usize, const B: usize> Model for Table<W, B> {
-    ghost use Rattle.std.specs.Prelude.{take};
+    ghost use Rattle.std.specs.Prelude.{take, vec_capacity};
     ghost use Rattle.row_elimination.specs.Grid.{Grid, IsTable};
     ghost use Rattle.row_elimination.specs.Storage.{places_in};
 
@@ -52,17 +54,18 @@ impl<const W: usize, const B: usize> Model for Table<W, B> {
       shape = record { nb_frag = t.nb_frag; frag_size = t.frag_size; rows = t.rows };
       places = places_in t.frag_size t.area.items t.arena.value (take t.nb_frag t.columns.items);
       area = t.area.items;
+      room = t.room;
     } };
 
-    ghost invariant = { λ t. IsTable W B t.nb_frag t.frag_size t.rows t.count t.gained t.columns.items t.spare.items t.known.items t.area.items t.arena.value };
+    ghost invariant = { λ t. IsTable W B t.nb_frag t.frag_size t.rows t.count t.gained t.room (vec_capacity t.area) t.columns.items t.spare.items t.known.items t.area.items t.arena.value };
 }
 
 impl<const W: usize, const B: usize> Table<W, B> {
-    /// A table for no file yet, with an area of so many bytes.
+    /// A table for no file yet, with memory for an area of so many bytes.
     pub fn new(alloc: Global, area: u32) -> Result<Table<W, B>, AllocError>
         requires words { W ≤ max_words }
         requires bytes { B ≤ max_bytes }
-        ensures area { IfOk result (λ table. length table.area ≡ area) }
+        ensures room { IfOk result (λ table. table.room ≡ area) }
         ensures shape { IfOk result (λ table. table.shape ≡ record { nb_frag = 0; frag_size = 0; rows = 0 }) }
     {
         Ok(Table {
@@ -74,16 +77,17 @@ impl<const W: usize, const B: usize> Table<W, B> {
             columns: vec![in alloc; Column::Free; MAX_PIECES]?,
             spare: vec![in alloc; 0; MAX_PIECES]?,
             known: vec![in alloc; 0; LINE_WORDS]?,
-            area: vec![in alloc; 0; area as usize]?,
+            area: Vec::with_capacity(alloc, area as usize)?,
+            room: area,
             arena: Box::new(alloc, RowArena::new())?,
         })
     }
 
-    /// How many bytes the area has.
-    pub fn area(&self) -> usize
-        ensures { result ≡ length self.now.area }
+    /// How many bytes the area has room for.
+    pub fn room(&self) -> usize
+        ensures { result ≡ self.now.room }
     {
-        self.area.len()
+        self.room as usize
     }
 
     /// How many pieces the file has.
@@ -116,7 +120,8 @@ impl<const W: usize, const B: usize> Table<W, B> {
 
     /// The bytes of the file's pieces in the area.
     pub fn content(&self) -> &[u8]
-        ensures { result.now ≡ take (self.now.shape.nb_frag * self.now.shape.frag_size) self.now.area }
+        ensures bytes { result.now ≡ take (self.now.shape.nb_frag * self.now.shape.frag_size) self.now.area }
+        ensures within { length result.now ≤ self.now.room }
     {
         &self.area[..self.nb_frag as usize * self.frag_size as usize]
     }
@@ -269,10 +274,13 @@ impl<const W: usize, const B: usize> Table<W, B> {
     pub fn begin(&mut self, nb_frag: u16, frag_size: u8, rows: u16)
         requires most { nb_frag ≤ max_pieces }
         requires few { rows ≤ nb_frag }
-        requires area { nb_frag * frag_size ≤ length self.old.area }
+        requires area { nb_frag * frag_size ≤ self.old.room }
         requires room { has_room W B rows nb_frag frag_size ≡ true }
-        ensures { self.new ≡ record self.old { shape = record { nb_frag = nb_frag; frag_size = frag_size; rows = rows }; places = replicate nb_frag free } }
+        ensures shape { self.new.shape ≡ record { nb_frag = nb_frag; frag_size = frag_size; rows = rows } }
+        ensures places { self.new.places ≡ replicate nb_frag free }
+        ensures room { self.new.room ≡ self.old.room }
     {
+        widen(&mut self.area, nb_frag as usize * frag_size as usize);
         free_all(&mut self.columns);
         count_up(&mut self.spare);
         clear_bits(&mut self.known);
@@ -282,6 +290,18 @@ impl<const W: usize, const B: usize> Table<W, B> {
         self.rows = rows;
         self.count = 0;
         self.gained = 0;
+    }
+}
+
+/// Has so many bytes at least; there is memory for them. New ones are zero.
+fn widen(area: &mut Vec<u8>, bytes: usize)
+    requires { bytes ≤ vec_capacity area.old }
+    ensures enough { bytes ≤ length area.new.items }
+    ensures most { (n : ℕ) → bytes ≤ n → length area.old.items ≤ n → length area.new.items ≤ n }
+    ensures capacity { vec_capacity area.old ≤ vec_capacity area.new }
+{
+    if area.len() < bytes && area.resize(bytes, 0).is_err() {
+        unreachable!();
     }
 }
 

@@ -9,7 +9,6 @@ invariant_of-result g c = record {
   part_sized = omega (arith, c.in-Ok-vec-3.part.ok.0, c.in-Ok-vec-3.ensures.len);
   most = omega (arith, ap (λ (s : Shape). s.nb_frag) c.in-Ok.ensures.shape);
   small = omega (arith, ap (λ (s : Shape). s.frag_size) c.in-Ok.ensures.shape);
-  area_sized = omega (arith, c.in-Ok.ensures.area, c.ranges.area.fits);
   some = λ e. cc;
   more = λ e. cc;
 }

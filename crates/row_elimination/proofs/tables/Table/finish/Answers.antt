@@ -1,4 +1,4 @@
-use Rattle.std.proofs.Common.{◌≡◌, ℕ, length, take, ap, subst, ◌∙◌}
+use Rattle.std.proofs.Common.{◌≡◌, ℕ, length, take, ap, subst, ◌∙◌, arith}
 use Rattle.frag_model.specs.Fragments.{Equation}
 use Rattle.row_arena.specs.Rows.{Arena}
 use Rattle.row_elimination.specs.Storage.{chunk}
@@ -14,6 +14,8 @@ invariant_of-self g c =
     (record {
       words_few = c.self.invariant.words_few;
       bytes_few = c.self.invariant.bytes_few;
+      area_fits = omega (arith, c.put_parts.auto.area, ap length c.deref_mut.ensures.value, c.self.invariant.area_fits);
+      room_held = c.self.invariant.room_held;
       grid = finished s.nb_frag s.frag_size s.rows s.count s.gained s.columns.items s.spare.items s.known.items s.area.items
           c.put_parts.new.area s.arena.value c.self.invariant.grid (c.put_parts.auto.area ∙ ap length c.deref_mut.ensures.value)
           (wrote_parts s.nb_frag s.frag_size c.deref-2.result.now.cell s.columns.items c.deref.result.now s.area.items c.deref_mut.result.now c.put_parts.new.area s.arena.value c.deref-2.result.now

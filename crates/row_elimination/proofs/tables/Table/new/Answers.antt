@@ -1,4 +1,4 @@
-use Rattle.std.proofs.Common.{◌∙◌, arith}
+use Rattle.std.proofs.Common.{length, ap, ◌∙◌, arith}
 use Rattle.row_elimination.proofs.Gridding.{no_file}
 use Rattle.row_elimination.proofs.tables.Table.new.Goals as goal
 
@@ -6,10 +6,11 @@ pub invariant_of-result : goal.invariant_of-result
 invariant_of-result g c = record {
   words_few = c.requires.words;
   bytes_few = c.requires.bytes;
-  grid = no_file c.in_ok-vec.field-0.items c.in_ok-vec-2.field-0.items c.in_ok-vec-3.field-0.items c.in_ok-vec-4.field-0.items c.in_ok-new.field-0.value
+  area_fits = omega (arith, ap length c.in_ok-with_capacity.ensures.items);
+  room_held = omega (arith, c.in_ok-with_capacity.ensures.capacity);
+  grid = no_file c.in_ok-vec.field-0.items c.in_ok-vec-2.field-0.items c.in_ok-vec-3.field-0.items c.in_ok-with_capacity.field-0.items c.in_ok-new.field-0.value
       (omega (arith, c.in_ok-vec.field-0.ok.0, c.in_ok-vec.ensures.len))
       (omega (arith, c.in_ok-vec-2.field-0.ok.0, c.in_ok-vec-2.ensures.len))
       (omega (arith, c.in_ok-vec-3.field-0.ok.0, c.in_ok-vec-3.ensures.len))
-      (omega (arith, c.in_ok-vec-4.field-0.ok.0, c.in_ok-vec-4.ensures.len, c.ranges.area.fits))
       (c.in_ok-new.ensures.ok ∙ c.new.ensures);
 }

@@ -56,6 +56,8 @@ invariant_of-self g c =
     (record {
       words_few = c.self.invariant.words_few;
       bytes_few = c.self.invariant.bytes_few;
+      area_fits = omega (arith, c.add_piece.auto.area, ap length c.deref_mut-2.ensures.value, c.self.invariant.area_fits);
+      room_held = c.self.invariant.room_held;
       grid = put_in nb size c.self.inside.rows c.self.inside.count c.self.inside.gained c.args.k columns c.add_piece.new.columns c.self.inside.spare.items known c.mark.new.known
           area c.add_piece.new.area arena part c.self.invariant.grid lt sized fresh none
           (c.add_piece.auto.columns ∙ ap length c.deref_mut.ensures.value) (c.mark.auto.known ∙ ap length c.deref_mut-3.ensures.value) (c.add_piece.auto.area ∙ ap length c.deref_mut-2.ensures.value)
