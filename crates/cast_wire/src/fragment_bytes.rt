@@ -37,6 +37,7 @@ impl FragmentBytes {
     }
 
     /// A fragment of these bytes.
+    #[inline(always)]
     pub fn from_slice(bytes: &[u8]) -> Self
         requires { length bytes.now ≤ max_fragment }
         ensures { result ≡ bytes.now }

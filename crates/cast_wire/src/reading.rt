@@ -9,6 +9,7 @@ use crate::reading_groups::{read_group_down, read_group_up};
 use wire_base::{Direction, MAX_PAYLOAD, Refusal};
 
 /// The command at a place of a payload, and the place behind it.
+#[inline(always)]
 pub fn read_one(port: u8, dir: Direction, bytes: &[u8], at: u16) -> Result<(Cmd, u16), Refusal>
     requires { at < length bytes.now }
     // What is answered is spelled there.

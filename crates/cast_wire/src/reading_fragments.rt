@@ -14,6 +14,7 @@ use crate::ids::{
 };
 use wire_base::{Direction, Refusal, u8_at, u16_at, u32_at};
 
+#[inline(always)]
 #[tactic(auto, using(crate::proofs::Known::known), unfolding(crate::specs::Reading::fragment_down))]
 pub fn read_fragment_down(bytes: &[u8], at: u16) -> Result<(Cmd, u16), Refusal>
     requires inside { at < length bytes.now }
@@ -79,6 +80,7 @@ pub fn read_fragment_down(bytes: &[u8], at: u16) -> Result<(Cmd, u16), Refusal>
     }
 }
 
+#[inline(always)]
 #[tactic(auto, using(crate::proofs::Known::known), unfolding(crate::specs::Reading::fragment_up))]
 pub fn read_fragment_up(bytes: &[u8], at: u16) -> Result<(Cmd, u16), Refusal>
     requires inside { at < length bytes.now }

@@ -67,6 +67,7 @@ impl<'a> Message<'a> {
     }
 
     /// The next command; None exactly where none is left.
+    #[inline(always)]
     pub fn next(&mut self) -> Option<Command>
         ensures takes { TakesCommand self.old self.new result }
         ensures valid { IfSome result (λ c. IsValid c) }

@@ -10,6 +10,7 @@ use wire_base::{Direction, MAX_PAYLOAD, Refusal};
 
 /// The command at a place of a payload, and the place behind it; reserved bits are ignored.
 /// Else the first cause: `Port` at 0, `TooLong` at 242, `UnknownCommand` at the place, `Short` at the payload's end.
+#[inline(always)]
 pub fn read_one(port: u8, dir: Direction, bytes: &[u8], at: u16) -> Result<(Cmd, u16), Refusal>
     requires { at < length bytes.now }
     // What is answered is spelled there.
