@@ -101,14 +101,6 @@ impl SessionSlots {
             → result ≡ status_of (session_at table index) via all }
         ensures few { IfSome result (λ a. a.received ≤ 16383) }
     {
-        within(self.told(index, via, all))
-    }
-
-    fn told(&self, index: u8, via: Via, all: bool) -> Option<StatusAns>
-        requires { index < 4 }
-        ensures { (table : SessionTable) → SessionsStand self.now table
-            → result ≡ status_of (session_at table index) via all }
-    {
         match index {
             0 => self.first.status(via, all),
             1 => self.second.status(via, all),
@@ -146,17 +138,6 @@ impl SessionSlots {
             2 => self.third.view(),
             _ => self.fourth.view(),
         }
-    }
-}
-
-/// A status whose count is within its 14 bits, as that of each session is.
-fn within(status: Option<StatusAns>) -> Option<StatusAns>
-    ensures same { IfSome status (λ a. a.received ≤ 16383) → result ≡ status }
-    ensures few { IfSome result (λ a. a.received ≤ 16383) }
-{
-    match status {
-        Some(answer) if answer.received <= 16_383 => status,
-        _ => None,
     }
 }
 

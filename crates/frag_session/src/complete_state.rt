@@ -89,6 +89,7 @@ impl<const W: usize, const B: usize> Complete<W, B> {
     pub(crate) fn view(&self) -> View<'_>
         ensures value { seen result ≡ done_seen self.now }
         ensures within { length result.file.now ≤ self.now.solver.area }
+        ensures few { result.received ≤ max_received }
     {
         let block = self.solver.block();
         View {

@@ -88,6 +88,7 @@ impl<const W: usize, const B: usize> Overflowed<W, B> {
     pub(crate) fn view(&self) -> View<'_>
         ensures value { seen result ≡ overflowed_seen self.now }
         ensures within { length result.file.now ≤ self.now.solver.area }
+        ensures few { result.received ≤ max_received }
     {
         View {
             received: self.received,

@@ -8,6 +8,7 @@ ghost use Rattle.frag_session.specs.Stands.{Holds, IsOpen, Stands};
 ghost use Rattle.frag_session.specs.Steps.{area_of, become};
 ghost use Rattle.frag_session.specs.Shows.{receiving_seen, seen};
 ghost use Rattle.frag_model.specs.Limits.{max_parity_index};
+ghost use Rattle.frag_session.specs.Limits.{max_received};
 
 use crate::answers::{Verdict, View};
 use crate::complete_state::Complete;
@@ -118,6 +119,7 @@ impl<const W: usize, const B: usize> Receiving<W, B> {
     pub(crate) fn view(&self) -> View<'_>
         ensures value { seen result ≡ receiving_seen self.now }
         ensures within { length result.file.now ≤ self.now.solver.area }
+        ensures few { result.received ≤ max_received }
     {
         View {
             received: self.received,

@@ -7,6 +7,7 @@ ghost use Rattle.frag_session.specs.Held.{idle};
 ghost use Rattle.frag_session.specs.Steps.{area_of, session_setup, slot_cause, kept, become, CanHear, slot_seen};
 ghost use Rattle.frag_session.specs.Shows.{seen};
 ghost use Rattle.frag_session.specs.Stands.{Stands};
+ghost use Rattle.frag_session.specs.Limits.{max_received};
 
 use crate::answers::{Cause, Heard, StatusAns, Verdict, Via, View};
 use crate::complete_state::Complete;
@@ -102,6 +103,7 @@ impl<const W: usize, const B: usize> Slot<W, B> {
     pub fn view(&self) -> Option<View<'_>>
         ensures value { (s : Option Session) → Stands self.now s → option_map seen result ≡ view_of s }
         ensures within { IfSome result (λ v. length v.file.now ≤ area_of self.now) }
+        ensures few { IfSome result (λ v. v.received ≤ max_received) }
     {
         self.shown()
     }
@@ -109,7 +111,8 @@ impl<const W: usize, const B: usize> Slot<W, B> {
     /// The answer to FragSessionStatusReq (TS004-1.0.0; `all` is its Participants bit); None where there is no session, it
     /// came by a group that the session's mask does not have, or it does not ask `all` and no piece is missing.
     pub fn status(&self, via: Via, all: bool) -> Option<StatusAns>
-        ensures { (s : Option Session) → Stands self.now s → result ≡ status_of s via all }
+        ensures answer { (s : Option Session) → Stands self.now s → result ≡ status_of s via all }
+        ensures few { IfSome result (λ a. a.received ≤ max_received) }
     {
         match self.shown() {
             None => None,
@@ -167,6 +170,7 @@ impl<const W: usize, const B: usize> Slot<W, B> {
     fn shown(&self) -> Option<View<'_>>
         ensures value { option_map seen result ≡ slot_seen self.now }
         ensures within { IfSome result (λ v. length v.file.now ≤ area_of self.now) }
+        ensures few { IfSome result (λ v. v.received ≤ max_received) }
     {
         match &self.state {
             Some(State::Receiving(receiving)) => Some(receiving.view()),
@@ -327,7 +331,8 @@ fn state_of<const W: usize, const B: usize>(next: Next<W, B>) -> State<W, B>
 /// The answer of a session with this setup, of which this is seen.
 #[tactic(auto, unfolding(crate::specs::Session::status_in, crate::specs::Shows::seen))]
 fn status_in(setup: SetupReq, view: &View, via: Via, all: bool) -> Option<StatusAns>
-    ensures { result ≡ status_in setup (seen view.now) via all }
+    ensures answer { result ≡ status_in setup (seen view.now) via all }
+    ensures received { IfSome result (λ a. a.received ≡ view.now.received) }
 {
     if excludes(setup.mask, via) || !all && view.missing == 0 {
         return None;
@@ -338,7 +343,8 @@ fn status_in(setup: SetupReq, view: &View, via: Via, all: bool) -> Option<Status
 /// The status of what is seen.
 #[tactic(auto, unfolding(crate::specs::Session::status_by, crate::specs::Shows::seen))]
 fn status(view: &View, delay: u8) -> StatusAns
-    ensures { result ≡ status_by (seen view.now) delay }
+    ensures answer { result ≡ status_by (seen view.now) delay }
+    ensures received { result.received ≡ view.now.received }
 {
     StatusAns {
         received: view.received,
