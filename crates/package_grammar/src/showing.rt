@@ -1,6 +1,6 @@
 //! The text of a command.
-ghost use Rattle.std.specs.Prelude.{◌≡◌, ◌++◌, IfOk, OnOk, OnErr, string_bytes};
-ghost use Rattle.package_grammar.specs.Texts.{text_of};
+ghost use Rattle.std.specs.Prelude.{◌≡◌, ◌++◌, IfOk, IfSome, OnOk, OnErr, string_bytes};
+ghost use Rattle.package_grammar.specs.Texts.{sync_text, text_of};
 
 use crate::command::Command;
 use crate::showing_cast::cast_text;
@@ -14,9 +14,37 @@ pub fn show(command: &Command, out: &mut Vec<u8>) -> Result<(), AllocError>
     ensures shown { OnOk result (out.new.items ≡ out.old.items ++ text_of command.now) }
     ensures same { OnErr result (out.new.items ≡ out.old.items) }
 {
-    let alloc = *out.allocator();
-    let text = text(alloc, command)?;
-    out.extend_from_slice(text.as_bytes())
+    match name_alone(command) {
+        Some(name) => out.extend_from_slice(name.as_bytes()),
+        None => {
+            let alloc = *out.allocator();
+            let text = text(alloc, command)?;
+            out.extend_from_slice(text.as_bytes())
+        }
+    }
+}
+
+/// The text of a command that has no fields, which takes no memory.
+fn name_alone(command: &Command) -> Option<&'static str>
+    ensures { IfSome result (λ name. name.now ≡ text_of command.now) }
+{
+    match command {
+        Command::Cast(cast_wire::Cmd::PackageVersionReq) => Some("PackageVersionReq"),
+        Command::Sync(cmd) => sync_name_alone(cmd),
+        _ => None,
+    }
+}
+
+/// The same of a command of ports 202 and 203.
+fn sync_name_alone(cmd: &sync_wire::Cmd) -> Option<&'static str>
+    ensures { IfSome result (λ name. name.now ≡ sync_text cmd.now) }
+{
+    match cmd {
+        sync_wire::Cmd::PackageVersionReq => Some("PackageVersionReq"),
+        sync_wire::Cmd::DevVersionReq => Some("DevVersionReq"),
+        sync_wire::Cmd::DevUpgradeImageReq => Some("DevUpgradeImageReq"),
+        _ => None,
+    }
 }
 
 fn text(alloc: Global, command: &Command) -> Result<String, AllocError>
