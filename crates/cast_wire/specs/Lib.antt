@@ -3,3 +3,4 @@ pub mod Table
 pub mod SetupRefusal
 pub mod Reading
 pub mod Tests
+pub mod Fragment

@@ -6,6 +6,7 @@
 #![tactic(auto)]
 
 mod cmd;
+mod fragment;
 mod fragment_bytes;
 mod group_list;
 mod ids;
@@ -20,6 +21,7 @@ mod writing_fragments;
 mod writing_groups;
 
 pub use cmd::Cmd;
+pub use fragment::{Fragment, fragment_at};
 pub use fragment_bytes::{FragmentBytes, MAX_FRAGMENT};
 pub use group_list::{GroupAddress, GroupList, MAX_GROUPS};
 pub use ids::{FRAGMENT_PORT, MULTICAST_PORT};

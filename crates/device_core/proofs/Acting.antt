@@ -1,14 +1,21 @@
 -- Commands that act, one after another.
-use Rattle.std.proofs.Common.{◌≡◌, ℕ, Bool, List, [], ◌∷◌, append-nil, refl, arith}
+use Rattle.std.proofs.Common.{◌≡◌, ◌≤◌, ◌+◌, ℕ, Bool, true, false, ltb, List, [], ◌∷◌, length, append-nil, refl, ap, arith}
+use Rattle.std.proofs.lemmas.Bool.{le-ltb}
 use Rattle.cast_wire.specs.declared.cmd.Cmd.{Cmd}
 use Rattle.cast_wire.specs.declared.cmd.Cmd.TheVariants as c
 use Rattle.package_grammar.specs.declared.command.Command.{Command}
 use Rattle.package_grammar.specs.declared.command.Command.TheVariants.{Cast}
+use Rattle.frag_session.specs.declared.answers.Via.{Via}
+use Rattle.frag_session.specs.declared.answers.Via.TheVariants as via
 use Rattle.device_core.specs.declared.arrival.Arrival.{Arrival}
+use Rattle.device_core.specs.Fragments.{fragment_step}
 use Rattle.device_core.specs.Device.{DeviceState}
 use Rattle.device_core.specs.Answers.{no_answer, after_answers}
-use Rattle.device_core.specs.Step.{weight, command_step, step, after_commands}
-use Rattle.device_core.specs.HeldDevice.{HeldDevice, DeviceStands, Becomes, Steps}
+use Rattle.device_core.specs.Step.{weight, acts, command_step, step, after_commands}
+use Rattle.device_core.specs.declared.delivered.Delivered.{Delivered}
+use Rattle.device_core.specs.declared.delivered.Delivered.TheVariants.{Done}
+use Rattle.device_core.specs.Deliver.{message_delivery}
+use Rattle.device_core.specs.HeldDevice.{HeldDevice, DeviceStands, Becomes, Makes, Steps}
 
 -- a command that makes nothing
 pub no_steps : (held : HeldDevice) (weight : ℕ) → Steps held held weight no_answer
@@ -77,3 +84,29 @@ pub acted_all : (here : Arrival) (held : HeldDevice) (device : DeviceState) (all
     → HasActed here held device all [] → DeviceStands held (after_commands here device all)
 unfolding after_commands
 acted_all here held device all acted = rw acted.steps acted.stands
+
+-- ---- a fragment that is a message by itself
+
+fragment_acts : (way : Via) (index n : ℕ) (part : List ℕ) → acts way (Cast (c.DataFragment index n part)) ≡ true
+fragment_acts via.Unicast index n part = refl
+fragment_acts (via.Group g) index n part = refl
+
+pub fragment_alone : (here : Arrival) (old new : HeldDevice) (index n : ℕ) (part : List ℕ)
+    → Steps old new 0 (λ device. fragment_step here device index n part)
+    → Becomes old new (λ device. after_commands here device (Cast (c.DataFragment index n part) ∷ []))
+unfolding after_commands step command_step
+fragment_alone here old new index n part steps = rw (fragment_acts here.via index n part) steps.stands
+
+-- a message of one fragment always has room, since it weighs nothing
+pub alone_delivered : (here : Arrival) (old new : HeldDevice) (index n : ℕ) (part : List ℕ) (cs : List Command)
+    → cs ≡ Cast (c.DataFragment index n part) ∷ [] → length old.outbox ≤ 8
+    → Becomes old new (λ device. after_commands here device (Cast (c.DataFragment index n part) ∷ []))
+    → Makes Delivered old new Done (λ device. message_delivery here device cs)
+unfolding message_delivery
+alone_delivered here old new index n part cs is few goes = record {
+  stands = λ device stands. rw (is, roomy device stands) (goes device stands);
+  answers = λ device stands. rw (is, roomy device stands) refl;
+}
+  where
+    roomy : (device : DeviceState) → DeviceStands old device → ltb 8 (length device.outbox + 0) ≡ false
+    roomy device stands = le-ltb _ _ (omega (arith, few, ap (λ (d : DeviceState). length d.outbox) stands.rest))

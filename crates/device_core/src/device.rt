@@ -2,6 +2,8 @@
 
 ghost use Rattle.std.specs.Prelude.{◌≡◌, ◌+◌, ◌<◌, ◌≤◌, length, Option, Result, IfSome, option_map};
 ghost use Rattle.wire_base.specs.declared.refusal.Direction.{Direction};
+ghost use Rattle.cast_wire.specs.declared.cmd.Cmd.TheVariants.{DataFragment};
+ghost use Rattle.package_grammar.specs.declared.command.Command.TheVariants.{Cast};
 ghost use Rattle.frag_session.specs.Session.{view_of};
 ghost use Rattle.frag_session.specs.Shows.{seen};
 ghost use Rattle.device_core.specs.SessionTable.{session_at};
@@ -26,6 +28,7 @@ use crate::outbox::{OUTBOX, Outbox};
 use crate::session_slots::SessionSlots;
 use crate::uplink::{Uplink, UplinkCommand};
 use acting::weights;
+use cast_wire::Fragment;
 use clock_sync::DeviceClock;
 use frag_session::View;
 use image_slots::Slots;
@@ -231,13 +234,27 @@ impl Device {
         ensures { Makes Delivered self.old self.new result
             (λ device. message_delivery here device message.entry.commands) }
     {
-        let n = self.outbox.len() as u16 + weights(message.again());
+        let held = self.outbox.len() as u16;
+        if let Some(fragment) = message.fragment() {
+            self.take_fragment(here, fragment);
+            return Delivered::Done;
+        }
+        let n = held + weights(message.again());
         if n as usize > OUTBOX {
             self.count_full();
             return Delivered::OutboxFull(n);
         }
         self.act_on(here, message);
         Delivered::Done
+    }
+
+    /// Acts on a DataFragment that is a message by itself.
+    fn take_fragment(&mut self, here: Arrival, fragment: Fragment<'_>)
+        requires { fragment.index < 4 }
+        ensures { Becomes self.old self.new (λ device. after_commands here device
+            (Cast (DataFragment fragment.entry.index fragment.entry.n fragment.entry.bytes.now) ∷ [])) }
+    {
+        self.fragment(here, fragment.index, fragment.n, fragment.bytes);
     }
 
     /// Acts on the commands of a message, one after another.

@@ -1,10 +1,17 @@
 -- A place of a payload, and the commands from there on.
-use Rattle.std.proofs.Common.{◌≡◌, ◌≢◌, ℕ, zero, suc, ◌+◌, ◌<◌, ◌≤◌, true, false, leb, List, [], ◌∷◌, ◌++◌, length, Result, Ok, Err, refl, sym, ap, subst, ◌∙◌, arith, inl, inr}
+use Rattle.std.proofs.Common.{◌≡◌, ◌≢◌, ℕ, zero, suc, ◌+◌, ◌<◌, ◌≤◌, true, false, leb, List, [], ◌∷◌, ◌++◌, length, Option, None, Some, Result, Ok, Err, refl, sym, ap, subst, ◌∙◌, arith, inl, inr}
 use Rattle.std.proofs.lemmas.Bool.{le-leb, lt-leb}
 use Rattle.wire_base.specs.declared.refusal.Direction.{Direction}
 use Rattle.wire_base.specs.declared.refusal.Refusal.{Refusal}
 use Rattle.wire_base.specs.declared.refusal.Why.TheVariants.{Port, TooLong}
+use Rattle.wire_base.specs.declared.refusal.Direction.TheVariants.{Down}
+use Rattle.cast_wire.specs.declared.cmd.Cmd.TheVariants.{DataFragment}
+use Rattle.cast_wire.specs.declared.fragment.Fragment.{Fragment}
+use Rattle.cast_wire.specs.Table.{Spells as CastSpells}
+use Rattle.cast_wire.specs.Fragment.{IsFragmentAt}
+use Rattle.package_grammar.specs.HeldMessage.{HeldMessage, LeavesFragment}
 use Rattle.package_grammar.specs.declared.command.Command.{Command}
+use Rattle.package_grammar.specs.declared.command.Command.TheVariants.{Cast}
 use Rattle.package_grammar.specs.Grammar.{Spells, SpellsTo, IsPort, IsRead, IsRefusal}
 use Rattle.package_grammar.proofs.Tables.{within, moves}
 use Rattle.package_grammar.proofs.Messages.{first_read, none_spelled, none_read}
@@ -55,6 +62,21 @@ pub some_left : {A : Type 0} (port : ℕ) (dir : Direction) (bytes : List ℕ) (
     → ((d : Command) (end : ℕ) → length bytes ≤ 242 → Spells d port dir bytes at end → r ≡ Ok (d, end)) → r ≡ Err e → A
 some_left port dir bytes at r e stands before only is =
     absurd (none_read port dir bytes at (commands_left port dir bytes at) before (none_spelled port dir bytes at r e (λ d end. only d end stands.read.1) is) stands.spells)
+
+-- a DataFragment that is spelled up to the end is all that is left
+pub fragment_left : (bytes : List ℕ) (at index n : ℕ) (part : List ℕ) → CastSpells (DataFragment index n part) 201 Down bytes at (length bytes)
+    → commands_left 201 Down bytes at ≡ Cast (DataFragment index n part) ∷ []
+fragment_left bytes at index n part spells =
+    left_is (Cast (DataFragment index n part) ∷ []) 201 Down bytes at
+    (length bytes, record { listed = spells.listed; lies = spells.lies; whole = spells.whole }, refl)
+
+-- a DataFragment that comes first is spelled in a payload from the server on port 201
+pub first_fragment : (port : ℕ) (dir : Direction) (bytes : List ℕ) (at index n : ℕ) (part : List ℕ) (rest : List Command) → IsAt port dir bytes at
+    → commands_left port dir bytes at ≡ Cast (DataFragment index n part) ∷ rest
+    → (port ≡ 201) × (dir ≡ Down) × ((next : ℕ) × CastSpells (DataFragment index n part) port dir bytes at next)
+first_fragment port dir bytes at index n part rest stands is =
+    let all = subst (λ (cs : List Command). SpellsTo cs port dir bytes at (length bytes)) is stands.spells in
+    (all.1.listed.port_is, all.1.listed.direction_is, (all.0, record { listed = all.1.listed; lies = all.1.lies; whole = all.1.whole }))
 
 -- ---- reading on, from the first byte
 
@@ -120,3 +142,15 @@ foreign port dir bytes off = read_as port dir bytes (Err (record { at = 0; why =
 
 pub too_long : (port : ℕ) (dir : Direction) (bytes : List ℕ) → IsPort port → 242 < length bytes → reading_of port dir bytes ≡ Err (record { at = 242; why = TooLong })
 too_long port dir bytes on long = read_as port dir bytes (Err (record { at = 242; why = TooLong })) (inr (inl (on, long, refl, refl)))
+
+-- ---- the fragment that comes next
+
+-- what is found at the place of a message from the server on port 201
+pub fragment_next : (m : HeldMessage) (bytes : List ℕ) (at : ℕ) (r : Option Fragment) → IsAt 201 Down bytes at
+    → record { port = 201; direction = Down; commands = commands_left 201 Down bytes at } ≡ m
+    → IsFragmentAt bytes at r → LeavesFragment m r
+fragment_next m bytes at None stands view none = λ index n part rest is.
+    let first = first_fragment 201 Down bytes at index n part rest stands (ap (λ (x : HeldMessage). x.commands) view ∙ is) in
+    none index n first.2.0 part first.2.1
+fragment_next m bytes at (Some f) stands view spells =
+    sym (ap (λ (x : HeldMessage). x.commands) view) ∙ fragment_left bytes at f.index f.n f.bytes.now spells

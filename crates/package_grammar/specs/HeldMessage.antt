@@ -1,8 +1,11 @@
 -- What contracts see of a message on its way through a loop: the commands that are left of it.
-use Rattle.std.specs.Prelude.{◌≡◌, ℕ, List, [], ◌∷◌, Option, Some, None, Result, Ok, Err}
+use Rattle.std.specs.Prelude.{◌≡◌, ◌≢◌, ℕ, List, [], ◌∷◌, Option, Some, None, Result, Ok, Err}
 use Rattle.wire_base.specs.declared.refusal.Direction.{Direction}
 use Rattle.wire_base.specs.declared.refusal.Refusal.{Refusal}
+use Rattle.cast_wire.specs.declared.cmd.Cmd.TheVariants.{DataFragment}
+use Rattle.cast_wire.specs.declared.fragment.Fragment.{Fragment}
 use Rattle.package_grammar.specs.declared.command.Command.{Command}
+use Rattle.package_grammar.specs.declared.command.Command.TheVariants.{Cast}
 use Rattle.package_grammar.specs.Reading.{Reading}
 
 pub record HeldMessage : Type 0 where
@@ -19,3 +22,10 @@ message_of port direction (Err refusal) = Err refusal
 abbrev pub TakesCommand : HeldMessage → HeldMessage → Option Command → Type 0
 TakesCommand old new None = (old.commands ≡ []) × (new ≡ old)
 TakesCommand old new (Some command) = old ≡ record new { commands = command ∷ new.commands }
+
+-- a DataFragment is all that is left; none exactly where the first command that is left is no DataFragment
+abbrev pub LeavesFragment : HeldMessage → Option Fragment → Type 0
+LeavesFragment message None =
+    (index n : ℕ) (part : List ℕ) (rest : List Command) → message.commands ≢ Cast (DataFragment index n part) ∷ rest
+LeavesFragment message (Some fragment) =
+    message.commands ≡ Cast (DataFragment fragment.index fragment.n fragment.bytes.now) ∷ []

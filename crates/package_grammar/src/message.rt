@@ -1,14 +1,14 @@
 //! A message, command by command.
-ghost use Rattle.std.specs.Prelude.{◌≡◌, ◌≤◌, ◌↔◌, length, IfOk, IfSome, IsTrue};
+ghost use Rattle.std.specs.Prelude.{◌≡◌, ◌<◌, ◌≤◌, ◌↔◌, length, IfOk, IfSome, IsTrue};
 ghost use Rattle.wire_base.specs.Payload.{max_payload};
 ghost use Rattle.wire_base.specs.Rows.{IsListed};
 ghost use Rattle.package_grammar.specs.Grammar.{row, IsPort, IsValid};
 ghost use Rattle.package_grammar.specs.Reading.{reading_of};
-ghost use Rattle.package_grammar.specs.HeldMessage.{message_of, TakesCommand};
+ghost use Rattle.package_grammar.specs.HeldMessage.{message_of, TakesCommand, LeavesFragment};
 
 use crate::command::Command;
 use crate::reading::read_one;
-use cast_wire::MULTICAST_PORT;
+use cast_wire::{FRAGMENT_PORT, Fragment, MULTICAST_PORT, fragment_at};
 use std::marker::Model;
 use sync_wire::FIRMWARE_PORT;
 use wire_base::{Direction, MAX_PAYLOAD, Refusal};
@@ -82,6 +82,18 @@ impl<'a> Message<'a> {
                 Some(command)
             }
             Err(_) => None,
+        }
+    }
+
+    /// The DataFragment that comes next, and is then the last command; its bytes stay where they lie. None exactly where
+    /// none comes next.
+    pub fn fragment(&self) -> Option<Fragment<'a>>
+        ensures leaves { LeavesFragment self.now result }
+        ensures index { IfSome result (λ f. f.index < 4) }
+    {
+        match self.direction {
+            Direction::Down if self.port == FRAGMENT_PORT => fragment_at(self.bytes, self.at),
+            _ => None,
         }
     }
 
