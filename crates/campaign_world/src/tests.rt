@@ -85,6 +85,11 @@ fn lines_are_refused(rt: HostRuntime) -> Result<(), Fail> {
         ("down 1 1", LineWhy::Unsent),
         ("up 1", LineWhy::Unsent),
         ("at 4294967296000", LineWhy::Range),
+        ("raw 1 201 0", LineWhy::Syntax),
+        ("raw 2 256 00", LineWhy::Range),
+        ("raw 1 201 00 4294967296", LineWhy::Range),
+        ("raw 0 201 -", LineWhy::Device),
+        ("raw 2 201 -", LineWhy::Device),
     ];
     assert!(rt; is_image(&IMAGE));
     for (line, why) in cases {
