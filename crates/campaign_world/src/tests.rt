@@ -163,6 +163,7 @@ fn cut_commands_change_nothing(rt: HostRuntime) {
     let mut refused = 0u64;
     for (port, command) in &COMMANDS {
         let mut bytes = [0; 40];
+        assert!(rt; command.len() <= 39);
         bytes[1..command.len() + 1].copy_from_slice(command);
         for length in 2..command.len() + 1 {
             refuses(
@@ -173,7 +174,7 @@ fn cut_commands_change_nothing(rt: HostRuntime) {
                 (length - 1) as u16,
             );
             refuses(&rt, &mut device, *port, &bytes[..length], length as u16);
-            refused += 2;
+            refused = refused.saturating_add(2);
         }
     }
     assert!(rt; device.counts().refused == refused);
@@ -193,7 +194,7 @@ fn refuses(rt: &impl Abort, device: &mut Device, port: u8, bytes: &[u8], at: u16
     };
     assert!(rt; device.deliver(0, &down, 0, 1) == Delivered::Refused(refusal));
     assert!(rt; device.take_uplink().is_none());
-    for index in 0..4 {
+    for index in 0..4u8 {
         assert!(rt; device.session(index).is_none());
     }
     assert!(rt; device.slots().next() == ImageState::None);
