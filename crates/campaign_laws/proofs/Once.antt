@@ -14,6 +14,7 @@ use Rattle.device_core.specs.Deliver.{delivery, waking}
 use Rattle.campaign_server.specs.declared.stage.Stage.{Stage}
 use Rattle.campaign_server.specs.declared.stage.Stage.TheVariants.{At}
 use Rattle.campaign_server.specs.declared.stage.Request.TheVariants as request
+use Rattle.package_grammar.specs.declared.downlink.Downlink.{Downlink}
 use Rattle.campaign_server.specs.Server.{ServerState, DownlinkCommand, numbered, ledger}
 use Rattle.campaign_server.specs.Asking.{request_of, by_unicast}
 use Rattle.campaign_server.specs.Answers.{stage_after, stage_after_all}
@@ -21,14 +22,14 @@ use Rattle.campaign_server.specs.Fragments.{next_fragment, after_fragment, after
 use Rattle.campaign_server.specs.Time.{time_answer}
 use Rattle.campaign_server.specs.Uplinks.{with_answers, read_uplink, uplink_step}
 use Rattle.script_lines.specs.declared.forms.Form.{Form}
-use Rattle.script_lines.specs.declared.forms.Form.TheVariants.{Header, Image, Group, WindowC, WindowB, Device, At as AtTime, Wake, Ask, Frag, Status, Down, Up, End}
+use Rattle.script_lines.specs.declared.forms.Form.TheVariants.{Header, Image, Group, WindowC, WindowB, Device, At as AtTime, Wake, Ask, Frag, Status, Down, Raw, Up, End}
 use Rattle.script_lines.specs.Forms.{form_of}
 use Rattle.campaign_world.specs.declared.numbered.SentPayload.{SentPayload}
 use Rattle.campaign_world.specs.declared.numbered.MadeUplink.{MadeUplink}
 use Rattle.campaign_world.specs.World.{WorldState, first_world}
 use Rattle.campaign_world.specs.Causes.{may_come, cause_of_form, form_cause}
 use Rattle.campaign_world.specs.Ledger.{Runs}
-use Rattle.campaign_world.specs.Making.{with_sent, made_by, with_device, after_wake, after_down, after_answer, after_up, at_events, after_form}
+use Rattle.campaign_world.specs.Making.{with_sent, made_by, with_device, after_wake, after_down, raw_down, after_raw, after_answer, after_up, at_events, after_form}
 use Rattle.campaign_world.specs.Script.{one_line_more, after_form_of, after_line, read_lines}
 use Rattle.campaign_world.proofs.LineItems.{numbered_more, numbered_there}
 use Rattle.campaign_world.proofs.HeadlineForms.{passes}
@@ -127,6 +128,10 @@ down_go w n word (Some d) (Some p) = device_goes w n (delivery w.time word (w.li
 down_go w n word (Some d) None = still w _ refl refl refl
 down_go w n word None p = still w _ refl refl refl
 
+raw_go : (w : WorldState) (n word : ℕ) (down : Downlink) (o : Option DeviceState) → Goes w (at_events (after_raw w n word down o))
+raw_go w n word down (Some d) = device_goes w n (delivery w.time word (w.lines + 1) down d).device
+raw_go w n word down None = still w _ refl refl refl
+
 -- no line of a plan comes any more
 no_plan : {X : Type 0} (w : WorldState) (form : Form) → form_cause w form ≡ None → is_planning w.section ≡ false → (may_come w.section form ≡ true → is_planning w.section ≡ true) → X
 no_plan w form fine over plan = absurd (let both : true ≡ false = sym (plan (passes w form fine).may) ∙ over in cc)
@@ -146,6 +151,7 @@ form_goes w (Ask n) fine over = sends_go w w.server (Some n) (request_of w.serve
 form_goes w Frag fine over = sends_go w (after_fragment w.server) None (result_ok (next_fragment w.server)) (fragment_on w.server)
 form_goes w Status fine over = sends_go w (after_status_to_all w.server) None (status_to_all w.server) (status_on w.server)
 form_goes w (Down number n word) fine over = down_go w n word (numbered w.devices n) (numbered w.sent number)
+form_goes w (Raw n port payload word) fine over = raw_go w n word (raw_down port payload) (numbered w.devices n)
 form_goes w (Up number) fine over = up_go w (numbered w.uplinks number)
 form_goes w End fine over = still w _ refl refl refl
 
@@ -221,6 +227,7 @@ form_image w (Ask n) = (sends_go w w.server (Some n) (request_of w.server n) (sa
 form_image w Frag = (sends_go w (after_fragment w.server) None (result_ok (next_fragment w.server)) (fragment_on w.server)).image
 form_image w Status = (sends_go w (after_status_to_all w.server) None (status_to_all w.server) (status_on w.server)).image
 form_image w (Down number n word) = (down_go w n word (numbered w.devices n) (numbered w.sent number)).image
+form_image w (Raw n port payload word) = (raw_go w n word (raw_down port payload) (numbered w.devices n)).image
 form_image w (Up number) = (up_go w (numbered w.uplinks number)).image
 form_image w End = refl
 
@@ -292,7 +299,7 @@ later_by image world later made x (Some stage) file k truly wi li read at ranks 
 
 pub an_uplink_moves_once : MovesOnce
 unfolding after_line after_form
-an_uplink_moves_once image line before between number world later made x bytes file read form more there single moved =
+an_uplink_moves_once image line before between number world later made x bytes file honest read form more there single moved =
     let first = read_first world later line between more in
     let next : WorldState = one_line_more (at_events (after_up world (numbered world.uplinks number))) in
     let rest : read_lines (Ok next) between ≡ Ok later = subst (λ (f : Option Form). read_lines (Ok (after_form_of world f)) between ≡ Ok later) form first.1 in
@@ -303,10 +310,10 @@ an_uplink_moves_once image line before between number world later made x bytes f
     ∙ numbered_more (world.uplinks ++ here.uplinks.0) on.uplinks.0 number made (numbered_more world.uplinks here.uplinks.0 number made there) in
     let wi : world.server.image ≡ image = lines_image (first_world image) world before read in
     let li : later.server.image ≡ image = on.image ∙ here.image ∙ wi in
-    let truly = get_all (MadeTruly image world.devices) world.uplinks number made (uplinks_are_true image world before bytes file read) there in
+    let truly = get_all (MadeTruly image world.devices) world.uplinks number made (uplinks_are_true image world before bytes file honest read) there in
     let is : (after_up world (numbered world.uplinks number)).server.stages ≡ (with_answers world.server made.device (x ∷ []) (ledger world.server made.device)).stages =
     ap (λ (o : Option MadeUplink). (after_up world o).server.stages) there ∙ stages_are world made x single in
     ap (λ (o : Option MadeUplink). (after_up later o).server.stages) still
-    ∙ later_by image world later made x (ledger world.server made.device) file (waits_behind image world before read) truly wi li single refl
+    ∙ later_by image world later made x (ledger world.server made.device) file (waits_behind image world before honest read) truly wi li single refl
     (subst (λ (xs : List Stage). (id : ℕ) (stage : Stage) → numbered xs id ≡ Some stage → (t : Stage) × (numbered later.server.stages id ≡ Some t) × (rank stage ≤ rank t)) is (λ id stage at. on.ranks id stage at))
     (subst (λ (xs : List Stage). xs ≢ world.server.stages) is moved)

@@ -5,13 +5,14 @@ use Rattle.std.specs.Result.{result_ok}
 use Rattle.wire_base.specs.declared.refusal.Direction.TheVariants.{Up as Upwards}
 use Rattle.package_grammar.specs.Reading.{Reading, reading_of}
 use Rattle.device_core.specs.Device.{DeviceState}
+use Rattle.package_grammar.specs.declared.downlink.Downlink.{Downlink}
 use Rattle.campaign_server.specs.Server.{DownlinkCommand, numbered, ledger}
 use Rattle.campaign_server.specs.Asking.{request_of, by_unicast}
 use Rattle.campaign_server.specs.Fragments.{next_fragment, after_fragment, status_to_all, after_status_to_all}
 use Rattle.campaign_server.specs.Time.{time_answer}
 use Rattle.campaign_server.specs.Uplinks.{with_answers, read_uplink, uplink_step}
 use Rattle.script_lines.specs.declared.forms.Form.{Form}
-use Rattle.script_lines.specs.declared.forms.Form.TheVariants.{Header, Image, Group, WindowC, WindowB, Device, At, Wake, Ask, Frag, Status, Down, Up, End}
+use Rattle.script_lines.specs.declared.forms.Form.TheVariants.{Header, Image, Group, WindowC, WindowB, Device, At, Wake, Ask, Frag, Status, Down, Raw, Up, End}
 use Rattle.campaign_world.specs.declared.numbered.SentPayload.{SentPayload}
 use Rattle.campaign_world.specs.declared.numbered.MadeUplink.{MadeUplink}
 use Rattle.script_lines.specs.Forms.{form_of}
@@ -19,7 +20,7 @@ use Rattle.campaign_world.specs.declared.faults.LineWhy.{LineWhy}
 use Rattle.campaign_world.specs.declared.faults.LineFault.{LineFault}
 use Rattle.campaign_world.specs.World.{WorldState}
 use Rattle.campaign_world.specs.Causes.{form_cause, cause_of}
-use Rattle.campaign_world.specs.Making.{with_sent, with_device, after_wake, after_down, after_answer, after_up, after_form}
+use Rattle.campaign_world.specs.Making.{with_sent, with_device, after_wake, after_down, raw_down, after_raw, after_answer, after_up, after_form}
 use Rattle.campaign_world.specs.Script.{one_line_more, after_form_of, after_line, line_result, read_line, read_lines}
 use Rattle.campaign_world.proofs.FormCauses.{of_form}
 
@@ -67,6 +68,11 @@ down_keeps w n word (Some d) (Some p) = refl
 down_keeps w n word (Some d) None = refl
 down_keeps w n word None p = refl
 
+raw_keeps : (w : WorldState) (n word : ℕ) (down : Downlink) (o : Option DeviceState) → (after_raw w n word down o).lines ≡ w.lines
+unfolding with_device
+raw_keeps w n word down None = refl
+raw_keeps w n word down (Some d) = refl
+
 reading_keeps : (w : WorldState) (dev t : ℕ) (r : Reading) → (after_answer w dev (read_uplink w.server dev t r)).lines ≡ w.lines
 unfolding read_uplink
 reading_keeps w dev t (Ok cs) = sent_keeps w (record w { server = with_answers w.server dev cs (ledger w.server dev) }) (Some dev) (by_unicast (time_answer t cs)) refl
@@ -91,6 +97,7 @@ lines_kept w (Ask device) = sent_keeps w w (Some device) (request_of w.server de
 lines_kept w Frag = sent_keeps w (record w { server = after_fragment w.server }) None (result_ok (next_fragment w.server)) refl
 lines_kept w Status = sent_keeps w (record w { server = after_status_to_all w.server }) None (status_to_all w.server) refl
 lines_kept w (Down number device word) = down_keeps w device word (numbered w.devices device) (numbered w.sent number)
+lines_kept w (Raw device port payload word) = raw_keeps w device word (raw_down port payload) (numbered w.devices device)
 lines_kept w (Up number) = up_keeps w (numbered w.uplinks number)
 lines_kept w End = refl
 

@@ -1,5 +1,5 @@
 -- While the server has not asked a device for more than its version, the device runs no file.
-use Rattle.std.proofs.Common.{◌≡◌, inl, inr, ⊎_elim, ℕ, ◌+◌, ◌-◌, ◌/◌, ◌≤◌, ◌==◌, Bool, true, false, cond, List, [], ◌∷◌, ◌++◌, slice_get, zero, suc, Option, None, Some, IfSome, is_some, is_ok, Result, Ok, Err, refl, sym, ap, ◌∙◌, subst, arith}
+use Rattle.std.proofs.Common.{◌≡◌, inl, inr, ⊎_elim, ℕ, ◌+◌, ◌-◌, ◌/◌, ◌≤◌, ◌==◌, Bool, true, false, cond, List, [], ◌∷◌, ◌++◌, slice_get, zero, suc, Option, None, Some, IfSome, is_some, is_ok, Result, Ok, Err, refl, sym, ap, ◌∙◌, subst, arith, true≢false}
 use Rattle.std.specs.List.{AllByRecursion}
 use Rattle.std.specs.Result.{result_ok}
 use Rattle.wire_base.specs.declared.refusal.Direction.TheVariants.{Up as Upwards}
@@ -24,13 +24,14 @@ use Rattle.campaign_server.specs.Fragments.{next_fragment, after_fragment, statu
 use Rattle.campaign_server.specs.Time.{time_answer_to, first_answer, time_answer}
 use Rattle.campaign_server.specs.Uplinks.{with_answers, read_uplink, uplink_step}
 use Rattle.script_lines.specs.declared.forms.Form.{Form}
-use Rattle.script_lines.specs.declared.forms.Form.TheVariants.{Header, Image, Group, WindowC, WindowB, Device, At as AtTime, Wake, Ask, Frag, Status, Down, Up, End}
+use Rattle.script_lines.specs.declared.forms.Form.TheVariants.{Header, Image, Group, WindowC, WindowB, Device, At as AtTime, Wake, Ask, Frag, Status, Down, Raw, Up, End}
 use Rattle.script_lines.specs.Forms.{form_of}
 use Rattle.campaign_world.specs.declared.section.Section.{Section}
 use Rattle.campaign_world.specs.declared.section.Section.TheVariants as section
 use Rattle.campaign_world.specs.declared.numbered.SentPayload.{SentPayload}
 use Rattle.campaign_world.specs.declared.numbered.MadeUplink.{MadeUplink}
 use Rattle.campaign_world.specs.World.{WorldState, first_world}
+use Rattle.campaign_world.specs.Honest.{is_raw, has_raw, AreHonest}
 use Rattle.campaign_world.specs.Causes.{is_event_or_end, may_come, may_reach, cause_of_form, form_cause}
 use Rattle.campaign_world.specs.Making.{with_plan, with_sent, with_device, after_wake, after_answer, after_up, at_events, device_of, after_form}
 use Rattle.campaign_world.specs.Script.{after_form_of, after_line, read_lines}
@@ -298,30 +299,30 @@ joins_wait w new plan here fresh k = record {
     everyone id d there = ⊎_elim (λ same. k.all here id d (sym same ∙ there))
         (λ last. let e : new ≡ d = (let y : Some new ≡ Some d = sym last.1 ∙ there in cc) in subst IsUntouched e fresh) (numbered_push w.devices new id)
 
-form_waits : (w : WorldState) (form : Form) → form_cause w form ≡ None → Waits w → Waits (after_form w form)
+form_waits : (w : WorldState) (form : Form) → form_cause w form ≡ None → is_raw form ≡ false → Waits w → Waits (after_form w form)
 unfolding after_form
-form_waits w Header fine k =
+form_waits w Header fine honest k =
     let here = plan_at w.section Header refl (passes w Header fine).may in
     record { none_sent = λ still. k.none_sent here; all = λ still. k.all here; devices = k.devices; sent = k.sent }
-form_waits w (Image frag_size parity) fine k = plan_waits w _ section.Group (plan_at w.section (Image frag_size parity) refl (passes w (Image frag_size parity) fine).may) k
-form_waits w (Group addr key min max) fine k = plan_waits w _ section.Window (plan_at w.section (Group addr key min max) refl (passes w (Group addr key min max) fine).may) k
-form_waits w (WindowC start timeout freq dr) fine k = plan_waits w _ section.Device (plan_at w.section (WindowC start timeout freq dr) refl (passes w (WindowC start timeout freq dr) fine).may) k
-form_waits w (WindowB start periodicity timeout freq dr) fine k =
+form_waits w (Image frag_size parity) fine honest k = plan_waits w _ section.Group (plan_at w.section (Image frag_size parity) refl (passes w (Image frag_size parity) fine).may) k
+form_waits w (Group addr key min max) fine honest k = plan_waits w _ section.Window (plan_at w.section (Group addr key min max) refl (passes w (Group addr key min max) fine).may) k
+form_waits w (WindowC start timeout freq dr) fine honest k = plan_waits w _ section.Device (plan_at w.section (WindowC start timeout freq dr) refl (passes w (WindowC start timeout freq dr) fine).may) k
+form_waits w (WindowB start periodicity timeout freq dr) fine honest k =
     plan_waits w _ section.Device (plan_at w.section (WindowB start periodicity timeout freq dr) refl (passes w (WindowB start periodicity timeout freq dr) fine).may) k
-form_waits w (Device id class hw rows offset key descriptor) fine k =
+form_waits w (Device id class hw rows offset key descriptor) fine honest k =
     joins_wait w (device_of class hw rows offset key descriptor) _ (plan_at w.section (Device id class hw rows offset key descriptor) refl (passes w (Device id class hw rows offset key descriptor) fine).may)
     (record { reboot = refl; version = refl }) k
-form_waits w (AtTime time) fine k = record { none_sent = λ plan. absurd cc; all = λ plan. absurd cc; devices = k.devices; sent = k.sent }
-form_waits w (Wake n) fine k =
+form_waits w (AtTime time) fine honest k = record { none_sent = λ plan. absurd cc; all = λ plan. absurd cc; devices = k.devices; sent = k.sent }
+form_waits w (Wake n) fine honest k =
     let there = is_there w.devices n (passes w (Wake n) fine).names in
     subst (λ (o : Option DeviceState). Waits (at_events (after_wake w n o))) (sym there.1.1)
     (device_waits w n there.1.0 (waking w.time there.1.0).device there.1.1 (λ at. waking_calm w.time there.1.0 (k.devices n there.1.0 there.1.1 at)) k)
-form_waits w (Ask n) fine k = sends_wait w w.server (Some n) (request_of w.server n) k (λ id at. at) (asked_calm w.server n)
-form_waits w Frag fine k =
+form_waits w (Ask n) fine honest k = sends_wait w w.server (Some n) (request_of w.server n) k (λ id at. at) (asked_calm w.server n)
+form_waits w Frag fine honest k =
     sends_wait w (after_fragment w.server) None (result_ok (next_fragment w.server)) k (same_begin w.server.stages (after_fragment w.server).stages (fragment_same w.server)) (fragment_calm (after_fragment w.server).stages w.server)
-form_waits w Status fine k =
+form_waits w Status fine honest k =
     sends_wait w (after_status_to_all w.server) None (status_to_all w.server) k (same_begin w.server.stages (after_status_to_all w.server).stages (status_same w.server)) (status_calm (after_status_to_all w.server).stages w.server)
-form_waits w (Down number n word) fine k =
+form_waits w (Down number n word) fine honest k =
     let p = passes w (Down number n word) fine in
     let there = is_there w.devices n p.names in
     let got = payload_there n (numbered w.sent number) p.come in
@@ -329,23 +330,24 @@ form_waits w (Down number n word) fine k =
     let own = get_all (IsFor w.server.stages) w.sent number got.0 k.sent got.1 in
     rw (there.1.1, got.1) (device_waits w n there.1.0 (delivery w.time word (w.lines + 1) got.0.down there.1.0).device there.1.1
     (λ at. delivery_calm w.time word (w.lines + 1) got.0.down there.1.0 (own n may at) (k.devices n there.1.0 there.1.1 at)) k)
-form_waits w (Up number) fine k = up_waits w (numbered w.uplinks number) k
-form_waits w End fine k = record { none_sent = λ plan. absurd cc; all = λ plan. absurd cc; devices = k.devices; sent = k.sent }
+form_waits w (Raw n port payload word) fine honest k = absurd (true≢false honest)
+form_waits w (Up number) fine honest k = up_waits w (numbered w.uplinks number) k
+form_waits w End fine honest k = record { none_sent = λ plan. absurd cc; all = λ plan. absurd cc; devices = k.devices; sent = k.sent }
 
 -- ---- all lines
 
-line_waits : (w : WorldState) (form : Option Form) → cause_of_form w form ≡ None → Waits w → Waits (after_form_of w form)
-line_waits w None fine k = absurd cc
-line_waits w (Some form) fine k =
-    let m = form_waits w form fine k in
+line_waits : (w : WorldState) (form : Option Form) → cause_of_form w form ≡ None → has_raw form ≡ false → Waits w → Waits (after_form_of w form)
+line_waits w None fine honest k = absurd cc
+line_waits w (Some form) fine honest k =
+    let m = form_waits w form fine honest k in
     record { none_sent = m.none_sent; all = m.all; devices = m.devices; sent = m.sent }
 
-all_wait : (w end : WorldState) (lines : List (List ℕ)) → Waits w → read_lines (Ok w) lines ≡ Ok end → Waits end
+all_wait : (w end : WorldState) (lines : List (List ℕ)) → AreHonest lines → Waits w → read_lines (Ok w) lines ≡ Ok end → Waits end
 unfolding read_lines after_line
-all_wait w end [] k read = let same : w ≡ end = cc in subst Waits same k
-all_wait w end (line ∷ lines) k read =
+all_wait w end [] honest k read = let same : w ≡ end = cc in subst Waits same k
+all_wait w end (line ∷ lines) honest k read =
     let first = read_first w end line lines read in
-    all_wait (after_form_of w (form_of line)) end lines (line_waits w (form_of line) (line_fine w line first.0) k) first.1
+    all_wait (after_form_of w (form_of line)) end lines honest.1 (line_waits w (form_of line) (line_fine w line first.0) honest.0 k) first.1
 
 none_numbered : {A : Type 0} (n : ℕ) (x : A) → numbered {A = A} [] n ≡ Some x → ⊥
 none_numbered {A} n x is = by (n == 0) is
@@ -354,8 +356,8 @@ none_numbered {A} n x is = by (n == 0) is
     by true e = cc
     by false e = cc
 
-pub waits_behind : (image : List ℕ) (w : WorldState) (lines : List (List ℕ)) → read_lines (Ok (first_world image)) lines ≡ Ok w → Waits w
-waits_behind image w lines read = all_wait (first_world image) w lines (record {
+pub waits_behind : (image : List ℕ) (w : WorldState) (lines : List (List ℕ)) → AreHonest lines → read_lines (Ok (first_world image)) lines ≡ Ok w → Waits w
+waits_behind image w lines honest read = all_wait (first_world image) w lines honest (record {
   none_sent = λ plan. refl;
   all = λ plan id d there. absurd (none_numbered id d there);
   devices = λ id d there at. absurd (none_numbered id d there);

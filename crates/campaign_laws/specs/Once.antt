@@ -18,6 +18,7 @@ use Rattle.script_lines.specs.declared.forms.Form.TheVariants.{Up}
 use Rattle.script_lines.specs.Forms.{form_of}
 use Rattle.campaign_world.specs.declared.numbered.MadeUplink.{MadeUplink}
 use Rattle.campaign_world.specs.World.{WorldState, first_world}
+use Rattle.campaign_world.specs.Honest.{AreHonest}
 use Rattle.campaign_world.specs.Making.{after_up}
 use Rattle.campaign_world.specs.Script.{read_lines}
 
@@ -54,11 +55,12 @@ abbrev pub PastMovesNone : Type 0
 PastMovesNone = (plan : Plan) (image : List ℕ) (stage : Stage) (command : Command) → last_moved command < rank stage
     → stage_after plan image stage command ≡ stage
 
--- an uplink of one command that has moved a stage moves none when it comes again, whatever lines came between
+-- an uplink of one command that has moved a stage moves none when it comes again, whatever lines came between; those before it
+-- are honest
 abbrev pub MovesOnce : Type 0
 MovesOnce = (image line : List ℕ) (before between : List (List ℕ)) (number : ℕ) (world later : WorldState) (made : MadeUplink) (command : Command)
     → All (λ b. b < 2 ^ 8) image → is_image image ≡ true
-    → read_lines (Ok (first_world image)) before ≡ Ok world → form_of line ≡ Some (Up number)
+    → AreHonest before → read_lines (Ok (first_world image)) before ≡ Ok world → form_of line ≡ Some (Up number)
     → read_lines (Ok world) (line ∷ between) ≡ Ok later → numbered world.uplinks number ≡ Some made
     → reading_of made.uplink.port Upwards made.uplink.payload ≡ Ok (command ∷ [])
     → (after_up world (numbered world.uplinks number)).server.stages ≢ world.server.stages

@@ -9,7 +9,7 @@ use package_grammar::{Downlink, To};
 use std::alloc::{AllocError, Global};
 use std::process::Abort;
 use std::test::*;
-use wire_base::Refusal;
+use wire_base::{Refusal, Why};
 
 /// An image file for hardware 1 with firmware 2, its body and digest those of the text abc.
 const IMAGE: [u8; 52] = [
@@ -356,6 +356,29 @@ static TIMES: [(u64, &[u8], &[u8]); 8] = [
     (10_000, &[0x00, 0x01, 0x01], &[]),
 ];
 
+/// The uplink that moves a fresh device, and with a second command behind it.
+static VERSION: [u8; 18] = [
+    0x01, 0x00, 0x00, 0x00, 0x00, 0x01, 0x00, 0x00, 0x00, 0x01, 0x00, 0x00, 0x00, 0x00, 0x01, 0x00,
+    0x00, 0x00,
+];
+
+/// Foreign uplinks: of another port, with no command, or with one of the server's own behind that of the device.
+static FOREIGN: [(u8, &[u8], u16, Why); 8] = [
+    (199, &[0x00], 0, Why::Port),
+    (204, &[], 0, Why::Port),
+    (0, &[0x01, 0, 0, 0, 0, 0x01, 0, 0, 0], 0, Why::Port),
+    (255, &[0x01, 0, 0, 0, 0, 0x01, 0, 0, 0], 0, Why::Port),
+    (203, &[0x06], 0, Why::UnknownCommand),
+    (201, &[0x08, 0x01, 0x00, 0x11], 0, Why::UnknownCommand),
+    (202, &[0x03, 0x00], 0, Why::UnknownCommand),
+    (
+        203,
+        &[0x01, 0, 0, 0, 0, 0x01, 0, 0, 0, 0x7f],
+        9,
+        Why::UnknownCommand,
+    ),
+];
+
 /// A server of a campaign with one device.
 #[derive(Drop)]
 struct OneDevice {
@@ -505,4 +528,39 @@ fn the_time_is_answered_anew_each_time(rt: HostRuntime) -> Result<(), Fail> {
     );
     campaign.asks(&rt, 203, &[0x01]);
     Ok(())
+}
+
+/// An uplink that is cut, foreign or too long is refused at its place, and the server stays as it was, the stage of the
+/// command before the cut too; so the whole one moves it then.
+#[test]
+fn refused_uplinks_move_nothing(rt: HostRuntime) -> Result<(), Fail> {
+    let mut campaign = OneDevice::begin(&rt, rt.alloc(), 13, 4, None, None)?;
+    for length in 1..18usize {
+        if length != 9 {
+            stays(
+                &rt,
+                &mut campaign,
+                203,
+                &VERSION[..length],
+                length as u16,
+                Why::Short,
+            );
+        }
+    }
+    for (port, payload, at, why) in &FOREIGN {
+        stays(&rt, &mut campaign, *port, payload, *at, *why);
+    }
+    stays(&rt, &mut campaign, 202, &[0; 243], 242, Why::TooLong);
+    assert!(rt; campaign.after(&rt, 203, &VERSION[..9]) == Stage::At(Request::Fragments));
+    Ok(())
+}
+
+/// The uplink is refused so, and the server still asks for the version.
+fn stays(rt: &impl Abort, campaign: &mut OneDevice, port: u8, payload: &[u8], at: u16, why: Why) {
+    match campaign.uplink(port, payload, 0) {
+        Ok(_) => assert!(rt; false),
+        Err(refusal) => assert!(rt; refusal == Refusal { at, why }),
+    }
+    assert!(rt; campaign.server.ledger(1) == Stage::At(Request::Version));
+    campaign.asks(rt, 203, &[0x01]);
 }

@@ -24,7 +24,7 @@ use Rattle.campaign_world.specs.declared.section.Section.TheVariants as place
 use Rattle.campaign_world.specs.World.{WorldState}
 use Rattle.campaign_world.specs.declared.numbered.SentPayload.{SentPayload}
 use Rattle.campaign_world.specs.declared.numbered.MadeUplink.{MadeUplink}
-use Rattle.campaign_world.specs.Causes.{is_device, is_event_or_end, may_come, fits_script, names_device, has_come, is_to_come, has_more, form_cause, cause_of, cause_of_form}
+use Rattle.campaign_world.specs.Causes.{is_device, is_event_or_end, may_come, fits_script, names_device, has_come, is_to_come, fits_payload, has_more, form_cause, cause_of, cause_of_form}
 use Rattle.script_lines.specs.Forms.{form_of}
 use Rattle.script_lines.specs.Limits.{max_lines, max_line, max_time}
 use Rattle.campaign_world.specs.HeldWorld.{HeldWorld, server_of, world_of, IsFine}
@@ -66,17 +66,25 @@ pub time : (world : WorldState) (form : Form) → Fits world form → names_devi
 unfolding form_cause
 time world form so_far names come fails = rw (so_far.comes, so_far.ranges, so_far.fits, names, come, fails) refl
 
-pub limit : (world : WorldState) (form : Form) → Fits world form → names_device (length world.devices) form ≡ true
-    → has_come world.sent world.uplinks world.time form ≡ true → is_to_come world.time form ≡ true → has_more world.server form ≡ false
+pub long : (world : WorldState) (form : Form) → Fits world form → names_device (length world.devices) form ≡ true
+    → has_come world.sent world.uplinks world.time form ≡ true → is_to_come world.time form ≡ true → fits_payload form ≡ false
     → form_cause world form ≡ Some why.Limit
 unfolding form_cause
-limit world form so_far names come timed fails = rw (so_far.comes, so_far.ranges, so_far.fits, names, come, timed, fails) refl
+long world form so_far names come timed fails = rw (so_far.comes, so_far.ranges, so_far.fits, names, come, timed, fails) refl
+
+pub limit : (world : WorldState) (form : Form) → Fits world form → names_device (length world.devices) form ≡ true
+    → has_come world.sent world.uplinks world.time form ≡ true → is_to_come world.time form ≡ true → fits_payload form ≡ true
+    → has_more world.server form ≡ false → form_cause world form ≡ Some why.Limit
+unfolding form_cause
+limit world form so_far names come timed short fails =
+    rw (so_far.comes, so_far.ranges, so_far.fits, names, come, timed, short, fails) refl
 
 pub none : (world : WorldState) (form : Form) → Fits world form → names_device (length world.devices) form ≡ true
-    → has_come world.sent world.uplinks world.time form ≡ true → is_to_come world.time form ≡ true → has_more world.server form ≡ true
-    → form_cause world form ≡ None
+    → has_come world.sent world.uplinks world.time form ≡ true → is_to_come world.time form ≡ true → fits_payload form ≡ true
+    → has_more world.server form ≡ true → form_cause world form ≡ None
 unfolding form_cause
-none world form so_far names come timed more = rw (so_far.comes, so_far.ranges, so_far.fits, names, come, timed, more) refl
+none world form so_far names come timed short more =
+    rw (so_far.comes, so_far.ranges, so_far.fits, names, come, timed, short, more) refl
 
 -- ---- at its start the server has something to send
 
@@ -145,6 +153,7 @@ unmade_sends image section plan devices (form.Device id class hw rows offset key
 unmade_sends image section plan devices (form.At time) fine planned comes = refl
 unmade_sends image section plan devices (form.Wake device) fine planned comes = refl
 unmade_sends image section plan devices (form.Down number device word) fine planned comes = refl
+unmade_sends image section plan devices (form.Raw device port payload word) fine planned comes = refl
 unmade_sends image section plan devices (form.Up number) fine planned comes = refl
 unmade_sends image section plan devices form.End fine planned comes = refl
 
@@ -229,6 +238,7 @@ pub record Passes (world : WorldState) (form : Form) : Type 0 where
   pub names : names_device (length world.devices) form ≡ true
   pub come : has_come world.sent world.uplinks world.time form ≡ true
   pub timed : is_to_come world.time form ≡ true
+  pub short : fits_payload form ≡ true
 
 -- a test that fails gives no cause
 passed : (test : Bool) (cause : LineWhy) (rest : Option LineWhy) → cond (not test) (Some cause) rest ≡ None → (test ≡ true) × (rest ≡ None)
@@ -244,7 +254,8 @@ passes world form fine =
     let three = passed (names_device (length world.devices) form) _ _ two.1 in
     let four = passed (has_come world.sent world.uplinks world.time form) _ _ three.1 in
     let five = passed (is_to_come world.time form) _ _ four.1 in
-    record { comes = one.0; ranges = both.0; fits = both.1; names = three.0; come = four.0; timed = five.0 }
+    let six = passed (fits_payload form) _ _ five.1 in
+    record { comes = one.0; ranges = both.0; fits = both.1; names = three.0; come = four.0; timed = five.0; short = six.0 }
 
 -- ---- what it is that the form of an event names
 
@@ -264,6 +275,26 @@ pub word_within : (f : Form) (number device word : ℕ) → in_range f ≡ true 
 unfolding in_range
 word_within f number device word ranges is = let fits : nat_lt word (2 ^ 32) ≡ true = rw is at ranges in ltb-true _ _ fits
 
+pub struck_within : (count : ℕ) (f : Form) (device port : ℕ) (payload : List ℕ) (word : ℕ) → names_device count f ≡ true
+    → f ≡ form.Raw device port payload word → (1 ≤ device) × (device ≤ count)
+struck_within count f device port payload word names is = named_within count device (rw is at names)
+
+-- a raw line that is in range has a port and a random word, and one that fits has a payload
+pub record Striking (port word : ℕ) : Type 0 where
+  pub port_fits : port ≤ 255
+  pub word_fits : word < 2 ^ 32
+
+pub striking : (f : Form) (device port : ℕ) (payload : List ℕ) (word : ℕ) → in_range f ≡ true → f ≡ form.Raw device port payload word → Striking port word
+unfolding in_range
+striking f device port payload word ranges is =
+    let all : (nat_le port 255 && nat_lt word (2 ^ 32)) ≡ true = rw is at ranges in
+    let both = and_parts (nat_le port 255) (nat_lt word (2 ^ 32)) all in
+    record { port_fits = leb-true _ _ both.0; word_fits = ltb-true _ _ both.1 }
+
+pub payload_within : (f : Form) (device port : ℕ) (payload : List ℕ) (word : ℕ) → fits_payload f ≡ true → f ≡ form.Raw device port payload word
+    → length payload ≤ 242
+payload_within f device port payload word short is = let fits : nat_le (length payload) 242 ≡ true = rw is at short in leb-true _ _ fits
+
 pub time_within : (f : Form) (time : ℕ) → in_range f ≡ true → f ≡ form.At time → time ≤ max_time
 unfolding in_range
 time_within f time ranges is = let fits : nat_le time max_time ≡ true = rw is at ranges in leb-true _ _ fits
@@ -280,6 +311,7 @@ pub record Fine (held : HeldWorld) (form : Form) : Type 0 where
   pub fits : fits_script (length (server_of held.image held.plan held.server).image) (length held.devices) form ≡ true
   pub names : names_device (length held.devices) form ≡ true
   pub come : has_come held.sent held.uplinks held.time form ≡ true
+  pub short : fits_payload form ≡ true
 
 pub fine_of : (held : HeldWorld) (form : Form) → IsFine held form → Fine held form
 fine_of held form fine =
@@ -291,6 +323,7 @@ fine_of held form fine =
       fits = subst (λ (n : ℕ). fits_script (length (server_of held.image held.plan held.server).image) n form ≡ true) some.1 all.fits;
       names = subst (λ (n : ℕ). names_device n form ≡ true) some.1 all.names;
       come = all.come;
+      short = all.short;
     }
 
 -- ---- where a form may come
@@ -319,6 +352,7 @@ event_at s (form.Ask device) event comes = at_events_only (λ (x : Section). may
 event_at s form.Frag event comes = at_events_only (λ (x : Section). may_come x form.Frag) refl refl refl refl refl refl s comes
 event_at s form.Status event comes = at_events_only (λ (x : Section). may_come x form.Status) refl refl refl refl refl refl s comes
 event_at s (form.Down number device word) event comes = at_events_only (λ (x : Section). may_come x (form.Down number device word)) refl refl refl refl refl refl s comes
+event_at s (form.Raw device port payload word) event comes = at_events_only (λ (x : Section). may_come x (form.Raw device port payload word)) refl refl refl refl refl refl s comes
 event_at s (form.Up number) event comes = at_events_only (λ (x : Section). may_come x (form.Up number)) refl refl refl refl refl refl s comes
 event_at s form.End event comes = at_events_only (λ (x : Section). may_come x form.End) refl refl refl refl refl refl s comes
 

@@ -11,12 +11,13 @@ use Rattle.campaign_server.specs.declared.stage.Stage.{Stage}
 use Rattle.campaign_server.specs.declared.stage.Stage.TheVariants.{At as AtRequest}
 use Rattle.campaign_server.specs.declared.stage.Request.TheVariants.{Version}
 use Rattle.campaign_server.specs.Plan.{Plan}
+use Rattle.package_grammar.specs.declared.downlink.Downlink.{Downlink}
 use Rattle.campaign_server.specs.Server.{ServerState, DownlinkCommand, numbered, ledger}
 use Rattle.campaign_server.specs.Asking.{request_of}
 use Rattle.campaign_server.specs.Fragments.{after_count, next_fragment, after_fragment as server_after_fragment, status_to_all, after_status_to_all}
 use Rattle.campaign_server.specs.Uplinks.{with_answers, read_uplink, uplink_step}
 use Rattle.script_lines.specs.declared.forms.Form.{Form}
-use Rattle.script_lines.specs.declared.forms.Form.TheVariants.{Header, Image, Group, WindowC, WindowB, Device, At, Wake, Ask, Frag, Status, Down, Up, End}
+use Rattle.script_lines.specs.declared.forms.Form.TheVariants.{Header, Image, Group, WindowC, WindowB, Device, At, Wake, Ask, Frag, Status, Down, Raw, Up, End}
 use Rattle.script_lines.specs.Lines.{lines_of}
 use Rattle.script_lines.specs.Forms.{form_of}
 use Rattle.campaign_world.specs.declared.section.Section.{Section}
@@ -27,7 +28,7 @@ use Rattle.campaign_world.specs.declared.numbered.SentPayload.{SentPayload}
 use Rattle.campaign_world.specs.declared.numbered.MadeUplink.{MadeUplink}
 use Rattle.campaign_world.specs.World.{WorldState, first_world}
 use Rattle.campaign_world.specs.Causes.{is_event_or_end, may_come, form_cause, cause_of_form, cause_of}
-use Rattle.campaign_world.specs.Making.{with_sent, with_device, after_wake, after_down, after_answer, after_up, at_events, after_form}
+use Rattle.campaign_world.specs.Making.{with_sent, with_device, after_wake, after_down, raw_down, after_raw, after_answer, after_up, at_events, after_form}
 use Rattle.campaign_world.specs.Script.{after_form_of, after_line, line_result, read_line, read_lines, campaign_of}
 use Rattle.campaign_world.specs.Lives.{HasItsDevices}
 use Rattle.campaign_world.proofs.FormCauses.{event_at, passes}
@@ -83,6 +84,11 @@ reached_many : (w : WorldState) (n word : ℕ) (o : Option DeviceState) (p : Opt
 reached_many w n word (Some d) (Some p) = device_many w n (delivery w.time word (w.lines + 1) p.down d).device
 reached_many w n word (Some d) None = record { devices = refl; stages = refl; planned = refl }
 reached_many w n word None p = record { devices = refl; stages = refl; planned = refl }
+
+struck_many : (w : WorldState) (n word : ℕ) (down : Downlink) (o : Option DeviceState)
+    → IsAsMany w (after_raw w n word down o)
+struck_many w n word down None = record { devices = refl; stages = refl; planned = refl }
+struck_many w n word down (Some d) = device_many w n (delivery w.time word (w.lines + 1) down d).device
 
 fragment_by : (s : ServerState) (b : Bool) → (length (cond b (after_count (record s { next = s.next + 1 })) s).stages
     ≡ length s.stages) × (length (cond b (after_count (record s { next = s.next + 1 })) s).plan.devices
@@ -200,6 +206,10 @@ form_counted w (Down number device word) fine k =
     event_counted w (after_down w device word (numbered w.devices device) (numbered w.sent number))
     (Down number device word) refl (passes w (Down number device word) fine).comes k
     (reached_many w device word (numbered w.devices device) (numbered w.sent number))
+form_counted w (Raw device port payload word) fine k =
+    event_counted w (after_raw w device word (raw_down port payload) (numbered w.devices device))
+    (Raw device port payload word) refl (passes w (Raw device port payload word) fine).comes k
+    (struck_many w device word (raw_down port payload) (numbered w.devices device))
 form_counted w (Up number) fine k =
     event_counted w (after_up w (numbered w.uplinks number)) (Up number) refl (passes w (Up number) fine).comes k
     (up_many w (numbered w.uplinks number))

@@ -17,7 +17,7 @@ use Rattle.campaign_server.specs.Fragments.{next_fragment, after_fragment as ser
 use Rattle.campaign_server.specs.Time.{time_answer}
 use Rattle.campaign_server.specs.Uplinks.{with_answers, read_uplink, uplink_step}
 use Rattle.script_lines.specs.declared.forms.Form.{Form}
-use Rattle.script_lines.specs.declared.forms.Form.TheVariants.{Header, Image, Group, WindowC, WindowB, Device, At as Time, Wake, Ask, Frag, Status, Down, Up, End}
+use Rattle.script_lines.specs.declared.forms.Form.TheVariants.{Header, Image, Group, WindowC, WindowB, Device, At as Time, Wake, Ask, Frag, Status, Down, Raw, Up, End}
 use Rattle.script_lines.specs.Ranges.{in_range, is_device as ranged}
 use Rattle.campaign_world.specs.declared.section.Section.{Section}
 use Rattle.campaign_world.specs.declared.section.Section.TheVariants as section
@@ -25,6 +25,7 @@ use Rattle.campaign_world.specs.declared.faults.LineWhy.{LineWhy}
 use Rattle.campaign_world.specs.declared.numbered.SentPayload.{SentPayload}
 use Rattle.campaign_world.specs.declared.numbered.MadeUplink.{MadeUplink}
 use Rattle.campaign_world.specs.World.{WorldState}
+use Rattle.campaign_world.specs.Honest.{is_raw}
 use Rattle.campaign_world.specs.Causes.{may_come, fits_script, is_device, names_device, may_reach, has_come, form_cause}
 use Rattle.campaign_world.specs.Making.{with_sent, with_device, after_wake, after_down, after_answer, after_up, at_events, after_form}
 use Rattle.campaign_world.proofs.LineItems.{if_some, numbered_put, numbered_there}
@@ -323,12 +324,12 @@ few_rows id hw rows offset all =
     leb-true _ _ b.1
 
 pub form_turn : (image : List ℕ) (w : WorldState) (form : Form) → All (λ b. b < 2 ^ 8) image → Keeps image w
-    → form_cause w form ≡ None → Turns image form w (after_form w form)
+    → form_cause w form ≡ None → is_raw form ≡ false → Turns image form w (after_form w form)
 unfolding after_form is_early in_range
-form_turn image w Header bytes k fine =
+form_turn image w Header bytes k fine honest =
     let was = at_header image w w.section (passes w Header fine).may k.stands in
     still_turn image Header w _ refl k.server was refl refl refl refl
-form_turn image w (Image frag_size parity) bytes k fine =
+form_turn image w (Image frag_size parity) bytes k fine honest =
     let p = passes w (Image frag_size parity) fine in
     let was = at_image image w frag_size parity w.section p.may k.stands in
     let both = and_parts _ _ p.ranged in
@@ -350,7 +351,7 @@ form_turn image w (Image frag_size parity) bytes k fine =
       );
       how = inr (inl (record { other = refl; before = was.1; devices = was.1; none = was.0; sent = was.0 }));
     }
-form_turn image w (Group addr key min max) bytes k fine =
+form_turn image w (Group addr key min max) bytes k fine honest =
     let was = at_group image w addr min max key w.section (passes w (Group addr key min max) fine).may k.stands in
     record {
       lines = refl;
@@ -358,17 +359,17 @@ form_turn image w (Group addr key min max) bytes k fine =
       stands = record { some = was.2.some; small = was.2.small; few = was.2.few; groups = omega arith };
       how = inr (inl (record { other = refl; before = was.1; devices = was.1; none = was.0; sent = was.0 }));
     }
-form_turn image w (WindowC start timeout freq dr) bytes k fine =
+form_turn image w (WindowC start timeout freq dr) bytes k fine honest =
     still_turn image (WindowC start timeout freq dr) w _ refl
     (record { image_is = k.server.image_is; next = omega arith; few = k.server.few })
     (late_cut image w (WindowC start timeout freq dr) w.section refl
     (passes w (WindowC start timeout freq dr) fine).may k.stands) refl refl refl refl
-form_turn image w (WindowB start periodicity timeout freq dr) bytes k fine =
+form_turn image w (WindowB start periodicity timeout freq dr) bytes k fine honest =
     still_turn image (WindowB start periodicity timeout freq dr) w _ refl
     (record { image_is = k.server.image_is; next = omega arith; few = k.server.few })
     (late_cut image w (WindowB start periodicity timeout freq dr) w.section refl
     (passes w (WindowB start periodicity timeout freq dr) fine).may k.stands) refl refl refl refl
-form_turn image w (Device id class hw rows offset key descriptor) bytes k fine =
+form_turn image w (Device id class hw rows offset key descriptor) bytes k fine honest =
     let p = passes w (Device id class hw rows offset key descriptor) fine in
     let both = and_parts (ranged id hw rows offset) (id == length w.devices + 1) p.ranged in
     let next : id ≡ length w.devices + 1 = eqb-true _ _ both.1 in
@@ -391,38 +392,39 @@ form_turn image w (Device id class hw rows offset key descriptor) bytes k fine =
         sent = refl;
       })));
     }
-form_turn image w (Time time) bytes k fine =
+form_turn image w (Time time) bytes k fine honest =
     still_turn image (Time time) w _ refl k.server
     (late_cut image w (Time time) w.section refl (passes w (Time time) fine).may k.stands) refl refl refl refl
-form_turn image w (Wake device) bytes k fine =
+form_turn image w (Wake device) bytes k fine honest =
     let p = passes w (Wake device) fine in
     let there = number_there (length w.devices) device p.names in
     let d = device_there w.devices device there in
     woken_turn image w device d.0 k (late_cut image w (Wake device) w.section refl p.may k.stands) there.0 d.1
-form_turn image w (Ask device) bytes k fine =
+form_turn image w (Ask device) bytes k fine honest =
     sends_turn image (Ask device) w w.server (Some device) (request_of w.server device) refl
     (record { is = k.server; plan = refl })
     (late_cut image w (Ask device) w.section refl (passes w (Ask device) fine).may k.stands)
     (ask_sent image w.server device k.server)
-form_turn image w Frag bytes k fine =
+form_turn image w Frag bytes k fine honest =
     sends_turn image Frag w (server_after_fragment w.server) None (result_ok (next_fragment w.server)) refl
     (fragment_goes image w.server k.server)
     (late_cut image w Frag w.section refl (passes w Frag fine).may k.stands) (fragment_sent image w.server k.server)
-form_turn image w Status bytes k fine =
+form_turn image w Status bytes k fine honest =
     sends_turn image Status w (after_status_to_all w.server) None (status_to_all w.server) refl
     (status_goes image w.server k.server)
     (late_cut image w Status w.section refl (passes w Status fine).may k.stands)
     (status_sent image (cut_of w.server.plan) w.server)
-form_turn image w (Down number device word) bytes k fine =
+form_turn image w (Down number device word) bytes k fine honest =
     let p = passes w (Down number device word) fine in
     let there = number_there (length w.devices) device p.names in
     let d = device_there w.devices device there in
     let s = payload_there device (numbered w.sent number) p.come in
     reached_turn image w number device word d.0 s.0 bytes k
     (late_cut image w (Down number device word) w.section refl p.may k.stands) there.0 d.1 s.1
-form_turn image w (Up number) bytes k fine =
+form_turn image w (Raw device port payload word) bytes k fine honest = absurd (true≢false honest)
+form_turn image w (Up number) bytes k fine honest =
     up_turn image (Up number) w (numbered w.uplinks number) refl k.server
     (late_cut image w (Up number) w.section refl (passes w (Up number) fine).may k.stands)
-form_turn image w End bytes k fine =
+form_turn image w End bytes k fine honest =
     still_turn image End w _ refl k.server
     (late_cut image w End w.section refl (passes w End fine).may k.stands) refl refl refl refl

@@ -1,5 +1,5 @@
 -- Each fragment that a line brings after the setup was brought is heard.
-use Rattle.std.proofs.Common.{◌≡◌, ◌⊎◌, inl, inr, ℕ, zero, suc, ◌+◌, ◌-◌, ◌^◌, ◌<◌, ◌≤◌, List, [], ◌∷◌, ◌++◌, All, length, take, drop, Option, None, Some, Result, Ok, Err, IfOk, append-nil, append_assoc, refl, sym, ap, ◌∙◌, subst, arith, length-drop}
+use Rattle.std.proofs.Common.{◌≡◌, ◌⊎◌, inl, inr, ℕ, zero, suc, ◌+◌, ◌-◌, ◌^◌, ◌<◌, ◌≤◌, List, [], ◌∷◌, ◌++◌, All, length, take, drop, Option, None, Some, Result, Ok, Err, IfOk, append-nil, append_assoc, refl, sym, ap, ◌∙◌, subst, arith, length-drop, false}
 use Rattle.std.specs.List.{slice_set}
 use Rattle.frag_model.specs.Fragments.{Fragment}
 use Rattle.frag_model.specs.Members.{In}
@@ -18,6 +18,7 @@ use Rattle.campaign_world.specs.World.{WorldState, first_world}
 use Rattle.campaign_world.specs.Causes.{cause_of_form, cause_of}
 use Rattle.campaign_world.specs.Making.{device_of, after_form}
 use Rattle.campaign_world.specs.Script.{after_form_of, after_line, line_result, read_line, read_lines, campaign_of}
+use Rattle.campaign_world.specs.Honest.{is_raw, has_raw, IsHonest}
 use Rattle.campaign_world.specs.Headline.{Brings, WasBrought}
 use Rattle.campaign_world.proofs.LineItems.{if_some, none_there, numbered_push, numbered_put, numbered_there, numbered_next, within}
 use Rattle.campaign_world.proofs.HeadlineCommands.{Cut, cut_of, setup_request}
@@ -25,6 +26,7 @@ use Rattle.campaign_world.proofs.HeadlinePayloads.{stays}
 use Rattle.campaign_world.proofs.HeadlineEnds.{IsDeviceFor}
 use Rattle.campaign_world.proofs.HeadlineWorlds.{Keeps, HasStayed, IsReached, Turns}
 use Rattle.campaign_world.proofs.HeadlineForms.{form_turn}
+use Rattle.campaign_world.proofs.Independence.{Grows, sent_grows}
 use Rattle.campaign_world.proofs.HeadlineLines.{Reads, cause_by, line_reads, first_reads, end_is, campaign_reads}
 use Rattle.campaign_world.proofs.HeadlineSessions.{NotYet, SessionHears, DeviceHears, not_yet_more, quiet, session_quiet, no_delivery, elsewhere, moved_hears, reached_hears}
 
@@ -38,25 +40,6 @@ cases_same (suc a) zero = inr (λ is. absurd cc)
 cases_same (suc a) (suc b) = elim (cases_same a b) [
   | inl is ↦ inl (ap suc is)
   | inr differs ↦ inr (λ is. differs (omega (arith, is)))
-]
-
--- what is sent stays sent
-abbrev Grows : List SentPayload → List SentPayload → Type 0
-Grows old new = (more : List SentPayload) × (new ≡ old ++ more)
-
-no_more : (old new : List SentPayload) → new ≡ old → Grows old new
-no_more old new is = ([], is ∙ sym (append-nil old))
-
-turn_grows : (image : List ℕ) (form : Form) (w v : WorldState) → Turns image form w v → Grows w.sent v.sent
-turn_grows image form w v turn = elim turn.how [
-  | inl q ↦ (q.more, q.sent)
-  | inr other ↦ elim other [
-    | inl b ↦ no_more w.sent v.sent (b.sent ∙ sym b.none)
-    | inr another ↦ elim another [
-      | inl j ↦ no_more w.sent v.sent j.sent
-      | inr r ↦ no_more w.sent v.sent r.sent
-    ]
-  ]
 ]
 
 -- up to a line each device heard all
@@ -173,34 +156,6 @@ turn_full image lines sent more w v form line bytes k read turn grown line_is fo
   ]
 ]
 
-form_grows : (image : List ℕ) (w : WorldState) (form : Option Form) → All (λ b. b < 2 ^ 8) image → Keeps image w
-    → cause_of_form w form ≡ None → Grows w.sent (after_form_of w form).sent
-form_grows image w None bytes k fine = absurd cc
-form_grows image w (Some form) bytes k fine =
-    turn_grows image form w (after_form w form) (form_turn image w form bytes k fine)
-
-line_grows : (image : List ℕ) (w : WorldState) (line : List ℕ) (rest : List (List ℕ)) (world : WorldState)
-    (cause : Option LineWhy) → All (λ b. b < 2 ^ 8) image → Keeps image w → cause_of w line ≡ cause
-    → read_lines (line_result w line cause) rest ≡ Ok world
-    → IfOk (line_result w line cause) (λ x. Grows x.sent world.sent) → Grows w.sent world.sent
-unfolding read_lines after_line cause_of
-line_grows image w line rest world (Some why) bytes k fine is h = absurd cc
-line_grows image w line rest world None bytes k fine is h =
-    let first = form_grows image w (form_of line) bytes k (cause_by _ _ _ fine) in
-    (first.0 ++ h.0, h.1 ∙ ap (λ (xs : List SentPayload). xs ++ h.0) first.1 ∙ append_assoc w.sent first.0 h.0)
-
-all_grow : (image : List ℕ) (lines : List (List ℕ)) (r : Result WorldState LineFault) (rest : List (List ℕ))
-    (world : WorldState) → All (λ b. b < 2 ^ 8) image → IfOk r (Reads image lines rest)
-    → read_lines r rest ≡ Ok world → IfOk r (λ w. Grows w.sent world.sent)
-unfolding read_lines read_line
-all_grow image lines (Err fault) rest world bytes h is = tt
-all_grow image lines (Ok w) [] world bytes h is =
-    let same : w ≡ world = cc in ([], ap (λ (x : WorldState). x.sent) (sym same) ∙ sym (append-nil w.sent))
-all_grow image lines (Ok w) (line ∷ rest) world bytes h is =
-    line_grows image w line rest world (cause_of w line) bytes h.keeps refl is
-    (all_grow image lines (read_line w line) rest world bytes
-    (line_reads image lines w line rest (cause_of w line) bytes h refl) is)
-
 -- ---- a whole script
 
 form_full : (image : List ℕ) (lines : List (List ℕ)) (sent : List SentPayload) (w : WorldState) (line : List ℕ)
@@ -209,7 +164,8 @@ form_full : (image : List ℕ) (lines : List (List ℕ)) (sent : List SentPayloa
     → Full image lines sent (after_form_of w form)
 form_full image lines sent w line rest None bytes r h more is fine = absurd cc
 form_full image lines sent w line rest (Some form) bytes r h more is fine =
-    let turn = form_turn image w form bytes r.keeps fine in
+    let mine : is_raw form ≡ false = ap has_raw (sym is) ∙ r.honest.0 in
+    let turn = form_turn image w form bytes r.keeps fine mine in
     let after : WorldState = after_form w form in
     subst (λ (n : ℕ). AllHear image (cut_of after.server.plan) lines sent (n + 1) after.devices) (sym turn.lines)
     (turn_full image lines sent more.0 w after form line bytes r.keeps r.read turn more.1
@@ -238,7 +194,7 @@ all_full image lines world (Ok w) [] bytes h is = let same : w
 all_full image lines world (Ok w) (line ∷ rest) bytes h is =
     all_full image lines world (read_line w line) rest bytes
     (line_full image lines world.sent w line rest (cause_of w line) bytes h.0 h.1
-    (all_grow image lines (Ok w) (line ∷ rest) world bytes h.0 is) refl) is
+    (sent_grows w world (line ∷ rest) is) refl) is
 
 no_line : (lines : List (List ℕ)) (n : ℕ) (line : List ℕ) → n ≤ 0 → numbered lines n ≡ Some line → ⊥
 no_line lines zero line le is = absurd cc
@@ -252,36 +208,36 @@ first_full image lines sent id =
     (sym (none_there (first_world image).devices id refl)) (λ c n le b. no_line lines n b.3.0 le b.3.4.line_is)
 
 campaign_full : (image script : List ℕ) (world : WorldState) → All (λ b. b < 2 ^ 8) image
-    → campaign_of image script ≡ Ok world → Full image (lines_of script) world.sent world
+    → IsHonest script → campaign_of image script ≡ Ok world → Full image (lines_of script) world.sent world
 unfolding campaign_of
-campaign_full image script world bytes is =
+campaign_full image script world bytes honest is =
     all_full image (lines_of script) world (Ok (first_world image)) (lines_of script) bytes
-    (first_reads image (lines_of script), first_full image (lines_of script) world.sent) (end_is _ world is)
+    (first_reads image (lines_of script) honest, first_full image (lines_of script) world.sent) (end_is _ world is)
 
--- so it is in each accepted campaign
+-- so it is in each accepted honest campaign
 pub campaign_full_at : (image script : List ℕ) (world : WorldState) (id : ℕ) (device : DeviceState)
-    → All (λ b. b < 2 ^ 8) image → campaign_of image script ≡ Ok world → numbered world.devices id ≡ Some device
+    → All (λ b. b < 2 ^ 8) image → IsHonest script → campaign_of image script ≡ Ok world → numbered world.devices id ≡ Some device
     → SessionHears image (cut_of world.server.plan) (Brings image (lines_of script) world.sent id) world.lines
     device.config device.sessions.first
 unfolding AllHear
-campaign_full_at image script world id device bytes is d =
+campaign_full_at image script world id device bytes honest is d =
     subst (DeviceHears image (cut_of world.server.plan) (Brings image (lines_of script) world.sent id) world.lines) d
-    (campaign_full image script world bytes is id)
+    (campaign_full image script world bytes honest is id)
 
 pub campaign_hears : (image script : List ℕ) (world : WorldState) (id : ℕ) (device : DeviceState) (session : Session)
-    → All (λ b. b < 2 ^ 8) image → campaign_of image script ≡ Ok world
+    → All (λ b. b < 2 ^ 8) image → IsHonest script → campaign_of image script ≡ Ok world
     → numbered world.devices id ≡ Some device → device.sessions.first ≡ Some session → (f : Fragment) (n : ℕ)
     → Brings image (lines_of script) world.sent id n (setup_request image (cut_of world.server.plan)) → n < f.mark
     → WasBrought image (lines_of script) world.sent id f → In f session.heard
 unfolding AllHear
-campaign_hears image script world id device session bytes is d e f n setup later w =
+campaign_hears image script world id device session bytes honest is d e f n setup later w =
     let lines : List (List ℕ) = lines_of script in
     let cut : Cut = cut_of world.server.plan in
     let brings : ℕ → Command → Type 0 = Brings image lines world.sent id in
     let all : SessionHears image cut brings world.lines device.config device.sessions.first =
-    campaign_full_at image script world id device bytes is d in
+    campaign_full_at image script world id device bytes honest is d in
     let its : SessionHears image cut brings world.lines device.config (Some session) =
     subst (λ (x : Option Session). SessionHears image cut brings world.lines device.config x) e all in
-    let left : length (drop world.lines lines) ≡ 0 = ap length (campaign_reads image script world bytes is).left in
+    let left : length (drop world.lines lines) ≡ 0 = ap length (campaign_reads image script world bytes honest is).left in
     let inside : f.mark ≤ length lines = within lines f.mark w.3.0 w.3.4.line_is in
     its.1 f n setup later (omega (arith, left, inside, length-drop world.lines lines)) w

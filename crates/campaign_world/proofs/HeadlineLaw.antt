@@ -23,12 +23,14 @@ use Rattle.campaign_world.specs.World.{WorldState}
 use Rattle.campaign_world.specs.Report.{◌⧺◌, image_line, device_line, counts_line, same_word, verdict_text, session_text, session_line, session_lines, device_part, device_parts, report_of}
 use Rattle.campaign_world.specs.Script.{campaign_of}
 use Rattle.campaign_world.specs.Recovery.{file_by, file_of, recovery_by, recovery, RecoversTheImage}
+use Rattle.campaign_world.specs.Honest.{IsHonest}
 use Rattle.campaign_world.specs.Headline.{WholeAt, HasNoOther, IsOfItsLine, IsFragmentOf, IsServed, Brings, CameInOrder, setup_command, HearsBrought, text_before, text_behind, IsRecovered, IsReported, IsCampaign, Headline}
 use Rattle.campaign_world.proofs.HeadlineCommands.{Cut, cut_of, setup_request}
 use Rattle.campaign_world.proofs.HeadlineEnds.{IsSetFor, IsServerOf}
 use Rattle.campaign_world.proofs.LineItems.{if_some}
-use Rattle.campaign_world.proofs.HeadlineLines.{campaign_reads, campaign_device, campaign_session, campaign_configured, campaign_came}
+use Rattle.campaign_world.proofs.HeadlineLines.{campaign_reads, campaign_device, campaign_session, campaign_came}
 use Rattle.campaign_world.proofs.HeadlineHeard.{campaign_hears}
+use Rattle.campaign_world.proofs.Configured.{is_configured}
 use Rattle.campaign_world.proofs.HeadlineImage.{IsShapeFor, image_fits, alone_is_image, behind}
 
 -- the session's shape is the image's
@@ -84,12 +86,12 @@ recovered_by image s h all =
 set_for : (image script : List ℕ) (world : WorldState) (id : ℕ) (stage : Stage) (device : DeviceState) (session : Session)
     → IsCampaign image script world id stage device session → IsSetFor image (cut_of world.server.plan) session
 set_for image script world id stage device session c =
-    campaign_session image script world id device session c.bytes c.accepted c.device_is c.session_is
+    campaign_session image script world id device session c.bytes c.honest c.accepted c.device_is c.session_is
 
 server_of : (image script : List ℕ) (world : WorldState) (id : ℕ) (stage : Stage) (device : DeviceState)
     (session : Session) → IsCampaign image script world id stage device session → IsServerOf image world.server
 server_of image script world id stage device session c =
-    (campaign_reads image script world c.bytes c.accepted).keeps.server
+    (campaign_reads image script world c.bytes c.honest c.accepted).keeps.server
 
 session_rows : (image script : List ℕ) (world : WorldState) (id : ℕ) (stage : Stage) (device : DeviceState)
     (session : Session) → IsCampaign image script world id stage device session
@@ -97,7 +99,7 @@ session_rows : (image script : List ℕ) (world : WorldState) (id : ℕ) (stage 
 session_rows image script world id stage device session c =
     if_some (λ (s : Session). s.rows ≡ min device.config.rows (nb_frag_of (length image) world.server.plan.frag_size))
     device.sessions.first session c.session_is
-    (campaign_device image script world id device c.bytes c.accepted c.device_is).rows
+    (campaign_device image script world id device c.bytes c.honest c.accepted c.device_is).rows
 
 served : (image script : List ℕ) (world : WorldState) (id : ℕ) (stage : Stage) (device : DeviceState)
     (session : Session) → IsCampaign image script world id stage device session
@@ -127,16 +129,16 @@ brought image script world id stage device session c =
     let setup = setup_is image world.server (server_of image script world id stage device session c) in
     record {
       only = subst (λ (x : Command). CameInOrder image lines world.sent id x world.lines session.heard) (sym setup)
-          (campaign_came image script world id device session c.bytes c.accepted c.device_is c.session_is);
-      all = λ f n d later w. campaign_hears image script world id device session c.bytes c.accepted c.device_is
+          (campaign_came image script world id device session c.bytes c.honest c.accepted c.device_is c.session_is);
+      all = λ f n d later w. campaign_hears image script world id device session c.bytes c.honest c.accepted c.device_is
           c.session_is f n (subst (λ (x : Command). Brings image lines world.sent id n x) setup d) later w;
     }
 
 recovered_at : (image script : List ℕ) (world : WorldState) (id : ℕ) (device : DeviceState) (session : Session)
-    → All (λ b. b < 2 ^ 8) image → campaign_of image script ≡ Ok world → numbered world.devices id ≡ Some device
+    → All (λ b. b < 2 ^ 8) image → IsHonest script → campaign_of image script ≡ Ok world → numbered world.devices id ≡ Some device
     → device.sessions.first ≡ Some session → IsRecovered image session
-recovered_at image script world id device session bytes is d s =
-    let k = campaign_session image script world id device session bytes is d s in
+recovered_at image script world id device session bytes honest is d s =
+    let k = campaign_session image script world id device session bytes honest is d s in
     let shape = shape_for image (cut_of world.server.plan) session bytes k in
     recovered_by image session shape.0 (subst (λ (n : ℕ). AllByRecursion (IsFragmentOf image n) session.heard)
     (sym shape.1) k.heard)
@@ -144,7 +146,7 @@ recovered_at image script world id device session bytes is d s =
 recovered : (image script : List ℕ) (world : WorldState) (id : ℕ) (stage : Stage) (device : DeviceState)
     (session : Session) → IsCampaign image script world id stage device session → IsRecovered image session
 recovered image script world id stage device session c =
-    recovered_at image script world id device session c.bytes c.accepted c.device_is c.session_is
+    recovered_at image script world id device session c.bytes c.honest c.accepted c.device_is c.session_is
 
 -- the report over a device that has no session but the first
 alone_lines : (sent : List ℕ) (all : SessionTable) (session : Session) → all.first ≡ Some session → HasNoOther all
@@ -256,7 +258,7 @@ reported image script world id stage device session c =
     let seen : Seen = seen_of session in
     let server : ServerState = world.server in
     let text = report_is world id stage device session c.stage_is c.device_is c.session_is
-    (campaign_device image script world id device c.bytes c.accepted c.device_is).alone in
+    (campaign_device image script world id device c.bytes c.honest c.accepted c.device_is).alone in
     let whole : List ℕ → List ℕ = λ line. report_over world id stage device line in
     record {
       cases = elim (seen_cases seen.verdict r.agrees) [
@@ -282,11 +284,11 @@ reported image script world id stage device session c =
 configured : (image script : List ℕ) (world : WorldState) (id : ℕ) (device : DeviceState) → All (λ b. b < 2 ^ 8) image
     → campaign_of image script ≡ Ok world → numbered world.devices id ≡ Some device
     → IsOfItsLine (lines_of script) id device.config
-configured image script world id device bytes is there = campaign_configured image script world id device bytes is there
+configured image script world id device bytes is there = is_configured image script world id device is there
 
 one : (image script : List ℕ) (world : WorldState) (id : ℕ) (device : DeviceState) → All (λ b. b < 2 ^ 8) image
-    → campaign_of image script ≡ Ok world → numbered world.devices id ≡ Some device → HasNoOther device.sessions
-one image script world id device bytes is there = (campaign_device image script world id device bytes is there).alone
+    → IsHonest script → campaign_of image script ≡ Ok world → numbered world.devices id ≡ Some device → HasNoOther device.sessions
+one image script world id device bytes honest is there = (campaign_device image script world id device bytes honest is there).alone
 
 pub headline : Headline
 headline = record { configured = configured; one = one; served = served; brought = brought; recovered = recovered; reported = reported }
@@ -312,14 +314,14 @@ session_image image (Some s) file r given =
     file_by_image image s (seen_of s) (seen_of s).verdict file refl refl (r s refl) given
 
 device_image : (image script : List ℕ) (world : WorldState) (id : ℕ) (o : Option DeviceState) (file : List ℕ)
-    → All (λ b. b < 2 ^ 8) image → campaign_of image script ≡ Ok world → numbered world.devices id ≡ o
+    → All (λ b. b < 2 ^ 8) image → IsHonest script → campaign_of image script ≡ Ok world → numbered world.devices id ≡ o
     → recovery_by o ≡ Ok file → file ≡ image
-device_image image script world id None file bytes is there given = absurd cc
-device_image image script world id (Some device) file bytes is there given =
+device_image image script world id None file bytes honest is there given = absurd cc
+device_image image script world id (Some device) file bytes honest is there given =
     session_image image device.sessions.first file
-    (λ s at. recovered_at image script world id device s bytes is there at) given
+    (λ s at. recovered_at image script world id device s bytes honest is there at) given
 
 pub recovers : RecoversTheImage
 unfolding recovery
-recovers image script world id file bytes is given =
-    device_image image script world id (numbered world.devices id) file bytes is refl given
+recovers image script world id file bytes honest is given =
+    device_image image script world id (numbered world.devices id) file bytes honest is refl given

@@ -37,7 +37,8 @@ use Rattle.campaign_world.specs.World.{WorldState, first_world}
 use Rattle.campaign_world.specs.Causes.{cause_of_form, cause_of}
 use Rattle.campaign_world.specs.Making.{class_of, config_of, device_of, after_form}
 use Rattle.campaign_world.specs.Script.{after_form_of, after_line, line_result, read_line, read_lines, end_result_at, end_result, campaign_of}
-use Rattle.campaign_world.specs.Headline.{IsClass, IsOfItsLine, Delivers, Listens, campaign_before, Brings, WasBrought, CameInOrder}
+use Rattle.campaign_world.specs.Honest.{is_raw, has_raw, AreHonest, IsHonest}
+use Rattle.campaign_world.specs.Headline.{Delivers, Listens, campaign_before, Brings, WasBrought, CameInOrder}
 use Rattle.campaign_world.proofs.LineItems.{if_some, some_is, some_weaker, none_there, numbered_more, numbered_push, numbered_put, numbered_there, numbered_next, take_next}
 use Rattle.campaign_world.proofs.HeadlineCommands.{Cut, cut_of, setup_req, command_of, setup_request, fragment_command, IsGood, setup_good, fragment_good}
 use Rattle.campaign_world.proofs.HeadlinePayloads.{Moves, stays, comes_to, way_of}
@@ -372,87 +373,7 @@ turn_came image lines w v form line bytes k read turn line_is form_is h = elim t
           (if_some (DeviceCame image lines w.sent r.id w.lines) (numbered w.devices r.id) r.old r.before (h r.id))))
     ]
 
--- ---- the lines of devices
-
--- a device that is there is configured as its line says
-pub AllConfigured : List (List ℕ) → List DeviceState → Type 0
-AllConfigured lines ds = (id : ℕ) → IfSome (numbered ds id) (λ d. IsOfItsLine lines id d.config)
-
-configured_by : (lines : List (List ℕ)) (id : ℕ) (old new : Option DeviceState)
-    → IfSome old (λ d. IsOfItsLine lines id d.config) → (new ≡ old) ⊎ HasStayed old new
-    → IfSome new (λ d. IsOfItsLine lines id d.config)
-configured_by lines id old new h (inl same) =
-    subst (λ (o : Option DeviceState). IfSome o (λ d. IsOfItsLine lines id d.config)) (sym same) h
-configured_by lines id old new h (inr s) =
-    some_is (λ (d : DeviceState). IsOfItsLine lines id d.config) new s.e s.is
-    (subst (IsOfItsLine lines id) (sym s.moves.config)
-    (if_some (λ (d : DeviceState). IsOfItsLine lines id d.config) old s.d s.was h))
-
-class_same : (k : Class) → IsClass k (class_of k)
-class_same class.A = refl
-class_same class.C = refl
-
-turn_configured : (image : List ℕ) (lines : List (List ℕ)) (w v : WorldState) (form : Form) (line : List ℕ)
-    → Turns image form w v → numbered lines (w.lines + 1) ≡ Some line → form_of line ≡ Some form
-    → AllConfigured lines w.devices → AllConfigured lines v.devices
-unfolding AllConfigured
-turn_configured image lines w v form line turn line_is form_is h = elim turn.how [
-  | inl q ↦ λ id. configured_by lines id (numbered w.devices id) (numbered v.devices id) (h id) (q.devices id)
-  | inr other ↦ elim other [
-    | inl b ↦ λ id. subst (λ (o : Option DeviceState). IfSome o (λ d. IsOfItsLine lines id d.config))
-        (sym (none_there v.devices id b.devices)) tt
-    | inr another ↦ elim another [
-      | inl j ↦ λ id. subst (λ (ds : List DeviceState). IfSome (numbered ds id) (λ d. IsOfItsLine lines id d.config))
-          (sym j.devices) (joined j id)
-      | inr r ↦ λ id. subst (λ (ds : List DeviceState). IfSome (numbered ds id) (λ d. IsOfItsLine lines id d.config))
-          (sym r.devices) (reached r id)
-    ]
-  ]
-]
-  where
-    joined : (j : IsJoined form w v) → (id : ℕ)
-        → IfSome (numbered (w.devices ++ device_of j.class j.hw j.rows j.offset j.key j.descriptor ∷ []) id)
-        (λ d. IsOfItsLine lines id d.config)
-    joined j id = elim (numbered_push w.devices (device_of j.class j.hw j.rows j.offset j.key j.descriptor) id) [
-      | inl same ↦ subst (λ (o : Option DeviceState). IfSome o (λ d. IsOfItsLine lines id d.config)) (sym same) (h id)
-      | inr new ↦ some_is (λ (d : DeviceState). IsOfItsLine lines id d.config) _
-          (device_of j.class j.hw j.rows j.offset j.key j.descriptor) new.1 (
-            w.lines + 1,
-            line,
-            j.class,
-            j.hw,
-            j.rows,
-            j.offset,
-            j.key,
-            j.descriptor,
-            record {
-              line_is = line_is;
-              form = form_is ∙ ap (λ (f : Form). Some f) j.form_is
-                  ∙ ap (λ (n : ℕ). Some (Device n j.class j.hw j.rows j.offset j.key j.descriptor)) (sym new.2);
-              class_is = class_same j.class;
-              hw_is = refl;
-              rows_are = refl;
-              offset_is = refl;
-              key_is = refl;
-              descriptor_is = refl;
-              sessions_are = refl;
-              groups_are = refl;
-              area_is = refl;
-            },
-          )
-    ]
-
-    reached : (r : IsReached image form w v) → (id : ℕ)
-        → IfSome (numbered (slice_set w.devices (r.id - 1) r.new) id) (λ d. IsOfItsLine lines id d.config)
-    reached r id = elim (numbered_put w.devices r.id id r.new r.first) [
-      | inr same ↦ subst (λ (o : Option DeviceState). IfSome o (λ d. IsOfItsLine lines id d.config)) (sym same) (h id)
-      | inl is ↦ some_is (λ (d : DeviceState). IsOfItsLine lines id d.config) _ r.new
-          (ap (λ (x : ℕ). numbered (slice_set w.devices (r.id - 1) r.new) x) is
-          ∙ numbered_there w.devices r.id r.old r.new r.before)
-          (subst (IsOfItsLine lines id) (sym (acts_config image (cut_of w.server.plan) w.time (w.lines + 1) r.old r.new r.down r.acts))
-          (if_some (λ (d : DeviceState). IsOfItsLine lines id d.config) (numbered w.devices id) r.old
-          (ap (λ (x : ℕ). numbered w.devices x) is ∙ r.before) (h id)))
-    ]
+-- ---- lines that are read
 
 -- what holds between two lines, with these lines left
 pub record Reads (image : List ℕ) (lines : List (List ℕ)) (rest : List (List ℕ)) (w : WorldState) : Type 0 where
@@ -460,7 +381,7 @@ pub record Reads (image : List ℕ) (lines : List (List ℕ)) (rest : List (List
   pub came : AllCame image lines w.sent w.lines w.devices
   pub left : drop w.lines lines ≡ rest
   pub read : read_lines (Ok (first_world image)) (take w.lines lines) ≡ Ok w
-  pub configured : AllConfigured lines w.devices
+  pub honest : AreHonest rest
 
 -- lines are read one after another
 read_more : (r : Result WorldState LineFault) (xs : List (List ℕ)) (x : List ℕ)
@@ -494,7 +415,8 @@ unfolding after_line
 form_reads image lines w line rest None bytes r is none fine = absurd cc
 form_reads image lines w line rest (Some form) bytes r is none fine =
     let next = numbered_next lines w.lines line rest r.left in
-    let turn = form_turn image w form bytes r.keeps fine in
+    let mine : is_raw form ≡ false = ap has_raw (sym is) ∙ r.honest.0 in
+    let turn = form_turn image w form bytes r.keeps fine mine in
     let keeps = turn_keeps image form w (after_form w form) r.keeps turn in
     let came = turn_came image lines w (after_form w form) form line bytes r.keeps r.read turn next.0 is r.came in
     let after : WorldState = after_form w form in
@@ -502,7 +424,7 @@ form_reads image lines w line rest (Some form) bytes r is none fine =
       keeps = record { server = keeps.server; stands = keeps.stands; sent = keeps.sent; devices = keeps.devices };
       came = subst (λ (n : ℕ). AllCame image lines after.sent (n + 1) after.devices) (sym turn.lines) came;
       left = ap (λ (n : ℕ). drop (n + 1) lines) turn.lines ∙ next.1;
-      configured = turn_configured image lines w after form line turn next.0 is r.configured;
+      honest = r.honest.1;
       read = ap (λ (n : ℕ). read_lines (Ok (first_world image)) (take (n + 1) lines)) turn.lines
           ∙ read_next image lines w line rest r.read r.left none
           ∙ ap (λ (f : Option Form). let o : Result WorldState LineFault = Ok (after_form_of w f) in o) is;
@@ -533,19 +455,14 @@ all_read image lines (Ok w) (line ∷ rest) bytes h =
     all_read image lines (read_line w line) rest bytes
     (line_reads image lines w line rest (cause_of w line) bytes h refl)
 
-none_configured : (lines : List (List ℕ)) → AllConfigured lines []
-unfolding AllConfigured
-none_configured lines id = subst (λ (o : Option DeviceState). IfSome o (λ d. IsOfItsLine lines id d.config))
-    (sym (none_there [] id refl)) tt
-
-pub first_reads : (image : List ℕ) (lines : List (List ℕ)) → Reads image lines lines (first_world image)
+pub first_reads : (image : List ℕ) (lines : List (List ℕ)) → AreHonest lines → Reads image lines lines (first_world image)
 unfolding read_lines
-first_reads image lines = record {
+first_reads image lines honest = record {
   keeps = first_keeps image;
   came = none_came image lines [] 0 [] refl;
   left = refl;
   read = refl;
-  configured = none_configured lines;
+  honest = honest;
 }
 
 pub end_by : (here : Section) (w world : WorldState) → end_result_at here w ≡ Ok world → w ≡ world
@@ -564,52 +481,44 @@ end_is (Ok w) world is =
     ap (λ (x : WorldState). let o : Result WorldState LineFault = Ok x in o) (end_by w.section w world is)
 
 pub campaign_reads : (image script : List ℕ) (world : WorldState) → All (λ b. b < 2 ^ 8) image
-    → campaign_of image script ≡ Ok world → Reads image (lines_of script) [] world
+    → IsHonest script → campaign_of image script ≡ Ok world → Reads image (lines_of script) [] world
 unfolding campaign_of
-campaign_reads image script world bytes is =
+campaign_reads image script world bytes honest is =
     subst (λ (r : Result WorldState LineFault). IfOk r (Reads image (lines_of script) []))
     (end_is (read_lines (Ok (first_world image)) (lines_of script)) world is)
     (all_read image (lines_of script) (Ok (first_world image)) (lines_of script) bytes
-    (first_reads image (lines_of script)))
+    (first_reads image (lines_of script) honest))
 
--- ---- so it is in each accepted campaign
+-- ---- so it is in each accepted honest campaign
 
 -- a device is one of the server's
 pub campaign_device : (image script : List ℕ) (world : WorldState) (id : ℕ) (device : DeviceState)
-    → All (λ b. b < 2 ^ 8) image → campaign_of image script ≡ Ok world → numbered world.devices id ≡ Some device
+    → All (λ b. b < 2 ^ 8) image → IsHonest script → campaign_of image script ≡ Ok world → numbered world.devices id ≡ Some device
     → IsDeviceFor image (cut_of world.server.plan) device
-campaign_device image script world id device bytes is d =
+campaign_device image script world id device bytes honest is d =
     if_some (IsDeviceFor image (cut_of world.server.plan)) (numbered world.devices id) device d
-    ((campaign_reads image script world bytes is).keeps.devices id)
+    ((campaign_reads image script world bytes honest is).keeps.devices id)
 
 -- and so is its session
 pub campaign_session : (image script : List ℕ) (world : WorldState) (id : ℕ) (device : DeviceState) (session : Session)
-    → All (λ b. b < 2 ^ 8) image → campaign_of image script ≡ Ok world
+    → All (λ b. b < 2 ^ 8) image → IsHonest script → campaign_of image script ≡ Ok world
     → numbered world.devices id ≡ Some device → device.sessions.first ≡ Some session
     → IsSetFor image (cut_of world.server.plan) session
-campaign_session image script world id device session bytes is d s =
+campaign_session image script world id device session bytes honest is d s =
     if_some (IsSetFor image (cut_of world.server.plan)) device.sessions.first session s
-    (campaign_device image script world id device bytes is d).session
-
-pub campaign_configured : (image script : List ℕ) (world : WorldState) (id : ℕ) (device : DeviceState)
-    → All (λ b. b < 2 ^ 8) image → campaign_of image script ≡ Ok world → numbered world.devices id ≡ Some device
-    → IsOfItsLine (lines_of script) id device.config
-unfolding AllConfigured
-campaign_configured image script world id device bytes is d =
-    if_some (λ (x : DeviceState). IsOfItsLine (lines_of script) id x.config) (numbered world.devices id) device d
-    ((campaign_reads image script world bytes is).configured id)
+    (campaign_device image script world id device bytes honest is d).session
 
 pub campaign_came : (image script : List ℕ) (world : WorldState) (id : ℕ) (device : DeviceState) (session : Session)
-    → All (λ b. b < 2 ^ 8) image → campaign_of image script ≡ Ok world
+    → All (λ b. b < 2 ^ 8) image → IsHonest script → campaign_of image script ≡ Ok world
     → numbered world.devices id ≡ Some device → device.sessions.first ≡ Some session
     → CameInOrder image (lines_of script) world.sent id (setup_request image (cut_of world.server.plan)) world.lines
     session.heard
 unfolding AllCame
-campaign_came image script world id device session bytes is d s =
-    let r = campaign_reads image script world bytes is in
+campaign_came image script world id device session bytes honest is d s =
+    let r = campaign_reads image script world bytes honest is in
     let lines : List (List ℕ) = lines_of script in
     let came : SessionCame image lines world.sent id world.lines session =
     if_some (SessionCame image lines world.sent id world.lines) device.sessions.first session s
     (if_some (DeviceCame image lines world.sent id world.lines) (numbered world.devices id) device d (r.came id)) in
     subst (λ (x : SetupReq). CameInOrder image lines world.sent id (command_of x) world.lines session.heard)
-    (campaign_session image script world id device session bytes is d s).setup came
+    (campaign_session image script world id device session bytes honest is d s).setup came

@@ -18,6 +18,7 @@ use Rattle.campaign_world.specs.declared.section.Section.TheVariants as section
 use Rattle.campaign_world.specs.declared.faults.LineFault.{LineFault}
 use Rattle.campaign_world.specs.World.{WorldState, first_world}
 use Rattle.campaign_world.specs.Script.{read_lines, end_result_at, end_result, campaign_of}
+use Rattle.campaign_world.specs.Honest.{IsHonest}
 use Rattle.campaign_world.specs.Headline.{Brings}
 use Rattle.campaign_world.specs.Lives.{SessionsLive}
 use Rattle.campaign_world.proofs.LineItems.{within}
@@ -100,11 +101,11 @@ ended (Ok w) world is =
     ap (λ (x : WorldState). x.section) (sym (end_by w.section w world is)) ∙ ended_by w.section w world is
 
 campaign_cut : (image script : List ℕ) (world : WorldState) → All (λ b. b < 2 ^ 8) image
-    → campaign_of image script ≡ Ok world → IsCut image (cut_of world.server.plan)
+    → IsHonest script → campaign_of image script ≡ Ok world → IsCut image (cut_of world.server.plan)
 unfolding campaign_of
-campaign_cut image script world bytes is =
+campaign_cut image script world bytes honest is =
     subst (StandsIn image world) (ended (read_lines (Ok (first_world image)) (lines_of script)) world is)
-    (campaign_reads image script world bytes is).keeps.stands
+    (campaign_reads image script world bytes honest is).keeps.stands
 
 -- ---- a session
 
@@ -115,17 +116,17 @@ lives_by image cut brings last n config None takes h le b = absurd (h takes n le
 lives_by image cut brings last n config (Some s) takes h le b = refl
 
 pub live : SessionsLive
-live image script world id device n bytes fine is there takes b =
+live image script world id device n bytes fine honest is there takes b =
     let lines : List (List ℕ) = lines_of script in
     let cut : Cut = cut_of world.server.plan in
     let brings : ℕ → Command → Type 0 = Brings image lines world.sent id in
-    let reads = campaign_reads image script world bytes is in
+    let reads = campaign_reads image script world bytes honest is in
     let all : SessionHears image cut brings world.lines device.config device.sessions.first =
-    campaign_full_at image script world id device bytes is there in
+    campaign_full_at image script world id device bytes honest is there in
     let left : length (drop world.lines lines) ≡ 0 = ap length reads.left in
     let inside : n ≤ length lines = within lines n b.3.0 b.3.4.line_is in
     lives_by image cut brings world.lines n device.config device.sessions.first
-    (takes_setup image cut device.config fine (campaign_cut image script world bytes is)
-    (campaign_device image script world id device bytes is there).bounds takes)
+    (takes_setup image cut device.config fine (campaign_cut image script world bytes honest is)
+    (campaign_device image script world id device bytes honest is there).bounds takes)
     all (omega (arith, left, inside, length-drop world.lines lines))
     (subst (λ (x : Command). brings n x) (setup_is image world.server reads.keeps.server) b)

@@ -5,6 +5,7 @@ use Rattle.std.specs.Prelude.{filter_map, option_to_list}
 use Rattle.std.specs.List.{slice_set}
 use Rattle.std.specs.Result.{result_ok}
 use Rattle.wire_base.specs.declared.refusal.Direction.TheVariants as direction
+use Rattle.package_grammar.specs.declared.downlink.Downlink.{Downlink}
 use Rattle.package_grammar.specs.Reading.{Reading, reading_of}
 use Rattle.device_core.specs.Device.{DeviceState}
 use Rattle.campaign_server.specs.Server.{ServerState, DownlinkCommand, numbered, ledger}
@@ -13,7 +14,7 @@ use Rattle.campaign_server.specs.Fragments.{next_fragment, after_fragment, statu
 use Rattle.campaign_server.specs.Time.{time_answer}
 use Rattle.campaign_server.specs.Uplinks.{with_answers, read_uplink, uplink_step}
 use Rattle.script_lines.specs.declared.forms.Form.{Form}
-use Rattle.script_lines.specs.declared.forms.Form.TheVariants.{Header, Image, Group, WindowC, WindowB, Device, At, Wake, Ask, Frag, Status, Down, Up, End}
+use Rattle.script_lines.specs.declared.forms.Form.TheVariants.{Header, Image, Group, WindowC, WindowB, Device, At, Wake, Ask, Frag, Status, Down, Raw, Up, End}
 use Rattle.script_lines.specs.Lines.{lines_of}
 use Rattle.script_lines.specs.Forms.{form_of}
 use Rattle.campaign_world.specs.declared.faults.LineWhy.{LineWhy}
@@ -22,7 +23,7 @@ use Rattle.campaign_world.specs.declared.numbered.SentPayload.{SentPayload}
 use Rattle.campaign_world.specs.declared.numbered.MadeUplink.{MadeUplink}
 use Rattle.campaign_world.specs.World.{WorldState, first_world}
 use Rattle.campaign_world.specs.Causes.{is_device, may_reach, cause_of, cause_of_form, form_cause}
-use Rattle.campaign_world.specs.Making.{with_sent, with_device, after_wake, after_down, after_answer, after_up, at_events, after_form}
+use Rattle.campaign_world.specs.Making.{with_sent, with_device, after_wake, after_down, raw_down, after_raw, after_answer, after_up, at_events, after_form}
 use Rattle.campaign_world.specs.Script.{after_form_of, after_line, line_result, read_line, read_lines, campaign_of}
 use Rattle.campaign_world.specs.Independence.{Event, Wakes, Receives, after_event, device_in, first_devices, time_after, event_in, history_of, DevicesAreIndependent}
 use Rattle.campaign_world.proofs.LineItems.{numbered_more, numbered_put, numbered_there}
@@ -93,14 +94,14 @@ pub payload_there : (device : ℕ) (o : Option SentPayload) → may_reach device
 payload_there device None may = absurd cc
 payload_there device (Some p) may = (p, refl)
 
-unchanged : {A : Type 0} (o : Option A) → option_map (λ (x : A). x) o ≡ o
+pub unchanged : {A : Type 0} (o : Option A) → option_map (λ (x : A). x) o ≡ o
 unchanged None = refl
 unchanged (Some x) = refl
 
 -- ---- what a form leaves
 
 -- payloads are only added
-abbrev Grows : List SentPayload → List SentPayload → Type 0
+abbrev pub Grows : List SentPayload → List SentPayload → Type 0
 Grows old new = (more : List SentPayload) × (new ≡ old ++ more)
 
 -- nothing happens at a device
@@ -110,7 +111,7 @@ record IsStill (w v : WorldState) : Type 0 where
   lines : v.lines ≡ w.lines
   sent : Grows w.sent v.sent
 
-same_sent : (w : WorldState) → Grows w.sent w.sent
+pub same_sent : (w : WorldState) → Grows w.sent w.sent
 same_sent w = ([], sym (append-nil w.sent))
 
 same_still : (w v : WorldState) → v.devices ≡ w.devices → v.time ≡ w.time → v.lines ≡ w.lines → v.sent ≡ w.sent
@@ -142,16 +143,16 @@ up_still w (Some made) =
 -- ---- one form
 
 -- a device's record, where so much is told of it
-abbrev folded : List Event → Option DeviceState → Option DeviceState
+abbrev pub folded : List Event → Option DeviceState → Option DeviceState
 folded events start = option_map (λ (first : DeviceState). fold after_event first events) start
 
 -- what holds behind a form that is not refused: the line's number, the time, what was sent, and the record of a device
 -- behind what the form tells of it, with these devices and events to come
-record IsTold (id : ℕ) (all : List SentPayload) (w v : WorldState) (form : Form) : Type 0 where
-  lines : v.lines ≡ w.lines
-  time : v.time ≡ time_after w.time (Some form)
-  sent : Grows w.sent v.sent
-  record_is : Grows w.sent all → (later : List (Option Form)) (events : List Event)
+pub record IsTold (id : ℕ) (all : List SentPayload) (w v : WorldState) (form : Form) : Type 0 where
+  pub lines : v.lines ≡ w.lines
+  pub time : v.time ≡ time_after w.time (Some form)
+  pub sent : Grows w.sent v.sent
+  pub record_is : Grows w.sent all → (later : List (Option Form)) (events : List Event)
       → folded events (numbered (v.devices ++ filter_map device_in later) id)
       ≡ folded (option_to_list (event_in id all w.time (w.lines + 1) (Some form)) ++ events)
       (numbered (w.devices ++ filter_map device_in (Some form ∷ later)) id)
@@ -208,7 +209,20 @@ reached_told id number n word all w d p first there got = rw (there, got) (recor
       (Receives w.time word (w.lines + 1) p.down) events (n == id) refl first there);
 })
 
-form_told : (id : ℕ) (all : List SentPayload) (w : WorldState) (form : Form) → form_cause w form ≡ None
+struck_told : (id n port : ℕ) (payload : List ℕ) (word : ℕ) (all : List SentPayload) (w : WorldState) (d : DeviceState)
+    → 1 ≤ n → numbered w.devices n ≡ Some d
+    → IsTold id all w (at_events (after_raw w n word (raw_down port payload) (numbered w.devices n)))
+    (Raw n port payload word)
+unfolding with_device
+struck_told id n port payload word all w d first there = rw (there) (record {
+  lines = refl;
+  time = refl;
+  sent = same_sent w;
+  record_is = λ grows later events. happened id n w.devices (filter_map device_in later) d
+      (Receives w.time word (w.lines + 1) (raw_down port payload)) events (n == id) refl first there;
+})
+
+pub form_told : (id : ℕ) (all : List SentPayload) (w : WorldState) (form : Form) → form_cause w form ≡ None
     → IsTold id all w (after_form w form) form
 unfolding after_form
 form_told id all w Header fine =
@@ -252,6 +266,9 @@ form_told id all w (Down number device word) fine =
     let d = is_there w.devices device p.names in
     let s = payload_there device (numbered w.sent number) p.come in
     reached_told id number device word all w d.1.0 s.0 d.0 d.1.1 s.1
+form_told id all w (Raw device port payload word) fine =
+    let d = is_there w.devices device (passes w (Raw device port payload word) fine).names in
+    struck_told id device port payload word all w d.1.0 d.0 d.1.1
 form_told id all w (Up number) fine =
     let s = up_still w (numbered w.uplinks number) in
     still_told id all w _ (Up number) (at_events_still w _ s) refl refl refl
@@ -265,7 +282,7 @@ form_grows : (w : WorldState) (form : Option Form) → cause_of_form w form ≡ 
 form_grows w None fine = absurd cc
 form_grows w (Some form) fine = (form_told 0 [] w form fine).sent
 
-sent_grows : (w end : WorldState) (lines : List (List ℕ)) → read_lines (Ok w) lines ≡ Ok end → Grows w.sent end.sent
+pub sent_grows : (w end : WorldState) (lines : List (List ℕ)) → read_lines (Ok w) lines ≡ Ok end → Grows w.sent end.sent
 unfolding read_lines after_line
 sent_grows w end [] is = let same : w ≡ end = cc in subst (λ (e : WorldState). Grows w.sent e.sent) same (same_sent w)
 sent_grows w end (line ∷ lines) is =

@@ -22,7 +22,7 @@ use Rattle.campaign_server.specs.Time.{time_answer}
 use Rattle.campaign_server.specs.Answers.{stage_after_all}
 use Rattle.campaign_server.specs.Uplinks.{with_answers, read_uplink, uplink_step}
 use Rattle.script_lines.specs.declared.forms.Form.{Form}
-use Rattle.script_lines.specs.declared.forms.Form.TheVariants.{Header, Image, Group, WindowC, WindowB, Device, At, Wake, Ask, Frag, Status, Down, Up, End}
+use Rattle.script_lines.specs.declared.forms.Form.TheVariants.{Header, Image, Group, WindowC, WindowB, Device, At, Wake, Ask, Frag, Status, Down, Raw, Up, End}
 use Rattle.script_lines.specs.Lines.{lines_of}
 use Rattle.script_lines.specs.Forms.{form_of}
 use Rattle.script_lines.specs.Limits.{max_rows, max_devices}
@@ -34,6 +34,7 @@ use Rattle.campaign_world.specs.World.{WorldState, first_world}
 use Rattle.campaign_world.specs.Causes.{cause_of_form, form_cause, fits_script}
 use Rattle.campaign_world.specs.Making.{with_plan, with_sent, made_by, with_device, after_wake, after_down, after_answer, after_up, at_events, after_form}
 use Rattle.campaign_world.specs.Script.{after_form_of, after_line, read_lines, campaign_of}
+use Rattle.campaign_world.specs.Honest.{is_raw, has_raw, AreHonest}
 use Rattle.campaign_world.specs.Ledger.{IsRunning, Runs, TheLedgerIsTrue}
 use Rattle.campaign_world.proofs.LineItems.{if_some, numbered_more, numbered_push, numbered_put, numbered_there}
 use Rattle.campaign_world.proofs.HeadlineCommands.{Cut, cut_of, IsCut}
@@ -379,14 +380,14 @@ hw_small true false false d e is = absurd cc
 hw_small false b false d e is = absurd cc
 
 form_holds : (image : List ℕ) (w : WorldState) (form : Form) → All (λ b. b < 2 ^ 8) image → is_image image ≡ true
-    → Keeps image w → Holds image w → form_cause w form ≡ None → Holds image (after_form w form)
+    → Keeps image w → Holds image w → form_cause w form ≡ None → is_raw form ≡ false → Holds image (after_form w form)
 unfolding after_form in_range
-form_holds image w Header bytes is k h fine = still_holds image w _ refl refl refl refl h
-form_holds image w (Image frag_size parity) bytes is k h fine = plan_holds image w _ _ h
-form_holds image w (Group addr key min max) bytes is k h fine = plan_holds image w _ _ h
-form_holds image w (WindowC start timeout freq dr) bytes is k h fine = plan_holds image w _ _ h
-form_holds image w (WindowB start periodicity timeout freq dr) bytes is k h fine = plan_holds image w _ _ h
-form_holds image w (Device id class hw rows offset key descriptor) bytes is k h fine =
+form_holds image w Header bytes is k h fine honest = still_holds image w _ refl refl refl refl h
+form_holds image w (Image frag_size parity) bytes is k h fine honest = plan_holds image w _ _ h
+form_holds image w (Group addr key min max) bytes is k h fine honest = plan_holds image w _ _ h
+form_holds image w (WindowC start timeout freq dr) bytes is k h fine honest = plan_holds image w _ _ h
+form_holds image w (WindowB start periodicity timeout freq dr) bytes is k h fine honest = plan_holds image w _ _ h
+form_holds image w (Device id class hw rows offset key descriptor) bytes is k h fine honest =
     let form : Form = Device id class hw rows offset key descriptor in
     let both = and_parts (in_range form) (fits_script (length w.server.image) (length w.devices) form)
     (passes w form fine).ranged in
@@ -397,52 +398,53 @@ form_holds image w (Device id class hw rows offset key descriptor) bytes is k h 
       hardware = small;
       slots = record { running = inl refl; next = λ version none. absurd cc };
     }) h
-form_holds image w (At time) bytes is k h fine = still_holds image w _ refl refl refl refl h
-form_holds image w (Wake device) bytes is k h fine =
+form_holds image w (At time) bytes is k h fine honest = still_holds image w _ refl refl refl refl h
+form_holds image w (Wake device) bytes is k h fine honest =
     let d = is_there w.devices device (passes w (Wake device) fine).names in
     woken_holds image w device d.1.0 k h d.1.1
-form_holds image w (Ask device) bytes is k h fine =
+form_holds image w (Ask device) bytes is k h fine honest =
     sends_hold image w w.server (Some device) (request_of w.server device) h h.ledger (ask_own w.server device)
-form_holds image w Frag bytes is k h fine =
+form_holds image w Frag bytes is k h fine honest =
     sends_hold image w (after_fragment w.server) None (result_ok (next_fragment w.server)) h
     (fragment_true image w.devices w.server h.ledger) (fragment_own w.server)
-form_holds image w Status bytes is k h fine =
+form_holds image w Status bytes is k h fine honest =
     sends_hold image w (after_status_to_all w.server) None (status_to_all w.server) h
     (status_true image w.devices w.server h.ledger) (status_own w.server)
-form_holds image w (Down number device word) bytes is k h fine =
+form_holds image w (Down number device word) bytes is k h fine honest =
     let p = passes w (Down number device word) fine in
     let d = is_there w.devices device p.names in
     let s = payload_there device (numbered w.sent number) p.come in
-    let cut = reached_cut image w _ number device word (form_turn image w (Down number device word) bytes k fine) in
+    let cut = reached_cut image w _ number device word (form_turn image w (Down number device word) bytes k fine refl) in
     reached_holds image w number device word d.1.0 s.0 bytes is cut k h d.1.1 s.1
-form_holds image w (Up number) bytes is k h fine = up_holds image w number
+form_holds image w (Raw device port payload word) bytes is k h fine honest = absurd (true≢false honest)
+form_holds image w (Up number) bytes is k h fine honest = up_holds image w number
     (numbered w.uplinks number) refl k.server.image_is h
-form_holds image w End bytes is k h fine = still_holds image w _ refl refl refl refl h
+form_holds image w End bytes is k h fine honest = still_holds image w _ refl refl refl refl h
 
 -- ---- all lines
 
 form_keeps : (image : List ℕ) (w : WorldState) (form : Option Form) → All (λ b. b < 2 ^ 8) image
     → is_image image ≡ true
-    → Keeps image w → Holds image w → cause_of_form w form ≡ None
+    → Keeps image w → Holds image w → cause_of_form w form ≡ None → has_raw form ≡ false
     → Keeps image (after_form_of w form) × Holds image (after_form_of w form)
-form_keeps image w None bytes is k h fine = absurd cc
-form_keeps image w (Some form) bytes is k h fine =
+form_keeps image w None bytes is k h fine honest = absurd cc
+form_keeps image w (Some form) bytes is k h fine honest =
     let v : WorldState = after_form w form in
-    let keeps = turn_keeps image form w v k (form_turn image w form bytes k fine) in
-    let holds = form_holds image w form bytes is k h fine in (
+    let keeps = turn_keeps image form w v k (form_turn image w form bytes k fine honest) in
+    let holds = form_holds image w form bytes is k h fine honest in (
       record { server = keeps.server; stands = keeps.stands; sent = keeps.sent; devices = keeps.devices },
       record { devices = holds.devices; sent = holds.sent; uplinks = holds.uplinks; ledger = holds.ledger },
     )
 
 all_hold : (image : List ℕ) (w end : WorldState) (lines : List (List ℕ)) → All (λ b. b < 2 ^ 8) image
     → is_image image ≡ true
-    → Keeps image w → Holds image w → read_lines (Ok w) lines ≡ Ok end → Holds image end
+    → Keeps image w → Holds image w → AreHonest lines → read_lines (Ok w) lines ≡ Ok end → Holds image end
 unfolding read_lines after_line
-all_hold image w end [] bytes is k h read = let same : w ≡ end = cc in subst (Holds image) same h
-all_hold image w end (line ∷ lines) bytes is k h read =
+all_hold image w end [] bytes is k h honest read = let same : w ≡ end = cc in subst (Holds image) same h
+all_hold image w end (line ∷ lines) bytes is k h honest read =
     let first = read_first w end line lines read in
-    let next = form_keeps image w (form_of line) bytes is k h (line_fine w line first.0) in
-    all_hold image (after_form_of w (form_of line)) end lines bytes is next.0 next.1 first.1
+    let next = form_keeps image w (form_of line) bytes is k h (line_fine w line first.0) honest.0 in
+    all_hold image (after_form_of w (form_of line)) end lines bytes is next.0 next.1 honest.1 first.1
 
 none_by : (d : DeviceState) (b : Bool) → cond b None None ≡ Some d → ⊥
 none_by d true is = cc
@@ -458,13 +460,13 @@ first_holds image = record {
 
 pub the_ledger_is_true : TheLedgerIsTrue
 unfolding campaign_of
-the_ledger_is_true image script world id bytes is accepted at =
-    (all_hold image (first_world image) world (lines_of script) bytes is (first_keeps image) (first_holds image)
+the_ledger_is_true image script world id bytes is honest accepted at =
+    (all_hold image (first_world image) world (lines_of script) bytes is (first_keeps image) (first_holds image) honest
     (end_is (read_lines (Ok (first_world image)) (lines_of script)) world accepted)).ledger id at
 
 -- so it is with the uplinks that there are behind any lines
 pub uplinks_are_true : (image : List ℕ) (w : WorldState) (lines : List (List ℕ)) → All (λ b. b < 2 ^ 8) image
-    → is_image image ≡ true → read_lines (Ok (first_world image)) lines ≡ Ok w
+    → is_image image ≡ true → AreHonest lines → read_lines (Ok (first_world image)) lines ≡ Ok w
     → AllByRecursion (MadeTruly image w.devices) w.uplinks
-uplinks_are_true image w lines bytes is read =
-    (all_hold image (first_world image) w lines bytes is (first_keeps image) (first_holds image) read).uplinks
+uplinks_are_true image w lines bytes is honest read =
+    (all_hold image (first_world image) w lines bytes is (first_keeps image) (first_holds image) honest read).uplinks

@@ -14,13 +14,16 @@ pub mod HeadlineEnds
 pub mod HeadlineWorlds
 pub mod HeadlineForms
 pub mod HeadlineLines
+pub mod Independence
+pub mod HeardSessions
+pub mod Configured
+pub mod Verdicts
 pub mod HeadlineSessions
 pub mod HeadlineHeard
 pub mod HeadlineLaw
 pub mod HeadlineLives
 pub mod HeadlineCounts
 pub mod WorkedCampaigns
-pub mod Independence
 pub mod IndependentExample
 pub mod LedgerSlots
 pub mod LedgerDevices

@@ -8,6 +8,7 @@ use Rattle.device_core.specs.HeldDevice.{HeldDevice, DeviceStands}
 use Rattle.device_core.specs.declared.config.DeviceConfig.{DeviceConfig}
 use Rattle.campaign_server.specs.Plan.{Plan}
 use Rattle.campaign_world.proofs.Outboxes.{outbox_is}
+use Rattle.package_grammar.specs.declared.downlink.Downlink.{Downlink}
 use Rattle.campaign_server.specs.Server.{ServerState, DownlinkCommand, numbered, ledger}
 use Rattle.campaign_server.specs.Fragments.{next_fragment, after_fragment, after_count, status_to_all, after_status_to_all}
 use Rattle.campaign_server.specs.Uplinks.{UplinkStep, with_answers, read_uplink, uplink_step}
@@ -25,7 +26,7 @@ use Rattle.script_lines.specs.declared.forms.Form.{Form}
 use Rattle.script_lines.specs.declared.forms.Form.TheVariants as form
 use Rattle.campaign_world.specs.Causes.{is_event_or_end}
 use Rattle.campaign_world.specs.World.{WorldState}
-use Rattle.campaign_world.specs.Making.{with_plan, with_sent, with_device, after_answer, after_up, after_form, after_wake, after_down, at_events}
+use Rattle.campaign_world.specs.Making.{with_plan, with_sent, with_device, after_answer, after_up, after_form, after_wake, after_down, raw_down, after_raw, at_events}
 use Rattle.campaign_world.specs.HeldWorld.{HeldWorld, WorldStands, DeviceRests, DevicesRest, OneComesToRest, OnesAreNumbered, world_of, server_of}
 use Rattle.campaign_world.specs.WorldInside.{ServerIs, IsBuilt}
 use Rattle.campaign_world.proofs.Zips.{zip_some, zip_more}
@@ -83,6 +84,24 @@ woken_of_held : (held : HeldWorld) (ds : List DeviceState) (new_devices : List H
 woken_of_held held ds new_devices new_uplinks device all first last reaches =
     let one = zip_some DeviceRests held.devices ds (device - 1) all (omega (arith, first, last)) in
     rw (numbered_at ds device one.0 first one.1) (event_of_held held ds new_devices new_uplinks device _ one.0 all one.1 reaches)
+
+struck_of_held : (held : HeldWorld) (ds : List DeviceState) (new_devices : List HeldDevice) (new_uplinks : List MadeUplink) (device word : ℕ) (down : Downlink)
+    → DevicesRest held.devices ds → 1 ≤ device → device ≤ length held.devices
+    → Reaches held new_devices new_uplinks device (λ d. (delivery held.time word (held.lines + 1) down d).device)
+    → WorldStands (Behind held new_devices new_uplinks) (at_events (after_raw (world_of held ds) device word down (numbered ds device)))
+struck_of_held held ds new_devices new_uplinks device word down all first last reaches =
+    let one = zip_some DeviceRests held.devices ds (device - 1) all (omega (arith, first, last)) in
+    rw (numbered_at ds device one.0 first one.1) (event_of_held held ds new_devices new_uplinks device _ one.0 all one.1 reaches)
+
+pub raw_step : (held : HeldWorld) (world : WorldState) (new_devices : List HeldDevice) (new_uplinks : List MadeUplink) (device word : ℕ) (down : Downlink)
+    → WorldStands held world → 1 ≤ device → device ≤ length held.devices
+    → Reaches held new_devices new_uplinks device (λ d. (delivery held.time word (held.lines + 1) down d).device)
+    → WorldStands (record held { section = section.Events; devices = new_devices; uplinks = new_uplinks })
+    (at_events (after_raw world device word down (numbered world.devices device)))
+raw_step held world new_devices new_uplinks device word down stands first last reaches =
+    subst (λ (w : WorldState). WorldStands (Behind held new_devices new_uplinks)
+    (at_events (after_raw w device word down (numbered w.devices device)))) (sym stands.rest)
+    (struck_of_held held world.devices new_devices new_uplinks device word down stands.devices first last reaches)
 
 pub wake_step : (held : HeldWorld) (world : WorldState) (new_devices : List HeldDevice) (new_uplinks : List MadeUplink) (device : ℕ)
     → WorldStands held world → 1 ≤ device → device ≤ length held.devices
@@ -178,6 +197,12 @@ down_alike world device word None s = refl
 down_alike world device word (Some d) None = refl
 down_alike world device word (Some d) (Some s) = refl
 
+raw_alike : (world : WorldState) (device word : ℕ) (down : Downlink) (d : Option DeviceState)
+    → at_events (after_raw (at_events world) device word down d) ≡ at_events (after_raw world device word down d)
+unfolding with_device
+raw_alike world device word down None = refl
+raw_alike world device word down (Some d) = refl
+
 sent_alike : (world : WorldState) (server : ServerState) (receiver : Option ℕ) (down : Option DownlinkCommand)
     → at_events (with_sent (record (at_events world) { server = server }) receiver down) ≡ at_events (with_sent (record world { server = server }) receiver down)
 sent_alike world server receiver None = refl
@@ -211,5 +236,6 @@ event_alike world (form.Ask device) event = sent_alike world world.server (Some 
 event_alike world form.Frag event = sent_alike world (after_fragment world.server) None (result_ok (next_fragment world.server))
 event_alike world form.Status event = sent_alike world (after_status_to_all world.server) None (status_to_all world.server)
 event_alike world (form.Down number device word) event = down_alike world device word (numbered world.devices device) (numbered world.sent number)
+event_alike world (form.Raw device port payload word) event = raw_alike world device word (raw_down port payload) (numbered world.devices device)
 event_alike world (form.Up number) event = up_alike world (numbered world.uplinks number)
 event_alike world form.End event = refl

@@ -25,7 +25,7 @@ use Rattle.campaign_server.specs.Fragments.{next_fragment, after_fragment, statu
 use Rattle.campaign_server.specs.Time.{time_answer}
 use Rattle.campaign_server.specs.Uplinks.{read_uplink, uplink_step}
 use Rattle.script_lines.specs.Lines.{lines_of, words_of, word}
-use Rattle.script_lines.specs.Numbers.{decimal_of, key_of, hex_number_of}
+use Rattle.script_lines.specs.Numbers.{decimal_of, key_of, hex_number_of, hex_bytes_of}
 use Rattle.script_lines.specs.Forms.{form_of}
 use Rattle.script_lines.specs.Ranges.{in_range}
 use Rattle.campaign_world.specs.Causes.{form_cause, cause_of}
@@ -35,7 +35,7 @@ use Rattle.campaign_world.specs.Report.{device_parts, report_of}
 use Rattle.campaign_world.specs.WorkedCampaigns.{AreReported, AreRefused, AreWords}
 
 pub refused_so : AreRefused
-unfolding campaign_of read_lines read_line after_line cause_of form_cause in_range after_form lines_of words_of word decimal_of key_of hex_number_of decode_pairs form_of next_fragment after_fragment status_to_all after_status_to_all request_of request_at
+unfolding campaign_of read_lines read_line after_line cause_of form_cause in_range after_form with_device lines_of words_of word decimal_of key_of hex_number_of hex_bytes_of decode_pairs form_of next_fragment after_fragment status_to_all after_status_to_all request_of request_at
 refused_so = record {
   no_end = refl;
   no_end_behind_events = refl;
@@ -55,13 +55,20 @@ refused_so = record {
   limit = refl;
   size = refl;
   counts = refl;
+  no_port = refl;
+  long_word = refl;
+  strangers_device = refl;
+  odd_digits = refl;
+  long_payload = refl;
+  longest_payload = refl;
+  no_number = refl;
   due = refl;
   not_due = refl;
 }
 
 pub reported_so : AreReported
-unfolding digits int_wrap campaign_of read_lines read_line after_line cause_of form_cause in_range after_form with_device report_of device_parts view_of lines_of words_of word decimal_of key_of hex_number_of decode_pairs form_of next_fragment after_fragment status_to_all after_status_to_all request_of request_at hardware_of firmware_of number_at uplink_step read_uplink reading_of read_from command_at named_at stop_at is_known sync.is_known sync.samples cast.is_known cast.samples clock_up clock_down firmware_up firmware_down fragment_up fragment_down group_up group_down stage_after_all stage_after time_answer delivery heard_delivery read_delivery message_delivery after_due_reboot after_swap hears is_after_uplink after_commands step command_step after_answers answer_step version_step waking time_asking
-reported_so = record { clock = refl; version = refl; numbers = refl; others = refl; group = refl }
+unfolding digits int_wrap campaign_of read_lines read_line after_line cause_of form_cause in_range after_form with_device report_of device_parts view_of lines_of words_of word decimal_of key_of hex_number_of hex_bytes_of decode_pairs form_of next_fragment after_fragment status_to_all after_status_to_all request_of request_at hardware_of firmware_of number_at uplink_step read_uplink reading_of read_from command_at named_at stop_at is_known sync.is_known sync.samples cast.is_known cast.samples clock_up clock_down firmware_up firmware_down fragment_up fragment_down group_up group_down stage_after_all stage_after time_answer delivery heard_delivery read_delivery message_delivery after_due_reboot after_swap hears is_after_uplink after_commands step command_step after_answers answer_step version_step waking time_asking
+reported_so = record { clock = refl; version = refl; numbers = refl; others = refl; group = refl; strangers = refl }
 
 pub words_are : AreWords
 unfolding digits

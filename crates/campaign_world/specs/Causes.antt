@@ -1,11 +1,12 @@
 -- When a line is refused (this project's profile): the causes in their order, tried after the lines before it.
 use Rattle.std.specs.Prelude.{ℕ, ◌+◌, Bool, true, false, ◌&&◌, ◌||◌, not, ◌==◌, nat_lt, nat_le, if◌then◌else◌, List, length, Option, Some, None, is_some, is_ok}
+use Rattle.wire_base.specs.Payload.{max_payload}
 use Rattle.frag_model.specs.Limits.{max_pieces}
 use Rattle.frag_encoder.specs.Encoding.{nb_frag_of}
 use Rattle.campaign_server.specs.Server.{ServerState, numbered}
 use Rattle.campaign_server.specs.Fragments.{next_fragment, status_to_all}
 use Rattle.script_lines.specs.declared.forms.Form.{Form}
-use Rattle.script_lines.specs.declared.forms.Form.TheVariants.{Header, Image, Group, WindowC, WindowB, Device, At, Wake, Ask, Frag, Status, Down, Up}
+use Rattle.script_lines.specs.declared.forms.Form.TheVariants.{Header, Image, Group, WindowC, WindowB, Device, At, Wake, Ask, Frag, Status, Down, Raw, Up}
 use Rattle.campaign_world.specs.declared.faults.LineWhy.{LineWhy}
 use Rattle.campaign_world.specs.declared.faults.LineWhy.TheVariants as why
 use Rattle.campaign_world.specs.declared.section.Section.{Section}
@@ -66,6 +67,7 @@ abbrev pub names_device : (count : ℕ) → Form → Bool
 names_device count (Wake device) = is_device count device
 names_device count (Ask device) = is_device count device
 names_device count (Down number device word) = is_device count device
+names_device count (Raw device port payload word) = is_device count device
 names_device count form = true
 
 -- the payload was sent, to this device or to any
@@ -94,6 +96,11 @@ is_to_come now form = true
 
 -- ---- limit, last of all
 
+-- anybody's payload has at most 242 bytes
+abbrev pub fits_payload : Form → Bool
+fits_payload (Raw device port payload word) = nat_le (length payload) max_payload
+fits_payload form = true
+
 -- there is something left to send
 abbrev pub has_more : ServerState → Form → Bool
 has_more server Frag = is_ok (next_fragment server)
@@ -109,6 +116,7 @@ form_cause world form =
     else if not (names_device (length world.devices) form) then Some why.Device
     else if not (has_come world.sent world.uplinks world.time form) then Some why.Unsent
     else if not (is_to_come world.time form) then Some why.Time
+    else if not (fits_payload form) then Some why.Limit
     else if not (has_more world.server form) then Some why.Limit
     else None
 

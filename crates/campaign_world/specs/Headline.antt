@@ -37,6 +37,7 @@ use Rattle.campaign_world.specs.declared.numbered.SentPayload.{SentPayload}
 use Rattle.campaign_world.specs.declared.faults.LineFault.{LineFault}
 use Rattle.campaign_world.specs.World.{WorldState, first_world}
 use Rattle.campaign_world.specs.Script.{read_lines, campaign_of}
+use Rattle.campaign_world.specs.Honest.{IsHonest}
 use Rattle.campaign_world.specs.Report.{◌⧺◌, image_line, device_line, counts_line, session_text, device_parts, report_of}
 
 -- ---- what the session of a campaign is, and what it hears
@@ -200,9 +201,10 @@ pub record IsReported (image : List ℕ) (world : WorldState) (id : ℕ) (stage 
 
 -- ---- a campaign
 
--- a device of a campaign that has a session: the image's bytes, the script, how it ends, the device and its stage
+-- a device of an honest campaign that has a session: the image's bytes, the script, how it ends, the device and its stage
 pub record IsCampaign (image script : List ℕ) (world : WorldState) (id : ℕ) (stage : Stage) (device : DeviceState) (session : Session) : Type 0 where
   pub bytes : All (λ b. b < 2 ^ 8) image
+  pub honest : IsHonest script
   pub accepted : campaign_of image script ≡ Ok world
   pub stage_is : ledger world.server id ≡ Some stage
   pub device_is : numbered world.devices id ≡ Some device
@@ -214,9 +216,9 @@ pub record Headline : Type 0 where
   pub configured : (image script : List ℕ) (world : WorldState) (id : ℕ) (device : DeviceState) → All (λ b. b < 2 ^ 8) image
       → campaign_of image script ≡ Ok world → numbered world.devices id ≡ Some device
       → IsOfItsLine (lines_of script) id device.config
-  -- it has no session but the server's
+  -- where the script is honest, it has no session but the server's
   pub one : (image script : List ℕ) (world : WorldState) (id : ℕ) (device : DeviceState) → All (λ b. b < 2 ^ 8) image
-      → campaign_of image script ≡ Ok world → numbered world.devices id ≡ Some device → HasNoOther device.sessions
+      → IsHonest script → campaign_of image script ≡ Ok world → numbered world.devices id ≡ Some device → HasNoOther device.sessions
   -- which is the one for the image
   pub served : (image script : List ℕ) (world : WorldState) (id : ℕ) (stage : Stage) (device : DeviceState) (session : Session)
       → IsCampaign image script world id stage device session → IsServed image world.server device.config.rows session

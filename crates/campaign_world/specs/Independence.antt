@@ -7,12 +7,12 @@ use Rattle.device_core.specs.Device.{DeviceState}
 use Rattle.device_core.specs.Deliver.{delivery, waking}
 use Rattle.campaign_server.specs.Server.{numbered}
 use Rattle.script_lines.specs.declared.forms.Form.{Form}
-use Rattle.script_lines.specs.declared.forms.Form.TheVariants.{Device, At, Wake, Down}
+use Rattle.script_lines.specs.declared.forms.Form.TheVariants.{Device, At, Wake, Down, Raw}
 use Rattle.script_lines.specs.Lines.{lines_of}
 use Rattle.script_lines.specs.Forms.{form_of}
 use Rattle.campaign_world.specs.declared.numbered.SentPayload.{SentPayload}
 use Rattle.campaign_world.specs.World.{WorldState}
-use Rattle.campaign_world.specs.Making.{device_of}
+use Rattle.campaign_world.specs.Making.{device_of, raw_down}
 use Rattle.campaign_world.specs.Script.{campaign_of}
 
 -- ---- what happens at a device
@@ -50,11 +50,14 @@ time_after now form = now
 abbrev pub reception : (time word line : ℕ) → Option SentPayload → Option Event
 reception time word line sent = option_map (λ payload. Receives time word line payload.down) sent
 
--- what a line with this number lets happen at device id, at this time: a wake line and a down line do that name it
+-- what a line with this number lets happen at device id, at this time: a wake line, a down line and a raw line do that name
+-- it
 abbrev pub event_in : (id : ℕ) → List SentPayload → (time line : ℕ) → Option Form → Option Event
 event_in id sent time line (Some (Wake device)) = if device == id then Some (Wakes time) else None
 event_in id sent time line (Some (Down number device word)) =
     if device == id then reception time word line (numbered sent number) else None
+event_in id sent time line (Some (Raw device port payload word)) =
+    if device == id then Some (Receives time word line (raw_down port payload)) else None
 event_in id sent time line form = None
 
 -- what lines let happen at device id: from this time on, where the first of them has this number

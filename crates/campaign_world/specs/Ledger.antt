@@ -8,6 +8,7 @@ use Rattle.campaign_server.specs.declared.stage.Stage.TheVariants.{Updated}
 use Rattle.campaign_server.specs.Server.{numbered, ledger}
 use Rattle.campaign_world.specs.World.{WorldState}
 use Rattle.campaign_world.specs.Script.{campaign_of}
+use Rattle.campaign_world.specs.Honest.{IsHonest}
 
 -- an image file runs: its version, and exactly its bytes
 pub record IsRunning (image : List ℕ) (slots : Slots) : Type 0 where
@@ -18,8 +19,8 @@ pub record IsRunning (image : List ℕ) (slots : Slots) : Type 0 where
 abbrev pub Runs : (image : List ℕ) → List DeviceState → (id : ℕ) → Type 0
 Runs image devices id = (device : DeviceState) × (numbered devices id ≡ Some device) × IsRunning image device.slots
 
--- whatever image file and accepted script there are
+-- whatever image file and accepted honest script there are
 abbrev pub TheLedgerIsTrue : Type 0
 TheLedgerIsTrue = (image script : List ℕ) (world : WorldState) (id : ℕ) → All (λ b. b < 2 ^ 8) image
-    → is_image image ≡ true → campaign_of image script ≡ Ok world → ledger world.server id ≡ Some Updated
+    → is_image image ≡ true → IsHonest script → campaign_of image script ≡ Ok world → ledger world.server id ≡ Some Updated
     → Runs image world.devices id

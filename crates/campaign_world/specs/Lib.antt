@@ -2,6 +2,7 @@ pub mod World
 pub mod Causes
 pub mod Making
 pub mod Script
+pub mod Honest
 pub mod Report
 pub mod Summary
 pub mod Recovery
@@ -12,4 +13,5 @@ pub mod Headline
 pub mod Lives
 pub mod WorkedCampaigns
 pub mod Independence
+pub mod Verdicts
 pub mod Ledger

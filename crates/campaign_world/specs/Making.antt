@@ -2,6 +2,8 @@
 use Rattle.std.specs.Prelude.{ℕ, ◌+◌, ◌-◌, List, [], ◌∷◌, ◌++◌, map, slice_set, Option, Some, None, Result, Ok, Err}
 use Rattle.std.specs.Result.{result_ok}
 use Rattle.wire_base.specs.declared.refusal.Refusal.{Refusal}
+use Rattle.package_grammar.specs.declared.downlink.Downlink.{Downlink}
+use Rattle.package_grammar.specs.declared.downlink.To.TheVariants.{Unicast}
 use Rattle.device_core.specs.declared.config.Class.{Class as DeviceClass}
 use Rattle.device_core.specs.declared.config.Class.TheVariants as device_class
 use Rattle.device_core.specs.declared.config.DeviceConfig.{DeviceConfig}
@@ -18,7 +20,7 @@ use Rattle.campaign_server.specs.Uplinks.{UplinkStep, uplink_step}
 use Rattle.script_lines.specs.declared.forms.Class.{Class}
 use Rattle.script_lines.specs.declared.forms.Class.TheVariants as class
 use Rattle.script_lines.specs.declared.forms.Form.{Form}
-use Rattle.script_lines.specs.declared.forms.Form.TheVariants.{Header, Image, Group, WindowC, WindowB, Device, At, Wake, Ask, Frag, Status, Down, Up, End}
+use Rattle.script_lines.specs.declared.forms.Form.TheVariants.{Header, Image, Group, WindowC, WindowB, Device, At, Wake, Ask, Frag, Status, Down, Raw, Up, End}
 use Rattle.campaign_world.specs.declared.section.Section.{Section}
 use Rattle.campaign_world.specs.declared.section.Section.TheVariants as section
 use Rattle.campaign_world.specs.declared.numbered.SentPayload.{SentPayload}
@@ -88,6 +90,15 @@ after_down world n word (Some device) (Some sent) =
     with_device world n (delivery world.time word (world.lines + 1) sent.down device).device
 after_down world n word device sent = world
 
+-- anybody's payload, by unicast
+abbrev pub raw_down : (port : ℕ) → (payload : List ℕ) → Downlink
+raw_down port payload = record { to = Unicast; port = port; payload = payload }
+
+-- it reaches a device in the same way
+abbrev pub after_raw : WorldState → (n word : ℕ) → Downlink → Option DeviceState → WorldState
+after_raw world n word down None = world
+after_raw world n word down (Some device) = with_device world n (delivery world.time word (world.lines + 1) down device).device
+
 -- the server behind an uplink sends its answer to the device
 abbrev pub after_answer : WorldState → (n : ℕ) → UplinkStep → WorldState
 after_answer world n step = with_answer (record world { server = step.server }) step.answer
@@ -129,5 +140,7 @@ after_form world Status =
     at_events (with_sent (record world { server = after_status_to_all world.server }) None (status_to_all world.server))
 after_form world (Down number device word) =
     at_events (after_down world device word (numbered world.devices device) (numbered world.sent number))
+after_form world (Raw device port payload word) =
+    at_events (after_raw world device word (raw_down port payload) (numbered world.devices device))
 after_form world (Up number) = at_events (after_up world (numbered world.uplinks number))
 after_form world End = record world { section = section.Ended }

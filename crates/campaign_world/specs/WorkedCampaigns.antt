@@ -1,5 +1,5 @@
 -- Campaigns worked out: their reports, and the first refused lines of scripts.
-use Rattle.std.specs.Prelude.{◌≡◌, ℕ, true, false, List, [], ◌∷◌, ◌++◌, codes, Some, Result, Ok, Err}
+use Rattle.std.specs.Prelude.{◌≡◌, ℕ, true, false, List, [], ◌∷◌, ◌++◌, replicate, codes, Some, Result, Ok, Err}
 use Rattle.frag_session.specs.declared.answers.Verdict.TheVariants as verdict
 use Rattle.image_slots.specs.declared.view.ImageState.TheVariants as next
 use Rattle.campaign_server.specs.declared.stage.Stage.TheVariants.{At, Updated, Refused}
@@ -58,6 +58,9 @@ pub record AreReported : Type 0 where
       "fuota 1\nimage 52 0\ngroup 11223344 00000000000000000000000000000000 0 10\nwindow c 1000 0 8695250 0\ndevice 1 c 1 0 0 00000000000000000000000000000000\nask 1\ndown 1 1\nup 1\nfrag\nstatus\ndown 2 1\ndown 3 1\nend\n")
       ≡ reported (codes
       "fuota report 1\nimage 52 fragments 1 size 52 padding 0 parity 0\ndevice 1 group clock 0 token 0 running 0 next none\ncounts deaf 2 refused 0 full 0 dropped 0\nend\n")
+  -- anybody's payloads: two that the device refuses, and a request whose answer leads the server on
+  pub strangers : told (one_device (codes "raw 1 201 0801\nraw 1 204 -\nraw 1 203 01\nup 1\nend\n")) ≡ reported (codes
+      "fuota report 1\nimage 52 fragments 4 size 13 padding 0 parity 0\ndevice 1 fragments clock 5 token 0 running 0 next none\ncounts deaf 0 refused 2 full 0 dropped 0\nend\n")
 
 pub record AreRefused : Type 0 where
   pub no_end : told (one_device []) ≡ refused 4 why.Syntax
@@ -89,6 +92,15 @@ pub record AreRefused : Type 0 where
   pub counts : told (codes
       "fuota 1\nimage 13 0\ngroup 11223344 00000000000000000000000000000000 9 10\nwindow b 1000 0 0 8695250 0\ndevice 1 c 1 0 0 00000000000000000000000000000000\nfrag\nstatus\n")
       ≡ refused 7 why.Limit
+  -- anybody's payload: its port and word, its device, and last its length
+  pub no_port : told (one_device (codes "raw 2 256 00\n")) ≡ refused 4 why.Range
+  pub long_word : told (one_device (codes "raw 2 255 00 4294967296\n")) ≡ refused 4 why.Range
+  pub strangers_device : told (one_device (codes "raw 2 255 00 4294967295\n")) ≡ refused 4 why.Device
+  pub odd_digits : told (one_device (codes "raw 2 256 000\n")) ≡ refused 4 why.Syntax
+  pub long_payload : told (one_device (codes "raw 1 201 " ++ (replicate 486 48 ++ codes "\n"))) ≡ refused 4 why.Limit
+  pub longest_payload : told (one_device (codes "raw 1 201 " ++ (replicate 484 48 ++ codes "\n"))) ≡ refused 5 why.Syntax
+  -- it is no sent payload, and has no number
+  pub no_number : told (one_device (codes "raw 1 201 00\ndown 1 1\n")) ≡ refused 5 why.Unsent
   -- an uplink comes when it is due, and not before
   pub due : is_due_by 6 (Some (record { device = 1; uplink = record { due = 6; port = 202; payload = [] } })) ≡ true
   pub not_due : is_due_by 5 (Some (record { device = 1; uplink = record { due = 6; port = 202; payload = [] } })) ≡ false

@@ -2,13 +2,14 @@
 
 ghost use Rattle.std.specs.Prelude.{◌≡◌, ◌≤◌, ◌<◌, ◌^◌, ℕ, length};
 ghost use Rattle.script_lines.specs.declared.forms.Form.TheVariants.{Image};
-ghost use Rattle.campaign_world.specs.Causes.{is_event_or_end, may_come, has_ended, fits_script, is_device, names_device, may_reach, is_due_by, has_come, is_to_come};
+ghost use Rattle.campaign_world.specs.Causes.{is_event_or_end, may_come, has_ended, fits_script, is_device, names_device, may_reach, is_due_by, has_come, is_to_come, fits_payload};
 ghost use Rattle.campaign_server.specs.Server.{numbered};
 
 use crate::numbered::{MadeUplink, SentPayload, numbered};
 use crate::section::Section;
 use frag_model::lines::MAX_PIECES;
 use script_lines::Form;
+use wire_base::MAX_PAYLOAD;
 
 /// Whether the form stands behind the plan: an event, or the end.
 pub fn is_event_or_end(form: &Form) -> bool
@@ -78,6 +79,7 @@ pub fn names_device(count: usize, form: &Form) -> bool
         Form::Wake { device } => is_device(count, *device),
         Form::Ask { device } => is_device(count, *device),
         Form::Down { device, .. } => is_device(count, *device),
+        Form::Raw { device, .. } => is_device(count, *device),
         _ => true,
     }
 }
@@ -124,6 +126,16 @@ pub fn is_to_come(now: u64, form: &Form) -> bool
 {
     match form {
         Form::At { time } => now <= *time,
+        _ => true,
+    }
+}
+
+/// Whether the payload that the form tells, if it tells one, has at most 242 bytes.
+pub fn fits_payload(form: &Form) -> bool
+    ensures { result ≡ fits_payload form.now }
+{
+    match form {
+        Form::Raw { payload, .. } => payload.as_slice().len() <= MAX_PAYLOAD,
         _ => true,
     }
 }

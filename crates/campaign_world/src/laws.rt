@@ -5,15 +5,24 @@ ghost use Rattle.campaign_world.specs.Lives.{HasItsDevices, SessionsLive};
 ghost use Rattle.campaign_world.specs.Independence.{DevicesAreIndependent};
 ghost use Rattle.campaign_world.specs.Ledger.{TheLedgerIsTrue};
 ghost use Rattle.campaign_world.specs.Recovery.{RecoversTheImage, RecoversItsOwn};
+ghost use Rattle.campaign_world.specs.Verdicts.{Verdicts};
 ghost use Rattle.campaign_world.specs.WorkedCampaigns.{AreRefused, AreReported, AreWords};
 
-/// Whatever image and accepted script there are: the session of each device hears what the script brings, it is complete from the first
-/// heard fragment on after which one file alone fits, that file is the server's image, and the report says so.
+/// Whatever image and accepted honest script there are: the session of each device hears what the script brings, it is complete from
+/// the first heard fragment on after which one file alone fits, that file is the server's image, and the report says so.
 pub fn headline()
     ensures { Headline }
 {}
 
-/// Whatever image and accepted script there are, what a device recovered is the image; and it is that device's own.
+/// Whatever image and accepted script there are, anybody's payloads in it or none: each session hears nothing but what the lines
+/// bring its device, it is decided at the first fragment after which its file is no longer open, and the report says so. A
+/// file that is recovered is the one that alone fits.
+pub fn sessions_are_decided_at_first()
+    ensures { Verdicts }
+{}
+
+/// Whatever image and accepted honest script there are, what a device recovered is the image; and, of any script, it is that
+/// device's own.
 pub fn recovers_the_image()
     ensures image { RecoversTheImage }
     ensures own { RecoversItsOwn }
@@ -24,7 +33,7 @@ pub fn a_script_has_its_devices()
     ensures { HasItsDevices }
 {}
 
-/// In every accepted script a device to which a line brought the server's setup, and that takes its descriptor, has its
+/// In every accepted honest script a device to which a line brought the server's setup, and that takes its descriptor, has its
 /// session.
 pub fn sessions_live()
     ensures { SessionsLive }
@@ -43,7 +52,7 @@ pub fn devices_are_independent()
     ensures { DevicesAreIndependent }
 {}
 
-/// Whatever image file and accepted script there are: where the ledger says that a device is updated, it runs the image,
+/// Whatever image file and accepted honest script there are: where the ledger says that a device is updated, it runs the image,
 /// with exactly its bytes.
 pub fn the_ledger_is_true()
     ensures { TheLedgerIsTrue }

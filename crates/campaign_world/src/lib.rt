@@ -20,8 +20,8 @@ mod world;
 pub use deliveries::throw_away;
 pub use faults::{LineError, LineFault, LineWhy};
 pub use laws::{
-    a_script_has_its_devices, devices_are_independent, headline, recovers_the_image, sessions_live,
-    the_ledger_is_true, worked_campaigns,
+    a_script_has_its_devices, devices_are_independent, headline, recovers_the_image,
+    sessions_are_decided_at_first, sessions_live, the_ledger_is_true, worked_campaigns,
 };
 pub use recovery::NoFile;
 pub use report::{counts_line, session_text, sessions_text, verdict_text};

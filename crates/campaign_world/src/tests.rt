@@ -1,6 +1,10 @@
 use crate::{LineError, LineFault, LineWhy, NoFile, World};
-use image_slots::is_image;
+use device_core::{Class, Delivered, Device, DeviceConfig};
+use image_slots::{ImageState, is_image};
+use package_grammar::{Downlink, To};
+use std::process::Abort;
 use std::test::*;
+use wire_base::{Payload, Refusal, Why};
 
 /// An image file for hardware 1 with firmware 2, its body and digest those of the text abc.
 const IMAGE: [u8; 52] = [
@@ -85,6 +89,11 @@ fn lines_are_refused(rt: HostRuntime) -> Result<(), Fail> {
         ("down 1 1", LineWhy::Unsent),
         ("up 1", LineWhy::Unsent),
         ("at 4294967296000", LineWhy::Range),
+        ("raw 1 201 0", LineWhy::Syntax),
+        ("raw 2 256 00", LineWhy::Range),
+        ("raw 1 201 00 4294967296", LineWhy::Range),
+        ("raw 0 201 -", LineWhy::Device),
+        ("raw 2 201 -", LineWhy::Device),
     ];
     assert!(rt; is_image(&IMAGE));
     for (line, why) in cases {
@@ -97,4 +106,96 @@ fn lines_are_refused(rt: HostRuntime) -> Result<(), Fail> {
         assert!(rt; world.line(b"ask 1") == Err(fault));
     }
     Ok(())
+}
+
+/// Every command to a device with more than one byte, on its port; of a fragment as much as a cut leaves no fragment.
+static COMMANDS: [(u8, &[u8]); 16] = [
+    (200, &[0x01, 0x0f]),
+    (
+        200,
+        &[
+            0x02, 0x00, 0x44, 0x33, 0x22, 0x11, 0, 1, 2, 3, 4, 5, 6, 7, 8, 9, 10, 11, 12, 13, 14,
+            15, 0, 0, 0, 0, 10, 0, 0, 0,
+        ],
+    ),
+    (200, &[0x03, 0x00]),
+    (
+        200,
+        &[
+            0x04, 0x00, 0xe8, 0x03, 0x00, 0x00, 0x00, 0xd2, 0xad, 0x84, 0x00,
+        ],
+    ),
+    (
+        200,
+        &[
+            0x05, 0x00, 0xe8, 0x03, 0x00, 0x00, 0x00, 0xd2, 0xad, 0x84, 0x00,
+        ],
+    ),
+    (201, &[0x01, 0x01]),
+    (201, &[0x02, 0, 1, 0, 1, 0, 0, 0, 0, 0, 0]),
+    (201, &[0x03, 0x00]),
+    (201, &[0x08, 0x01, 0x00, 0x5a]),
+    (202, &[0x01, 5, 0, 0, 0, 0x00]),
+    (202, &[0x02, 0x01]),
+    (202, &[0x03, 0x01]),
+    (203, &[0x02, 0, 0, 0, 0]),
+    (203, &[0x03, 0, 0, 0]),
+    (203, &[0x05, 0, 0, 0, 0]),
+    (203, &[0x05, 2, 0, 0, 0]),
+];
+
+/// A command that is cut behind any of its bytes is refused there, also behind a whole command, and the device counts it and
+/// stays as it was: no uplink, no session, the same clock and slots.
+#[test]
+fn cut_commands_change_nothing(rt: HostRuntime) {
+    let config = DeviceConfig {
+        class: Class::C,
+        hw: 1,
+        rows: 0,
+        offset: 5,
+        key: [0; 16],
+        descriptor: None,
+        sessions: 4,
+        groups: 4,
+        area: 65_774,
+    };
+    let mut device = Device::reserve(rt.alloc(), config).expect(&rt, "no device");
+    let mut refused = 0u64;
+    for (port, command) in &COMMANDS {
+        let mut bytes = [0; 40];
+        assert!(rt; command.len() <= 39);
+        bytes[1..command.len() + 1].copy_from_slice(command);
+        for length in 2..command.len() + 1 {
+            refuses(
+                &rt,
+                &mut device,
+                *port,
+                &bytes[1..length],
+                (length - 1) as u16,
+            );
+            refuses(&rt, &mut device, *port, &bytes[..length], length as u16);
+            refused = refused.saturating_add(2);
+        }
+    }
+    assert!(rt; device.counts().refused == refused);
+    assert!(rt; device.clock() == (5, 0));
+}
+
+fn refuses(rt: &impl Abort, device: &mut Device, port: u8, bytes: &[u8], at: u16) {
+    assert!(rt; bytes.len() <= 242);
+    let down = Downlink {
+        to: To::Unicast,
+        port,
+        payload: Payload::from_slice(bytes),
+    };
+    let refusal = Refusal {
+        at,
+        why: Why::Short,
+    };
+    assert!(rt; device.deliver(0, &down, 0, 1) == Delivered::Refused(refusal));
+    assert!(rt; device.take_uplink().is_none());
+    for index in 0..4u8 {
+        assert!(rt; device.session(index).is_none());
+    }
+    assert!(rt; device.slots().next() == ImageState::None);
 }

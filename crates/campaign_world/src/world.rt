@@ -9,7 +9,7 @@ ghost use Rattle.script_lines.specs.Limits.{max_lines};
 ghost use Rattle.script_lines.specs.Forms.{form_of};
 ghost use Rattle.script_lines.specs.Ranges.{in_range};
 ghost use Rattle.campaign_world.specs.World.{WorldState, first_plan, first_world};
-ghost use Rattle.campaign_world.specs.Causes.{is_event_or_end, names_device, has_come, has_more, form_cause};
+ghost use Rattle.campaign_world.specs.Causes.{is_event_or_end, names_device, has_come, fits_payload, has_more, form_cause};
 ghost use Rattle.std.specs.Result.{result_ok};
 ghost use Rattle.device_core.specs.Device.{is_config, first_device};
 ghost use Rattle.campaign_server.specs.Asking.{request_of};
@@ -17,7 +17,7 @@ ghost use Rattle.campaign_server.specs.Fragments.{next_fragment, after_fragment,
 ghost use Rattle.campaign_server.specs.Uplinks.{uplink_step};
 ghost use Rattle.campaign_server.specs.Sent.{down_of};
 ghost use Rattle.campaign_world.specs.Script.{one_line_more};
-ghost use Rattle.campaign_world.specs.Making.{with_plan, with_window, with_sent, class_of, after_wake, after_down, after_up, at_events, after_form};
+ghost use Rattle.campaign_world.specs.Making.{with_plan, with_window, with_sent, class_of, after_wake, after_down, raw_down, after_raw, after_up, at_events, after_form};
 ghost use Rattle.campaign_world.specs.HeldWorld.{sent_by, answered};
 ghost use Rattle.campaign_world.specs.Recovery.{recovery};
 ghost use Rattle.campaign_world.specs.declared.numbered.SentPayload.{SentPayload};
@@ -25,7 +25,8 @@ ghost use Rattle.campaign_world.specs.declared.numbered.MadeUplink.{MadeUplink};
 ghost use Rattle.campaign_world.specs.declared.section.Section.TheVariants as section;
 
 use crate::causes::{
-    fits_script, has_come, has_ended, is_event_or_end, is_to_come, may_come, names_device,
+    fits_payload, fits_script, has_come, has_ended, is_event_or_end, is_to_come, may_come,
+    names_device,
 };
 use crate::deliveries::{Coming, deliver, wake};
 use crate::faults::{LineError, LineFault, LineWhy};
@@ -36,10 +37,11 @@ use crate::section::Section;
 use crate::summary::summary;
 use campaign_server::{Kind, Plan, PlanDevice, PlanGroup, PlanWindow, Server, ServerError};
 use device_core::{Class, Device, DeviceConfig, ReserveError};
-use package_grammar::Downlink;
-use script_lines::{Form, form, in_range};
+use package_grammar::{Downlink, To};
+use script_lines::{Form, HexBytes, form, in_range};
 use std::alloc::{AllocError, Global};
 use std::marker::Model;
+use wire_base::Payload;
 
 /// The most lines of a script.
 pub const MAX_LINES: u32 = 20_000;
@@ -253,6 +255,9 @@ impl World {
         if !is_to_come(self.time, form) {
             return Some(LineWhy::Time);
         }
+        if !fits_payload(form) {
+            return Some(LineWhy::Limit);
+        }
         match &self.server {
             Some(server) if !has_more(server, form) => Some(LineWhy::Limit),
             _ => None,
@@ -435,6 +440,7 @@ impl World {
         requires ranges { in_range form.now ≡ true }
         requires names { names_device (length self.old.devices) form.now ≡ true }
         requires come { has_come self.old.sent self.old.uplinks self.old.time form.now ≡ true }
+        requires fits { fits_payload form.now ≡ true }
         requires room { self.old.lines < max_lines }
         ensures taken { OnOk result (WorldBecomes self.old self.new (λ world. after_form world form.now)) }
         ensures kept { self.new.kept ≡ self.old.kept }
@@ -511,6 +517,7 @@ impl World {
         requires ranges { in_range form.now ≡ true }
         requires names { names_device (length self.old.devices) form.now ≡ true }
         requires come { has_come self.old.sent self.old.uplinks self.old.time form.now ≡ true }
+        requires fits { fits_payload form.now ≡ true }
         requires begun { (s : ServerState) × (self.old.server ≡ Some s) }
         requires few { length self.old.devices ≤ 64 }
         requires room { self.old.lines < max_lines }
@@ -533,6 +540,12 @@ impl World {
                 device,
                 word,
             } => self.down(*number, *device as u8, *word as u32),
+            Form::Raw {
+                device,
+                port,
+                payload,
+                word,
+            } => self.raw(*device as u8, &raw_down(*port as u8, payload), *word as u32),
             Form::Up { number } => self.up(*number),
             Form::End => {
                 self.section = Section::Ended;
@@ -625,10 +638,11 @@ impl World {
         ensures lines { self.new.lines ≡ self.old.lines }
     {
         self.section = Section::Events;
+        let mark = mark_behind(self.lines);
         let coming = Coming {
             t: self.time,
             word,
-            mark: u64::from(self.lines) + 1,
+            mark,
         };
         let Some(sent) = numbered(&self.sent, number) else {
             unreachable!()
@@ -640,6 +654,28 @@ impl World {
             &sent.down,
             coming,
         )
+    }
+
+    /// Anybody's payload reaches a device, whose uplinks are then numbered, oldest first. It is no sent payload, and has no
+    /// number.
+    fn raw(&mut self, device: u8, down: &Downlink, word: u32) -> Result<(), AllocError>
+        requires first { 1 ≤ device }
+        requires last { device ≤ length self.old.devices }
+        requires room { self.old.lines < max_lines }
+        requires begun { (s : ServerState) × (self.old.server ≡ Some s) }
+        ensures taken { OnOk result (WorldBecomes self.old self.new
+            (λ world. at_events (after_raw world device word down.now (numbered world.devices device)))) }
+        ensures kept { self.new.kept ≡ self.old.kept }
+        ensures lines { self.new.lines ≡ self.old.lines }
+    {
+        self.section = Section::Events;
+        let mark = mark_behind(self.lines);
+        let coming = Coming {
+            t: self.time,
+            word,
+            mark,
+        };
+        deliver(&mut self.devices, &mut self.uplinks, device, down, coming)
     }
 
     /// Uplink U reaches the server, which may answer.
@@ -739,6 +775,26 @@ fn answer_of(server: &mut Server, made: &MadeUplink, t: u64) -> Option<Downlink>
     ) {
         Ok(answer) => answer,
         Err(_) => None,
+    }
+}
+
+/// The mark of the line that comes behind so many.
+fn mark_behind(lines: u32) -> u64
+    requires { lines < max_lines }
+    ensures { result ≡ lines + 1 }
+{
+    u64::from(lines) + 1
+}
+
+/// Anybody's payload, by unicast.
+fn raw_down(port: u8, payload: &HexBytes) -> Downlink
+    requires { length payload.now ≤ 242 }
+    ensures { result ≡ raw_down port payload.now }
+{
+    Downlink {
+        to: To::Unicast,
+        port,
+        payload: Payload::from_slice(payload.as_slice()),
     }
 }
 

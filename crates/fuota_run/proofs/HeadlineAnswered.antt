@@ -3,6 +3,7 @@ use Rattle.std.proofs.Common.{◌≡◌, ℕ, ◌^◌, ◌<◌, List, All, Optio
 use Rattle.std.proofs.lemmas.Bool.{le-ltb}
 use Rattle.campaign_world.specs.World.{WorldState}
 use Rattle.campaign_world.specs.Script.{campaign_of}
+use Rattle.campaign_world.specs.Honest.{IsHonest}
 use Rattle.campaign_world.specs.Report.{report_of}
 use Rattle.campaign_world.specs.declared.recovery.NoFile.{NoFile}
 use Rattle.campaign_world.specs.Recovery.{recovery}
@@ -31,14 +32,20 @@ pub answered : (words : List (List ℕ)) (held : Held) (image script : List ℕ)
     → (a : Answer) → IsAnswer words held a → a ≡ answer status.Done (report_of world)
 answered words held image script world h is a given = told words held Campaign image script world h is a given
 
+recovered_file : (words : List (List ℕ)) (held : Held) (device : ℕ) (image script : List ℕ) (world : WorldState)
+    (file : List ℕ) → AreHandedIn words held (Recover device) image script
+    → campaign_of image script ≡ Ok world → recovery world device ≡ Ok file → (a : Answer) → IsAnswer words held a
+    → a ≡ answer status.Done file
+recovered_file words held device image script world file h is there a given =
+    told words held (Recover device) image script world h is a given ∙ ap (recovered device) there
+
 recovered_image : (words : List (List ℕ)) (held : Held) (device : ℕ) (image script : List ℕ) (world : WorldState)
     (file : List ℕ) → All (λ b. b < 2 ^ 8) image → AreHandedIn words held (Recover device) image script
-    → campaign_of image script ≡ Ok world → recovery world device ≡ Ok file → (a : Answer) → IsAnswer words held a
+    → IsHonest script → campaign_of image script ≡ Ok world → recovery world device ≡ Ok file → (a : Answer) → IsAnswer words held a
     → a ≡ answer status.Done image
-recovered_image words held device image script world file bytes h is there a given =
-    told words held (Recover device) image script world h is a given
-    ∙ ap (recovered device) there
-    ∙ ap (λ (x : List ℕ). answer status.Done x) (recovers image script world device file bytes is there)
+recovered_image words held device image script world file bytes h honest is there a given =
+    recovered_file words held device image script world file h is there a given
+    ∙ ap (λ (x : List ℕ). answer status.Done x) (recovers image script world device file bytes honest is there)
 
 no_file : (words : List (List ℕ)) (held : Held) (device : ℕ) (image script : List ℕ) (world : WorldState)
     (why : NoFile) → AreHandedIn words held (Recover device) image script
@@ -48,7 +55,7 @@ no_file words held device image script world why h is there a given =
     told words held (Recover device) image script world h is a given ∙ ap (recovered device) there
 
 pub recovery_answered : IsRecoveryAnswered
-recovery_answered = record { image_is = recovered_image; no_file = no_file }
+recovery_answered = record { file_is = recovered_file; image_is = recovered_image; no_file = no_file }
 
 -- a seed is answered with the summary of its campaign, of which no line is refused
 pub seed_answered : IsSeedAnswered

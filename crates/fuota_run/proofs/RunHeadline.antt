@@ -3,6 +3,7 @@ use Rattle.std.proofs.Common.{◌≡◌, ℕ, List, Option, Some, None, IfSome, 
 use Rattle.std.specs.Io.KnownBytes.{Appends}
 use Rattle.campaign_world.specs.Report.{report_of}
 use Rattle.campaign_world.proofs.HeadlineLaw.{headline}
+use Rattle.campaign_world.proofs.Verdicts.{verdicts}
 use Rattle.fuota_run.specs.declared.status.Status.{Status}
 use Rattle.fuota_run.specs.declared.status.Status.TheVariants as status
 use Rattle.fuota_run.specs.Outside.{Held}
@@ -31,19 +32,26 @@ campaign_run words held s old new given image script world handed bytes accepted
       done = here.0;
       report = here.1;
       configured = λ id device there. headline.configured image script world id device bytes accepted there;
-      one = λ id device there. headline.one image script world id device bytes accepted there;
+      one = λ id device honest there. headline.one image script world id device bytes honest accepted there;
       headline = λ id stage device session is. record {
         served = headline.served image script world id stage device session is;
         brought = headline.brought image script world id stage device session is;
         recovered = headline.recovered image script world id stage device session is;
         reported = headline.reported image script world id stage device session is;
       };
+      verdicts = λ id device index s is. record {
+        heard = verdicts.heard image script world id device index s is;
+        decided = verdicts.decided image script world id device index s is;
+        told = verdicts.told image script world id device index s is;
+      };
     }
 
 pub recovery_run : (words : List (List ℕ)) (held : Held) (s : Status) (old new : Option (List ℕ)) → AppendsAnswer (Some held) words s old new → IsRecoveryRun words held s old new
 recovery_run words held s old new given device image script world handed accepted = record {
-  image_is = λ file bytes there. written words held s old new _ given
-      (recovery_answered.image_is words held device image script world file bytes handed accepted there);
+  file_is = λ file there. written words held s old new _ given
+      (recovery_answered.file_is words held device image script world file handed accepted there);
+  image_is = λ file bytes honest there. written words held s old new _ given
+      (recovery_answered.image_is words held device image script world file bytes handed honest accepted there);
   no_file = λ why there. written words held s old new _ given
       (recovery_answered.no_file words held device image script world why handed accepted there);
 }

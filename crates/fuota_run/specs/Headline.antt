@@ -4,12 +4,15 @@ use Rattle.std.specs.Io.KnownBytes.{Appends}
 use Rattle.image_slots.specs.Image.{is_image}
 use Rattle.campaign_world.specs.World.{WorldState}
 use Rattle.campaign_world.specs.Script.{campaign_of}
+use Rattle.campaign_world.specs.Honest.{IsHonest}
 use Rattle.campaign_world.specs.Report.{report_of}
 use Rattle.campaign_world.specs.Headline.{IsOfItsLine, HasNoOther, IsServed, HearsBrought, IsRecovered, IsReported, IsCampaign}
+use Rattle.campaign_world.specs.Verdicts.{CameInTurn, Carries, IsToldOf, IsSessionOf}
 use Rattle.campaign_laws.specs.Accepted.{IsCampaignOf}
 use Rattle.campaign_server.specs.declared.stage.Stage.{Stage}
 use Rattle.campaign_server.specs.Server.{numbered}
 use Rattle.frag_session.specs.Session.{Session}
+use Rattle.frag_session.specs.FirstMoment.{IsDecidedAtFirst}
 use Rattle.fuota_run.specs.declared.status.Status.{Status}
 use Rattle.fuota_run.specs.declared.status.Status.TheVariants as status
 use Rattle.fuota_run.specs.Outside.{Held}
@@ -41,11 +44,15 @@ abbrev pub IsReportAnswered : Type 0
 IsReportAnswered = (words : List (List ℕ)) (held : Held) (image script : List ℕ) (world : WorldState) → AreHandedIn words held Campaign image script
     → campaign_of image script ≡ Ok world → (a : Answer) → IsAnswer words held a → a ≡ answer status.Done (report_of world)
 
--- whatever image and accepted script are handed in, what is recovered of a device that has its file is the image; and else
--- the answer says so
+-- whatever image and accepted script are handed in, what is recovered of a device that has its file is answered, where the script
+-- is honest the image; and else the answer says so
 pub record IsRecoveryAnswered : Type 0 where
+  pub file_is : (words : List (List ℕ)) (held : Held) (device : ℕ) (image script : List ℕ) (world : WorldState) (file : List ℕ)
+      → AreHandedIn words held (Recover device) image script
+      → campaign_of image script ≡ Ok world → recovery world device ≡ Ok file → (a : Answer) → IsAnswer words held a
+      → a ≡ answer status.Done file
   pub image_is : (words : List (List ℕ)) (held : Held) (device : ℕ) (image script : List ℕ) (world : WorldState) (file : List ℕ)
-      → All (λ b. b < 2 ^ 8) image → AreHandedIn words held (Recover device) image script
+      → All (λ b. b < 2 ^ 8) image → AreHandedIn words held (Recover device) image script → IsHonest script
       → campaign_of image script ≡ Ok world → recovery world device ≡ Ok file → (a : Answer) → IsAnswer words held a
       → a ≡ answer status.Done image
   pub no_file : (words : List (List ℕ)) (held : Held) (device : ℕ) (image script : List ℕ) (world : WorldState) (why : NoFile)
@@ -73,15 +80,25 @@ pub record IsHeadline (image script : List ℕ) (world : WorldState) (id : ℕ) 
   pub recovered : IsRecovered image session
   pub reported : IsReported image world id stage device session
 
--- the whole report of that campaign was appended, and of each device that has a session it says what the headline says
+-- what is said of each session of a device, whoever sent what reached it
+pub record IsVerdict (image script : List ℕ) (world : WorldState) (id index : ℕ) (s : Session) : Type 0 where
+  pub heard : CameInTurn (Carries (lines_of script) world.sent id) index (length (lines_of script)) s.heard
+  pub decided : IsDecidedAtFirst s
+  pub told : IsToldOf world.server.image index s
+
+-- the whole report of that campaign was appended, and of each device that has a session it says what the headline says, where
+-- the script is honest
 pub record IsReportWritten (image script : List ℕ) (world : WorldState) (s : Status) (old new : Option (List ℕ)) : Type 0 where
   pub done : s ≡ status.Done
   pub report : Appends old new (report_of world)
   pub configured : (id : ℕ) (device : DeviceState) → numbered world.devices id ≡ Some device
       → IsOfItsLine (lines_of script) id device.config
-  pub one : (id : ℕ) (device : DeviceState) → numbered world.devices id ≡ Some device → HasNoOther device.sessions
+  pub one : (id : ℕ) (device : DeviceState) → IsHonest script → numbered world.devices id ≡ Some device → HasNoOther device.sessions
   pub headline : (id : ℕ) (stage : Stage) (device : DeviceState) (session : Session)
       → IsCampaign image script world id stage device session → IsHeadline image script world id stage device session
+  -- and of each session, honest or not, the verdict
+  pub verdicts : (id : ℕ) (device : DeviceState) (index : ℕ) (s : Session) → IsSessionOf image script world id device index s
+      → IsVerdict image script world id index s
 
 -- so it is of whatever image and accepted script the words ask for
 abbrev pub IsCampaignRun : List (List ℕ) → Held → Status → Option (List ℕ) → Option (List ℕ) → Type 0
@@ -92,11 +109,12 @@ IsCampaignRun words held s old new = (image script : List ℕ) (world : WorldSta
 abbrev pub IsWritten : Answer → Status → Option (List ℕ) → Option (List ℕ) → Type 0
 IsWritten a s old new = (s ≡ a.status) × Appends old new a.text
 
--- of a device that has its file the image was appended, and of one that has none how it stands
-pub record IsRecoveryWritten (image : List ℕ) (world : WorldState) (device : ℕ) (s : Status) (old new : Option (List ℕ)) : Type 0 where
-  pub image_is : (file : List ℕ) → All (λ b. b < 2 ^ 8) image → recovery world device ≡ Ok file → IsWritten (answer status.Done image) s old new
+-- of a device that has its file that was appended, where the script is honest the image, and of one that has none how it stands
+pub record IsRecoveryWritten (image script : List ℕ) (world : WorldState) (device : ℕ) (s : Status) (old new : Option (List ℕ)) : Type 0 where
+  pub file_is : (file : List ℕ) → recovery world device ≡ Ok file → IsWritten (answer status.Done file) s old new
+  pub image_is : (file : List ℕ) → All (λ b. b < 2 ^ 8) image → IsHonest script → recovery world device ≡ Ok file → IsWritten (answer status.Done image) s old new
   pub no_file : (why : NoFile) → recovery world device ≡ Err why → IsWritten (not_complete device why) s old new
 
 abbrev pub IsRecoveryRun : List (List ℕ) → Held → Status → Option (List ℕ) → Option (List ℕ) → Type 0
 IsRecoveryRun words held s old new = (device : ℕ) (image script : List ℕ) (world : WorldState) → AreHandedIn words held (Recover device) image script
-    → campaign_of image script ≡ Ok world → IsRecoveryWritten image world device s old new
+    → campaign_of image script ≡ Ok world → IsRecoveryWritten image script world device s old new

@@ -10,8 +10,8 @@ pub fn report_is_answered()
     ensures { IsReportAnswered }
 {}
 
-/// Whatever image and accepted script are handed in, `recover` answers the image where the device has its file, and else how
-/// it stands.
+/// Whatever image and accepted script are handed in, `recover` answers the file where the device has one, which is the image
+/// where the script is honest, and else how the device stands.
 pub fn recovery_is_answered()
     ensures { IsRecoveryAnswered }
 {}

@@ -50,12 +50,13 @@ pub fn run<F: Files, O: Sink>(alloc: Global, words: &[String], files: &mut F, ou
     ensures exact { IfSome (F.held files.old) (λ held. ¬ HasRisen (F.faults files.old) (F.faults files.new) → ¬ HasRisen (O.faults out.old) (O.faults out.new) → result ≢ Status.Memory
         → AppendsAnswer (Some held) (map string_bytes words.now) result (O.written out.old) (O.written out.new)) }
 
-    // So a campaign's whole report is written, and what it says of each device's session is the headline: the session hears
-    // what the script delivers, and is complete from the first fragment on after which one file alone fits, the image.
+    // So a campaign's whole report is written, and what it says of each device's session is its verdict at the first moment
+    // over what the lines bring. Where the script is honest, it is the headline: the session hears what the script delivers,
+    // and is complete from the first fragment on after which one file alone fits, the image.
     ensures headline { IfSome (F.held files.old) (λ held. ¬ HasRisen (F.faults files.old) (F.faults files.new) → ¬ HasRisen (O.faults out.old) (O.faults out.new) → result ≢ Status.Memory
         → IsCampaignRun (map string_bytes words.now) held result (O.written out.old) (O.written out.new)) }
 
-    // And what is recovered of a device that has its file is the image.
+    // And what is recovered of a device that has its file is that file, the image where the script is honest.
     ensures recovery { IfSome (F.held files.old) (λ held. ¬ HasRisen (F.faults files.old) (F.faults files.new) → ¬ HasRisen (O.faults out.old) (O.faults out.new) → result ≢ Status.Memory
         → IsRecoveryRun (map string_bytes words.now) held result (O.written out.old) (O.written out.new)) }
 

@@ -12,26 +12,28 @@ use Rattle.device_core.specs.Device.{DeviceState}
 use Rattle.campaign_world.specs.Report.{verdict_text, session_text}
 use Rattle.payload_replay.specs.Replay.{file_line, told_session}
 use Rattle.frag_session.specs.FirstMoment.{MakesFile, IsDecidedAtFirst}
-use Rattle.payload_replay.specs.ReplayHeadline.{IsReplayed, CameInTurn, saying, IsToldOf, ReplayHeadline}
+use Rattle.campaign_world.specs.Verdicts.{CameInTurn, saying}
+use Rattle.payload_replay.specs.ReplayHeadline.{IsReplayed, Carries, IsToldOf, ReplayHeadline}
 use Rattle.frag_session.proofs.FirstMoments.{decided_at_first}
 use Rattle.campaign_world.proofs.LineItems.{within}
-use Rattle.payload_replay.proofs.ReplaySessions.{IsFine, of_one, reaches_fine}
+use Rattle.campaign_world.proofs.HeardSessions.{IsFine, of_one}
+use Rattle.payload_replay.proofs.ReplaySessions.{reaches_fine}
 
 session_fine : (file : List ℕ) (device : DeviceState) (index : ℕ) (s : Session) → IsReplayed file device index s
-    → (last : ℕ) × IsFine (lines_of file) last index s
+    → (last : ℕ) × IsFine (Carries (lines_of file)) last index s
 session_fine file device index s r =
     let fine = reaches_fine (lines_of file) device r.accepted in
     let here : min index 3 ≡ index = omega (arith, r.index_is) in
-    let its : IfSome (session_at device.sessions index) (IsFine (lines_of file) fine.0 (min index 3)) =
-    of_one (λ i o. IfSome o (IsFine (lines_of file) fine.0 i)) device.sessions index fine.1 in (
+    let its : IfSome (session_at device.sessions index) (IsFine (Carries (lines_of file)) fine.0 (min index 3)) =
+    of_one (λ i o. IfSome o (IsFine (Carries (lines_of file)) fine.0 i)) device.sessions index fine.1 in (
       fine.0,
-      subst (λ i. IsFine (lines_of file) fine.0 i s) here
-          (subst (λ (o : Option Session). IfSome o (IsFine (lines_of file) fine.0 (min index 3))) r.session_is its),
+      subst (λ i. IsFine (Carries (lines_of file)) fine.0 i s) here
+          (subst (λ (o : Option Session). IfSome o (IsFine (Carries (lines_of file)) fine.0 (min index 3))) r.session_is its),
     )
 
 -- the last fragment came with one of the lines
-in_the_file : (lines : List (List ℕ)) (index last : ℕ) (heard : List Fragment) → CameInTurn lines index last heard
-    → CameInTurn lines index (length lines) heard
+in_the_file : (lines : List (List ℕ)) (index last : ℕ) (heard : List Fragment) → CameInTurn (Carries lines) index last heard
+    → CameInTurn (Carries lines) index (length lines) heard
 in_the_file lines index last [] came = tt
 in_the_file lines index last (f ∷ older) came = (within lines f.mark came.1.0 came.1.3.line_is, came.1, came.2)
 

@@ -15,7 +15,7 @@ use Rattle.script_lines.specs.Lines.{lines_of}
 use Rattle.campaign_server.specs.Server.{numbered}
 use Rattle.device_core.specs.SessionTable.{session_at}
 use Rattle.device_core.specs.Device.{DeviceState}
-use Rattle.campaign_world.specs.Report.{session_text}
+use Rattle.campaign_world.specs.Verdicts.{CameInTurn, saying}
 use Rattle.payload_replay.specs.PayloadLines.{payload_of}
 use Rattle.payload_replay.specs.Replay.{Reaches, told_session}
 use Rattle.frag_session.specs.FirstMoment.{AfterEach, IsOpen, IsWhole, Overflows, NoFileFits, FirstAt, IsDecidedAtFirst}
@@ -36,15 +36,6 @@ pub record IsCarried (lines : List (List ℕ)) (n : ℕ) (c : Command) (line pay
 abbrev pub Carries : List (List ℕ) → ℕ → Command → Type 0
 Carries lines n c = (line : List ℕ) × (payload : List ℕ) × (cs : List Command) × IsCarried lines n c line payload cs
 
--- each fragment came with the line whose number is its mark, up to this one, and those heard before it no later
-abbrev pub CameInTurn : List (List ℕ) → ℕ → ℕ → List Fragment → Type 0
-CameInTurn lines index last [] = Unit {0}
-CameInTurn lines index last (f ∷ older) = (f.mark ≤ last) × Carries lines f.mark (Cast (DataFragment index f.number f.part)) × CameInTurn lines index f.mark older
-
--- the session's line, with these words as its verdict
-abbrev pub saying : ℕ → Session → List ℕ → List ℕ
-saying index s words = session_text index (seen_of s).received (seen_of s).missing words
-
 -- what the text says of the session
 pub record IsToldOf (index : ℕ) (s : Session) : Type 0 where
   -- where some fragment is the first after which one file alone fits: its line, and that file
@@ -63,7 +54,7 @@ pub record IsToldOf (index : ℕ) (s : Session) : Type 0 where
 pub record ReplayHeadline : Type 0 where
   -- a session hears nothing but what the lines carry, each fragment at its line
   pub heard : (file : List ℕ) (device : DeviceState) (index : ℕ) (s : Session) → IsReplayed file device index s
-      → CameInTurn (lines_of file) index (length (lines_of file)) s.heard
+      → CameInTurn (Carries (lines_of file)) index (length (lines_of file)) s.heard
   -- it is decided at the first fragment after which its file is no longer open
   pub decided : (file : List ℕ) (device : DeviceState) (index : ℕ) (s : Session) → IsReplayed file device index s → IsDecidedAtFirst s
   -- the text says so

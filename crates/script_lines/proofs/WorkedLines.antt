@@ -2,12 +2,12 @@
 use Rattle.std.proofs.Common.{refl}
 use Rattle.hex.specs.Hex.{decode_pairs}
 use Rattle.script_lines.specs.Lines.{words_of, word}
-use Rattle.script_lines.specs.Numbers.{decimal_of, key_of, hex_number_of}
+use Rattle.script_lines.specs.Numbers.{decimal_of, key_of, hex_number_of, hex_bytes_of}
 use Rattle.script_lines.specs.Forms.{form_of}
 use Rattle.script_lines.specs.WorkedLines.{AreForms, AreNone}
 
 pub forms : AreForms
-unfolding form_of words_of word decimal_of key_of hex_number_of decode_pairs
+unfolding form_of words_of word decimal_of key_of hex_number_of hex_bytes_of decode_pairs
 forms = record {
   header = refl;
   image = refl;
@@ -23,12 +23,15 @@ forms = record {
   status = refl;
   down = refl;
   down_with_word = refl;
+  raw = refl;
+  raw_with_word = refl;
+  raw_of_nothing = refl;
   up = refl;
   end = refl;
 }
 
 pub none : AreNone
-unfolding form_of words_of word decimal_of key_of hex_number_of decode_pairs
+unfolding form_of words_of word decimal_of key_of hex_number_of hex_bytes_of decode_pairs
 none = record {
   empty = refl;
   version = refl;
@@ -43,4 +46,10 @@ none = record {
   short_key = refl;
   class_b = refl;
   window_a = refl;
+  odd_hex = refl;
+  no_hex = refl;
+  raw_without_payload = refl;
+  empty_hex = refl;
+  empty_hex_before_word = refl;
+  two_dashes = refl;
 }

@@ -3,9 +3,9 @@ use Rattle.std.specs.Prelude.{ℕ, ◌&&◌, ◌==◌, if◌then◌else◌, List
 use Rattle.script_lines.specs.declared.forms.Class.{Class}
 use Rattle.script_lines.specs.declared.forms.Class.TheVariants as class
 use Rattle.script_lines.specs.declared.forms.Form.{Form}
-use Rattle.script_lines.specs.declared.forms.Form.TheVariants.{Header, Image, Group, WindowC, WindowB, Device, At, Wake, Ask, Frag, Status, Down, Up, End}
+use Rattle.script_lines.specs.declared.forms.Form.TheVariants.{Header, Image, Group, WindowC, WindowB, Device, At, Wake, Ask, Frag, Status, Down, Raw, Up, End}
 use Rattle.script_lines.specs.Lines.{words_of, word, is_word}
-use Rattle.script_lines.specs.Numbers.{decimal_of, key_of, hex_number_of, ◌>>=◌}
+use Rattle.script_lines.specs.Numbers.{decimal_of, key_of, hex_number_of, hex_bytes_of, ◌>>=◌}
 
 -- ---- words of a line
 
@@ -13,7 +13,7 @@ use Rattle.script_lines.specs.Numbers.{decimal_of, key_of, hex_number_of, ◌>>=
 abbrev pub count_of : (line : List ℕ) → ℕ
 count_of line = length (words_of line)
 
--- the decimal, the hex number, the key and the class at a place
+-- the decimal, the hex number, the key, the bytes and the class at a place
 abbrev pub decimal_at : (line : List ℕ) → (k : ℕ) → Option ℕ
 decimal_at line k = decimal_of (word line k)
 
@@ -22,6 +22,9 @@ hex_at line k = hex_number_of (word line k)
 
 abbrev pub key_at : (line : List ℕ) → (k : ℕ) → Option (List ℕ)
 key_at line k = key_of (word line k)
+
+abbrev pub bytes_at : (line : List ℕ) → (k : ℕ) → Option (List ℕ)
+bytes_at line k = hex_bytes_of (word line k)
 
 abbrev pub class_at : (line : List ℕ) → (k : ℕ) → Option Class
 class_at line k =
@@ -133,6 +136,20 @@ down_form line =
     else if count_of line == 4 then decimal_at line 3 >>= (λ random. down_words line random)
     else None
 
+-- raw D PORT HEX, with WORD behind it or none, which is 0
+abbrev pub raw_words : List ℕ → ℕ → Option Form
+raw_words line random = do
+  device ← decimal_at line 1
+  port ← decimal_at line 2
+  payload ← bytes_at line 3
+  Some (Raw device port payload random)
+
+abbrev pub raw_form : List ℕ → Option Form
+raw_form line =
+    if count_of line == 4 then raw_words line 0
+    else if count_of line == 5 then decimal_at line 4 >>= (λ random. raw_words line random)
+    else None
+
 -- ---- the form that a line spells, if any
 
 unfoldable pub form_of : List ℕ → Option Form
@@ -148,6 +165,7 @@ form_of line =
     else if is_word line 0 (codes "frag") then alone line Frag
     else if is_word line 0 (codes "status") then alone line Status
     else if is_word line 0 (codes "down") then down_form line
+    else if is_word line 0 (codes "raw") then raw_form line
     else if is_word line 0 (codes "up") then up_form line
     else if is_word line 0 (codes "end") then alone line End
     else None

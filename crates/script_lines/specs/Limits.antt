@@ -9,6 +9,10 @@ max_lines = 20000
 abbrev pub max_line : ℕ
 max_line = 600
 
+-- bytes that a word of a line spells in hex
+abbrev pub max_hex_bytes : ℕ
+max_hex_bytes = 300
+
 -- the last millisecond of the GPS second 2^32 - 1
 abbrev pub max_time : ℕ
 max_time = 4294967295999

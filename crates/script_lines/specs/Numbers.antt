@@ -1,9 +1,11 @@
 -- Decimals, keys and hex numbers as words of a line (this project's profile).
-use Rattle.std.specs.Prelude.{ℕ, ◌+◌, ◌-◌, ◌*◌, ◌^◌, min, Bool, false, ◌&&◌, not, ◌==◌, if◌then◌else◌, List, [], ◌∷◌, fold, Option, Some, None, Result, Ok, Err}
+use Rattle.std.specs.Prelude.{ℕ, ◌+◌, ◌-◌, ◌*◌, ◌^◌, min, Bool, false, ◌&&◌, not, ◌==◌, nat_le, if◌then◌else◌, List, [], ◌∷◌, length, fold, codes, Option, Some, None, Result, Ok, Err}
 use Rattle.std.specs.List.{list_all}
 use Rattle.std.specs.Char.{is_ascii_digit}
 use Rattle.std.specs.Int.{from_be_bytes, w32}
-use Rattle.hex.specs.Hex.{decode_sized}
+use Rattle.std.specs.Str.{bytes_eq}
+use Rattle.hex.specs.Hex.{decode_of, decode_sized}
+use Rattle.script_lines.specs.Limits.{max_hex_bytes}
 
 -- digits, at least one, with no leading zero but 0 itself
 abbrev pub is_decimal : List ℕ → Bool
@@ -37,3 +39,14 @@ key_of digits = read_part (decode_sized digits 16)
 -- the number that 8 hex digits of either case spell, the most significant first
 unfoldable pub hex_number_of : List ℕ → Option ℕ
 hex_number_of digits = read_part (decode_sized digits 4) >>= λ bytes. Some (from_be_bytes w32 bytes)
+
+-- a word has digits, and no more than a line's
+abbrev pub is_hex_word : List ℕ → Bool
+is_hex_word digits = nat_le 1 (length digits) && nat_le (length digits) (2 * max_hex_bytes)
+
+-- the bytes that an even number of hex digits of either case spells, or that `-` does, which are none
+unfoldable pub hex_bytes_of : List ℕ → Option (List ℕ)
+hex_bytes_of digits =
+    if bytes_eq digits (codes "-") then Some []
+    else if is_hex_word digits then read_part (decode_of digits)
+    else None

@@ -1,7 +1,7 @@
 -- Lines of a script, each with the form that it spells, or with none.
 use Rattle.std.specs.Prelude.{◌≡◌, [], ◌∷◌, codes, Some, None}
 use Rattle.script_lines.specs.declared.forms.Class.TheVariants as class
-use Rattle.script_lines.specs.declared.forms.Form.TheVariants.{Header, Image, Group, WindowC, WindowB, Device, At, Wake, Ask, Frag, Status, Down, Up, End}
+use Rattle.script_lines.specs.declared.forms.Form.TheVariants.{Header, Image, Group, WindowC, WindowB, Device, At, Wake, Ask, Frag, Status, Down, Raw, Up, End}
 use Rattle.script_lines.specs.Forms.{form_of}
 
 pub record AreForms : Type 0 where
@@ -22,6 +22,9 @@ pub record AreForms : Type 0 where
   pub status : form_of (codes "status") ≡ Some Status
   pub down : form_of (codes "down 3 7") ≡ Some (Down 3 7 0)
   pub down_with_word : form_of (codes "down 3 7 12") ≡ Some (Down 3 7 12)
+  pub raw : form_of (codes "raw 7 201 0801") ≡ Some (Raw 7 201 (8 ∷ 1 ∷ []) 0)
+  pub raw_with_word : form_of (codes "raw 7 255 0a0B 12") ≡ Some (Raw 7 255 (10 ∷ 11 ∷ []) 12)
+  pub raw_of_nothing : form_of (codes "raw 7 204 -") ≡ Some (Raw 7 204 [] 0)
   pub up : form_of (codes "up 3") ≡ Some (Up 3)
   pub end : form_of (codes "end") ≡ Some End
 
@@ -39,3 +42,10 @@ pub record AreNone : Type 0 where
   pub short_key : form_of (codes "group 11223344 00 0 10") ≡ None
   pub class_b : form_of (codes "device 1 b 2 3 4 000102030405060708090a0b0c0d0e0f") ≡ None
   pub window_a : form_of (codes "window a 1000 1 8695250 5") ≡ None
+  pub odd_hex : form_of (codes "raw 7 201 080") ≡ None
+  pub no_hex : form_of (codes "raw 7 201 08g1") ≡ None
+  pub raw_without_payload : form_of (codes "raw 7 201") ≡ None
+  -- nothing is spelled as `-` alone
+  pub empty_hex : form_of (codes "raw 7 201 ") ≡ None
+  pub empty_hex_before_word : form_of (codes "raw 7 201  12") ≡ None
+  pub two_dashes : form_of (codes "raw 7 201 --") ≡ None

@@ -1,5 +1,7 @@
 //! The forms that the lines of a script have.
 
+use crate::hex_bytes::HexBytes;
+
 /// An AES-128 key.
 pub type Key = [u8; 16];
 
@@ -14,7 +16,7 @@ pub enum Class {
 
 /// The form of a line of a script. Decimals are as they are written, those above 2^64 - 1 held as that: what they may be
 /// is `in_range`.
-#[derive(Clone, Copy, Debug, PartialEq, Eq)]
+#[derive(Debug, Drop, PartialEq)]
 pub enum Form {
     /// `fuota 1`
     Header,
@@ -75,6 +77,14 @@ pub enum Form {
     Down {
         number: u64,
         device: u64,
+        word: u64,
+    },
+    /// `raw D PORT HEX [WORD]`: this payload, whoever made it, reaches device D on this port by unicast, with a random word that
+    /// is 0 where it is left out.
+    Raw {
+        device: u64,
+        port: u64,
+        payload: HexBytes,
         word: u64,
     },
     /// `up U`: uplink U reaches the server.

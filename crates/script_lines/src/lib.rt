@@ -5,6 +5,7 @@
 
 mod forms;
 mod hearing;
+mod hex_bytes;
 mod laws;
 mod lines;
 mod numbers;
@@ -17,6 +18,7 @@ mod words;
 
 pub use forms::{Class, Form, Key};
 pub use hearing::{HearsLine, hear_last, hear_piece};
+pub use hex_bytes::HexBytes;
 pub use laws::worked_lines;
 pub use lines::first_line;
 pub use numbers::decimal;

@@ -17,6 +17,9 @@ const MAX_FRAG_SIZE: u64 = 239;
 /// The most rows for coded fragments that a device is given.
 const MAX_ROWS: u64 = 64;
 
+/// The last port.
+const MAX_PORT: u64 = 255;
+
 /// The most devices of a script.
 const MAX_DEVICES: u64 = 64;
 
@@ -53,6 +56,7 @@ pub fn in_range(form: &Form) -> bool
         } => is_device(id, hw, rows, offset),
         Form::At { time } => time <= MAX_TIME,
         Form::Down { word, .. } => is_u32(word),
+        Form::Raw { port, word, .. } => port <= MAX_PORT && is_u32(word),
         _ => true,
     }
 }

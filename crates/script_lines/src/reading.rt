@@ -2,10 +2,10 @@
 
 ghost use Rattle.std.specs.Prelude.{◌≡◌};
 ghost use Rattle.std.specs.Str.{bytes_eq};
-ghost use Rattle.script_lines.specs.Forms.{form_of, alone, header_form, image_form, group_form, window_form, window_c_form, window_b_form, device_form, device_words, at_form, wake_form, ask_form, down_form, down_words, up_form, class_at};
+ghost use Rattle.script_lines.specs.Forms.{form_of, alone, header_form, image_form, group_form, window_form, window_c_form, window_b_form, device_form, device_words, at_form, wake_form, ask_form, down_form, down_words, raw_form, raw_words, up_form, class_at};
 
 use crate::forms::{Class, Form};
-use crate::numbers::{decimal, hex_number, key};
+use crate::numbers::{decimal, hex_bytes, hex_number, key};
 use crate::words::{count_words, is_word, word};
 
 /// The form that a line spells, None exactly where it spells none.
@@ -36,6 +36,8 @@ pub fn form(line: &[u8]) -> Option<Form>
         alone(line, Form::Status)
     } else if is_keyword(keyword, "down") {
         down_form(line)
+    } else if is_keyword(keyword, "raw") {
+        raw_form(line)
     } else if is_keyword(keyword, "up") {
         up_form(line)
     } else if is_keyword(keyword, "end") {
@@ -255,6 +257,34 @@ fn down_words(line: &[u8], random: u64) -> Option<Form>
     Some(Form::Down {
         number,
         device,
+        word: random,
+    })
+}
+
+/// `raw D PORT HEX [WORD]`
+fn raw_form(line: &[u8]) -> Option<Form>
+    ensures { result ≡ raw_form line.now }
+{
+    match count_words(line) {
+        4 => raw_words(line, 0),
+        5 => {
+            let random = decimal(word(line, 4))?;
+            raw_words(line, random)
+        }
+        _ => None,
+    }
+}
+
+fn raw_words(line: &[u8], random: u64) -> Option<Form>
+    ensures { result ≡ raw_words line.now random }
+{
+    let device = decimal(word(line, 1))?;
+    let port = decimal(word(line, 2))?;
+    let payload = hex_bytes(word(line, 3))?;
+    Some(Form::Raw {
+        device,
+        port,
+        payload,
         word: random,
     })
 }

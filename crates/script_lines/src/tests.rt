@@ -1,4 +1,4 @@
-use crate::{Class, Cut, Form, Lines, form, in_range};
+use crate::{Class, Cut, Form, HexBytes, Lines, form, in_range};
 
 /// Lines, the form that each spells, and whether its numbers are in their ranges.
 #[test]
@@ -167,4 +167,68 @@ fn pieces_make_the_lines_of_the_whole(rt: HostRuntime) {
         assert!(rt; lines.take(&[byte]) == (1, Cut::More));
     }
     assert!(rt; lines.finish() && lines.line() == [b'a'; 601].as_slice());
+}
+
+/// Strangers' payloads: HEX is an even number of digits of either case, or `-`, and never no word at all; of more bytes than
+/// a payload has it is a word still.
+#[test]
+fn raw_lines_are_read(rt: HostRuntime) {
+    let cases: [(&str, u64, u64, &[u8], u64, bool); 6] = [
+        ("raw 1 201 0801", 1, 201, &[8, 1], 0, true),
+        ("raw 2 204 -", 2, 204, &[], 0, true),
+        (
+            "raw 0 0 aAfF09 4294967295",
+            0,
+            0,
+            &[170, 255, 9],
+            u64::from(u32::MAX),
+            true,
+        ),
+        ("raw 1 255 - 0", 1, 255, &[], 0, true),
+        ("raw 1 256 -", 1, 256, &[], 0, false),
+        ("raw 1 201 00 4294967296", 1, 201, &[0], 1 << 32, false),
+    ];
+    for (line, device, port, bytes, word, ranged) in cases {
+        let wanted = Form::Raw {
+            device,
+            port,
+            payload: HexBytes::from_slice(bytes),
+            word,
+        };
+        assert!(rt; in_range(&wanted) == ranged);
+        assert!(rt; form(line.as_bytes()) == Some(wanted));
+    }
+    let none = [
+        "raw 1 201",
+        "raw 1 201 ",
+        "raw 1 201  0",
+        "raw 1 201 080",
+        "raw 1 201 0x",
+        "raw 1 201 --",
+        "raw 1 201 -1",
+        "raw 1 -1 00",
+        "raw 1 201 00 00",
+        "raw 1 201 00 -",
+        "raw 1 201 00 0 0",
+        "Raw 1 201 00",
+    ];
+    for line in none {
+        assert!(rt; form(line.as_bytes()) == None);
+    }
+}
+
+/// Of 600 digits there are 300 bytes; two more are longer than a line.
+#[test]
+fn long_hex_words_are_read(rt: HostRuntime) {
+    let mut line = [b'0'; 612];
+    line[..10].copy_from_slice(b"raw 1 201 ");
+    let wanted = Form::Raw {
+        device: 1,
+        port: 201,
+        payload: HexBytes::from_slice(&[0; 300]),
+        word: 0,
+    };
+    assert!(rt; form(&line[..610]) == Some(wanted));
+    assert!(rt; form(&line[..609]) == None);
+    assert!(rt; form(&line) == None);
 }

@@ -247,6 +247,52 @@ fn a_file_is_recovered(rt: HostRuntime) -> Result<(), Fail> {
     Ok(())
 }
 
+const STRANGE: &str = "fuota 1\nimage 52 0\ndevice 1 c 1 0 0 00000000000000000000000000000000\n";
+
+const CONTRADICTED: &str =
+    "raw 1 201 0801\nraw 1 204 -\nraw 1 201 0200040001000000000000\nraw 1 201 08010011\nraw 1 201 08010012\nend\n";
+
+const CONFLICT: &str =
+    "fuota report 1\nimage 52 fragments 1 size 52 padding 0 parity 0\ndevice 1 version clock 0 token 0 running 0 next none\ncounts deaf 0 refused 2 full 0 dropped 0\nsession 0 received 2 missing 3 conflict at 8\nend\n";
+
+const SMUGGLED: &str = "raw 1 201 0200010001000000000000\nraw 1 201 0801005a\nend\n";
+
+const OTHER: &str =
+    "fuota report 1\nimage 52 fragments 1 size 52 padding 0 parity 0\ndevice 1 version clock 0 token 0 running 0 next corrupt\ncounts deaf 0 refused 0 full 0 dropped 0\nsession 0 received 1 missing 0 complete at 5 other\nend\n";
+
+/// Anybody's payloads are refused or acted on: two that contradict each other, and a file that is another than the image,
+/// which is recovered as it is. A line that is refused hands out none.
+#[test]
+fn strangers_payloads_are_heard(rt: HostRuntime) -> Result<(), Fail> {
+    let recover = ["fuota", "recover", "image", "script", "1"];
+    let rows = [
+        (&WORDS[..], CONTRADICTED, Status::Done, CONFLICT),
+        (
+            &recover[..],
+            CONTRADICTED,
+            Status::NotComplete,
+            "device 1 conflict\n",
+        ),
+        (&WORDS[..], SMUGGLED, Status::Done, OTHER),
+        (&recover[..], SMUGGLED, Status::Done, "Z"),
+        (
+            &WORDS[..],
+            "raw 2 201 00\n",
+            Status::ScriptRefused,
+            "line 4 device\n",
+        ),
+    ];
+    for (words, events, status, text) in &rows {
+        let outside = Outside {
+            start: STRANGE,
+            events,
+            ..SOUND
+        };
+        ends(&rt, rt.alloc(), words, &outside, *status, text)?;
+    }
+    Ok(())
+}
+
 #[test]
 fn words_that_are_no_form_are_usage(rt: HostRuntime) -> Result<(), Fail> {
     let rows = [

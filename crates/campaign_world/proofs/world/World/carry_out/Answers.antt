@@ -20,6 +20,9 @@ play-requires-clause-names c = let fine = causes.fine_of c.args.self.now c.args.
 pub play-requires-clause-come : goal.play-requires-clause-come
 play-requires-clause-come c = let fine = causes.fine_of c.args.self.now c.args.form.now c.requires.fine in fine.come
 
+pub play-requires-clause-fits : goal.play-requires-clause-fits
+play-requires-clause-fits c = let fine = causes.fine_of c.args.self.now c.args.form.now c.requires.fine in fine.short
+
 pub invariant_of-self : goal.invariant_of-self
 invariant_of-self c = let fine = causes.fine_of c.args.self.now c.args.form.now c.requires.fine in
     record {

@@ -49,6 +49,18 @@ returns-then-not-is_to_come c = rw (← c.self.view_is) (λ devices count. sym (
     (causes.come_from _ _ _ c.args.form.now _ _ _ c.deref.ensures.value c.deref-2.ensures.value c.has_come.ensures ∙ c.if-not-has_come.false)
     (sym c.is_to_come.ensures ∙ c.if-not-is_to_come.true)))
 
+pub returns-then-not-fits_payload : goal.returns-then-not-fits_payload
+returns-then-not-fits_payload c = rw (← c.self.view_is) (λ devices count. sym (causes.long _ _
+    (record {
+      comes = sym c.may_come.ensures ∙ c.if-not-may_come.false;
+      ranges = sym c.in_range.ensures ∙ c.if-not-in_range.false;
+      fits = causes.fits_from _ _ _ _ devices c.args.form.now _ _ _ c.self.invariant.built count c.deref-image.ensures.value c.deref-devices.ensures.value c.fits_script.ensures ∙ c.if-not-fits_script.false;
+    })
+    (causes.names_from _ devices c.args.form.now _ _ count c.deref-devices.ensures.value c.names_device.ensures ∙ c.if-not-names_device.false)
+    (causes.come_from _ _ _ c.args.form.now _ _ _ c.deref.ensures.value c.deref-2.ensures.value c.has_come.ensures ∙ c.if-not-has_come.false)
+    (sym c.is_to_come.ensures ∙ c.if-not-is_to_come.false)
+    (sym c.fits_payload.ensures ∙ c.if-not-fits_payload.true)))
+
 pub returns-in-Some : goal.returns-in-Some
 returns-in-Some c = rw (← c.self.view_is) (λ devices count. sym (causes.limit _ _
     (record {
@@ -59,6 +71,7 @@ returns-in-Some c = rw (← c.self.view_is) (λ devices count. sym (causes.limit
     (causes.names_from _ devices c.args.form.now _ _ count c.deref-devices.ensures.value c.names_device.ensures ∙ c.if-not-names_device.false)
     (causes.come_from _ _ _ c.args.form.now _ _ _ c.deref.ensures.value c.deref-2.ensures.value c.has_come.ensures ∙ c.if-not-has_come.false)
     (sym c.is_to_come.ensures ∙ c.if-not-is_to_come.false)
+    (sym c.fits_payload.ensures ∙ c.if-not-fits_payload.false)
     (causes.more_from _ _ _ _ c.args.form.now _ c.in-Some.is c.has_more.ensures ∙ c.if-not-has_more.true)))
 
 pub returns-in_default : goal.returns-in_default
@@ -71,6 +84,7 @@ returns-in_default c = rw (← c.self.view_is) (λ devices count. sym (causes.no
     (causes.names_from _ devices c.args.form.now _ _ count c.deref-devices.ensures.value c.names_device.ensures ∙ c.if-not-names_device.false)
     (causes.come_from _ _ _ c.args.form.now _ _ _ c.deref.ensures.value c.deref-2.ensures.value c.has_come.ensures ∙ c.if-not-has_come.false)
     (sym c.is_to_come.ensures ∙ c.if-not-is_to_come.false)
+    (sym c.fits_payload.ensures ∙ c.if-not-fits_payload.false)
     (causes.more_from _ _ _ _ c.args.form.now _ c.in-Some.is c.has_more.ensures ∙ c.if-not-has_more.false)))
 
 pub returns-in_default-2 : goal.returns-in_default-2
@@ -83,4 +97,5 @@ returns-in_default-2 c = rw (← c.self.view_is) (λ devices count. sym (causes.
     (causes.names_from _ devices c.args.form.now _ _ count c.deref-devices.ensures.value c.names_device.ensures ∙ c.if-not-names_device.false)
     (causes.come_from _ _ _ c.args.form.now _ _ _ c.deref.ensures.value c.deref-2.ensures.value c.has_come.ensures ∙ c.if-not-has_come.false)
     (sym c.is_to_come.ensures ∙ c.if-not-is_to_come.false)
+    (sym c.fits_payload.ensures ∙ c.if-not-fits_payload.false)
     (causes.unmade_from _ _ _ _ _ c.args.form.now c.self.invariant.image_is c.in_default.is c.self.invariant.planned (sym c.may_come.ensures ∙ c.if-not-may_come.false))))

@@ -22,6 +22,6 @@ returns-clause-taken c = on_ok c.deliver.result (λ ok. rw (← c.self.view_is) 
     (subst (λ (h : HeldWorld). c.args.device ≤ length h.devices) (sym c.self.view_is) c.requires.last)
     (some_now _ _ _ _ (c.numbered.ensures ∙ ap (λ (items : List SentPayload). numbered items c.args.number) c.deref.ensures.value) c.in-Some.is)
     (record {
-      devices = rw (← c.from.ensures) (on_ok_then c.deliver.result ok c.deliver.ensures.devices);
-      uplinks = rw (← c.from.ensures) (on_ok_then c.deliver.result ok c.deliver.ensures.uplinks);
+      devices = rw (← c.mark_behind-mark.ensures) (on_ok_then c.deliver.result ok c.deliver.ensures.devices);
+      uplinks = rw (← c.mark_behind-mark.ensures) (on_ok_then c.deliver.result ok c.deliver.ensures.uplinks);
     })))

@@ -1,7 +1,7 @@
 use Rattle.std.proofs.Common.{◌≡◌, Some, arith, sym, subst}
 use Rattle.campaign_server.specs.Server.{ServerState}
 use Rattle.campaign_world.specs.HeldWorld.{HeldWorld}
-use Rattle.campaign_world.proofs.FormCauses.{woken_within, asked_within, reached_within, word_within, time_within}
+use Rattle.campaign_world.proofs.FormCauses.{woken_within, asked_within, reached_within, struck_within, striking, payload_within, word_within, time_within}
 use Rattle.campaign_world.proofs.world.World.event.Goals as goal
 
 pub invariant_of-self : goal.invariant_of-self
@@ -26,3 +26,15 @@ overflow_cast-device-in-Down c = let both = reached_within _ _ _ _ _ c.requires.
 
 pub overflow_cast-word : goal.overflow_cast-word
 overflow_cast-word c = let small = word_within _ _ _ _ c.requires.ranges c.in-Down.is in omega (arith, small)
+
+pub overflow_cast-device-in-Raw : goal.overflow_cast-device-in-Raw
+overflow_cast-device-in-Raw c = let both = struck_within _ _ _ _ _ _ c.requires.names c.in-Raw.is in omega (arith, both.1, c.requires.few)
+
+pub overflow_cast-port : goal.overflow_cast-port
+overflow_cast-port c = let fits = striking _ _ _ _ _ c.requires.ranges c.in-Raw.is in omega (arith, fits.port_fits)
+
+pub overflow_cast-word-in-Raw : goal.overflow_cast-word-in-Raw
+overflow_cast-word-in-Raw c = let fits = striking _ _ _ _ _ c.requires.ranges c.in-Raw.is in omega (arith, fits.word_fits)
+
+pub raw_down-requires : goal.raw_down-requires
+raw_down-requires c = payload_within _ _ _ _ _ c.requires.fits c.in-Raw.is

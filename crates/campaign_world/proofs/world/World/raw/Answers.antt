@@ -1,0 +1,25 @@
+use Rattle.std.proofs.Common.{◌≡◌, ◌≤◌, length, Some, sym, subst}
+use Rattle.campaign_server.specs.Server.{ServerState}
+use Rattle.campaign_world.specs.HeldWorld.{HeldWorld}
+use Rattle.campaign_world.proofs.Outcomes.{on_ok, on_ok_then}
+use Rattle.campaign_world.proofs.Steps.{built_alike, raw_step}
+use Rattle.campaign_world.proofs.world.World.raw.Goals as goal
+
+pub invariant_of-self : goal.invariant_of-self
+invariant_of-self c = record {
+  image_is = c.self.invariant.image_is;
+  counted = c.self.invariant.counted;
+  timed = c.self.invariant.timed;
+  few = rw (c.deliver.ensures.count) c.self.invariant.few;
+  built = built_alike _ _ _ _ c.deliver.ensures.count c.self.invariant.built;
+  planned = subst (λ (h : HeldWorld). (s : ServerState) × (h.server ≡ Some s)) (sym c.self.view_is) c.requires.begun;
+  made = rw (c.deliver.ensures.count) (c.deliver.ensures.made _ (subst (λ (h : HeldWorld). c.args.device ≤ length h.devices) (sym c.self.view_is) c.requires.last) c.self.invariant.made);
+}
+
+pub returns-clause-taken : goal.returns-clause-taken
+returns-clause-taken c = on_ok c.deliver.result (λ ok. rw (← c.self.view_is) (λ world stands. raw_step _ world _ _ c.args.device c.args.word c.args.down.now stands c.requires.first
+    (subst (λ (h : HeldWorld). c.args.device ≤ length h.devices) (sym c.self.view_is) c.requires.last)
+    (record {
+      devices = rw (← c.mark_behind-mark.ensures) (on_ok_then c.deliver.result ok c.deliver.ensures.devices);
+      uplinks = rw (← c.mark_behind-mark.ensures) (on_ok_then c.deliver.result ok c.deliver.ensures.uplinks);
+    })))
