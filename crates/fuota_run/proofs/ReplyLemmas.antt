@@ -228,6 +228,22 @@ pub file_given : (Tells : Telling) (file : List ℕ) (a : Answer) → length fil
 unfolding IsFileAnswer
 file_given Tells file a within said = let t : nat_lt 1048576 (length file) ≡ false = le-ltb _ _ within in rw t said
 
+-- what is said behind the lines of a file of payloads
+pub says_heard : (Tells : Telling) (held : Option Held) (name : List ℕ) (before now : ℕ) (left : Option (List ℕ)) (file : List ℕ) (r : Result (List ℕ) LineError) (a : Answer)
+    → IsSource held name 1048576 file → length file ≤ 1048576 → IsAtEnd left → IsTold Tells file r → IsSaid r a → Says true (GivesFile held Tells name a) before now left a × IsMade a
+says_heard Tells held name before now left file r a source within ends made said =
+    let told = says_told Tells file r a made said in (
+      says_source held name (λ h bytes x. IsFileAnswer Tells bytes x) 1048576 before now left file a source (λ h. file_given Tells file a within told.0) told.1.replied told.1.sound ends,
+      told.1,
+    )
+
+-- and of one that was not read
+pub says_unheard : (Tells : Telling) (held : Option Held) (name : List ℕ) (before now : ℕ) (left : Option (List ℕ)) (e : SourceError) (a : Answer) → HoldsName held name
+    → ((taken : ℕ) → e ≡ error.TooLong taken → IsTooLong held name 1048576) → ((taken : ℕ) → e ≡ error.TooLong taken → taken ≡ 1048577) → (e ≡ error.Failed → HasRisen before now)
+    → IsUnread e a → Says true (GivesFile held Tells name a) before now left a × (a.status ≢ status.Usage)
+says_unheard Tells held name before now left e a holds long taken failed is =
+    says_unread held name (λ h bytes x. IsFileAnswer Tells bytes x) 1048576 before now left e a (λ h bytes more. file_long Tells bytes more) holds long taken failed is
+
 -- what is written of a reply
 appends_answer : (held : Option Held) (words : List (List ℕ)) (s : Status) (text : List ℕ) (old new : Option (List ℕ)) → Gives held (asked words) (answer s text) → IsReplied s → Appends old new text → AppendsAnswer held words s old new
 unfolding IsAnswer

@@ -1,16 +1,18 @@
 // The whole program: words and files in, one text and a status out.
-ghost use Rattle.std.specs.Prelude.{◌≡◌, ◌≢◌, ◌↔◌, ◌⊎◌, ◌≤◌, ℕ, true, false, List, None, map, string_bytes, IfOk, IfSome};
+ghost use Rattle.std.specs.Prelude.{◌≡◌, ◌≢◌, ◌↔◌, ◌⊎◌, ◌≤◌, ℕ, true, false, List, [], None, map, string_bytes, IfOk, IfSome};
 ghost use Rattle.std.specs.Io.KnownBytes.{Appends};
 ghost use Rattle.fuota_run.specs.Outside.{HoldsName, HasRisen};
 ghost use Rattle.image_slots.specs.Image.{is_image};
 ghost use Rattle.fuota_run.specs.Words.{asked, seen_asked, asks_files};
-ghost use Rattle.payload_replay.specs.PayloadLines.{IsTold};
+ghost use Rattle.payload_replay.specs.Decode.{Decodes};
+ghost use Rattle.payload_replay.specs.Replay.{Replays};
+ghost use Rattle.payload_replay.specs.HeldDecoding.{DecodingStands};
+ghost use Rattle.payload_replay.specs.HeldReplaying.{ReplayingStands};
 ghost use Rattle.fuota_run.specs.Answer.{generate_answer, tells};
 ghost use Rattle.fuota_run.specs.Reply.{HoldsForm, HoldsAsked, IsReplied, GivesScript, GivesCampaign, GivesFile, Gives, Says, IsReadUp, Ends, AppendsAnswer, IsNoForm, IsFinished};
 ghost use Rattle.fuota_run.specs.Headline.{IsCampaignRun, IsRecoveryRun};
 ghost use Rattle.fuota_run.specs.Source.{IsTaken, IsTakenOf};
 ghost use Rattle.fuota_run.specs.Replies.{answer_in};
-ghost use Rattle.campaign_world.specs.Texts.{seen_text};
 ghost use Rattle.campaign_world.specs.World.{first_world};
 ghost use Rattle.campaign_world.specs.HeldWorld.{WorldStands};
 
@@ -24,9 +26,9 @@ use crate::status::Status;
 use crate::telling::{sum_up, tell_of};
 use crate::words::{Asked, FileForm, ScriptForm, read_words};
 use campaign_generator::generate;
-use campaign_world::{LineError, World};
+use campaign_world::World;
 use image_slots::is_image;
-use payload_replay::{decode, replay};
+use payload_replay::{Decoding, Replaying};
 use std::alloc::{AllocError, Global};
 
 /// The most bytes of an image source.
@@ -213,20 +215,55 @@ fn payloads<F: Files>(
     ensures taken { IfOk result (λ r. (taken : ℕ) → r.status ≡ Status.TooLong taken → IsTaken (F.held files.old) name.now taken (F.left files.new)) }
     ensures kept { F.faults files.old ≤ F.faults files.new }
 {
-    let file = match read_source(alloc, files, name, SCRIPT_LIMIT) {
-        Ok(file) => file,
-        Err(error) => return unread(alloc, error),
-    };
-    reply_with(alloc, tell(alloc, what, &file))
+    match what {
+        FileForm::Replay => {
+            let mut heard = Replaying::new(alloc);
+            hear_replay(alloc, files, &mut heard, name)
+        }
+        FileForm::Decode { port, dir } => {
+            let heard = Decoding::new(alloc, port, dir);
+            hear_decode(alloc, files, heard, name)
+        }
+    }
 }
 
-/// What is told of a file of payloads.
-fn tell(alloc: Global, what: FileForm, file: &[u8]) -> Result<Vec<u8>, LineError>
-    ensures { IsTold (tells what) file.now (seen_text result) }
+/// The reply behind the file of payloads that a new replay hears.
+fn hear_replay<F: Files>(
+    alloc: Global,
+    files: &mut F,
+    heard: &mut Replaying,
+    name: &str,
+) -> Result<Reply, AllocError>
+    requires file { HoldsName (F.held files.old) name.now }
+    requires fresh { ReplayingStands heard.old [] }
+    ensures reply { IfOk result (λ r. Says true (GivesFile (F.held files.old) Replays name.now (answer_in r)) (F.faults files.old) (F.faults files.new) (F.left files.new) (answer_in r)) }
+    ensures usage { IfOk result (λ r. r.status ≢ Status.Usage) }
+    ensures taken { IfOk result (λ r. (taken : ℕ) → r.status ≡ Status.TooLong taken → IsTaken (F.held files.old) name.now taken (F.left files.new)) }
+    ensures kept { F.faults files.old ≤ F.faults files.new }
 {
-    match what {
-        FileForm::Replay => replay(alloc, file),
-        FileForm::Decode { port, dir } => decode(alloc, port, dir, file),
+    match hear_source(files, name, SCRIPT_LIMIT, heard) {
+        Ok(()) => reply_with(alloc, heard.text()),
+        Err(error) => unread(alloc, error),
+    }
+}
+
+/// The reply behind the file of payloads that a new decoding hears.
+fn hear_decode<F: Files>(
+    alloc: Global,
+    files: &mut F,
+    mut heard: Decoding,
+    name: &str,
+) -> Result<Reply, AllocError>
+    requires file { HoldsName (F.held files.old) name.now }
+    requires fresh { DecodingStands heard.port heard.direction heard [] }
+    ensures reply { IfOk result (λ r. Says true (GivesFile (F.held files.old) (Decodes heard.port heard.direction) name.now (answer_in r)) (F.faults files.old) (F.faults files.new) (F.left files.new) (answer_in r)) }
+    ensures usage { IfOk result (λ r. r.status ≢ Status.Usage) }
+    ensures taken { IfOk result (λ r. (taken : ℕ) → r.status ≡ Status.TooLong taken → IsTaken (F.held files.old) name.now taken (F.left files.new)) }
+    ensures kept { F.faults files.old ≤ F.faults files.new }
+{
+    match hear_source(files, name, SCRIPT_LIMIT, &mut heard) {
+        Ok(()) => reply_with(alloc, heard.text()),
+        Err(error) => unread(alloc, error),
     }
 }
 

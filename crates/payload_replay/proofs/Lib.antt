@@ -1,4 +1,5 @@
 pub mod PayloadLines
+pub mod Behind
 pub mod Payloads
 pub mod ReplayLines
 pub mod ReplaySessions

@@ -1,12 +1,15 @@
 -- Lines of payloads, taken one after another.
-use Rattle.std.proofs.Common.{◌≡◌, ℕ, ◌+◌, true, ◌==◌, List, [], ◌∷◌, length, Result, Ok, Err, refl, sym, ap, subst, ◌∙◌, arith, eqb-true}
-use Rattle.script_lines.specs.Lines.{lines_of}
+use Rattle.std.proofs.Common.{◌≡◌, inl, inr, ℕ, ◌+◌, ◌<◌, true, nat_le, nat_lt, List, [], ◌∷◌, ◌++◌, length, Result, Ok, Err, refl, sym, ap, subst, ◌∙◌, arith}
+use Rattle.std.proofs.lemmas.Bool.{cases_lt, lt-ltb, or_right}
+use Rattle.std.proofs.lemmas.List.{take_all, length-take}
+use Rattle.script_lines.specs.Pieces.{cut}
 use Rattle.campaign_world.specs.declared.faults.LineWhy.{LineWhy}
+use Rattle.campaign_world.specs.declared.faults.LineWhy.TheVariants as why
 use Rattle.campaign_world.specs.declared.faults.LineFault.{LineFault}
 use Rattle.payload_replay.specs.PayloadLines.{payload_of, Step, BehindLine, TakesLines}
 
 -- a line whose payload takes the state on
-pub line_taken : {S : Type 0} (Takes : Step S) (lines : ℕ) (state next : S) (line payload : List ℕ)
+line_taken : {S : Type 0} (Takes : Step S) (lines : ℕ) (state next : S) (line payload : List ℕ)
     (rest : List (List ℕ)) (outcome : Result S LineFault)
     → payload_of lines line ≡ Ok payload → Takes (lines + 1) payload state next
     → TakesLines Takes (lines + 1) next rest outcome → TakesLines Takes lines state (line ∷ rest) outcome
@@ -16,7 +19,7 @@ line_taken Takes lines state next line payload rest outcome is takes behind =
     (λ more. TakesLines Takes (lines + 1) more rest) outcome) (sym is) (next, takes, behind)
 
 -- a line that is refused
-pub line_refused : {S : Type 0} (Takes : Step S) (lines : ℕ) (state : S) (line : List ℕ) (rest : List (List ℕ))
+line_refused : {S : Type 0} (Takes : Step S) (lines : ℕ) (state : S) (line : List ℕ) (rest : List (List ℕ))
     (fault : LineFault) → payload_of lines line ≡ Err fault.why → fault.line ≡ lines + 1
     → TakesLines Takes lines state (line ∷ rest) (Err fault)
 unfolding TakesLines
@@ -27,12 +30,87 @@ line_refused {S} Takes lines state line rest fault is place =
     (λ more. TakesLines Takes (lines + 1) more rest) (Err fault)) (sym is)
     (ap (λ (f : LineFault). let r : Result S LineFault = Err f in r) fault_is)
 
--- nothing is left
-pub none_left : {S : Type 0} (Takes : Step S) (lines : ℕ) (state : S) (rest : List ℕ) → (length rest == 0) ≡ true
-    → TakesLines Takes lines state (lines_of rest) (Ok state)
-unfolding TakesLines lines_of
-none_left Takes lines state [] empty = refl
-none_left Takes lines state (b ∷ bs) empty = absurd (let none = eqb-true _ _ empty in omega (arith, none))
+-- no line is left
+none_left : {S : Type 0} (Takes : Step S) (lines : ℕ) (state : S) → TakesLines Takes lines state [] (Ok state)
+unfolding TakesLines
+none_left Takes lines state = refl
+
+-- ---- lines behind others
+
+behind_taken : {S : Type 0} (Takes : Step S) (lines : ℕ) (state mid : S) (payload : Result (List ℕ) LineWhy)
+    (goes_on goes_further : S → Result S LineFault → Type 0) (outcome : Result S LineFault)
+    → ((next : S) → goes_on next (Ok mid) → goes_further next outcome)
+    → BehindLine Takes lines state payload goes_on (Ok mid) → BehindLine Takes lines state payload goes_further outcome
+behind_taken Takes lines state mid (Err cause) goes_on goes_further outcome further behind = absurd cc
+behind_taken Takes lines state mid (Ok payload) goes_on goes_further outcome further behind =
+    (behind.0, behind.1, further behind.0 behind.2)
+
+-- lines that took the state to another, and then the others
+lines_then : {S : Type 0} (Takes : Step S) (rest : List (List ℕ)) (outcome : Result S LineFault) (mid : S) (count lines : ℕ)
+    (state : S) (before : List (List ℕ)) → count ≡ lines + length before → TakesLines Takes lines state before (Ok mid)
+    → TakesLines Takes count mid rest outcome → TakesLines Takes lines state (before ++ rest) outcome
+unfolding TakesLines
+lines_then {S} Takes rest outcome mid count lines state [] are taken behind =
+    let here : count ≡ lines = omega (arith, are) in
+    let same : mid ≡ state = cc in
+    subst (λ (n : ℕ). TakesLines Takes n state rest outcome) here
+    (subst (λ (s : S). TakesLines Takes count s rest outcome) same behind)
+lines_then {S} Takes rest outcome mid count lines state (line ∷ before) are taken behind =
+    behind_taken Takes lines state mid (payload_of lines line) (λ next. TakesLines Takes (lines + 1) next before)
+    (λ next. TakesLines Takes (lines + 1) next (before ++ rest)) outcome
+    (λ next so_far. lines_then Takes rest outcome mid count (lines + 1) next before (omega (arith, are)) so_far behind) taken
+
+behind_refused : {S : Type 0} (Takes : Step S) (lines : ℕ) (state : S) (payload : Result (List ℕ) LineWhy)
+    (goes_on goes_further : S → Result S LineFault → Type 0) (fault : LineFault)
+    → ((next : S) → goes_on next (Err fault) → goes_further next (Err fault))
+    → BehindLine Takes lines state payload goes_on (Err fault) → BehindLine Takes lines state payload goes_further (Err fault)
+behind_refused Takes lines state (Err cause) goes_on goes_further fault further behind = behind
+behind_refused Takes lines state (Ok payload) goes_on goes_further fault further behind =
+    (behind.0, behind.1, further behind.0 behind.2)
+
+-- behind the first refused line nothing more comes of any
+pub lines_stop : {S : Type 0} (Takes : Step S) (rest : List (List ℕ)) (fault : LineFault) (lines : ℕ) (state : S)
+    (before : List (List ℕ)) → TakesLines Takes lines state before (Err fault)
+    → TakesLines Takes lines state (before ++ rest) (Err fault)
+unfolding TakesLines
+lines_stop Takes rest fault lines state [] refused = absurd cc
+lines_stop Takes rest fault lines state (line ∷ before) refused =
+    behind_refused Takes lines state (payload_of lines line) (λ next. TakesLines Takes (lines + 1) next before)
+    (λ next. TakesLines Takes (lines + 1) next (before ++ rest)) fault
+    (λ next so_far. lines_stop Takes rest fault (lines + 1) next before so_far) refused
+
+-- one line more, whose payload takes the state on
+pub line_behind : {S : Type 0} (Takes : Step S) (lines count : ℕ) (state mid next : S) (before : List (List ℕ))
+    (line payload : List ℕ) → count ≡ lines + length before → TakesLines Takes lines state before (Ok mid)
+    → payload_of count line ≡ Ok payload → Takes (count + 1) payload mid next
+    → TakesLines Takes lines state (before ++ line ∷ []) (Ok next)
+line_behind Takes lines count state mid next before line payload are taken is takes =
+    lines_then Takes (line ∷ []) (Ok next) mid count lines state before are taken
+    (line_taken Takes count mid next line payload [] (Ok next) is takes (none_left Takes (count + 1) next))
+
+-- one that is refused
+pub refused_behind : {S : Type 0} (Takes : Step S) (lines count : ℕ) (state mid : S) (before : List (List ℕ)) (line : List ℕ)
+    (fault : LineFault) → count ≡ lines + length before → TakesLines Takes lines state before (Ok mid)
+    → payload_of count line ≡ Err fault.why → fault.line ≡ count + 1
+    → TakesLines Takes lines state (before ++ line ∷ []) (Err fault)
+refused_behind Takes lines count state mid before line fault are taken is place =
+    lines_then Takes (line ∷ []) (Err fault) mid count lines state before are taken
+    (line_refused Takes count mid line [] fault is place)
+
+-- ---- a line that is cut
+
+too_long : (lines : ℕ) (line : List ℕ) → 600 < length line → payload_of lines line ≡ Err why.Limit
+unfolding payload_of
+too_long lines line long =
+    let over : nat_lt 600 (length line) ≡ true = lt-ltb _ _ long in
+    rw (over, or_right (nat_le 20000 lines) true refl) refl
+
+-- one of more than 600 bytes is refused for that, cut or not
+pub payload_cut : (lines : ℕ) (line : List ℕ) → payload_of lines (cut line) ≡ payload_of lines line
+payload_cut lines line = elim (cases_lt 600 (length line)) [
+  | inl long ↦ too_long lines (cut line) (omega (arith, length-take 601 line)) ∙ sym (too_long lines line long)
+  | inr short ↦ ap (λ (l : List ℕ). payload_of lines l) (take_all 601 line (omega (arith, short)))
+]
 
 -- ---- where each step leads to one state, lines lead to one outcome
 

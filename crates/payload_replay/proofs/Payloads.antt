@@ -1,15 +1,19 @@
 -- A file of payloads that is decoded.
-use Rattle.std.proofs.Common.{◌≡◌, ℕ, List, [], ◌∷◌, ◌++◌, codes, Result, Ok, Err, refl, sym, ap, ◌∙◌, append_assoc}
+use Rattle.std.proofs.Common.{◌≡◌, ℕ, ◌+◌, List, [], ◌∷◌, ◌++◌, codes, Option, Some, None, Result, Ok, Err, IfOk, IfErr, refl, sym, ap, subst, ◌∙◌, append_assoc, length-append, arith}
 use Rattle.std.specs.Fmt.{decimal}
+use Rattle.std.specs.Global.{Global}
+use Rattle.std.specs.declared.vec.Vec.{Vec}
 use Rattle.wire_base.specs.declared.refusal.Direction.{Direction}
 use Rattle.package_grammar.specs.Reading.{reading_of}
 use Rattle.campaign_world.specs.declared.faults.LineFault.{LineFault}
 use Rattle.campaign_world.specs.declared.faults.LineError.{LineError}
 use Rattle.campaign_world.specs.declared.faults.LineError.TheVariants as error
+use Rattle.campaign_world.specs.Texts.{seen_text}
 use Rattle.script_lines.specs.Lines.{lines_of}
-use Rattle.payload_replay.specs.PayloadLines.{TakesLines, told_by, IsLineRefused, IsTold}
+use Rattle.payload_replay.specs.PayloadLines.{payload_of, TakesLines, told_by, IsLineRefused, IsTold}
 use Rattle.payload_replay.specs.Decode.{payload_text, numbered_text, Writes, Decodes, HasOneAnswer, HasAnAnswer}
-use Rattle.payload_replay.proofs.PayloadLines.{line_refused, lines_once, lines_lead}
+use Rattle.payload_replay.specs.HeldDecoding.{HeldDecoding, IsDecodedBy, DecodingStands, HearsDecoded}
+use Rattle.payload_replay.proofs.PayloadLines.{line_behind, refused_behind, lines_stop, payload_cut, lines_once, lines_lead}
 
 -- texts that were written one behind another
 pub three_on : (text one two rest : List ℕ) → ((text ++ one) ++ two) ++ rest ≡ text ++ (one ++ (two ++ rest))
@@ -22,22 +26,85 @@ numbered_on text head shown n is =
     ∙ ap (λ (h : List ℕ). text ++ (h ++ shown)) is
     ∙ ap (λ (h : List ℕ). text ++ (codes "line " ++ h)) (append_assoc (decimal n) (codes "\n") shown)
 
--- a line is refused behind those that were written
-pub refused_there : (port : ℕ) (dir : Direction) (file : List ℕ) (lines : ℕ) (text line : List ℕ)
-    (rest : List (List ℕ)) (e : LineError)
-    → ((outcome : Result (List ℕ) LineFault) → TakesLines (Writes port dir) lines text (line ∷ rest) outcome
-    → TakesLines (Writes port dir) 0 [] (lines_of file) outcome)
-    → IsLineRefused lines line e → IsTold (Decodes port dir) file (Err e)
-unfolding Decodes
-refused_there port dir file lines text line rest (error.Line fault) so_far refused =
-    (Err fault, so_far (Err fault) (line_refused (Writes port dir) lines text line rest fault refused.0 refused.1), refl)
-refused_there port dir file lines text line rest error.Memory so_far refused = tt
+-- ---- a decoding hears a line
 
--- all lines were written
-pub all_written : (port : ℕ) (dir : Direction) (file text : List ℕ)
-    → TakesLines (Writes port dir) 0 [] (lines_of file) (Ok text) → Decodes port dir file (Ok (text ++ codes "end\n"))
+-- it has heard none
+pub decoded_none : (port : ℕ) (direction : Direction) (text : List ℕ) → text ≡ []
+    → DecodingStands port direction (record { port = port; direction = direction; lines = 0; text = text; kept = None }) []
+unfolding TakesLines
+decoded_none port direction text empty = record { port_is = refl; direction_is = refl; behind = (refl, ap (λ (t : List ℕ). let r : Result (List ℕ) LineFault = Ok t in r) empty) }
+
+-- whose payload is written
+pub decoded_taken : (old : HeldDecoding) (text line payload : List ℕ) → old.kept ≡ None → payload_of old.lines line ≡ Ok payload
+    → Writes old.port old.direction (old.lines + 1) payload old.text text
+    → HearsDecoded old line (record old { lines = old.lines + 1; text = text })
+decoded_taken old text line payload none is writes port direction lines whole same stands =
+    let so_far = subst (λ (k : Option LineError). IsDecodedBy old lines k) none stands.behind in
+    let new : HeldDecoding = record old { lines = old.lines + 1; text = text } in
+    let its = sym (payload_cut old.lines whole) ∙ ap (λ (l : List ℕ). payload_of old.lines l) (sym same) ∙ is in
+    record {
+      port_is = stands.port_is;
+      direction_is = stands.direction_is;
+      behind = subst (λ (k : Option LineError). IsDecodedBy new (lines ++ whole ∷ []) k) (sym none) (
+        omega (arith, length-append lines (whole ∷ []), so_far.0),
+        line_behind (Writes old.port old.direction) 0 old.lines [] old.text text lines whole payload (omega (arith, so_far.0)) so_far.1 its writes,
+      );
+    }
+
+-- that is refused, or there is no memory
+pub decoded_refused : (old : HeldDecoding) (text line : List ℕ) (e : LineError) → old.kept ≡ None → IsLineRefused old.lines line e
+    → HearsDecoded old line (record old { text = text; kept = Some e })
+decoded_refused old text line (error.Line fault) none refused port direction lines whole same stands =
+    let so_far = subst (λ (k : Option LineError). IsDecodedBy old lines k) none stands.behind in
+    let its = sym (payload_cut old.lines whole) ∙ ap (λ (l : List ℕ). payload_of old.lines l) (sym same) ∙ refused.0 in
+    record {
+      port_is = stands.port_is;
+      direction_is = stands.direction_is;
+      behind = refused_behind (Writes old.port old.direction) 0 old.lines [] old.text lines whole fault (omega (arith, so_far.0)) so_far.1 its refused.1;
+    }
+decoded_refused old text line error.Memory none refused port direction lines whole same stands =
+    record { port_is = stands.port_is; direction_is = stands.direction_is; behind = tt }
+
+-- behind a refused line, or want of memory
+pub decoded_kept : (old : HeldDecoding) (line : List ℕ) (e : LineError) → old.kept ≡ Some e → HearsDecoded old line old
+decoded_kept old line e kept port direction lines whole same stands =
+    record {
+      port_is = stands.port_is;
+      direction_is = stands.direction_is;
+      behind = subst (λ (k : Option LineError). IsDecodedBy old (lines ++ whole ∷ []) k) (sym kept)
+          (stays e (subst (λ (k : Option LineError). IsDecodedBy old lines k) kept stands.behind));
+    }
+  where
+    stays : (e : LineError) → IsDecodedBy old lines (Some e) → IsDecodedBy old (lines ++ whole ∷ []) (Some e)
+    stays (error.Line fault) refused = lines_stop (Writes old.port old.direction) (whole ∷ []) fault 0 [] lines refused
+    stays error.Memory refused = tt
+
+-- ---- what it tells behind all lines
+
+pub decoded_told : (held : HeldDecoding) (port : ℕ) (direction : Direction) (file text : List ℕ) (r : Result (Vec ℕ Global) LineError)
+    → held.kept ≡ None → text ≡ held.text → IfOk r (λ all. all.items ≡ text ++ codes "end\n") → IfErr r (λ e. e ≡ error.Memory)
+    → DecodingStands port direction held (lines_of file) → IsTold (Decodes port direction) file (seen_text r)
 unfolding Decodes
-all_written port dir file text taken = (Ok text, taken, refl)
+decoded_told held port direction file text (Ok all) none text_is is memory stands =
+    let taken = subst (λ (k : Option LineError). IsDecodedBy held (lines_of file) k) none stands.behind in
+    let here = subst (λ (p : ℕ). TakesLines (Writes p held.direction) 0 [] (lines_of file) (Ok held.text)) stands.port_is taken.1 in (
+      Ok held.text,
+      subst (λ (d : Direction). TakesLines (Writes port d) 0 [] (lines_of file) (Ok held.text)) stands.direction_is here,
+      ap (λ (t : List ℕ). let r : Result (List ℕ) LineFault = Ok t in r) (is ∙ ap (λ (t : List ℕ). t ++ codes "end\n") text_is),
+    )
+decoded_told held port direction file text (Err e) none text_is is memory stands =
+    subst (λ (x : LineError). IsTold (Decodes port direction) file (Err x)) (sym memory) tt
+
+pub decoded_error : (held : HeldDecoding) (port : ℕ) (direction : Direction) (file : List ℕ) (e : LineError) → held.kept ≡ Some e
+    → DecodingStands port direction held (lines_of file) → IsTold (Decodes port direction) file (Err e)
+unfolding Decodes
+decoded_error held port direction file (error.Line fault) kept stands =
+    let refused = subst (λ (k : Option LineError). IsDecodedBy held (lines_of file) k) kept stands.behind in
+    let here = subst (λ (p : ℕ). TakesLines (Writes p held.direction) 0 [] (lines_of file) (Err fault)) stands.port_is refused in
+    (Err fault, subst (λ (d : Direction). TakesLines (Writes port d) 0 [] (lines_of file) (Err fault)) stands.direction_is here, refl)
+decoded_error held port direction file error.Memory kept stands = tt
+
+-- ---- answers
 
 -- no file is decoded in two ways, since each step leads to one text
 pub decode_one : HasOneAnswer

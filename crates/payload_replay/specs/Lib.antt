@@ -1,5 +1,7 @@
 pub mod PayloadLines
 pub mod Decode
 pub mod Replay
-pub mod Replayed
+pub mod Behind
+pub mod HeldDecoding
+pub mod HeldReplaying
 pub mod ReplayHeadline

@@ -1,40 +1,120 @@
-// What `decode` says of a file of payloads, one a line.
-ghost use Rattle.std.specs.Prelude.{◌≡◌, ℕ, ◌+◌, ◌<◌, ◌≤◌, List, ◌++◌, codes, string_bytes, Ok, IfOk, IfErr, OnOk};
+//! What `decode` says of a file of payloads, one a line.
+
+ghost use Rattle.std.specs.Prelude.{◌≡◌, ℕ, ◌+◌, ◌<◌, ◌≤◌, [], List, ◌++◌, codes, string_bytes, Ok, IfOk, IfErr, OnOk};
 ghost use Rattle.std.specs.Fmt.{decimal};
 ghost use Rattle.package_grammar.specs.Reading.{reading_of};
+ghost use Rattle.script_lines.specs.Lines.{lines_of};
 ghost use Rattle.campaign_world.specs.Texts.{seen_text};
 ghost use Rattle.payload_replay.specs.PayloadLines.{payload_of, IsLineRefused, IsTold};
 ghost use Rattle.payload_replay.specs.Decode.{commands_text, stop_word, stop_text, payload_text, numbered_text, Writes, Decodes};
+ghost use Rattle.payload_replay.specs.HeldDecoding.{DecodingStands, HearsDecoded};
 
 use crate::payload_lines::read_payload;
 use campaign_world::LineError;
 use package_grammar::{Message, show};
-use script_lines::first_line;
+use script_lines::HearsLine;
 use std::alloc::{AllocError, Global};
+use std::marker::Model;
 use wire_base::{Direction, Why};
 
-/// The text of captured payloads that went in one direction on one port (0 to 255; 200 to 203 have commands): of each line
-/// its number, counted from 1, and its commands, each on a line, or the byte at which reading stops, counted from 0, and why.
+/// The text of captured payloads that went in one direction on one port (0 to 255; 200 to 203 have commands), as the lines
+/// of their file are heard: of each line its number, counted from 1, and its commands, each on a line, or the byte at which
+/// reading stops, counted from 0, and why.
 ///
 /// The file has at most 20,000 lines of at most 600 bytes, each the hex digits of a payload of 0 to 242 bytes in the order
-/// sent. `LineError::Line` names the first line that is none, with `LineWhy::Limit` where a bound is exceeded and else
-/// `LineWhy::Syntax`; `LineError::Memory` comes where memory is wanting. (The text is this project's profile.)
-pub fn decode(alloc: Global, port: u8, dir: Direction, file: &[u8]) -> Result<Vec<u8>, LineError>
-    ensures { IsTold (Decodes port dir) file.now (seen_text result) }
-{
-    let mut text = Vec::new(alloc);
-    let mut lines = 0u32;
-    let mut rest = file;
-    while !rest.is_empty() {
-        let (line, behind) = first_line(rest);
-        match decode_line(alloc, port, dir, lines, line, &mut text) {
-            Ok(()) => {
-                lines += 1;
-                rest = behind;
-            }
-            Err(error) => return Err(error),
+/// sent. Behind the first line that is none, and behind want of memory, no line does more. (The text is this project's
+/// profile.)
+#[derive(Drop)]
+pub struct Decoding {
+    alloc: Global,
+    port: u8,
+    dir: Direction,
+    lines: u32,
+    text: Vec<u8>,
+    kept: Option<LineError>,
+}
+
+impl Model for Decoding {
+    ghost use Rattle.std.specs.Prelude.{◌≤◌};
+    ghost use Rattle.payload_replay.specs.HeldDecoding.{HeldDecoding};
+
+    ghost Value = { HeldDecoding };
+
+    ghost view = { λ d. record {
+      port = d.port;
+      direction = d.dir;
+      lines = d.lines;
+      text = d.text.items;
+      kept = d.kept;
+    } };
+
+    ghost invariant = { λ d. d.lines ≤ 20000 };
+}
+
+impl HearsLine for Decoding {
+    ghost use Rattle.payload_replay.specs.HeldDecoding.{HearsDecoded};
+
+    ghost hears = { HearsDecoded };
+
+    fn line(&mut self, line: &[u8]) {
+        self.hear(line);
+    }
+}
+
+impl Decoding {
+    /// Behind no line.
+    pub fn new(alloc: Global, port: u8, dir: Direction) -> Self
+        ensures { DecodingStands port dir result [] }
+    {
+        Decoding {
+            alloc,
+            port,
+            dir,
+            lines: 0,
+            text: Vec::new(alloc),
+            kept: None,
         }
     }
+
+    /// Hears a line, and keeps what comes of it.
+    fn hear(&mut self, line: &[u8])
+        ensures { HearsDecoded self.old line.now self.new }
+    {
+        match self.kept {
+            Some(_) => {}
+            None => match decode_line(
+                self.alloc,
+                self.port,
+                self.dir,
+                self.lines,
+                line,
+                &mut self.text,
+            ) {
+                Ok(()) => self.lines += 1,
+                Err(error) => self.kept = Some(error),
+            },
+        }
+    }
+
+    /// The whole text of a file, behind all its lines. `LineError::Line` names the first line that is refused, with
+    /// `LineWhy::Limit` where a bound is exceeded and else `LineWhy::Syntax`; `LineError::Memory` comes where memory was
+    /// wanting.
+    pub fn text(self) -> Result<Vec<u8>, LineError>
+        ensures { (port : ℕ) (dir : Direction) (file : List ℕ) → DecodingStands port dir self (lines_of file)
+            → IsTold (Decodes port dir) file (seen_text result) }
+    {
+        match self.kept {
+            Some(error) => Err(error),
+            None => ended(self.text),
+        }
+    }
+}
+
+/// The text with its last line.
+fn ended(mut text: Vec<u8>) -> Result<Vec<u8>, LineError>
+    ensures text { IfOk result (λ all. all.items ≡ text.items ++ codes "end\n") }
+    ensures memory { IfErr result (λ e. e ≡ LineError.Memory) }
+{
     match text.extend_from_slice(b"end\n") {
         Ok(()) => Ok(text),
         Err(_) => Err(LineError::Memory),

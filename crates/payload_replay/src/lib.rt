@@ -1,6 +1,7 @@
 //! Captured payloads of the application packages (TS003 to TS006, 1.0.0), one a line in hex: what each says, and where a
 //! device of TS004-1.0.0 stands that hears them. The lines, the header and the texts are this project's profile.
-//! `decode` and `replay` give exactly the text that the lines define, or the first refused line with its first cause.
+//! `Decoding` and `Replaying` hear the lines as they come, and give exactly the text that these define, or the first
+//! refused line with its first cause.
 //! Words of a command line and files are left to the program above, and the script of a campaign to `campaign_world`.
 #![tactic(auto)]
 
@@ -11,6 +12,6 @@ mod replaying;
 #[cfg(test)]
 mod tests;
 
-pub use decoding::decode;
+pub use decoding::Decoding;
 pub use laws::{decode_has_one_answer, replay_has_one_answer, replay_is_decided_at_first};
-pub use replaying::replay;
+pub use replaying::Replaying;

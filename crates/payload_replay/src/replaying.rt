@@ -1,5 +1,5 @@
 //! What `replay` tells of a file of captured payloads: where a device stands that hears them.
-ghost use Rattle.std.specs.Prelude.{◌≡◌, ◌+◌, ◌<◌, ◌≤◌, ◌++◌, List, ℕ, Some, length, Ok, IfOk, IfErr, OnOk, codes, string_bytes};
+ghost use Rattle.std.specs.Prelude.{◌≡◌, ◌+◌, ◌<◌, ◌≤◌, [], ◌++◌, List, ℕ, Some, length, Ok, IfOk, IfErr, OnOk, codes, string_bytes};
 ghost use Rattle.frag_session.specs.Session.{view_of};
 ghost use Rattle.frag_session.specs.Shows.{seen};
 ghost use Rattle.script_lines.specs.Lines.{lines_of};
@@ -9,7 +9,7 @@ ghost use Rattle.device_core.specs.Device.{DeviceState};
 ghost use Rattle.device_core.specs.HeldDevice.{DeviceStands, Becomes};
 ghost use Rattle.payload_replay.specs.PayloadLines.{payload_of, IsLineRefused, IsTold};
 ghost use Rattle.payload_replay.specs.Replay.{rows_by, header_rows, replay_device, after_payload, file_line, told_session, told_sessions, replay_text, Replays};
-ghost use Rattle.payload_replay.specs.Replayed.{HearsLines};
+ghost use Rattle.payload_replay.specs.HeldReplaying.{ReplayingStands, HearsReplayed, IsBegun};
 ghost use Rattle.campaign_world.specs.Texts.{seen_text};
 
 use crate::payload_lines::{read_payload, refused};
@@ -21,39 +21,115 @@ use cast_wire::FRAGMENT_PORT;
 use device_core::{Class, Device, DeviceConfig};
 use frag_session::{Verdict, View};
 use package_grammar::{Downlink, To};
-use script_lines::{count_words, decimal, first_line, is_word, word};
+use script_lines::{HearsLine, count_words, decimal, is_word, word};
 use std::alloc::{AllocError, Global};
+use std::marker::Model;
 use wire_base::Payload;
 
 /// The most rows that a header gives.
 const MAX_ROWS: u64 = 64;
 
-/// The text of a replay: a class C device with 4 sessions of at most 65,774 bytes hears captured payloads by unicast on port
-/// 201, downwards, at moment 0 ms, and the text tells its counts, and of each session its verdict, with the number of the
-/// line that decided it, and its file in hex where it is whole.
+/// A replay, as the lines of its file are heard: a class C device with 4 sessions of at most 65,774 bytes hears captured
+/// payloads by unicast on port 201, downwards, at moment 0 ms.
 ///
 /// The first line of the file is `replay 1 ROWS`, with ROWS (decimal, 0 to 64) the coded fragments that a session holds.
-/// Lines 2 to 20,000, each of at most 600 bytes, are the hex digits of a payload of 0 to 242 bytes in the order sent.
-/// `LineError::Line` names the first line that is refused and its first cause: `LineWhy::Limit` where a bound is exceeded,
-/// `LineWhy::Range` where ROWS is above 64, and else `LineWhy::Syntax`; an empty file is refused at line 1.
-/// `LineError::Memory` comes where memory is wanting. (TS004-1.0.0; the file and the text are this project's profile.)
-pub fn replay(alloc: Global, file: &[u8]) -> Result<Vec<u8>, LineError>
-    ensures { IsTold Replays file.now (seen_text result) }
-{
-    if file.is_empty() {
-        return Err(refused(0, LineWhy::Syntax));
+/// Lines 2 to 20,000, each of at most 600 bytes, are the hex digits of a payload of 0 to 242 bytes in the order sent. Behind
+/// the first line that is refused, and behind want of memory, no line does more. (TS004-1.0.0; the file and the text are
+/// this project's profile.)
+#[derive(Drop)]
+pub struct Replaying {
+    alloc: Global,
+    lines: u32,
+    device: Option<Device>,
+    kept: Option<LineError>,
+}
+
+impl Model for Replaying {
+    ghost use Rattle.std.specs.Prelude.{◌≤◌};
+    ghost use Rattle.payload_replay.specs.HeldReplaying.{HeldReplaying};
+
+    ghost Value = { HeldReplaying };
+
+    ghost view = { λ r. record { lines = r.lines; device = r.device; kept = r.kept } };
+
+    ghost invariant = { λ r. r.lines ≤ 20000 };
+}
+
+impl HearsLine for Replaying {
+    ghost use Rattle.payload_replay.specs.HeldReplaying.{HearsReplayed};
+
+    ghost hears = { HearsReplayed };
+
+    fn line(&mut self, line: &[u8]) {
+        self.hear(line);
     }
-    let (header, payloads) = first_line(file);
+}
+
+impl Replaying {
+    /// Behind no line.
+    pub fn new(alloc: Global) -> Self
+        ensures { ReplayingStands result [] }
+    {
+        Replaying {
+            alloc,
+            lines: 0,
+            device: None,
+            kept: None,
+        }
+    }
+
+    /// Hears a line, and keeps what comes of it.
+    fn hear(&mut self, line: &[u8])
+        ensures { HearsReplayed self.old line.now self.new }
+    {
+        match self.kept {
+            Some(_) => {}
+            None => match &mut self.device {
+                Some(device) => match hear_line(self.alloc, device, self.lines, line) {
+                    Ok(()) => self.lines += 1,
+                    Err(error) => self.kept = Some(error),
+                },
+                None => match begin(self.alloc, line) {
+                    Ok(device) => {
+                        self.device = Some(device);
+                        self.lines = 1;
+                    }
+                    Err(error) => self.kept = Some(error),
+                },
+            },
+        }
+    }
+
+    /// The text of a file, behind all its lines: the counts of the device, and of each session its verdict, with the number
+    /// of the line that decided it, and its file in hex where it is whole.
+    ///
+    /// `LineError::Line` names the first line that is refused and its first cause: `LineWhy::Limit` where a bound is
+    /// exceeded, `LineWhy::Range` where ROWS is above 64, and else `LineWhy::Syntax`; an empty file is refused at line 1.
+    /// `LineError::Memory` comes where memory is wanting.
+    pub fn text(&self) -> Result<Vec<u8>, LineError>
+        ensures { (file : List ℕ) → ReplayingStands self.now (lines_of file) → IsTold Replays file (seen_text result) }
+    {
+        match self.kept {
+            Some(error) => Err(error),
+            None => match &self.device {
+                Some(device) => told(self.alloc, device),
+                None => Err(refused(0, LineWhy::Syntax)),
+            },
+        }
+    }
+}
+
+/// The device that a header asks for.
+fn begin(alloc: Global, header: &[u8]) -> Result<Device, LineError>
+    ensures { IsBegun header.now result }
+{
     let rows = match read_header(header) {
         Ok(rows) => rows,
         Err(why) => return Err(refused(0, why)),
     };
-    let Ok(mut device) = Device::reserve(alloc, config(rows)) else {
-        return Err(LineError::Memory);
-    };
-    match hear_lines(alloc, &mut device, payloads) {
-        Ok(()) => told(alloc, &device),
-        Err(error) => Err(error),
+    match Device::reserve(alloc, config(rows)) {
+        Ok(device) => Ok(device),
+        Err(_) => Err(LineError::Memory),
     }
 }
 
@@ -96,26 +172,6 @@ fn rows_by(rows: Option<u64>) -> Result<u16, LineWhy>
         Some(rows) if rows <= MAX_ROWS => Ok(rows as u16),
         Some(_) => Err(LineWhy::Range),
     }
-}
-
-/// The device hears the payloads of the lines behind the header, the first of which is line 2.
-fn hear_lines(alloc: Global, device: &mut Device, file: &[u8]) -> Result<(), LineError>
-    ensures { (before : DeviceState) → DeviceStands device.old before
-        → HearsLines before (lines_of file.now) device.new result }
-{
-    let mut lines = 1u32;
-    let mut rest = file;
-    while !rest.is_empty() {
-        let (line, behind) = first_line(rest);
-        match hear_line(alloc, device, lines, line) {
-            Ok(()) => {
-                lines += 1;
-                rest = behind;
-            }
-            Err(error) => return Err(error),
-        }
-    }
-    Ok(())
 }
 
 /// The device hears the payload of a line that comes after so many; or the line is refused.

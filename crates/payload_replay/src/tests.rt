@@ -2,9 +2,28 @@
 
 use super::*;
 use campaign_world::{LineError, LineFault, LineWhy};
+use script_lines::{Lines, hear_last, hear_piece};
+use std::alloc::Global;
 use std::process::Abort;
 use std::test::*;
 use wire_base::Direction;
+
+/// What is told of a file that is one piece.
+fn decode(alloc: Global, port: u8, dir: Direction, file: &[u8]) -> Result<Vec<u8>, LineError> {
+    let mut decoding = Decoding::new(alloc, port, dir);
+    let mut lines = Lines::new();
+    hear_piece(&mut lines, file, &mut decoding);
+    hear_last(&mut lines, &mut decoding);
+    decoding.text()
+}
+
+fn replay(alloc: Global, file: &[u8]) -> Result<Vec<u8>, LineError> {
+    let mut replaying = Replaying::new(alloc);
+    let mut lines = Lines::new();
+    hear_piece(&mut lines, file, &mut replaying);
+    hear_last(&mut lines, &mut replaying);
+    replaying.text()
+}
 
 /// A text is told, and it is this one.
 fn says(rt: &impl Abort, told: Result<Vec<u8>, LineError>, text: &str) {

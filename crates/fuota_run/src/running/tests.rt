@@ -501,10 +501,10 @@ fn the_system_has_no_such_file(rt: HostRuntime) {
     assert!(rt; sink.finish().is_ok());
 }
 
-/// An image and a script that come in pieces of at most so many bytes.
+/// An image and another file that come in pieces of at most so many bytes.
 #[derive(Drop)]
 struct InPieces<'a> {
-    script: &'a [u8],
+    lines: &'a [u8],
     most: usize,
     rest: &'a [u8],
     chosen: bool,
@@ -522,7 +522,7 @@ impl<'a> Files for InPieces<'a> {
     ghost faults = { λ f. 0 };
 
     fn choose(&mut self, name: &str) -> Result<(), Failed> {
-        self.rest = if name == "image" { &IMAGE } else { self.script };
+        self.rest = if name == "image" { &IMAGE } else { self.lines };
         self.chosen = true;
         Ok(())
     }
@@ -536,27 +536,114 @@ impl<'a> Files for InPieces<'a> {
     }
 }
 
-/// The report is the same, whatever pieces the files come in.
+/// Runs the words over these lines in pieces of at most so many bytes, and compares the status and what was written.
+fn says_in_pieces(
+    rt: &impl Abort,
+    alloc: Global,
+    words: &[&str],
+    lines: &[u8],
+    most: usize,
+    status: Status,
+    text: &str,
+) -> Result<(), Fail> {
+    let mut owned = Vec::new(alloc);
+    for word in words {
+        owned.push(format!(in alloc; "{word}")?)?;
+    }
+    let mut files = InPieces {
+        lines,
+        most,
+        rest: &[],
+        chosen: false,
+    };
+    let mut sink = MemSink::reserve(alloc, 4096, Vec::new(alloc))?;
+    assert_eq!(rt; run(alloc, &owned, &mut files, &mut sink), status);
+    assert_eq!(rt; sink.bytes(), text.as_bytes());
+    Ok(())
+}
+
+/// What is written is the same, whatever pieces the files come in.
 #[test]
 fn pieces_make_the_report_of_the_whole(rt: HostRuntime) -> Result<(), Fail> {
-    let mut words = Vec::new(rt.alloc());
-    for word in &WORDS {
-        words.push(format!(in rt.alloc(); "{word}")?)?;
-    }
     let script = format!(in rt.alloc(); "{START}{EVENTS}")?;
-    for most in 1..41usize {
-        let mut files = InPieces {
-            script: script.as_bytes(),
-            most,
-            rest: &[],
-            chosen: false,
-        };
-        let mut sink = MemSink::reserve(rt.alloc(), 4096, Vec::new(rt.alloc()))?;
-        assert_eq!(rt;
-            run(rt.alloc(), &words, &mut files, &mut sink),
-            Status::Done
-        );
-        assert_eq!(rt; sink.bytes(), REPORT.as_bytes());
+    let lines = script.as_bytes();
+    for most in 1..41 {
+        says_in_pieces(&rt, rt.alloc(), &WORDS, lines, most, Status::Done, REPORT)?;
     }
     Ok(())
+}
+
+#[test]
+fn pieces_make_the_texts_of_the_whole(rt: HostRuntime) -> Result<(), Fail> {
+    let decode = ["fuota", "decode", "201", "down", "capture"];
+    let replay = ["fuota", "replay", "capture"];
+    let mut long = Vec::new(rt.alloc());
+    long.extend_from_slice(b"00\n")?;
+    long.resize(605, b'0')?;
+    long.extend_from_slice(b"\nzz\n")?;
+    let rows = [
+        (
+            &decode[..],
+            &b"00010A\n\n020004"[..],
+            Status::Done,
+            "line 1\nPackageVersionReq\nFragSessionStatusReq index=1 all=0\nline 2\nline 3\nrefused 3 short\nend\n",
+        ),
+        (
+            &decode[..],
+            long.as_slice(),
+            Status::ScriptRefused,
+            "line 2 limit\n",
+        ),
+        (
+            &replay[..],
+            &b"replay 1 2\n0200040001000000000000\n08070066\n08080011\n08010011\n08030033\n"[..],
+            Status::Done,
+            "fuota replay 1\ncounts deaf 0 refused 0 full 0 dropped 0\nsession 0 received 4 missing 0 complete at 6\nfile 11223344\nend\n",
+        ),
+        (
+            &replay[..],
+            &b"replay 1 2\n0200040001000000000000\n0807006\n08080011\nzz"[..],
+            Status::ScriptRefused,
+            "line 3 syntax\n",
+        ),
+    ];
+    for (words, lines, status, text) in &rows {
+        for most in 1..41 {
+            says_in_pieces(&rt, rt.alloc(), words, lines, most, *status, text)?;
+        }
+    }
+    Ok(())
+}
+
+/// A file is read to its end, or to one byte more than its limit, before a refused line of it is told.
+#[test]
+fn faults_come_before_a_refused_line(rt: HostRuntime) -> Result<(), Fail> {
+    let words = ["fuota", "replay", "script"];
+    let mut outside = Outside {
+        start: "zz\n",
+        events: "",
+        ..SOUND
+    };
+    let refused = Status::ScriptRefused;
+    ends(
+        &rt,
+        rt.alloc(),
+        &words,
+        &outside,
+        refused,
+        "line 1 syntax\n",
+    )?;
+    for call in 1..=3 {
+        outside.read_fails = call;
+        let fault = Status::ReadFault;
+        ends(&rt, rt.alloc(), &words, &outside, fault, "read fault\n")?;
+    }
+    let mut lines = Vec::new(rt.alloc());
+    lines.resize(1_048_577, 0)?;
+    let long = Status::TooLong(1_048_577);
+    let text = "too long 1048577\n";
+    says_in_pieces(&rt, rt.alloc(), &words, &lines, 4096, long, text)?;
+    lines.truncate(1_048_576);
+    let text = "line 1 limit\n";
+    says_in_pieces(&rt, rt.alloc(), &words, &lines, 4096, refused, text)
 }
