@@ -28,6 +28,13 @@ pub struct NoRoom;
 /// rows, and an area for the pieces. A contract sees what it holds of each column.
 #[derive(Drop)]
 pub struct Solver<const W: usize, const B: usize> {
+    /// In a box, so that a solver moves as one word.
+    kept: Box<Kept<W, B>>,
+}
+
+/// What is held, room for one line and its bytes, and where the solver stands.
+#[derive(Drop)]
+struct Kept<const W: usize, const B: usize> {
     table: Table<W, B>,
     line: Vec<u64>,
     picks: Vec<u16>,
@@ -42,9 +49,9 @@ impl<const W: usize, const B: usize> Model for Solver<W, B> {
 
     ghost Value = { Held };
 
-    ghost view = { λ s. held_of s.stage s.table };
+    ghost view = { λ s. held_of s.kept.value.stage s.kept.value.table };
 
-    ghost invariant = { λ s. IsSolver s.table s.stage s.line.items s.picks.items s.part.items };
+    ghost invariant = { λ s. IsSolver s.kept.value.table s.kept.value.stage s.kept.value.line.items s.kept.value.picks.items s.kept.value.part.items };
 }
 
 impl<const W: usize, const B: usize> Solver<W, B> {
@@ -66,13 +73,17 @@ impl<const W: usize, const B: usize> Solver<W, B> {
         let Ok(part) = vec![in alloc; 0u8; MAX_FRAG_SIZE] else {
             return Err(Memory);
         };
-        Ok(Solver {
+        let kept = Kept {
             table,
             line,
             picks,
             part,
             stage: Stage::Idle,
-        })
+        };
+        match Box::new(alloc, kept) {
+            Ok(kept) => Ok(Solver { kept }),
+            Err(_) => Err(Memory),
+        }
     }
 
     /// Whether there is room for a file of `nb_frag` pieces (at most 1,024) of `frag_size` bytes (at most 239) and for `rows`
@@ -83,7 +94,7 @@ impl<const W: usize, const B: usize> Solver<W, B> {
         requires few { rows ≤ nb_frag }
         ensures { result ≡ has_room W B self.now.area nb_frag frag_size rows }
     {
-        let area = self.table.room();
+        let area = self.kept.table.room();
         has_room(W, B, area, nb_frag, frag_size, rows)
     }
 
@@ -113,8 +124,9 @@ impl<const W: usize, const B: usize> Solver<W, B> {
         if !self.fits(nb_frag, frag_size, rows) {
             return Err(NoRoom);
         }
-        self.table.begin(nb_frag, frag_size, rows);
-        self.stage = Stage::Receiving;
+        let kept = &mut *self.kept;
+        kept.table.begin(nb_frag, frag_size, rows);
+        kept.stage = Stage::Receiving;
         Ok(())
     }
 
@@ -131,15 +143,16 @@ impl<const W: usize, const B: usize> Solver<W, B> {
         ensures conflict { result ≡ Fed.Conflict → Contradicts self.old self.new n part.now }
         ensures area { self.new.area ≡ self.old.area }
     {
+        let kept = &mut *self.kept;
         let fed = take(
-            &mut self.table,
+            &mut kept.table,
             n,
             part,
-            &mut self.line,
-            &mut self.picks,
-            &mut self.part,
+            &mut kept.line,
+            &mut kept.picks,
+            &mut kept.part,
         );
-        self.stage = stage_after(fed);
+        kept.stage = stage_after(fed);
         fed
     }
 
@@ -148,7 +161,7 @@ impl<const W: usize, const B: usize> Solver<W, B> {
     pub fn missing(&self) -> u16
         ensures { result ≡ missing_of self.now }
     {
-        self.table.missing()
+        self.kept.table.missing()
     }
 
     /// The bytes of all pieces, one behind the other, padding included. The solver must be complete.
@@ -157,7 +170,7 @@ impl<const W: usize, const B: usize> Solver<W, B> {
         ensures content { result.now ≡ self.now.content }
         ensures within { length result.now ≤ self.now.area }
     {
-        self.table.content()
+        self.kept.table.content()
     }
 }
 
