@@ -1,8 +1,7 @@
 -- A device of a campaign is configured as its line says, whatever reached it.
-use Rattle.std.proofs.Common.{◌≡◌, inl, inr, ℕ, ◌+◌, Bool, ◌==◌, nat_le, List, [], ◌∷◌, ◌++◌, length, drop, fold, append-nil, Option, None, Some, IfSome, option_map, Ok, refl, sym, ap, ◌∙◌, subst, arith, eqb-true}
+use Rattle.std.proofs.Common.{◌≡◌, inl, inr, ℕ, ◌+◌, ◌==◌, List, [], ◌∷◌, ◌++◌, length, drop, fold, append-nil, Option, None, Some, IfSome, Ok, refl, sym, ap, ◌∙◌, subst, eqb-true}
 use Rattle.std.proofs.lemmas.Bool.{and_parts}
 use Rattle.std.specs.Prelude.{filter_map, option_to_list}
-use Rattle.device_core.specs.declared.config.DeviceConfig.{DeviceConfig}
 use Rattle.device_core.specs.Device.{DeviceState}
 use Rattle.campaign_server.specs.Server.{numbered}
 use Rattle.script_lines.specs.declared.forms.Class.{Class}
@@ -13,12 +12,12 @@ use Rattle.script_lines.specs.Lines.{lines_of}
 use Rattle.script_lines.specs.Forms.{form_of}
 use Rattle.script_lines.specs.Ranges.{in_range}
 use Rattle.campaign_world.specs.World.{WorldState, first_world}
-use Rattle.campaign_world.specs.Causes.{fits_script, cause_of_form, form_cause}
+use Rattle.campaign_world.specs.Causes.{cause_of_form, form_cause}
 use Rattle.campaign_world.specs.Making.{class_of, device_of, after_form}
 use Rattle.campaign_world.specs.Script.{after_form_of, after_line, read_lines, campaign_of}
 use Rattle.campaign_world.specs.Headline.{IsClass, IsOfItsLine}
 use Rattle.campaign_world.specs.Independence.{Event, after_event, device_in, event_in}
-use Rattle.campaign_world.proofs.LineItems.{if_some, some_is, some_weaker, none_there, numbered_push, numbered_next}
+use Rattle.campaign_world.proofs.LineItems.{if_some, some_is, none_there, numbered_push, numbered_next}
 use Rattle.campaign_world.proofs.HeadlineForms.{passes}
 use Rattle.campaign_world.proofs.HeadlineLines.{end_is}
 use Rattle.campaign_world.proofs.Independence.{read_first, line_fine, same_sent, unchanged, folded, form_told}

@@ -22,10 +22,8 @@ use Rattle.device_core.specs.SessionTable.{SessionTable}
 use Rattle.device_core.specs.Device.{DeviceState, first_device}
 use Rattle.device_core.specs.ClassSessions.{hears}
 use Rattle.campaign_server.specs.Server.{DownlinkCommand, numbered, downlink_of}
-use Rattle.script_lines.specs.declared.forms.Class.{Class}
-use Rattle.script_lines.specs.declared.forms.Class.TheVariants as class
 use Rattle.script_lines.specs.declared.forms.Form.{Form}
-use Rattle.script_lines.specs.declared.forms.Form.TheVariants.{Device, Down}
+use Rattle.script_lines.specs.declared.forms.Form.TheVariants.{Down}
 use Rattle.script_lines.specs.Lines.{lines_of}
 use Rattle.script_lines.specs.Forms.{form_of}
 use Rattle.campaign_world.specs.declared.section.Section.{Section}
@@ -35,15 +33,15 @@ use Rattle.campaign_world.specs.declared.faults.LineFault.{LineFault}
 use Rattle.campaign_world.specs.declared.numbered.SentPayload.{SentPayload}
 use Rattle.campaign_world.specs.World.{WorldState, first_world}
 use Rattle.campaign_world.specs.Causes.{cause_of_form, cause_of}
-use Rattle.campaign_world.specs.Making.{class_of, config_of, device_of, after_form}
+use Rattle.campaign_world.specs.Making.{config_of, after_form}
 use Rattle.campaign_world.specs.Script.{after_form_of, after_line, line_result, read_line, read_lines, end_result_at, end_result, campaign_of}
 use Rattle.campaign_world.specs.Honest.{is_raw, has_raw, AreHonest, IsHonest}
 use Rattle.campaign_world.specs.Headline.{Delivers, Listens, campaign_before, Brings, WasBrought, CameInOrder}
 use Rattle.campaign_world.proofs.LineItems.{if_some, some_is, some_weaker, none_there, numbered_more, numbered_push, numbered_put, numbered_there, numbered_next, take_next}
 use Rattle.campaign_world.proofs.HeadlineCommands.{Cut, cut_of, setup_req, command_of, setup_request, fragment_command, IsGood, setup_good, fragment_good}
 use Rattle.campaign_world.proofs.HeadlinePayloads.{Moves, stays, comes_to, way_of}
-use Rattle.campaign_world.proofs.HeadlineEnds.{IsSetFor, IsDeviceFor, acts_config}
-use Rattle.campaign_world.proofs.HeadlineWorlds.{Keeps, first_keeps, HasStayed, IsQuiet, Turns, IsJoined, IsReached, turn_keeps}
+use Rattle.campaign_world.proofs.HeadlineEnds.{IsSetFor, IsDeviceFor}
+use Rattle.campaign_world.proofs.HeadlineWorlds.{Keeps, first_keeps, HasStayed, IsQuiet, Turns, IsReached, turn_keeps}
 use Rattle.campaign_world.proofs.HeadlineForms.{form_turn}
 
 -- ---- deliveries as the campaign goes on

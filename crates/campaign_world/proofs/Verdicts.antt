@@ -1,10 +1,8 @@
 -- What a campaign says of each session, whoever sent what reached its device.
-use Rattle.std.proofs.Common.{◌≡◌, ℕ, zero, suc, ◌+◌, ◌-◌, map, slice_get, ◌<◌, ◌≤◌, Bool, true, false, cond, ◌==◌, min, List, [], ◌∷◌, ◌++◌, length, fold, drop, codes, Option, None, Some, IfSome, option_map, Ok, refl, sym, ap, ◌∙◌, subst, arith, bytes_eq}
+use Rattle.std.proofs.Common.{◌≡◌, ℕ, zero, suc, ◌+◌, ◌-◌, map, slice_get, Bool, true, false, cond, ◌==◌, min, List, [], ◌∷◌, ◌++◌, length, fold, drop, codes, Option, None, Some, IfSome, Ok, refl, sym, ap, ◌∙◌, subst, arith, bytes_eq}
 use Rattle.std.specs.Prelude.{filter_map, option_to_list}
 use Rattle.std.specs.Fmt.{decimal}
-use Rattle.wire_base.specs.declared.refusal.Direction.TheVariants.{Down as Downwards}
 use Rattle.frag_model.specs.Fragments.{Fragment}
-use Rattle.frag_model.specs.Members.{In}
 use Rattle.frag_session.specs.declared.answers.Verdict.{Verdict}
 use Rattle.frag_session.specs.declared.answers.Verdict.TheVariants as verdict
 use Rattle.frag_session.specs.Session.{Session, Seen, shape_of, seen_of, view_of}
@@ -13,9 +11,8 @@ use Rattle.frag_session.specs.FirstMoment.{MakesFile, IsWhole, FirstAt, IsDecide
 use Rattle.frag_session.proofs.FirstMoments.{decided_at_first}
 use Rattle.package_grammar.specs.declared.command.Command.{Command}
 use Rattle.package_grammar.specs.declared.downlink.Downlink.{Downlink}
-use Rattle.package_grammar.specs.Grammar.{IsMessage}
-use Rattle.device_core.specs.SessionTable.{SessionTable, session_at}
-use Rattle.device_core.specs.Device.{DeviceState, first_device}
+use Rattle.device_core.specs.SessionTable.{session_at}
+use Rattle.device_core.specs.Device.{DeviceState}
 use Rattle.device_core.specs.Deliver.{waking}
 use Rattle.campaign_server.specs.Server.{numbered}
 use Rattle.script_lines.specs.declared.forms.Form.{Form}
@@ -32,7 +29,7 @@ use Rattle.campaign_world.specs.Independence.{Event, Wakes, Receives, after_even
 use Rattle.campaign_world.specs.Verdicts.{CameInTurn, Carries, saying, IsToldOf, IsSessionOf, Verdicts}
 use Rattle.campaign_world.proofs.LineItems.{if_some, numbered_next, within}
 use Rattle.campaign_world.proofs.Independence.{devices_are_independent, folded}
-use Rattle.campaign_world.proofs.HeardSessions.{IsFine, OfEach, of_one, AreFine, AreCarried, fine_later, delivery_fine, waking_fine}
+use Rattle.campaign_world.proofs.HeardSessions.{IsFine, of_one, AreFine, AreCarried, fine_later, delivery_fine, waking_fine}
 
 -- ---- what lines let happen
 
