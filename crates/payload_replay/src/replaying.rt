@@ -89,14 +89,24 @@ impl Replaying {
                     Ok(()) => self.lines += 1,
                     Err(error) => self.kept = Some(error),
                 },
-                None => match begin(self.alloc, line) {
-                    Ok(device) => {
-                        self.device = Some(device);
-                        self.lines = 1;
-                    }
-                    Err(error) => self.kept = Some(error),
-                },
+                None => self.start(line),
             },
+        }
+    }
+
+    /// Hears the header. It stands alone, so that no other line sees to the room for a whole device.
+    #[inline(never)]
+    fn start(&mut self, header: &[u8])
+        requires fine { self.old.kept ≡ None }
+        requires first { self.old.device ≡ None }
+        ensures { HearsReplayed self.old header.now self.new }
+    {
+        match begin(self.alloc, header) {
+            Ok(device) => {
+                self.device = Some(device);
+                self.lines = 1;
+            }
+            Err(error) => self.kept = Some(error),
         }
     }
 

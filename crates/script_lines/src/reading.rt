@@ -55,6 +55,7 @@ fn is_keyword(word: &[u8], keyword: &str) -> bool
 }
 
 /// A form of its keyword alone.
+#[inline(never)]
 fn alone(line: &[u8], form: Form) -> Option<Form>
     ensures { result ≡ alone line.now form }
 {
@@ -66,6 +67,7 @@ fn alone(line: &[u8], form: Form) -> Option<Form>
 }
 
 /// `fuota 1`
+#[inline(never)]
 fn header_form(line: &[u8]) -> Option<Form>
     ensures { result ≡ header_form line.now }
 {
@@ -77,6 +79,7 @@ fn header_form(line: &[u8]) -> Option<Form>
 }
 
 /// `image FRAGSIZE PARITY`
+#[inline(never)]
 fn image_form(line: &[u8]) -> Option<Form>
     ensures { result ≡ image_form line.now }
 {
@@ -89,6 +92,7 @@ fn image_form(line: &[u8]) -> Option<Form>
 }
 
 /// `group ADDR KEY MIN MAX`
+#[inline(never)]
 fn group_form(line: &[u8]) -> Option<Form>
     ensures { result ≡ group_form line.now }
 {
@@ -108,6 +112,7 @@ fn group_form(line: &[u8]) -> Option<Form>
 }
 
 /// `window c ..` or `window b ..`
+#[inline(never)]
 fn window_form(line: &[u8]) -> Option<Form>
     ensures { result ≡ window_form line.now }
 {
@@ -156,6 +161,7 @@ fn window_b_form(line: &[u8]) -> Option<Form>
 }
 
 /// `device ID CLASS HW ROWS OFFSET KEY [DESCRIPTOR]`
+#[inline(never)]
 fn device_form(line: &[u8]) -> Option<Form>
     ensures { result ≡ device_form line.now }
 {
@@ -203,6 +209,7 @@ fn class_at(line: &[u8], place: usize) -> Option<Class>
 }
 
 /// `at MS`
+#[inline(never)]
 fn at_form(line: &[u8]) -> Option<Form>
     ensures { result ≡ at_form line.now }
 {
@@ -214,6 +221,7 @@ fn at_form(line: &[u8]) -> Option<Form>
 }
 
 /// `wake D`
+#[inline(never)]
 fn wake_form(line: &[u8]) -> Option<Form>
     ensures { result ≡ wake_form line.now }
 {
@@ -225,6 +233,7 @@ fn wake_form(line: &[u8]) -> Option<Form>
 }
 
 /// `ask D`
+#[inline(never)]
 fn ask_form(line: &[u8]) -> Option<Form>
     ensures { result ≡ ask_form line.now }
 {
@@ -236,6 +245,7 @@ fn ask_form(line: &[u8]) -> Option<Form>
 }
 
 /// `down S D [WORD]`
+#[inline(never)]
 fn down_form(line: &[u8]) -> Option<Form>
     ensures { result ≡ down_form line.now }
 {
@@ -262,6 +272,7 @@ fn down_words(line: &[u8], random: u64) -> Option<Form>
 }
 
 /// `raw D PORT HEX [WORD]`
+#[inline(never)]
 fn raw_form(line: &[u8]) -> Option<Form>
     ensures { result ≡ raw_form line.now }
 {
@@ -290,6 +301,7 @@ fn raw_words(line: &[u8], random: u64) -> Option<Form>
 }
 
 /// `up U`
+#[inline(never)]
 fn up_form(line: &[u8]) -> Option<Form>
     ensures { result ≡ up_form line.now }
 {

@@ -23,14 +23,5 @@ returns-in-Err c =
     subst (λ (h : HeldReplaying). HearsReplayed h c.args.line.now new) c.self.view_is
     (replayed_refused old c.in-Some-device.device (Some c.hear_line.new.device) c.args.line.now c.in-Err.error c.in-None.is c.in-Some-device.is c.in-Err.ensures.refused)
 
-pub returns-in-Ok-begin : goal.returns-in-Ok-begin
-returns-in-Ok-begin c =
-    let old : HeldReplaying = record { lines = c.self.inside.lines; device = c.self.inside.device; kept = c.self.inside.kept } in
-    subst (λ (h : HeldReplaying). HearsReplayed h c.args.line.now (record old { lines = 1; device = Some c.in-Ok-begin.device })) c.self.view_is
-    (replayed_begun old c.args.line.now c.in-Ok-begin.device c.in-None.is c.in-None-device.is c.in-Ok-begin.ensures)
-
-pub returns-in-Err-begin : goal.returns-in-Err-begin
-returns-in-Err-begin c =
-    let old : HeldReplaying = record { lines = c.self.inside.lines; device = c.self.inside.device; kept = c.self.inside.kept } in
-    subst (λ (h : HeldReplaying). HearsReplayed h c.args.line.now (record old { kept = Some c.in-Err-begin.error })) c.self.view_is
-    (replayed_unbegun old c.args.line.now c.in-Err-begin.error c.in-None.is c.in-None-device.is c.in-Err-begin.ensures)
+pub returns-in-None-device : goal.returns-in-None-device
+returns-in-None-device c = subst (λ (h : HeldReplaying). HearsReplayed h c.args.line.now c.start.new.self) c.self.view_is c.start.ensures
