@@ -27,9 +27,9 @@ fn begun(rt: &impl Abort, alloc: Global, pieces: u16, rows: u16) -> Result<Small
 }
 
 fn feed(rt: &impl Abort, solver: &mut SmallSolver, n: u16, byte: u8) -> Fed {
-    assert_eq!(rt; solver.stage, Stage::Receiving);
-    assert!(rt; 1 <= n && n as u32 <= solver.table.nb_frag() as u32 + MAX_PARITY_INDEX as u32);
-    assert_eq!(rt; solver.table.frag_size(), 1);
+    assert_eq!(rt; solver.kept.stage, Stage::Receiving);
+    assert!(rt; 1 <= n && n as u32 <= solver.kept.table.nb_frag() as u32 + MAX_PARITY_INDEX as u32);
+    assert_eq!(rt; solver.kept.table.frag_size(), 1);
     solver.feed(n, &[byte])
 }
 
@@ -42,7 +42,7 @@ fn shows(rt: &impl Abort, alloc: Global, pieces: u16, row: &Row) -> Result<(), F
     assert_eq!(rt; answer, row.answer);
     assert_eq!(rt; solver.missing(), row.missing);
     if answer == Fed::Complete {
-        assert_eq!(rt; solver.stage, Stage::Complete);
+        assert_eq!(rt; solver.kept.stage, Stage::Complete);
         assert_eq!(rt; solver.block(), row.block);
     }
     Ok(())
@@ -318,9 +318,9 @@ fn coded(rt: &impl Abort, alloc: Global, pieces: u16, size: u8, n: u16) -> Resul
 }
 
 fn feed_long(rt: &impl Abort, solver: &mut LongSolver, n: u16, part: &[u8]) -> Fed {
-    assert_eq!(rt; solver.stage, Stage::Receiving);
-    assert!(rt; 1 <= n && n as u32 <= solver.table.nb_frag() as u32 + MAX_PARITY_INDEX as u32);
-    assert_eq!(rt; part.len(), solver.table.frag_size() as usize);
+    assert_eq!(rt; solver.kept.stage, Stage::Receiving);
+    assert!(rt; 1 <= n && n as u32 <= solver.kept.table.nb_frag() as u32 + MAX_PARITY_INDEX as u32);
+    assert_eq!(rt; part.len(), solver.kept.table.frag_size() as usize);
     solver.feed(n, part)
 }
 
@@ -347,7 +347,7 @@ fn recovers(rt: &impl Abort, alloc: Global, pieces: u16, size: u8) -> Result<(),
         }
     }
     assert_eq!(rt; answer, Fed::Complete);
-    assert_eq!(rt; solver.stage, Stage::Complete);
+    assert_eq!(rt; solver.kept.stage, Stage::Complete);
     assert!(rt; solver.block() == whole.as_slice());
     Ok(())
 }
