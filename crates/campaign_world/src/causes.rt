@@ -135,7 +135,7 @@ pub fn fits_payload(form: &Form) -> bool
     ensures { result ≡ fits_payload form.now }
 {
     match form {
-        Form::Raw { payload, .. } => payload.as_slice().len() <= MAX_PAYLOAD,
+        Form::Raw { payload, .. } => payload.len() <= MAX_PAYLOAD,
         _ => true,
     }
 }

@@ -38,7 +38,7 @@ use crate::summary::summary;
 use campaign_server::{Kind, Plan, PlanDevice, PlanGroup, PlanWindow, Server, ServerError};
 use device_core::{Class, Device, DeviceConfig, ReserveError};
 use package_grammar::{Downlink, To};
-use script_lines::{Form, HexBytes, form, in_range};
+use script_lines::{Form, HexBytes, MAX_HEX_BYTES, form, in_range};
 use std::alloc::{AllocError, Global};
 use std::marker::Model;
 use wire_base::Payload;
@@ -208,7 +208,7 @@ impl World {
     }
 
     /// The form of the next line, or the first cause for which it is refused.
-    fn accept(&self, line: &[u8]) -> Result<Form, LineWhy>
+    fn accept<'a>(&self, line: &'a [u8]) -> Result<Form<'a>, LineWhy>
         ensures form { IfOk result (λ form. (form_of line.now ≡ Some form) × (self.now.lines < max_lines)
             × IsFine self.now form) }
         ensures none { OnOk result (IsCauseOf self.now line.now None) }
@@ -787,14 +787,17 @@ fn mark_behind(lines: u32) -> u64
 }
 
 /// Anybody's payload, by unicast.
+#[inline(never)]
 fn raw_down(port: u8, payload: &HexBytes) -> Downlink
     requires { length payload.now ≤ 242 }
     ensures { result ≡ raw_down port payload.now }
 {
+    let mut bytes = [0; MAX_HEX_BYTES];
+    let count = payload.put(&mut bytes);
     Downlink {
         to: To::Unicast,
         port,
-        payload: Payload::from_slice(payload.as_slice()),
+        payload: Payload::from_slice(&bytes[..count]),
     }
 }
 

@@ -50,3 +50,8 @@ hex_bytes_of digits =
     if bytes_eq digits (codes "-") then Some []
     else if is_hex_word digits then read_part (decode_of digits)
     else None
+
+-- the bytes, where there are some
+abbrev pub bytes_in : Option (List ℕ) → List ℕ
+bytes_in None = []
+bytes_in (Some bytes) = bytes

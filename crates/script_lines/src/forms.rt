@@ -16,8 +16,8 @@ pub enum Class {
 
 /// The form of a line of a script. Decimals are as they are written, those above 2^64 - 1 held as that: what they may be
 /// is `in_range`.
-#[derive(Debug, Drop, PartialEq)]
-pub enum Form {
+#[derive(Debug, Drop)]
+pub enum Form<'a> {
     /// `fuota 1`
     Header,
     /// `image FRAGSIZE PARITY`: bytes a fragment, and coded fragments beyond the uncoded ones.
@@ -84,7 +84,7 @@ pub enum Form {
     Raw {
         device: u64,
         port: u64,
-        payload: HexBytes,
+        payload: HexBytes<'a>,
         word: u64,
     },
     /// `up U`: uplink U reaches the server.

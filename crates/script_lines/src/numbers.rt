@@ -4,10 +4,10 @@ ghost use Rattle.std.specs.Prelude.{◌≡◌, ◌-◌, ◌^◌, IsTrue, min};
 ghost use Rattle.std.specs.List.{list_all};
 ghost use Rattle.hex.specs.Hex.{decode_of};
 ghost use Rattle.std.specs.Char.{is_ascii_digit};
-ghost use Rattle.script_lines.specs.Numbers.{is_decimal, decimal_number, decimal_of, key_of, hex_number_of, is_hex_word, hex_bytes_of};
+ghost use Rattle.script_lines.specs.Numbers.{is_decimal, decimal_number, decimal_of, key_of, hex_number_of, is_hex_word};
 
 use crate::forms::Key;
-use crate::hex_bytes::{HexBytes, MAX_HEX_BYTES};
+use crate::hex_bytes::MAX_HEX_BYTES;
 
 fn are_digits(bytes: &[u8]) -> bool
     ensures { result ≡ list_all is_ascii_digit bytes.now }
@@ -76,29 +76,8 @@ pub fn hex_number(digits: &[u8]) -> Option<u32>
     }
 }
 
-/// The bytes that an even number of hex digits of either case spells, at least two, or that `-` does, which are none. More
-/// than `MAX_HEX_BYTES` are no word of a line.
-#[tactic(auto, unfolding(crate::specs::Numbers::hex_bytes_of))]
-pub fn hex_bytes(digits: &[u8]) -> Option<HexBytes>
-    ensures { result ≡ hex_bytes_of digits.now }
-{
-    if digits == b"-".as_slice() {
-        return Some(HexBytes::from_slice(&[]));
-    }
-    if !is_hex_word(digits) {
-        return None;
-    }
-    let mut bytes = [0; MAX_HEX_BYTES];
-    let count = digits.len() / 2;
-    let spelled = &mut bytes[..count];
-    match hex::decode_to_slice(digits, spelled) {
-        Ok(()) => Some(HexBytes::from_slice(spelled)),
-        Err(_) => None,
-    }
-}
-
 /// Whether a word has digits, and no more than a line's.
-fn is_hex_word(digits: &[u8]) -> bool
+pub fn is_hex_word(digits: &[u8]) -> bool
     ensures { result ≡ is_hex_word digits.now }
 {
     1 <= digits.len() && digits.len() <= 2 * MAX_HEX_BYTES

@@ -5,12 +5,13 @@ ghost use Rattle.std.specs.Str.{bytes_eq};
 ghost use Rattle.script_lines.specs.Forms.{form_of, alone, header_form, image_form, group_form, window_form, window_c_form, window_b_form, device_form, device_words, at_form, wake_form, ask_form, down_form, down_words, raw_form, raw_words, up_form, class_at};
 
 use crate::forms::{Class, Form};
-use crate::numbers::{decimal, hex_bytes, hex_number, key};
+use crate::hex_bytes::HexBytes;
+use crate::numbers::{decimal, hex_number, key};
 use crate::words::{count_words, is_word, word};
 
 /// The form that a line spells, None exactly where it spells none.
 #[tactic(auto, unfolding(crate::specs::Forms::form_of))]
-pub fn form(line: &[u8]) -> Option<Form>
+pub fn form(line: &[u8]) -> Option<Form<'_>>
     ensures { result ≡ form_of line.now }
 {
     let keyword = word(line, 0);
@@ -56,8 +57,8 @@ fn is_keyword(word: &[u8], keyword: &str) -> bool
 
 /// A form of its keyword alone.
 #[inline(never)]
-fn alone(line: &[u8], form: Form) -> Option<Form>
-    ensures { result ≡ alone line.now form }
+fn alone<'a>(line: &[u8], form: Form<'a>) -> Option<Form<'a>>
+    ensures { result ≡ alone line.now form.entry }
 {
     if count_words(line) == 1 {
         Some(form)
@@ -68,7 +69,7 @@ fn alone(line: &[u8], form: Form) -> Option<Form>
 
 /// `fuota 1`
 #[inline(never)]
-fn header_form(line: &[u8]) -> Option<Form>
+fn header_form(line: &[u8]) -> Option<Form<'_>>
     ensures { result ≡ header_form line.now }
 {
     if count_words(line) == 2 && is_word(line, 1, "1") {
@@ -80,7 +81,7 @@ fn header_form(line: &[u8]) -> Option<Form>
 
 /// `image FRAGSIZE PARITY`
 #[inline(never)]
-fn image_form(line: &[u8]) -> Option<Form>
+fn image_form(line: &[u8]) -> Option<Form<'_>>
     ensures { result ≡ image_form line.now }
 {
     if count_words(line) != 3 {
@@ -93,7 +94,7 @@ fn image_form(line: &[u8]) -> Option<Form>
 
 /// `group ADDR KEY MIN MAX`
 #[inline(never)]
-fn group_form(line: &[u8]) -> Option<Form>
+fn group_form(line: &[u8]) -> Option<Form<'_>>
     ensures { result ≡ group_form line.now }
 {
     if count_words(line) != 5 {
@@ -113,7 +114,7 @@ fn group_form(line: &[u8]) -> Option<Form>
 
 /// `window c ..` or `window b ..`
 #[inline(never)]
-fn window_form(line: &[u8]) -> Option<Form>
+fn window_form(line: &[u8]) -> Option<Form<'_>>
     ensures { result ≡ window_form line.now }
 {
     let count = count_words(line);
@@ -127,7 +128,7 @@ fn window_form(line: &[u8]) -> Option<Form>
 }
 
 /// `window c START TIMEOUT FREQ DR`
-fn window_c_form(line: &[u8]) -> Option<Form>
+fn window_c_form(line: &[u8]) -> Option<Form<'_>>
     ensures { result ≡ window_c_form line.now }
 {
     let start = decimal(word(line, 2))?;
@@ -143,7 +144,7 @@ fn window_c_form(line: &[u8]) -> Option<Form>
 }
 
 /// `window b START PERIODICITY TIMEOUT FREQ DR`
-fn window_b_form(line: &[u8]) -> Option<Form>
+fn window_b_form(line: &[u8]) -> Option<Form<'_>>
     ensures { result ≡ window_b_form line.now }
 {
     let start = decimal(word(line, 2))?;
@@ -162,7 +163,7 @@ fn window_b_form(line: &[u8]) -> Option<Form>
 
 /// `device ID CLASS HW ROWS OFFSET KEY [DESCRIPTOR]`
 #[inline(never)]
-fn device_form(line: &[u8]) -> Option<Form>
+fn device_form(line: &[u8]) -> Option<Form<'_>>
     ensures { result ≡ device_form line.now }
 {
     match count_words(line) {
@@ -175,7 +176,7 @@ fn device_form(line: &[u8]) -> Option<Form>
     }
 }
 
-fn device_words(line: &[u8], descriptor: Option<u32>) -> Option<Form>
+fn device_words(line: &[u8], descriptor: Option<u32>) -> Option<Form<'_>>
     ensures { result ≡ device_words line.now descriptor }
 {
     let id = decimal(word(line, 1))?;
@@ -210,7 +211,7 @@ fn class_at(line: &[u8], place: usize) -> Option<Class>
 
 /// `at MS`
 #[inline(never)]
-fn at_form(line: &[u8]) -> Option<Form>
+fn at_form(line: &[u8]) -> Option<Form<'_>>
     ensures { result ≡ at_form line.now }
 {
     if count_words(line) != 2 {
@@ -222,7 +223,7 @@ fn at_form(line: &[u8]) -> Option<Form>
 
 /// `wake D`
 #[inline(never)]
-fn wake_form(line: &[u8]) -> Option<Form>
+fn wake_form(line: &[u8]) -> Option<Form<'_>>
     ensures { result ≡ wake_form line.now }
 {
     if count_words(line) != 2 {
@@ -234,7 +235,7 @@ fn wake_form(line: &[u8]) -> Option<Form>
 
 /// `ask D`
 #[inline(never)]
-fn ask_form(line: &[u8]) -> Option<Form>
+fn ask_form(line: &[u8]) -> Option<Form<'_>>
     ensures { result ≡ ask_form line.now }
 {
     if count_words(line) != 2 {
@@ -246,7 +247,7 @@ fn ask_form(line: &[u8]) -> Option<Form>
 
 /// `down S D [WORD]`
 #[inline(never)]
-fn down_form(line: &[u8]) -> Option<Form>
+fn down_form(line: &[u8]) -> Option<Form<'_>>
     ensures { result ≡ down_form line.now }
 {
     match count_words(line) {
@@ -259,7 +260,7 @@ fn down_form(line: &[u8]) -> Option<Form>
     }
 }
 
-fn down_words(line: &[u8], random: u64) -> Option<Form>
+fn down_words(line: &[u8], random: u64) -> Option<Form<'_>>
     ensures { result ≡ down_words line.now random }
 {
     let number = decimal(word(line, 1))?;
@@ -273,7 +274,7 @@ fn down_words(line: &[u8], random: u64) -> Option<Form>
 
 /// `raw D PORT HEX [WORD]`
 #[inline(never)]
-fn raw_form(line: &[u8]) -> Option<Form>
+fn raw_form(line: &[u8]) -> Option<Form<'_>>
     ensures { result ≡ raw_form line.now }
 {
     match count_words(line) {
@@ -286,12 +287,12 @@ fn raw_form(line: &[u8]) -> Option<Form>
     }
 }
 
-fn raw_words(line: &[u8], random: u64) -> Option<Form>
+fn raw_words(line: &[u8], random: u64) -> Option<Form<'_>>
     ensures { result ≡ raw_words line.now random }
 {
     let device = decimal(word(line, 1))?;
     let port = decimal(word(line, 2))?;
-    let payload = hex_bytes(word(line, 3))?;
+    let payload = HexBytes::read(word(line, 3))?;
     Some(Form::Raw {
         device,
         port,
@@ -302,7 +303,7 @@ fn raw_words(line: &[u8], random: u64) -> Option<Form>
 
 /// `up U`
 #[inline(never)]
-fn up_form(line: &[u8]) -> Option<Form>
+fn up_form(line: &[u8]) -> Option<Form<'_>>
     ensures { result ≡ up_form line.now }
 {
     if count_words(line) != 2 {

@@ -1,8 +1,9 @@
-use crate::{Class, Cut, Form, HexBytes, Lines, form, in_range};
+use crate::{Class, Cut, Form, Lines, MAX_HEX_BYTES, form, in_range};
+use std::test::Fail;
 
 /// Lines, the form that each spells, and whether its numbers are in their ranges.
 #[test]
-fn lines_spell_their_forms(rt: HostRuntime) {
+fn lines_spell_their_forms(rt: HostRuntime) -> Result<(), Fail> {
     let largest = u64::MAX;
     let cases: [(&str, Option<Form>, bool); 27] = [
         ("fuota 1", Some(Form::Header), true),
@@ -103,27 +104,26 @@ fn lines_spell_their_forms(rt: HostRuntime) {
     ];
     for (line, wanted, ranged) in cases {
         let found = form(line.as_bytes());
-        assert!(rt; found == wanted);
+        assert!(rt; shown(&rt, &found)? == shown(&rt, &wanted)?);
         if let Some(spelled) = found {
             assert!(rt; in_range(&spelled) == ranged);
         }
     }
+    Ok(())
 }
 
 /// Keys, addresses and descriptors are hex digits of either case; CLASS is `a` or `c`.
 #[test]
-fn hex_words_are_read(rt: HostRuntime) {
+fn hex_words_are_read(rt: HostRuntime) -> Result<(), Fail> {
     let group = form(b"group 11223344 000102030405060708090A0B0c0d0e0f 0 10");
     let key = [0, 1, 2, 3, 4, 5, 6, 7, 8, 9, 10, 11, 12, 13, 14, 15];
-    assert!(rt;
-        group
-            == Some(Form::Group {
-                addr: 0x1122_3344,
-                key,
-                min: 0,
-                max: 10
-            })
-    );
+    let wanted = Form::Group {
+        addr: 0x1122_3344,
+        key,
+        min: 0,
+        max: 10,
+    };
+    assert!(rt; shown(&rt, &group)? == shown(&rt, &Some(wanted))?);
     let device = form(b"device 1 a 2 64 5 00000000000000000000000000000000 00000002");
     let wanted = Form::Device {
         id: 1,
@@ -134,10 +134,10 @@ fn hex_words_are_read(rt: HostRuntime) {
         key: [0; 16],
         descriptor: Some(2),
     };
-    assert!(rt; device == Some(wanted));
-    assert!(rt; form(b"device 1 b 2 64 5 00000000000000000000000000000000") == None);
-    assert!(rt; form(b"device 1 c 2 64 5 0000000000000000000000000000000") == None);
-    assert!(rt; form(b"group 1122334 00000000000000000000000000000000 0 10") == None);
+    assert!(rt; shown(&rt, &device)? == shown(&rt, &Some(wanted))?);
+    assert!(rt; form(b"device 1 b 2 64 5 00000000000000000000000000000000").is_none());
+    assert!(rt; form(b"device 1 c 2 64 5 0000000000000000000000000000000").is_none());
+    assert!(rt; form(b"group 1122334 00000000000000000000000000000000 0 10").is_none());
     let window = form(b"window b 1000 7 15 8695250 255");
     let wanted = Form::WindowB {
         start: 1000,
@@ -146,9 +146,10 @@ fn hex_words_are_read(rt: HostRuntime) {
         freq: 8_695_250,
         dr: 255,
     };
-    assert!(rt; window == Some(wanted));
-    assert!(rt; form(b"window c 1000 0 8695250") == None);
-    assert!(rt; form(b"window c 1000 7 0 8695250 0") == None);
+    assert!(rt; shown(&rt, &window)? == shown(&rt, &Some(wanted))?);
+    assert!(rt; form(b"window c 1000 0 8695250").is_none());
+    assert!(rt; form(b"window c 1000 7 0 8695250 0").is_none());
+    Ok(())
 }
 
 /// A line is the same however its bytes are cut into pieces; of one of 602 bytes, 601 are held.
@@ -189,14 +190,12 @@ fn raw_lines_are_read(rt: HostRuntime) {
         ("raw 1 201 00 4294967296", 1, 201, &[0], 1 << 32, false),
     ];
     for (line, device, port, bytes, word, ranged) in cases {
-        let wanted = Form::Raw {
-            device,
-            port,
-            payload: HexBytes::from_slice(bytes),
-            word,
-        };
-        assert!(rt; in_range(&wanted) == ranged);
-        assert!(rt; form(line.as_bytes()) == Some(wanted));
+        let found = form(line.as_bytes());
+        assert!(rt; found.is_some());
+        if let Some(spelled) = found {
+            assert!(rt; in_range(&spelled) == ranged);
+            assert!(rt; is_raw(&spelled, device, port, bytes, word));
+        }
     }
     let none = [
         "raw 1 201",
@@ -213,7 +212,7 @@ fn raw_lines_are_read(rt: HostRuntime) {
         "Raw 1 201 00",
     ];
     for line in none {
-        assert!(rt; form(line.as_bytes()) == None);
+        assert!(rt; form(line.as_bytes()).is_none());
     }
 }
 
@@ -222,13 +221,33 @@ fn raw_lines_are_read(rt: HostRuntime) {
 fn long_hex_words_are_read(rt: HostRuntime) {
     let mut line = [b'0'; 612];
     line[..10].copy_from_slice(b"raw 1 201 ");
-    let wanted = Form::Raw {
-        device: 1,
-        port: 201,
-        payload: HexBytes::from_slice(&[0; 300]),
-        word: 0,
-    };
-    assert!(rt; form(&line[..610]) == Some(wanted));
-    assert!(rt; form(&line[..609]) == None);
-    assert!(rt; form(&line) == None);
+    let found = form(&line[..610]);
+    assert!(rt; found.is_some());
+    if let Some(spelled) = found {
+        assert!(rt; is_raw(&spelled, 1, 201, &[0; 300], 0));
+    }
+    assert!(rt; form(&line[..609]).is_none());
+    assert!(rt; form(&line).is_none());
+}
+
+/// A form in Rust's words.
+fn shown(rt: &HostRuntime, form: &Option<Form>) -> Result<String, Fail> {
+    Ok(format!(in rt.alloc(); "{form:?}")?)
+}
+
+/// Whether a form is a stranger's payload of these bytes.
+fn is_raw(form: &Form, device: u64, port: u64, bytes: &[u8], word: u64) -> bool {
+    match form {
+        Form::Raw {
+            device: to,
+            port: on,
+            payload,
+            word: random,
+        } => {
+            let mut spelled = [0; MAX_HEX_BYTES];
+            let count = payload.put(&mut spelled);
+            *to == device && *on == port && *random == word && &spelled[..count] == bytes
+        }
+        _ => false,
+    }
 }
