@@ -1,6 +1,7 @@
 pub mod Zips
 pub mod LineItems
 pub mod Outboxes
+pub mod OutboxRoom
 pub mod Outcomes
 pub mod FormCauses
 pub mod Steps

@@ -1,5 +1,5 @@
--- What is said of an Ok.
-use Rattle.std.proofs.Common.{Result, Ok, Err, OnOk, IsOk, refl}
+-- What is said of an Ok, and of an Err.
+use Rattle.std.proofs.Common.{Result, Ok, Err, OnOk, OnErr, IsOk, refl}
 
 -- to show it, take that it is Ok
 pub on_ok : {T E : Type 0} {P : Type 0} (r : Result T E) → (IsOk r → P) → OnOk r P
@@ -10,3 +10,8 @@ on_ok (Err e) says = tt
 pub on_ok_then : {T E : Type 0} {P : Type 0} (r : Result T E) → IsOk r → OnOk r P → P
 on_ok_then (Ok x) ok holds = holds
 on_ok_then (Err e) ok holds = absurd cc
+
+-- what holds of an Err, and what follows from it
+pub on_err : {T E : Type 0} {P Q : Type 0} (r : Result T E) → (P → Q) → OnErr r P → OnErr r Q
+on_err (Ok x) follows holds = tt
+on_err (Err e) follows holds = follows holds

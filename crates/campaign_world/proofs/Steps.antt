@@ -27,7 +27,7 @@ use Rattle.script_lines.specs.declared.forms.Form.TheVariants as form
 use Rattle.campaign_world.specs.Causes.{is_event_or_end}
 use Rattle.campaign_world.specs.World.{WorldState}
 use Rattle.campaign_world.specs.Making.{with_plan, with_sent, with_device, after_answer, after_up, after_form, after_wake, after_down, raw_down, after_raw, at_events}
-use Rattle.campaign_world.specs.HeldWorld.{HeldWorld, WorldStands, DeviceRests, DevicesRest, OneComesToRest, OnesAreNumbered, world_of, server_of}
+use Rattle.campaign_world.specs.HeldWorld.{HeldWorld, WorldStands, KeepsEnds, DeviceRests, DevicesRest, OneComesToRest, OnesAreNumbered, world_of, server_of}
 use Rattle.campaign_world.specs.WorldInside.{ServerIs, IsBuilt}
 use Rattle.campaign_world.proofs.Zips.{zip_some, zip_more}
 
@@ -239,3 +239,20 @@ event_alike world (form.Down number device word) event = down_alike world device
 event_alike world (form.Raw device port payload word) event = raw_alike world device word (raw_down port payload) (numbered world.devices device)
 event_alike world (form.Up number) event = up_alike world (numbered world.uplinks number)
 event_alike world form.End event = refl
+
+-- ---- what stays where memory is wanting
+
+-- devices and server are as they were
+pub ends_alike : (old new : HeldWorld) → new.devices ≡ old.devices
+    → server_of new.image new.plan new.server ≡ server_of old.image old.plan old.server → KeepsEnds old new
+ends_alike old new devices server world stands = record {
+  devices = rw (devices) stands.devices;
+  server = ap (λ (w : WorldState). w.server) stands.rest ∙ sym server;
+}
+
+-- the server was made, and then they are
+pub ends_begun : (old middle new : HeldWorld) → ((world : WorldState) → WorldStands old world → WorldStands middle (at_events world))
+    → KeepsEnds middle new → KeepsEnds old new
+ends_begun old middle new begun keeps world stands =
+    let kept = keeps (at_events world) (begun world stands) in
+    record { devices = kept.devices; server = kept.server }

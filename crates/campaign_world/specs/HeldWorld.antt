@@ -98,6 +98,15 @@ pub record WorldStands (held : HeldWorld) (world : WorldState) : Type 0 where
 abbrev pub WorldBecomes : (old new : HeldWorld) → (WorldState → WorldState) → Type 0
 WorldBecomes old new after = (world : WorldState) → WorldStands old world → WorldStands new (after world)
 
+-- both ends stand for the campaign's
+pub record EndsStand (held : HeldWorld) (world : WorldState) : Type 0 where
+  pub devices : DevicesRest held.devices world.devices
+  pub server : world.server ≡ server_of held.image held.plan held.server
+
+-- whatever campaign was stood for, its devices and its server are stood for now
+abbrev pub KeepsEnds : (old new : HeldWorld) → Type 0
+KeepsEnds old new = (world : WorldState) → WorldStands old world → EndsStand new world
+
 -- the answer to a line: it was taken, or it is the first refused line with its first cause, or memory was wanting
 abbrev pub IsLineAnswer : WorldState → (line : List ℕ) → (new : HeldWorld) → Result (Unit {0}) LineError → Type 0
 IsLineAnswer world line new (Ok done) = (cause_of world line ≡ None) × WorldStands new (after_line world line) × (new.kept ≡ None)

@@ -1,7 +1,7 @@
 //! Events at devices: a payload that reaches one, and one that wakes. Its uplinks are then taken.
 
-ghost use Rattle.std.specs.Prelude.{◌≡◌, ◌≤◌, length, OnOk};
-ghost use Rattle.device_core.specs.Device.{DeviceState, max_moment};
+ghost use Rattle.std.specs.Prelude.{◌≡◌, ◌≤◌, ◌+◌, length, OnOk, OnErr, vec_len, vec_capacity};
+ghost use Rattle.device_core.specs.Device.{DeviceState, max_moment, outbox_size};
 ghost use Rattle.device_core.specs.Deliver.{delivery, waking};
 ghost use Rattle.campaign_world.specs.HeldWorld.{DeviceRests, resting, numbered_behind, ComesToRest, AreNumbered, OneComesToRest, OnesAreNumbered};
 ghost use Rattle.campaign_world.specs.WorldInside.{StayMade};
@@ -21,7 +21,19 @@ pub struct Coming {
     pub mark: u64,
 }
 
-/// A payload reaches the device with a number, whose uplinks are taken, oldest first.
+/// Uplinks that a device holds at most, and so those that one event can make.
+const OUTBOX: usize = 8;
+
+/// Room for the uplinks of one event.
+fn make_room(uplinks: &mut Vec<MadeUplink>) -> Result<(), AllocError>
+    ensures same { uplinks.new.items ≡ uplinks.old.items }
+    ensures room { OnOk result (vec_len uplinks.new + outbox_size ≤ vec_capacity uplinks.new) }
+{
+    uplinks.reserve(OUTBOX)
+}
+
+/// A payload reaches the device with a number, whose uplinks are taken, oldest first. Where there is no memory for them
+/// the device is not called.
 pub fn deliver(
     devices: &mut Vec<Device>,
     uplinks: &mut Vec<MadeUplink>,
@@ -38,12 +50,19 @@ pub fn deliver(
         devices.old.items devices.new.items) }
     ensures uplinks { OnOk result (OnesAreNumbered (λ d. (delivery coming.t coming.word coming.mark down.now d).device)
         devices.old.items id uplinks.old.items uplinks.new.items) }
+    ensures same { OnErr result (devices.new.items ≡ devices.old.items) }
 {
+    match make_room(uplinks) {
+        Ok(()) => {}
+        Err(error) => return Err(error),
+    }
     let device = &mut devices[id as usize - 1];
-    reach(device, uplinks, id, down, coming)
+    reach(device, uplinks, id, down, coming);
+    Ok(())
 }
 
-/// The device with a number wakes, and its uplinks are taken, oldest first.
+/// The device with a number wakes, and its uplinks are taken, oldest first. Where there is no memory for them the device
+/// is not called.
 pub fn wake(
     devices: &mut Vec<Device>,
     uplinks: &mut Vec<MadeUplink>,
@@ -57,9 +76,15 @@ pub fn wake(
     ensures made { StayMade id uplinks.old.items uplinks.new.items }
     ensures devices { OnOk result (OneComesToRest (λ d. (waking t d).device) id devices.old.items devices.new.items) }
     ensures uplinks { OnOk result (OnesAreNumbered (λ d. (waking t d).device) devices.old.items id uplinks.old.items uplinks.new.items) }
+    ensures same { OnErr result (devices.new.items ≡ devices.old.items) }
 {
+    match make_room(uplinks) {
+        Ok(()) => {}
+        Err(error) => return Err(error),
+    }
     let device = &mut devices[id as usize - 1];
-    rouse(device, uplinks, id, t)
+    rouse(device, uplinks, id, t);
+    Ok(())
 }
 
 /// A payload reaches a device, whose uplinks are taken.
@@ -69,54 +94,49 @@ fn reach(
     id: u8,
     down: &Downlink,
     coming: Coming,
-) -> Result<(), AllocError>
+)
     requires first { 1 ≤ id }
     requires moment { coming.t ≤ max_moment }
+    requires room { vec_len uplinks.old + outbox_size ≤ vec_capacity uplinks.old }
     ensures made { StayMade id uplinks.old.items uplinks.new.items }
-    ensures rests { OnOk result (ComesToRest (λ d. (delivery coming.t coming.word coming.mark down.now d).device)
-        device.old device.new) }
-    ensures uplinks { OnOk result (AreNumbered (λ d. (delivery coming.t coming.word coming.mark down.now d).device)
-        device.old id uplinks.old.items uplinks.new.items) }
+    ensures rests { ComesToRest (λ d. (delivery coming.t coming.word coming.mark down.now d).device) device.old device.new }
+    ensures uplinks { AreNumbered (λ d. (delivery coming.t coming.word coming.mark down.now d).device)
+        device.old id uplinks.old.items uplinks.new.items }
 {
     let _delivered = device.deliver(coming.t, down, coming.word, coming.mark);
-    take_uplinks(id, device, uplinks)
+    take_uplinks(id, device, uplinks);
 }
 
 /// A device wakes, and its uplinks are taken.
-fn rouse(
-    device: &mut Device,
-    uplinks: &mut Vec<MadeUplink>,
-    id: u8,
-    t: u64,
-) -> Result<(), AllocError>
+fn rouse(device: &mut Device, uplinks: &mut Vec<MadeUplink>, id: u8, t: u64)
     requires first { 1 ≤ id }
     requires moment { t ≤ max_moment }
+    requires room { vec_len uplinks.old + outbox_size ≤ vec_capacity uplinks.old }
     ensures made { StayMade id uplinks.old.items uplinks.new.items }
-    ensures rests { OnOk result (ComesToRest (λ d. (waking t d).device) device.old device.new) }
-    ensures uplinks { OnOk result (AreNumbered (λ d. (waking t d).device) device.old id uplinks.old.items uplinks.new.items) }
+    ensures rests { ComesToRest (λ d. (waking t d).device) device.old device.new }
+    ensures uplinks { AreNumbered (λ d. (waking t d).device) device.old id uplinks.old.items uplinks.new.items }
 {
     let _asked = device.wake(t);
-    take_uplinks(id, device, uplinks)
+    take_uplinks(id, device, uplinks);
 }
 
-/// Takes all uplinks of a device, oldest first.
-fn take_uplinks(
-    id: u8,
-    device: &mut Device,
-    uplinks: &mut Vec<MadeUplink>,
-) -> Result<(), AllocError>
-    requires { 1 ≤ id }
+/// Takes all uplinks of a device, oldest first. It has no more of them than there is room for.
+fn take_uplinks(id: u8, device: &mut Device, uplinks: &mut Vec<MadeUplink>)
+    requires first { 1 ≤ id }
+    requires room { vec_len uplinks.old + outbox_size ≤ vec_capacity uplinks.old }
     ensures made { StayMade id uplinks.old.items uplinks.new.items }
-    ensures rests { OnOk result ((d : DeviceState) → DeviceStands device.old d → DeviceRests device.new (resting d)) }
-    ensures uplinks { OnOk result (uplinks.new.items ≡ numbered_behind uplinks.old.items id device.old.outbox) }
+    ensures rests { (d : DeviceState) → DeviceStands device.old d → length d.outbox ≤ outbox_size
+        → DeviceRests device.new (resting d) }
+    ensures uplinks { length device.old.outbox ≤ outbox_size
+        → uplinks.new.items ≡ numbered_behind uplinks.old.items id device.old.outbox }
 {
-    while let Some(uplink) = device.take_uplink() {
-        match uplinks.push(MadeUplink { device: id, uplink }) {
-            Ok(()) => {}
-            Err(_) => return Err(AllocError),
-        }
+    let full = uplinks.len() + OUTBOX;
+    while uplinks.len() < full {
+        let Some(uplink) = device.take_uplink() else {
+            return;
+        };
+        uplinks.push_reserved(MadeUplink { device: id, uplink });
     }
-    Ok(())
 }
 
 /// Throws all uplinks of a device away.

@@ -1,6 +1,6 @@
 //! A campaign as its script tells it, line by line: what was sent, what was heard, and where each end stands.
 
-ghost use Rattle.std.specs.Prelude.{◌≡◌, ◌≤◌, ◌<◌, ◌+◌, ◌-◌, ◌++◌, ◌∷◌, [], true, ℕ, List, length, None, Some, Ok, Err, IfOk, IfErr, IsOk, OnOk};
+ghost use Rattle.std.specs.Prelude.{◌≡◌, ◌≤◌, ◌<◌, ◌+◌, ◌-◌, ◌++◌, ◌∷◌, [], true, ℕ, List, length, None, Some, Ok, Err, IfOk, IfErr, IsOk, OnOk, OnErr, vec_len, vec_capacity};
 ghost use Rattle.image_slots.specs.Image.{is_image};
 ghost use Rattle.device_core.specs.Device.{DeviceState};
 ghost use Rattle.campaign_server.specs.Server.{ServerState, numbered};
@@ -96,7 +96,7 @@ impl Model for World {
 
 impl World {
     ghost use Rattle.campaign_world.specs.declared.faults.LineError.{LineError};
-    ghost use Rattle.campaign_world.specs.HeldWorld.{WorldStands, WorldBecomes, IsLineAnswer, IsReport, IsSummary, IsEnded, IsFine, IsCauseOf, HasBegun, world_of};
+    ghost use Rattle.campaign_world.specs.HeldWorld.{WorldStands, WorldBecomes, KeepsEnds, IsLineAnswer, IsReport, IsSummary, IsEnded, IsFine, IsCauseOf, HasBegun, world_of};
     ghost use Rattle.campaign_world.specs.WorldInside.{IsToJoin, IsToBegin};
     ghost use Rattle.campaign_world.specs.Texts.{seen_text};
 
@@ -122,12 +122,14 @@ impl World {
     }
 
     /// Takes the next line of the script, without its line feed. After a refused line each later one is
-    /// answered with that fault, and after want of memory with that.
+    /// answered with that fault, and after want of memory with that. All memory that a line needs is taken before a device
+    /// or the server is called, so that both are as they were where it is wanting.
     pub fn line(&mut self, line: &[u8]) -> Result<(), LineError>
         ensures step { (world : WorldState) → WorldStands self.old world → self.old.kept ≡ None
             → IsLineAnswer world line.now self.new result }
         ensures kept { IfErr result (λ e. self.new.kept ≡ Some e) }
         ensures same { (e : LineError) → self.old.kept ≡ Some e → (result ≡ Err e) × (self.new ≡ self.old) }
+        ensures ends { OnErr result (KeepsEnds self.old self.new) }
     {
         if let Some(kept) = self.kept {
             return Err(kept);
@@ -282,6 +284,7 @@ impl World {
         ensures memory { IfErr result (λ e. e ≡ LineError.Memory) }
         ensures kept { OnOk result (self.new.kept ≡ self.old.kept) }
         ensures keeps { IfErr result (λ e. self.new.kept ≡ Some e) }
+        ensures ends { OnErr result (KeepsEnds self.old self.new) }
     {
         match self.carry_out(form) {
             Ok(()) => {
@@ -303,6 +306,7 @@ impl World {
         ensures taken { OnOk result (WorldBecomes self.old self.new (λ world. after_form world form.now)) }
         ensures kept { self.new.kept ≡ self.old.kept }
         ensures lines { self.new.lines ≡ self.old.lines }
+        ensures ends { OnErr result (KeepsEnds self.old self.new) }
     {
         let _ = &self.alloc;
         if is_event_or_end(form) {
@@ -445,6 +449,7 @@ impl World {
         ensures taken { OnOk result (WorldBecomes self.old self.new (λ world. after_form world form.now)) }
         ensures kept { self.new.kept ≡ self.old.kept }
         ensures lines { self.new.lines ≡ self.old.lines }
+        ensures ends { OnErr result (KeepsEnds self.old self.new) }
     {
         match self.begin() {
             Ok(()) => self.event(form),
@@ -462,6 +467,7 @@ impl World {
             section.Devices)) }
         ensures kept { self.new.kept ≡ self.old.kept }
         ensures lines { self.new.lines ≡ self.old.lines }
+        ensures ends { OnErr result (KeepsEnds self.old self.new) }
     {
         let device = match Device::reserve(self.alloc, config) {
             Ok(device) => device,
@@ -475,10 +481,7 @@ impl World {
                 self.section = Section::Devices;
                 Ok(())
             }
-            Err(error) => {
-                self.section = Section::Ended;
-                Err(error)
-            }
+            Err(error) => Err(error),
         }
     }
 
@@ -490,22 +493,23 @@ impl World {
         ensures rest { OnOk result (HasBegun self.old self.new) }
         ensures kept { self.new.kept ≡ self.old.kept }
         ensures lines { self.new.lines ≡ self.old.lines }
+        ensures ends { OnErr result (KeepsEnds self.old self.new) }
     {
         if self.server.is_some() {
             self.section = Section::Events;
             return Ok(());
         }
-        let plan = std::mem::replace(&mut self.plan, first_plan(self.alloc));
+        let plan = match copy_of(self.alloc, &self.plan) {
+            Ok(plan) => plan,
+            Err(error) => return Err(error),
+        };
         match Server::new(self.alloc, plan, &self.image) {
             Ok(server) => {
                 self.server = Some(server);
                 self.section = Section::Events;
                 Ok(())
             }
-            Err(ServerError::Memory) => {
-                self.section = Section::Ended;
-                Err(AllocError)
-            }
+            Err(ServerError::Memory) => Err(AllocError),
             Err(ServerError::BadPlan(_)) => unreachable!(),
         }
     }
@@ -524,6 +528,7 @@ impl World {
         ensures taken { OnOk result (WorldBecomes self.old self.new (λ world. after_form world form.now)) }
         ensures kept { self.new.kept ≡ self.old.kept }
         ensures lines { self.new.lines ≡ self.old.lines }
+        ensures ends { OnErr result (KeepsEnds self.old self.new) }
     {
         match form {
             Form::At { time } => {
@@ -559,7 +564,7 @@ impl World {
 // ---- events, over the server that was made
 
 impl World {
-    ghost use Rattle.campaign_world.specs.HeldWorld.{WorldBecomes};
+    ghost use Rattle.campaign_world.specs.HeldWorld.{WorldBecomes, KeepsEnds};
 
     /// The server sends the request of its stage to a device.
     fn ask(&mut self, device: u8) -> Result<(), AllocError>
@@ -570,13 +575,19 @@ impl World {
             (λ world. at_events (with_sent world (Some device) (request_of world.server device)))) }
         ensures kept { self.new.kept ≡ self.old.kept }
         ensures lines { self.new.lines ≡ self.old.lines }
+        ensures ends { OnErr result (KeepsEnds self.old self.new) }
     {
+        match make_line(&mut self.sent) {
+            Ok(()) => {}
+            Err(error) => return Err(error),
+        }
         self.section = Section::Events;
         let Some(server) = &self.server else {
             unreachable!()
         };
         let down = server.ask(device);
-        send(&mut self.sent, Some(device), down)
+        send(&mut self.sent, Some(device), down);
+        Ok(())
     }
 
     /// The server sends the next fragment, to any device.
@@ -586,13 +597,19 @@ impl World {
             (λ world. at_events (with_sent (record world { server = after_fragment world.server }) None (result_ok (next_fragment world.server))))) }
         ensures kept { self.new.kept ≡ self.old.kept }
         ensures lines { self.new.lines ≡ self.old.lines }
+        ensures ends { OnErr result (KeepsEnds self.old self.new) }
     {
+        match make_line(&mut self.sent) {
+            Ok(()) => {}
+            Err(error) => return Err(error),
+        }
         self.section = Section::Events;
         let Some(server) = &mut self.server else {
             unreachable!()
         };
         let down = fragment(server);
-        send(&mut self.sent, None, down)
+        send(&mut self.sent, None, down);
+        Ok(())
     }
 
     /// The server asks all devices for their status.
@@ -602,13 +619,19 @@ impl World {
             (λ world. at_events (with_sent (record world { server = after_status_to_all world.server }) None (status_to_all world.server)))) }
         ensures kept { self.new.kept ≡ self.old.kept }
         ensures lines { self.new.lines ≡ self.old.lines }
+        ensures ends { OnErr result (KeepsEnds self.old self.new) }
     {
+        match make_line(&mut self.sent) {
+            Ok(()) => {}
+            Err(error) => return Err(error),
+        }
         self.section = Section::Events;
         let Some(server) = &mut self.server else {
             unreachable!()
         };
         let down = server.status_all();
-        send(&mut self.sent, None, down)
+        send(&mut self.sent, None, down);
+        Ok(())
     }
 
     /// A device wakes, and its uplinks are then numbered, oldest first.
@@ -620,6 +643,7 @@ impl World {
             (λ world. at_events (after_wake world device (numbered world.devices device)))) }
         ensures kept { self.new.kept ≡ self.old.kept }
         ensures lines { self.new.lines ≡ self.old.lines }
+        ensures ends { OnErr result (KeepsEnds self.old self.new) }
     {
         self.section = Section::Events;
         wake(&mut self.devices, &mut self.uplinks, device, self.time)
@@ -636,6 +660,7 @@ impl World {
             (λ world. at_events (after_down world device word (numbered world.devices device) (numbered world.sent number)))) }
         ensures kept { self.new.kept ≡ self.old.kept }
         ensures lines { self.new.lines ≡ self.old.lines }
+        ensures ends { OnErr result (KeepsEnds self.old self.new) }
     {
         self.section = Section::Events;
         let mark = mark_behind(self.lines);
@@ -667,6 +692,7 @@ impl World {
             (λ world. at_events (after_raw world device word down.now (numbered world.devices device)))) }
         ensures kept { self.new.kept ≡ self.old.kept }
         ensures lines { self.new.lines ≡ self.old.lines }
+        ensures ends { OnErr result (KeepsEnds self.old self.new) }
     {
         self.section = Section::Events;
         let mark = mark_behind(self.lines);
@@ -686,7 +712,12 @@ impl World {
             (λ world. at_events (after_up world (numbered world.uplinks number)))) }
         ensures kept { self.new.kept ≡ self.old.kept }
         ensures lines { self.new.lines ≡ self.old.lines }
+        ensures ends { OnErr result (KeepsEnds self.old self.new) }
     {
+        match make_line(&mut self.sent) {
+            Ok(()) => {}
+            Err(error) => return Err(error),
+        }
         self.section = Section::Events;
         let Some(server) = &mut self.server else {
             unreachable!()
@@ -695,7 +726,8 @@ impl World {
             unreachable!()
         };
         let answer = answer_of(server, made, self.time);
-        send(&mut self.sent, Some(made.device), answer)
+        send(&mut self.sent, Some(made.device), answer);
+        Ok(())
     }
 }
 
@@ -712,7 +744,23 @@ fn first_plan(alloc: Global) -> Plan
     }
 }
 
-/// A device joins the plan and the campaign.
+/// A plan equal to this one.
+fn copy_of(alloc: Global, plan: &Plan) -> Result<Plan, AllocError>
+    ensures { IfOk result (λ copy. copy ≡ plan.now) }
+{
+    match Vec::from_slice(alloc, &plan.devices) {
+        Ok(devices) => Ok(Plan {
+            frag_size: plan.frag_size,
+            parity: plan.parity,
+            group: plan.group,
+            window: plan.window,
+            devices,
+        }),
+        Err(error) => Err(error),
+    }
+}
+
+/// A device joins the plan and the campaign; neither, where there is no room for both.
 fn join(
     plan: &mut Plan,
     devices: &mut Vec<Device>,
@@ -721,32 +769,39 @@ fn join(
 ) -> Result<(), AllocError>
     ensures plan { OnOk result (plan.new ≡ record plan.old { devices = plan.old.devices ++ key ∷ [] }) }
     ensures devices { OnOk result (devices.new.items ≡ devices.old.items ++ device ∷ []) }
-    ensures same { IfErr result (λ _. devices.new.items ≡ devices.old.items) }
+    ensures unplanned { OnErr result (plan.new ≡ plan.old) }
+    ensures same { OnErr result (devices.new.items ≡ devices.old.items) }
 {
+    match devices.reserve(1) {
+        Ok(()) => {}
+        Err(error) => return Err(error),
+    }
     match plan.devices.push(key) {
-        Ok(()) => match devices.push(device) {
-            Ok(()) => Ok(()),
-            Err(_) => Err(AllocError),
-        },
+        Ok(()) => {
+            devices.push_reserved(device);
+            Ok(())
+        }
         Err(_) => Err(AllocError),
     }
 }
 
-/// Numbers a payload of the server's.
-fn send(
-    sent: &mut Vec<SentPayload>,
-    receiver: Option<u8>,
-    down: Option<Downlink>,
-) -> Result<(), AllocError>
-    ensures { OnOk result (sent.new.items ≡ sent.old.items ++ sent_by receiver down) }
+/// Room for one payload more of the server's.
+fn make_line(sent: &mut Vec<SentPayload>) -> Result<(), AllocError>
+    ensures same { sent.new.items ≡ sent.old.items }
+    ensures room { OnOk result (vec_len sent.new + 1 ≤ vec_capacity sent.new) }
+{
+    sent.reserve(1)
+}
+
+/// Numbers a payload of the server's, for which there is room.
+fn send(sent: &mut Vec<SentPayload>, receiver: Option<u8>, down: Option<Downlink>)
+    requires { vec_len sent.old + 1 ≤ vec_capacity sent.old }
+    ensures { sent.new.items ≡ sent.old.items ++ sent_by receiver down }
 {
     let Some(down) = down else {
-        return Ok(());
+        return;
     };
-    match sent.push(SentPayload { receiver, down }) {
-        Ok(()) => Ok(()),
-        Err(_) => Err(AllocError),
-    }
+    sent.push_reserved(SentPayload { receiver, down });
 }
 
 /// The next fragment, if there is one.

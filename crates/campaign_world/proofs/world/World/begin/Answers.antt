@@ -7,4 +7,4 @@ unreachable-requires c =
     let bad = (c.in-Err-BadPlan.ensures.bad_plan c.in-Err-BadPlan.field-0-0).0 (ap Err c.in-Err-BadPlan.field-0-is) in
     begins_well c.args.self.now c.in-Err-BadPlan.field-0-0 c.requires
     (rw (← c.self.view_is) (sym c.is_some.ensures ∙ c.if-is_some.false))
-    (rw (← c.self.view_is, ← c.deref.ensures.value, ← c.replace-plan.ensures.value) bad)
+    (rw (← c.self.view_is, ← c.deref.ensures.value, ← c.in-Ok.ensures) bad)

@@ -2,8 +2,8 @@ use Rattle.std.proofs.Common.{refl}
 use Rattle.campaign_world.proofs.Steps.{built_after_status, built_of}
 use Rattle.campaign_world.proofs.world.World.status.Goals as goal
 
-pub invariant_of-self : goal.invariant_of-self
-invariant_of-self c = record {
+pub invariant_of-self-2 : goal.invariant_of-self-2
+invariant_of-self-2 c = record {
   image_is = c.self.invariant.image_is;
   counted = c.self.invariant.counted;
   timed = c.self.invariant.timed;
