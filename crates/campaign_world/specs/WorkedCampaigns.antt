@@ -2,6 +2,7 @@
 use Rattle.std.specs.Prelude.{◌≡◌, ℕ, true, false, List, [], ◌∷◌, ◌++◌, replicate, codes, Some, Result, Ok, Err}
 use Rattle.frag_session.specs.declared.answers.Verdict.TheVariants as verdict
 use Rattle.image_slots.specs.declared.view.ImageState.TheVariants as next
+use Rattle.image_slots.specs.WorkedImages.{worked_image}
 use Rattle.campaign_server.specs.declared.stage.Stage.TheVariants.{At, Updated, Refused}
 use Rattle.campaign_server.specs.declared.stage.Request.TheVariants as request
 use Rattle.campaign_world.specs.declared.faults.LineFault.{LineFault}
@@ -11,14 +12,6 @@ use Rattle.campaign_world.specs.World.{WorldState}
 use Rattle.campaign_world.specs.Causes.{is_due_by}
 use Rattle.campaign_world.specs.Script.{campaign_of}
 use Rattle.campaign_world.specs.Report.{stage_text, next_text, device_text, counts_line, same_word, verdict_text, session_text, report_of}
-
--- an image file for hardware 1 with firmware 2, of 52 bytes
-abbrev pub worked_image : List ℕ
-worked_image =
-    0x46 ∷ 0x55 ∷ 0x49 ∷ 0x4d ∷ 0x01 ∷ 0x01 ∷ 0x00 ∷ 0x00 ∷ 0x00 ∷ 0x02 ∷ 0x00 ∷ 0x00 ∷ 0x00 ∷ 0x03 ∷ 0x00 ∷ 0x00 ∷ 0x00
-    ∷ 0xba ∷ 0x78 ∷ 0x16 ∷ 0xbf ∷ 0x8f ∷ 0x01 ∷ 0xcf ∷ 0xea ∷ 0x41 ∷ 0x41 ∷ 0x40 ∷ 0xde ∷ 0x5d ∷ 0xae ∷ 0x22
-    ∷ 0x23 ∷ 0xb0 ∷ 0x03 ∷ 0x61 ∷ 0xa3 ∷ 0x96 ∷ 0x17 ∷ 0x7a ∷ 0x9c ∷ 0xb4 ∷ 0x10 ∷ 0xff ∷ 0x61 ∷ 0xf2 ∷ 0x00 ∷ 0x15
-    ∷ 0xad ∷ 0x61 ∷ 0x62 ∷ 0x63 ∷ []
 
 abbrev pub report_or_fault : Result WorldState LineFault → Result (List ℕ) LineFault
 report_or_fault (Ok world) = Ok (report_of world)

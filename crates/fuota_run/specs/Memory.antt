@@ -1,5 +1,5 @@
 -- Files in memory: what a list of named files holds, and which calls of a schedule fail.
-use Rattle.std.specs.Prelude.{◌≡◌, ◌<◌, ℕ, ◌+◌, ◌-◌, ◌^◌, min, List, [], ◌∷◌, Option, None, Some, if◌then◌else◌, map, get_or, Result, Ok, Err}
+use Rattle.std.specs.Prelude.{◌≡◌, ◌<◌, ℕ, ◌+◌, ◌-◌, ◌^◌, min, Bool, List, [], ◌∷◌, Option, None, Some, if◌then◌else◌, map, get_or, Result, Ok, Err}
 use Rattle.std.specs.Str.{bytes_eq}
 
 -- a name, and the bytes that it holds
@@ -15,6 +15,26 @@ held_by (f ∷ fs) name = if bytes_eq f.0 name then Some f.1 else held_by fs nam
 abbrev pub bytes_at : List Named → Option ℕ → List ℕ
 bytes_at files None = []
 bytes_at files (Some i) = get_or (map (λ f. f.1) files) i []
+
+-- what is seen of files in memory: the files; whether one is chosen, and what is left of it (nothing where none is);
+-- the numbers of the calls that fail; and how many calls there were, and how many of them failed
+pub record SeenFiles : Type 0 where
+  pub files : List Named
+  pub chosen : Bool
+  pub left : List ℕ
+  pub fails : List ℕ
+  pub calls : ℕ
+  pub faults : ℕ
+
+-- what is seen of a sink in memory: all bytes that were written; how many it has room for in all; whether the last call was
+-- a `finish` that was Ok; and its calls, as those of files
+pub record SeenSink : Type 0 where
+  pub bytes : List ℕ
+  pub room : ℕ
+  pub finished : Bool
+  pub fails : List ℕ
+  pub calls : ℕ
+  pub faults : ℕ
 
 -- the number of the call that comes after so many
 abbrev pub next_call : ℕ → ℕ

@@ -9,6 +9,7 @@ use crate::files::{Failed, Files};
 use crate::sink::Sink;
 use std::alloc::{AllocError, Global};
 use std::io::Read;
+use std::marker::Model;
 
 /// Calls counted from 1, and the numbers of those that fail.
 #[derive(Debug, Drop)]
@@ -69,6 +70,22 @@ pub struct MemFiles {
     schedule: Schedule,
 }
 
+impl Model for MemFiles {
+    ghost use Rattle.std.specs.Prelude.{drop, is_some, map, string_bytes};
+    ghost use Rattle.fuota_run.specs.Memory.{SeenFiles, bytes_at};
+
+    ghost Value = { SeenFiles };
+
+    ghost view = { λ m. record {
+      files = map (λ f. (string_bytes f.0, f.1.items)) m.files.items;
+      chosen = is_some m.place;
+      left = drop m.from (bytes_at (map (λ f. (string_bytes f.0, f.1.items)) m.files.items) m.place);
+      fails = m.schedule.fails.items;
+      calls = m.schedule.calls;
+      faults = m.schedule.faults;
+    } };
+}
+
 /// The place of the first file of that name.
 fn place_of(files: &[(String, Vec<u8>)], name: &str) -> Option<usize>
     ensures found { IfSome result (λ i. held_by (map (λ f. (string_bytes f.0, f.1.items)) files.now) name.now
@@ -112,10 +129,10 @@ impl MemFiles {
     /// Files by name, and the numbers of the calls that fail, counted from 1. Where two names are equal,
     /// the first of them is the file of that name.
     pub fn new(files: Vec<(String, Vec<u8>)>, fails: Vec<u64>) -> Self
-        ensures files { result.files.items ≡ files.items }
-        ensures unchosen { result.place ≡ None }
-        ensures fails { result.schedule.fails.items ≡ fails.items }
-        ensures start { (result.schedule.calls ≡ 0) × (result.schedule.faults ≡ 0) }
+        ensures files { result.files ≡ map (λ f. (string_bytes f.0, f.1.items)) files.items }
+        ensures unchosen { (result.chosen ≡ false) × (result.left ≡ []) }
+        ensures fails { result.fails ≡ fails.items }
+        ensures start { (result.calls ≡ 0) × (result.faults ≡ 0) }
     {
         MemFiles {
             files,
@@ -127,31 +144,31 @@ impl MemFiles {
 
     /// Whether there is a file of that name.
     pub fn holds(&self, name: &str) -> bool
-        ensures { result ≡ is_some (held_by (map (λ f. (string_bytes f.0, f.1.items)) self.now.files.items) name.now) }
+        ensures { result ≡ is_some (held_by self.now.files name.now) }
     {
         place_of(&self.files, name).is_some()
     }
 }
 
 impl Files for MemFiles {
-    ghost held = { λ m. Some (held_by (map (λ f. (string_bytes f.0, f.1.items)) m.files.items)) };
+    ghost held = { λ m. Some (held_by m.files) };
 
-    ghost left = { λ m. Some (drop m.from (bytes_at (map (λ f. (string_bytes f.0, f.1.items)) m.files.items) m.place)) };
+    ghost left = { λ m. Some m.left };
 
-    ghost chosen = { λ m. is_some m.place };
+    ghost chosen = { λ m. m.chosen };
 
-    ghost faults = { λ m. m.schedule.faults };
+    ghost faults = { λ m. m.faults };
 
     fn choose(&mut self, name: &str) -> Result<(), Failed>
-        requires { HoldsName (Some (held_by (map (λ f. (string_bytes f.0, f.1.items)) self.old.files.items))) name.now }
-        ensures whole { OnOk result (IsWhole (Some (held_by (map (λ f. (string_bytes f.0, f.1.items)) self.old.files.items))) name.now (Some (drop self.new.from (bytes_at (map (λ f. (string_bytes f.0, f.1.items)) self.new.files.items) self.new.place)))) }
-        ensures chosen { is_some self.new.place ≡ is_ok result }
-        ensures held { self.new.files.items ≡ self.old.files.items }
-        ensures cause { HasCause self.old.schedule.faults self.new.schedule.faults result }
-        ensures faults { self.new.schedule.faults ≡ faults_after result self.old.schedule.faults }
-        ensures listed { IsErr result ↔ Contains self.old.schedule.fails.items (next_call self.old.schedule.calls) }
-        ensures counted { self.new.schedule.calls ≡ next_call self.old.schedule.calls }
-        ensures schedule { self.new.schedule.fails.items ≡ self.old.schedule.fails.items }
+        requires { HoldsName (Some (held_by self.old.files)) name.now }
+        ensures whole { OnOk result (IsWhole (Some (held_by self.old.files)) name.now (Some self.new.left)) }
+        ensures chosen { self.new.chosen ≡ is_ok result }
+        ensures held { self.new.files ≡ self.old.files }
+        ensures cause { HasCause self.old.faults self.new.faults result }
+        ensures faults { self.new.faults ≡ faults_after result self.old.faults }
+        ensures listed { IsErr result ↔ Contains self.old.fails (next_call self.old.calls) }
+        ensures counted { self.new.calls ≡ next_call self.old.calls }
+        ensures schedule { self.new.fails ≡ self.old.fails }
     {
         self.place = None;
         if self.schedule.fails_now() {
@@ -163,18 +180,18 @@ impl Files for MemFiles {
     }
 
     fn read(&mut self, buf: &mut [u8]) -> Result<usize, Failed>
-        requires { is_some self.old.place ≡ true }
+        requires { self.old.chosen ≡ true }
         ensures within { AtMost result (length buf.new) }
         // As many as there are and the buffer takes.
-        ensures most { IfOk result (λ n. n ≡ min (length (bytes_at (map (λ f. (string_bytes f.0, f.1.items)) self.old.files.items) self.old.place) - self.old.from) (length buf.new)) }
-        ensures bytes { ReadConsumes (Some (drop self.old.from (bytes_at (map (λ f. (string_bytes f.0, f.1.items)) self.old.files.items) self.old.place))) (Some (drop self.new.from (bytes_at (map (λ f. (string_bytes f.0, f.1.items)) self.new.files.items) self.new.place))) result buf.new }
-        ensures chosen { is_some self.new.place ≡ true }
-        ensures held { self.new.files.items ≡ self.old.files.items }
-        ensures cause { HasCause self.old.schedule.faults self.new.schedule.faults result }
-        ensures faults { self.new.schedule.faults ≡ faults_after result self.old.schedule.faults }
-        ensures listed { IsErr result ↔ Contains self.old.schedule.fails.items (next_call self.old.schedule.calls) }
-        ensures counted { self.new.schedule.calls ≡ next_call self.old.schedule.calls }
-        ensures schedule { self.new.schedule.fails.items ≡ self.old.schedule.fails.items }
+        ensures most { IfOk result (λ n. n ≡ min (length self.old.left) (length buf.new)) }
+        ensures bytes { ReadConsumes (Some self.old.left) (Some self.new.left) result buf.new }
+        ensures chosen { self.new.chosen ≡ true }
+        ensures held { self.new.files ≡ self.old.files }
+        ensures cause { HasCause self.old.faults self.new.faults result }
+        ensures faults { self.new.faults ≡ faults_after result self.old.faults }
+        ensures listed { IsErr result ↔ Contains self.old.fails (next_call self.old.calls) }
+        ensures counted { self.new.calls ≡ next_call self.old.calls }
+        ensures schedule { self.new.fails ≡ self.old.fails }
     {
         if self.schedule.fails_now() {
             return Err(Failed);
@@ -193,17 +210,34 @@ pub struct MemSink {
     room: usize,
     finished: bool,
     schedule: Schedule,
-    ghost reserved: { room ≤ vec_capacity bytes },
-    ghost within: { vec_len bytes ≤ room },
+}
+
+impl Model for MemSink {
+    ghost use Rattle.std.specs.Prelude.{◌≤◌, vec_len, vec_capacity};
+    ghost use Rattle.fuota_run.specs.Memory.{SeenSink};
+
+    ghost Value = { SeenSink };
+
+    ghost view = { λ m. record {
+      bytes = m.bytes.items;
+      room = m.room;
+      finished = m.finished;
+      fails = m.schedule.fails.items;
+      calls = m.schedule.calls;
+      faults = m.schedule.faults;
+    } };
+
+    ghost invariant = { λ m. (m.room ≤ vec_capacity m.bytes) × (vec_len m.bytes ≤ m.room) };
 }
 
 impl MemSink {
     /// A sink with room for so many bytes, and the numbers of the calls that fail, counted from 1.
     pub fn reserve(alloc: Global, room: u32, fails: Vec<u64>) -> Result<Self, AllocError>
-        ensures empty { IfOk result (λ s. s.bytes.items ≡ []) }
+        ensures empty { IfOk result (λ s. s.bytes ≡ []) }
+        ensures unfinished { IfOk result (λ s. s.finished ≡ false) }
         ensures room { IfOk result (λ s. s.room ≡ room) }
-        ensures fails { IfOk result (λ s. s.schedule.fails.items ≡ fails.items) }
-        ensures start { IfOk result (λ s. (s.schedule.calls ≡ 0) × (s.schedule.faults ≡ 0)) }
+        ensures fails { IfOk result (λ s. s.fails ≡ fails.items) }
+        ensures start { IfOk result (λ s. (s.calls ≡ 0) × (s.faults ≡ 0)) }
     {
         let bytes = Vec::with_capacity(alloc, room as usize)?;
         Ok(MemSink {
@@ -216,29 +250,30 @@ impl MemSink {
 
     /// All bytes that were written.
     pub fn bytes(&self) -> &[u8]
-        ensures { result.now ≡ self.now.bytes.items }
+        ensures all { result.now ≡ self.now.bytes }
+        ensures within { length result.now ≤ self.now.room }
     {
         self.bytes.as_slice()
     }
 }
 
 impl Sink for MemSink {
-    ghost written = { λ m. Some m.bytes.items };
+    ghost written = { λ m. Some m.bytes };
 
     ghost finished = { λ m. m.finished };
 
-    ghost faults = { λ m. m.schedule.faults };
+    ghost faults = { λ m. m.faults };
 
     fn write(&mut self, piece: &[u8]) -> Result<usize, Failed>
         ensures takes { TakesSome result (length piece.now) }
-        ensures bytes { WriteAppends (Some self.old.bytes.items) (Some self.new.bytes.items) result piece.now }
+        ensures bytes { WriteAppends (Some self.old.bytes) (Some self.new.bytes) result piece.now }
         ensures unfinished { self.new.finished ≡ false }
-        ensures cause { HasCause self.old.schedule.faults self.new.schedule.faults result }
-        ensures faults { self.new.schedule.faults ≡ faults_after result self.old.schedule.faults }
-        ensures listed { IsErr result ↔ Contains self.old.schedule.fails.items (next_call self.old.schedule.calls) ⊎ IsFull self.old.room (vec_len self.old.bytes) (length piece.now) }
-        ensures taken { IfOk result (λ n. n ≡ min (self.old.room - vec_len self.old.bytes) (length piece.now)) }
-        ensures counted { self.new.schedule.calls ≡ next_call self.old.schedule.calls }
-        ensures schedule { (self.new.schedule.fails.items ≡ self.old.schedule.fails.items) × (self.new.room ≡ self.old.room) }
+        ensures cause { HasCause self.old.faults self.new.faults result }
+        ensures faults { self.new.faults ≡ faults_after result self.old.faults }
+        ensures listed { IsErr result ↔ Contains self.old.fails (next_call self.old.calls) ⊎ IsFull self.old.room (length self.old.bytes) (length piece.now) }
+        ensures taken { IfOk result (λ n. n ≡ min (self.old.room - length self.old.bytes) (length piece.now)) }
+        ensures counted { self.new.calls ≡ next_call self.old.calls }
+        ensures schedule { (self.new.fails ≡ self.old.fails) × (self.new.room ≡ self.old.room) }
     {
         self.finished = false;
         if self.schedule.fails_now() {
@@ -257,13 +292,13 @@ impl Sink for MemSink {
     }
 
     fn finish(&mut self) -> Result<(), Failed>
-        ensures bytes { Keeps (Some self.old.bytes.items) (Some self.new.bytes.items) }
+        ensures bytes { Keeps (Some self.old.bytes) (Some self.new.bytes) }
         ensures finished { self.new.finished ≡ is_ok result }
-        ensures cause { HasCause self.old.schedule.faults self.new.schedule.faults result }
-        ensures faults { self.new.schedule.faults ≡ faults_after result self.old.schedule.faults }
-        ensures listed { IsErr result ↔ Contains self.old.schedule.fails.items (next_call self.old.schedule.calls) }
-        ensures counted { self.new.schedule.calls ≡ next_call self.old.schedule.calls }
-        ensures schedule { (self.new.schedule.fails.items ≡ self.old.schedule.fails.items) × (self.new.room ≡ self.old.room) }
+        ensures cause { HasCause self.old.faults self.new.faults result }
+        ensures faults { self.new.faults ≡ faults_after result self.old.faults }
+        ensures listed { IsErr result ↔ Contains self.old.fails (next_call self.old.calls) }
+        ensures counted { self.new.calls ≡ next_call self.old.calls }
+        ensures schedule { (self.new.fails ≡ self.old.fails) × (self.new.room ≡ self.old.room) }
     {
         self.finished = false;
         if self.schedule.fails_now() {

@@ -1,11 +1,12 @@
 // The files and the standard output of the system. What they hold is not told; each failed call is counted.
-ghost use Rattle.std.specs.Prelude.{◌≡◌, ◌-◌, ◌^◌, ◌≤◌, Bool, false, None, is_some};
+ghost use Rattle.std.specs.Prelude.{◌≡◌, ◌-◌, ◌^◌, ◌≤◌, Bool, false, None};
 ghost use Rattle.fuota_run.specs.Outside.{HasRisen};
 
 use crate::files::{Failed, Files};
 use crate::sink::Sink;
 use std::fs;
 use std::io::Read;
+use std::marker::Model;
 
 /// How many calls failed; stops at the type's end.
 #[derive(Debug, Drop)]
@@ -31,11 +32,20 @@ pub struct StdFiles<'a, R: std::rt::Files> {
     count: FaultCount,
 }
 
+impl<'a, R: std::rt::Files> Model for StdFiles<'a, R> {
+    ghost use Rattle.std.specs.Prelude.{is_some};
+    ghost use Rattle.fuota_run.specs.System.{SystemFiles};
+
+    ghost Value = { SystemFiles };
+
+    ghost view = { λ f. record { chosen = is_some f.chosen; faults = f.count.faults } };
+}
+
 impl<'a, R: std::rt::Files> StdFiles<'a, R> {
     /// The files that the runtime reaches, none of them chosen.
     pub fn new(rt: &'a R) -> Self
-        ensures unchosen { result.chosen ≡ None }
-        ensures start { result.count.faults ≡ 0 }
+        ensures unchosen { result.chosen ≡ false }
+        ensures start { result.faults ≡ 0 }
     {
         StdFiles {
             rt,
@@ -50,9 +60,9 @@ impl<R: std::rt::Files> Files for StdFiles<'_, R> {
 
     ghost left = { λ f. None };
 
-    ghost chosen = { λ f. is_some f.chosen };
+    ghost chosen = { λ f. f.chosen };
 
-    ghost faults = { λ f. f.count.faults };
+    ghost faults = { λ f. f.faults };
 
     fn choose(&mut self, name: &str) -> Result<(), Failed> {
         match fs::open(self.rt, name) {
@@ -86,11 +96,19 @@ pub struct StdSink<'a, P: Print> {
     count: FaultCount,
 }
 
+impl<'a, P: Print> Model for StdSink<'a, P> {
+    ghost use Rattle.fuota_run.specs.System.{SystemSink};
+
+    ghost Value = { SystemSink };
+
+    ghost view = { λ s. record { finished = s.finished; faults = s.count.faults } };
+}
+
 impl<'a, P: Print> StdSink<'a, P> {
     /// The standard output that the runtime reaches.
     pub fn new(to: &'a P) -> Self
         ensures unfinished { result.finished ≡ false }
-        ensures start { result.count.faults ≡ 0 }
+        ensures start { result.faults ≡ 0 }
     {
         StdSink {
             to,
@@ -105,7 +123,7 @@ impl<P: Print> Sink for StdSink<'_, P> {
 
     ghost finished = { λ s. s.finished };
 
-    ghost faults = { λ s. s.count.faults };
+    ghost faults = { λ s. s.faults };
 
     // A write that took nothing of a piece counts as a fault.
     fn write(&mut self, piece: &[u8]) -> Result<usize, Failed> {

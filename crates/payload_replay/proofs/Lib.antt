@@ -3,4 +3,6 @@ pub mod Behind
 pub mod Payloads
 pub mod ReplayLines
 pub mod ReplaySessions
+pub mod ReplayExact
+pub mod ReplayAll
 pub mod ReplayLaw

@@ -1,23 +1,30 @@
 -- What `replay` says of each session, whoever made the payloads.
-use Rattle.std.proofs.Common.{◌≡◌, ℕ, min, List, [], ◌∷◌, ◌++◌, length, Option, Some, IfSome, ap, ◌∙◌, subst, append-nil, codes, arith}
+use Rattle.std.proofs.Common.{◌≡◌, ℕ, ◌<◌, min, List, [], ◌∷◌, ◌++◌, length, Option, None, Some, IfSome, Result, Ok, sym, ap, ◌∙◌, subst, append-nil, codes, arith}
 use Rattle.std.specs.Fmt.{decimal}
 use Rattle.frag_model.specs.Fragments.{Fragment}
 use Rattle.frag_session.specs.declared.answers.Verdict.{Verdict}
 use Rattle.frag_session.specs.declared.answers.Verdict.TheVariants as verdict
-use Rattle.frag_session.specs.Session.{Session, Seen, shape_of, seen_of}
+use Rattle.frag_model.specs.Members.{In}
+use Rattle.frag_session.specs.declared.answers.Via.TheVariants.{Unicast}
+use Rattle.frag_session.specs.Session.{Session, Seen, cause_of, shape_of, seen_of}
 use Rattle.frag_session.specs.Stands.{IsSetUp}
 use Rattle.script_lines.specs.Lines.{lines_of}
+use Rattle.device_core.specs.declared.config.DeviceConfig.{DeviceConfig}
 use Rattle.device_core.specs.SessionTable.{session_at}
 use Rattle.device_core.specs.Device.{DeviceState}
+use Rattle.campaign_world.specs.declared.faults.LineWhy.{LineWhy}
 use Rattle.campaign_world.specs.Report.{verdict_text, session_text}
-use Rattle.payload_replay.specs.Replay.{file_line, told_session}
+use Rattle.payload_replay.specs.Replay.{header_rows, replay_device, ReachesBehind, Reaches, file_line, told_session}
+use Rattle.payload_replay.specs.Carried.{CarriedCommand, carried_after, session_behind}
 use Rattle.frag_session.specs.FirstMoment.{MakesFile, IsDecidedAtFirst}
 use Rattle.campaign_world.specs.Verdicts.{CameInTurn, saying}
-use Rattle.payload_replay.specs.ReplayHeadline.{IsReplayed, Carries, IsToldOf, ReplayHeadline}
+use Rattle.payload_replay.specs.ReplayHeadline.{IsReplayed, Carries, IsFileOf, IsSince, IsToldOf, ReplayHeadline}
 use Rattle.frag_session.proofs.FirstMoments.{decided_at_first}
 use Rattle.campaign_world.proofs.LineItems.{within}
 use Rattle.campaign_world.proofs.HeardSessions.{IsFine, of_one}
 use Rattle.payload_replay.proofs.ReplaySessions.{reaches_fine}
+use Rattle.payload_replay.proofs.ReplayExact.{replay_holds}
+use Rattle.payload_replay.proofs.ReplayAll.{all_heard}
 
 session_fine : (file : List ℕ) (device : DeviceState) (index : ℕ) (s : Session) → IsReplayed file device index s
     → (last : ℕ) × IsFine (Carries (lines_of file)) last index s
@@ -45,6 +52,35 @@ decided : (file : List ℕ) (device : DeviceState) (index : ℕ) (s : Session) �
     → IsDecidedAtFirst s
 decided file device index s r = decided_at_first s (makes_file s (session_fine file device index s r).1.set)
 
+-- ---- what is at an index, and what it heard
+
+exact : (file header : List ℕ) (rows : ℕ) (payloads : List (List ℕ)) (device : DeviceState) (index : ℕ)
+    → Reaches (lines_of file) (Ok device) → IsFileOf file header rows payloads → index < 4
+    → session_at device.sessions index ≡ session_behind (replay_device rows).config index None (carried_after 1 payloads)
+unfolding Reaches
+exact file header rows payloads device index reaches its small =
+    let reached : ReachesBehind (header_rows header) payloads (Ok device) =
+    subst (λ (lines : List (List ℕ)). Reaches lines (Ok device)) its.lines_are reaches in
+    let taken : ReachesBehind (Ok rows) payloads (Ok device) =
+    subst (λ (r : Result ℕ LineWhy). ReachesBehind r payloads (Ok device)) its.rows_are reached in
+    let here : min index 3 ≡ index = omega (arith, small) in
+    subst (λ i. session_at device.sessions index
+    ≡ session_behind (replay_device rows).config i None (carried_after 1 payloads)) here
+    (of_one (λ i s. s ≡ session_behind (replay_device rows).config i None (carried_after 1 payloads)) device.sessions index
+    (replay_holds rows device payloads taken))
+
+all : (file header : List ℕ) (rows : ℕ) (payloads : List (List ℕ)) (device : DeviceState) (index : ℕ) (s : Session)
+    (f : Fragment) (before behind : List CarriedCommand) → IsReplayed file device index s → IsFileOf file header rows payloads
+    → IsSince payloads index f before behind → cause_of s.setup Unicast f.number f.part ≡ None → In f s.heard
+all file header rows payloads device index s f before behind r its since none =
+    let config : DeviceConfig = (replay_device rows).config in
+    let there : session_behind config index None (carried_after 1 payloads) ≡ Some s =
+    sym (exact file header rows payloads device index r.accepted its r.index_is) ∙ r.session_is in
+    all_heard config index s f before behind since.left none
+    (subst (λ (cs : List CarriedCommand). session_behind config index None cs ≡ Some s) since.there there)
+
+-- ---- what the text says
+
 -- the text by its verdict
 by_verdict : (index : ℕ) (seen : Seen) (v : Verdict) → seen.verdict ≡ v
     → told_session index (Some seen) ≡ session_text index seen.received seen.missing
@@ -71,6 +107,8 @@ pub replay_headline : ReplayHeadline
 replay_headline = record {
   heard = λ file device index s r. let fine =
       session_fine file device index s r in in_the_file (lines_of file) index fine.0 s.heard fine.1.came;
+  exact = exact;
+  all = all;
   decided = decided;
   told = λ file device index s r. told_of index s (decided file device index s r);
 }

@@ -4,4 +4,5 @@ pub mod Replay
 pub mod Behind
 pub mod HeldDecoding
 pub mod HeldReplaying
+pub mod Carried
 pub mod ReplayHeadline

@@ -1,12 +1,14 @@
 -- What `replay` says of each session: the verdicts of a campaign, whoever made the payloads, a conflict among them.
 -- (TS004-1.0.0 leaves recovery to the device; when it ends, and how, is this project's profile.)
-use Rattle.std.specs.Prelude.{◌≡◌, ℕ, ◌-◌, ◌<◌, ◌≤◌, List, [], ◌∷◌, ◌++◌, length, codes, Some, Ok}
+use Rattle.std.specs.Prelude.{◌≡◌, ℕ, ◌-◌, ◌<◌, ◌≤◌, true, List, [], ◌∷◌, ◌++◌, length, codes, None, Some, Ok}
+use Rattle.std.specs.List.{AllByRecursion}
 use Rattle.std.specs.Fmt.{decimal}
 use Rattle.hex.specs.Hex.{encode_lower}
 use Rattle.wire_base.specs.declared.refusal.Direction.TheVariants.{Down}
 use Rattle.frag_model.specs.Fragments.{Fragment}
 use Rattle.frag_model.specs.Members.{In}
-use Rattle.frag_session.specs.Session.{Session, shape_of, seen_of}
+use Rattle.frag_session.specs.declared.answers.Via.TheVariants.{Unicast}
+use Rattle.frag_session.specs.Session.{Session, cause_of, shape_of, seen_of}
 use Rattle.cast_wire.specs.declared.cmd.Cmd.TheVariants.{DataFragment}
 use Rattle.package_grammar.specs.declared.command.Command.{Command}
 use Rattle.package_grammar.specs.declared.command.Command.TheVariants.{Cast}
@@ -17,7 +19,8 @@ use Rattle.device_core.specs.SessionTable.{session_at}
 use Rattle.device_core.specs.Device.{DeviceState}
 use Rattle.campaign_world.specs.Verdicts.{CameInTurn, saying}
 use Rattle.payload_replay.specs.PayloadLines.{payload_of}
-use Rattle.payload_replay.specs.Replay.{Reaches, told_session}
+use Rattle.payload_replay.specs.Replay.{header_rows, replay_device, Reaches, told_session}
+use Rattle.payload_replay.specs.Carried.{CarriedCommand, carried, carried_after, session_behind, leaves}
 use Rattle.frag_session.specs.FirstMoment.{AfterEach, IsOpen, IsWhole, Overflows, NoFileFits, FirstAt, IsDecidedAtFirst}
 
 -- the device behind a file has this session
@@ -35,6 +38,17 @@ pub record IsCarried (lines : List (List ℕ)) (n : ℕ) (c : Command) (line pay
 
 abbrev pub Carries : List (List ℕ) → ℕ → Command → Type 0
 Carries lines n c = (line : List ℕ) × (payload : List ℕ) × (cs : List Command) × IsCarried lines n c line payload cs
+
+-- the lines of a file: its header, which gives so many rows, and the payloads
+pub record IsFileOf (file header : List ℕ) (rows : ℕ) (payloads : List (List ℕ)) : Type 0 where
+  pub lines_are : lines_of file ≡ header ∷ payloads
+  pub rows_are : header_rows header ≡ Ok rows
+
+-- the lines carry this fragment for the session of an index, after some commands and before others, of which none sets up or
+-- deletes a session of that index
+pub record IsSince (payloads : List (List ℕ)) (index : ℕ) (f : Fragment) (before behind : List CarriedCommand) : Type 0 where
+  pub there : carried_after 1 payloads ≡ before ++ carried f.mark (Cast (DataFragment index f.number f.part)) ∷ behind
+  pub left : AllByRecursion (λ c. leaves index c.command ≡ true) behind
 
 -- what the text says of the session
 pub record IsToldOf (index : ℕ) (s : Session) : Type 0 where
@@ -55,6 +69,14 @@ pub record ReplayHeadline : Type 0 where
   -- a session hears nothing but what the lines carry, each fragment at its line
   pub heard : (file : List ℕ) (device : DeviceState) (index : ℕ) (s : Session) → IsReplayed file device index s
       → CameInTurn (Carries (lines_of file)) index (length (lines_of file)) s.heard
+  -- and exactly what they carry: what is at an index is what their commands make of it, one after another
+  pub exact : (file header : List ℕ) (rows : ℕ) (payloads : List (List ℕ)) (device : DeviceState) (index : ℕ)
+      → Reaches (lines_of file) (Ok device) → IsFileOf file header rows payloads → index < 4
+      → session_at device.sessions index ≡ session_behind (replay_device rows).config index None (carried_after 1 payloads)
+  -- so a session hears each fragment that the lines carry for it since it was set up, but for those that it has cause to drop
+  pub all : (file header : List ℕ) (rows : ℕ) (payloads : List (List ℕ)) (device : DeviceState) (index : ℕ) (s : Session)
+      (f : Fragment) (before behind : List CarriedCommand) → IsReplayed file device index s → IsFileOf file header rows payloads
+      → IsSince payloads index f before behind → cause_of s.setup Unicast f.number f.part ≡ None → In f s.heard
   -- it is decided at the first fragment after which its file is no longer open
   pub decided : (file : List ℕ) (device : DeviceState) (index : ℕ) (s : Session) → IsReplayed file device index s → IsDecidedAtFirst s
   -- the text says so

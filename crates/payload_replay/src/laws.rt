@@ -4,7 +4,8 @@ ghost use Rattle.payload_replay.specs.Decode.{HasAnAnswer, HasOneAnswer};
 ghost use Rattle.payload_replay.specs.Replay.{ReplaysAlways, ReplaysOnce};
 ghost use Rattle.payload_replay.specs.ReplayHeadline.{ReplayHeadline};
 
-/// Whatever payloads are replayed: each session hears nothing but what the lines carry, it is complete from the first
+/// Whatever payloads are replayed: each session is what the commands that the lines carry make of it, so it hears nothing
+/// but what they carry, and each fragment since its setup that it has no cause to drop. It is complete from the first
 /// heard fragment on after which one file alone fits, without rows from the first that is one independent coded
 /// fragment too many, in conflict from the first after which no file fits, and the text says so.
 pub fn replay_is_decided_at_first()

@@ -1,5 +1,5 @@
 //! Whole runs over files and a sink in memory, and the first steps over those of the system.
-ghost use Rattle.std.specs.Prelude.{Some, IsTrue, is_some, map, string_bytes};
+ghost use Rattle.std.specs.Prelude.{Some, IsTrue, is_some};
 ghost use Rattle.fuota_run.specs.Memory.{held_by};
 ghost use Rattle.fuota_run.specs.Reply.{HoldsAsked};
 ghost use Rattle.fuota_run.specs.Words.{seen_asked};
@@ -81,7 +81,7 @@ fn run_held(
 
 /// Whether there are files of all names that are asked for.
 fn all_held(files: &MemFiles, what: Option<Asked>) -> bool
-    ensures { IsTrue result → HoldsAsked (Some (held_by (map (λ f. (string_bytes f.0, f.1.items)) files.now.files.items))) (seen_asked what.entry) }
+    ensures { IsTrue result → HoldsAsked (Some (held_by files.now.files)) (seen_asked what.entry) }
 {
     match what {
         None => true,
