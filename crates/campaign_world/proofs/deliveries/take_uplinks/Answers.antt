@@ -1,4 +1,4 @@
-use Rattle.std.proofs.Common.{arith, ap}
+use Rattle.std.proofs.Common.{arith, ap, length}
 use Rattle.campaign_world.specs.WorldInside.{IsMadeBy}
 use Rattle.campaign_world.proofs.Zips.{all_more}
 use Rattle.campaign_world.proofs.Outboxes.{one_taken, one_moved, rests_now}
