@@ -474,6 +474,51 @@ fn each_call_outside_may_fail(rt: HostRuntime) -> Result<(), Fail> {
     Ok(())
 }
 
+/// The update of a device to its end: the file is whole at line 22, and runs behind the reboot.
+const UPDATE: &str =
+    "ask 1\ndown 1 1\nup 1\nask 1\ndown 2 1\nup 2\nfrag\nfrag\nfrag\nfrag\nfrag\nfrag\nfrag\nfrag\ndown 3 1\ndown 5 1\ndown 9 1\ndown 10 1\nask 1\ndown 11 1\nup 3\nask 1\ndown 12 1\nup 4\nask 1\ndown 13 1\nup 5\nask 1\ndown 14 1\nup 6\nend\n";
+
+const UPDATED: &str =
+    "fuota report 1\nimage 52 fragments 4 size 13 padding 0 parity 4\ndevice 1 updated clock 0 token 0 running 2 next none\ncounts deaf 0 refused 0 full 0 dropped 0\nsession 0 received 4 missing 0 complete at 22 same\nend\n";
+
+/// An update in which the call of each side with this number fails; behind the last one that comes, none does.
+#[test]
+fn an_update_says_what_failed(rt: HostRuntime) -> Result<(), Fail> {
+    let done = Status::Done;
+    let unread = Status::ReadFault;
+    let unwritten = Status::WriteFault;
+    let rows = [
+        (0, 0, 4096, done, UPDATED),
+        (7, 3, 4096, done, UPDATED),
+        (1, 0, 4096, unread, "read fault\n"),
+        (2, 0, 4096, unread, "read fault\n"),
+        (3, 0, 4096, unread, "read fault\n"),
+        (4, 0, 4096, unread, "read fault\n"),
+        (5, 0, 4096, unread, "read fault\n"),
+        (6, 0, 4096, unread, "read fault\n"),
+        (0, 1, 4096, unwritten, ""),
+        (0, 2, 4096, unwritten, UPDATED),
+        (0, 0, 20, unwritten, &UPDATED[..20]),
+        (1, 1, 4096, unwritten, ""),
+        (6, 1, 4096, unwritten, ""),
+        (1, 2, 4096, unwritten, "read fault\n"),
+        (6, 2, 4096, unwritten, "read fault\n"),
+        (6, 0, 5, unwritten, "read "),
+    ];
+    for (read_fails, write_fails, room, status, text) in &rows {
+        let outside = Outside {
+            start: FOUR_ROWS,
+            events: UPDATE,
+            read_fails: *read_fails,
+            write_fails: *write_fails,
+            room: *room,
+            ..SOUND
+        };
+        ends(&rt, rt.alloc(), &WORDS, &outside, *status, text)?;
+    }
+    Ok(())
+}
+
 #[test]
 fn an_image_of_65_537_bytes_is_too_long(rt: HostRuntime) -> Result<(), Fail> {
     let mut image = Vec::new(rt.alloc());
