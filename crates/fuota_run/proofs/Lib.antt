@@ -13,3 +13,4 @@ pub mod RunHeadline
 pub mod ReplayAnswered
 pub mod HeardWorld
 pub mod ReadOn
+pub mod NeverFailing

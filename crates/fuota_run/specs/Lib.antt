@@ -2,6 +2,7 @@ pub mod Limits
 pub mod Outside
 pub mod Source
 pub mod Memory
+pub mod Sure
 pub mod System
 pub mod Words
 pub mod Forms

@@ -150,3 +150,21 @@ IsFinished status.ScriptRefused finished = finished ≡ true
 IsFinished status.NotComplete finished = finished ≡ true
 IsFinished status.ReadFault finished = finished ≡ true
 IsFinished (status.TooLong taken) finished = finished ≡ true
+
+-- ---- a run that nothing outside can fail
+
+-- the status is the answer's
+abbrev pub IsAnswered : Held → List (List ℕ) → Status → Type 0
+IsAnswered held words s = (text : List ℕ) × IsAnswer words held (answer s text)
+
+-- no fault is told, and only want of memory is free
+abbrev pub IsSure : Held → List (List ℕ) → Status → Type 0
+IsSure held words status.Memory = Unit {0}
+IsSure held words status.ReadFault = ⊥
+IsSure held words status.WriteFault = ⊥
+IsSure held words status.Done = IsAnswered held words status.Done
+IsSure held words status.Usage = IsAnswered held words status.Usage
+IsSure held words status.ImageRefused = IsAnswered held words status.ImageRefused
+IsSure held words status.ScriptRefused = IsAnswered held words status.ScriptRefused
+IsSure held words status.NotComplete = IsAnswered held words status.NotComplete
+IsSure held words (status.TooLong taken) = IsAnswered held words (status.TooLong taken)

@@ -87,7 +87,7 @@ impl Model for MemFiles {
 }
 
 /// The place of the first file of that name.
-fn place_of(files: &[(String, Vec<u8>)], name: &str) -> Option<usize>
+pub(crate) fn place_of(files: &[(String, Vec<u8>)], name: &str) -> Option<usize>
     ensures found { IfSome result (λ i. held_by (map (λ f. (string_bytes f.0, f.1.items)) files.now) name.now
         ≡ Some (bytes_at (map (λ f. (string_bytes f.0, f.1.items)) files.now) (Some i))) }
     ensures none { IfNone result (held_by (map (λ f. (string_bytes f.0, f.1.items)) files.now) name.now ≡ None) }
@@ -101,7 +101,7 @@ fn place_of(files: &[(String, Vec<u8>)], name: &str) -> Option<usize>
 }
 
 /// Reads on behind the first bytes, and says how many were read.
-fn read_from(bytes: &[u8], from: usize, buf: &mut [u8]) -> usize
+pub(crate) fn read_from(bytes: &[u8], from: usize, buf: &mut [u8]) -> usize
     ensures count { result ≡ min (length bytes.now - from) (length buf.new) }
     ensures within { result ≤ length buf.new }
     ensures taken { drop from bytes.now ≡ take result buf.new ++ drop (from + result) bytes.now }
@@ -116,7 +116,7 @@ fn read_from(bytes: &[u8], from: usize, buf: &mut [u8]) -> usize
 }
 
 /// The bytes of the file at a place.
-fn bytes_in(files: &[(String, Vec<u8>)], place: Option<usize>) -> &[u8]
+pub(crate) fn bytes_in(files: &[(String, Vec<u8>)], place: Option<usize>) -> &[u8]
     ensures { result.now ≡ bytes_at (map (λ f. (string_bytes f.0, f.1.items)) files.now) place }
 {
     match place {
