@@ -10,6 +10,7 @@ use Rattle.row_elimination.specs.declared.columns.Column.{Column}
 use Rattle.row_elimination.specs.declared.columns.Column.TheVariants.{Free, Piece, Row}
 use Rattle.row_elimination.specs.Places.{Place, free, piece, row, told, is_piece, is_row, pieces_held, rows_held, gained_held, grown, cleared}
 use Rattle.row_elimination.specs.Inside.{IsReduced, Marks}
+use Rattle.row_elimination.specs.Made.{no_rows}
 use Rattle.row_elimination.specs.Storage.{chunk, place_in, places_in, part_in, IsStored, IsRowOf, SameShape, Slots}
 use Rattle.row_elimination.specs.Steps.{IsNew, Knows, Tells}
 use Rattle.row_elimination.specs.Grid.{Grid, IsGrid}
@@ -442,8 +443,8 @@ begun nb size rows columns spare known area arena most few c s k a shaped none e
 
 -- a table for no file
 pub no_file : (columns : List Column) (spare known area : List ℕ) (arena : Arena) → length columns ≡ 1024 → length spare ≡ 1024 → length known ≡ 16
-    → arena ≡ record { cols = 0; cell = 0; rows = replicate 0 (zero_row 0) } → IsGrid 0 0 0 0 0 columns spare known area arena
-unfolding words_for line_in
+    → arena ≡ no_rows → IsGrid 0 0 0 0 0 columns spare known area arena
+unfolding words_for line_in no_rows
 no_file columns spare known area arena c s k shaped =
     let none : (i : ℕ) → get_or {A = Column} [] i Free ≡ Free = λ i. get_or_past [] i Free (omega arith) in
     let is : places_in 0 area arena [] ≡ replicate 0 free = none_placed 0 0 area arena [] refl none in
@@ -465,11 +466,11 @@ no_file columns spare known area arena c s k shaped =
     }
 
 -- what the pass wrote, by the fields of the table
-pub wrote_parts : (nb size cell : ℕ) (columns columns' : List Column) (area now area' : List ℕ) (arena arena' : Arena) → columns' ≡ columns → now ≡ area → arena' ≡ arena → cell ≡ size
-    → ((c : ℕ) → chunk c cell area' ≡ part_in cell now arena' c (get_or (take nb columns') c Free)) → (c : ℕ) → chunk c size area' ≡ part_in size area arena c (get_or (take nb columns) c Free)
-wrote_parts nb size cell columns columns' area now area' arena arena' e f g h put =
-    let P : ℕ → List ℕ → Arena → List Column → Type 0 = λ n l a os. (c : ℕ) → chunk c n area' ≡ part_in n l a c (get_or (take nb os) c Free) in
-    subst (λ os. P size area arena os) e (subst (λ a. P size area a columns') g (subst (λ l. P size l arena' columns') f (subst (λ n. P n now arena' columns') h put)))
+pub wrote_parts : (nb size cell : ℕ) (columns columns' : List Column) (area now area' : List ℕ) (arena : Arena) → columns' ≡ columns → now ≡ area → cell ≡ size
+    → ((c : ℕ) → chunk c cell area' ≡ part_in cell now arena c (get_or (take nb columns') c Free)) → (c : ℕ) → chunk c size area' ≡ part_in size area arena c (get_or (take nb columns) c Free)
+wrote_parts nb size cell columns columns' area now area' arena e f h put =
+    let P : ℕ → List ℕ → List Column → Type 0 = λ n l os. (c : ℕ) → chunk c n area' ≡ part_in n l arena c (get_or (take nb os) c Free) in
+    subst (λ os. P size area os) e (subst (λ l. P size l columns') f (subst (λ n. P n now columns') h put))
 
 -- what holds of a call that went well
 pub ok_holds : {T E P : Type 0} (r : Result T E) → is_ok r ≡ true → OnOk r P → P

@@ -1,5 +1,6 @@
 pub mod Places
 pub mod Inside
+pub mod Made
 pub mod Held
 pub mod Stands
 pub mod Storage

@@ -8,12 +8,12 @@ ghost use Rattle.row_elimination.specs.Storage.{places_in, IsStored, IsRowOf, Sa
 use crate::columns::Column;
 use crate::entries::{put_piece, put_row};
 use crate::passes::clear;
-use row_arena::RowArena;
+use crate::rows::Rows;
 
 /// Adds a row, which its column `p` leads, in a slot that no column uses.
 pub fn add_row<const W: usize, const B: usize>(
     columns: &mut [Column],
-    arena: &mut RowArena<W, B>,
+    arena: &mut Rows<W, B>,
     slot: u16,
     p: u16,
     line: &[u64],
@@ -52,7 +52,7 @@ pub fn add_piece(columns: &mut [Column], cols: usize, area: &mut [u8], k: usize,
 pub fn add_piece_and_row<const W: usize, const B: usize>(
     columns: &mut [Column],
     area: &mut [u8],
-    arena: &mut RowArena<W, B>,
+    arena: &mut Rows<W, B>,
     k: usize,
     piece: &[u8],
     p: u16,
@@ -84,7 +84,7 @@ pub fn add_piece_and_row<const W: usize, const B: usize>(
 fn take_over<const W: usize, const B: usize>(
     kept: Column,
     columns: &mut [Column],
-    arena: &mut RowArena<W, B>,
+    arena: &mut Rows<W, B>,
     p: u16,
     line: &[u64],
     part: &[u8],

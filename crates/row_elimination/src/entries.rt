@@ -7,7 +7,7 @@ ghost use Rattle.row_elimination.specs.Storage.{chunk, part_in, places_in, IsRow
 
 use crate::bytes::put_at;
 use crate::columns::Column;
-use row_arena::RowArena;
+use crate::rows::Rows;
 
 /// Puts the piece of column `k` into the area.
 pub fn put_piece(columns: &mut [Column], area: &mut [u8], k: usize, part: &[u8])
@@ -24,7 +24,7 @@ pub fn put_piece(columns: &mut [Column], area: &mut [u8], k: usize, part: &[u8])
 /// Puts the row that column `p` leads into a slot that no other column uses.
 pub fn put_row<const W: usize, const B: usize>(
     columns: &mut [Column],
-    arena: &mut RowArena<W, B>,
+    arena: &mut Rows<W, B>,
     slot: u16,
     p: u16,
     line: &[u64],
@@ -47,7 +47,7 @@ pub fn put_row<const W: usize, const B: usize>(
 pub fn put_parts<const W: usize, const B: usize>(
     columns: &[Column],
     area: &mut [u8],
-    arena: &RowArena<W, B>,
+    arena: &Rows<W, B>,
 )
     requires room { length columns.now * arena.now.cell ≤ length area.old }
     requires rows { (c slot : ℕ) → get_or columns.now c Column.Free ≡ Column.Row slot → slot < length arena.now.rows }
@@ -63,7 +63,7 @@ fn put_part<const W: usize, const B: usize>(
     column: Column,
     c: usize,
     area: &mut [u8],
-    arena: &RowArena<W, B>,
+    arena: &Rows<W, B>,
 )
     requires room { c * arena.now.cell + arena.now.cell ≤ length area.old }
     requires rows { (slot : ℕ) → column ≡ Column.Row slot → slot < length arena.now.rows }

@@ -12,6 +12,7 @@ mod drawing;
 mod entries;
 pub mod laws;
 mod passes;
+mod rows;
 mod solver;
 mod stages;
 mod tables;

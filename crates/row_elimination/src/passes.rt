@@ -12,8 +12,9 @@ ghost use Rattle.row_elimination.specs.Storage.{places_in, IsStored, IsRowOf, Cl
 ghost use Rattle.row_elimination.specs.Steps.{Reduced, TakesRow, TakesRows};
 
 use crate::columns::Column;
+use crate::rows::Rows;
 use crate::tables::LINE_WORDS;
-use row_arena::{RowArena, pick, sum_pieces, xor_bytes, xor_words};
+use row_arena::{pick, sum_pieces, xor_bytes, xor_words};
 
 /// Takes out of a line, and out of the bytes `part`, all columns of which a piece or a row is kept, and writes what is left
 /// of the bytes over `rest`. `known` has the columns of which a piece is kept, and `picks` room for the columns of a line.
@@ -21,7 +22,7 @@ pub fn reduce<const W: usize, const B: usize>(
     columns: &[Column],
     area: &[u8],
     known: &[u64],
-    arena: &RowArena<W, B>,
+    arena: &Rows<W, B>,
     line: &mut [u64],
     picks: &mut [u16],
     part: &[u8],
@@ -49,7 +50,7 @@ pub fn reduce<const W: usize, const B: usize>(
 /// Takes out of an equation, which has no column of which a piece is kept, all columns that lead rows.
 fn take_rows<const W: usize, const B: usize>(
     columns: &[Column],
-    arena: &RowArena<W, B>,
+    arena: &Rows<W, B>,
     line: &mut [u64],
     picks: &mut [u16],
     rest: &mut [u8],
@@ -71,7 +72,7 @@ fn take_rows<const W: usize, const B: usize>(
 /// Takes the row of a column, if it leads one, out of an equation.
 fn take_row<const W: usize, const B: usize>(
     column: Column,
-    arena: &RowArena<W, B>,
+    arena: &Rows<W, B>,
     line: &mut [u64],
     rest: &mut [u8],
 )
@@ -106,7 +107,7 @@ fn list_bits(line: &[u64], picks: &mut [u16]) -> usize
 
 /// Adds a new row to each row that has its column `p`.
 pub fn clear<const W: usize, const B: usize>(
-    arena: &mut RowArena<W, B>,
+    arena: &mut Rows<W, B>,
     p: u16,
     line: &[u64],
     part: &[u8],
@@ -122,7 +123,7 @@ pub fn clear<const W: usize, const B: usize>(
 
 /// Adds a new row to the row in a slot, where that has the column `p`.
 fn clear_row<const W: usize, const B: usize>(
-    arena: &mut RowArena<W, B>,
+    arena: &mut Rows<W, B>,
     slot: u16,
     p: u16,
     line: &[u64],

@@ -16,7 +16,8 @@ use crate::bytes::chunk;
 use crate::columns::Column;
 use crate::entries::put_parts;
 use crate::passes::reduce;
-use row_arena::{RowArena, clear_bits, flip_bit, words_for};
+use crate::rows::Rows;
+use row_arena::{clear_bits, flip_bit, words_for};
 use std::alloc::{AllocError, Global};
 use std::marker::Model;
 
@@ -40,7 +41,7 @@ pub struct Table<const W: usize, const B: usize> {
     /// The bytes of the pieces, as many as any file needed so far; its memory is for `room` bytes.
     area: Vec<u8>,
     room: u32,
-    arena: Box<RowArena<W, B>>,
+    arena: Rows<W, B>,
 }
 
 impl<const W: usize, const B: usize> Model for Table<W, B> {
@@ -52,12 +53,12 @@ impl<const W: usize, const B: usize> Model for Table<W, B> {
 
     ghost view = { λ t. record {
       shape = record { nb_frag = t.nb_frag; frag_size = t.frag_size; rows = t.rows };
-      places = places_in t.frag_size t.area.items t.arena.value (take t.nb_frag t.columns.items);
+      places = places_in t.frag_size t.area.items t.arena (take t.nb_frag t.columns.items);
       area = t.area.items;
       room = t.room;
     } };
 
-    ghost invariant = { λ t. IsTable W B t.nb_frag t.frag_size t.rows t.count t.gained t.room (vec_capacity t.area) t.columns.items t.spare.items t.known.items t.area.items t.arena.value };
+    ghost invariant = { λ t. IsTable W B t.nb_frag t.frag_size t.rows t.count t.gained t.room (vec_capacity t.area) t.columns.items t.spare.items t.known.items t.area.items t.arena };
 }
 
 impl<const W: usize, const B: usize> Table<W, B> {
@@ -79,7 +80,7 @@ impl<const W: usize, const B: usize> Table<W, B> {
             known: vec![in alloc; 0; LINE_WORDS]?,
             area: Vec::with_capacity(alloc, area as usize)?,
             room: area,
-            arena: Box::new(alloc, RowArena::new())?,
+            arena: Rows::reserve(alloc)?,
         })
     }
 

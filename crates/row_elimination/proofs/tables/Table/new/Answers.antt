@@ -8,9 +8,9 @@ invariant_of-result g c = record {
   bytes_few = c.requires.bytes;
   area_fits = omega (arith, ap length c.in_ok-with_capacity.ensures.items);
   room_held = omega (arith, c.in_ok-with_capacity.ensures.capacity);
-  grid = no_file c.in_ok-vec.field-0.items c.in_ok-vec-2.field-0.items c.in_ok-vec-3.field-0.items c.in_ok-with_capacity.field-0.items c.in_ok-new.field-0.value
+  grid = no_file c.in_ok-vec.field-0.items c.in_ok-vec-2.field-0.items c.in_ok-vec-3.field-0.items c.in_ok-with_capacity.field-0.items c.in_ok-reserve.field-0
       (omega (arith, c.in_ok-vec.field-0.ok.0, c.in_ok-vec.ensures.len))
       (omega (arith, c.in_ok-vec-2.field-0.ok.0, c.in_ok-vec-2.ensures.len))
       (omega (arith, c.in_ok-vec-3.field-0.ok.0, c.in_ok-vec-3.ensures.len))
-      (c.in_ok-new.ensures.ok ∙ c.new.ensures);
+      c.in_ok-reserve.ensures;
 }

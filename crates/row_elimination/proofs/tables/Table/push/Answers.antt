@@ -4,7 +4,7 @@ use Rattle.row_arena.specs.Rows.{Arena, line_in, words_for}
 use Rattle.row_elimination.specs.declared.columns.Column.{Column}
 use Rattle.row_elimination.specs.declared.columns.Column.TheVariants.{Row}
 use Rattle.row_elimination.specs.Places.{Place, rows_held, grown}
-use Rattle.row_elimination.specs.Storage.{places_in, SameShape}
+use Rattle.row_elimination.specs.Storage.{places_in}
 use Rattle.row_elimination.specs.Steps.{IsNew}
 use Rattle.row_elimination.specs.Grid.{Grid}
 use Rattle.row_elimination.proofs.Counting.{gained-le}
@@ -26,18 +26,17 @@ add_row-requires g c =
     c.index-slot.ensures ∙ get_or_default_zero s.spare.items s.count c.index-slot.result.now (omega (arith, more, i.few, i.most, i.spare_sized)) in (
       omega (arith, c.self.invariant.words_few, c.self.invariant.bytes_few),
       (
-        omega (arith, i.arena_cols, ap (λ (a : Arena). a.cols) c.deref_mut-2.ensures.value, ap length c.deref_mut.ensures.value, i.most, i.columns_sized),
+        omega (arith, i.arena_cols, ap length c.deref_mut.ensures.value, i.most, i.columns_sized),
         (
-          omega (arith, new.inside, i.arena_cols, ap (λ (a : Arena). a.cols) c.deref_mut-2.ensures.value),
+          omega (arith, new.inside, i.arena_cols),
           (
-            rw (c.deref_mut.ensures.value, c.deref_mut-2.ensures.value)
-                (stored_at s.nb_frag s.frag_size s.arena.value.cols (length part) s.rows s.count s.gained s.columns.items s.spare.items s.known.items s.area.items s.arena.value i i.arena_cols sz),
+            rw (c.deref_mut.ensures.value)
+                (stored_at s.nb_frag s.frag_size s.arena.cols (length part) s.rows s.count s.gained s.columns.items s.spare.items s.known.items s.area.items s.arena i i.arena_cols sz),
             (
-              rw (c.deref_mut-2.ensures.value)
-                  (file_row s.nb_frag s.frag_size s.rows s.count s.gained s.columns.items s.spare.items s.known.items s.area.items s.arena.value line part i ln new.within sz),
+              file_row s.nb_frag s.frag_size s.rows s.count s.gained s.columns.items s.spare.items s.known.items s.area.items s.arena line part i ln new.within sz,
               (
-                rw (c.deref_mut-2.ensures.value, i.arena_rows, slot) (i.slots.spare_within s.count (omega arith) more),
-                rw (c.deref_mut.ensures.value, c.deref_mut-2.ensures.value, i.arena_cols, slot) (λ d e. i.slots.spare_free s.count d (omega arith) more e),
+                rw (i.arena_rows, slot) (i.slots.spare_within s.count (omega arith) more),
+                rw (c.deref_mut.ensures.value, i.arena_cols, slot) (λ d e. i.slots.spare_free s.count d (omega arith) more e),
               ),
             ),
           ),
@@ -53,7 +52,7 @@ overflow_add-self-2 g c =
       i.gained_all,
       i.most,
       i.reduced.sized,
-      gained-le (places_in c.self.inside.frag_size c.self.inside.area.items c.self.inside.arena.value (take c.self.inside.nb_frag c.self.inside.columns.items)),
+      gained-le (places_in c.self.inside.frag_size c.self.inside.area.items c.self.inside.arena (take c.self.inside.nb_frag c.self.inside.columns.items)),
     )
 
 pub invariant_of-self : goal.invariant_of-self
@@ -64,12 +63,12 @@ invariant_of-self g c =
     let size : ℕ = s.frag_size in
     let columns : List Column = s.columns.items in
     let area : List ℕ = s.area.items in
-    let arena : Arena = s.arena.value in
+    let arena : Arena = s.arena in
     let ps : List Place = places_in size area arena (take nb columns) in
     let part = c.args.part.now in
     let l : ℕ = line_in c.args.line.now in
-    let cols : ℕ = c.deref_mut-2.result.now.cols in
-    let cn : cols ≡ nb = ap (λ (a : Arena). a.cols) c.deref_mut-2.ensures.value ∙ i.arena_cols in
+    let cols : ℕ = arena.cols in
+    let cn : cols ≡ nb = i.arena_cols in
     let sz : length part ≡ size = c.requires.sized ∙ ap (λ (g : Grid). g.shape.frag_size) (sym c.self.view_is) in
     let room : rows_held ps < s.rows = subst (λ (g : Grid). rows_held g.places < g.shape.rows) (sym c.self.view_is) c.requires.room in
     let more : s.count < s.rows = omega (arith, i.counted, room) in
@@ -79,11 +78,8 @@ invariant_of-self g c =
     let os : take cols c.add_row.new.columns ≡ set (take cols columns) c.args.p (Row c.index-slot.result.now) =
     subst (λ (l : List Column). take cols c.add_row.new.columns ≡ set (take cols l) c.args.p (Row c.index-slot.result.now)) c.deref_mut.ensures.value c.add_row.ensures.columns in
     let told : places_in (length part) area c.add_row.new.arena (take cols c.add_row.new.columns) ≡ grown c.args.p l part (places_in (length part) area arena (take cols columns)) =
-    subst (λ (a : Arena). places_in (length part) area c.add_row.new.arena (take cols c.add_row.new.columns) ≡ grown c.args.p l part (places_in (length part) area a (take cols columns)))
-    c.deref_mut-2.ensures.value
-    (subst (λ (l' : List Column). places_in (length part) area c.add_row.new.arena (take cols c.add_row.new.columns) ≡ grown c.args.p l part (places_in (length part) area c.deref_mut-2.result.now (take cols l')))
-    c.deref_mut.ensures.value (c.add_row.ensures.places area)) in
-    let shape : SameShape arena c.add_row.new.arena = subst (λ (a : Arena). SameShape a c.add_row.new.arena) c.deref_mut-2.ensures.value c.add_row.ensures.shape in
+    subst (λ (l' : List Column). places_in (length part) area c.add_row.new.arena (take cols c.add_row.new.columns) ≡ grown c.args.p l part (places_in (length part) area arena (take cols l')))
+    c.deref_mut.ensures.value (c.add_row.ensures.places area) in
     rw (written s.columns.len c.add_row.new.columns columns (c.add_row.auto.columns ∙ c.deref_mut.ensures.len))
     (record {
       words_few = c.self.invariant.words_few;
@@ -91,5 +87,5 @@ invariant_of-self g c =
       area_fits = c.self.invariant.area_fits;
       room_held = c.self.invariant.room_held;
       grid = pushed nb size s.rows s.count s.gained cols (length part) c.index-slot.result.now c.args.p columns c.add_row.new.columns s.spare.items s.known.items area arena c.add_row.new.arena l part
-          i cn sz slot new more (c.add_row.auto.columns ∙ ap length c.deref_mut.ensures.value) shape os told;
+          i cn sz slot new more (c.add_row.auto.columns ∙ ap length c.deref_mut.ensures.value) c.add_row.ensures.shape os told;
     })

@@ -1,0 +1,10 @@
+use Rattle.std.proofs.Common.{◌≡◌, ◌<◌, length, replicate, OnOk, ap, ◌∙◌, arith}
+use Rattle.row_arena.specs.Rows.{Arena, zero_row}
+use Rattle.row_elimination.specs.Made.{arena_of}
+use Rattle.row_elimination.proofs.Making.{remade}
+use Rattle.row_elimination.proofs.rows.Rows.shape.Goals as goal
+
+pub returns-clause-shaped : goal.returns-clause-shaped
+returns-clause-shaped g c =
+    let lt : 0 < length c.make.new.made.items = omega (arith, c.make.ensures.some) in
+    rw (remade c.make.new.made.items c.shape.new.self lt) c.shape.ensures.shaped
