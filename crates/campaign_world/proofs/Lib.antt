@@ -6,6 +6,7 @@ pub mod Outcomes
 pub mod FormCauses
 pub mod Steps
 pub mod Lines
+pub mod HeardWorld
 pub mod Counting
 pub mod SessionSteps
 pub mod HeadlineCommands

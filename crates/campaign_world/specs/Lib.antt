@@ -7,6 +7,7 @@ pub mod Report
 pub mod Summary
 pub mod Recovery
 pub mod HeldWorld
+pub mod HeardWorld
 pub mod WorldInside
 pub mod Texts
 pub mod Headline

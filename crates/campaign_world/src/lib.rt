@@ -7,6 +7,7 @@
 mod causes;
 mod deliveries;
 mod faults;
+mod hearing;
 mod laws;
 mod numbered;
 mod recovery;

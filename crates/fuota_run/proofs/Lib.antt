@@ -11,6 +11,6 @@ pub mod OneAnswer
 pub mod HeadlineAnswered
 pub mod RunHeadline
 pub mod ReplayAnswered
-pub mod HeardWorld
+pub mod BehindScript
 pub mod ReadOn
 pub mod NeverFailing

@@ -9,7 +9,6 @@ pub mod Forms
 pub mod Answer
 pub mod Reply
 pub mod Hearing
-pub mod HeardWorld
 pub mod Replies
 pub mod Exit
 pub mod Headline

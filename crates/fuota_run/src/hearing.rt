@@ -6,35 +6,10 @@ ghost use Rattle.script_lines.specs.Hearing.{HearsLines};
 ghost use Rattle.fuota_run.specs.Outside.{HoldsName, HasRisen, IsReadSoFar};
 ghost use Rattle.fuota_run.specs.Source.{IsSource, IsTaken, IsTooLong};
 ghost use Rattle.fuota_run.specs.Hearing.{HearsOn};
-ghost use Rattle.fuota_run.specs.HeardWorld.{HearsScriptLine};
 
 use crate::files::{Failed, Files};
 use crate::source::{PIECE, SourceError};
-use campaign_world::World;
 use script_lines::{HearsLine, Lines, hear_last, hear_piece};
-
-/// A campaign that hears the lines of its script.
-#[derive(Drop)]
-pub struct ScriptWorld {
-    pub world: World,
-}
-
-impl HearsLine for ScriptWorld {
-    ghost use Rattle.fuota_run.specs.HeardWorld.{HearsScript};
-
-    ghost hears = { HearsScript };
-
-    fn line(&mut self, line: &[u8]) {
-        hear(&mut self.world, line);
-    }
-}
-
-/// Takes a line, and keeps what comes of it: behind a refused line no line does more.
-fn hear(world: &mut World, line: &[u8])
-    ensures { HearsScriptLine world.old line.now world.new }
-{
-    let _kept = world.line(line);
-}
 
 /// Reads a file to its end, or to one byte more than the limit, and hands out its lines.
 pub fn hear_source<F: Files, W: HearsLine>(

@@ -17,7 +17,7 @@ ghost use Rattle.campaign_world.specs.World.{first_world};
 ghost use Rattle.campaign_world.specs.HeldWorld.{WorldStands};
 
 use crate::files::Files;
-use crate::hearing::{ScriptWorld, hear_source};
+use crate::hearing::hear_source;
 use crate::output::write_text;
 use crate::reply::{Reply, reply_of, reply_with, say, unread};
 use crate::sink::Sink;
@@ -173,9 +173,7 @@ fn script<F: Files>(
     ensures taken { IfOk result (λ r. (taken : ℕ) → r.status ≡ Status.TooLong taken → IsTaken (F.held files.old) name.now taken (F.left files.new)) }
     ensures kept { F.faults files.old ≤ F.faults files.new }
 {
-    let mut heard = ScriptWorld {
-        world: World::new(alloc, image)?,
-    };
+    let mut heard = World::new(alloc, image)?;
     hear_script(alloc, files, what, &mut heard, name)
 }
 
@@ -184,20 +182,20 @@ fn hear_script<F: Files>(
     alloc: Global,
     files: &mut F,
     what: ScriptForm,
-    heard: &mut ScriptWorld,
+    heard: &mut World,
     name: &str,
 ) -> Result<Reply, AllocError>
     requires script { HoldsName (F.held files.old) name.now }
-    requires fresh { heard.old.world.kept ≡ None }
-    ensures reply { (image : List ℕ) → WorldStands heard.old.world (first_world image)
+    requires fresh { heard.old.kept ≡ None }
+    ensures reply { (image : List ℕ) → WorldStands heard.old (first_world image)
         → IfOk result (λ r. Says true (GivesScript (F.held files.old) what image name.now (answer_in r)) (F.faults files.old) (F.faults files.new) (F.left files.new) (answer_in r)) }
-    ensures usage { (image : List ℕ) → WorldStands heard.old.world (first_world image) → IfOk result (λ r. r.status ≢ Status.Usage) }
-    ensures taken { (image : List ℕ) → WorldStands heard.old.world (first_world image)
+    ensures usage { (image : List ℕ) → WorldStands heard.old (first_world image) → IfOk result (λ r. r.status ≢ Status.Usage) }
+    ensures taken { (image : List ℕ) → WorldStands heard.old (first_world image)
         → IfOk result (λ r. (taken : ℕ) → r.status ≡ Status.TooLong taken → IsTaken (F.held files.old) name.now taken (F.left files.new)) }
     ensures kept { F.faults files.old ≤ F.faults files.new }
 {
     match hear_source(files, name, SCRIPT_LIMIT, heard) {
-        Ok(()) => reply_of(alloc, tell_of(alloc, what, &heard.world)),
+        Ok(()) => reply_of(alloc, tell_of(alloc, what, heard)),
         Err(error) => unread(alloc, error),
     }
 }

@@ -11,7 +11,7 @@ ghost use Rattle.campaign_world.specs.HeldWorld.{WorldStands};
 ghost use Rattle.campaign_world.specs.Script.{read_lines, end_result, campaign_of};
 ghost use Rattle.fuota_run.specs.Answer.{no_file_word, recovered, told_of, summed_up};
 ghost use Rattle.fuota_run.specs.Reply.{IsPlayed};
-ghost use Rattle.fuota_run.specs.HeardWorld.{WorldIsIf};
+ghost use Rattle.campaign_world.specs.HeardWorld.{WorldIsIf};
 ghost use Rattle.fuota_run.specs.Replies.{seen_reply, IsBehind, IsRecovery};
 
 use crate::reply::Reply;

@@ -35,7 +35,7 @@ pub grid_next : (nb size rows count count' gained gained' : ℕ) (columns column
 grid_next nb size rows count count' gained gained' columns columns' spare spare' known known' area area' arena arena' ps h c s k a shape slots is reduced marks rows_is gained_is = record {
   most = h.most;
   few = h.few;
-  columns_sized = c ∙ h.columns_sized;
+  columns_sized = omega (arith, c, h.columns_sized);
   spare_sized = s ∙ h.spare_sized;
   known_sized = k ∙ h.known_sized;
   room_area = omega (arith, h.room_area);
@@ -411,22 +411,34 @@ none_there nb columns le none k =
     let long : length (take nb columns) ≡ nb = length-take-le nb columns le in
     elim (cases_lt k nb) [ inl lt ↦ get_or-take nb columns k Free lt ∙ none k | inr past ↦ get_or_past (take nb columns) k Free (omega arith) ]
 
-pub begun_places : (nb size : ℕ) (columns : List Column) (area : List ℕ) (arena : Arena) → nb ≤ length columns → ((c : ℕ) → get_or columns c Free ≡ Free)
-    → places_in size area arena (take nb columns) ≡ replicate nb free
-begun_places nb size columns area arena le none = none_placed nb size area arena (take nb columns) (length-take-le nb columns le) (none_there nb columns le none)
+-- columns of which nothing is kept
+pub all_free : (nb : ℕ) (columns : List Column) → columns ≡ replicate nb Free → (c : ℕ) → get_or columns c Free ≡ Free
+all_free nb columns is c = elim (cases_lt c nb) [
+  | inl lt ↦ ap (λ (l : List Column). get_or l c Free) is ∙ get_or-replicate nb c Free Free lt
+  | inr past ↦ ap (λ (l : List Column). get_or l c Free) is ∙ get_or_past (replicate nb Free) c Free (omega (arith, length-replicate {A = Column} nb Free))
+]
 
-pub begun : (nb size rows : ℕ) (columns : List Column) (spare known area : List ℕ) (arena : Arena) → nb ≤ 1024 → rows ≤ nb → length columns ≡ 1024 → length spare ≡ 1024 → length known ≡ 16
+pub all_there : (nb : ℕ) (columns : List Column) → columns ≡ replicate nb Free → nb ≤ length columns
+all_there nb columns is = omega (arith, ap length is, length-replicate {A = Column} nb Free)
+
+pub begun_places : (nb size : ℕ) (columns : List Column) (area : List ℕ) (arena : Arena) → columns ≡ replicate nb Free → places_in size area arena (take nb columns) ≡ replicate nb free
+begun_places nb size columns area arena is =
+    let le : nb ≤ length columns = all_there nb columns is in
+    none_placed nb size area arena (take nb columns) (length-take-le nb columns le) (none_there nb columns le (all_free nb columns is))
+
+pub begun : (nb size rows : ℕ) (columns : List Column) (spare known area : List ℕ) (arena : Arena) → nb ≤ 1024 → rows ≤ nb → columns ≡ replicate nb Free → length spare ≡ 1024 → length known ≡ 16
     → nb * size ≤ length area → arena ≡ record { cols = nb; cell = size; rows = replicate rows (zero_row size) }
-    → ((c : ℕ) → get_or columns c Free ≡ Free) → ((i : ℕ) → i < length spare → get_or spare i 0 ≡ i) → line_in known ≡ 0
+    → ((i : ℕ) → i < length spare → get_or spare i 0 ≡ i) → line_in known ≡ 0
     → IsGrid nb size rows 0 0 columns spare known area arena
-begun nb size rows columns spare known area arena most few c s k a shaped none each unmarked =
+begun nb size rows columns spare known area arena most few c s k a shaped each unmarked =
     let os : List Column = take nb columns in
-    let le : nb ≤ length columns = omega arith in
-    let is : places_in size area arena os ≡ replicate nb free = begun_places nb size columns area arena le none in
+    let le : nb ≤ length columns = all_there nb columns c in
+    let none : (i : ℕ) → get_or columns i Free ≡ Free = all_free nb columns c in
+    let is : places_in size area arena os ≡ replicate nb free = begun_places nb size columns area arena c in
     record {
       most = most;
       few = few;
-      columns_sized = c;
+      columns_sized = le;
       spare_sized = s;
       known_sized = k;
       room_area = a;
@@ -442,16 +454,16 @@ begun nb size rows columns spare known area arena most few c s k a shaped none e
     }
 
 -- a table for no file
-pub no_file : (columns : List Column) (spare known area : List ℕ) (arena : Arena) → length columns ≡ 1024 → length spare ≡ 1024 → length known ≡ 16
+pub no_file : (columns : List Column) (spare known area : List ℕ) (arena : Arena) → length spare ≡ 1024 → length known ≡ 16
     → arena ≡ no_rows → IsGrid 0 0 0 0 0 columns spare known area arena
 unfolding words_for line_in no_rows
-no_file columns spare known area arena c s k shaped =
+no_file columns spare known area arena s k shaped =
     let none : (i : ℕ) → get_or {A = Column} [] i Free ≡ Free = λ i. get_or_past [] i Free (omega arith) in
     let is : places_in 0 area arena [] ≡ replicate 0 free = none_placed 0 0 area arena [] refl none in
     record {
       most = omega arith;
       few = omega arith;
-      columns_sized = c;
+      columns_sized = omega arith;
       spare_sized = s;
       known_sized = k;
       room_area = omega arith;

@@ -24,7 +24,7 @@ pub record Grid : Type 0 where
 pub record IsGrid (nb_frag size rows count gained : ℕ) (columns : List Column) (spare known area : List ℕ) (arena : Arena) : Type 0 where
   pub most : nb_frag ≤ max_pieces
   pub few : rows ≤ nb_frag
-  pub columns_sized : length columns ≡ max_pieces
+  pub columns_sized : nb_frag ≤ length columns
   pub spare_sized : length spare ≡ max_pieces
   pub known_sized : length known ≡ max_line_words
   pub room_area : nb_frag * size ≤ length area
@@ -37,11 +37,12 @@ pub record IsGrid (nb_frag size rows count gained : ℕ) (columns : List Column)
   pub counted : count ≡ rows_held (places_in size area arena (take nb_frag columns))
   pub gained_all : gained ≡ gained_held (places_in size area arena (take nb_frag columns))
 
--- the same, of a table whose rows have so many words and bytes in all, and whose area room for so many bytes in memory for
--- `capacity`
-pub record IsTable (words bytes nb_frag size rows count gained room capacity : ℕ) (columns : List Column) (spare known area : List ℕ) (arena : Arena) : Type 0 where
+-- the same, of a table whose rows have so many words and bytes in all, whose columns have memory for `held`, and whose area
+-- room for so many bytes in memory for `capacity`
+pub record IsTable (words bytes nb_frag size rows count gained held room capacity : ℕ) (columns : List Column) (spare known area : List ℕ) (arena : Arena) : Type 0 where
   pub words_few : words ≤ max_words
   pub bytes_few : bytes ≤ max_bytes
+  pub columns_held : max_pieces ≤ held
   pub area_fits : length area ≤ room
   pub room_held : room ≤ capacity
   pub grid : IsGrid nb_frag size rows count gained columns spare known area arena

@@ -35,6 +35,7 @@ pub struct Table<const W: usize, const B: usize> {
     rows: u16,
     count: u16,
     gained: u16,
+    /// A file's columns or more; its memory is for the largest file's.
     columns: Vec<Column>,
     spare: Vec<u16>,
     known: Vec<u64>,
@@ -58,7 +59,7 @@ impl<const W: usize, const B: usize> Model for Table<W, B> {
       room = t.room;
     } };
 
-    ghost invariant = { λ t. IsTable W B t.nb_frag t.frag_size t.rows t.count t.gained t.room (vec_capacity t.area) t.columns.items t.spare.items t.known.items t.area.items t.arena };
+    ghost invariant = { λ t. IsTable W B t.nb_frag t.frag_size t.rows t.count t.gained (vec_capacity t.columns) t.room (vec_capacity t.area) t.columns.items t.spare.items t.known.items t.area.items t.arena };
 }
 
 impl<const W: usize, const B: usize> Table<W, B> {
@@ -75,7 +76,7 @@ impl<const W: usize, const B: usize> Table<W, B> {
             rows: 0,
             count: 0,
             gained: 0,
-            columns: vec![in alloc; Column::Free; MAX_PIECES]?,
+            columns: Vec::with_capacity(alloc, MAX_PIECES)?,
             spare: vec![in alloc; 0; MAX_PIECES]?,
             known: vec![in alloc; 0; LINE_WORDS]?,
             area: Vec::with_capacity(alloc, area as usize)?,
@@ -282,7 +283,7 @@ impl<const W: usize, const B: usize> Table<W, B> {
         ensures room { self.new.room ≡ self.old.room }
     {
         widen(&mut self.area, nb_frag as usize * frag_size as usize);
-        free_all(&mut self.columns);
+        free_all(&mut self.columns, nb_frag as usize);
         count_up(&mut self.spare);
         clear_bits(&mut self.known);
         let _ = self.arena.shape(rows, nb_frag, frag_size);
@@ -306,12 +307,15 @@ fn widen(area: &mut Vec<u8>, bytes: usize)
     }
 }
 
-/// Nothing is kept of any column.
-fn free_all(columns: &mut [Column])
-    ensures { (c : ℕ) → get_or columns.new c Column.Free ≡ Column.Free }
+/// Has so many columns, of which nothing is kept; there is memory for them.
+fn free_all(columns: &mut Vec<Column>, n: usize)
+    requires { n ≤ vec_capacity columns.old }
+    ensures free { columns.new.items ≡ replicate n Column.Free }
+    ensures capacity { vec_capacity columns.old ≤ vec_capacity columns.new }
 {
-    for i in 0..columns.len() {
-        columns[i] = Column::Free;
+    columns.clear();
+    if columns.resize(n, Column::Free).is_err() {
+        unreachable!();
     }
 }
 

@@ -6,7 +6,8 @@ use Rattle.fuota_run.specs.Answer.{told_of, script_answer}
 use Rattle.fuota_run.specs.Replies.{answer_in, seen_reply}
 use Rattle.fuota_run.specs.Source.{IsTaken}
 use Rattle.fuota_run.proofs.Taken.{unread_taken}
-use Rattle.fuota_run.proofs.HeardWorld.{script_heard, script_told}
+use Rattle.campaign_world.proofs.HeardWorld.{script_heard}
+use Rattle.fuota_run.proofs.BehindScript.{script_told}
 use Rattle.fuota_run.proofs.ReplyLemmas.{says_unread, says_source, says_played, told_made, script_long, script_given, if_ok_map}
 use Rattle.fuota_run.proofs.running.hear_script.Goals as goal
 

@@ -1,4 +1,4 @@
-use Rattle.fuota_run.proofs.HeardWorld.{report_behind, recovery_behind}
+use Rattle.fuota_run.proofs.BehindScript.{report_behind, recovery_behind}
 use Rattle.fuota_run.proofs.telling.tell_of.Goals as goal
 
 pub returns-in-Ok : goal.returns-in-Ok

@@ -1,7 +1,5 @@
-use Rattle.std.proofs.Common.{◌≡◌, ◌*◌, ◌≤◌, List, length, take, sym, ap, subst, ◌∙◌, arith}
-use Rattle.row_elimination.specs.declared.columns.Column.{Column}
+use Rattle.std.proofs.Common.{◌≡◌, ◌*◌, ◌≤◌, length, sym, ap, subst, ◌∙◌, arith}
 use Rattle.row_elimination.specs.Grid.{Grid}
-use Rattle.row_elimination.specs.Storage.{places_in}
 use Rattle.row_elimination.proofs.Gridding.{written, begun, begun_places, ok_holds}
 use Rattle.row_elimination.proofs.tables.Table.begin.Goals as goal
 
@@ -16,27 +14,22 @@ invariant_of-self g c =
     let i = c.self.invariant.grid in
     let area : c.args.nb_frag * c.args.frag_size ≤ s.room = subst (λ (x : Grid). c.args.nb_frag * c.args.frag_size ≤ x.room) (sym c.self.view_is) c.requires.area in
     rw (
-      written s.columns.len c.free_all.new.columns s.columns.items (c.free_all.auto.columns ∙ c.deref_mut.ensures.len),
-      written s.spare.len c.count_up.new.spare s.spare.items (c.count_up.auto.spare ∙ c.deref_mut-2.ensures.len),
-      written s.known.len c.clear_bits.new.words s.known.items (c.clear_bits.auto.words ∙ c.deref_mut-3.ensures.len),
+      written s.spare.len c.count_up.new.spare s.spare.items (c.count_up.auto.spare ∙ c.deref_mut.ensures.len),
+      written s.known.len c.clear_bits.new.words s.known.items (c.clear_bits.auto.words ∙ c.deref_mut-2.ensures.len),
     )
     (record {
       words_few = c.self.invariant.words_few;
       bytes_few = c.self.invariant.bytes_few;
+      columns_held = omega (arith, c.free_all.ensures.capacity, c.self.invariant.columns_held);
       area_fits = c.widen.ensures.most s.room area c.self.invariant.area_fits;
       room_held = omega (arith, c.widen.ensures.capacity, c.self.invariant.room_held);
-      grid = begun c.args.nb_frag c.args.frag_size c.args.rows c.free_all.new.columns c.count_up.new.spare c.clear_bits.new.words c.widen.new.area.items c.shape.new.self c.requires.most c.requires.few
-          (c.free_all.auto.columns ∙ ap length c.deref_mut.ensures.value ∙ i.columns_sized)
-          (c.count_up.auto.spare ∙ ap length c.deref_mut-2.ensures.value ∙ i.spare_sized)
-          (c.clear_bits.auto.words ∙ ap length c.deref_mut-3.ensures.value ∙ i.known_sized)
+      grid = begun c.args.nb_frag c.args.frag_size c.args.rows c.free_all.new.columns.items c.count_up.new.spare c.clear_bits.new.words c.widen.new.area.items c.shape.new.self c.requires.most c.requires.few
+          c.free_all.ensures.free
+          (c.count_up.auto.spare ∙ ap length c.deref_mut.ensures.value ∙ i.spare_sized)
+          (c.clear_bits.auto.words ∙ ap length c.deref_mut-2.ensures.value ∙ i.known_sized)
           c.widen.ensures.enough (ok_holds c.shape.result (c.shape.ensures.room ∙ c.requires.room) c.shape.ensures.shaped)
-          c.free_all.ensures c.count_up.ensures c.clear_bits.ensures;
+          c.count_up.ensures c.clear_bits.ensures;
     })
 
 pub returns-clause-places : goal.returns-clause-places
-returns-clause-places g c =
-    let s = c.self.inside in
-    let sized : length c.free_all.new.columns ≡ 1024 = c.free_all.auto.columns ∙ ap length c.deref_mut.ensures.value ∙ c.self.invariant.grid.columns_sized in
-    let same = written s.columns.len c.free_all.new.columns s.columns.items (c.free_all.auto.columns ∙ c.deref_mut.ensures.len) in
-    ap (λ (l : List Column). places_in c.args.frag_size c.widen.new.area.items c.shape.new.self (take c.args.nb_frag l)) same
-    ∙ begun_places c.args.nb_frag c.args.frag_size c.free_all.new.columns c.widen.new.area.items c.shape.new.self (omega (arith, c.requires.most)) c.free_all.ensures
+returns-clause-places g c = begun_places c.args.nb_frag c.args.frag_size c.free_all.new.columns.items c.widen.new.area.items c.shape.new.self c.free_all.ensures.free

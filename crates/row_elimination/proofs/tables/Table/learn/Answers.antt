@@ -112,6 +112,7 @@ invariant_of-self g c =
     (record {
       words_few = c.self.invariant.words_few;
       bytes_few = c.self.invariant.bytes_few;
+      columns_held = c.self.invariant.columns_held;
       area_fits = omega (arith, c.add_piece_and_row.auto.area, ap length c.deref_mut-2.ensures.value, c.self.invariant.area_fits);
       room_held = c.self.invariant.room_held;
       grid = learned nb size s.rows s.count s.gained cols (length part) c.args.k c.args.p columns now.columns s.spare.items s.known.items c.mark.new.known area now.area arena now.arena l part c.args.piece.now

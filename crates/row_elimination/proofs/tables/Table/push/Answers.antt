@@ -84,6 +84,7 @@ invariant_of-self g c =
     (record {
       words_few = c.self.invariant.words_few;
       bytes_few = c.self.invariant.bytes_few;
+      columns_held = c.self.invariant.columns_held;
       area_fits = c.self.invariant.area_fits;
       room_held = c.self.invariant.room_held;
       grid = pushed nb size s.rows s.count s.gained cols (length part) c.index-slot.result.now c.args.p columns c.add_row.new.columns s.spare.items s.known.items area arena c.add_row.new.arena l part

@@ -56,6 +56,7 @@ invariant_of-self g c =
     (record {
       words_few = c.self.invariant.words_few;
       bytes_few = c.self.invariant.bytes_few;
+      columns_held = c.self.invariant.columns_held;
       area_fits = omega (arith, c.add_piece.auto.area, ap length c.deref_mut-2.ensures.value, c.self.invariant.area_fits);
       room_held = c.self.invariant.room_held;
       grid = put_in nb size c.self.inside.rows c.self.inside.count c.self.inside.gained c.args.k columns c.add_piece.new.columns c.self.inside.spare.items known c.mark.new.known

@@ -61,6 +61,7 @@ invariant_of-self g c =
     (record {
       words_few = c.self.invariant.words_few;
       bytes_few = c.self.invariant.bytes_few;
+      columns_held = c.self.invariant.columns_held;
       area_fits = omega (arith, c.add_piece.auto.area, ap length c.deref_mut-in-Row.ensures.value, c.self.invariant.area_fits);
       room_held = c.self.invariant.room_held;
       grid = settled nb size rows count (count - 1) c.self.inside.gained c.args.k c.in-Row.slot columns c.add_piece.new.columns spare marks c.mark.new.known area c.add_piece.new.area arena part

@@ -5,7 +5,6 @@ use Rattle.campaign_world.specs.declared.faults.LineFault.{LineFault}
 use Rattle.campaign_world.specs.World.{WorldState}
 use Rattle.campaign_world.specs.Script.{read_lines}
 use Rattle.campaign_world.specs.HeldWorld.{HeldWorld, WorldStands}
-use Rattle.fuota_run.specs.declared.hearing.ScriptWorld.{ScriptWorld}
 
 -- it stands for the campaign so far, or keeps the first refused line
 abbrev pub WorldIs : HeldWorld → Result WorldState LineFault → Type 0
@@ -19,7 +18,3 @@ WorldIsIf held so_far = (held.kept ≡ Some error.Memory) ⊎ WorldIs held so_fa
 -- it hears a line, whatever it was behind
 abbrev pub HearsScriptLine : HeldWorld → List ℕ → HeldWorld → Type 0
 HearsScriptLine old line new = (so_far : Result WorldState LineFault) → WorldIsIf old so_far → WorldIsIf new (read_lines so_far (line ∷ []))
-
--- so does a world that the program holds
-abbrev pub HearsScript : ScriptWorld → List ℕ → ScriptWorld → Type 0
-HearsScript old line new = HearsScriptLine old.world line new.world

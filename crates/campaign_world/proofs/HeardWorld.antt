@@ -12,18 +12,9 @@ use Rattle.campaign_world.specs.declared.faults.LineError.{LineError}
 use Rattle.campaign_world.specs.declared.faults.LineError.TheVariants as error
 use Rattle.campaign_world.specs.World.{WorldState, first_world}
 use Rattle.campaign_world.specs.Causes.{cause_of}
-use Rattle.campaign_world.specs.Script.{line_result, read_line, read_lines, end_result, campaign_of}
-use Rattle.campaign_world.specs.HeldWorld.{HeldWorld, WorldStands, IsLineAnswer, IsReport}
-use Rattle.campaign_world.specs.Recovery.{recovery}
-use Rattle.fuota_run.specs.declared.hearing.ScriptWorld.{ScriptWorld}
-use Rattle.fuota_run.specs.declared.status.Status.TheVariants as status
-use Rattle.fuota_run.specs.declared.words.ScriptForm.{ScriptForm}
-use Rattle.fuota_run.specs.declared.words.ScriptForm.TheVariants.{Campaign, Recover}
-use Rattle.fuota_run.specs.Answer.{Answer, answer, recovered, told_of}
-use Rattle.fuota_run.specs.Reply.{IsPlayed}
-use Rattle.fuota_run.specs.Replies.{IsRecovery}
-use Rattle.fuota_run.proofs.Playing.{report_told, recovery_told}
-use Rattle.fuota_run.specs.HeardWorld.{WorldIs, WorldIsIf, HearsScriptLine, HearsScript}
+use Rattle.campaign_world.specs.Script.{line_result, read_line, read_lines}
+use Rattle.campaign_world.specs.HeldWorld.{HeldWorld, WorldStands, IsLineAnswer}
+use Rattle.campaign_world.specs.HeardWorld.{WorldIs, WorldIsIf, HearsScriptLine}
 
 abbrev Outcome : Type 0
 Outcome = Result WorldState LineFault
@@ -84,40 +75,15 @@ cut_same (line ∷ lines) (Ok world) = cut_same lines (read_line world (cut line
 
 -- ---- a whole script
 
-heard_all : (lines : List (List ℕ)) (old new : ScriptWorld) → HearsAll HearsScript old lines new → (so_far : Outcome) → WorldIsIf old.world so_far → WorldIsIf new.world (read_lines so_far lines)
+heard_all : (lines : List (List ℕ)) (old new : HeldWorld) → HearsAll HearsScriptLine old lines new → (so_far : Outcome) → WorldIsIf old so_far → WorldIsIf new (read_lines so_far lines)
 unfolding HearsAll
-heard_all [] old new same so_far is = subst (λ (o : Outcome). WorldIsIf new.world o) (sym (read_none so_far)) (subst (λ (w : ScriptWorld). WorldIsIf w.world so_far) (sym same) is)
+heard_all [] old new same so_far is = subst (λ (o : Outcome). WorldIsIf new o) (sym (read_none so_far)) (subst (λ (w : HeldWorld). WorldIsIf w so_far) (sym same) is)
 heard_all (line ∷ lines) old new heard so_far is =
-    subst (λ (o : Outcome). WorldIsIf new.world o) (sym (read_then so_far line lines)) (heard_all lines heard.0 new heard.2 (read_lines so_far (line ∷ [])) (heard.1 so_far is))
+    subst (λ (o : Outcome). WorldIsIf new o) (sym (read_then so_far line lines)) (heard_all lines heard.0 new heard.2 (read_lines so_far (line ∷ [])) (heard.1 so_far is))
 
 -- the world that heard a script's lines is behind the script
-pub script_heard : (bytes image : List ℕ) (old new : ScriptWorld) → HearsLines HearsScript old new bytes → WorldStands old.world (first_world image) → old.world.kept ≡ None
-    → WorldIsIf new.world (read_lines (Ok (first_world image)) (lines_of bytes))
+pub script_heard : (bytes image : List ℕ) (old new : HeldWorld) → HearsLines HearsScriptLine old new bytes → WorldStands old (first_world image) → old.kept ≡ None
+    → WorldIsIf new (read_lines (Ok (first_world image)) (lines_of bytes))
 script_heard bytes image old new heard first none =
-    subst (λ (o : Outcome). WorldIsIf new.world o) (cut_same (lines_of bytes) (Ok (first_world image)))
+    subst (λ (o : Outcome). WorldIsIf new o) (cut_same (lines_of bytes) (Ok (first_world image)))
     (heard_all (cut_lines (lines_of bytes)) old new heard (Ok (first_world image)) (inr (none, first)))
-
--- ---- what is told behind a script's lines
-
--- a report that was made is of a campaign, since behind a refused line there is none
-pub report_behind : (held : HeldWorld) (what : ScriptForm) (text : List ℕ) (so_far : Outcome) → what ≡ Campaign → ((w : WorldState) → WorldStands held w → held.kept ≡ None → IsReport w (Ok text))
-    → ((e : LineError) → held.kept ≡ Some e → ⊥) → WorldIsIf held so_far → IsPlayed (told_of what) (end_result so_far) (Ok (answer status.Done text))
-report_behind held what text so_far form reports never (inl memory) = absurd (never error.Memory memory)
-report_behind held what text (Err fault) form reports never (inr refused) = absurd (never (error.Line fault) refused)
-report_behind held what text (Ok w) form reports never (inr stands) =
-    subst (λ (f : ScriptForm). IsPlayed (told_of f) (end_result (Ok w)) (Ok (answer status.Done text))) (sym form) (report_told w (Ok text) (reports w stands.1 stands.0))
-
--- so is what a device recovered
-pub recovery_behind : (held : HeldWorld) (what : ScriptForm) (device : ℕ) (r : Result Answer LineError) (so_far : Outcome) → what ≡ Recover device
-    → ((w : WorldState) → WorldStands held w → held.kept ≡ None → end_result (Ok w) ≡ Ok w) → ((e : LineError) → held.kept ≡ Some e → ⊥)
-    → ((w : WorldState) → WorldStands held w → IsRecovery (recovered device (recovery w device)) r) → WorldIsIf held so_far → IsPlayed (told_of what) (end_result so_far) r
-recovery_behind held what device r so_far form ends never recovers (inl memory) = absurd (never error.Memory memory)
-recovery_behind held what device r (Err fault) form ends never recovers (inr refused) = absurd (never (error.Line fault) refused)
-recovery_behind held what device r (Ok w) form ends never recovers (inr stands) =
-    subst (λ (f : ScriptForm). IsPlayed (told_of f) (end_result (Ok w)) r) (sym form) (recovery_told device w r (ends w stands.1 stands.0) (recovers w stands.1))
-
--- and it is told of the script
-pub script_told : (tell : WorldState → Answer) (image script : List ℕ) (r : Result Answer LineError) → IsPlayed tell (end_result (read_lines (Ok (first_world image)) (lines_of script))) r
-    → IsPlayed tell (campaign_of image script) r
-unfolding campaign_of
-script_told tell image script r told = told

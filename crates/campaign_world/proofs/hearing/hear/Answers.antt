@@ -1,5 +1,5 @@
-use Rattle.fuota_run.proofs.HeardWorld.{hears}
-use Rattle.fuota_run.proofs.hearing.hear.Goals as goal
+use Rattle.campaign_world.proofs.HeardWorld.{hears}
+use Rattle.campaign_world.proofs.hearing.hear.Goals as goal
 
 pub returns : goal.returns
 returns c = hears c.args.world.now c.line-kept.new.self c.args.line.now c.line-kept.result c.line-kept.ensures.step c.line-kept.ensures.kept c.line-kept.ensures.same

@@ -1,0 +1,378 @@
+//! Events, over the server that the plan's end made.
+
+ghost use Rattle.std.specs.Prelude.{◌≡◌, ◌≤◌, ◌<◌, ◌+◌, ◌-◌, ◌++◌, true, length, None, Some, Ok, Err, IfOk, OnOk, OnErr, vec_len, vec_capacity};
+ghost use Rattle.campaign_server.specs.Server.{ServerState, numbered};
+ghost use Rattle.script_lines.specs.Limits.{max_lines};
+ghost use Rattle.script_lines.specs.Ranges.{in_range};
+ghost use Rattle.campaign_world.specs.Causes.{is_event_or_end, names_device, has_come, fits_payload};
+ghost use Rattle.std.specs.Result.{result_ok};
+ghost use Rattle.campaign_server.specs.Asking.{request_of};
+ghost use Rattle.campaign_server.specs.Fragments.{next_fragment, after_fragment, status_to_all, after_status_to_all};
+ghost use Rattle.campaign_server.specs.Uplinks.{uplink_step};
+ghost use Rattle.campaign_server.specs.Sent.{down_of};
+ghost use Rattle.campaign_world.specs.Making.{with_sent, after_wake, after_down, raw_down, after_raw, after_up, at_events, after_form};
+ghost use Rattle.campaign_world.specs.HeldWorld.{sent_by, answered};
+ghost use Rattle.campaign_world.specs.declared.numbered.SentPayload.{SentPayload};
+ghost use Rattle.campaign_world.specs.declared.numbered.MadeUplink.{MadeUplink};
+
+use super::World;
+use crate::deliveries::{Coming, deliver, wake};
+use crate::numbered::{MadeUplink, SentPayload, numbered};
+use crate::section::Section;
+use campaign_server::{Plan, Server, ServerError};
+use package_grammar::{Downlink, To};
+use script_lines::{Form, HexBytes, MAX_HEX_BYTES};
+use std::alloc::{AllocError, Global};
+use wire_base::Payload;
+
+impl World {
+    ghost use Rattle.campaign_world.specs.HeldWorld.{WorldBecomes, KeepsEnds, HasBegun};
+    ghost use Rattle.campaign_world.specs.WorldInside.{IsToBegin};
+
+    /// An event, or the end, behind which the plan stands.
+    pub(super) fn play(&mut self, form: &Form) -> Result<(), AllocError>
+        requires event { is_event_or_end form.now ≡ true }
+        requires begins { IsToBegin self.old }
+        requires few { length self.old.devices ≤ 64 }
+        requires ranges { in_range form.now ≡ true }
+        requires names { names_device (length self.old.devices) form.now ≡ true }
+        requires come { has_come self.old.sent self.old.uplinks self.old.time form.now ≡ true }
+        requires fits { fits_payload form.now ≡ true }
+        requires room { self.old.lines < max_lines }
+        ensures taken { OnOk result (WorldBecomes self.old self.new (λ world. after_form world form.now)) }
+        ensures kept { self.new.kept ≡ self.old.kept }
+        ensures lines { self.new.lines ≡ self.old.lines }
+        ensures ends { OnErr result (KeepsEnds self.old self.new) }
+    {
+        match self.begin() {
+            Ok(()) => self.event(form),
+            Err(error) => Err(error),
+        }
+    }
+
+    /// Makes the server of the plan, where there is none yet. Events follow.
+    fn begin(&mut self) -> Result<(), AllocError>
+        requires { IsToBegin self.old }
+        ensures taken { OnOk result (WorldBecomes self.old self.new at_events) }
+        ensures server { OnOk result ((s : ServerState) × (self.new.server ≡ Some s)) }
+        ensures rest { OnOk result (HasBegun self.old self.new) }
+        ensures kept { self.new.kept ≡ self.old.kept }
+        ensures lines { self.new.lines ≡ self.old.lines }
+        ensures ends { OnErr result (KeepsEnds self.old self.new) }
+    {
+        if self.server.is_some() {
+            self.section = Section::Events;
+            return Ok(());
+        }
+        let plan = match copy_of(self.alloc, &self.plan) {
+            Ok(plan) => plan,
+            Err(error) => return Err(error),
+        };
+        match Server::new(self.alloc, plan, &self.image) {
+            Ok(server) => {
+                self.server = Some(server);
+                self.section = Section::Events;
+                Ok(())
+            }
+            Err(ServerError::Memory) => Err(AllocError),
+            Err(ServerError::BadPlan(_)) => unreachable!(),
+        }
+    }
+
+    /// Carries out an event, or the end.
+    #[tactic(auto, unfolding(crate::specs::Making::after_form))]
+    fn event(&mut self, form: &Form) -> Result<(), AllocError>
+        requires event { is_event_or_end form.now ≡ true }
+        requires ranges { in_range form.now ≡ true }
+        requires names { names_device (length self.old.devices) form.now ≡ true }
+        requires come { has_come self.old.sent self.old.uplinks self.old.time form.now ≡ true }
+        requires fits { fits_payload form.now ≡ true }
+        requires begun { (s : ServerState) × (self.old.server ≡ Some s) }
+        requires few { length self.old.devices ≤ 64 }
+        requires room { self.old.lines < max_lines }
+        ensures taken { OnOk result (WorldBecomes self.old self.new (λ world. after_form world form.now)) }
+        ensures kept { self.new.kept ≡ self.old.kept }
+        ensures lines { self.new.lines ≡ self.old.lines }
+        ensures ends { OnErr result (KeepsEnds self.old self.new) }
+    {
+        match form {
+            Form::At { time } => {
+                self.section = Section::Events;
+                self.time = *time;
+                Ok(())
+            }
+            Form::Wake { device } => self.wake(*device as u8),
+            Form::Ask { device } => self.ask(*device as u8),
+            Form::Frag => self.frag(),
+            Form::Status => self.status(),
+            Form::Down {
+                number,
+                device,
+                word,
+            } => self.down(*number, *device as u8, *word as u32),
+            Form::Raw {
+                device,
+                port,
+                payload,
+                word,
+            } => self.raw(*device as u8, &raw_down(*port as u8, payload), *word as u32),
+            Form::Up { number } => self.up(*number),
+            Form::End => {
+                self.section = Section::Ended;
+                Ok(())
+            }
+            _ => Ok(()),
+        }
+    }
+
+    /// The server sends the request of its stage to a device.
+    fn ask(&mut self, device: u8) -> Result<(), AllocError>
+        requires first { 1 ≤ device }
+        requires last { device ≤ length self.old.devices }
+        requires begun { (s : ServerState) × (self.old.server ≡ Some s) }
+        ensures taken { OnOk result (WorldBecomes self.old self.new
+            (λ world. at_events (with_sent world (Some device) (request_of world.server device)))) }
+        ensures kept { self.new.kept ≡ self.old.kept }
+        ensures lines { self.new.lines ≡ self.old.lines }
+        ensures ends { OnErr result (KeepsEnds self.old self.new) }
+    {
+        match make_line(&mut self.sent) {
+            Ok(()) => {}
+            Err(error) => return Err(error),
+        }
+        self.section = Section::Events;
+        let Some(server) = &self.server else {
+            unreachable!()
+        };
+        let down = server.ask(device);
+        send(&mut self.sent, Some(device), down);
+        Ok(())
+    }
+
+    /// The server sends the next fragment, to any device.
+    fn frag(&mut self) -> Result<(), AllocError>
+        requires begun { (s : ServerState) × (self.old.server ≡ Some s) }
+        ensures taken { OnOk result (WorldBecomes self.old self.new
+            (λ world. at_events (with_sent (record world { server = after_fragment world.server }) None (result_ok (next_fragment world.server))))) }
+        ensures kept { self.new.kept ≡ self.old.kept }
+        ensures lines { self.new.lines ≡ self.old.lines }
+        ensures ends { OnErr result (KeepsEnds self.old self.new) }
+    {
+        match make_line(&mut self.sent) {
+            Ok(()) => {}
+            Err(error) => return Err(error),
+        }
+        self.section = Section::Events;
+        let Some(server) = &mut self.server else {
+            unreachable!()
+        };
+        let down = fragment(server);
+        send(&mut self.sent, None, down);
+        Ok(())
+    }
+
+    /// The server asks all devices for their status.
+    fn status(&mut self) -> Result<(), AllocError>
+        requires begun { (s : ServerState) × (self.old.server ≡ Some s) }
+        ensures taken { OnOk result (WorldBecomes self.old self.new
+            (λ world. at_events (with_sent (record world { server = after_status_to_all world.server }) None (status_to_all world.server)))) }
+        ensures kept { self.new.kept ≡ self.old.kept }
+        ensures lines { self.new.lines ≡ self.old.lines }
+        ensures ends { OnErr result (KeepsEnds self.old self.new) }
+    {
+        match make_line(&mut self.sent) {
+            Ok(()) => {}
+            Err(error) => return Err(error),
+        }
+        self.section = Section::Events;
+        let Some(server) = &mut self.server else {
+            unreachable!()
+        };
+        let down = server.status_all();
+        send(&mut self.sent, None, down);
+        Ok(())
+    }
+
+    /// A device wakes, and its uplinks are then numbered, oldest first.
+    fn wake(&mut self, device: u8) -> Result<(), AllocError>
+        requires first { 1 ≤ device }
+        requires last { device ≤ length self.old.devices }
+        requires begun { (s : ServerState) × (self.old.server ≡ Some s) }
+        ensures taken { OnOk result (WorldBecomes self.old self.new
+            (λ world. at_events (after_wake world device (numbered world.devices device)))) }
+        ensures kept { self.new.kept ≡ self.old.kept }
+        ensures lines { self.new.lines ≡ self.old.lines }
+        ensures ends { OnErr result (KeepsEnds self.old self.new) }
+    {
+        self.section = Section::Events;
+        wake(&mut self.devices, &mut self.uplinks, device, self.time)
+    }
+
+    /// Payload S reaches a device, whose uplinks are then numbered, oldest first.
+    fn down(&mut self, number: u64, device: u8, word: u32) -> Result<(), AllocError>
+        requires first { 1 ≤ device }
+        requires last { device ≤ length self.old.devices }
+        requires room { self.old.lines < max_lines }
+        requires sent { (s : SentPayload) × (numbered self.old.sent number ≡ Some s) }
+        requires begun { (s : ServerState) × (self.old.server ≡ Some s) }
+        ensures taken { OnOk result (WorldBecomes self.old self.new
+            (λ world. at_events (after_down world device word (numbered world.devices device) (numbered world.sent number)))) }
+        ensures kept { self.new.kept ≡ self.old.kept }
+        ensures lines { self.new.lines ≡ self.old.lines }
+        ensures ends { OnErr result (KeepsEnds self.old self.new) }
+    {
+        self.section = Section::Events;
+        let mark = mark_behind(self.lines);
+        let coming = Coming {
+            t: self.time,
+            word,
+            mark,
+        };
+        let Some(sent) = numbered(&self.sent, number) else {
+            unreachable!()
+        };
+        deliver(
+            &mut self.devices,
+            &mut self.uplinks,
+            device,
+            &sent.down,
+            coming,
+        )
+    }
+
+    /// Anybody's payload reaches a device, whose uplinks are then numbered, oldest first. It is no sent payload, and has no
+    /// number.
+    fn raw(&mut self, device: u8, down: &Downlink, word: u32) -> Result<(), AllocError>
+        requires first { 1 ≤ device }
+        requires last { device ≤ length self.old.devices }
+        requires room { self.old.lines < max_lines }
+        requires begun { (s : ServerState) × (self.old.server ≡ Some s) }
+        ensures taken { OnOk result (WorldBecomes self.old self.new
+            (λ world. at_events (after_raw world device word down.now (numbered world.devices device)))) }
+        ensures kept { self.new.kept ≡ self.old.kept }
+        ensures lines { self.new.lines ≡ self.old.lines }
+        ensures ends { OnErr result (KeepsEnds self.old self.new) }
+    {
+        self.section = Section::Events;
+        let mark = mark_behind(self.lines);
+        let coming = Coming {
+            t: self.time,
+            word,
+            mark,
+        };
+        deliver(&mut self.devices, &mut self.uplinks, device, down, coming)
+    }
+
+    /// Uplink U reaches the server, which may answer.
+    fn up(&mut self, number: u64) -> Result<(), AllocError>
+        requires made { (m : MadeUplink) × (numbered self.old.uplinks number ≡ Some m) }
+        requires begun { (s : ServerState) × (self.old.server ≡ Some s) }
+        ensures taken { OnOk result (WorldBecomes self.old self.new
+            (λ world. at_events (after_up world (numbered world.uplinks number)))) }
+        ensures kept { self.new.kept ≡ self.old.kept }
+        ensures lines { self.new.lines ≡ self.old.lines }
+        ensures ends { OnErr result (KeepsEnds self.old self.new) }
+    {
+        match make_line(&mut self.sent) {
+            Ok(()) => {}
+            Err(error) => return Err(error),
+        }
+        self.section = Section::Events;
+        let Some(server) = &mut self.server else {
+            unreachable!()
+        };
+        let Some(made) = numbered(&self.uplinks, number) else {
+            unreachable!()
+        };
+        let answer = answer_of(server, made, self.time);
+        send(&mut self.sent, Some(made.device), answer);
+        Ok(())
+    }
+}
+
+/// A plan equal to this one.
+fn copy_of(alloc: Global, plan: &Plan) -> Result<Plan, AllocError>
+    ensures { IfOk result (λ copy. copy ≡ plan.now) }
+{
+    match Vec::from_slice(alloc, &plan.devices) {
+        Ok(devices) => Ok(Plan {
+            frag_size: plan.frag_size,
+            parity: plan.parity,
+            group: plan.group,
+            window: plan.window,
+            devices,
+        }),
+        Err(error) => Err(error),
+    }
+}
+
+/// Room for one payload more of the server's.
+fn make_line(sent: &mut Vec<SentPayload>) -> Result<(), AllocError>
+    ensures same { sent.new.items ≡ sent.old.items }
+    ensures room { OnOk result (vec_len sent.new + 1 ≤ vec_capacity sent.new) }
+{
+    sent.reserve(1)
+}
+
+/// Numbers a payload of the server's, for which there is room.
+fn send(sent: &mut Vec<SentPayload>, receiver: Option<u8>, down: Option<Downlink>)
+    requires { vec_len sent.old + 1 ≤ vec_capacity sent.old }
+    ensures { sent.new.items ≡ sent.old.items ++ sent_by receiver down }
+{
+    let Some(down) = down else {
+        return;
+    };
+    sent.push_reserved(SentPayload { receiver, down });
+}
+
+/// The next fragment, if there is one.
+fn fragment(server: &mut Server) -> Option<Downlink>
+    ensures down { result ≡ down_of (result_ok (next_fragment server.old)) }
+    ensures moved { server.new ≡ after_fragment server.old }
+{
+    match server.next_fragment() {
+        Ok(down) => Some(down),
+        Err(_) => None,
+    }
+}
+
+/// What the server answers to an uplink; nothing to one that it refuses.
+fn answer_of(server: &mut Server, made: &MadeUplink, t: u64) -> Option<Downlink>
+    requires first { 1 ≤ made.now.device }
+    requires last { made.now.device ≤ length server.old.plan.devices }
+    ensures moved { server.new ≡ (uplink_step server.old made.now.device made.now.uplink.port made.now.uplink.payload t).server }
+    ensures down { result ≡ down_of (answered (uplink_step server.old made.now.device made.now.uplink.port made.now.uplink.payload t).answer) }
+{
+    match server.uplink(
+        made.device,
+        made.uplink.port,
+        made.uplink.payload.as_slice(),
+        t,
+    ) {
+        Ok(answer) => answer,
+        Err(_) => None,
+    }
+}
+
+/// The mark of the line that comes behind so many.
+fn mark_behind(lines: u32) -> u64
+    requires { lines < max_lines }
+    ensures { result ≡ lines + 1 }
+{
+    u64::from(lines) + 1
+}
+
+/// Anybody's payload, by unicast.
+#[inline(never)]
+fn raw_down(port: u8, payload: &HexBytes) -> Downlink
+    requires { length payload.now ≤ 242 }
+    ensures { result ≡ raw_down port payload.now }
+{
+    let mut bytes = [0; MAX_HEX_BYTES];
+    let count = payload.put(&mut bytes);
+    Downlink {
+        to: To::Unicast,
+        port,
+        payload: Payload::from_slice(&bytes[..count]),
+    }
+}

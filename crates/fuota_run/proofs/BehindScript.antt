@@ -1,0 +1,44 @@
+-- What is told behind a script's lines.
+use Rattle.std.proofs.Common.{◌≡◌, inl, inr, ℕ, List, Some, None, Result, Ok, Err, sym, subst}
+use Rattle.script_lines.specs.Lines.{lines_of}
+use Rattle.campaign_world.specs.declared.faults.LineFault.{LineFault}
+use Rattle.campaign_world.specs.declared.faults.LineError.{LineError}
+use Rattle.campaign_world.specs.declared.faults.LineError.TheVariants as error
+use Rattle.campaign_world.specs.World.{WorldState, first_world}
+use Rattle.campaign_world.specs.Script.{read_lines, end_result, campaign_of}
+use Rattle.campaign_world.specs.HeldWorld.{HeldWorld, WorldStands, IsReport}
+use Rattle.campaign_world.specs.HeardWorld.{WorldIsIf}
+use Rattle.campaign_world.specs.Recovery.{recovery}
+use Rattle.fuota_run.specs.declared.status.Status.TheVariants as status
+use Rattle.fuota_run.specs.declared.words.ScriptForm.{ScriptForm}
+use Rattle.fuota_run.specs.declared.words.ScriptForm.TheVariants.{Campaign, Recover}
+use Rattle.fuota_run.specs.Answer.{Answer, answer, recovered, told_of}
+use Rattle.fuota_run.specs.Reply.{IsPlayed}
+use Rattle.fuota_run.specs.Replies.{IsRecovery}
+use Rattle.fuota_run.proofs.Playing.{report_told, recovery_told}
+
+abbrev Outcome : Type 0
+Outcome = Result WorldState LineFault
+
+-- a report that was made is of a campaign, since behind a refused line there is none
+pub report_behind : (held : HeldWorld) (what : ScriptForm) (text : List ℕ) (so_far : Outcome) → what ≡ Campaign → ((w : WorldState) → WorldStands held w → held.kept ≡ None → IsReport w (Ok text))
+    → ((e : LineError) → held.kept ≡ Some e → ⊥) → WorldIsIf held so_far → IsPlayed (told_of what) (end_result so_far) (Ok (answer status.Done text))
+report_behind held what text so_far form reports never (inl memory) = absurd (never error.Memory memory)
+report_behind held what text (Err fault) form reports never (inr refused) = absurd (never (error.Line fault) refused)
+report_behind held what text (Ok w) form reports never (inr stands) =
+    subst (λ (f : ScriptForm). IsPlayed (told_of f) (end_result (Ok w)) (Ok (answer status.Done text))) (sym form) (report_told w (Ok text) (reports w stands.1 stands.0))
+
+-- so is what a device recovered
+pub recovery_behind : (held : HeldWorld) (what : ScriptForm) (device : ℕ) (r : Result Answer LineError) (so_far : Outcome) → what ≡ Recover device
+    → ((w : WorldState) → WorldStands held w → held.kept ≡ None → end_result (Ok w) ≡ Ok w) → ((e : LineError) → held.kept ≡ Some e → ⊥)
+    → ((w : WorldState) → WorldStands held w → IsRecovery (recovered device (recovery w device)) r) → WorldIsIf held so_far → IsPlayed (told_of what) (end_result so_far) r
+recovery_behind held what device r so_far form ends never recovers (inl memory) = absurd (never error.Memory memory)
+recovery_behind held what device r (Err fault) form ends never recovers (inr refused) = absurd (never (error.Line fault) refused)
+recovery_behind held what device r (Ok w) form ends never recovers (inr stands) =
+    subst (λ (f : ScriptForm). IsPlayed (told_of f) (end_result (Ok w)) r) (sym form) (recovery_told device w r (ends w stands.1 stands.0) (recovers w stands.1))
+
+-- and it is told of the script
+pub script_told : (tell : WorldState → Answer) (image script : List ℕ) (r : Result Answer LineError) → IsPlayed tell (end_result (read_lines (Ok (first_world image)) (lines_of script))) r
+    → IsPlayed tell (campaign_of image script) r
+unfolding campaign_of
+script_told tell image script r told = told
