@@ -2,4 +2,6 @@ pub mod SourceLines
 pub mod Stretches
 pub mod CutLines
 pub mod Heard
+pub mod CutWords
+pub mod OftenForms
 pub mod WorkedLines

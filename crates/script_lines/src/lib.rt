@@ -9,6 +9,7 @@ mod hex_bytes;
 mod laws;
 mod lines;
 mod numbers;
+mod often;
 mod pieces;
 mod ranges;
 mod reading;

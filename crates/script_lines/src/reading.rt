@@ -7,11 +7,36 @@ ghost use Rattle.script_lines.specs.Forms.{form_of, alone, header_form, image_fo
 use crate::forms::{Class, Form};
 use crate::hex_bytes::HexBytes;
 use crate::numbers::{decimal, hex_number, key};
+use crate::often::{asked_device, down_numbers, is_frag, time_at, up_number};
 use crate::words::{count_words, is_word, word};
 
 /// The form that a line spells, None exactly where it spells none.
-#[tactic(auto, unfolding(crate::specs::Forms::form_of))]
 pub fn form(line: &[u8]) -> Option<Form<'_>>
+    ensures { result ≡ form_of line.now }
+{
+    if let Some(numbers) = down_numbers(line) {
+        Some(Form::Down {
+            number: numbers.number,
+            device: numbers.device,
+            word: numbers.random,
+        })
+    } else if is_frag(line) {
+        Some(Form::Frag)
+    } else if let Some(number) = up_number(line) {
+        Some(Form::Up { number })
+    } else if let Some(device) = asked_device(line) {
+        Some(Form::Ask { device })
+    } else if let Some(time) = time_at(line) {
+        Some(Form::At { time })
+    } else {
+        any_form(line)
+    }
+}
+
+/// The form of any line, word by word.
+#[inline(never)]
+#[tactic(auto, unfolding(crate::specs::Forms::form_of))]
+fn any_form(line: &[u8]) -> Option<Form<'_>>
     ensures { result ≡ form_of line.now }
 {
     let keyword = word(line, 0);

@@ -1,0 +1,150 @@
+//! Lines of the kinds that come by the thousand, each read in one pass over its bytes. None says nothing: the line is then
+//! read word by word.
+
+ghost use Rattle.std.specs.Prelude.{◌≡◌, ◌≤◌, ◌++◌, ◌^◌, Some, IfSome, IsTrue, codes, length, take};
+ghost use Rattle.script_lines.specs.Numbers.{decimal_of};
+ghost use Rattle.script_lines.specs.Forms.{form_of};
+ghost use Rattle.script_lines.specs.declared.forms.Form.TheVariants.{Ask, At, Down, Frag, Up};
+
+/// A decimal at the front of bytes, and where it ends.
+#[derive(Clone, Copy)]
+struct Leading {
+    number: u64,
+    end: usize,
+}
+
+/// The numbers of a line `down S D [WORD]`.
+#[derive(Clone, Copy)]
+pub struct DownNumbers {
+    /// S
+    pub number: u64,
+    /// D
+    pub device: u64,
+    /// WORD, 0 where it is left out.
+    pub random: u64,
+}
+
+/// The numbers of a line `down S D [WORD]`.
+#[inline(always)]
+pub fn down_numbers(line: &[u8]) -> Option<DownNumbers>
+    ensures { IfSome result (λ n. form_of line.now ≡ Some (Down n.number n.device n.random)) }
+{
+    match line {
+        [b'd', b'o', b'w', b'n', b' ', rest @ ..] => numbers_behind(rest),
+        _ => None,
+    }
+}
+
+/// Whether a line is `frag`.
+#[inline(always)]
+pub fn is_frag(line: &[u8]) -> bool
+    ensures { IsTrue result → form_of line.now ≡ Some Frag }
+{
+    match line {
+        [b'f', b'r', b'a', b'g', rest @ ..] => is_no_more(rest),
+        _ => false,
+    }
+}
+
+/// U of a line `up U`.
+#[inline(always)]
+pub fn up_number(line: &[u8]) -> Option<u64>
+    ensures { IfSome result (λ n. form_of line.now ≡ Some (Up n)) }
+{
+    match line {
+        [b'u', b'p', b' ', rest @ ..] => lone_decimal(rest),
+        _ => None,
+    }
+}
+
+/// D of a line `ask D`.
+#[inline(always)]
+pub fn asked_device(line: &[u8]) -> Option<u64>
+    ensures { IfSome result (λ n. form_of line.now ≡ Some (Ask n)) }
+{
+    match line {
+        [b'a', b's', b'k', b' ', rest @ ..] => lone_decimal(rest),
+        _ => None,
+    }
+}
+
+/// MS of a line `at MS`.
+#[inline(always)]
+pub fn time_at(line: &[u8]) -> Option<u64>
+    ensures { IfSome result (λ n. form_of line.now ≡ Some (At n)) }
+{
+    match line {
+        [b'a', b't', b' ', rest @ ..] => lone_decimal(rest),
+        _ => None,
+    }
+}
+
+/// The numbers behind the keyword of a line `down S D [WORD]`.
+fn numbers_behind(rest: &[u8]) -> Option<DownNumbers>
+    ensures { IfSome result (λ n. form_of (codes "down " ++ rest.now) ≡ Some (Down n.number n.device n.random)) }
+{
+    let first = leading_decimal(rest)?;
+    if first.end >= rest.len() || rest[first.end] != b' ' {
+        return None;
+    }
+    let behind = rest.split_at(first.end + 1).1;
+    let second = leading_decimal(behind)?;
+    if second.end >= behind.len() {
+        return Some(DownNumbers {
+            number: first.number,
+            device: second.number,
+            random: 0,
+        });
+    }
+    if behind[second.end] != b' ' {
+        return None;
+    }
+    let random = lone_decimal(behind.split_at(second.end + 1).1)?;
+    Some(DownNumbers {
+        number: first.number,
+        device: second.number,
+        random,
+    })
+}
+
+/// Whether nothing stands behind `frag`.
+#[inline(always)]
+#[tactic(auto, using(crate::proofs::OftenForms::frag_line))]
+fn is_no_more(rest: &[u8]) -> bool
+    ensures { IsTrue result → form_of (codes "frag" ++ rest.now) ≡ Some Frag }
+{
+    rest.is_empty()
+}
+
+/// The decimal that stands behind a keyword, the last word of its line.
+fn lone_decimal(rest: &[u8]) -> Option<u64>
+    ensures decimal { IfSome result (λ n. decimal_of rest.now ≡ Some n) }
+    ensures up { IfSome result (λ n. form_of (codes "up " ++ rest.now) ≡ Some (Up n)) }
+    ensures ask { IfSome result (λ n. form_of (codes "ask " ++ rest.now) ≡ Some (Ask n)) }
+    ensures at { IfSome result (λ n. form_of (codes "at " ++ rest.now) ≡ Some (At n)) }
+{
+    let found = leading_decimal(rest)?;
+    if found.end < rest.len() {
+        return None;
+    }
+    Some(found.number)
+}
+
+/// The decimal that the first digits of bytes are, whatever stands behind them.
+fn leading_decimal(bytes: &[u8]) -> Option<Leading>
+    ensures within { IfSome result (λ f. f.end ≤ length bytes.now) }
+    ensures decimal { IfSome result (λ f. decimal_of (take f.end bytes.now) ≡ Some f.number) }
+{
+    let mut number = 0u64;
+    let mut end = 0;
+    while end < bytes.len() && bytes[end].is_ascii_digit() {
+        number = number
+            .saturating_mul(10)
+            .saturating_add(u64::from(bytes[end] - b'0'));
+        end += 1;
+    }
+    if end == 0 || (end > 1 && bytes[0] == b'0') {
+        return None;
+    }
+    Some(Leading { number, end })
+}
