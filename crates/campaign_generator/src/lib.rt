@@ -3,6 +3,9 @@
 //! `generate` gives exactly the image and the script that the definitions draw from the seed, or says that memory ran out;
 //! a law says which form each line of that script spells.
 //! How a script is played, and what a device makes of it, is left to the crates above.
+//!
+//!     let made = generate(alloc, 0)?;
+//!     // made.image is an image file, made.script the lines of a campaign that sends it
 #![tactic(auto)]
 
 mod draws;

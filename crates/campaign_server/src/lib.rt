@@ -2,6 +2,12 @@
 //! What it asks of each device, what it sends to all, and where an answer leads is one step function over a record that its
 //! contracts see: the plan, the image, a stage for each device, the next fragment and the group's next frame count.
 //! When anything is sent, and whether it arrives, is left to the caller.
+//!
+//!     let mut server = Server::new(alloc, plan, image)?;       // `image` is an image file
+//!     let request = server.ask(1);                             // what device 1 is to be sent next
+//!     let fragment = server.next_fragment();
+//!     let answer = server.uplink(1, port, payload, t)?;        // moves its stage
+//!     let stage = server.ledger(1);
 #![tactic(auto)]
 
 mod answers;

@@ -2,6 +2,13 @@
 //! devices, what was sent and what was heard. The forms of a script, their order and the report are this project's profile.
 //! `World` takes one line after another, or refuses the first wrong one with its first cause, and gives the report.
 //! Files and words of a command line are left to the program above.
+//!
+//!     let mut world = World::new(alloc, image)?;
+//!     for line in lines {
+//!         world.line(line)?;                                   // the first refused line, and why
+//!     }
+//!     let report = world.report(alloc)?;
+//!     let file = world.recovered(1);
 #![tactic(auto)]
 
 mod causes;

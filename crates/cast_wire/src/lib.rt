@@ -3,6 +3,15 @@
 //! A command is answered exactly where its bytes spell it by the row of `specs/Table.antt`, any other place is
 //! refused with its cause, and a valid command is written in its canonical spelling, whole or not at all.
 //! Payloads of several commands, the other packages and what a command does are left to the crates above.
+//!
+//!     match read_one(FRAGMENT_PORT, Direction::Down, bytes, 0) {
+//!         Ok((Cmd::FragSessionSetupReq { nb_frag, frag_size, .. }, next)) => ..,
+//!         Ok((command, next)) => ..,            // the next command begins at `next`
+//!         Err(refusal) => ..,                   // at which byte, and why
+//!     }
+//!     if let Some(fragment) = fragment_at(bytes, 0) {
+//!         // fragment.index, fragment.n, and fragment.bytes where they lie
+//!     }
 #![tactic(auto)]
 
 mod cmd;

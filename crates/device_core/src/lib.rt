@@ -3,6 +3,11 @@
 //! A device is seen as the record of `specs/Device.antt`, with the lists of all fragments that its sessions heard: each call
 //! leaves what one function of `specs/Deliver.antt` makes of that record, and answers what that function answers.
 //! Only `Device::reserve` takes memory. Radio, clocks, random numbers and what runs the image are left to the caller.
+//!
+//!     let mut device = Device::reserve(alloc, config)?;        // all memory
+//!     device.deliver(t, &downlink, random_word, mark);         // deaf, refused, outbox full, or done
+//!     while let Some(uplink) = device.take_uplink() { .. }     // uplink.due, uplink.port, uplink.payload
+//!     let file = device.session(0).map(|view| view.file);
 #![tactic(auto)]
 
 mod arrival;

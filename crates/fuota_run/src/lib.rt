@@ -4,6 +4,9 @@
 //! and each other status says what failed.
 //! Sessions are left to `frag_session`, the bytes of commands to `cast_wire`, and real files and their names
 //! to the program above.
+//!
+//!     let status = run(alloc, &words, &mut files, &mut out);   // files: StdFiles, MemFiles, SureFiles; out: StdSink, ..
+//!     let code = status.code();
 #![tactic(auto)]
 
 mod files;

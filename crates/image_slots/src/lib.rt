@@ -4,6 +4,14 @@
 //! that the definition gives them for a hardware version: corrupt, incompatible, or valid with the firmware's version.
 //! Slots take their memory once, and each call on them is a function of what they hold.
 //! Who made a file, and when a device starts it, is left to the crates above.
+//!
+//!     match ImageView::read(file, hardware) {
+//!         ImageState::Valid(firmware) => ..,
+//!         ImageState::Incompatible | ImageState::Corrupt | ImageState::None => ..,
+//!     }
+//!     let mut slots = Slots::reserve(alloc, 65_774, hardware)?;
+//!     slots.offer(file);                                       // becomes next
+//!     slots.swap();                                            // a valid next runs
 #![tactic(auto)]
 
 mod image;

@@ -2,6 +2,10 @@
 //! Each key is the AES-128 that the standard says of the key before it, and the key that was wrapped for a device
 //! is the one that it unwraps.
 //! Where keys are kept, and what is encrypted with them, is left to the crates above.
+//!
+//!     let kek = kek(&root_1_0(&gen_app_key));
+//!     let mc_key = unwrap_key(&kek, &wrapped);  // the server: wrap_key(&kek, &mc_key)
+//!     let session_key = app_s_key(&mc_key, addr);
 #![tactic(auto)]
 
 mod keys;

@@ -4,6 +4,12 @@
 //! A payload is read as a message of its commands exactly where they spell it from its first byte to its last, and else
 //! it is answered where and why reading stops; a valid command is written in its canonical spelling, and read again.
 //! What a command does is left to the device and the server above.
+//!
+//!     let mut message = Message::read(port, Direction::Down, payload)?;   // or where and why reading stops
+//!     while let Some(command) = message.next() {
+//!         show(&command, &mut text)?;           // "AppTimeAns correction=5 token=3"
+//!     }
+//!     let payload = spelled(FRAGMENT_PORT, Direction::Down, &command);
 #![tactic(auto)]
 
 mod checking;

@@ -2,6 +2,9 @@
 //! correction code). For each number of a coded fragment and each number of columns, `line` gives the line of the
 //! definition in words of 64 bits, and draws just as many states of the register as the definition, never more than 25
 //! for each column wanted. What a line is for, the XOR of the pieces at its columns, is left to the crates above.
+//!
+//!     let mut words = [0; 16];                                 // 64 columns a word
+//!     line_uncounted(1, nb_frag, &mut words);                  // coded fragment 1, which is fragment nb_frag + 1
 #![tactic(auto)]
 
 mod lines;

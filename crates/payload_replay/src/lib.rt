@@ -3,6 +3,11 @@
 //! `Decoding` and `Replaying` hear the lines as they come, and give exactly the text that these define, or the first
 //! refused line with its first cause.
 //! Words of a command line and files are left to the program above, and the script of a campaign to `campaign_world`.
+//!
+//!     let mut decoding = Decoding::new(alloc, 201, Direction::Down);
+//!     decoding.line(b"0801001122");                            // `HearsLine` has the call
+//!     let text = decoding.text()?;
+//!     // and `Replaying::new(alloc)`, whose first line is `replay 1 ROWS`
 #![tactic(auto)]
 
 mod decoding;

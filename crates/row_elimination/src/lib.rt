@@ -3,6 +3,14 @@
 //! coded fragments told beyond them; its contract says of each fragment which blocks fit afterwards, and that it is complete
 //! exactly when one block alone does. Which fragments are heard, and what becomes of a whole file, is left to the sessions
 //! above.
+//!
+//!     let mut solver: Solver<64, 768> = Solver::reserve(alloc, 256 * 48)?;   // all memory
+//!     solver.begin(nb_frag, frag_size, padding, 16)?;
+//!     match solver.feed(n, part) {
+//!         Fed::Receiving => ..,                 // solver.missing() pieces are still to be gained
+//!         Fed::Complete => ..,                  // solver.block() is the file and its padding
+//!         Fed::NoRows | Fed::Conflict => ..,
+//!     }
 #![tactic(auto)]
 
 mod additions;

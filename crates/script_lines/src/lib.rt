@@ -1,6 +1,11 @@
 //! The lines of a campaign's script (this project's profile): the stretches between line feeds, the form that a line
 //! spells, and the ranges of its numbers. `form` gives exactly the form that the bytes spell, None where they spell none,
 //! and `in_range` is the table of ranges. What a form makes of a campaign, and when it may come, is left to the world above.
+//!
+//!     match form(b"down 5 1") {
+//!         Some(read) if in_range(&read) => ..,                 // Form::Down { .. }
+//!         _ => ..,
+//!     }
 #![tactic(auto)]
 
 mod forms;

@@ -3,6 +3,10 @@
 //! A command is answered exactly where its bytes spell it by the row of `specs/Table.antt`, any other place is
 //! refused with its cause, and a valid command is written in its canonical spelling, whole or not at all.
 //! Payloads of several commands, the other packages and what a command does are left to the crates above.
+//!
+//!     let request = Cmd::AppTimeReq { time, required: true, token: 3 };
+//!     let mut payload = Payload::new();
+//!     write_one(&request, &mut payload)?;       // whole or not at all
 #![tactic(auto)]
 
 mod cmd;

@@ -2,6 +2,11 @@
 //! numbers at places of a payload, payloads of at most 242 bytes, and why a payload is refused.
 //! The number that was put at a place is the number that is read there, and a put without room changes nothing.
 //! Which commands there are is left to the crates above, which write their tables as rows of `specs/Rows.antt`.
+//!
+//!     let mut payload = Payload::new();
+//!     put_u8(&mut payload, 0x01)?;              // `Full` where 242 bytes are there
+//!     put_u32(&mut payload, 0xdead_beef)?;      // low byte first
+//!     let number = u32_at(payload.as_slice(), 1);
 #![tactic(auto)]
 
 mod laws;
