@@ -12,10 +12,12 @@ pub fn sum_pieces(area: &[u8], picks: &[u16], part: &[u8], rest: &mut [u8])
     requires picks { (n : ℕ) → n < length picks.now → slice_index picks.now n * length part.now + length part.now ≤ length area.now }
     ensures { (i : ℕ) → i < length part.now → slice_index rest.new i ≡ after_pieces (length part.now) area.now i (slice_index part.now i) picks.now }
 {
-    if part.len() < 64 {
-        sum_short(area, picks, part, rest);
-    } else {
+    if part.len() >= 64 {
         sum_long(area, picks, part, rest);
+    } else if part.len() >= 16 {
+        sum_middle(area, picks, part, rest);
+    } else {
+        sum_short(area, picks, part, rest);
     }
 }
 
@@ -31,6 +33,46 @@ fn sum_short(area: &[u8], picks: &[u16], part: &[u8], rest: &mut [u8])
         let at = picks[i] as usize * size;
         xor_bytes(rest, &area[at..at + size]);
     }
+}
+
+/// The same, 16 bytes of all of them twice at a time, so that a part of at most 32 takes one pass. A part has at least 16,
+/// and fewer than 64.
+fn sum_middle(area: &[u8], picks: &[u16], part: &[u8], rest: &mut [u8])
+    requires sized { length rest.old ≡ length part.now }
+    requires some { 16 ≤ length part.now }
+    requires few { length part.now < 64 }
+    requires picks { (n : ℕ) → n < length picks.now → slice_index picks.now n * length part.now + length part.now ≤ length area.now }
+    ensures { (i : ℕ) → i < length part.now → slice_index rest.new i ≡ after_pieces (length part.now) area.now i (slice_index part.now i) picks.now }
+{
+    let end = part.len();
+    if end > 32 {
+        two_stripes(area, picks, part, rest, 0, 16);
+        two_stripes(area, picks, part, rest, end - 32, end - 16);
+    } else {
+        two_stripes(area, picks, part, rest, 0, end - 16);
+    }
+}
+
+/// Writes 16 bytes of the sum from each of two places on.
+fn two_stripes(area: &[u8], picks: &[u16], part: &[u8], rest: &mut [u8], at: usize, other: usize)
+    requires sized { length rest.old ≡ length part.now }
+    requires inside { at + 16 ≤ length part.now }
+    requires other_inside { other + 16 ≤ length part.now }
+    requires picks { (n : ℕ) → n < length picks.now → slice_index picks.now n * length part.now + length part.now ≤ length area.now }
+    ensures here { (i : ℕ) → at ≤ i → i < at + 16 → slice_index rest.new i ≡ after_pieces (length part.now) area.now i (slice_index part.now i) picks.now }
+    ensures there { (i : ℕ) → other ≤ i → i < other + 16 → slice_index rest.new i ≡ after_pieces (length part.now) area.now i (slice_index part.now i) picks.now }
+    ensures others { (i : ℕ) → (i < at) ⊎ (at + 16 ≤ i) → (i < other) ⊎ (other + 16 ≤ i) → slice_index rest.new i ≡ slice_index rest.old i }
+{
+    let size = part.len();
+    let mut sum = u8x16::from_slice(&part[at..]);
+    let mut more = u8x16::from_slice(&part[other..]);
+    for n in 0..picks.len() {
+        let k = picks[n] as usize;
+        sum ^= u8x16::from_slice(&area[k * size + at..]);
+        more ^= u8x16::from_slice(&area[k * size + other..]);
+    }
+    sum.copy_to_slice(&mut rest[at..]);
+    more.copy_to_slice(&mut rest[other..]);
 }
 
 /// The same, 64 bytes of all of them at a time. A part has at least 64.
