@@ -6,3 +6,5 @@ pub mod ReadingLaw
 pub mod Cursor
 pub mod ReadResults
 pub mod Examples
+pub mod OneByte
+pub mod Appended

@@ -1,5 +1,5 @@
 -- What contracts see of a message on its way through a loop: the commands that are left of it.
-use Rattle.std.specs.Prelude.{◌≡◌, ◌≢◌, ℕ, List, [], ◌∷◌, Option, Some, None, Result, Ok, Err}
+use Rattle.std.specs.Prelude.{◌≡◌, ◌≢◌, ℕ, Bool, true, false, List, [], ◌∷◌, ◌++◌, Option, Some, None, Result, Ok, Err}
 use Rattle.wire_base.specs.declared.refusal.Direction.{Direction}
 use Rattle.wire_base.specs.declared.refusal.Refusal.{Refusal}
 use Rattle.cast_wire.specs.declared.cmd.Cmd.TheVariants.{DataFragment}
@@ -7,6 +7,7 @@ use Rattle.cast_wire.specs.declared.fragment.Fragment.{Fragment}
 use Rattle.package_grammar.specs.declared.command.Command.{Command}
 use Rattle.package_grammar.specs.declared.command.Command.TheVariants.{Cast}
 use Rattle.package_grammar.specs.Reading.{Reading}
+use Rattle.package_grammar.specs.Texts.{text_of}
 
 pub record HeldMessage : Type 0 where
   pub port : ℕ
@@ -22,6 +23,12 @@ message_of port direction (Err refusal) = Err refusal
 abbrev pub TakesCommand : HeldMessage → HeldMessage → Option Command → Type 0
 TakesCommand old new None = (old.commands ≡ []) × (new ≡ old)
 TakesCommand old new (Some command) = old ≡ record new { commands = command ∷ new.commands }
+
+-- the first command that was left was taken and its text put at the end; nothing where none was left
+abbrev pub ShowsCommand : HeldMessage → HeldMessage → (before after : List ℕ) → Bool → Type 0
+ShowsCommand old new before after true =
+    (command : Command) × TakesCommand old new (Some command) × (after ≡ before ++ text_of command)
+ShowsCommand old new before after false = TakesCommand old new None × (after ≡ before)
 
 -- a DataFragment is all that is left; none exactly where the first command that is left is no DataFragment
 abbrev pub LeavesFragment : HeldMessage → Option Fragment → Type 0

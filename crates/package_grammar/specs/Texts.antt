@@ -89,6 +89,18 @@ group_key_text id addr key = group_words id (number_hex addr) (encode_lower key)
 abbrev pub frames_text : (min max : ℕ) → List ℕ
 frames_text min max = codes " min=" ++ decimal min ++ (codes " max=" ++ decimal max)
 
+-- a DataFragment
+abbrev pub fragment_text : (index n : ℕ) (bytes : List ℕ) → List ℕ
+fragment_text index n bytes =
+    codes "DataFragment index=" ++ decimal index
+    ++ (codes " n=" ++ decimal n ++ (codes " bytes=" ++ encode_lower bytes))
+
+-- a McGroupStatusAns
+abbrev pub status_text : (total mask : ℕ) → List GroupAddress → List ℕ
+status_text total mask groups =
+    codes "McGroupStatusAns total=" ++ decimal total ++ (codes " mask=" ++ decimal mask
+    ++ (codes " groups=" ++ groups_text groups))
+
 -- the commands of TS004 and TS005
 abbrev pub cast_text : CastCmd → List ℕ
 cast_text c.PackageVersionReq = codes "PackageVersionReq"
@@ -107,12 +119,9 @@ cast_text (c.FragSessionSetupAns index wrong_descriptor index_unsupported no_mem
 cast_text (c.FragSessionDeleteReq index) = codes "FragSessionDeleteReq index=" ++ decimal index
 cast_text (c.FragSessionDeleteAns index missing) =
     codes "FragSessionDeleteAns index=" ++ decimal index ++ (codes " missing=" ++ truth missing)
-cast_text (c.DataFragment index n bytes) = codes "DataFragment index=" ++ decimal index
-    ++ (codes " n=" ++ decimal n ++ (codes " bytes=" ++ encode_lower bytes))
+cast_text (c.DataFragment index n bytes) = fragment_text index n bytes
 cast_text (c.McGroupStatusReq mask) = codes "McGroupStatusReq mask=" ++ decimal mask
-cast_text (c.McGroupStatusAns total mask groups) =
-    codes "McGroupStatusAns total=" ++ decimal total ++ (codes " mask=" ++ decimal mask
-    ++ (codes " groups=" ++ groups_text groups))
+cast_text (c.McGroupStatusAns total mask groups) = status_text total mask groups
 cast_text (c.McGroupSetupReq id addr key min max) = group_key_text id addr key ++ frames_text min max
 cast_text (c.McGroupSetupAns id error) = codes "McGroupSetupAns id=" ++ decimal id ++ (codes " error=" ++ truth error)
 cast_text (c.McGroupDeleteReq id) = codes "McGroupDeleteReq id=" ++ decimal id

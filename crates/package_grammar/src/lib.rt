@@ -17,6 +17,7 @@ mod command;
 mod downlink;
 mod laws;
 mod message;
+mod names;
 mod reading;
 mod showing;
 mod showing_cast;

@@ -1,16 +1,18 @@
 //! A message, command by command.
-ghost use Rattle.std.specs.Prelude.{◌≡◌, ◌<◌, ◌≤◌, ◌↔◌, length, IfOk, IfSome, IsTrue};
+ghost use Rattle.std.specs.Prelude.{◌≡◌, ◌<◌, ◌≤◌, length, IfOk, IfSome, IfNone, Some};
 ghost use Rattle.wire_base.specs.Payload.{max_payload};
 ghost use Rattle.wire_base.specs.Rows.{IsListed};
-ghost use Rattle.package_grammar.specs.Grammar.{row, IsPort, IsValid};
+ghost use Rattle.package_grammar.specs.Grammar.{row, IsValid};
 ghost use Rattle.package_grammar.specs.Reading.{reading_of};
 ghost use Rattle.package_grammar.specs.HeldMessage.{message_of, TakesCommand, LeavesFragment};
+ghost use Rattle.package_grammar.specs.Texts.{text_of};
+ghost use Rattle.package_grammar.specs.declared.command.Command.{Command};
 
 use crate::command::Command;
+use crate::names::{is_port, name_at};
 use crate::reading::read_one;
-use cast_wire::{FRAGMENT_PORT, Fragment, MULTICAST_PORT, fragment_at};
+use cast_wire::{FRAGMENT_PORT, Fragment, fragment_at};
 use std::marker::Model;
-use sync_wire::FIRMWARE_PORT;
 use wire_base::{Direction, MAX_PAYLOAD, Refusal};
 
 /// A payload that was read whole and is a message. It hands out its commands one by one; contracts see those that are
@@ -53,9 +55,12 @@ impl<'a> Message<'a> {
         }
         let mut at = 0;
         while (at as usize) < bytes.len() {
-            match read_one(port, direction, bytes, at) {
-                Ok((_command, next)) => at = next,
-                Err(refusal) => return Err(refusal),
+            match name_at(port, direction, bytes, at) {
+                Some(_) => at += 1,
+                None => match read_one(port, direction, bytes, at) {
+                    Ok((_command, next)) => at = next,
+                    Err(refusal) => return Err(refusal),
+                },
             }
         }
         Ok(Message {
@@ -82,6 +87,24 @@ impl<'a> Message<'a> {
                 Some(command)
             }
             Err(_) => None,
+        }
+    }
+
+    /// The text of the next command, which is then taken, where it is one without fields.
+    #[inline(always)]
+    pub(crate) fn next_name(&mut self) -> Option<&'static str>
+        ensures named { IfSome result (λ name. (c : Command) × TakesCommand self.old self.new (Some c) × (text_of c ≡ name.now)) }
+        ensures same { IfNone result (self.new ≡ self.old) }
+    {
+        if self.at as usize >= self.bytes.len() {
+            return None;
+        }
+        match name_at(self.port, self.direction, self.bytes, self.at) {
+            Some(name) => {
+                self.at += 1;
+                Some(name)
+            }
+            None => None,
         }
     }
 
@@ -120,11 +143,4 @@ impl<'a> Message<'a> {
         }
         count
     }
-}
-
-/// Whether the port is one of the four packages'.
-fn is_port(port: u8) -> bool
-    ensures { IsTrue result ↔ IsPort port }
-{
-    port >= MULTICAST_PORT && port <= FIRMWARE_PORT
 }

@@ -1,27 +1,27 @@
 //! The texts of the commands of TS004 and TS005.
-ghost use Rattle.std.specs.Prelude.{◌≡◌, IfOk, string_bytes};
+ghost use Rattle.std.specs.Prelude.{◌≡◌, ◌++◌, OnOk, string_bytes};
 ghost use Rattle.package_grammar.specs.Texts.{cast_text};
 
 use crate::showing_parts::{
-    bytes_hex, coding_text, frames_text, group_key_text, groups_text, pieces_text, there,
+    put_coding, put_fragment, put_frames, put_group_key, put_pieces, put_status, there,
 };
 use cast_wire::{Cmd, refusal_bits};
-use std::alloc::{AllocError, Global};
+use std::alloc::AllocError;
 use wire_base::flag_value;
 
-/// The text of a command of ports 200 and 201.
-pub fn cast_text(alloc: Global, cmd: &Cmd) -> Result<String, AllocError>
-    ensures { IfOk result (λ text. string_bytes text ≡ cast_text cmd.now) }
+/// Puts the text of a command of ports 200 and 201 at the end.
+pub fn put_cast(cmd: &Cmd, text: &mut String) -> Result<(), AllocError>
+    ensures { OnOk result (string_bytes text.new ≡ string_bytes text.old ++ cast_text cmd.now) }
 {
     match cmd {
-        Cmd::PackageVersionReq => String::from_str(alloc, "PackageVersionReq"),
+        Cmd::PackageVersionReq => write!(text, "PackageVersionReq"),
         Cmd::PackageVersionAns {
             identifier,
             version,
-        } => format!(in alloc; "PackageVersionAns id={identifier} version={version}"),
+        } => write!(text, "PackageVersionAns id={identifier} version={version}"),
         Cmd::FragSessionStatusReq { index, all } => {
             let all = flag_value(*all, 1);
-            format!(in alloc; "FragSessionStatusReq index={index} all={all}")
+            write!(text, "FragSessionStatusReq index={index} all={all}")
         }
         Cmd::FragSessionStatusAns {
             index,
@@ -30,7 +30,8 @@ pub fn cast_text(alloc: Global, cmd: &Cmd) -> Result<String, AllocError>
             norows,
         } => {
             let norows = flag_value(*norows, 1);
-            format!(in alloc;
+            write!(
+                text,
                 "FragSessionStatusAns index={index} received={received} missing={missing} norows={norows}"
             )
         }
@@ -44,9 +45,8 @@ pub fn cast_text(alloc: Global, cmd: &Cmd) -> Result<String, AllocError>
             padding,
             descriptor,
         } => {
-            let pieces = pieces_text(alloc, *index, *mask, *nb_frag, *frag_size)?;
-            let coding = coding_text(alloc, *algo, *delay, *padding, *descriptor)?;
-            format!(in alloc; "{pieces}{coding}")
+            put_pieces(*index, *mask, *nb_frag, *frag_size, text)?;
+            put_coding(*algo, *delay, *padding, *descriptor, text)
         }
         Cmd::FragSessionSetupAns {
             index,
@@ -61,28 +61,20 @@ pub fn cast_text(alloc: Global, cmd: &Cmd) -> Result<String, AllocError>
                 *no_memory,
                 *encoding_unsupported,
             );
-            format!(in alloc; "FragSessionSetupAns index={index} bits={bits}")
+            write!(text, "FragSessionSetupAns index={index} bits={bits}")
         }
-        Cmd::FragSessionDeleteReq { index } => format!(in alloc;
-            "FragSessionDeleteReq index={index}"
-        ),
+        Cmd::FragSessionDeleteReq { index } => write!(text, "FragSessionDeleteReq index={index}"),
         Cmd::FragSessionDeleteAns { index, missing } => {
             let missing = flag_value(*missing, 1);
-            format!(in alloc; "FragSessionDeleteAns index={index} missing={missing}")
+            write!(text, "FragSessionDeleteAns index={index} missing={missing}")
         }
-        Cmd::DataFragment { index, n, bytes } => {
-            let bytes = bytes_hex(alloc, bytes.as_slice())?;
-            format!(in alloc; "DataFragment index={index} n={n} bytes={bytes}")
-        }
-        Cmd::McGroupStatusReq { mask } => format!(in alloc; "McGroupStatusReq mask={mask}"),
+        Cmd::DataFragment { index, n, bytes } => put_fragment(*index, *n, bytes.as_slice(), text),
+        Cmd::McGroupStatusReq { mask } => write!(text, "McGroupStatusReq mask={mask}"),
         Cmd::McGroupStatusAns {
             total,
             mask,
             groups,
-        } => {
-            let groups = groups_text(alloc, groups.as_slice())?;
-            format!(in alloc; "McGroupStatusAns total={total} mask={mask} groups={groups}")
-        }
+        } => put_status(*total, *mask, groups.as_slice(), text),
         Cmd::McGroupSetupReq {
             id,
             addr,
@@ -90,18 +82,17 @@ pub fn cast_text(alloc: Global, cmd: &Cmd) -> Result<String, AllocError>
             min,
             max,
         } => {
-            let group = group_key_text(alloc, *id, *addr, key.as_slice())?;
-            let frames = frames_text(alloc, *min, *max)?;
-            format!(in alloc; "{group}{frames}")
+            put_group_key(*id, *addr, key.as_slice(), text)?;
+            put_frames(*min, *max, text)
         }
         Cmd::McGroupSetupAns { id, error } => {
             let error = flag_value(*error, 1);
-            format!(in alloc; "McGroupSetupAns id={id} error={error}")
+            write!(text, "McGroupSetupAns id={id} error={error}")
         }
-        Cmd::McGroupDeleteReq { id } => format!(in alloc; "McGroupDeleteReq id={id}"),
+        Cmd::McGroupDeleteReq { id } => write!(text, "McGroupDeleteReq id={id}"),
         Cmd::McGroupDeleteAns { id, undefined } => {
             let undefined = flag_value(*undefined, 1);
-            format!(in alloc; "McGroupDeleteAns id={id} undefined={undefined}")
+            write!(text, "McGroupDeleteAns id={id} undefined={undefined}")
         }
         Cmd::McClassCSessionReq {
             id,
@@ -109,7 +100,8 @@ pub fn cast_text(alloc: Global, cmd: &Cmd) -> Result<String, AllocError>
             timeout,
             freq,
             dr,
-        } => format!(in alloc;
+        } => write!(
+            text,
             "McClassCSessionReq id={id} time={time} timeout={timeout} freq={freq} dr={dr}"
         ),
         Cmd::McClassCSessionAns {
@@ -122,8 +114,8 @@ pub fn cast_text(alloc: Global, cmd: &Cmd) -> Result<String, AllocError>
             let bits = flag_value(*undefined, 16)
                 + flag_value(*freq_error, 8)
                 + flag_value(*dr_error, 4);
-            let start = there(alloc, *start)?;
-            format!(in alloc; "McClassCSessionAns id={id} bits={bits} start={start}")
+            let start = there(*text.allocator(), *start)?;
+            write!(text, "McClassCSessionAns id={id} bits={bits} start={start}")
         }
         Cmd::McClassBSessionReq {
             id,
@@ -132,7 +124,8 @@ pub fn cast_text(alloc: Global, cmd: &Cmd) -> Result<String, AllocError>
             timeout,
             freq,
             dr,
-        } => format!(in alloc;
+        } => write!(
+            text,
             "McClassBSessionReq id={id} time={time} periodicity={periodicity} timeout={timeout} freq={freq} dr={dr}"
         ),
         Cmd::McClassBSessionAns {
@@ -145,8 +138,8 @@ pub fn cast_text(alloc: Global, cmd: &Cmd) -> Result<String, AllocError>
             let bits = flag_value(*undefined, 16)
                 + flag_value(*freq_error, 8)
                 + flag_value(*dr_error, 4);
-            let start = there(alloc, *start)?;
-            format!(in alloc; "McClassBSessionAns id={id} bits={bits} start={start}")
+            let start = there(*text.allocator(), *start)?;
+            write!(text, "McClassBSessionAns id={id} bits={bits} start={start}")
         }
     }
 }

@@ -1,20 +1,20 @@
 //! The texts of fields.
-ghost use Rattle.std.specs.Prelude.{◌≡◌, IfOk, string_bytes};
+ghost use Rattle.std.specs.Prelude.{◌≡◌, ◌++◌, IfOk, OnOk, string_bytes};
 ghost use Rattle.hex.specs.Hex.{encode_lower};
-ghost use Rattle.package_grammar.specs.Texts.{number_hex, there, group_text, other_groups, groups_text, pieces_text, coding_text, group_words, group_key_text, frames_text};
+ghost use Rattle.package_grammar.specs.Texts.{number_hex, there, group_text, other_groups, groups_text, pieces_text, coding_text, group_words, group_key_text, frames_text, fragment_text, status_text};
 
 use cast_wire::GroupAddress;
 use std::alloc::{AllocError, Global};
 
 /// 8 hex digits, the most significant first.
-pub fn number_hex(alloc: Global, number: u32) -> Result<String, AllocError>
+fn number_hex(alloc: Global, number: u32) -> Result<String, AllocError>
     ensures { IfOk result (λ text. string_bytes text ≡ number_hex number) }
 {
     hex::encode(alloc, number.to_be_bytes())
 }
 
 /// Two hex digits for each byte.
-pub fn bytes_hex(alloc: Global, bytes: &[u8]) -> Result<String, AllocError>
+fn bytes_hex(alloc: Global, bytes: &[u8]) -> Result<String, AllocError>
     ensures { IfOk result (λ text. string_bytes text ≡ encode_lower bytes.now) }
 {
     hex::encode(alloc, bytes)
@@ -53,7 +53,7 @@ fn other_groups(alloc: Global, groups: &[GroupAddress]) -> Result<String, AllocE
 }
 
 /// The groups, or a dash where there is none.
-pub fn groups_text(alloc: Global, groups: &[GroupAddress]) -> Result<String, AllocError>
+fn groups_text(alloc: Global, groups: &[GroupAddress]) -> Result<String, AllocError>
     ensures { IfOk result (λ text. string_bytes text ≡ groups_text groups.now) }
 {
     match groups {
@@ -67,52 +67,80 @@ pub fn groups_text(alloc: Global, groups: &[GroupAddress]) -> Result<String, All
 }
 
 /// A FragSessionSetupReq's session and pieces.
-pub fn pieces_text(
-    alloc: Global,
+pub fn put_pieces(
     index: u8,
     mask: u8,
     nb_frag: u16,
     frag_size: u8,
-) -> Result<String, AllocError>
-    ensures { IfOk result (λ text. string_bytes text ≡ pieces_text index mask nb_frag frag_size) }
+    text: &mut String,
+) -> Result<(), AllocError>
+    ensures { OnOk result (string_bytes text.new ≡ string_bytes text.old ++ pieces_text index mask nb_frag frag_size) }
 {
-    format!(in alloc;
+    write!(
+        text,
         "FragSessionSetupReq index={index} mask={mask} nbfrag={nb_frag} fragsize={frag_size}"
     )
 }
 
 /// A FragSessionSetupReq's coding, and what the file is.
-pub fn coding_text(
-    alloc: Global,
+pub fn put_coding(
     algo: u8,
     delay: u8,
     padding: u8,
     descriptor: u32,
-) -> Result<String, AllocError>
-    ensures { IfOk result (λ text. string_bytes text ≡ coding_text algo delay padding descriptor) }
+    text: &mut String,
+) -> Result<(), AllocError>
+    ensures { OnOk result (string_bytes text.new ≡ string_bytes text.old ++ coding_text algo delay padding descriptor) }
 {
-    let descriptor = number_hex(alloc, descriptor)?;
-    format!(in alloc; " algo={algo} delay={delay} padding={padding} descriptor={descriptor}")
+    let descriptor = number_hex(*text.allocator(), descriptor)?;
+    write!(
+        text,
+        " algo={algo} delay={delay} padding={padding} descriptor={descriptor}"
+    )
 }
 
 /// A McGroupSetupReq's group, with its wrapped key.
-pub fn group_key_text(alloc: Global, id: u8, addr: u32, key: &[u8]) -> Result<String, AllocError>
-    ensures { IfOk result (λ text. string_bytes text ≡ group_key_text id addr key.now) }
+pub fn put_group_key(id: u8, addr: u32, key: &[u8], text: &mut String) -> Result<(), AllocError>
+    ensures { OnOk result (string_bytes text.new ≡ string_bytes text.old ++ group_key_text id addr key.now) }
 {
-    let addr = number_hex(alloc, addr)?;
-    let key = bytes_hex(alloc, key)?;
-    group_words(alloc, id, addr.as_str(), key.as_str())
+    let addr = number_hex(*text.allocator(), addr)?;
+    let key = bytes_hex(*text.allocator(), key)?;
+    put_group_words(id, addr.as_str(), key.as_str(), text)
 }
 
-fn group_words(alloc: Global, id: u8, addr: &str, key: &str) -> Result<String, AllocError>
-    ensures { IfOk result (λ text. string_bytes text ≡ group_words id addr.now key.now) }
+fn put_group_words(id: u8, addr: &str, key: &str, text: &mut String) -> Result<(), AllocError>
+    ensures { OnOk result (string_bytes text.new ≡ string_bytes text.old ++ group_words id addr.now key.now) }
 {
-    format!(in alloc; "McGroupSetupReq id={id} addr={addr} key={key}")
+    write!(text, "McGroupSetupReq id={id} addr={addr} key={key}")
 }
 
 /// A McGroupSetupReq's frame counts.
-pub fn frames_text(alloc: Global, min: u32, max: u32) -> Result<String, AllocError>
-    ensures { IfOk result (λ text. string_bytes text ≡ frames_text min max) }
+pub fn put_frames(min: u32, max: u32, text: &mut String) -> Result<(), AllocError>
+    ensures { OnOk result (string_bytes text.new ≡ string_bytes text.old ++ frames_text min max) }
 {
-    format!(in alloc; " min={min} max={max}")
+    write!(text, " min={min} max={max}")
+}
+
+/// A DataFragment.
+pub fn put_fragment(index: u8, n: u16, bytes: &[u8], text: &mut String) -> Result<(), AllocError>
+    ensures { OnOk result (string_bytes text.new ≡ string_bytes text.old ++ fragment_text index n bytes.now) }
+{
+    let bytes = bytes_hex(*text.allocator(), bytes)?;
+    write!(text, "DataFragment index={index} n={n} bytes={bytes}")
+}
+
+/// A McGroupStatusAns.
+pub fn put_status(
+    total: u8,
+    mask: u8,
+    groups: &[GroupAddress],
+    text: &mut String,
+) -> Result<(), AllocError>
+    ensures { OnOk result (string_bytes text.new ≡ string_bytes text.old ++ status_text total mask groups.now) }
+{
+    let groups = groups_text(*text.allocator(), groups)?;
+    write!(
+        text,
+        "McGroupStatusAns total={total} mask={mask} groups={groups}"
+    )
 }

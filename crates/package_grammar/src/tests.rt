@@ -404,10 +404,10 @@ fn values_have_their_texts(rt: HostRuntime) -> Result<(), Fail> {
     for (port, dir, digits, text) in &rows {
         let bytes = bytes_of(rt.alloc(), digits);
         let mut shown = Vec::new(rt.alloc());
-        if !bytes.is_empty() {
-            if let Ok((command, _next)) = read_one(*port, *dir, &bytes, 0) {
-                show(&command, &mut shown)?;
-            }
+        if let Ok(mut message) = Message::read(*port, *dir, &bytes) {
+            let shows = message.show_next(&mut shown)?;
+            let shows_more = message.show_next(&mut shown)?;
+            assert!(rt; shows && !shows_more);
         }
         assert_eq!(rt; shown.as_slice(), text.as_bytes());
     }

@@ -1,4 +1,4 @@
-use Rattle.std.proofs.Common.{refl, arith}
+use Rattle.std.proofs.Common.{refl, ◌+◌, arith}
 use Rattle.package_grammar.specs.Grammar.{IsPort, IsRead}
 use Rattle.package_grammar.proofs.Cursor.{one_more, read_whole, stopped, few_left, foreign, too_long}
 use Rattle.package_grammar.proofs.message.Message.read.Goals as goal
@@ -11,6 +11,9 @@ returns-then-not-is_port-clause-reading c =
 pub returns-then-bytes-gt-MAX_PAYLOAD-clause-reading : goal.returns-then-bytes-gt-MAX_PAYLOAD-clause-reading
 returns-then-bytes-gt-MAX_PAYLOAD-clause-reading c =
     rw (c.too_long.ensures, too_long c.args.port c.args.direction c.args.bytes.now (c.is_port.ensures.0 c.if-not-is_port.false) c.if-bytes-gt-MAX_PAYLOAD.true) refl
+
+pub loop-at-preserved-in-Some : goal.loop-at-preserved-in-Some
+loop-at-preserved-in-Some c = one_more c.args.port c.args.direction c.args.bytes.now c.loop-at.at (c.loop-at.at + 1) c.in-Some.ensures.0 c.loop-at.invariant c.in-Some.ensures.1
 
 pub loop-at-preserved : goal.loop-at-preserved
 loop-at-preserved c = one_more c.args.port c.args.direction c.args.bytes.now c.loop-at.at c.in-Ok.next c.in-Ok._command c.loop-at.invariant c.in-Ok.ensures.found
