@@ -6,7 +6,9 @@ ghost use Rattle.package_grammar.specs.Grammar.{row, IsValid};
 ghost use Rattle.package_grammar.specs.Reading.{reading_of};
 ghost use Rattle.package_grammar.specs.HeldMessage.{message_of, TakesCommand, LeavesFragment};
 ghost use Rattle.package_grammar.specs.Texts.{text_of};
+ghost use Rattle.cast_wire.specs.declared.cmd.Cmd.TheVariants.{DataFragment};
 ghost use Rattle.package_grammar.specs.declared.command.Command.{Command};
+ghost use Rattle.package_grammar.specs.declared.command.Command.TheVariants.{Cast};
 
 use crate::command::Command;
 use crate::names::{is_port, name_at};
@@ -117,6 +119,21 @@ impl<'a> Message<'a> {
         match self.direction {
             Direction::Down if self.port == FRAGMENT_PORT => fragment_at(self.bytes, self.at),
             _ => None,
+        }
+    }
+
+    /// The DataFragment that comes next, which is then taken. None exactly where none comes next.
+    #[inline(always)]
+    pub(crate) fn next_fragment(&mut self) -> Option<Fragment<'a>>
+        ensures taken { IfSome result (λ f. TakesCommand self.old self.new (Some (Cast (DataFragment f.index f.n f.bytes.now)))) }
+        ensures same { IfNone result (self.new ≡ self.old) }
+    {
+        match self.fragment() {
+            Some(fragment) => {
+                self.at = self.bytes.len() as u16;
+                Some(fragment)
+            }
+            None => None,
         }
     }
 

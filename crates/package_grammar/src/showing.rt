@@ -1,16 +1,18 @@
 //! The text of a command.
 ghost use Rattle.std.specs.Prelude.{◌≡◌, ◌++◌, IfOk, OnOk, OnErr, string_bytes};
 ghost use Rattle.package_grammar.specs.HeldMessage.{ShowsCommand};
-ghost use Rattle.package_grammar.specs.Texts.{text_of};
+ghost use Rattle.package_grammar.specs.Texts.{fragment_text, text_of};
 
 use crate::command::Command;
 use crate::message::Message;
 use crate::showing_cast::put_cast;
+use crate::showing_parts::put_fragment;
 use crate::showing_sync::put_sync;
+use cast_wire::Fragment;
 use std::alloc::AllocError;
 
-/// The room that the text of a command has at first: enough but for long fragments and lists of groups.
-const TEXT_ROOM: usize = 160;
+/// The room that a text has at first, without the bytes of a fragment: enough but for a list of groups.
+const TEXT_ROOM: usize = 120;
 
 /// Puts the text of a command at the end: its name, and a word for each field. Numbers are decimal, addresses and
 /// descriptors 8 hex digits with the most significant first, truth values 0 or 1; no line feed. Where memory is wanting
@@ -36,13 +38,27 @@ impl<'a> Message<'a> {
                 out.extend_from_slice(name.as_bytes())?;
                 Ok(true)
             }
-            None => self.show_with_fields(out),
+            None => self.show_fields(out),
         }
     }
 
-    /// The same. It stands alone, so that a command without fields does not see to the room for a whole one.
+    /// The same, a DataFragment from where it lies.
+    fn show_fields(&mut self, out: &mut Vec<u8>) -> Result<bool, AllocError>
+        ensures shown { IfOk result (λ more. ShowsCommand self.old self.new out.old.items out.new.items more) }
+        ensures same { OnErr result (out.new.items ≡ out.old.items) }
+    {
+        match self.next_fragment() {
+            Some(fragment) => {
+                show_fragment(&fragment, out)?;
+                Ok(true)
+            }
+            None => self.show_whole(out),
+        }
+    }
+
+    /// The same. It stands alone, so that none of the others sees to the room for a whole command.
     #[inline(never)]
-    fn show_with_fields(&mut self, out: &mut Vec<u8>) -> Result<bool, AllocError>
+    fn show_whole(&mut self, out: &mut Vec<u8>) -> Result<bool, AllocError>
         ensures shown { IfOk result (λ more. ShowsCommand self.old self.new out.old.items out.new.items more) }
         ensures same { OnErr result (out.new.items ≡ out.old.items) }
     {
@@ -54,6 +70,17 @@ impl<'a> Message<'a> {
             None => Ok(false),
         }
     }
+}
+
+/// Puts the text of a DataFragment at the end, or nothing where memory is wanting.
+fn show_fragment(fragment: &Fragment<'_>, out: &mut Vec<u8>) -> Result<(), AllocError>
+    ensures shown { OnOk result (out.new.items ≡ out.old.items ++ fragment_text fragment.now.index fragment.now.n fragment.now.bytes.now) }
+    ensures same { OnErr result (out.new.items ≡ out.old.items) }
+{
+    let room = (2 * fragment.bytes.len()).saturating_add(TEXT_ROOM);
+    let mut text = String::with_capacity(*out.allocator(), room)?;
+    put_fragment(fragment.index, fragment.n, fragment.bytes, &mut text)?;
+    out.extend_from_slice(text.as_bytes())
 }
 
 fn put(command: &Command, text: &mut String) -> Result<(), AllocError>
