@@ -11,11 +11,14 @@ ghost use Rattle.payload_replay.specs.HeldDecoding.{DecodingStands, HearsDecoded
 
 use crate::payload_lines::read_payload;
 use campaign_world::LineError;
-use package_grammar::{Message, show};
+use package_grammar::Message;
 use script_lines::HearsLine;
 use std::alloc::{AllocError, Global};
 use std::marker::Model;
 use wire_base::{Direction, Why};
+
+/// The bytes of the longest line's head, with a number of ten digits.
+const HEAD_ROOM: usize = 16;
 
 /// The text of captured payloads that went in one direction on one port (0 to 255; 200 to 203 have commands), as the lines
 /// of their file are heard: of each line its number, counted from 1, and its commands, each on a line, or the byte at which
@@ -157,9 +160,18 @@ fn show_numbered(
 ) -> Result<(), AllocError>
     ensures { OnOk result (Writes port dir number payload.now text.old.items text.new.items) }
 {
-    let head = format!(in alloc; "line {number}\n")?;
+    let head = line_head(alloc, number)?;
     text.extend_from_slice(head.as_bytes())?;
     show_payload(alloc, port, dir, payload, text)
+}
+
+/// The line that gives a line's number.
+fn line_head(alloc: Global, number: u32) -> Result<String, AllocError>
+    ensures { IfOk result (λ head. string_bytes head ≡ codes "line " ++ (decimal number ++ codes "\n")) }
+{
+    let mut head = String::with_capacity(alloc, HEAD_ROOM)?;
+    write!(head, "line {number}\n")?;
+    Ok(head)
 }
 
 /// Writes what a payload says: its commands, or where and why reading stops.
@@ -185,9 +197,8 @@ fn show_payload(
 fn show_commands(mut message: Message<'_>, text: &mut Vec<u8>) -> Result<(), AllocError>
     ensures { OnOk result (text.new.items ≡ text.old.items ++ commands_text message.entry.commands) }
 {
-    while let Some(command) = message.next() {
-        show(&command, text)?;
-        text.extend_from_slice(b"\n")?;
+    while message.show_next(text)? {
+        text.push(b'\n')?;
     }
     Ok(())
 }
