@@ -85,7 +85,9 @@ fn sum_long(area: &[u8], picks: &[u16], part: &[u8], rest: &mut [u8])
     for s in 0..part.len() / 64 {
         stripe(area, picks, part, rest, s * 64);
     }
-    stripe(area, picks, part, rest, part.len() - 64);
+    if part.len() % 64 != 0 {
+        stripe(area, picks, part, rest, part.len() - 64);
+    }
 }
 
 /// Writes 64 bytes of the sum.
