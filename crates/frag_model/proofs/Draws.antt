@@ -1,8 +1,7 @@
 -- Every line has enough draws: among each 25 states in a row one is a column's, by the register's bit 5.
-use Rattle.std.proofs.Common.{◌≡◌, ◌⊎◌, ℕ, zero, suc, ◌+◌, ◌-◌, ◌*◌, ◌<◌, ◌≤◌, ◌/◌, ◌%◌, ◌^◌, Bool, true, false, not, ◌||◌, ◌==◌, ltb, List, [], ◌∷◌, ◌++◌, map, filter, length, bit_xor, refl, sym, ap, ap₂, ◌∙◌, subst, inl, inr, arith, lt-ltb, ltb-true, ltb-false, pow-suc, true≢false, eq-eqb, eqb-true, length-append}
+use Rattle.std.proofs.Common.{◌≡◌, ◌⊎◌, ℕ, zero, suc, ◌+◌, ◌-◌, ◌*◌, ◌<◌, ◌≤◌, ◌/◌, ◌%◌, ◌^◌, Bool, true, false, ◌==◌, ltb, List, [], ◌∷◌, ◌++◌, map, filter, length, bit_xor, refl, sym, ap, ap₂, ◌∙◌, subst, inl, inr, arith, lt-ltb, ltb-true, ltb-false, pow-suc, pow_pos, suc-mul, zero-mul, one-mul, add-mul, div-add-mod', eqb-true, length-append}
 use Rattle.std.proofs.lemmas.Bool.{eqb-false}
 use Rattle.std.specs.Int.{bit_at, is_power_of_two}
-use Rattle.std.specs.List.{list_all, range_with_len}
 use Rattle.std.specs.Prelude.{if◌then◌else◌}
 use Rattle.std.proofs.Math.Nat.{add-mod, add-mod_right, mod-eq_of_lt}
 use Rattle.std.proofs.lemmas.Nat.{mod_below}
@@ -10,9 +9,10 @@ use Rattle.std.proofs.lemmas.Nat.Bits.{bit_at-lt, bit_at_lowest, bit_at-suc, bit
 use Rattle.std.proofs.lemmas.List.{map-append, length-map, length-take-le}
 use Rattle.std.proofs.lemmas.List.Elements.{filter-append}
 use lib.Bits.{xor_lt}
+use lib.Count.{ones, ones_step}
 use Rattle.frag_model.specs.Members.{In}
 use Rattle.frag_model.specs.Parity.{prbs23, states_after, parity_states, modulus, residues, columns_drawn, place_of, draws}
-use Rattle.frag_model.proofs.Members.{In-map, In-filter, In-range, list_all-In}
+use Rattle.frag_model.proofs.Members.{In-map, In-filter}
 use Rattle.frag_model.proofs.Drawing.{prbs23-lt}
 
 either : (b : Bool) → (b ≡ true) ⊎ (b ≡ false)
@@ -130,20 +130,39 @@ rest_of c x y r some most is other =
     add-mod x y (c + 1) ∙ ap₂ (λ a b. (a + b) % (c + 1)) is other ∙ ap (λ n. n % (c + 1)) split
     ∙ add-mod_right (r - 1) (c + 1) ∙ mod-eq_of_lt (omega arith)
 
--- a power of two below 1,025 and one is no divisor of 2^23
-not_whole : ℕ → Bool
-not_whole cols = not (is_power_of_two cols) || not (2 ^ 23 % (cols + 1) == 0)
+-- a power of two that is above 1, and one, is no divisor of a power of two: it is odd
 
-none_whole : list_all not_whole (range_with_len 2 1023) ≡ true
-unfolding not_whole lib.Count.ones
-none_whole = refl
+ones_some : (k n : ℕ) → n ≤ k → 0 < n → 1 ≤ ones n
+ones_some zero n most some = absurd (omega arith)
+ones_some (suc k) n most some = elim (either (n / 2 == 0)) [
+  | inl last ↦ omega (arith, ones_step n, eqb-true (n / 2) 0 last)
+  | inr more ↦ omega (arith, ones_step n, ones_some k (n / 2) (omega arith) (omega (arith, eqb-false (n / 2) 0 more)))
+]
 
-leaves_some : (cols : ℕ) → is_power_of_two cols ≡ true → 2 ≤ cols → cols ≤ 1024 → 2 ^ 23 % (cols + 1) ≡ 0 → ⊥
-unfolding not_whole
-leaves_some cols power least most none =
-    let all : not_whole cols ≡ true = list_all-In not_whole cols (range_with_len 2 1023) none_whole (In-range cols 2 1023 least (omega arith)) in
-    let here : not_whole cols ≡ false = ap₂ (λ a b. not a || not b) power (eq-eqb (2 ^ 23 % (cols + 1)) 0 none) in
-    true≢false (sym all ∙ here)
+power_even : (cols : ℕ) → is_power_of_two cols ≡ true → 2 ≤ cols → cols % 2 ≡ 0
+power_even cols power least = omega (arith, ones_step cols, eqb-true (ones cols) 1 power, ones_some (cols / 2) (cols / 2) (omega arith) (omega arith))
+
+odd_divisor : (k q d : ℕ) → d % 2 ≡ 1 → q * d ≡ 2 ^ k → d ≡ 1
+odd_divisor k zero d odd whole = absurd (omega (arith, zero-mul d, whole, pow_pos k))
+odd_divisor zero (suc q) d odd whole = omega (arith, suc-mul q d, whole)
+odd_divisor (suc k) (suc q) d odd whole =
+    let h : ℕ = suc q / 2 in
+    let split : suc q ≡ h + h + suc q % 2 = omega arith in
+    let parts : suc q * d ≡ h * d + h * d + suc q % 2 * d = ap (λ n. n * d) split ∙ add-mul (h + h) (suc q % 2) d ∙ ap (λ n. n + suc q % 2 * d) (add-mul h h d) in
+    elim (zero_or_one (suc q % 2) (omega arith)) [
+      | inl even ↦
+          let none : suc q % 2 * d ≡ 0 = ap (λ r. r * d) even ∙ zero-mul d in
+          odd_divisor k h d odd (omega (arith, parts, none, whole, pow-suc 2 k))
+      | inr one ↦
+          let same : suc q % 2 * d ≡ d = ap (λ r. r * d) one ∙ one-mul d in
+          absurd (omega (arith, parts, same, whole, pow-suc 2 k))
+    ]
+
+leaves_some : (cols : ℕ) → is_power_of_two cols ≡ true → 2 ≤ cols → 2 ^ 23 % (cols + 1) ≡ 0 → ⊥
+leaves_some cols power least none =
+    let whole : 2 ^ 23 / (cols + 1) * (cols + 1) ≡ 2 ^ 23 = omega (arith, div-add-mod' (2 ^ 23) (cols + 1), none) in
+    let one : cols + 1 ≡ 1 = odd_divisor 23 (2 ^ 23 / (cols + 1)) (cols + 1) (omega (arith, power_even cols power least)) whole in
+    omega (arith, one)
 
 -- a state is rejected where it leaves no column
 Rejected : ℕ → ℕ → Type 0
@@ -154,9 +173,9 @@ unfolding Rejected
 leaves cols x h = omega (arith, mod_below x (cols + 1) (omega arith))
 
 -- of a rejected state before a rejected one bit 5 is set
-forces : (cols x : ℕ) → is_power_of_two cols ≡ true → 2 ≤ cols → cols ≤ 1024 → Rejected cols x → Rejected cols (prbs23 x) → bit_at x 5 ≡ 1
+forces : (cols x : ℕ) → is_power_of_two cols ≡ true → 2 ≤ cols → Rejected cols x → Rejected cols (prbs23 x) → bit_at x 5 ≡ 1
 unfolding new_bit
-forces cols x power least most here next = elim (zero_or_one (bit_at x 5) (bit_at-lt x 5)) [
+forces cols x power least here next = elim (zero_or_one (bit_at x 5) (bit_at-lt x 5)) [
   | inr one ↦ one
   | inl none ↦ elim (zero_or_one (bit_at x 0) (bit_at-lt x 0)) [
     | inl even ↦
@@ -173,7 +192,7 @@ forces cols x power least most here next = elim (zero_or_one (bit_at x 5) (bit_a
         let r : ℕ = 2 ^ 23 % (cols + 1) in
         let small : r < cols + 1 = mod_below (2 ^ 23) (cols + 1) (omega arith) in
         elim (either (r == 0)) [
-          | inl zero_is ↦ absurd (leaves_some cols power least most (eqb-true r 0 zero_is))
+          | inl zero_is ↦ absurd (leaves_some cols power least (eqb-true r 0 zero_is))
           | inr some_is ↦
               let some : 0 < r = omega (arith, eqb-false r 0 some_is) in
               let right : (x + 2 ^ 23) % (cols + 1) ≡ r - 1 = rest_of cols x (2 ^ 23) r some (omega arith) (leaves cols x here) refl in
@@ -226,22 +245,22 @@ next_state x zero = refl
 next_state x (suc k) = next_state (prbs23 x) k
 
 -- bit 5 is set in a state that is rejected before a rejected one
-found_or_set : (cols x k : ℕ) → is_power_of_two cols ≡ true → 2 ≤ cols → cols ≤ 1024 → k < 24 → (1 ≤ length (found cols x 25)) ⊎ (bit_at (after x (suc k)) 5 ≡ 1)
-found_or_set cols x k power least most lt = elim (found_or_rejected cols x k power (omega arith)) [
+found_or_set : (cols x k : ℕ) → is_power_of_two cols ≡ true → 2 ≤ cols → k < 24 → (1 ≤ length (found cols x 25)) ⊎ (bit_at (after x (suc k)) 5 ≡ 1)
+found_or_set cols x k power least lt = elim (found_or_rejected cols x k power (omega arith)) [
   | inl some ↦ inl some
   | inr here ↦ elim (found_or_rejected cols x (suc k) power (omega arith)) [
     | inl some ↦ inl some
-    | inr next ↦ inr (forces cols (after x (suc k)) power least most here (subst (λ y. Rejected cols y) (sym (next_state x (suc k))) next))
+    | inr next ↦ inr (forces cols (after x (suc k)) power least here (subst (λ y. Rejected cols y) (sym (next_state x (suc k))) next))
   ]
 ]
 
 -- of the states 1, 6 and 24 one has not bit 5
-found_soon : (cols x : ℕ) → is_power_of_two cols ≡ true → 2 ≤ cols → cols ≤ 1024 → x < 2 ^ 23 → 1 ≤ length (found cols x 25)
-found_soon cols x power least most lt = elim (found_or_set cols x 0 power least most (omega arith)) [
+found_soon : (cols x : ℕ) → is_power_of_two cols ≡ true → 2 ≤ cols → x < 2 ^ 23 → 1 ≤ length (found cols x 25)
+found_soon cols x power least lt = elim (found_or_set cols x 0 power least (omega arith)) [
   | inl some ↦ some
-  | inr first ↦ elim (found_or_set cols x 5 power least most (omega arith)) [
+  | inr first ↦ elim (found_or_set cols x 5 power least (omega arith)) [
     | inl some ↦ some
-    | inr second ↦ elim (found_or_set cols x 23 power least most (omega arith)) [
+    | inr second ↦ elim (found_or_set cols x 23 power least (omega arith)) [
       | inl some ↦ some
       | inr third ↦
           let sixth : bit_at (after (after x 1) 5) 5 ≡ 1 = ap (λ y. bit_at y 5) (after-more 1 5 x) ∙ second in
@@ -252,10 +271,10 @@ found_soon cols x power least most lt = elim (found_or_set cols x 0 power least 
   ]
 ]
 
-found_in_25 : (cols x : ℕ) → 2 ≤ cols → cols ≤ 1024 → x < 2 ^ 23 → 1 ≤ length (found cols x 25)
+found_in_25 : (cols x : ℕ) → 2 ≤ cols → x < 2 ^ 23 → 1 ≤ length (found cols x 25)
 unfolding modulus
-found_in_25 cols x least most lt = elim (either (is_power_of_two cols)) [
-  | inl power ↦ found_soon cols x power least most lt
+found_in_25 cols x least lt = elim (either (is_power_of_two cols)) [
+  | inl power ↦ found_soon cols x power least lt
   | inr other ↦
       let m : modulus cols ≡ cols = ap (λ b. if b then cols + 1 else cols) other in
       one_found cols x 25 0 (omega arith) (subst (λ n. after x 1 % n < cols) (sym m) (mod_below (after x 1) cols (omega arith)))
@@ -281,25 +300,25 @@ found_more cols x a n =
     ∙ ap length (filter-append (passes cols) (map res one) (map res two))
     ∙ length-append (filter (passes cols) (map res one)) (filter (passes cols) (map res two))
 
-many_found : (k cols x : ℕ) → 2 ≤ cols → cols ≤ 1024 → x < 2 ^ 23 → k ≤ length (found cols x (25 * k))
-many_found zero cols x least most lt = omega arith
-many_found (suc k) cols x least most lt =
+many_found : (k cols x : ℕ) → 2 ≤ cols → x < 2 ^ 23 → k ≤ length (found cols x (25 * k))
+many_found zero cols x least lt = omega arith
+many_found (suc k) cols x least lt =
     let count : 25 * suc k ≡ 25 + 25 * k = omega arith in
     let more : length (found cols x (25 * suc k)) ≡ length (found cols x 25) + length (found cols (after x 25) (25 * k)) =
     ap (λ n. length (found cols x n)) count ∙ found_more cols x 25 (25 * k) in
-    omega (arith, more, found_in_25 cols x least most lt, many_found k cols (after x 25) least most (after-lt 25 x lt))
+    omega (arith, more, found_in_25 cols x least lt, many_found k cols (after x 25) least (after-lt 25 x lt))
 
-enough_found : (n cols : ℕ) → n ≤ 8380 → cols ≤ 1024 → cols / 2 ≤ length (found cols (1 + 1001 * n) (25 * (cols / 2)))
-enough_found n cols last most = elim (either (ltb cols 2)) [
+enough_found : (n cols : ℕ) → n ≤ 8380 → cols / 2 ≤ length (found cols (1 + 1001 * n) (25 * (cols / 2)))
+enough_found n cols last = elim (either (ltb cols 2)) [
   | inl few ↦ omega (arith, ltb-true cols 2 few)
-  | inr many ↦ many_found (cols / 2) cols (1 + 1001 * n) (ltb-false cols 2 many) most (omega arith)
+  | inr many ↦ many_found (cols / 2) cols (1 + 1001 * n) (ltb-false cols 2 many) (omega arith)
 ]
 
 -- ---- the law
 
-pub all_columns : (n cols : ℕ) → n ≤ 8380 → cols ≤ 1024 → length (columns_drawn n cols) ≡ cols / 2
+pub all_columns : (n cols : ℕ) → n ≤ 8380 → length (columns_drawn n cols) ≡ cols / 2
 unfolding columns_drawn residues parity_states found passes
-all_columns n cols last most = length-take-le (cols / 2) (found cols (1 + 1001 * n) (25 * (cols / 2))) (enough_found n cols last most)
+all_columns n cols last = length-take-le (cols / 2) (found cols (1 + 1001 * n) (25 * (cols / 2))) (enough_found n cols last)
 
 place-le : (cols wanted : ℕ) (rs : List ℕ) → place_of cols wanted rs ≤ length rs
 unfolding place_of

@@ -1,7 +1,7 @@
 -- Laws about the definitions alone. Functions with an empty body have them as their contracts.
-use Rattle.std.specs.Prelude.{◌≡◌, ◌↔◌, ℕ, ◌+◌, ◌*◌, ◌/◌, ◌<◌, ◌≤◌, List, [], ◌∷◌, ◌++◌, length, take}
+use Rattle.std.specs.Prelude.{◌≡◌, ◌↔◌, ℕ, ◌+◌, ◌*◌, ◌/◌, ◌%◌, ◌<◌, ◌≤◌, List, [], ◌∷◌, ◌++◌, length, take}
 use Rattle.std.specs.List.{AllByRecursion}
-use Rattle.frag_model.specs.Parity.{prbs23, residues, columns_drawn, line, draws}
+use Rattle.frag_model.specs.Parity.{prbs23, modulus, residues, columns_drawn, line, draws}
 use Rattle.frag_model.specs.Gain.{gain_of, direct_of, gain, direct, excess}
 use Rattle.frag_model.specs.Fragments.{Fragment, Shape, IsUncoded, file_of}
 use Rattle.frag_model.specs.Verdict.{Verdict, verdict, verdict_now, IsVerdict, IsVerdictNow, FittingBlock, OneBlockFits}
@@ -48,7 +48,7 @@ pub record EnoughRowsForTheUnheard : Type 0 where
   pub after : (shape : Shape) (newer older : List Fragment) → AllByRecursion (IsUncoded shape) older → shape.nb_frag ≤ direct shape older + shape.rows
       → AreNumbered newer → excess shape (newer ++ older) ≤ shape.rows
 
--- every line has enough draws, for every number of a coded fragment and up to 1,024 columns
+-- every line has enough draws, for every number of a coded fragment and up to 4,096 columns
 pub record EveryLineHasEnoughDraws : Type 0 where
   -- half as many columns as there are, rounded down, are found among its residues, a column drawn twice counting twice
   pub columns : (n cols : ℕ) → n ≤ max_parity_index → cols ≤ max_pieces → length (columns_drawn n cols) ≡ cols / 2
@@ -59,6 +59,7 @@ pub record EveryLineHasEnoughDraws : Type 0 where
 pub record WorkedValues : Type 0 where
   pub state : prbs23 1002 ≡ 4194805
   pub two_columns : line 1 2 ≡ 2
+  pub first_of_4096 : prbs23 1002 % modulus 4096 ≡ 3574
   pub line_1 : line 1 4 ≡ 5
   pub line_2 : line 2 4 ≡ 5
   pub line_3 : line 3 4 ≡ 10

@@ -3,7 +3,7 @@ use Rattle.std.specs.Prelude.{ℕ}
 
 -- pieces of a file, NbFrag (this project's profile; TS004-1.0.0 has 14 bits)
 abbrev pub max_pieces : ℕ
-max_pieces = 1024
+max_pieces = 4096
 
 -- bytes of a fragment: a payload of 242 but for the three bytes before them
 abbrev pub max_frag_size : ℕ

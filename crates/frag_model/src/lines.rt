@@ -8,7 +8,7 @@ ghost use Rattle.frag_model.specs.Parity.{prbs23, modulus, line, draws, number_o
 pub const MAX_PARITY_INDEX: u16 = 8380;
 
 /// The most pieces of a file (this project's profile).
-pub const MAX_PIECES: u16 = 1024;
+pub const MAX_PIECES: u16 = 4096;
 
 /// The next state of the 23-bit register behind `x` (TS004-1.0.0).
 pub fn plain_prbs23(x: u32) -> u32

@@ -11,6 +11,7 @@ unfolding states_after parity_states modulus residues columns_drawn line_with li
 returns c = record {
   state = refl;
   two_columns = refl;
+  first_of_4096 = refl;
   line_1 = refl;
   line_2 = refl;
   line_3 = refl;
