@@ -3,7 +3,7 @@
 //! definition in words of 64 bits, and draws just as many states of the register as the definition, never more than 25
 //! for each column wanted. What a line is for, the XOR of the pieces at its columns, is left to the crates above.
 //!
-//!     let mut words = [0; 16];                                 // 64 columns a word
+//!     let mut words = [0; 64];                                 // 64 columns a word
 //!     line_uncounted(1, nb_frag, &mut words);                  // coded fragment 1, which is fragment nb_frag + 1
 #![tactic(auto)]
 

@@ -1,25 +1,26 @@
 //! What the register's states leave when they are divided, without a division for each.
 
 ghost use Rattle.std.specs.Prelude.{◌≡◌, ◌+◌, ◌/◌, ◌%◌, ◌^◌, ◌<◌, ◌≤◌};
+ghost use Rattle.frag_model.specs.Limits.{max_pieces};
 
-/// A little more than 2^34 over the modulus.
+/// A little more than 2^36 over the modulus.
 pub fn reciprocal_of(modulus: u16) -> u64
     requires some { 0 < modulus }
-    requires most { modulus ≤ 1025 }
-    ensures { result ≡ 2 ^ 34 / modulus + 1 }
+    requires most { modulus ≤ max_pieces + 1 }
+    ensures { result ≡ 2 ^ 36 / modulus + 1 }
 {
-    (1 << 34) / modulus as u64 + 1
+    (1 << 36) / modulus as u64 + 1
 }
 
-/// What `x` leaves. A state has 23 bits and a modulus 11, so that 34 bits of the reciprocal give the whole quotient.
+/// What `x` leaves. A state has 23 bits and a modulus 13, so that 36 bits of the reciprocal give the whole quotient.
 #[tactic(auto, using(crate::proofs::Reciprocal::quotient))]
 pub fn residue(x: u32, modulus: u16, reciprocal: u64) -> u16
     requires state { x < 2 ^ 23 }
     requires some { 0 < modulus }
-    requires most { modulus ≤ 1025 }
-    requires reciprocal { reciprocal ≡ 2 ^ 34 / modulus + 1 }
+    requires most { modulus ≤ max_pieces + 1 }
+    requires reciprocal { reciprocal ≡ 2 ^ 36 / modulus + 1 }
     ensures { result ≡ x % modulus }
 {
-    let quotient = (x as u64 * reciprocal >> 34) as u32;
+    let quotient = (x as u64 * reciprocal >> 36) as u32;
     (x - quotient * modulus as u32) as u16
 }

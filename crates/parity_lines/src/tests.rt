@@ -42,6 +42,15 @@ fn lines_worked_out_by_hand(rt: HostRuntime) -> Result<(), Fail> {
     Ok(())
 }
 
+#[test]
+fn the_first_draw_of_line_1_over_4096_columns(rt: HostRuntime) -> Result<(), Fail> {
+    assert_eq!(rt; prbs23(1002) % 4097, 3574);
+    let mut out = [0; 64];
+    line_uncounted(1, 4096, &mut out);
+    assert_eq!(rt; out[3574 / 64] >> (3574 % 64) & 1, 1);
+    Ok(())
+}
+
 /// Whether the words have the columns of the plain program, and no other bit.
 fn agrees(n: u16, cols: u16) -> bool
     requires first { 1 ≤ n }
@@ -49,9 +58,9 @@ fn agrees(n: u16, cols: u16) -> bool
     requires some { 1 ≤ cols }
     requires most { cols ≤ MAX_PIECES }
 {
-    let mut columns = [false; 1024];
+    let mut columns = [false; MAX_PIECES as usize];
     plain_line(n, cols, &mut columns[..cols as usize]);
-    let mut out = [!0; 16];
+    let mut out = [!0; MAX_PIECES as usize / 64];
     line_uncounted(n, cols, &mut out);
     for (c, column) in columns.iter().enumerate() {
         if (out[c / 64] >> (c % 64) & 1 == 1) != *column {
@@ -63,7 +72,7 @@ fn agrees(n: u16, cols: u16) -> bool
 
 #[test]
 fn lines_as_the_plain_program_draws_them(rt: HostRuntime) -> Result<(), Fail> {
-    for cols in &[1, 2, 3, 5, 8, 63, 64, 65, 127, 128, 1000, 1023, 1024] {
+    for cols in &[1, 2, 3, 5, 8, 63, 64, 65, 127, 128, 1000, 1024, 4095, 4096] {
         for n in &[1, 2, 9, 4096, 8379, 8380] {
             let (n, cols): (u16, u16) = (*n, *cols);
             assert!(rt; 1 <= n && n <= MAX_PARITY_INDEX && 1 <= cols && cols <= MAX_PIECES);
