@@ -5,7 +5,7 @@
 pub enum EncoderError {
     /// There was not enough memory.
     Memory,
-    /// The file is empty, a piece has 0 or more than 239 bytes, or the file has more than 1,024 pieces.
+    /// The file is empty, a piece has 0 or more than 239 bytes, or the file has more than 4,096 pieces.
     BadSize,
 }
 

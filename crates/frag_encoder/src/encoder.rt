@@ -37,7 +37,7 @@ impl Model for Encoder {
 
 impl Encoder {
     /// An encoder of the file in pieces of `frag_size` bytes. `BadSize` comes exactly where the file is empty, `frag_size` is 0
-    /// or above 239, or there are more than 1,024 pieces.
+    /// or above 239, or there are more than 4,096 pieces.
     pub fn new(alloc: Global, file: &[u8], frag_size: u8) -> Result<Encoder, EncoderError>
         ensures ok { IfOk result (λ e. e ≡ record { file = file.now; frag_size = frag_size }) }
         ensures bad_size { (result ≡ Err EncoderError.BadSize) ↔ IsBadSize (length file.now) frag_size }
@@ -70,7 +70,7 @@ impl Encoder {
         &self.bytes[..end]
     }
 
-    /// How many pieces the file has, 1 to 1,024: its length over a piece's, rounded up.
+    /// How many pieces the file has, 1 to 4,096: its length over a piece's, rounded up.
     pub fn nb_frag(&self) -> u16
         ensures value { result ≡ nb_frag_of (length self.now.file) self.now.frag_size }
         ensures some { 1 ≤ result }

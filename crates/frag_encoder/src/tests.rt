@@ -16,7 +16,7 @@ const IMAGE: [u8; 52] = [
 
 #[test]
 fn a_file_is_cut_as_its_sizes_say(rt: HostRuntime) -> Result<(), Fail> {
-    let zeros = [0; 2049];
+    let zeros = [0; 8193];
     let table: [(&[u8], u8, Result<(u16, u8), EncoderError>); 12] = [
         (&[], 13, Err(EncoderError::BadSize)),
         (&[7], 0, Err(EncoderError::BadSize)),
@@ -27,9 +27,9 @@ fn a_file_is_cut_as_its_sizes_say(rt: HostRuntime) -> Result<(), Fail> {
         (&IMAGE, 13, Ok((4, 0))),
         (&IMAGE, 10, Ok((6, 8))),
         (&IMAGE, 51, Ok((2, 50))),
-        (&zeros[..1024], 1, Ok((1024, 0))),
-        (&zeros[..1025], 1, Err(EncoderError::BadSize)),
-        (&zeros[..2047], 2, Ok((1024, 1))),
+        (&zeros[..4096], 1, Ok((4096, 0))),
+        (&zeros[..4097], 1, Err(EncoderError::BadSize)),
+        (&zeros[..8191], 2, Ok((4096, 1))),
     ];
     for (file, frag_size, cut) in &table {
         let made = Encoder::new(rt.alloc(), file, *frag_size);
@@ -140,7 +140,7 @@ fn agrees(alloc: Global, file: &[u8], frag_size: u8, n: u16) -> Result<bool, Enc
 {
     let encoder = Encoder::new(alloc, file, frag_size)?;
     let cols = encoder.nb_frag();
-    let mut line = [false; 1024];
+    let mut line = [false; 4096];
     let line = &mut line[..cols as usize];
     plain_line(n, cols, line);
     let mut out = ArrayVec::new();
@@ -157,7 +157,7 @@ fn agrees(alloc: Global, file: &[u8], frag_size: u8, n: u16) -> Result<bool, Enc
 
 #[test]
 fn coded_fragments_as_the_plain_program_gives_them(rt: HostRuntime) -> Result<(), Fail> {
-    let mut file = [0; 2048];
+    let mut file = [0; 8192];
     for (i, byte) in file.iter_mut().enumerate() {
         *byte = (i * 37 % 251) as u8;
     }
@@ -165,14 +165,14 @@ fn coded_fragments_as_the_plain_program_gives_them(rt: HostRuntime) -> Result<()
         (1, 1),
         (64, 1),
         (65, 1),
-        (1024, 1),
+        (4096, 1),
         (1000, 8),
-        (2047, 2),
-        (2048, 239),
+        (8191, 2),
+        (8192, 239),
     ] {
         for n in &[1, 2, 9, 4096, 8380] {
             let (len, n): (usize, u16) = (*len, *n);
-            assert!(rt; len <= 2048 && 1 <= n && n <= MAX_PARITY_INDEX);
+            assert!(rt; len <= 8192 && 1 <= n && n <= MAX_PARITY_INDEX);
             assert!(rt; agrees(rt.alloc(), &file[..len], *frag_size, n)?);
         }
     }
