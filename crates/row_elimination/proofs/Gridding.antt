@@ -13,7 +13,8 @@ use Rattle.row_elimination.specs.Inside.{IsReduced, Marks}
 use Rattle.row_elimination.specs.Made.{no_rows}
 use Rattle.row_elimination.specs.Storage.{chunk, place_in, places_in, part_in, IsStored, IsRowOf, SameShape, Slots}
 use Rattle.row_elimination.specs.Steps.{IsNew, Knows, Tells}
-use Rattle.row_elimination.specs.Grid.{Grid, IsGrid}
+use Rattle.row_elimination.specs.Grid.{Grid, IsGrid, max_line_words}
+use Rattle.frag_model.specs.Limits.{max_pieces}
 use Rattle.row_elimination.proofs.Chunks.{before}
 use Rattle.row_elimination.proofs.Storing.{at_places, length-places, row_told, same_shape}
 use Rattle.row_elimination.proofs.Growing.{at_old, new_at, length-grown, grown_reduced}
@@ -73,7 +74,7 @@ stored_at nb size cols len rows count gained columns spare known area arena h e 
     subst (λ (n : ℕ). IsStored n arena (take cols columns)) (sym f) (subst (λ (n : ℕ). IsStored size arena (take n columns)) (sym e) (stored nb size rows count gained columns spare known area arena h))
 
 -- the words of a line are few
-pub width_few : (nb : ℕ) → nb ≤ 1024 → words_for nb ≤ 16
+pub width_few : (nb : ℕ) → nb ≤ max_pieces → words_for nb ≤ max_line_words
 unfolding words_for
 width_few nb most = omega arith
 
@@ -426,7 +427,7 @@ begun_places nb size columns area arena is =
     let le : nb ≤ length columns = all_there nb columns is in
     none_placed nb size area arena (take nb columns) (length-take-le nb columns le) (none_there nb columns le (all_free nb columns is))
 
-pub begun : (nb size rows : ℕ) (columns : List Column) (spare known area : List ℕ) (arena : Arena) → nb ≤ 1024 → rows ≤ nb → columns ≡ replicate nb Free → length spare ≡ 1024 → length known ≡ 16
+pub begun : (nb size rows : ℕ) (columns : List Column) (spare known area : List ℕ) (arena : Arena) → nb ≤ max_pieces → rows ≤ nb → columns ≡ replicate nb Free → length spare ≡ max_pieces → length known ≡ max_line_words
     → nb * size ≤ length area → arena ≡ record { cols = nb; cell = size; rows = replicate rows (zero_row size) }
     → ((i : ℕ) → i < length spare → get_or spare i 0 ≡ i) → line_in known ≡ 0
     → IsGrid nb size rows 0 0 columns spare known area arena
@@ -454,7 +455,7 @@ begun nb size rows columns spare known area arena most few c s k a shaped each u
     }
 
 -- a table for no file
-pub no_file : (columns : List Column) (spare known area : List ℕ) (arena : Arena) → length spare ≡ 1024 → length known ≡ 16
+pub no_file : (columns : List Column) (spare known area : List ℕ) (arena : Arena) → length spare ≡ max_pieces → length known ≡ max_line_words
     → arena ≡ no_rows → IsGrid 0 0 0 0 0 columns spare known area arena
 unfolding words_for line_in no_rows
 no_file columns spare known area arena s k shaped =

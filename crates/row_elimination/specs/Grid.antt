@@ -1,5 +1,5 @@
 -- The table as a value, and what its fields keep true.
-use Rattle.std.specs.Prelude.{◌≡◌, ℕ, ◌*◌, ◌≤◌, List, length, take}
+use Rattle.std.specs.Prelude.{◌≡◌, ℕ, ◌*◌, ◌/◌, ◌≤◌, List, length, take}
 use Rattle.frag_model.specs.Fragments.{Shape}
 use Rattle.frag_model.specs.Limits.{max_pieces}
 use Rattle.row_arena.specs.Limits.{max_bytes, max_words}
@@ -11,7 +11,7 @@ use Rattle.row_elimination.specs.Storage.{places_in, Slots}
 
 -- how many words of 64 columns the line of the largest file takes
 abbrev pub max_line_words : ℕ
-max_line_words = 16
+max_line_words = max_pieces / 64
 
 -- what is held, the bytes of the area that were written so far, and how many it has room for
 pub record Grid : Type 0 where

@@ -91,7 +91,7 @@ fn take_row<const W: usize, const B: usize>(
     }
 }
 
-/// Lists the columns of a line of at most 16 words in front of `picks`, and says how many there are.
+/// Lists the columns of a line of at most 64 words in front of `picks`, and says how many there are.
 fn list_bits(line: &[u64], picks: &mut [u16]) -> usize
     requires few { length line.now ≤ max_line_words }
     requires picks { max_pieces ≤ length picks.old }

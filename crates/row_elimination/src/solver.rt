@@ -5,6 +5,8 @@ ghost use Rattle.frag_model.specs.Fragments.{Shape};
 ghost use Rattle.row_elimination.specs.Held.{missing_of, TwoFit, IsBegun, Receives, Completes, Contradicts, Overflows};
 ghost use Rattle.row_elimination.specs.Room.{has_room, words_for};
 ghost use Rattle.row_elimination.specs.Taking.{stage_after};
+ghost use Rattle.row_elimination.specs.Grid.{max_line_words};
+ghost use Rattle.row_arena.specs.Limits.{max_bytes, max_words};
 ghost use Rattle.frag_model.specs.Limits.{max_frag_size, max_parity_index, max_pieces};
 
 use crate::stages::{Fed, Stage};
@@ -57,8 +59,8 @@ impl<const W: usize, const B: usize> Model for Solver<W, B> {
 impl<const W: usize, const B: usize> Solver<W, B> {
     /// Takes all memory that the solver ever uses: an area of `area` bytes for the pieces, and the storage for rows.
     pub fn reserve(alloc: Global, area: u32) -> Result<Solver<W, B>, Memory>
-        requires words { W ≤ 16384 }
-        requires bytes { B ≤ 61184 }
+        requires words { W ≤ max_words }
+        requires bytes { B ≤ max_bytes }
         ensures { IfOk result (λ solver. (solver.stage ≡ Stage.Idle) × (solver.area ≡ area)) }
     {
         let Ok(table) = Table::new(alloc, area) else {
@@ -86,7 +88,7 @@ impl<const W: usize, const B: usize> Solver<W, B> {
         }
     }
 
-    /// Whether there is room for a file of `nb_frag` pieces (at most 1,024) of `frag_size` bytes (at most 239) and for `rows`
+    /// Whether there is room for a file of `nb_frag` pieces (at most 4,096) of `frag_size` bytes (at most 239) and for `rows`
     /// rows (at most `nb_frag`).
     pub fn fits(&self, nb_frag: u16, frag_size: u8, rows: u16) -> bool
         requires most { nb_frag ≤ max_pieces }
@@ -98,7 +100,7 @@ impl<const W: usize, const B: usize> Solver<W, B> {
         has_room(W, B, area, nb_frag, frag_size, rows)
     }
 
-    /// Begins a file of `nb_frag` pieces (1 to 1,024) of `frag_size` bytes (1 to 239), whose last `padding` bytes (fewer than
+    /// Begins a file of `nb_frag` pieces (1 to 4,096) of `frag_size` bytes (1 to 239), whose last `padding` bytes (fewer than
     /// `frag_size`, so that one block alone fits exactly where one file alone does) are no part of it, with `rows` rows for
     /// coded fragments (at most `nb_frag`). Where there is no room the solver stays as it was.
     pub fn begin(
@@ -192,7 +194,7 @@ fn has_room(words: usize, bytes: usize, area: usize, nb_frag: u16, frag_size: u8
 fn words_for(nb_frag: u16) -> usize
     requires { nb_frag ≤ max_pieces }
     ensures value { result ≡ words_for nb_frag }
-    ensures most { result ≤ 16 }
+    ensures most { result ≤ max_line_words }
 {
     (nb_frag as usize + 63) / 64
 }

@@ -17,15 +17,16 @@ use crate::columns::Column;
 use crate::entries::put_parts;
 use crate::passes::reduce;
 use crate::rows::Rows;
+use frag_model::lines;
 use row_arena::{clear_bits, flip_bit, words_for};
 use std::alloc::{AllocError, Global};
 use std::marker::Model;
 
 /// The most pieces of a file.
-pub const MAX_PIECES: usize = 1024;
+pub const MAX_PIECES: usize = lines::MAX_PIECES as usize;
 
 /// How many words of 64 columns the line of the largest file takes.
-pub const LINE_WORDS: usize = 16;
+pub const LINE_WORDS: usize = MAX_PIECES / 64;
 
 /// All that is held of a file: a piece, a row or nothing for each of its columns. Rows have `W` words and `B` bytes in all.
 #[derive(Drop)]

@@ -274,7 +274,7 @@ fn room_is_needed_for_rows_and_for_pieces(rt: HostRuntime) -> Result<(), Fail> {
         (21, 1, 0, false),
     ];
     for (nb_frag, frag_size, rows, fits) in table {
-        assert!(rt; nb_frag <= 1024 && frag_size <= 239 && rows <= nb_frag);
+        assert!(rt; nb_frag <= 4096 && frag_size <= 239 && rows <= nb_frag);
         assert_eq!(rt; solver.fits(nb_frag, frag_size, rows), fits);
     }
     assert_eq!(rt; solver.begin(4, 5, 4, 3), Err(NoRoom));
