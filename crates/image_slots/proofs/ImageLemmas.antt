@@ -1,7 +1,7 @@
 -- What an image file has.
 use Rattle.std.proofs.Common.{◌≡◌, ℕ, ◌≤◌, true, List, length}
 use Rattle.std.proofs.lemmas.Bool.{leb-true, and_parts}
-use Rattle.image_slots.specs.Image.{is_image}
+use Rattle.image_slots.specs.Image.{max_image, is_image}
 
 -- an image file has its first 49 bytes
 pub image_long : (file : List ℕ) → is_image file ≡ true → 49 ≤ length file
@@ -9,7 +9,7 @@ unfolding is_image
 image_long file h = leb-true _ _ (and_parts _ _ (and_parts _ _ (and_parts _ _ (and_parts _ _ (and_parts _ _ h).0).0).0).0).0
 
 -- an image file is within its limit
-pub image_short : (file : List ℕ) → is_image file ≡ true → length file ≤ 65536
+pub image_short : (file : List ℕ) → is_image file ≡ true → length file ≤ max_image
 unfolding is_image
 image_short file h = leb-true _ _ (and_parts _ _ (and_parts _ _ (and_parts _ _ (and_parts _ _ (and_parts _ _ h).0).0).0).0).1
 

@@ -1,6 +1,6 @@
 -- Image files, and what one is to a device. (This project's profile.)
 -- 0: FUIM; 4: the format, 1; 5: hardware version; 9: firmware version, not 0; 13: the body's length;
--- 17: the body's SHA-256; 49: the body, to the end, which is within 65,536 bytes. Numbers are little-endian.
+-- 17: the body's SHA-256; 49: the body, to the end, which is within 262,144 bytes. Numbers are little-endian.
 use Rattle.std.specs.Prelude.{ℕ, ◌-◌, Bool, ◌&&◌, not, ◌==◌, nat_le, if◌then◌else◌, List, [], ◌∷◌, ◌++◌, length, take, drop, codes}
 use Rattle.std.specs.Str.{bytes_eq}
 use Rattle.sha2.specs.Sha256.{sha256}
@@ -20,7 +20,7 @@ firmware_of file = number_at file 9 4
 
 -- the most bytes of an image file
 abbrev pub max_image : ℕ
-max_image = 65536
+max_image = 262144
 
 -- the bytes are an image file
 unfoldable pub is_image : List ℕ → Bool

@@ -4,7 +4,7 @@ ghost use Rattle.std.specs.Prelude.{◌≡◌, ◌+◌, ◌≤◌, length, ◌<�
 ghost use Rattle.std.specs.Str.{bytes_eq};
 ghost use Rattle.sha2.specs.Sha256.{sha256};
 ghost use Rattle.wire_base.specs.Numbers.{number_at};
-ghost use Rattle.image_slots.specs.Image.{image_start, is_image, hardware_of, firmware_of};
+ghost use Rattle.image_slots.specs.Image.{max_image, image_start, is_image, hardware_of, firmware_of};
 
 use sha2::{Digest, Sha256};
 use wire_base::u32_at;
@@ -13,7 +13,7 @@ use wire_base::u32_at;
 const HEAD: usize = 49;
 
 /// The most bytes of an image file.
-pub const MAX_IMAGE: usize = 65_536;
+pub const MAX_IMAGE: usize = 262_144;
 
 fn body_of(file: &[u8]) -> &[u8]
     requires { 49 ≤ length file.now }
@@ -49,7 +49,7 @@ fn has_digest(file: &[u8]) -> bool
 pub fn is_image(bytes: &[u8]) -> bool
     ensures value { result ≡ is_image bytes.now }
     ensures long { IsTrue result → 49 ≤ length bytes.now }
-    ensures short { IsTrue result → length bytes.now ≤ 65536 }
+    ensures short { IsTrue result → length bytes.now ≤ max_image }
 {
     bytes.len() >= HEAD
         && bytes.len() <= MAX_IMAGE

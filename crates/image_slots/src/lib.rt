@@ -9,7 +9,7 @@
 //!         ImageState::Valid(firmware) => ..,
 //!         ImageState::Incompatible | ImageState::Corrupt | ImageState::None => ..,
 //!     }
-//!     let mut slots = Slots::reserve(alloc, 65_774, hardware)?;
+//!     let mut slots = Slots::reserve(alloc, 262_382, hardware)?;
 //!     slots.offer(file);                                       // becomes next
 //!     slots.swap();                                            // a valid next runs
 #![tactic(auto)]
