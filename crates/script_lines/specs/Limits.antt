@@ -27,7 +27,7 @@ max_parity = 512
 
 -- rows of a device for coded fragments
 abbrev pub max_rows : ℕ
-max_rows = 64
+max_rows = 256
 
 -- devices
 abbrev pub max_devices : ℕ

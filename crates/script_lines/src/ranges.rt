@@ -15,7 +15,7 @@ const MAX_PARITY: u64 = 512;
 const MAX_FRAG_SIZE: u64 = 239;
 
 /// The most rows for coded fragments that a device is given.
-const MAX_ROWS: u64 = 64;
+const MAX_ROWS: u64 = 256;
 
 /// The last port.
 const MAX_PORT: u64 = 255;
