@@ -8,6 +8,7 @@ use Rattle.row_elimination.specs.Held.{Held as Solved, IsBegun, missing_of}
 use Rattle.row_elimination.specs.Room.{has_room}
 use Rattle.row_elimination.proofs.Standing.{feed_stands}
 use Rattle.frag_session.specs.declared.setups.SetupReq.{SetupReq}
+use Rattle.frag_model.specs.Limits.{max_frag_size, max_parity_index, max_pieces}
 use Rattle.frag_session.specs.declared.setups.Limits.{Limits}
 use Rattle.frag_session.specs.declared.answers.Via.{Via}
 use Rattle.frag_session.specs.declared.answers.Cause.{Cause}
@@ -53,16 +54,16 @@ set_up_fine req e =
 
 -- what is not too large has room
 pub record HasRoom (room : Room) (rows : ℕ) (req : SetupReq) : Type 0 where
-  pub most : req.nb_frag ≤ 1024
-  pub small : req.frag_size ≤ 239
+  pub most : req.nb_frag ≤ max_pieces
+  pub small : req.frag_size ≤ max_frag_size
   pub room_is : has_room room.words room.bytes room.area req.nb_frag req.frag_size (rows_of rows req) ≡ true
 
 pub room_for : (room : Room) (rows : ℕ) (req : SetupReq) → too_large room rows req ≡ false → HasRoom room rows req
 unfolding too_large
 room_for room rows req e =
-    let r = or_parts (nat_lt 1024 req.nb_frag || nat_lt 239 req.frag_size) (not (has_room room.words room.bytes room.area req.nb_frag req.frag_size (rows_of rows req))) e in
-    let q = or_parts (nat_lt 1024 req.nb_frag) (nat_lt 239 req.frag_size) r.0 in
-    record { most = ltb-false 1024 req.nb_frag q.0; small = ltb-false 239 req.frag_size q.1; room_is = not-false _ r.1 }
+    let r = or_parts (nat_lt max_pieces req.nb_frag || nat_lt max_frag_size req.frag_size) (not (has_room room.words room.bytes room.area req.nb_frag req.frag_size (rows_of rows req))) e in
+    let q = or_parts (nat_lt max_pieces req.nb_frag) (nat_lt max_frag_size req.frag_size) r.0 in
+    record { most = ltb-false max_pieces req.nb_frag q.0; small = ltb-false max_frag_size req.frag_size q.1; room_is = not-false _ r.1 }
 
 -- a solver that has just begun stands for a session that heard nothing
 pub begun_holds : (limits : Limits) (req : SetupReq) (solver : Solved) → wrong_coding req ≡ false → IsBegun solver
@@ -110,13 +111,13 @@ not_first true a rest e = let h : ⊥ = cc in absurd h
 not_first false a rest e = (refl, e)
 
 -- a fragment that is not dropped has a number and the size of the session's
-pub can_hear : (setup : SetupReq) (way : Via) (n : ℕ) (part : List ℕ) → cause_of setup way n part ≡ None → (1 ≤ n) × (n ≤ setup.nb_frag + 8380) × (length part ≡ setup.frag_size)
+pub can_hear : (setup : SetupReq) (way : Via) (n : ℕ) (part : List ℕ) → cause_of setup way n part ≡ None → (1 ≤ n) × (n ≤ setup.nb_frag + max_parity_index) × (length part ≡ setup.frag_size)
 unfolding cause_of
 can_hear setup way n part e =
     let a = not_first (excludes setup.mask way) cause.Group _ e in
-    let b = not_first (n == 0 || nat_lt (setup.nb_frag + 8380) n) cause.Index _ a.1 in
+    let b = not_first (n == 0 || nat_lt (setup.nb_frag + max_parity_index) n) cause.Index _ a.1 in
     let c = not_first (not (length part == setup.frag_size)) cause.Size _ b.1 in
-    let r = or_parts (n == 0) (nat_lt (setup.nb_frag + 8380) n) b.0 in
+    let r = or_parts (n == 0) (nat_lt (setup.nb_frag + max_parity_index) n) b.0 in
     let some : n ≡ 0 → ⊥ = eqb-false n 0 r.0 in
     (omega arith, ltb-false _ _ r.1, eqb-true _ _ (not-false _ c.0))
 

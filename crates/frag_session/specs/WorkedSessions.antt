@@ -17,12 +17,12 @@ use Rattle.frag_session.specs.Session.{Session, Seen, after_setup, drop_cause, a
 abbrev pub worked_setup : SetupReq
 worked_setup = record { index = 0; mask = 1; nb_frag = 4; frag_size = 13; algo = 0; delay = 2; padding = 5; descriptor = 7 }
 
--- four sessions, 64 rows, and any descriptor
+-- four sessions, 256 rows, and any descriptor
 abbrev pub worked_limits : Limits
-worked_limits = record { sessions = 4; rows = 64; descriptor = None }
+worked_limits = record { sessions = 4; rows = 256; descriptor = None }
 
 abbrev pub worked_room : Room
-worked_room = record { words = 1024; bytes = 15296; area = 65774 }
+worked_room = record { words = 16384; bytes = 61184; area = 262382 }
 
 abbrev pub bits : SetupReq → ℕ
 bits req = setup_bits worked_limits worked_room req
@@ -36,8 +36,8 @@ pub record WorkedSetups : Type 0 where
   pub most_padding : bits (record worked_setup { padding = 12 }) ≡ 0
   pub all_padding : bits (record worked_setup { padding = 13 }) ≡ 1
   -- 2: too large for any session, or for this room: a word and 13 bytes a row, 52 bytes in all
-  pub most_fragments : bits (record worked_setup { nb_frag = 1024 }) ≡ 0
-  pub too_many : bits (record worked_setup { nb_frag = 1025 }) ≡ 2
+  pub most_fragments : bits (record worked_setup { nb_frag = 4096 }) ≡ 0
+  pub too_many : bits (record worked_setup { nb_frag = 4097 }) ≡ 2
   pub most_bytes : bits (record worked_setup { frag_size = 239 }) ≡ 0
   pub too_long : bits (record worked_setup { frag_size = 240 }) ≡ 2
   pub room : setup_bits worked_limits (record { words = 4; bytes = 52; area = 52 }) worked_setup ≡ 0

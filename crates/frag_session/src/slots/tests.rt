@@ -244,7 +244,7 @@ fn refusals_are_told_together(rt: HostRuntime) {
         ),
         (
             SetupReq {
-                nb_frag: 1025,
+                nb_frag: 4097,
                 ..SETUP
             },
             LIMITS,
@@ -279,7 +279,7 @@ fn refusals_are_told_together(rt: HostRuntime) {
         ),
     ];
     for (request, limits, bits) in rows {
-        let mut slot: SmallSlot = reserved(&rt, rt.alloc(), 65_774);
+        let mut slot: SmallSlot = reserved(&rt, rt.alloc(), 262_382);
         assert_eq!(rt; slot.setup(request, limits), bits);
         assert_eq!(rt; slot.view().is_some(), bits == 0);
     }
