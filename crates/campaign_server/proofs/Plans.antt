@@ -21,6 +21,7 @@ use Rattle.campaign_server.specs.Asking.{request_at, request_of, by_unicast}
 use Rattle.campaign_server.specs.Answers.{stage_after_all}
 use Rattle.campaign_server.specs.Time.{time_answer}
 use Rattle.campaign_server.specs.Uplinks.{read_uplink}
+use Rattle.frag_model.specs.Limits.{max_frag_size, max_pieces}
 use Rattle.campaign_server.specs.Plan.{Plan, bad_field, is_frag_size, is_group, is_kind, fits_bits, is_window, max_parity, max_devices}
 use Rattle.campaign_server.specs.ServerInside.{KindFits, WindowFits, GroupFits, IsPlan, IsCount, IsServer}
 
@@ -73,12 +74,12 @@ plan_of_fine len plan is =
     let count = both _ _ (holds _ e.0) in
     record {
       some = leb-true 1 plan.frag_size low.0;
-      fits = leb-true plan.frag_size 239 low.1;
-      number = leb-true (nb_frag_of len plan.frag_size) 1024 size.1;
-      few = ltb-false 512 plan.parity b.0;
+      fits = leb-true plan.frag_size max_frag_size low.1;
+      number = leb-true (nb_frag_of len plan.frag_size) max_pieces size.1;
+      few = ltb-false max_parity plan.parity b.0;
       group_fits = group_fits plan.group (holds _ c.0);
       window_fits = window_fits plan.group plan.window (holds _ d.0);
-      devices = leb-true (length plan.devices) 64 count.1;
+      devices = leb-true (length plan.devices) max_devices count.1;
     }
 
 pub plan_of_none : (len : ℕ) (plan : Plan) (field : Option Field) → field ≡ bad_field len plan → field ≡ None → IsPlan len plan

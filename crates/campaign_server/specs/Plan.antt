@@ -34,7 +34,7 @@ max_devices = 64
 
 -- ---- wrong fields
 
--- so many bytes a fragment cut a file of this length into at most 1,024 fragments
+-- so many bytes a fragment cut a file of this length into at most 4,096 fragments
 abbrev pub is_frag_size : (len frag_size : ℕ) → Bool
 is_frag_size len frag_size = nat_le 1 frag_size && nat_le frag_size max_frag_size && nat_le (nb_frag_of len frag_size) max_pieces
 

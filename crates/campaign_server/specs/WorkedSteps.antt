@@ -160,8 +160,8 @@ pub record PlanSteps : Type 0 where
   pub frag_size : bad_field 52 (record alone { frag_size = 0 }) ≡ Some field.FragSize
   pub large : bad_field 52 (record alone { frag_size = 240; parity = 513 }) ≡ Some field.FragSize
   pub largest : bad_field 52 (record alone { frag_size = 239 }) ≡ None
-  pub pieces : bad_field 1024 (record alone { frag_size = 1 }) ≡ None
-  pub more_pieces : bad_field 1025 (record alone { frag_size = 1 }) ≡ Some field.FragSize
+  pub pieces : bad_field 4096 (record alone { frag_size = 1 }) ≡ None
+  pub more_pieces : bad_field 4097 (record alone { frag_size = 1 }) ≡ Some field.FragSize
   pub most : bad_field 52 (record alone { parity = 512 }) ≡ None
   pub parity : bad_field 52 (record alone { parity = 513 }) ≡ Some field.Parity
   pub group : bad_field 52 (record grouped { group = Some (record worked_group { min = 7 }) }) ≡ Some field.Group

@@ -1,6 +1,7 @@
 //! Which field of a plan is wrong.
 
 ghost use Rattle.std.specs.Prelude.{◌≡◌, ◌≤◌, None};
+ghost use Rattle.image_slots.specs.Image.{max_image};
 ghost use Rattle.campaign_server.specs.ServerInside.{IsPlan};
 ghost use Rattle.campaign_server.specs.Plan.{bad_field, is_frag_size, is_group, is_kind, fits_bits, is_window};
 
@@ -19,7 +20,7 @@ const MAX_DEVICES: usize = 64;
 /// The first field that is wrong, for an image of this length.
 #[tactic(auto, using(crate::proofs::Plans::plan_of_none))]
 pub fn bad_field(len: usize, plan: &Plan) -> Option<Field>
-    requires { len ≤ 65536 }
+    requires { len ≤ max_image }
     ensures field { result ≡ bad_field len plan.now }
     ensures fine { result ≡ None → IsPlan len plan.now }
 {
@@ -28,7 +29,7 @@ pub fn bad_field(len: usize, plan: &Plan) -> Option<Field>
 
 #[tactic(auto, unfolding(crate::specs::Plan::bad_field))]
 fn first_bad(len: usize, plan: &Plan) -> Option<Field>
-    requires { len ≤ 65536 }
+    requires { len ≤ max_image }
     ensures { result ≡ bad_field len plan.now }
 {
     if !is_frag_size(len, plan.frag_size) {
@@ -49,9 +50,9 @@ fn first_bad(len: usize, plan: &Plan) -> Option<Field>
     None
 }
 
-/// Whether so many bytes a fragment cut a file of this length into at most 1,024 fragments.
+/// Whether so many bytes a fragment cut a file of this length into at most 4,096 fragments.
 fn is_frag_size(len: usize, frag_size: u8) -> bool
-    requires { len ≤ 65536 }
+    requires { len ≤ max_image }
     ensures { result ≡ is_frag_size len frag_size }
 {
     1 <= frag_size

@@ -213,7 +213,7 @@ impl Server {
         self.plan.frag_size
     }
 
-    /// The number of uncoded fragments, 1 to 1,024.
+    /// The number of uncoded fragments, 1 to 4,096.
     pub fn nb_frag(&self) -> u16
         ensures { result ≡ nb_frag_of (length self.now.image) self.now.plan.frag_size }
     {
