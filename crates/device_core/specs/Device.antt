@@ -53,18 +53,18 @@ abbrev pub max_sessions : ℕ
 max_sessions = 4
 
 abbrev pub max_rows : ℕ
-max_rows = 64
+max_rows = 256
 
 -- bytes of a session's file area
 abbrev pub max_area : ℕ
-max_area = 65774
+max_area = 262382
 
--- what is kept for the rows of a session: 64 rows of 1,024 columns in words of 64, and of 239 bytes
+-- what is kept for the rows of a session: 256 rows of 4,096 columns in words of 64, and of 239 bytes
 abbrev pub row_words : ℕ
-row_words = 1024
+row_words = 16384
 
 abbrev pub row_bytes : ℕ
-row_bytes = 15296
+row_bytes = 61184
 
 -- the last ms of true time at which a device is called
 abbrev pub max_moment : ℕ

@@ -32,7 +32,7 @@ worked_config class offset = record {
   descriptor = None;
   sessions = 4;
   groups = 4;
-  area = 65774;
+  area = 262382;
 }
 
 -- one of class C, whose clock is right
@@ -274,9 +274,9 @@ pub record FirmwareSteps : Type 0 where
 -- ---- what a configuration may be
 
 pub record ConfigSteps : Type 0 where
-  pub most : is_config (record (worked_config C 0) { rows = 64 }) ≡ true
-  pub rows : is_config (record (worked_config C 0) { rows = 65 }) ≡ false
+  pub most : is_config (record (worked_config C 0) { rows = 256 }) ≡ true
+  pub rows : is_config (record (worked_config C 0) { rows = 257 }) ≡ false
   pub sessions : is_config (record (worked_config C 0) { sessions = 5 }) ≡ false
   pub no_session : is_config (record (worked_config C 0) { sessions = 0 }) ≡ false
   pub groups : is_config (record (worked_config C 0) { groups = 5 }) ≡ false
-  pub area : is_config (record (worked_config C 0) { area = 65775 }) ≡ false
+  pub area : is_config (record (worked_config C 0) { area = 262383 }) ≡ false

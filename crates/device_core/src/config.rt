@@ -12,13 +12,19 @@ pub enum Class {
     C,
 }
 
+/// The most rows that are kept for the coded fragments of a session.
+pub const MAX_ROWS: u16 = 256;
+
+/// The most bytes of the file area of a session.
+pub const MAX_AREA: u32 = 262_382;
+
 /// What a device is configured with.
 #[derive(Clone, Copy, Debug)]
 pub struct DeviceConfig {
     pub class: Class,
     /// Hardware version.
     pub hw: u32,
-    /// Rows kept for the coded fragments of a session, 0 to 64.
+    /// Rows kept for the coded fragments of a session, 0 to 256.
     pub rows: u16,
     /// Seconds that its clock is ahead of true time, modulo 2^32.
     pub offset: u32,
@@ -30,7 +36,7 @@ pub struct DeviceConfig {
     pub sessions: u8,
     /// How many group ids there are, 1 to 4.
     pub groups: u8,
-    /// Bytes of the file area of a session, 1 to 65,774.
+    /// Bytes of the file area of a session, 1 to 262,382.
     pub area: u32,
 }
 
@@ -47,8 +53,8 @@ pub enum ReserveError {
 pub fn is_config(config: &DeviceConfig) -> bool
     ensures { result ≡ is_config config.now }
 {
-    config.rows <= 64
+    config.rows <= MAX_ROWS
         && (1 <= config.sessions && config.sessions <= 4)
         && (1 <= config.groups && config.groups <= 4)
-        && (1 <= config.area && config.area <= 65_774)
+        && (1 <= config.area && config.area <= MAX_AREA)
 }

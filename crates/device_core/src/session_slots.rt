@@ -14,11 +14,11 @@ use row_elimination::{Memory, Solver};
 use std::alloc::Global;
 use std::marker::Model;
 
-/// The words of 64 coefficients that are kept for the rows of a session: 64 rows of 1,024 columns.
-pub const ROW_WORDS: usize = 1024;
+/// The words of 64 coefficients that are kept for the rows of a session: 256 rows of 4,096 columns.
+pub const ROW_WORDS: usize = 16_384;
 
-/// The bytes that are kept for the rows of a session: 64 rows of 239 bytes.
-pub const ROW_BYTES: usize = 15_296;
+/// The bytes that are kept for the rows of a session: 256 rows of 239 bytes.
+pub const ROW_BYTES: usize = 61_184;
 
 /// A slot for each session, with all memory that it will ever need.
 #[derive(Drop)]

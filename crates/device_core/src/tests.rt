@@ -20,7 +20,7 @@ const CONFIG: DeviceConfig = DeviceConfig {
     descriptor: None,
     sessions: 4,
     groups: 4,
-    area: 65_774,
+    area: MAX_AREA,
 };
 
 /// An image file for hardware 1 with firmware 2, its body and digest those of the text abc.
@@ -587,7 +587,7 @@ fn a_file_comes_by_the_group_in_its_window(rt: HostRuntime) {
 #[test]
 fn numbers_out_of_bounds_make_no_device(rt: HostRuntime) {
     let table = [
-        DeviceConfig { rows: 65, ..CONFIG },
+        DeviceConfig { rows: 257, ..CONFIG },
         DeviceConfig {
             sessions: 0,
             ..CONFIG
@@ -606,7 +606,7 @@ fn numbers_out_of_bounds_make_no_device(rt: HostRuntime) {
         },
         DeviceConfig { area: 0, ..CONFIG },
         DeviceConfig {
-            area: 65_775,
+            area: MAX_AREA + 1,
             ..CONFIG
         },
     ];
@@ -616,5 +616,5 @@ fn numbers_out_of_bounds_make_no_device(rt: HostRuntime) {
             Err(why) => assert!(rt; why == ReserveError::BadConfig),
         }
     }
-    assert!(rt; Device::reserve(rt.alloc(), DeviceConfig { rows: 64, ..CONFIG }).is_ok());
+    assert!(rt; Device::reserve(rt.alloc(), DeviceConfig { rows: 256, ..CONFIG }).is_ok());
 }
