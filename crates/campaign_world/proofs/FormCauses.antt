@@ -26,7 +26,8 @@ use Rattle.campaign_world.specs.declared.numbered.SentPayload.{SentPayload}
 use Rattle.campaign_world.specs.declared.numbered.MadeUplink.{MadeUplink}
 use Rattle.campaign_world.specs.Causes.{is_device, is_event_or_end, may_come, fits_script, names_device, has_come, is_to_come, fits_payload, has_more, form_cause, cause_of, cause_of_form}
 use Rattle.script_lines.specs.Forms.{form_of}
-use Rattle.script_lines.specs.Limits.{max_lines, max_line, max_time}
+use Rattle.script_lines.specs.Limits.{max_lines, max_line, max_time, max_rows, max_devices}
+use Rattle.frag_model.specs.Limits.{max_pieces}
 use Rattle.campaign_world.specs.HeldWorld.{HeldWorld, server_of, world_of, IsFine}
 use Rattle.campaign_world.specs.Making.{device_of}
 use Rattle.script_lines.specs.declared.forms.Class.{Class}
@@ -493,33 +494,33 @@ unfolding in_range
 cuts_well image count f frag_size parity is ranges fits =
     let both : (nat_le 1 frag_size && nat_le frag_size 239 && nat_le parity 512) ≡ true = rw is at ranges in
     let first = and_parts _ _ both in
-    let number : nat_le (nb_frag_of (length image) frag_size) 1024 ≡ true = rw is at fits in
+    let number : nat_le (nb_frag_of (length image) frag_size) max_pieces ≡ true = rw is at fits in
     let low : (nat_le 1 frag_size && nat_le frag_size 239) ≡ true = first.0 in
     (rw (low, number) refl, leb-true _ _ (and_parts _ _ first.0).1, leb-true _ _ first.1)
 
 -- and a device line, numbers that a device takes
 pub record Fitting (count id hw rows offset : ℕ) : Type 0 where
   pub hw_fits : hw < 2 ^ 32
-  pub few : rows ≤ 64
+  pub few : rows ≤ max_rows
   pub offset_fits : offset < 2 ^ 32
-  pub next : count < 64
+  pub next : count < max_devices
 
 pub fitting : (len count : ℕ) (f : Form) (id hw rows offset : ℕ) (k : Class) (key : List ℕ) (descriptor : Option ℕ) → f ≡ form.Device id k hw rows offset key descriptor → in_range f ≡ true
     → fits_script len count f ≡ true → Fitting count id hw rows offset
 unfolding in_range
 fitting len count f id hw rows offset k key descriptor is ranges fits =
-    let all : (nat_le 1 id && nat_le id 64 && nat_lt hw (2 ^ 32) && nat_le rows 64 && nat_lt offset (2 ^ 32)) ≡ true = rw is at ranges in
-    let a = and_parts (nat_le 1 id && nat_le id 64 && nat_lt hw (2 ^ 32) && nat_le rows 64) (nat_lt offset (2 ^ 32)) all in
-    let b = and_parts (nat_le 1 id && nat_le id 64 && nat_lt hw (2 ^ 32)) (nat_le rows 64) a.0 in
-    let c = and_parts (nat_le 1 id && nat_le id 64) (nat_lt hw (2 ^ 32)) b.0 in
-    let d = and_parts (nat_le 1 id) (nat_le id 64) c.0 in
+    let all : (nat_le 1 id && nat_le id max_devices && nat_lt hw (2 ^ 32) && nat_le rows max_rows && nat_lt offset (2 ^ 32)) ≡ true = rw is at ranges in
+    let a = and_parts (nat_le 1 id && nat_le id max_devices && nat_lt hw (2 ^ 32) && nat_le rows max_rows) (nat_lt offset (2 ^ 32)) all in
+    let b = and_parts (nat_le 1 id && nat_le id max_devices && nat_lt hw (2 ^ 32)) (nat_le rows max_rows) a.0 in
+    let c = and_parts (nat_le 1 id && nat_le id max_devices) (nat_lt hw (2 ^ 32)) b.0 in
+    let d = and_parts (nat_le 1 id) (nat_le id max_devices) c.0 in
     let next : (id == count + 1) ≡ true = rw is at fits in
     let is_next : id ≡ count + 1 = grind (arith, nat_tests, next) in
     record {
       hw_fits = ltb-true _ _ c.1;
       few = leb-true _ _ b.1;
       offset_fits = ltb-true _ _ a.1;
-      next = omega (arith, is_next, leb-true id 64 d.1);
+      next = omega (arith, is_next, leb-true id max_devices d.1);
     }
 
 -- the script's image is the one that is held

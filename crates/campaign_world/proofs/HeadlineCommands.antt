@@ -6,7 +6,7 @@ use Rattle.std.proofs.lemmas.Grind.{div_ceil_times}
 use Rattle.wire_base.specs.declared.refusal.Direction.TheVariants.{Down}
 use Rattle.wire_base.specs.Numbers.{number_at}
 use Rattle.wire_base.specs.Rows.{IsListed}
-use Rattle.frag_model.specs.Limits.{max_parity_index}
+use Rattle.frag_model.specs.Limits.{max_frag_size, max_parity_index, max_pieces}
 use Rattle.frag_model.specs.Fragments.{line_of}
 use Rattle.frag_encoder.specs.Encoding.{nb_frag_of, padding_of, data_of, block_of, filled}
 use Rattle.frag_encoder.proofs.Pieces.{pieces_sized, sized_sum}
@@ -86,8 +86,8 @@ IsSentOf image cut down =
 -- the image is cut within the limits
 pub record IsCut (image : List ℕ) (cut : Cut) : Type 0 where
   pub some : 1 ≤ cut.size
-  pub small : cut.size ≤ 239
-  pub few : nb_frag_of (length image) cut.size ≤ 1024
+  pub small : cut.size ≤ max_frag_size
+  pub few : nb_frag_of (length image) cut.size ≤ max_pieces
   pub groups : cut.mask ≤ 1
 
 byte_at : (image : List ℕ) (at : ℕ) → All (λ b. b < 2 ^ 8) image → get_or image at 0 < 256

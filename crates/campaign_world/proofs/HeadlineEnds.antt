@@ -16,7 +16,7 @@ use Rattle.package_grammar.specs.declared.command.Command.TheVariants.{Sync, Cas
 use Rattle.package_grammar.specs.declared.downlink.To.TheVariants.{Unicast}
 use Rattle.device_core.specs.declared.config.DeviceConfig.{DeviceConfig}
 use Rattle.device_core.specs.SessionTable.{SessionTable}
-use Rattle.device_core.specs.Device.{DeviceState, limits_of}
+use Rattle.device_core.specs.Device.{DeviceState, limits_of, max_area, max_rows}
 use Rattle.campaign_server.specs.declared.plan.Kind.{Kind}
 use Rattle.campaign_server.specs.declared.plan.Kind.TheVariants as kind
 use Rattle.campaign_server.specs.declared.plan.PlanGroup.{PlanGroup}
@@ -74,8 +74,8 @@ fragment_set image cut s way n part mark f k =
 -- what the lines of devices allow
 pub record IsBounded (config : DeviceConfig) : Type 0 where
   pub sessions : config.sessions ≡ 4
-  pub area : config.area ≡ 65774
-  pub rows : config.rows ≤ 64
+  pub area : config.area ≡ max_area
+  pub rows : config.rows ≤ max_rows
 
 -- the session has the rows that the device keeps, or a row a piece
 abbrev HasRows : List ℕ → Cut → DeviceConfig → Session → Type 0

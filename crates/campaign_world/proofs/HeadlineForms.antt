@@ -8,6 +8,8 @@ use Rattle.package_grammar.specs.declared.downlink.Downlink.{Downlink}
 use Rattle.package_grammar.specs.Reading.{Reading, reading_of}
 use Rattle.wire_base.specs.declared.refusal.Direction.TheVariants as direction
 use Rattle.device_core.specs.Device.{DeviceState}
+use Rattle.frag_model.specs.Limits.{max_pieces}
+use Rattle.script_lines.specs.Limits.{max_rows, max_devices}
 use Rattle.device_core.specs.Deliver.{delivery, waking}
 use Rattle.campaign_server.specs.declared.plan.PlanGroup.{PlanGroup}
 use Rattle.campaign_server.specs.Plan.{Plan}
@@ -317,10 +319,10 @@ few_groups : (group : Option PlanGroup) → mask_of group ≤ 1
 few_groups None = omega arith
 few_groups (Some group) = omega arith
 
-few_rows : (id hw rows offset : ℕ) → ranged id hw rows offset ≡ true → rows ≤ 64
+few_rows : (id hw rows offset : ℕ) → ranged id hw rows offset ≡ true → rows ≤ max_rows
 few_rows id hw rows offset all =
-    let a = and_parts (nat_le 1 id && nat_le id 64 && nat_lt hw (2 ^ 32) && nat_le rows 64) (nat_lt offset (2 ^ 32)) all in
-    let b = and_parts (nat_le 1 id && nat_le id 64 && nat_lt hw (2 ^ 32)) (nat_le rows 64) a.0 in
+    let a = and_parts (nat_le 1 id && nat_le id max_devices && nat_lt hw (2 ^ 32) && nat_le rows max_rows) (nat_lt offset (2 ^ 32)) all in
+    let b = and_parts (nat_le 1 id && nat_le id max_devices && nat_lt hw (2 ^ 32)) (nat_le rows max_rows) a.0 in
     leb-true _ _ b.1
 
 pub form_turn : (image : List ℕ) (w : WorldState) (form : Form) → All (λ b. b < 2 ^ 8) image → Keeps image w
@@ -335,7 +337,7 @@ form_turn image w (Image frag_size parity) bytes k fine honest =
     let both = and_parts _ _ p.ranged in
     let low = and_parts _ _ both.0 in
     let cuts = and_parts _ _ low.0 in
-    let few : nb_frag_of (length w.server.image) frag_size ≤ 1024 = leb-true _ _ both.1 in
+    let few : nb_frag_of (length w.server.image) frag_size ≤ max_pieces = leb-true _ _ both.1 in
     record {
       lines = refl;
       server = record { image_is = k.server.image_is; next = omega arith; few = leb-true _ _ low.1 };
@@ -345,7 +347,7 @@ form_turn image w (Image frag_size parity) bytes k fine honest =
         record {
           some = leb-true _ _ cuts.0;
           small = leb-true _ _ cuts.1;
-          few = subst (λ (i : List ℕ). nb_frag_of (length i) frag_size ≤ 1024) k.server.image_is few;
+          few = subst (λ (i : List ℕ). nb_frag_of (length i) frag_size ≤ max_pieces) k.server.image_is few;
           groups = few_groups w.server.plan.group;
         },
       );

@@ -11,7 +11,9 @@ use Rattle.image_slots.specs.Image.{is_image, firmware_of}
 use Rattle.image_slots.proofs.ImageLemmas.{image_long, image_short}
 use Rattle.package_grammar.specs.declared.command.Command.{Command}
 use Rattle.device_core.specs.declared.config.DeviceConfig.{DeviceConfig}
-use Rattle.device_core.specs.Device.{limits_of, room_of}
+use Rattle.device_core.specs.Device.{limits_of, room_of, max_area, max_rows, row_words, row_bytes}
+use Rattle.frag_model.specs.Limits.{max_frag_size, max_pieces}
+use Rattle.row_elimination.specs.Grid.{max_line_words}
 use Rattle.script_lines.specs.Lines.{lines_of}
 use Rattle.campaign_world.specs.declared.section.Section.{Section}
 use Rattle.campaign_world.specs.declared.section.Section.TheVariants as section
@@ -39,24 +41,24 @@ some_piece : (len size n : ℕ) → 1 ≤ len → len ≤ n * size → 1 ≤ n
 some_piece len size zero some fits = absurd (omega (arith, some, fits))
 some_piece len size (suc n) some fits = omega arith
 
-few_words : (n : ℕ) → n ≤ 1024 → words_for n ≤ 16
+few_words : (n : ℕ) → n ≤ max_pieces → words_for n ≤ max_line_words
 unfolding words_for
 few_words n few = omega (arith, few)
 
 min_first : (a b : ℕ) → min a b ≤ a
 min_first a b = grind (arith, nat_tests)
 
-room_there : (config : DeviceConfig) (pieces size : ℕ) → IsBounded config → pieces ≤ 1024 → size ≤ 239
-    → pieces * size ≤ 65774 → has_room 1024 15296 config.area pieces size (min config.rows pieces) ≡ true
+room_there : (config : DeviceConfig) (pieces size : ℕ) → IsBounded config → pieces ≤ max_pieces → size ≤ max_frag_size
+    → pieces * size ≤ max_area → has_room row_words row_bytes config.area pieces size (min config.rows pieces) ≡ true
 unfolding has_room
 room_there config pieces size k few small fits =
-    let rows : min config.rows pieces ≤ 64 = omega (arith, min_first config.rows pieces, k.rows) in
-    let words : min config.rows pieces * words_for pieces ≤ 64 * 16 = mul-le-mul rows (few_words pieces few) in
-    let bytes : min config.rows pieces * size ≤ 64 * 239 = mul-le-mul rows small in
+    let rows : min config.rows pieces ≤ max_rows = omega (arith, min_first config.rows pieces, k.rows) in
+    let words : min config.rows pieces * words_for pieces ≤ max_rows * max_line_words = mul-le-mul rows (few_words pieces few) in
+    let bytes : min config.rows pieces * size ≤ max_rows * max_frag_size = mul-le-mul rows small in
     let area : pieces * size ≤ config.area = omega (arith, fits, k.area) in
     rw (
-      le-leb (min config.rows pieces * words_for pieces) 1024 (omega (arith, words)),
-      le-leb (min config.rows pieces * size) 15296 (omega (arith, bytes)),
+      le-leb (min config.rows pieces * words_for pieces) row_words (omega (arith, words)),
+      le-leb (min config.rows pieces * size) row_bytes (omega (arith, bytes)),
       le-leb (pieces * size) config.area area,
     ) refl
 
@@ -69,15 +71,15 @@ takes_setup image cut config fine is k takes =
     let some : 1 ≤ nb_frag_of (length image) cut.size =
     some_piece (length image) cut.size (nb_frag_of (length image) cut.size) (omega (arith, image_long image fine)) ceil.0 in
     let short : padding_of (length image) cut.size < cut.size = omega (arith, ceil.1, is.some) in
-    let fits : nb_frag_of (length image) cut.size * cut.size ≤ 65774 =
+    let fits : nb_frag_of (length image) cut.size * cut.size ≤ max_area =
     omega (arith, ceil.1, image_short image fine, is.small) in
     let room = room_there config (nb_frag_of (length image) cut.size) cut.size k is.few is.small fits in
     rw (
       ne_eqb (nb_frag_of (length image) cut.size) 0 (omega (arith, some)),
       ne_eqb cut.size 0 (omega (arith, is.some)),
       not_le cut.size (padding_of (length image) cut.size) short,
-      le-ltb 1024 (nb_frag_of (length image) cut.size) is.few,
-      le-ltb 239 cut.size is.small,
+      le-ltb max_pieces (nb_frag_of (length image) cut.size) is.few,
+      le-ltb max_frag_size cut.size is.small,
       room,
       k.sessions,
       takes,

@@ -2,7 +2,7 @@
 use Rattle.std.proofs.Common.{◌≡◌, ◌⊎◌, inl, inr, ℕ, ◌+◌, ◌-◌, ◌≤◌, Bool, true, false, List, [], ◌∷◌, ◌++◌, length, Option, Some, IfSome, refl, sym, ap, ◌∙◌, subst, arith}
 use Rattle.std.specs.List.{AllByRecursion, slice_set}
 use Rattle.device_core.specs.declared.config.DeviceConfig.{DeviceConfig}
-use Rattle.device_core.specs.Device.{DeviceState, first_device}
+use Rattle.device_core.specs.Device.{DeviceState, first_device, max_rows}
 use Rattle.campaign_server.specs.Server.{DownlinkCommand, numbered, downlink_of}
 use Rattle.script_lines.specs.declared.forms.Form.{Form}
 use Rattle.script_lines.specs.declared.forms.Class.{Class}
@@ -101,7 +101,7 @@ pub record IsJoined (form : Form) (w v : WorldState) : Type 0 where
   pub key : List ℕ
   pub descriptor : Option ℕ
   pub form_is : form ≡ Device (length w.devices + 1) class hw rows offset key descriptor
-  pub few : rows ≤ 64
+  pub few : rows ≤ max_rows
   pub devices : v.devices ≡ w.devices ++ device_of class hw rows offset key descriptor ∷ []
   pub sent : v.sent ≡ w.sent
 

@@ -51,7 +51,7 @@ has_ended here = false
 
 -- ---- range
 
--- an image of this length has at most 1,024 fragments; behind so many devices the ID is the next
+-- an image of this length has at most 4,096 fragments; behind so many devices the ID is the next
 abbrev pub fits_script : (len count : ℕ) → Form → Bool
 fits_script len count (Image frag_size parity) = nat_le (nb_frag_of len frag_size) max_pieces
 fits_script len count (Device id class hw rows offset key descriptor) = id == count + 1

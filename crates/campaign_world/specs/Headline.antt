@@ -20,7 +20,7 @@ use Rattle.device_core.specs.declared.config.Class.{Class as DeviceClass}
 use Rattle.device_core.specs.declared.config.Class.TheVariants as device_class
 use Rattle.device_core.specs.declared.config.DeviceConfig.{DeviceConfig}
 use Rattle.device_core.specs.SessionTable.{SessionTable}
-use Rattle.device_core.specs.Device.{DeviceState}
+use Rattle.device_core.specs.Device.{DeviceState, max_area}
 use Rattle.device_core.specs.ClassSessions.{hears}
 use Rattle.device_core.specs.Firmware.{after_due_reboot}
 use Rattle.device_core.specs.Deliver.{via_of}
@@ -71,7 +71,7 @@ pub record IsConfigured (lines : List (List ℕ)) (id : ℕ) (config : DeviceCon
   pub descriptor_is : config.descriptor ≡ descriptor
   pub sessions_are : config.sessions ≡ 4
   pub groups_are : config.groups ≡ 4
-  pub area_is : config.area ≡ 65774
+  pub area_is : config.area ≡ max_area
 
 -- the configuration is that of the device's line
 abbrev pub IsOfItsLine : List (List ℕ) → (id : ℕ) → DeviceConfig → Type 0

@@ -8,7 +8,7 @@ use Rattle.device_core.specs.declared.config.Class.{Class as DeviceClass}
 use Rattle.device_core.specs.declared.config.Class.TheVariants as device_class
 use Rattle.device_core.specs.declared.config.DeviceConfig.{DeviceConfig}
 use Rattle.device_core.specs.declared.uplink.Uplink.{Uplink}
-use Rattle.device_core.specs.Device.{DeviceState, first_device}
+use Rattle.device_core.specs.Device.{DeviceState, first_device, max_area}
 use Rattle.device_core.specs.Deliver.{delivery, waking}
 use Rattle.campaign_server.specs.declared.plan.Kind.{Kind}
 use Rattle.campaign_server.specs.declared.plan.Kind.TheVariants as kind
@@ -52,7 +52,7 @@ config_of class hw rows offset key descriptor = record {
   descriptor = descriptor;
   sessions = 4;
   groups = 4;
-  area = 65774;
+  area = max_area;
 }
 
 abbrev pub device_of : Class → (hw rows offset : ℕ) → (key : List ℕ) → (descriptor : Option ℕ) → DeviceState

@@ -2,6 +2,7 @@
 
 ghost use Rattle.std.specs.Prelude.{◌≡◌, ◌≤◌, ◌<◌, ◌^◌, ℕ, length};
 ghost use Rattle.script_lines.specs.declared.forms.Form.TheVariants.{Image};
+ghost use Rattle.image_slots.specs.Image.{max_image};
 ghost use Rattle.campaign_world.specs.Causes.{is_event_or_end, may_come, has_ended, fits_script, is_device, names_device, may_reach, is_due_by, has_come, is_to_come, fits_payload};
 ghost use Rattle.campaign_server.specs.Server.{numbered};
 
@@ -49,9 +50,9 @@ pub fn has_ended(section: Section) -> bool
     matches!(section, Section::Ended)
 }
 
-/// Whether an image of this length has at most 1,024 fragments, and the device's ID is the next behind so many.
+/// Whether an image of this length has at most 4,096 fragments, and the device's ID is the next behind so many.
 pub fn fits_script(len: usize, count: usize, form: &Form) -> bool
-    requires len { len ≤ 65536 }
+    requires len { len ≤ max_image }
     requires count { count < 2 ^ 63 }
     requires size { (frag_size parity : ℕ) → form.now ≡ Image frag_size parity → (1 ≤ frag_size) × (frag_size ≤ 239) }
     ensures { result ≡ fits_script len count form.now }

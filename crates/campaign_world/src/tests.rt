@@ -1,5 +1,5 @@
 use crate::{LineError, LineFault, LineWhy, NoFile, World};
-use device_core::{Class, Delivered, Device, DeviceConfig};
+use device_core::{Class, Delivered, Device, DeviceConfig, MAX_AREA};
 use image_slots::{ImageState, is_image};
 use package_grammar::{Downlink, To};
 use std::process::Abort;
@@ -157,7 +157,7 @@ fn cut_commands_change_nothing(rt: HostRuntime) {
         descriptor: None,
         sessions: 4,
         groups: 4,
-        area: 65_774,
+        area: MAX_AREA,
     };
     let mut device = Device::reserve(rt.alloc(), config).expect(&rt, "no device");
     let mut refused = 0u64;

@@ -10,16 +10,14 @@ ghost use Rattle.campaign_world.specs.declared.section.Section.TheVariants as se
 use super::World;
 use crate::section::Section;
 use campaign_server::{Kind, Plan, PlanDevice, PlanGroup, PlanWindow};
-use device_core::{Class, Device, DeviceConfig, ReserveError};
+use device_core::{Class, Device, DeviceConfig, MAX_AREA, ReserveError};
 use script_lines::Form;
 use std::alloc::AllocError;
 
-/// Sessions and groups of each device, and the bytes of a session's file area.
+/// Sessions and groups of each device.
 const SESSIONS: u8 = 4;
 
 const GROUPS: u8 = 4;
-
-const AREA: u32 = 65_774;
 
 impl World {
     ghost use Rattle.campaign_world.specs.HeldWorld.{WorldBecomes, KeepsEnds, IsFine};
@@ -112,7 +110,7 @@ impl World {
                     descriptor: *descriptor,
                     sessions: SESSIONS,
                     groups: GROUPS,
-                    area: AREA,
+                    area: MAX_AREA,
                 })
             }
             _ => Ok(()),

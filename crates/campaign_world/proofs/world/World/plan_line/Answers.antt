@@ -1,5 +1,6 @@
 use Rattle.std.proofs.Common.{◌≡◌, ◌∙◌, length, true, sym, refl, subst, arith}
 use Rattle.std.proofs.lemmas.Bool.{le-leb}
+use Rattle.device_core.specs.Device.{max_rows}
 use Rattle.campaign_world.specs.HeldWorld.{HeldWorld}
 use Rattle.campaign_world.specs.WorldInside.{IsPlanned, ServerIs}
 use Rattle.campaign_world.specs.declared.section.Section.{Section}
@@ -45,7 +46,7 @@ pub overflow_cast-offset : goal.overflow_cast-offset
 overflow_cast-offset c = let fine = causes.fine_of c.args.self.now c.args.form.now c.requires.fine in let fits = causes.fits_held c.args.self.now c.args.form.now (subst (λ (h : HeldWorld). ServerIs h.image h.devices h.server) c.self.view_is c.self.invariant.built) fine in let fit = causes.fitting (length c.args.self.now.image) (length c.args.self.now.devices) c.args.form.now c.in-Device.id c.in-Device.hw c.in-Device.rows c.in-Device.offset c.in-Device.class c.in-Device.key c.in-Device.descriptor c.in-Device.is fine.ranges fits in omega (arith, fit.offset_fits)
 
 pub add_device-requires-clause-fine : goal.add_device-requires-clause-fine
-add_device-requires-clause-fine c = let fine = causes.fine_of c.args.self.now c.args.form.now c.requires.fine in let fits = causes.fits_held c.args.self.now c.args.form.now (subst (λ (h : HeldWorld). ServerIs h.image h.devices h.server) c.self.view_is c.self.invariant.built) fine in let fit = causes.fitting (length c.args.self.now.image) (length c.args.self.now.devices) c.args.form.now c.in-Device.id c.in-Device.hw c.in-Device.rows c.in-Device.offset c.in-Device.class c.in-Device.key c.in-Device.descriptor c.in-Device.is fine.ranges fits in rw (le-leb c.in-Device.rows 64 fit.few) refl
+add_device-requires-clause-fine c = let fine = causes.fine_of c.args.self.now c.args.form.now c.requires.fine in let fits = causes.fits_held c.args.self.now c.args.form.now (subst (λ (h : HeldWorld). ServerIs h.image h.devices h.server) c.self.view_is c.self.invariant.built) fine in let fit = causes.fitting (length c.args.self.now.image) (length c.args.self.now.devices) c.args.form.now c.in-Device.id c.in-Device.hw c.in-Device.rows c.in-Device.offset c.in-Device.class c.in-Device.key c.in-Device.descriptor c.in-Device.is fine.ranges fits in rw (le-leb c.in-Device.rows max_rows fit.few) refl
 
 pub add_device-requires-clause-planned : goal.add_device-requires-clause-planned
 add_device-requires-clause-planned c = let fine = causes.fine_of c.args.self.now c.args.form.now c.requires.fine in let fits = causes.fits_held c.args.self.now c.args.form.now (subst (λ (h : HeldWorld). ServerIs h.image h.devices h.server) c.self.view_is c.self.invariant.built) fine in let fit = causes.fitting (length c.args.self.now.image) (length c.args.self.now.devices) c.args.form.now c.in-Device.id c.in-Device.hw c.in-Device.rows c.in-Device.offset c.in-Device.class c.in-Device.key c.in-Device.descriptor c.in-Device.is fine.ranges fits in
