@@ -18,7 +18,7 @@ use campaign_world::{
     verdict_text,
 };
 use cast_wire::FRAGMENT_PORT;
-use device_core::{Class, Device, DeviceConfig};
+use device_core::{Class, Device, DeviceConfig, MAX_AREA, MAX_ROWS};
 use frag_session::{Verdict, View};
 use package_grammar::{Downlink, To};
 use script_lines::{HearsLine, count_words, decimal, is_word, word};
@@ -26,13 +26,10 @@ use std::alloc::{AllocError, Global};
 use std::marker::Model;
 use wire_base::Payload;
 
-/// The most rows that a header gives.
-const MAX_ROWS: u64 = 64;
-
-/// A replay, as the lines of its file are heard: a class C device with 4 sessions of at most 65,774 bytes hears captured
+/// A replay, as the lines of its file are heard: a class C device with 4 sessions of at most 262,382 bytes hears captured
 /// payloads by unicast on port 201, downwards, at moment 0 ms.
 ///
-/// The first line of the file is `replay 1 ROWS`, with ROWS (decimal, 0 to 64) the coded fragments that a session holds.
+/// The first line of the file is `replay 1 ROWS`, with ROWS (decimal, 0 to 256) the coded fragments that a session holds.
 /// Lines 2 to 20,000, each of at most 600 bytes, are the hex digits of a payload of 0 to 242 bytes in the order sent. Behind
 /// the first line that is refused, and behind want of memory, no line does more. (TS004-1.0.0; the file and the text are
 /// this project's profile.)
@@ -114,7 +111,7 @@ impl Replaying {
     /// of the line that decided it, and its file in hex where it is whole.
     ///
     /// `LineError::Line` names the first line that is refused and its first cause: `LineWhy::Limit` where a bound is
-    /// exceeded, `LineWhy::Range` where ROWS is above 64, and else `LineWhy::Syntax`; an empty file is refused at line 1.
+    /// exceeded, `LineWhy::Range` where ROWS is above 256, and else `LineWhy::Syntax`; an empty file is refused at line 1.
     /// `LineError::Memory` comes where memory is wanting.
     pub fn text(&self) -> Result<Vec<u8>, LineError>
         ensures { (file : List ℕ) → ReplayingStands self.now (lines_of file) → IsTold Replays file (seen_text result) }
@@ -156,7 +153,7 @@ fn config(rows: u16) -> DeviceConfig
         descriptor: None,
         sessions: 4,
         groups: 4,
-        area: 65_774,
+        area: MAX_AREA,
     }
 }
 
@@ -179,7 +176,7 @@ fn rows_by(rows: Option<u64>) -> Result<u16, LineWhy>
 {
     match rows {
         None => Err(LineWhy::Syntax),
-        Some(rows) if rows <= MAX_ROWS => Ok(rows as u16),
+        Some(rows) if rows <= MAX_ROWS as u64 => Ok(rows as u16),
         Some(_) => Err(LineWhy::Range),
     }
 }
