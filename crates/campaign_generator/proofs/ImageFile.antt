@@ -7,7 +7,7 @@ use Rattle.sha2.specs.Sha256.{sha256}
 use Rattle.sha2.proofs.Facts256.{length-sha256}
 use Rattle.wire_base.specs.Numbers.{number_at, number_bytes}
 use Rattle.wire_base.proofs.NumberLaws.{number_at-number_bytes}
-use Rattle.image_slots.specs.Image.{is_image, image_start, hardware_of, firmware_of}
+use Rattle.image_slots.specs.Image.{max_image, is_image, image_start, hardware_of, firmware_of}
 use Rattle.campaign_generator.specs.Draws.{stepped}
 use Rattle.campaign_generator.specs.Firmware.{firmware_of_seed, body_of, size_of, bytes_from, file_of, image_of}
 use Rattle.campaign_generator.specs.ImageFile.{AreImageFiles}
@@ -90,12 +90,12 @@ same_bytes : (bytes : List ℕ) → bytes_eq bytes bytes ≡ true
 same_bytes [] = refl
 same_bytes (b ∷ bytes) = let same : (b == b) ≡ true = grind arith in rw (same, same_bytes bytes) refl
 
-built_is_image : (hw fw : ℕ) (body : List ℕ) → 0 < fw → fw < 2 ^ 32 → 49 + length body ≤ 65536 → is_image (built hw fw body) ≡ true
+built_is_image : (hw fw : ℕ) (body : List ℕ) → 0 < fw → fw < 2 ^ 32 → 49 + length body ≤ max_image → is_image (built hw fw body) ≡ true
 unfolding is_image
 built_is_image hw fw body some small fits =
     let n = built_length hw fw body in
     let a : nat_le 49 (length (built hw fw body)) ≡ true = grind (arith, n) in
-    let b : nat_le (length (built hw fw body)) 65536 ≡ true = grind (arith, n, fits) in
+    let b : nat_le (length (built hw fw body)) max_image ≡ true = grind (arith, n, fits) in
     let c : (firmware_of (built hw fw body) == 0) ≡ false = grind (arith, built_firmware hw fw body small, some) in
     let d : (number_at (built hw fw body) 13 4 == length (built hw fw body) - 49) ≡ true = (let e = built_count hw fw body (omega (arith, fits)) in grind (arith, e, n)) in
     rw (a, b, built_start hw fw body, same_bytes image_start, c, d, built_digest hw fw body, built_body hw fw body, same_bytes (sha256 body)) refl
@@ -128,7 +128,7 @@ image_is seed = rw (bytes_long (stepped seed) (body_of seed)) refl
 pub image_files : AreImageFiles
 unfolding size_of
 image_files seed =
-    let fits : 49 + length (drawn_body seed) ≤ 65536 = omega (arith, bytes_long (stepped seed) (body_of seed), body_small seed) in
+    let fits : 49 + length (drawn_body seed) ≤ max_image = omega (arith, bytes_long (stepped seed) (body_of seed), body_small seed) in
     record {
       file = rw (image_is seed) (built_is_image 1 (firmware_of_seed seed) (drawn_body seed) (firmware_some seed) (firmware_small seed) fits);
       hardware = rw (image_is seed) (built_hardware 1 (firmware_of_seed seed) (drawn_body seed) (lit< tt));

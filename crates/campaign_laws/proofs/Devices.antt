@@ -15,7 +15,7 @@ use Rattle.frag_session.specs.declared.answers.Via.TheVariants as via
 use Rattle.device_core.specs.declared.arrival.Arrival.{Arrival}
 use Rattle.device_core.specs.declared.config.Class.TheVariants as class
 use Rattle.device_core.specs.declared.uplink.Uplink.{Uplink}
-use Rattle.device_core.specs.Device.{DeviceState}
+use Rattle.device_core.specs.Device.{DeviceState, max_area}
 use Rattle.device_core.specs.Answers.{DeviceStep, uplink_of, after_answers, one_answer}
 use Rattle.device_core.specs.ClassSessions.{hears}
 use Rattle.device_core.specs.Firmware.{after_due_reboot}
@@ -37,7 +37,7 @@ pub record IsPlain (d : DeviceState) : Type 0 where
   pub rows : d.config.rows ≡ 64
   pub descriptor : d.config.descriptor ≡ None
   pub sessions : d.config.sessions ≡ 4
-  pub area : d.config.area ≡ 65774
+  pub area : d.config.area ≡ max_area
   pub reboot : d.reboot ≡ None
   pub outbox : d.outbox ≡ []
 

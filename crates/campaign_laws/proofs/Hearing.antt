@@ -15,7 +15,8 @@ use Rattle.image_slots.specs.declared.view.ImageState.TheVariants as state
 use Rattle.image_slots.specs.Image.{is_image, hardware_of, firmware_of, image_state}
 use Rattle.image_slots.specs.Slots.{Slots, after_offer}
 use Rattle.device_core.specs.Answers.{after_answers}
-use Rattle.device_core.specs.Device.{DeviceState, room_of, limits_of}
+use Rattle.device_core.specs.Device.{DeviceState, room_of, limits_of, max_area, row_words}
+use Rattle.frag_model.specs.Limits.{max_pieces}
 use Rattle.device_core.specs.Firmware.{after_due_reboot}
 use Rattle.device_core.specs.Fragments.{is_complete, slots_after, heard_step, fragment_step}
 use Rattle.device_core.specs.Step.{command_step}
@@ -65,10 +66,10 @@ no_bits image d made plain =
     let m : ℕ = count_of image in
     let a : (m == 0) ≡ false = grind (arith, h.low) in
     let b : nat_le 64 (padding_of (length image) 64) ≡ false = grind (arith, h.last) in
-    let c : nat_lt 1024 m ≡ false = grind (arith, h.high) in
+    let c : nat_lt max_pieces m ≡ false = grind (arith, h.high) in
     let e : min 64 m ≡ 64 = omega (arith, h.low) in
-    let f : nat_le (64 * ((m + 63) / 64)) 1024 ≡ true = (let small : (m + 63) / 64 ≤ 3 = omega (arith, h.high) in grind (arith, small)) in
-    let g : nat_le (m * 64) 65774 ≡ true = grind (arith, h.high) in
+    let f : nat_le (64 * ((m + 63) / 64)) row_words ≡ true = (let small : (m + 63) / 64 ≤ 3 = omega (arith, h.high) in grind (arith, small)) in
+    let g : nat_le (m * 64) max_area ≡ true = grind (arith, h.high) in
     rw (plain.sessions, plain.rows, plain.descriptor, plain.area, a, b, c, e, f, g) refl
 
 pub record IsNew (d : DeviceState) : Type 0 where

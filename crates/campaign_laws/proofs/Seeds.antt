@@ -15,6 +15,7 @@ use Rattle.frag_session.specs.declared.answers.Verdict.TheVariants as shown
 use Rattle.frag_session.specs.Session.{Session, seen_of, view_of, shape_of}
 use Rattle.image_slots.specs.Image.{image_start}
 use Rattle.device_core.specs.Device.{DeviceState}
+use Rattle.frag_model.specs.Limits.{max_pieces}
 use Rattle.campaign_server.specs.declared.stage.Stage.{Stage}
 use Rattle.campaign_server.specs.declared.stage.Stage.TheVariants.{At}
 use Rattle.campaign_server.specs.declared.stage.Request.TheVariants as request
@@ -194,7 +195,7 @@ start image few =
       each = λ n low high. absurd (omega (arith, low, high));
     })))
   where
-    fits : nat_le (count_of image) 1024 ≡ true
+    fits : nat_le (count_of image) max_pieces ≡ true
     fits = grind (arith, few)
 
 drawn_small : (g : ℕ) → nat_lt (drawn g) (2 ^ 32) ≡ true
