@@ -10,6 +10,7 @@ use Rattle.fuota_run.specs.declared.status.Status.TheVariants as status
 use Rattle.fuota_run.specs.Outside.{Held, HoldsName, HasRisen, AppendsFront}
 use Rattle.fuota_run.specs.Source.{IsSource, IsTooLong}
 use Rattle.image_slots.specs.Image.{is_image}
+use Rattle.fuota_run.specs.Limits.{image_limit}
 use Rattle.campaign_world.specs.Script.{campaign_of}
 use Rattle.campaign_world.specs.declared.faults.LineFault.{LineFault}
 use Rattle.campaign_world.specs.declared.faults.LineError.{LineError}
@@ -94,19 +95,19 @@ unfolding script_answer
 script_given what image script a within is = let t : nat_lt 1048576 (length script) ≡ false = le-ltb _ _ within in rw t is
 
 -- an image that is too long
-pub image_long : (what : ScriptForm) (image : List ℕ) (script : Option (List ℕ)) → 65536 < length image → too_long 65536 ≡ campaign_answer what (Some image) script
+pub image_long : (what : ScriptForm) (image : List ℕ) (script : Option (List ℕ)) → image_limit < length image → too_long image_limit ≡ campaign_answer what (Some image) script
 unfolding campaign_answer
-image_long what image script long = let t : nat_lt 65536 (length image) ≡ true = lt-ltb _ _ long in rw t refl
+image_long what image script long = let t : nat_lt image_limit (length image) ≡ true = lt-ltb _ _ long in rw t refl
 
 -- one that is no image file
-pub image_given_refused : (what : ScriptForm) (image : List ℕ) (script : Option (List ℕ)) → length image ≤ 65536 → is_image image ≡ false → image_refused ≡ campaign_answer what (Some image) script
+pub image_given_refused : (what : ScriptForm) (image : List ℕ) (script : Option (List ℕ)) → length image ≤ image_limit → is_image image ≡ false → image_refused ≡ campaign_answer what (Some image) script
 unfolding campaign_answer
-image_given_refused what image script within bad = let t : nat_lt 65536 (length image) ≡ false = le-ltb _ _ within in rw (t, bad) refl
+image_given_refused what image script within bad = let t : nat_lt image_limit (length image) ≡ false = le-ltb _ _ within in rw (t, bad) refl
 
 -- and one that is
-pub image_given : (what : ScriptForm) (image : List ℕ) (script : Option (List ℕ)) → length image ≤ 65536 → is_image image ≡ true → script_answer what image script ≡ campaign_answer what (Some image) script
+pub image_given : (what : ScriptForm) (image : List ℕ) (script : Option (List ℕ)) → length image ≤ image_limit → is_image image ≡ true → script_answer what image script ≡ campaign_answer what (Some image) script
 unfolding campaign_answer
-image_given what image script within good = let t : nat_lt 65536 (length image) ≡ false = le-ltb _ _ within in rw (t, good) refl
+image_given what image script within good = let t : nat_lt image_limit (length image) ≡ false = le-ltb _ _ within in rw (t, good) refl
 
 -- a reply that holds of every Ok
 pub if_ok_map : {T E : Type 0} {P Q : T → Type 0} (r : Result T E) → ((x : T) → P x → Q x) → IfOk r P → IfOk r Q
@@ -115,7 +116,7 @@ if_ok_map (Err e) turns holds = tt
 
 -- the reply behind an image file is the campaign's
 pub says_behind : (held middle : Option Held) (what : ScriptForm) (image_name script_name : List ℕ) (before between now : ℕ) (left : Option (List ℕ)) (image : List ℕ) (a : Answer) → middle ≡ held → before ≤ between
-    → IsSource held image_name 65536 image → length image ≤ 65536 → is_image image ≡ true → Says true (GivesScript middle what image script_name a) between now left a → Says true (GivesCampaign held what image_name script_name a) before now left a
+    → IsSource held image_name image_limit image → length image ≤ image_limit → is_image image ≡ true → Says true (GivesScript middle what image script_name a) between now left a → Says true (GivesCampaign held what image_name script_name a) before now left a
 says_behind held middle what image_name script_name before between now left image a same kept source within good says =
     let here = subst (λ (m : Option Held). Says true (GivesScript m what image script_name a) between now left a) same says in
     record {
@@ -125,7 +126,7 @@ says_behind held middle what image_name script_name before between now left imag
       read_up = here.read_up;
     }
   where
-    replies : (h : Option Held) → IsSource h image_name 65536 image → IsReply (GivesScript h what image script_name a) between now a → IsReply (GivesCampaign h what image_name script_name a) before now a
+    replies : (h : Option Held) → IsSource h image_name image_limit image → IsReply (GivesScript h what image script_name a) between now a → IsReply (GivesCampaign h what image_name script_name a) before now a
     replies None source (inl given) = inl ((λ _. given.1), image, given.2 ∙ image_given what image (Some given.1) within good)
     replies (Some h) source (inl is) = inl (is ∙ image_given what image (h script_name) within good ∙ ap (λ (i : Option (List ℕ)). campaign_answer what i (h script_name)) (sym source))
     replies h source (inr fault) = inr (fault.0, risen_before before between now kept fault.1)

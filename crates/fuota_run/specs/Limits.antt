@@ -3,7 +3,7 @@ use Rattle.std.specs.Prelude.{ℕ}
 
 -- bytes of an image source
 abbrev pub image_limit : ℕ
-image_limit = 65536
+image_limit = 262144
 
 -- bytes of a script, and of a file of payloads
 abbrev pub script_limit : ℕ

@@ -32,7 +32,7 @@ use payload_replay::{Decoding, Replaying};
 use std::alloc::{AllocError, Global};
 
 /// The most bytes of an image source.
-const IMAGE_LIMIT: u32 = 65_536;
+const IMAGE_LIMIT: u32 = 262_144;
 
 /// The most bytes of a script, and of a file of payloads.
 const SCRIPT_LIMIT: u32 = 1_048_576;

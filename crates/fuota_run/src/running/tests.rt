@@ -216,7 +216,7 @@ fn payloads_are_decoded_and_replayed(rt: HostRuntime) -> Result<(), Fail> {
         ),
         (
             &replay[..],
-            "replay 1 65\n",
+            "replay 1 257\n",
             Status::ScriptRefused,
             "line 1 range\n",
         ),
@@ -528,9 +528,9 @@ fn an_update_says_what_failed(rt: HostRuntime) -> Result<(), Fail> {
 }
 
 #[test]
-fn an_image_of_65_537_bytes_is_too_long(rt: HostRuntime) -> Result<(), Fail> {
+fn an_image_of_262_145_bytes_is_too_long(rt: HostRuntime) -> Result<(), Fail> {
     let mut image = Vec::new(rt.alloc());
-    image.resize(65_537, 0)?;
+    image.resize(262_145, 0)?;
     let outside = Outside {
         image: &image,
         ..SOUND
@@ -540,8 +540,8 @@ fn an_image_of_65_537_bytes_is_too_long(rt: HostRuntime) -> Result<(), Fail> {
         rt.alloc(),
         &WORDS,
         &outside,
-        Status::TooLong(65_537),
-        "too long 65537\n",
+        Status::TooLong(262_145),
+        "too long 262145\n",
     )
 }
 
