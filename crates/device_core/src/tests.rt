@@ -43,7 +43,7 @@ const PACKAGES: [Exchange; 4] = [
 ];
 
 /// Sessions are set up, hear, tell of themselves and end, each by its own index.
-const FRAGMENTS: [Exchange; 17] = [
+const FRAGMENTS: [Exchange; 20] = [
     (201, &[0x01, 0x01], &[]),
     (201, &[0x03, 0x00], &[0x03, 0x04]),
     (
@@ -76,7 +76,7 @@ const FRAGMENTS: [Exchange; 17] = [
     ),
     (
         201,
-        &[0x02, 0x00, 1, 4, 1, 0x00, 0, 0, 0, 0, 0],
+        &[0x02, 0x00, 1, 0x10, 1, 0x00, 0, 0, 0, 0, 0],
         &[0x02, 0x02],
     ),
     (
@@ -85,6 +85,21 @@ const FRAGMENTS: [Exchange; 17] = [
         &[0x02, 0xc1],
     ),
     (201, &[0x08, 0x00, 0x00, 0x11], &[]),
+    (
+        201,
+        &[0x02, 0x00, 1, 4, 1, 0x00, 0, 0, 0, 0, 0],
+        &[0x02, 0x00],
+    ),
+    (
+        201,
+        &[0x02, 0x00, 0, 0x10, 64, 0x00, 0, 0, 0, 0, 0],
+        &[0x02, 0x00],
+    ),
+    (
+        201,
+        &[0x02, 0x00, 1, 0x10, 64, 0x00, 0, 0, 0, 0, 0],
+        &[0x02, 0x02],
+    ),
 ];
 
 /// Groups 0 and 2 are set up, told and ended; then a session of class C on none, and one on group 2.
@@ -587,7 +602,10 @@ fn a_file_comes_by_the_group_in_its_window(rt: HostRuntime) {
 #[test]
 fn numbers_out_of_bounds_make_no_device(rt: HostRuntime) {
     let table = [
-        DeviceConfig { rows: 257, ..CONFIG },
+        DeviceConfig {
+            rows: 257,
+            ..CONFIG
+        },
         DeviceConfig {
             sessions: 0,
             ..CONFIG
@@ -616,5 +634,14 @@ fn numbers_out_of_bounds_make_no_device(rt: HostRuntime) {
             Err(why) => assert!(rt; why == ReserveError::BadConfig),
         }
     }
-    assert!(rt; Device::reserve(rt.alloc(), DeviceConfig { rows: 256, ..CONFIG }).is_ok());
+    assert!(rt;
+        Device::reserve(
+            rt.alloc(),
+            DeviceConfig {
+                rows: 256,
+                ..CONFIG
+            }
+        )
+        .is_ok()
+    );
 }

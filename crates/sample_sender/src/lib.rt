@@ -22,7 +22,7 @@ const FRAG_SIZE: u8 = 48;
 /// Coded fragments behind the pieces, which make losses good.
 const PARITY: u16 = 16;
 
-/// A sender of the file. `BadSize` comes exactly where it is empty or has more than 49,152 bytes.
+/// A sender of the file. `BadSize` comes exactly where it is empty or has more than 196,608 bytes.
 pub fn sender(alloc: Global, file: &[u8]) -> Result<Encoder, EncoderError>
     ensures cut { IfOk result (λ e. e ≡ record { file = file.now; frag_size = 48 }) }
     ensures bad_size { (result ≡ Err EncoderError.BadSize) ↔ IsBadSize (length file.now) 48 }

@@ -41,7 +41,7 @@ fn a_file_is_set_up_and_sent(rt: HostRuntime) -> Result<(), Fail> {
 #[test]
 fn what_is_no_file_is_refused(rt: HostRuntime) -> Result<(), Fail> {
     assert!(rt; matches!(sender(rt.alloc(), &[]), Err(EncoderError::BadSize)));
-    assert!(rt; matches!(sender(rt.alloc(), &[0; 49153]), Err(EncoderError::BadSize)));
-    assert!(rt; sender(rt.alloc(), &[0; 49152]).is_ok());
+    assert!(rt; matches!(sender(rt.alloc(), &[0; 196609]), Err(EncoderError::BadSize)));
+    assert!(rt; sender(rt.alloc(), &[0; 196608]).is_ok());
     Ok(())
 }
