@@ -429,7 +429,7 @@ begun_places nb size columns area arena is =
 
 pub begun : (nb size rows : ℕ) (columns : List Column) (spare known area : List ℕ) (arena : Arena) → nb ≤ max_pieces → rows ≤ nb → columns ≡ replicate nb Free → length spare ≡ max_pieces → length known ≡ max_line_words
     → nb * size ≤ length area → arena ≡ record { cols = nb; cell = size; rows = replicate rows (zero_row size) }
-    → ((i : ℕ) → i < length spare → get_or spare i 0 ≡ i) → line_in known ≡ 0
+    → ((i : ℕ) → i < rows → get_or spare i 0 ≡ i) → line_in known ≡ 0
     → IsGrid nb size rows 0 0 columns spare known area arena
 begun nb size rows columns spare known area arena most few c s k a shaped each unmarked =
     let os : List Column = take nb columns in
@@ -446,7 +446,7 @@ begun nb size rows columns spare known area arena most few c s k a shaped each u
       arena_cols = ap (λ (x : Arena). x.cols) shaped;
       arena_cell = ap (λ (x : Arena). x.cell) shaped;
       arena_rows = ap (λ (x : Arena). length x.rows) shaped ∙ length-replicate {A = Line} rows (zero_row size);
-      slots = slots_none os spare rows (none_there nb columns le none) (λ i lt. each i (omega arith));
+      slots = slots_none os spare rows (none_there nb columns le none) each;
       reduced = subst (λ x. IsReduced nb size x) (sym is) (none_reduced nb size);
       marks = marks_none (line_in (take (words_for nb) known)) (places_in size area arena os) (none_in_first (words_for nb) known unmarked)
           (λ d. ap (λ (l : List Place). get_or l d free) is ∙ free_everywhere nb d);

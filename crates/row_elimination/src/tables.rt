@@ -285,7 +285,7 @@ impl<const W: usize, const B: usize> Table<W, B> {
     {
         widen(&mut self.area, nb_frag as usize * frag_size as usize);
         free_all(&mut self.columns, nb_frag as usize);
-        count_up(&mut self.spare);
+        count_up(&mut self.spare, rows);
         clear_bits(&mut self.known);
         let _ = self.arena.shape(rows, nb_frag, frag_size);
         self.nb_frag = nb_frag;
@@ -320,13 +320,13 @@ fn free_all(columns: &mut Vec<Column>, n: usize)
     }
 }
 
-/// Writes its own place to each.
-fn count_up(spare: &mut [u16])
-    requires { length spare.old ≤ max_pieces }
-    ensures { (i : ℕ) → i < length spare.new → get_or spare.new i 0 ≡ i }
+/// Writes its own place to each of so many; what lies behind them is not used.
+fn count_up(spare: &mut [u16], rows: u16)
+    requires { rows ≤ length spare.old }
+    ensures { (i : ℕ) → i < rows → get_or spare.new i 0 ≡ i }
 {
-    for i in 0..spare.len() {
-        spare[i] = i as u16;
+    for i in 0..rows {
+        spare[i as usize] = i;
     }
 }
 
