@@ -19,6 +19,7 @@ mod columns;
 mod drawing;
 mod entries;
 pub mod laws;
+mod made;
 mod passes;
 mod rows;
 mod solver;

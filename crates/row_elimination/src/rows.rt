@@ -1,32 +1,40 @@
-//! The rows of a file: an arena whose memory is taken at once and that is made where a file first needs it.
+//! The rows of a file, in the smaller one of two arenas that holds them.
 
-ghost use Rattle.std.specs.Prelude.{◌≡◌, ◌<◌, ◌≤◌, ◌==◌, ◌^◌, length, is_ok, IfOk, OnOk, OnErr, replicate, vec_capacity};
+ghost use Rattle.std.specs.Prelude.{◌≡◌, ◌<◌, ◌≤◌, ◌==◌, ◌^◌, length, is_ok, IfOk, OnOk, OnErr, replicate};
 ghost use Rattle.std.specs.Int.{bit_at};
 ghost use Rattle.row_arena.specs.Limits.{max_bytes, max_width, max_words};
 ghost use Rattle.row_arena.specs.Rows.{row_at, with_row, zero_row, row_sum, words_for, has_room, line_in};
-ghost use Rattle.row_elimination.specs.Made.{arena_of, no_rows};
+ghost use Rattle.row_elimination.specs.Made.{no_rows};
 
-use row_arena::{NoRoom, RowArena};
+use crate::made::Made;
+use row_arena::{NoRoom, words_for};
 use std::alloc::{AllocError, Global};
 use std::marker::Model;
+
+/// Words and bytes of the small arena, which is made in a small part of the time that the large one takes: all of an arena is
+/// zero when it is made.
+const SMALL_WORDS: usize = 1024;
+
+const SMALL_BYTES: usize = 15_296;
 
 /// Rows of one shape in `W` words and `B` bytes. A contract sees them as it sees an arena's.
 #[derive(Drop)]
 pub struct Rows<const W: usize, const B: usize> {
-    /// One arena, or none before the first file; its memory is there from the start.
-    made: Vec<RowArena<W, B>>,
+    is_small: bool,
+    small: Made<1024, 15296>,
+    large: Made<W, B>,
 }
 
 impl<const W: usize, const B: usize> Model for Rows<W, B> {
-    ghost use Rattle.std.specs.Prelude.{vec_capacity};
+    ghost use Rattle.std.specs.Prelude.{if◌then◌else◌, ◌≤◌};
+    ghost use Rattle.row_arena.specs.Limits.{max_bytes, max_words};
     ghost use Rattle.row_arena.specs.Rows.{Arena};
-    ghost use Rattle.row_elimination.specs.Made.{arena_of, IsMade};
 
     ghost Value = { Arena };
 
-    ghost view = { λ r. arena_of r.made.items };
+    ghost view = { λ r. if r.is_small then r.small else r.large };
 
-    ghost invariant = { λ r. IsMade W B (vec_capacity r.made) r.made.items };
+    ghost invariant = { λ r. (W ≤ max_words) × (B ≤ max_bytes) };
 }
 
 impl<const W: usize, const B: usize> Rows<W, B> {
@@ -37,7 +45,9 @@ impl<const W: usize, const B: usize> Rows<W, B> {
         ensures { IfOk result (λ rows. rows ≡ no_rows) }
     {
         Ok(Rows {
-            made: Vec::with_capacity(alloc, 1)?,
+            is_small: false,
+            small: Made::reserve(alloc)?,
+            large: Made::reserve(alloc)?,
         })
     }
 
@@ -48,17 +58,25 @@ impl<const W: usize, const B: usize> Rows<W, B> {
         ensures shaped { OnOk result (self.new ≡ record { cols = cols; cell = cell; rows = replicate rows (zero_row cell) }) }
         ensures refused { OnErr result (self.new ≡ self.old) }
     {
-        make(&mut self.made);
-        self.made[0].shape(rows, cols, cell)
+        if !has_room(W, B, rows, cols, cell) {
+            return Err(NoRoom);
+        }
+        self.is_small = has_room(SMALL_WORDS, SMALL_BYTES, rows, cols, cell);
+        if self.is_small {
+            self.small.shape(rows, cols, cell)
+        } else {
+            self.large.shape(rows, cols, cell)
+        }
     }
 
     /// How many rows there are.
     pub fn rows(&self) -> u16
         ensures { result ≡ length self.now.rows }
     {
-        match self.made.first() {
-            Some(arena) => arena.rows(),
-            None => 0,
+        if self.is_small {
+            self.small.rows()
+        } else {
+            self.large.rows()
         }
     }
 
@@ -66,9 +84,10 @@ impl<const W: usize, const B: usize> Rows<W, B> {
     pub fn cols(&self) -> u16
         ensures { result ≡ self.now.cols }
     {
-        match self.made.first() {
-            Some(arena) => arena.cols(),
-            None => 0,
+        if self.is_small {
+            self.small.cols()
+        } else {
+            self.large.cols()
         }
     }
 
@@ -80,7 +99,11 @@ impl<const W: usize, const B: usize> Rows<W, B> {
         requires part { length part.now ≡ self.old.cell }
         ensures { self.new ≡ with_row self.old r (record { line = line_in line.now; part = part.now }) }
     {
-        self.made[0].set_row(r, line, part);
+        if self.is_small {
+            self.small.set_row(r, line, part);
+        } else {
+            self.large.set_row(r, line, part);
+        }
     }
 
     /// Adds a line and bytes, as `set_row` takes them, to row `r`, bit by bit. All other rows stay.
@@ -91,7 +114,11 @@ impl<const W: usize, const B: usize> Rows<W, B> {
         requires part { length part.now ≡ self.old.cell }
         ensures { self.new ≡ with_row self.old r (row_sum (row_at self.old r) (record { line = line_in line.now; part = part.now })) }
     {
-        self.made[0].add_to_row(r, line, part);
+        if self.is_small {
+            self.small.add_to_row(r, line, part);
+        } else {
+            self.large.add_to_row(r, line, part);
+        }
     }
 
     /// The words of row `r`, the lowest first.
@@ -102,7 +129,11 @@ impl<const W: usize, const B: usize> Rows<W, B> {
         ensures len { length result.now ≡ words_for self.now.cols }
         ensures few { length result.now ≤ max_width }
     {
-        self.made[0].words(r)
+        if self.is_small {
+            self.small.words(r)
+        } else {
+            self.large.words(r)
+        }
     }
 
     /// The bytes of row `r`.
@@ -111,7 +142,11 @@ impl<const W: usize, const B: usize> Rows<W, B> {
         ensures part { result.now ≡ (row_at self.now r).part }
         ensures len { length result.now ≡ self.now.cell }
     {
-        self.made[0].bytes(r)
+        if self.is_small {
+            self.small.bytes(r)
+        } else {
+            self.large.bytes(r)
+        }
     }
 
     /// Whether row `r` has column `c`, which is below the number of columns.
@@ -120,22 +155,18 @@ impl<const W: usize, const B: usize> Rows<W, B> {
         requires column { c < self.now.cols }
         ensures { result ≡ (bit_at (row_at self.now r).line c == 1) }
     {
-        self.made[0].bit(r, c)
+        if self.is_small {
+            self.small.bit(r, c)
+        } else {
+            self.large.bit(r, c)
+        }
     }
 }
 
-/// Has an arena from now on; one that was made stays.
-#[inline(always)]
-fn make<const W: usize, const B: usize>(made: &mut Vec<RowArena<W, B>>)
-    requires words { W ≤ max_words }
-    requires bytes { B ≤ max_bytes }
-    requires room { 1 ≤ vec_capacity made.old }
-    requires few { length made.old.items ≤ 1 }
-    ensures some { length made.new.items ≡ 1 }
-    ensures same { arena_of made.new.items ≡ arena_of made.old.items }
-    ensures room { 1 ≤ vec_capacity made.new }
+/// Whether so many rows fit in so many words and bytes.
+#[tactic(auto, unfolding(row_arena::specs::Rows::has_room))]
+fn has_room(words: usize, bytes: usize, rows: u16, cols: u16, cell: u8) -> bool
+    ensures { result ≡ has_room words bytes rows cols cell }
 {
-    if made.is_empty() && made.push(RowArena::new()).is_err() {
-        unreachable!();
-    }
+    rows as usize * words_for(cols) <= words && rows as usize * cell as usize <= bytes
 }

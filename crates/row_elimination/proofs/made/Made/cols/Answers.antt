@@ -2,7 +2,7 @@ use Rattle.std.proofs.Common.{◌∙◌, sym, ap, length, arith}
 use Rattle.row_arena.specs.Rows.{Arena}
 use Rattle.row_elimination.specs.Made.{arena_of, no_rows}
 use Rattle.row_elimination.proofs.Making.{first_made, none_made}
-use Rattle.row_elimination.proofs.rows.Rows.cols.Goals as goal
+use Rattle.row_elimination.proofs.made.Made.cols.Goals as goal
 
 pub returns-in-Some : goal.returns-in-Some
 returns-in-Some g c =

@@ -3,7 +3,7 @@ use Rattle.std.specs.Int.{bit_at}
 use Rattle.row_arena.specs.Rows.{Arena, row_at}
 use Rattle.row_elimination.specs.Made.{arena_of}
 use Rattle.row_elimination.proofs.Making.{has_made, is_made}
-use Rattle.row_elimination.proofs.rows.Rows.bit.Goals as goal
+use Rattle.row_elimination.proofs.made.Made.bit.Goals as goal
 
 pub index-requires : goal.index-requires
 index-requires g c =

@@ -2,7 +2,7 @@ use Rattle.std.proofs.Common.{◌≡◌, ◌<◌, length, replicate, OnOk, ap, �
 use Rattle.row_arena.specs.Rows.{Arena, zero_row}
 use Rattle.row_elimination.specs.Made.{arena_of}
 use Rattle.row_elimination.proofs.Making.{remade}
-use Rattle.row_elimination.proofs.rows.Rows.shape.Goals as goal
+use Rattle.row_elimination.proofs.made.Made.shape.Goals as goal
 
 pub returns-clause-shaped : goal.returns-clause-shaped
 returns-clause-shaped g c =

@@ -1,6 +1,6 @@
 use Rattle.std.proofs.Common.{ap}
 use Rattle.row_elimination.specs.Made.{arena_of}
-use Rattle.row_elimination.proofs.rows.Rows.reserve.Goals as goal
+use Rattle.row_elimination.proofs.made.Made.reserve.Goals as goal
 
 pub returns : goal.returns
 unfolding arena_of

@@ -2,7 +2,7 @@ use Rattle.std.proofs.Common.{◌≡◌, ◌<◌, ◌∙◌, ◌^◌, sym, ap, s
 use Rattle.row_arena.specs.Rows.{Arena, line_in, words_for, with_row}
 use Rattle.row_elimination.specs.Made.{arena_of}
 use Rattle.row_elimination.proofs.Making.{has_made, is_made, remade}
-use Rattle.row_elimination.proofs.rows.Rows.set_row.Goals as goal
+use Rattle.row_elimination.proofs.made.Made.set_row.Goals as goal
 
 pub index_mut-requires : goal.index_mut-requires
 index_mut-requires g c =
