@@ -1,2 +1,3 @@
 pub mod ImageLemmas
+mod Formats
 pub mod WorkedImages

@@ -2,30 +2,47 @@
 use Rattle.std.proofs.Common.{refl}
 use Rattle.wire_base.specs.Numbers.{number_at}
 use Rattle.sha2.specs.Sha256.{first_words, schedule, rounds, compress, hash_after, digest_bytes, sha256}
-use Rattle.image_slots.specs.Image.{image_start, hardware_of, firmware_of, is_image, image_state}
-use Rattle.image_slots.specs.Slots.{after_offer, after_swap, after_delete}
+use Rattle.image_slots.specs.Image.{image_start, format_of, further, lowest_of, highest_of, firmware_of, has_digest, is_image, is_for, is_unknown, image_state}
+use Rattle.image_slots.specs.Slots.{after_offer, after_swap, after_delete, after_raise}
 use Rattle.image_slots.specs.WorkedImages.{WorkedImages, WorkedSlots}
 
 pub images : WorkedImages
-unfolding number_at image_start hardware_of firmware_of is_image image_state first_words schedule rounds compress hash_after digest_bytes sha256
+unfolding number_at image_start format_of further lowest_of highest_of firmware_of has_digest is_image is_for is_unknown image_state first_words schedule rounds compress hash_after digest_bytes sha256
 images = record {
-  hardware = refl;
+  lowest = refl;
+  highest = refl;
   firmware = refl;
   valid = refl;
   other_hardware = refl;
   other_body = refl;
   other_mark = refl;
   other_format = refl;
+  no_format = refl;
   no_version = refl;
   other_length = refl;
   longer = refl;
   shorter = refl;
   cut = refl;
   empty = refl;
+  known = refl;
+  lowest_in = refl;
+  highest_in = refl;
+  firmware_in = refl;
+  first_in = refl;
+  last_in = refl;
+  below = refl;
+  above = refl;
+  unknown = refl;
+  turned = refl;
+  alone = refl;
+  no_version_in = refl;
+  other_length_in = refl;
+  cut_in = refl;
+  other_body_in = refl;
 }
 
 pub slots : WorkedSlots
-unfolding number_at image_start hardware_of firmware_of is_image image_state after_offer after_swap after_delete first_words schedule rounds compress hash_after digest_bytes sha256
+unfolding number_at image_start format_of further lowest_of highest_of firmware_of has_digest is_image is_for is_unknown image_state after_offer after_swap after_delete after_raise first_words schedule rounds compress hash_after digest_bytes sha256
 slots = record {
   first = refl;
   offered = refl;
@@ -39,4 +56,8 @@ slots = record {
   no_valid = refl;
   deleted = refl;
   kept = refl;
+  held = refl;
+  raised = refl;
+  raised_none = refl;
+  raised_valid = refl;
 }

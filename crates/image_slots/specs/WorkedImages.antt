@@ -1,9 +1,9 @@
 -- Image files, and what becomes of them in the slots, worked out (this project's profile).
-use Rattle.std.specs.Prelude.{◌≡◌, ℕ, true, false, List, [], ◌∷◌, ◌++◌, take, slice_set}
+use Rattle.std.specs.Prelude.{◌≡◌, ℕ, true, false, List, [], ◌∷◌, ◌++◌, take, drop, slice_set}
 use Rattle.image_slots.specs.declared.view.ImageState.{ImageState}
 use Rattle.image_slots.specs.declared.view.ImageState.TheVariants.{None, Corrupt, Incompatible, Valid}
-use Rattle.image_slots.specs.Image.{hardware_of, firmware_of, is_image, image_state}
-use Rattle.image_slots.specs.Slots.{Slots, first_slots, after_offer, after_swap, delete_bits, after_delete}
+use Rattle.image_slots.specs.Image.{lowest_of, highest_of, firmware_of, is_image, is_for, image_state}
+use Rattle.image_slots.specs.Slots.{Slots, first_slots, after_offer, after_swap, delete_bits, after_delete, after_raise}
 
 -- an image file for hardware 1 with firmware 2, its body the text abc
 abbrev pub worked_image : List ℕ
@@ -13,44 +13,80 @@ worked_image =
     ∷ 0x23 ∷ 0xb0 ∷ 0x03 ∷ 0x61 ∷ 0xa3 ∷ 0x96 ∷ 0x17 ∷ 0x7a ∷ 0x9c ∷ 0xb4 ∷ 0x10 ∷ 0xff ∷ 0x61 ∷ 0xf2 ∷ 0x00 ∷ 0x15
     ∷ 0xad ∷ 0x61 ∷ 0x62 ∷ 0x63 ∷ []
 
--- the same with another byte at a place
+-- one of format 2 for hardware 1 to 3 with firmware 2, and the same body
+abbrev pub ranged_image : List ℕ
+ranged_image =
+    0x46 ∷ 0x55 ∷ 0x49 ∷ 0x4d ∷ 0x02 ∷ 0x01 ∷ 0x00 ∷ 0x00 ∷ 0x00 ∷ 0x03 ∷ 0x00 ∷ 0x00 ∷ 0x00 ∷ 0x02 ∷ 0x00 ∷ 0x00 ∷ 0x00
+    ∷ drop 13 worked_image
+
+-- the first with another byte at a place
 abbrev pub changed : (at byte : ℕ) → List ℕ
 changed at byte = slice_set worked_image at byte
 
+abbrev pub changed_range : (at byte : ℕ) → List ℕ
+changed_range at byte = slice_set ranged_image at byte
+
 pub record WorkedImages : Type 0 where
-  pub hardware : hardware_of worked_image ≡ 1
+  pub lowest : lowest_of worked_image ≡ 1
+  pub highest : highest_of worked_image ≡ 1
   pub firmware : firmware_of worked_image ≡ 2
-  pub valid : image_state worked_image 1 ≡ Valid 2
-  pub other_hardware : image_state worked_image 2 ≡ Incompatible
-  pub other_body : image_state (changed 51 0x64) 1 ≡ Corrupt
+  pub valid : image_state worked_image 1 2 ≡ Valid 2
+  pub other_hardware : image_state worked_image 2 2 ≡ Incompatible
+  pub other_body : image_state (changed 51 0x64) 1 2 ≡ Corrupt
   pub other_mark : is_image (changed 0 0x66) ≡ false
   pub other_format : is_image (changed 4 2) ≡ false
+  pub no_format : is_image (changed 4 3) ≡ false
   pub no_version : is_image (changed 9 0) ≡ false
   pub other_length : is_image (changed 13 4) ≡ false
   pub longer : is_image (worked_image ++ 0 ∷ []) ≡ false
   pub shorter : is_image (take 51 worked_image) ≡ false
   pub cut : is_image (take 48 worked_image) ≡ false
   pub empty : is_image [] ≡ false
+  -- format 1 is what it was to a device that knows it alone
+  pub known : image_state worked_image 1 1 ≡ Valid 2
+  -- format 2 is for the hardware versions between its two, and corrupt to a device that does not know it
+  pub lowest_in : lowest_of ranged_image ≡ 1
+  pub highest_in : highest_of ranged_image ≡ 3
+  pub firmware_in : firmware_of ranged_image ≡ 2
+  pub first_in : image_state ranged_image 1 2 ≡ Valid 2
+  pub last_in : image_state ranged_image 3 2 ≡ Valid 2
+  pub below : image_state ranged_image 0 2 ≡ Incompatible
+  pub above : image_state ranged_image 4 2 ≡ Incompatible
+  pub unknown : image_state ranged_image 1 1 ≡ Corrupt
+  pub turned : is_image (changed_range 9 0) ≡ false
+  pub alone : image_state (changed_range 9 1) 1 2 ≡ Valid 2
+  pub no_version_in : is_image (changed_range 13 0) ≡ false
+  pub other_length_in : is_image (changed_range 17 4) ≡ false
+  pub cut_in : is_image (take 52 ranged_image) ≡ false
+  pub other_body_in : image_state (changed_range 55 0x64) 1 2 ≡ Corrupt
 
 -- version 7 runs, and next is this
 abbrev pub slots_with : ImageState → Slots
-slots_with next = record { version = 7; running = 0x70 ∷ []; next = next; next_file = 0x71 ∷ [] }
+slots_with next = record { formats = 1; version = 7; running = 0x70 ∷ []; next = next; next_file = 0x71 ∷ [] }
 
 pub record WorkedSlots : Type 0 where
-  pub first : first_slots ≡ record { version = 0; running = []; next = None; next_file = [] }
+  pub first : first_slots 1 ≡ record { formats = 1; version = 0; running = []; next = None; next_file = [] }
   -- a file becomes next whatever next was, and what runs stays
   pub offered : after_offer 1 worked_image (slots_with (Valid 9))
-      ≡ record { version = 7; running = 0x70 ∷ []; next = Valid 2; next_file = worked_image }
+      ≡ record { formats = 1; version = 7; running = 0x70 ∷ []; next = Valid 2; next_file = worked_image }
   pub corrupt_too : after_offer 1 (0x61 ∷ []) (slots_with (Valid 9))
-      ≡ record { version = 7; running = 0x70 ∷ []; next = Corrupt; next_file = 0x61 ∷ [] }
+      ≡ record { formats = 1; version = 7; running = 0x70 ∷ []; next = Corrupt; next_file = 0x61 ∷ [] }
   -- a valid next runs with its file, and no other does
-  pub swapped : after_swap (slots_with (Valid 9)) ≡ record { version = 9; running = 0x71 ∷ []; next = None; next_file = [] }
+  pub swapped : after_swap (slots_with (Valid 9)) ≡ record { formats = 1; version = 9; running = 0x71 ∷ []; next = None; next_file = [] }
   pub corrupt_stays : after_swap (slots_with Corrupt) ≡ slots_with Corrupt
   pub incompatible_stays : after_swap (slots_with Incompatible) ≡ slots_with Incompatible
-  pub none_stays : after_swap first_slots ≡ first_slots
+  pub none_stays : after_swap (first_slots 1) ≡ first_slots 1
   -- a valid next is deleted by its own version
   pub own : delete_bits (Valid 9) 9 ≡ 0
   pub other_version : delete_bits (Valid 9) 7 ≡ 2
   pub no_valid : delete_bits Corrupt 9 ≡ 1
-  pub deleted : after_delete 9 (slots_with (Valid 9)) ≡ record { version = 7; running = 0x70 ∷ []; next = None; next_file = [] }
+  pub deleted : after_delete 9 (slots_with (Valid 9)) ≡ record { formats = 1; version = 7; running = 0x70 ∷ []; next = None; next_file = [] }
   pub kept : after_delete 7 (slots_with (Valid 9)) ≡ slots_with (Valid 9)
+  -- a file of format 2 is corrupt to a device that knows format 1 alone, until it knows both; what runs stays
+  pub held : after_offer 3 ranged_image (slots_with None)
+      ≡ record { formats = 1; version = 7; running = 0x70 ∷ []; next = Corrupt; next_file = ranged_image }
+  pub raised : after_raise 3 (after_offer 3 ranged_image (slots_with None))
+      ≡ record { formats = 2; version = 7; running = 0x70 ∷ []; next = Valid 2; next_file = ranged_image }
+  pub raised_none : after_raise 3 (slots_with None) ≡ record { formats = 2; version = 7; running = 0x70 ∷ []; next = None; next_file = 0x71 ∷ [] }
+  pub raised_valid : after_raise 1 (after_offer 1 worked_image (slots_with None))
+      ≡ record { formats = 2; version = 7; running = 0x70 ∷ []; next = Valid 2; next_file = worked_image }

@@ -1,12 +1,12 @@
 //! Laws about the definitions, each the contract of a function that does nothing.
 
-ghost use Rattle.std.specs.Prelude.{◌≡◌, ◌≤◌, ℕ, List, length, true};
-ghost use Rattle.image_slots.specs.Image.{max_image, is_image};
+ghost use Rattle.std.specs.Prelude.{◌≡◌, ◌+◌, ◌≤◌, ℕ, List, length, true};
+ghost use Rattle.image_slots.specs.Image.{max_image, further, is_image};
 ghost use Rattle.image_slots.specs.WorkedImages.{WorkedImages, WorkedSlots};
 
-/// An image file has its first 49 bytes, and 262,144 at most.
+/// An image file has the bytes before its body, 49 or in format 2 53, and 262,144 at most.
 pub fn an_image_has_its_bounds()
-    ensures long { (file : List ℕ) → is_image file ≡ true → 49 ≤ length file }
+    ensures long { (file : List ℕ) → is_image file ≡ true → 49 + further file ≤ length file }
     ensures short { (file : List ℕ) → is_image file ≡ true → length file ≤ max_image }
 {}
 

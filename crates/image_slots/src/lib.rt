@@ -5,11 +5,11 @@
 //! Slots take their memory once, and each call on them is a function of what they hold.
 //! Who made a file, and when a device starts it, is left to the crates above.
 //!
-//!     match ImageView::read(file, hardware) {
+//!     match ImageView::read(file, hardware, 2) {
 //!         ImageState::Valid(firmware) => ..,
 //!         ImageState::Incompatible | ImageState::Corrupt | ImageState::None => ..,
 //!     }
-//!     let mut slots = Slots::reserve(alloc, 262_382, hardware)?;
+//!     let mut slots = Slots::reserve(alloc, 262_382, hardware, 2)?;
 //!     slots.offer(file);                                       // becomes next
 //!     slots.swap();                                            // a valid next runs
 #![tactic(auto)]
@@ -19,7 +19,7 @@ mod laws;
 mod slots;
 mod view;
 
-pub use image::{MAX_IMAGE, firmware, hardware, is_image};
+pub use image::{MAX_IMAGE, firmware, highest, is_for, is_image, lowest};
 pub use laws::{an_image_has_its_bounds, worked_images};
 pub use slots::{Memory, Slots};
 pub use view::{ImageState, ImageView};

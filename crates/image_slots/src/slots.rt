@@ -1,7 +1,7 @@
 //! The two image slots of a device.
 
-ghost use Rattle.std.specs.Prelude.{◌≡◌, ◌≤◌, length, IfOk};
-ghost use Rattle.image_slots.specs.Slots.{first_slots, without_next, after_offer, after_swap, delete_bits, after_delete};
+ghost use Rattle.std.specs.Prelude.{◌≡◌, ◌≤◌, ℕ, length, IfOk};
+ghost use Rattle.image_slots.specs.Slots.{first_slots, without_next, after_offer, after_swap, delete_bits, after_delete, after_raise};
 
 use crate::view::{ImageState, ImageView};
 use std::alloc::Global;
@@ -16,6 +16,8 @@ pub struct Memory;
 pub struct Slots {
     /// The device's hardware version.
     hw: u32,
+    /// The image formats that are known: 1 alone (1), or both (2).
+    formats: u8,
     /// The bytes that each slot has room for.
     area: u32,
     /// The version that runs.
@@ -28,22 +30,25 @@ pub struct Slots {
 impl Model for Slots {
     ghost use Rattle.std.specs.Prelude.{◌≤◌, vec_capacity};
     ghost use Rattle.image_slots.specs.HeldSlots.{HeldSlots};
+    ghost use Rattle.image_slots.specs.Slots.{IsRead};
 
     ghost Value = { HeldSlots };
 
     ghost view = { λ s. record {
       hw = s.hw;
       area = s.area;
-      slots = record { version = s.version; running = s.running.items; next = s.next; next_file = s.next_file.items };
+      slots = record { formats = s.formats; version = s.version; running = s.running.items; next = s.next; next_file = s.next_file.items };
     } };
 
-    ghost invariant = { λ s. (s.area ≤ vec_capacity s.running) × (s.area ≤ vec_capacity s.next_file) };
+    ghost invariant = { λ s. (s.area ≤ vec_capacity s.running) × (s.area ≤ vec_capacity s.next_file)
+        × IsRead s.hw (record { formats = s.formats; version = s.version; running = s.running.items; next = s.next; next_file = s.next_file.items }) };
 }
 
 impl Slots {
-    /// Slots for files of at most `area` bytes on this hardware version. Version 0 runs, without a file, and next is none.
-    pub fn reserve(alloc: Global, area: u32, hw: u32) -> Result<Self, Memory>
-        ensures { IfOk result (λ s. s ≡ record { hw = hw; area = area; slots = first_slots }) }
+    /// Slots for files of at most `area` bytes on this hardware version, of format 1 alone (`formats` 1) or of both (2).
+    /// Version 0 runs, without a file, and next is none.
+    pub fn reserve(alloc: Global, area: u32, hw: u32, formats: u8) -> Result<Self, Memory>
+        ensures { IfOk result (λ s. s ≡ record { hw = hw; area = area; slots = first_slots formats }) }
     {
         let Ok(running) = Vec::with_capacity(alloc, area as usize) else {
             return Err(Memory);
@@ -53,6 +58,7 @@ impl Slots {
         };
         Ok(Slots {
             hw,
+            formats,
             area,
             version: 0,
             running,
@@ -67,7 +73,7 @@ impl Slots {
         requires { length file.now ≤ self.old.area }
         ensures { self.new ≡ record self.old { slots = after_offer self.old.hw file.now self.old.slots } }
     {
-        self.next = ImageView::read(file, self.hw);
+        self.next = ImageView::read(file, self.hw, self.formats);
         self.next_file.clear();
         if self.next_file.extend_from_slice(file).is_err() {
             unreachable!();
@@ -81,8 +87,9 @@ impl Slots {
     {
         if let ImageState::Valid(version) = self.next {
             self.version = version;
+            self.next = ImageState::None;
             std::mem::swap(&mut self.running, &mut self.next_file);
-            self.clear_next();
+            self.next_file.clear();
         }
     }
 
@@ -98,6 +105,19 @@ impl Slots {
             self.clear_next();
         }
         bits
+    }
+
+    /// Both formats are known from now on, and the bytes of next are read again: none stays none, a valid next keeps its
+    /// version, and what runs stays.
+    #[tactic(auto, unfolding(crate::specs::Slots::after_raise))]
+    pub fn raise(&mut self)
+        ensures slots { self.new ≡ record self.old { slots = after_raise self.old.hw self.old.slots } }
+        ensures valid { (version : ℕ) → self.old.slots.next ≡ ImageState.Valid version → self.new.slots.next ≡ ImageState.Valid version }
+    {
+        if self.next != ImageState::None {
+            self.next = ImageView::read(&self.next_file, self.hw, 2);
+        }
+        self.formats = 2;
     }
 
     /// The version that runs, and its file: nothing at first.

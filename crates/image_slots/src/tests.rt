@@ -19,6 +19,14 @@ const EMPTY: [u8; 49] = [
     0x55,
 ];
 
+/// An image file of format 2 for hardware 1 to 3 with firmware 2, and the body and digest of `IMAGE`.
+const RANGED: [u8; 56] = [
+    0x46, 0x55, 0x49, 0x4d, 0x02, 0x01, 0x00, 0x00, 0x00, 0x03, 0x00, 0x00, 0x00, 0x02, 0x00, 0x00,
+    0x00, 0x03, 0x00, 0x00, 0x00, 0xba, 0x78, 0x16, 0xbf, 0x8f, 0x01, 0xcf, 0xea, 0x41, 0x41, 0x40,
+    0xde, 0x5d, 0xae, 0x22, 0x23, 0xb0, 0x03, 0x61, 0xa3, 0x96, 0x17, 0x7a, 0x9c, 0xb4, 0x10, 0xff,
+    0x61, 0xf2, 0x00, 0x15, 0xad, 0x61, 0x62, 0x63,
+];
+
 /// `IMAGE` with one byte changed.
 fn changed(at: u8, byte: u8) -> [u8; 52]
     requires { at < 52 }
@@ -32,28 +40,35 @@ fn changed(at: u8, byte: u8) -> [u8; 52]
 fn a_file_is_what_its_bytes_make_it(rt: HostRuntime) {
     let mut longer = [0; 53];
     longer[..52].copy_from_slice(&IMAGE);
-    let table: [(&[u8], u32, ImageState); 9] = [
-        (&IMAGE, 1, ImageState::Valid(2)),
-        (&IMAGE, 2, ImageState::Incompatible),
-        (&EMPTY, 1, ImageState::Valid(2)),
-        (&changed(51, b'd'), 1, ImageState::Corrupt),
-        (&changed(4, 2), 1, ImageState::Corrupt),
-        (&changed(9, 0), 1, ImageState::Corrupt),
-        (&longer, 1, ImageState::Corrupt),
-        (&IMAGE[..48], 1, ImageState::Corrupt),
-        (&[], 1, ImageState::Corrupt),
+    let table: [(&[u8], u32, u8, ImageState); 13] = [
+        (&IMAGE, 1, 1, ImageState::Valid(2)),
+        (&IMAGE, 2, 2, ImageState::Incompatible),
+        (&EMPTY, 1, 2, ImageState::Valid(2)),
+        (&changed(51, b'd'), 1, 2, ImageState::Corrupt),
+        (&changed(4, 2), 1, 2, ImageState::Corrupt),
+        (&changed(9, 0), 1, 2, ImageState::Corrupt),
+        (&longer, 1, 2, ImageState::Corrupt),
+        (&IMAGE[..48], 1, 2, ImageState::Corrupt),
+        (&[], 1, 2, ImageState::Corrupt),
+        (&RANGED, 1, 2, ImageState::Valid(2)),
+        (&RANGED, 3, 2, ImageState::Valid(2)),
+        (&RANGED, 4, 2, ImageState::Incompatible),
+        (&RANGED[..52], 1, 2, ImageState::Corrupt),
     ];
-    for (file, hw, state) in table {
-        assert!(rt; ImageView::read(file, hw) == state);
+    for (file, hw, formats, state) in table {
+        assert!(rt; ImageView::read(file, hw, formats) == state);
         assert!(rt; is_image(file) == (state != ImageState::Corrupt));
     }
-    assert!(rt; hardware(&IMAGE) == 1);
-    assert!(rt; firmware(&IMAGE) == 2);
+    assert!(rt; ImageView::read(&RANGED, 1, 1) == ImageState::Corrupt);
+    assert!(rt;
+        is_image(&IMAGE) && is_for(&IMAGE, 1) && !is_for(&IMAGE, 2) && firmware(&IMAGE) == 2
+    );
+    assert!(rt; is_image(&RANGED) && lowest(&RANGED) == 1 && highest(&RANGED) == 3);
 }
 
 #[test]
 fn a_file_runs_once_it_is_swapped_in(rt: HostRuntime) {
-    let Ok(mut slots) = Slots::reserve(rt.alloc(), 52, 1) else {
+    let Ok(mut slots) = Slots::reserve(rt.alloc(), 52, 1, 2) else {
         return assert!(rt; false);
     };
     slots.swap();
@@ -72,4 +87,23 @@ fn a_file_runs_once_it_is_swapped_in(rt: HostRuntime) {
     slots.offer(&IMAGE[..48]);
     slots.swap();
     assert!(rt; slots.next() == ImageState::Corrupt);
+}
+
+#[test]
+fn a_file_of_format_2_is_read_again_once_both_are_known(rt: HostRuntime) {
+    let Ok(mut slots) = Slots::reserve(rt.alloc(), 56, 3, 1) else {
+        return assert!(rt; false);
+    };
+    slots.offer(&RANGED);
+    assert!(rt; slots.next() == ImageState::Corrupt);
+    slots.raise();
+    assert!(rt; slots.next() == ImageState::Valid(2));
+    slots.raise();
+    assert!(rt; slots.next() == ImageState::Valid(2));
+    slots.swap();
+    assert!(rt; slots.running().0 == 2);
+    assert!(rt; slots.running().1 == &RANGED[..]);
+    slots.raise();
+    assert!(rt; slots.next() == ImageState::None);
+    assert!(rt; slots.running().0 == 2);
 }

@@ -1,9 +1,9 @@
 //! What a file is to a device.
 
-ghost use Rattle.std.specs.Prelude.{◌≡◌, ◌≢◌};
-ghost use Rattle.image_slots.specs.Image.{image_state};
+ghost use Rattle.std.specs.Prelude.{◌≡◌, ◌≢◌, ◌≤◌, length};
+ghost use Rattle.image_slots.specs.Image.{image_state, is_unknown};
 
-use crate::image::{firmware, hardware, is_image};
+use crate::image::{firmware, is_for, is_image};
 
 /// What the bytes in a device's next slot are to it.
 #[derive(Clone, Copy, Debug, PartialEq, Eq)]
@@ -12,7 +12,7 @@ pub enum ImageState {
     None,
     /// No image file.
     Corrupt,
-    /// An image file for another hardware version.
+    /// An image file for other hardware versions.
     Incompatible,
     /// An image file for this device, with its firmware version.
     Valid(u32),
@@ -22,18 +22,28 @@ pub enum ImageState {
 pub struct ImageView;
 
 impl ImageView {
-    /// What bytes are to a device of this hardware version.
-    #[tactic(auto, unfolding(crate::specs::Image::image_state))]
-    pub fn read(bytes: &[u8], hw: u32) -> ImageState
-        ensures state { result ≡ image_state bytes.now hw }
+    /// What bytes are to a device of this hardware version, which knows format 1 alone (`formats` 1) or both (2).
+    /// A file of format 2 is corrupt to one that does not know it.
+    #[tactic(auto, using(crate::proofs::ImageLemmas::image_bounds), unfolding(crate::specs::Image::image_state))]
+    pub fn read(bytes: &[u8], hw: u32, formats: u8) -> ImageState
+        ensures state { result ≡ image_state bytes.now hw formats }
         ensures some { result ≢ ImageState.None }
     {
-        if !is_image(bytes) {
+        if !is_image(bytes) || is_unknown(bytes, formats) {
             return ImageState::Corrupt;
         }
-        if hardware(bytes) != hw {
+        if !is_for(bytes, hw) {
             return ImageState::Incompatible;
         }
         ImageState::Valid(firmware(bytes))
     }
+}
+
+/// Whether a file is of format 2 while a device knows format 1 alone.
+#[tactic(auto, unfolding(crate::specs::Image::is_unknown, crate::specs::Image::format_of))]
+fn is_unknown(file: &[u8], formats: u8) -> bool
+    requires { 49 ≤ length file.now }
+    ensures { result ≡ is_unknown file.now formats }
+{
+    file[4] == 2 && formats == 1
 }
