@@ -1,9 +1,9 @@
 -- The form that a line spells (this project's profile): its first word says which, and so many words stand behind it.
-use Rattle.std.specs.Prelude.{ℕ, ◌&&◌, ◌==◌, if◌then◌else◌, List, length, codes, Option, Some, None}
+use Rattle.std.specs.Prelude.{ℕ, Bool, true, false, ◌&&◌, ◌==◌, if◌then◌else◌, List, length, codes, Option, Some, None}
 use Rattle.script_lines.specs.declared.forms.Class.{Class}
 use Rattle.script_lines.specs.declared.forms.Class.TheVariants as class
 use Rattle.script_lines.specs.declared.forms.Form.{Form}
-use Rattle.script_lines.specs.declared.forms.Form.TheVariants.{Header, Image, Group, WindowC, WindowB, Device, At, Wake, Ask, Frag, Status, Down, Raw, Up, End}
+use Rattle.script_lines.specs.declared.forms.Form.TheVariants.{Header, Image, Group, WindowC, WindowB, Device, At, Wake, Migrate, Ask, Frag, Status, Down, Raw, Up, End}
 use Rattle.script_lines.specs.Lines.{words_of, word, is_word}
 use Rattle.script_lines.specs.Numbers.{decimal_of, key_of, hex_number_of, hex_bytes_of, ◌>>=◌}
 
@@ -93,29 +93,34 @@ window_form line =
     else if count_of line == 7 && is_word line 1 (codes "b") then window_b_form line
     else None
 
--- device ID CLASS HW ROWS OFFSET KEY, with DESCRIPTOR behind it or none
-abbrev pub device_words : List ℕ → Option ℕ → Option Form
-device_words line descriptor = do
+-- device ID CLASS HW ROWS OFFSET KEY, with DESCRIPTOR behind it or none; and whether v1 stands behind that
+abbrev pub device_words : List ℕ → Option ℕ → (v1 : Bool) → Option Form
+device_words line descriptor v1 = do
   id ← decimal_at line 1
   class ← class_at line 2
   hw ← decimal_at line 3
   rows ← decimal_at line 4
   offset ← decimal_at line 5
   key ← key_at line 6
-  Some (Device id class hw rows offset key descriptor)
+  Some (Device id class hw rows offset key descriptor v1)
 
 abbrev pub device_form : List ℕ → Option Form
 device_form line =
-    if count_of line == 7 then device_words line None
-    else if count_of line == 8 then hex_at line 7 >>= (λ descriptor. device_words line (Some descriptor))
+    if count_of line == 7 then device_words line None false
+    else if count_of line == 8 && is_word line 7 (codes "v1") then device_words line None true
+    else if count_of line == 8 then hex_at line 7 >>= (λ descriptor. device_words line (Some descriptor) false)
+    else if count_of line == 9 && is_word line 8 (codes "v1") then hex_at line 7 >>= (λ descriptor. device_words line (Some descriptor) true)
     else None
 
--- at MS, wake D, ask D and up U
+-- at MS, wake D, migrate D, ask D and up U
 abbrev pub at_form : List ℕ → Option Form
 at_form line = with_decimal line (λ time. At time)
 
 abbrev pub wake_form : List ℕ → Option Form
 wake_form line = with_decimal line (λ device. Wake device)
+
+abbrev pub migrate_form : List ℕ → Option Form
+migrate_form line = with_decimal line (λ device. Migrate device)
 
 abbrev pub ask_form : List ℕ → Option Form
 ask_form line = with_decimal line (λ device. Ask device)
@@ -161,6 +166,7 @@ form_of line =
     else if is_word line 0 (codes "device") then device_form line
     else if is_word line 0 (codes "at") then at_form line
     else if is_word line 0 (codes "wake") then wake_form line
+    else if is_word line 0 (codes "migrate") then migrate_form line
     else if is_word line 0 (codes "ask") then ask_form line
     else if is_word line 0 (codes "frag") then alone line Frag
     else if is_word line 0 (codes "status") then alone line Status

@@ -1,7 +1,7 @@
 -- Lines of a script, each with the form that it spells, or with none.
-use Rattle.std.specs.Prelude.{◌≡◌, [], ◌∷◌, codes, Some, None}
+use Rattle.std.specs.Prelude.{◌≡◌, true, false, [], ◌∷◌, codes, Some, None}
 use Rattle.script_lines.specs.declared.forms.Class.TheVariants as class
-use Rattle.script_lines.specs.declared.forms.Form.TheVariants.{Header, Image, Group, WindowC, WindowB, Device, At, Wake, Ask, Frag, Status, Down, Raw, Up, End}
+use Rattle.script_lines.specs.declared.forms.Form.TheVariants.{Header, Image, Group, WindowC, WindowB, Device, At, Wake, Migrate, Ask, Frag, Status, Down, Raw, Up, End}
 use Rattle.script_lines.specs.Forms.{form_of}
 
 pub record AreForms : Type 0 where
@@ -12,11 +12,16 @@ pub record AreForms : Type 0 where
   pub window_c : form_of (codes "window c 1000 1 8695250 5") ≡ Some (WindowC 1000 1 8695250 5)
   pub window_b : form_of (codes "window b 1000 3 1 8695250 5") ≡ Some (WindowB 1000 3 1 8695250 5)
   pub device_a : form_of (codes "device 1 a 2 3 4 000102030405060708090a0b0c0d0e0f")
-      ≡ Some (Device 1 class.A 2 3 4 (0 ∷ 1 ∷ 2 ∷ 3 ∷ 4 ∷ 5 ∷ 6 ∷ 7 ∷ 8 ∷ 9 ∷ 10 ∷ 11 ∷ 12 ∷ 13 ∷ 14 ∷ 15 ∷ []) None)
+      ≡ Some (Device 1 class.A 2 3 4 (0 ∷ 1 ∷ 2 ∷ 3 ∷ 4 ∷ 5 ∷ 6 ∷ 7 ∷ 8 ∷ 9 ∷ 10 ∷ 11 ∷ 12 ∷ 13 ∷ 14 ∷ 15 ∷ []) None false)
   pub device_c : form_of (codes "device 2 c 2 3 4 000102030405060708090a0b0c0d0e0f 0000000a")
-      ≡ Some (Device 2 class.C 2 3 4 (0 ∷ 1 ∷ 2 ∷ 3 ∷ 4 ∷ 5 ∷ 6 ∷ 7 ∷ 8 ∷ 9 ∷ 10 ∷ 11 ∷ 12 ∷ 13 ∷ 14 ∷ 15 ∷ []) (Some 10))
+      ≡ Some (Device 2 class.C 2 3 4 (0 ∷ 1 ∷ 2 ∷ 3 ∷ 4 ∷ 5 ∷ 6 ∷ 7 ∷ 8 ∷ 9 ∷ 10 ∷ 11 ∷ 12 ∷ 13 ∷ 14 ∷ 15 ∷ []) (Some 10) false)
+  pub device_v1 : form_of (codes "device 2 c 2 3 4 000102030405060708090a0b0c0d0e0f v1")
+      ≡ Some (Device 2 class.C 2 3 4 (0 ∷ 1 ∷ 2 ∷ 3 ∷ 4 ∷ 5 ∷ 6 ∷ 7 ∷ 8 ∷ 9 ∷ 10 ∷ 11 ∷ 12 ∷ 13 ∷ 14 ∷ 15 ∷ []) None true)
+  pub device_with_both : form_of (codes "device 2 c 2 3 4 000102030405060708090a0b0c0d0e0f 0000000a v1")
+      ≡ Some (Device 2 class.C 2 3 4 (0 ∷ 1 ∷ 2 ∷ 3 ∷ 4 ∷ 5 ∷ 6 ∷ 7 ∷ 8 ∷ 9 ∷ 10 ∷ 11 ∷ 12 ∷ 13 ∷ 14 ∷ 15 ∷ []) (Some 10) true)
   pub at : form_of (codes "at 4294967295999") ≡ Some (At 4294967295999)
   pub wake : form_of (codes "wake 7") ≡ Some (Wake 7)
+  pub migrate : form_of (codes "migrate 7") ≡ Some (Migrate 7)
   pub ask : form_of (codes "ask 7") ≡ Some (Ask 7)
   pub frag : form_of (codes "frag") ≡ Some Frag
   pub status : form_of (codes "status") ≡ Some Status
@@ -41,6 +46,8 @@ pub record AreNone : Type 0 where
   pub sign : form_of (codes "at -5") ≡ None
   pub short_key : form_of (codes "group 11223344 00 0 10") ≡ None
   pub class_b : form_of (codes "device 1 b 2 3 4 000102030405060708090a0b0c0d0e0f") ≡ None
+  pub formats_first : form_of (codes "device 2 c 2 3 4 000102030405060708090a0b0c0d0e0f v1 0000000a") ≡ None
+  pub other_formats : form_of (codes "device 2 c 2 3 4 000102030405060708090a0b0c0d0e0f v2") ≡ None
   pub window_a : form_of (codes "window a 1000 1 8695250 5") ≡ None
   pub odd_hex : form_of (codes "raw 7 201 080") ≡ None
   pub no_hex : form_of (codes "raw 7 201 08g1") ≡ None

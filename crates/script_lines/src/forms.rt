@@ -47,7 +47,8 @@ pub enum Form<'a> {
         freq: u64,
         dr: u64,
     },
-    /// `device ID CLASS HW ROWS OFFSET KEY [DESCRIPTOR]`: OFFSET in seconds, KEY the GenAppKey.
+    /// `device ID CLASS HW ROWS OFFSET KEY [DESCRIPTOR] [v1]`: OFFSET in seconds, KEY the GenAppKey; with `v1` it knows
+    /// image format 1 alone, else both.
     Device {
         id: u64,
         class: Class,
@@ -56,6 +57,7 @@ pub enum Form<'a> {
         offset: u64,
         key: Key,
         descriptor: Option<u32>,
+        v1: bool,
     },
     /// `at MS`: the time now, in milliseconds since the GPS epoch.
     At {
@@ -63,6 +65,10 @@ pub enum Form<'a> {
     },
     /// `wake D`: device D wakes.
     Wake {
+        device: u64,
+    },
+    /// `migrate D`: device D knows both image formats from now on.
+    Migrate {
         device: u64,
     },
     /// `ask D`: the server sends the request of the device's stage.

@@ -2,7 +2,7 @@
 
 ghost use Rattle.std.specs.Prelude.{◌≡◌};
 ghost use Rattle.std.specs.Str.{bytes_eq};
-ghost use Rattle.script_lines.specs.Forms.{form_of, alone, header_form, image_form, group_form, window_form, window_c_form, window_b_form, device_form, device_words, at_form, wake_form, ask_form, down_form, down_words, raw_form, raw_words, up_form, class_at};
+ghost use Rattle.script_lines.specs.Forms.{form_of, alone, header_form, image_form, group_form, window_form, window_c_form, window_b_form, device_form, device_words, at_form, wake_form, migrate_form, ask_form, down_form, down_words, raw_form, raw_words, up_form, class_at};
 
 use crate::forms::{Class, Form};
 use crate::hex_bytes::HexBytes;
@@ -54,6 +54,8 @@ fn any_form(line: &[u8]) -> Option<Form<'_>>
         at_form(line)
     } else if is_keyword(keyword, "wake") {
         wake_form(line)
+    } else if is_keyword(keyword, "migrate") {
+        migrate_form(line)
     } else if is_keyword(keyword, "ask") {
         ask_form(line)
     } else if is_keyword(keyword, "frag") {
@@ -186,23 +188,28 @@ fn window_b_form(line: &[u8]) -> Option<Form<'_>>
     })
 }
 
-/// `device ID CLASS HW ROWS OFFSET KEY [DESCRIPTOR]`
+/// `device ID CLASS HW ROWS OFFSET KEY [DESCRIPTOR] [v1]`
 #[inline(never)]
 fn device_form(line: &[u8]) -> Option<Form<'_>>
     ensures { result ≡ device_form line.now }
 {
     match count_words(line) {
-        7 => device_words(line, None),
+        7 => device_words(line, None, false),
+        8 if is_word(line, 7, "v1") => device_words(line, None, true),
         8 => {
             let descriptor = hex_number(word(line, 7))?;
-            device_words(line, Some(descriptor))
+            device_words(line, Some(descriptor), false)
+        }
+        9 if is_word(line, 8, "v1") => {
+            let descriptor = hex_number(word(line, 7))?;
+            device_words(line, Some(descriptor), true)
         }
         _ => None,
     }
 }
 
-fn device_words(line: &[u8], descriptor: Option<u32>) -> Option<Form<'_>>
-    ensures { result ≡ device_words line.now descriptor }
+fn device_words(line: &[u8], descriptor: Option<u32>, v1: bool) -> Option<Form<'_>>
+    ensures { result ≡ device_words line.now descriptor v1 }
 {
     let id = decimal(word(line, 1))?;
     let class = class_at(line, 2)?;
@@ -218,6 +225,7 @@ fn device_words(line: &[u8], descriptor: Option<u32>) -> Option<Form<'_>>
         offset,
         key,
         descriptor,
+        v1,
     })
 }
 
@@ -256,6 +264,18 @@ fn wake_form(line: &[u8]) -> Option<Form<'_>>
     }
     let device = decimal(word(line, 1))?;
     Some(Form::Wake { device })
+}
+
+/// `migrate D`
+#[inline(never)]
+fn migrate_form(line: &[u8]) -> Option<Form<'_>>
+    ensures { result ≡ migrate_form line.now }
+{
+    if count_words(line) != 2 {
+        return None;
+    }
+    let device = decimal(word(line, 1))?;
+    Some(Form::Migrate { device })
 }
 
 /// `ask D`

@@ -5,7 +5,7 @@ use std::test::Fail;
 #[test]
 fn lines_spell_their_forms(rt: HostRuntime) -> Result<(), Fail> {
     let largest = u64::MAX;
-    let cases: [(&str, Option<Form>, bool); 27] = [
+    let cases: [(&str, Option<Form>, bool); 28] = [
         ("fuota 1", Some(Form::Header), true),
         (
             "image 13 4",
@@ -59,6 +59,7 @@ fn lines_spell_their_forms(rt: HostRuntime) -> Result<(), Fail> {
             false,
         ),
         ("wake 7", Some(Form::Wake { device: 7 }), true),
+        ("migrate 7", Some(Form::Migrate { device: 7 }), true),
         ("ask 0", Some(Form::Ask { device: 0 }), true),
         ("frag", Some(Form::Frag), true),
         ("status", Some(Form::Status), true),
@@ -133,6 +134,7 @@ fn hex_words_are_read(rt: HostRuntime) -> Result<(), Fail> {
         offset: 5,
         key: [0; 16],
         descriptor: Some(2),
+        v1: false,
     };
     assert!(rt; shown(&rt, &device)? == shown(&rt, &Some(wanted))?);
     assert!(rt; form(b"device 1 b 2 64 5 00000000000000000000000000000000").is_none());
