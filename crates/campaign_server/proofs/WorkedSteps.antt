@@ -5,7 +5,7 @@ use Rattle.cast_wire.specs.Tests as cast
 use Rattle.sync_wire.specs.Tests as sync
 use Rattle.sync_wire.specs.Reading.{clock_up, firmware_up}
 use Rattle.cast_wire.specs.Reading.{fragment_up, group_up}
-use Rattle.image_slots.specs.Image.{hardware_of, firmware_of}
+use Rattle.image_slots.specs.Image.{is_for, lowest_of, highest_of, further, format_of, firmware_of}
 use Rattle.package_grammar.specs.Reading.{named_at, command_at, is_known, stop_at, read_from, reading_of}
 use Rattle.frag_model.specs.Fragments.{line_of, pieces_at, xor_bytes, xor_all}
 use Rattle.frag_encoder.specs.Encoding.{pieces_of, data_of}
@@ -18,7 +18,7 @@ use Rattle.campaign_server.specs.Uplinks.{read_uplink, uplink_step}
 use Rattle.campaign_server.specs.WorkedSteps.{AskSteps, AnswerSteps, TimeSteps, SendSteps, PlanSteps}
 
 pub asking : AskSteps
-unfolding request_of request_at hardware_of firmware_of number_at
+unfolding request_of request_at is_for lowest_of highest_of further format_of firmware_of number_at
 asking = record {
   start = refl;
   own_key = refl;
@@ -37,7 +37,7 @@ asking = record {
 }
 
 pub answers : AnswerSteps
-unfolding reading_of read_from command_at named_at stop_at is_known sync.is_known sync.samples cast.is_known cast.samples clock_up firmware_up fragment_up group_up uplink_step read_uplink stage_after_all stage_after time_answer hardware_of firmware_of number_at
+unfolding reading_of read_from command_at named_at stop_at is_known sync.is_known sync.samples cast.is_known cast.samples clock_up firmware_up fragment_up group_up uplink_step read_uplink stage_after_all stage_after time_answer is_for lowest_of highest_of further format_of firmware_of number_at
 answers = record {
   hardware = refl;
   to_group = refl;
@@ -70,7 +70,7 @@ answers = record {
 }
 
 pub times : TimeSteps
-unfolding reading_of read_from command_at named_at stop_at is_known sync.is_known sync.samples cast.is_known cast.samples clock_up firmware_up fragment_up group_up uplink_step read_uplink stage_after_all stage_after time_answer hardware_of firmware_of number_at
+unfolding reading_of read_from command_at named_at stop_at is_known sync.is_known sync.samples cast.is_known cast.samples clock_up firmware_up fragment_up group_up uplink_step read_uplink stage_after_all stage_after time_answer is_for lowest_of highest_of further format_of firmware_of number_at
 times = record {
   ahead = refl;
   right = refl;

@@ -1,7 +1,7 @@
 -- Where an answer leads (TS004, TS005 and TS006, 1.0.0; the stages are this project's profile). A refusal is tried before
 -- what moves on, and both only for the index or id that was asked of.
 use Rattle.std.specs.Prelude.{ℕ, ◌+◌, Bool, true, false, ◌==◌, if◌then◌else◌, List, [], ◌∷◌, Option, Some, None, is_some}
-use Rattle.image_slots.specs.Image.{hardware_of, firmware_of}
+use Rattle.image_slots.specs.Image.{is_for, firmware_of}
 use Rattle.cast_wire.specs.declared.cmd.Cmd.TheVariants.{McGroupSetupAns, FragSessionSetupAns, McClassCSessionAns, McClassBSessionAns, FragSessionStatusAns}
 use Rattle.sync_wire.specs.declared.cmd.Cmd.TheVariants.{DevVersionAns, DevUpgradeImageAns, DevRebootCountdownAns}
 use Rattle.package_grammar.specs.declared.command.Command.{Command}
@@ -29,10 +29,10 @@ where_own own told request moved = if told == own then moved else At request
 
 -- ---- each answer
 
--- 1 is other hardware than the image's; without a group its stages are left out
+-- 1 is hardware that the image is not for; without a group its stages are left out
 abbrev pub after_version : Plan → (image : List ℕ) → (hardware : ℕ) → Stage
 after_version plan image hardware =
-    unless_refused Version (if hardware == hardware_of image then 0 else 1) (At (if is_some plan.group then Group else Fragments))
+    unless_refused Version (if is_for image hardware then 0 else 1) (At (if is_some plan.group then Group else Fragments))
 
 -- 4 is IDerror
 abbrev pub after_group : (id : ℕ) → (error : Bool) → Stage

@@ -2,13 +2,14 @@
 
 ghost use Rattle.std.specs.Prelude.{◌≡◌, ◌≤◌, ◌+◌, length};
 ghost use Rattle.package_grammar.specs.declared.command.Command.TheVariants.{Sync, Cast};
+ghost use Rattle.image_slots.specs.Image.{further};
 ghost use Rattle.campaign_server.specs.Answers.{stage_after, stage_after_all, unless_refused, where_own, worth, after_version, after_group, after_setup, after_window, after_status, after_upgrade, after_check, is_class_c, is_class_b};
 ghost use Rattle.campaign_server.specs.declared.stage.Stage.TheVariants.{At};
 
 use crate::plan::{Kind, Plan, PlanWindow};
 use crate::stage::{Request, Stage};
 use cast_wire::Cmd;
-use image_slots::{firmware, hardware};
+use image_slots::{firmware, is_for};
 use package_grammar::{Command, Message};
 
 /// The session's index and the group's id that are asked of.
@@ -18,7 +19,7 @@ const GROUP_ID: u8 = 0;
 
 /// The stage behind the commands of an uplink, one after another.
 pub fn stage_after_all(plan: &Plan, image: &[u8], stage: Stage, mut message: Message) -> Stage
-    requires { 49 ≤ length image.now }
+    requires { 49 + further image.now ≤ length image.now }
     ensures { result ≡ stage_after_all plan.now image.now stage message.entry.commands }
 {
     let mut at = stage;
@@ -31,7 +32,7 @@ pub fn stage_after_all(plan: &Plan, image: &[u8], stage: Stage, mut message: Mes
 /// The stage behind a command of an uplink: an answer moves its own stage alone.
 #[tactic(auto, unfolding(crate::specs::Answers::stage_after))]
 fn stage_after(plan: &Plan, image: &[u8], stage: Stage, command: &Command) -> Stage
-    requires { 49 ≤ length image.now }
+    requires { 49 + further image.now ≤ length image.now }
     ensures { result ≡ stage_after plan.now image.now stage command.now }
 {
     match stage {
@@ -46,7 +47,7 @@ fn stage_after(plan: &Plan, image: &[u8], stage: Stage, command: &Command) -> St
 /// The stage behind a command of firmware management.
 #[tactic(auto, unfolding(crate::specs::Answers::stage_after))]
 fn after_sync(plan: &Plan, image: &[u8], request: Request, cmd: &sync_wire::Cmd) -> Stage
-    requires { 49 ≤ length image.now }
+    requires { 49 + further image.now ≤ length image.now }
     ensures { result ≡ stage_after plan.now image.now (At request) (Sync cmd.now) }
 {
     match (request, *cmd) {
@@ -130,16 +131,12 @@ fn after_cast(plan: &Plan, image: &[u8], request: Request, cmd: &Cmd) -> Stage
 
 // ---- each answer
 
-/// 1 is other hardware than the image's; without a group its stages are left out.
+/// 1 is hardware that the image is not for; without a group its stages are left out.
 fn after_version(plan: &Plan, image: &[u8], hardware_told: u32) -> Stage
-    requires { 49 ≤ length image.now }
+    requires { 49 + further image.now ≤ length image.now }
     ensures { result ≡ after_version plan.now image.now hardware_told }
 {
-    let bits = if hardware_told == hardware(image) {
-        0
-    } else {
-        1
-    };
+    let bits = if is_for(image, hardware_told) { 0 } else { 1 };
     let moved = match plan.group {
         Some(_) => Stage::At(Request::Group),
         None => Stage::At(Request::Fragments),
@@ -196,7 +193,7 @@ fn after_status(index: u8, missing: u8, norows: bool) -> Stage
 
 /// 1 corrupt, 2 incompatible, 3 another version; 0 stays.
 fn after_upgrade(image: &[u8], status: u8, next: Option<u32>) -> Stage
-    requires { 49 ≤ length image.now }
+    requires { 49 + further image.now ≤ length image.now }
     ensures { result ≡ after_upgrade image.now status next }
 {
     match next {
@@ -215,7 +212,7 @@ fn after_upgrade(image: &[u8], status: u8, next: Option<u32>) -> Stage
 }
 
 fn after_check(image: &[u8], firmware_told: u32) -> Stage
-    requires { 49 ≤ length image.now }
+    requires { 49 + further image.now ≤ length image.now }
     ensures { result ≡ after_check image.now firmware_told }
 {
     if firmware_told == firmware(image) {
