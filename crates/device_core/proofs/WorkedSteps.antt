@@ -11,7 +11,8 @@ use Rattle.row_elimination.specs.Room.{has_room, words_for}
 use Rattle.frag_model.specs.Verdict.{verdict, missing}
 use Rattle.frag_session.specs.Setup.{setup_bits, wrong_coding, too_large, other_descriptor, same_setup}
 use Rattle.frag_session.specs.Session.{new_session, renewed, after_setup, excludes, cause_of, drop_cause, followed, after_fragment, shape_of, shown_verdict, seen_of, status_by, status_in, status_of}
-use Rattle.image_slots.specs.Slots.{after_swap, after_delete}
+use Rattle.image_slots.specs.Image.{format_of, further, is_image, is_unknown, image_state}
+use Rattle.image_slots.specs.Slots.{after_swap, after_delete, after_raise}
 use Rattle.class_windows.specs.Open.{is_after_uplink, is_running}
 use Rattle.class_windows.proofs.WorkedWindows.{ping_slot, no_ping_slot}
 use Rattle.mc_group.specs.declared.group.Group.{Group}
@@ -21,7 +22,7 @@ use Rattle.device_core.specs.Clock.{answer_step, periodicity_step, resync_step}
 use Rattle.device_core.specs.Fragments.{setup_step, delete_step, status_step, heard_step, fragment_step}
 use Rattle.device_core.specs.Groups.{groups_step, group_setup_step, group_delete_step}
 use Rattle.device_core.specs.ClassSessions.{hears, class_session_step}
-use Rattle.device_core.specs.Firmware.{version_step, upgrade_step, delete_image_step, reboot_time_step, countdown_step, after_due_reboot}
+use Rattle.device_core.specs.Firmware.{version_step, upgrade_step, delete_image_step, reboot_time_step, countdown_step, after_due_reboot, after_migration}
 use Rattle.device_core.specs.Step.{command_step, step, after_commands}
 use Rattle.device_core.specs.Deliver.{message_delivery, read_delivery, heard_delivery, delivery, time_asking, waking}
 use Rattle.device_core.specs.WorkedSteps.{UplinkSteps, ClockSteps, SessionSteps, KeySteps, GroupSteps, HearingSteps, FirmwareSteps, ConfigSteps}
@@ -130,7 +131,7 @@ hearing = record {
 }
 
 pub firmware : FirmwareSteps
-unfolding int_wrap delivery heard_delivery read_delivery message_delivery after_due_reboot after_swap after_delete hears is_after_uplink is_running reading_of read_from command_at named_at is_known stop_at sync.is_known sync.samples cast.is_known cast.samples number_at clock_down firmware_down group_down fragment_down after_commands step command_step after_answers answer_step periodicity_step resync_step waking time_asking groups_step group_setup_step group_delete_step class_session_step version_step upgrade_step delete_image_step reboot_time_step countdown_step setup_step delete_step status_step fragment_step heard_step setup_bits wrong_coding too_large other_descriptor has_room words_for new_session after_setup renewed same_setup excludes cause_of drop_cause followed after_fragment shape_of shown_verdict seen_of status_by status_in status_of verdict missing
+unfolding after_migration after_raise image_state is_image is_unknown format_of further int_wrap delivery heard_delivery read_delivery message_delivery after_due_reboot after_swap after_delete hears is_after_uplink is_running reading_of read_from command_at named_at is_known stop_at sync.is_known sync.samples cast.is_known cast.samples number_at clock_down firmware_down group_down fragment_down after_commands step command_step after_answers answer_step periodicity_step resync_step waking time_asking groups_step group_setup_step group_delete_step class_session_step version_step upgrade_step delete_image_step reboot_time_step countdown_step setup_step delete_step status_step fragment_step heard_step setup_bits wrong_coding too_large other_descriptor has_room words_for new_session after_setup renewed same_setup excludes cause_of drop_cause followed after_fragment shape_of shown_verdict seen_of status_by status_in status_of verdict missing
 firmware = record {
   version = refl;
   no_next = refl;
@@ -148,6 +149,8 @@ firmware = record {
   at_once = refl;
   old_version = refl;
   new_version = refl;
+  migrated = refl;
+  none_migrated = refl;
   due = refl;
   early = refl;
   behind = refl;
@@ -157,6 +160,8 @@ firmware = record {
 
 pub configs : ConfigSteps
 configs = record {
+  formats = refl;
+  no_format = refl;
   most = refl;
   rows = refl;
   sessions = refl;

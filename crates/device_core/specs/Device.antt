@@ -36,7 +36,7 @@ first_device config = record {
   groups = replicate config.groups None;
   class_session = None;
   sessions = no_sessions;
-  slots = first_slots;
+  slots = first_slots config.formats;
   reboot = None;
   outbox = [];
   counts = record { deaf = 0; refused = 0; full = 0; dropped = 0 };
@@ -51,6 +51,10 @@ outbox_size = 8
 -- sessions, and rows for coded fragments of each
 abbrev pub max_sessions : ℕ
 max_sessions = 4
+
+-- image formats that a device can know
+abbrev pub max_formats : ℕ
+max_formats = 2
 
 abbrev pub max_rows : ℕ
 max_rows = 256
@@ -75,7 +79,8 @@ max_moment = 4294967295999
 -- each number is within its bounds
 abbrev pub is_config : DeviceConfig → Bool
 is_config config =
-    nat_le config.rows max_rows
+    (nat_le 1 config.formats && nat_le config.formats max_formats)
+    && nat_le config.rows max_rows
     && (nat_le 1 config.sessions && nat_le config.sessions max_sessions)
     && (nat_le 1 config.groups && nat_le config.groups max_groups)
     && (nat_le 1 config.area && nat_le config.area max_area)

@@ -6,7 +6,7 @@ use Rattle.sync_wire.specs.declared.cmd.Cmd.TheVariants.{DevVersionAns, DevReboo
 use Rattle.image_slots.specs.declared.view.ImageState.{ImageState}
 use Rattle.image_slots.specs.declared.view.ImageState.TheVariants as image
 use Rattle.clock_sync.specs.Clock.{device_time}
-use Rattle.image_slots.specs.Slots.{after_swap, delete_bits, after_delete}
+use Rattle.image_slots.specs.Slots.{after_swap, delete_bits, after_delete, after_raise}
 use Rattle.device_core.specs.Device.{DeviceState}
 use Rattle.device_core.specs.declared.arrival.Arrival.{Arrival}
 use Rattle.device_core.specs.Answers.{DeviceStep, one_answer}
@@ -66,3 +66,7 @@ after_due_reboot t device =
     if is_due (device_time device.clock t) device.reboot
     then record device { reboot = None; slots = after_swap device.slots }
     else device
+
+-- both image formats are known from now on, and next is what its bytes are then (this project's profile)
+unfoldable pub after_migration : DeviceState → DeviceState
+after_migration device = record device { slots = after_raise device.config.hw device.slots }

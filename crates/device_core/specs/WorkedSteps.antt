@@ -16,7 +16,7 @@ use Rattle.device_core.specs.declared.delivered.Delivered.{Delivered}
 use Rattle.device_core.specs.declared.delivered.Delivered.TheVariants.{Deaf, Refused, OutboxFull, Done}
 use Rattle.device_core.specs.Device.{DeviceState, first_device, is_config, counter_after}
 use Rattle.device_core.specs.Fragments.{answer_delay}
-use Rattle.device_core.specs.Firmware.{is_reached}
+use Rattle.device_core.specs.Firmware.{is_reached, after_migration}
 use Rattle.device_core.specs.Deliver.{Outcome, delivery, waking, taking}
 
 -- ---- a device, and what comes to it
@@ -29,6 +29,7 @@ worked_config class offset = record {
   rows = 2;
   offset = offset;
   key = replicate 16 0;
+  formats = 2;
   descriptor = None;
   sessions = 4;
   groups = 4;
@@ -240,7 +241,7 @@ pub record HearingSteps : Type 0 where
 
 -- a device that has this image next
 abbrev pub with_next : ImageState → DeviceState
-with_next next = record fresh { slots = record { version = 0; running = []; next = next; next_file = 0x07 ∷ [] } }
+with_next next = record fresh { slots = record { formats = 2; version = 0; running = []; next = next; next_file = 0x07 ∷ [] } }
 
 abbrev pub ready : DeviceState
 ready = with_next (image.Valid 2)
@@ -261,12 +262,16 @@ pub record FirmwareSteps : Type 0 where
   pub round : (after 5000 203 (0x03 ∷ 0x0a ∷ 0x00 ∷ 0x00 ∷ []) (record ready { clock = record { offset = 2 ^ 32 - 6; token = 0 } })).reboot ≡ Some 9
   pub cancelled : (after 5000 203 (0x02 ∷ 0xff ∷ 0xff ∷ 0xff ∷ 0xff ∷ []) (record ready { reboot = Some 15 })).reboot ≡ None
   pub uncounted : (after 5000 203 (0x03 ∷ 0xff ∷ 0xff ∷ 0xff ∷ []) (record ready { reboot = Some 15 })).reboot ≡ None
-  pub at_once : (after 0 203 (0x03 ∷ 0x00 ∷ 0x00 ∷ 0x00 ∷ []) ready).slots ≡ record { version = 2; running = 0x07 ∷ []; next = image.None; next_file = [] }
+  pub at_once : (after 0 203 (0x03 ∷ 0x00 ∷ 0x00 ∷ 0x00 ∷ []) ready).slots ≡ record { formats = 2; version = 2; running = 0x07 ∷ []; next = image.None; next_file = [] }
   -- a reboot that a command makes due is carried out behind the payload: the version behind it is still the old one
   pub old_version : sends 0 203 (0x03 ∷ 0x00 ∷ 0x00 ∷ 0x00 ∷ 0x01 ∷ []) ready
       ≡ (0x03 ∷ 0x00 ∷ 0x00 ∷ 0x00 ∷ []) ∷ (0x01 ∷ 0x00 ∷ 0x00 ∷ 0x00 ∷ 0x00 ∷ 0x01 ∷ 0x00 ∷ 0x00 ∷ 0x00 ∷ []) ∷ []
   -- and one that is due before the payload: the version behind it is the new one
   pub new_version : sends 15000 203 (0x01 ∷ []) (record ready { reboot = Some 15 }) ≡ (0x01 ∷ 0x02 ∷ 0x00 ∷ 0x00 ∷ 0x00 ∷ 0x01 ∷ 0x00 ∷ 0x00 ∷ 0x00 ∷ []) ∷ []
+  -- both formats are known from now on; next is read again, but not where it is none, and no reboot is carried out
+  pub migrated : (after_migration (record ready { slots = record ready.slots { formats = 1 }; reboot = Some 0 })).slots
+      ≡ record { formats = 2; version = 0; running = []; next = image.Corrupt; next_file = 0x07 ∷ [] }
+  pub none_migrated : (after_migration fresh).slots ≡ fresh.slots
   pub due : (waking 15000 (record ready { reboot = Some 15 })).device.slots.version ≡ 2
   pub early : (waking 14999 (record ready { reboot = Some 15 })).device.slots.version ≡ 0
   -- a moment is reached at itself and less than 2^31 s behind it, modulo 2^32
@@ -277,6 +282,8 @@ pub record FirmwareSteps : Type 0 where
 -- ---- what a configuration may be
 
 pub record ConfigSteps : Type 0 where
+  pub formats : is_config (record (worked_config C 0) { formats = 3 }) ≡ false
+  pub no_format : is_config (record (worked_config C 0) { formats = 0 }) ≡ false
   pub most : is_config (record (worked_config C 0) { rows = 256 }) ≡ true
   pub rows : is_config (record (worked_config C 0) { rows = 257 }) ≡ false
   pub sessions : is_config (record (worked_config C 0) { sessions = 5 }) ≡ false

@@ -24,6 +24,8 @@ pub struct DeviceConfig {
     pub class: Class,
     /// Hardware version.
     pub hw: u32,
+    /// The image formats that it knows at first: 1 alone (1), or both (2).
+    pub formats: u8,
     /// Rows kept for the coded fragments of a session, 0 to 256.
     pub rows: u16,
     /// Seconds that its clock is ahead of true time, modulo 2^32.
@@ -53,7 +55,8 @@ pub enum ReserveError {
 pub fn is_config(config: &DeviceConfig) -> bool
     ensures { result ≡ is_config config.now }
 {
-    config.rows <= MAX_ROWS
+    (1 <= config.formats && config.formats <= 2)
+        && config.rows <= MAX_ROWS
         && (1 <= config.sessions && config.sessions <= 4)
         && (1 <= config.groups && config.groups <= 4)
         && (1 <= config.area && config.area <= MAX_AREA)

@@ -9,6 +9,7 @@ ghost use Rattle.frag_session.specs.Shows.{seen};
 ghost use Rattle.device_core.specs.SessionTable.{session_at};
 ghost use Rattle.device_core.specs.Device.{DeviceState, max_moment, after_deaf, after_refused, after_full, after_dropped};
 ghost use Rattle.device_core.specs.Step.{weights, after_commands};
+ghost use Rattle.device_core.specs.Firmware.{after_migration};
 ghost use Rattle.device_core.specs.Deliver.{message_delivery, read_delivery, heard_delivery, delivery, time_asking, waking, taking};
 ghost use Rattle.package_grammar.specs.Reading.{reading_of};
 
@@ -99,7 +100,7 @@ impl Device {
         let Ok(sessions) = SessionSlots::reserve(alloc, config.area) else {
             return Err(ReserveError::Memory);
         };
-        let Ok(slots) = Slots::reserve(alloc, config.area, config.hw) else {
+        let Ok(slots) = Slots::reserve(alloc, config.area, config.hw, config.formats) else {
             return Err(ReserveError::Memory);
         };
         Ok(Device {
@@ -155,6 +156,14 @@ impl Device {
         ensures uplink { IfSome result (λ u. IsUplink u) }
     {
         self.outbox.take()
+    }
+
+    /// Both image formats are known from now on, and what was received to run next is read again. No reboot is carried out.
+    #[tactic(auto, unfolding(crate::specs::Firmware::after_migration))]
+    pub fn raise(&mut self)
+        ensures { Becomes self.old self.new after_migration }
+    {
+        self.slots.raise();
     }
 
     /// What the session of an index shows; None exactly where there is none.

@@ -14,6 +14,7 @@ use wire_base::Payload;
 const CONFIG: DeviceConfig = DeviceConfig {
     class: Class::C,
     hw: 1,
+    formats: 2,
     rows: 0,
     offset: 0,
     key: [0; 16],
@@ -602,6 +603,14 @@ fn a_file_comes_by_the_group_in_its_window(rt: HostRuntime) {
 #[test]
 fn numbers_out_of_bounds_make_no_device(rt: HostRuntime) {
     let table = [
+        DeviceConfig {
+            formats: 0,
+            ..CONFIG
+        },
+        DeviceConfig {
+            formats: 3,
+            ..CONFIG
+        },
         DeviceConfig {
             rows: 257,
             ..CONFIG
