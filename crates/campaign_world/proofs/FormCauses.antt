@@ -7,7 +7,7 @@ use Rattle.std.proofs.lemmas.Bool.Decides.{nat_tests}
 use Rattle.frag_encoder.specs.Encoding.{nb_frag_of}
 use Rattle.image_slots.specs.Image.{is_image}
 use Rattle.image_slots.proofs.ImageLemmas.{image_long}
-use Rattle.device_core.specs.Device.{DeviceState}
+use Rattle.device_core.specs.Device.{DeviceState, max_formats}
 use Rattle.device_core.specs.HeldDevice.{HeldDevice}
 use Rattle.campaign_server.specs.declared.plan.PlanGroup.{PlanGroup}
 use Rattle.campaign_server.specs.Plan.{Plan, is_frag_size, is_group, bad_field}
@@ -29,7 +29,7 @@ use Rattle.script_lines.specs.Forms.{form_of}
 use Rattle.script_lines.specs.Limits.{max_lines, max_line, max_time, max_rows, max_devices}
 use Rattle.frag_model.specs.Limits.{max_pieces}
 use Rattle.campaign_world.specs.HeldWorld.{HeldWorld, server_of, world_of, IsFine}
-use Rattle.campaign_world.specs.Making.{device_of}
+use Rattle.campaign_world.specs.Making.{device_of, formats_of}
 use Rattle.script_lines.specs.declared.forms.Class.{Class}
 use Rattle.script_lines.specs.declared.forms.Class.TheVariants as class
 use Rattle.campaign_world.specs.WorldInside.{IsPlanned, IsSized, IsWindowed, ServerIs, IsToBegin}
@@ -150,9 +150,10 @@ unmade_sends image section plan devices (form.Image frag_size parity) fine plann
 unmade_sends image section plan devices (form.Group addr key min max) fine planned comes = refl
 unmade_sends image section plan devices (form.WindowC start timeout freq dr) fine planned comes = refl
 unmade_sends image section plan devices (form.WindowB start periodicity timeout freq dr) fine planned comes = refl
-unmade_sends image section plan devices (form.Device id class hw rows offset key descriptor) fine planned comes = refl
+unmade_sends image section plan devices (form.Device id class hw rows offset key descriptor v1) fine planned comes = refl
 unmade_sends image section plan devices (form.At time) fine planned comes = refl
 unmade_sends image section plan devices (form.Wake device) fine planned comes = refl
+unmade_sends image section plan devices (form.Migrate device) fine planned comes = refl
 unmade_sends image section plan devices (form.Down number device word) fine planned comes = refl
 unmade_sends image section plan devices (form.Raw device port payload word) fine planned comes = refl
 unmade_sends image section plan devices (form.Up number) fine planned comes = refl
@@ -266,6 +267,9 @@ named_within count device is = let both = and_parts _ _ is in (leb-true 1 device
 pub woken_within : (count : ℕ) (f : Form) (device : ℕ) → names_device count f ≡ true → f ≡ form.Wake device → (1 ≤ device) × (device ≤ count)
 woken_within count f device names is = named_within count device (rw is at names)
 
+pub migrated_within : (count : ℕ) (f : Form) (device : ℕ) → names_device count f ≡ true → f ≡ form.Migrate device → (1 ≤ device) × (device ≤ count)
+migrated_within count f device names is = named_within count device (rw is at names)
+
 pub asked_within : (count : ℕ) (f : Form) (device : ℕ) → names_device count f ≡ true → f ≡ form.Ask device → (1 ≤ device) × (device ≤ count)
 asked_within count f device names is = named_within count device (rw is at names)
 
@@ -304,7 +308,7 @@ time_within f time ranges is = let fits : nat_le time max_time ≡ true = rw is 
 
 some_devices : (n : ℕ) → (ds : List DeviceState) × (length ds ≡ n)
 some_devices zero = ([], refl)
-some_devices (suc n) = let more = some_devices n in (device_of class.C 0 0 0 [] None ∷ more.0, ap suc more.1)
+some_devices (suc n) = let more = some_devices n in (device_of class.C 0 0 0 [] None false ∷ more.0, ap suc more.1)
 
 pub record Fine (held : HeldWorld) (form : Form) : Type 0 where
   pub comes : may_come held.section form ≡ true
@@ -346,9 +350,10 @@ event_at s (form.Image frag_size parity) event comes = absurd cc
 event_at s (form.Group addr key min max) event comes = absurd cc
 event_at s (form.WindowC start timeout freq dr) event comes = absurd cc
 event_at s (form.WindowB start periodicity timeout freq dr) event comes = absurd cc
-event_at s (form.Device id class hw rows offset key descriptor) event comes = absurd cc
+event_at s (form.Device id class hw rows offset key descriptor v1) event comes = absurd cc
 event_at s (form.At time) event comes = at_events_only (λ (x : Section). may_come x (form.At time)) refl refl refl refl refl refl s comes
 event_at s (form.Wake device) event comes = at_events_only (λ (x : Section). may_come x (form.Wake device)) refl refl refl refl refl refl s comes
+event_at s (form.Migrate device) event comes = at_events_only (λ (x : Section). may_come x (form.Migrate device)) refl refl refl refl refl refl s comes
 event_at s (form.Ask device) event comes = at_events_only (λ (x : Section). may_come x (form.Ask device)) refl refl refl refl refl refl s comes
 event_at s form.Frag event comes = at_events_only (λ (x : Section). may_come x form.Frag) refl refl refl refl refl refl s comes
 event_at s form.Status event comes = at_events_only (λ (x : Section). may_come x form.Status) refl refl refl refl refl refl s comes
@@ -396,11 +401,11 @@ header_at s f is comes = by_section s (rw is at comes)
 alone : (plan : Plan) → plan.group ≡ None → plan.window ≡ None → IsWindowed plan
 alone plan no_group no_window = rw (no_group, no_window) refl
 
-pub joins_at : (image : List ℕ) (s : Section) (plan : Plan) (devices : List HeldDevice) (server : Option ServerState) (f : Form) (id hw rows offset : ℕ) (k : Class) (key : List ℕ) (descriptor : Option ℕ)
-    → f ≡ form.Device id k hw rows offset key descriptor → may_come s f ≡ true → IsPlanned image s plan devices server → IsSized image plan devices × IsWindowed plan × (server ≡ None)
-joins_at image s plan devices server f id hw rows offset k key descriptor is comes planned = by_section s (rw is at comes) planned
+pub joins_at : (image : List ℕ) (s : Section) (plan : Plan) (devices : List HeldDevice) (server : Option ServerState) (f : Form) (id hw rows offset : ℕ) (k : Class) (key : List ℕ) (descriptor : Option ℕ) (v1 : Bool)
+    → f ≡ form.Device id k hw rows offset key descriptor v1 → may_come s f ≡ true → IsPlanned image s plan devices server → IsSized image plan devices × IsWindowed plan × (server ≡ None)
+joins_at image s plan devices server f id hw rows offset k key descriptor v1 is comes planned = by_section s (rw is at comes) planned
   where
-    by_section : (s : Section) → may_come s (form.Device id k hw rows offset key descriptor) ≡ true → IsPlanned image s plan devices server → IsSized image plan devices × IsWindowed plan × (server ≡ None)
+    by_section : (s : Section) → may_come s (form.Device id k hw rows offset key descriptor v1) ≡ true → IsPlanned image s plan devices server → IsSized image plan devices × IsWindowed plan × (server ≡ None)
     by_section place.Header comes planned = absurd cc
     by_section place.Image comes planned = absurd cc
     by_section place.Group comes planned = (planned.0, alone plan planned.1 planned.2, planned.3)
@@ -498,6 +503,11 @@ cuts_well image count f frag_size parity is ranges fits =
     let low : (nat_le 1 frag_size && nat_le frag_size 239) ≡ true = first.0 in
     (rw (low, number) refl, leb-true _ _ (and_parts _ _ first.0).1, leb-true _ _ first.1)
 
+-- a device knows image format 1 alone, or both
+pub known_formats : (v1 : Bool) → (nat_le 1 (formats_of v1) && nat_le (formats_of v1) max_formats) ≡ true
+known_formats true = refl
+known_formats false = refl
+
 -- and a device line, numbers that a device takes
 pub record Fitting (count id hw rows offset : ℕ) : Type 0 where
   pub hw_fits : hw < 2 ^ 32
@@ -505,10 +515,10 @@ pub record Fitting (count id hw rows offset : ℕ) : Type 0 where
   pub offset_fits : offset < 2 ^ 32
   pub next : count < max_devices
 
-pub fitting : (len count : ℕ) (f : Form) (id hw rows offset : ℕ) (k : Class) (key : List ℕ) (descriptor : Option ℕ) → f ≡ form.Device id k hw rows offset key descriptor → in_range f ≡ true
+pub fitting : (len count : ℕ) (f : Form) (id hw rows offset : ℕ) (k : Class) (key : List ℕ) (descriptor : Option ℕ) (v1 : Bool) → f ≡ form.Device id k hw rows offset key descriptor v1 → in_range f ≡ true
     → fits_script len count f ≡ true → Fitting count id hw rows offset
 unfolding in_range
-fitting len count f id hw rows offset k key descriptor is ranges fits =
+fitting len count f id hw rows offset k key descriptor v1 is ranges fits =
     let all : (nat_le 1 id && nat_le id max_devices && nat_lt hw (2 ^ 32) && nat_le rows max_rows && nat_lt offset (2 ^ 32)) ≡ true = rw is at ranges in
     let a = and_parts (nat_le 1 id && nat_le id max_devices && nat_lt hw (2 ^ 32) && nat_le rows max_rows) (nat_lt offset (2 ^ 32)) all in
     let b = and_parts (nat_le 1 id && nat_le id max_devices && nat_lt hw (2 ^ 32)) (nat_le rows max_rows) a.0 in

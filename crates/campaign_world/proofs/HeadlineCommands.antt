@@ -12,7 +12,7 @@ use Rattle.frag_encoder.specs.Encoding.{nb_frag_of, padding_of, data_of, block_o
 use Rattle.frag_encoder.proofs.Pieces.{pieces_sized, sized_sum}
 use Rattle.frag_encoder.proofs.Blocks.{filled_whole}
 use Rattle.frag_session.specs.declared.setups.SetupReq.{SetupReq}
-use Rattle.image_slots.specs.Image.{firmware_of}
+use Rattle.image_slots.specs.Image.{further, firmware_of}
 use Rattle.cast_wire.specs.declared.cmd.Cmd.TheVariants.{FragSessionSetupReq, FragSessionStatusReq, DataFragment}
 use Rattle.sync_wire.specs.declared.cmd.Cmd.{Cmd as SyncCmd}
 use Rattle.sync_wire.specs.declared.cmd.Cmd.TheVariants as s
@@ -99,7 +99,8 @@ byte_at image at bytes = elim (cases_lt at (length image)) [
 firmware_small : (image : List ℕ) → All (λ b. b < 2 ^ 8) image → firmware_of image < 2 ^ 32
 unfolding firmware_of number_at
 firmware_small image bytes =
-    omega (arith, byte_at image 9 bytes, byte_at image 10 bytes, byte_at image 11 bytes, byte_at image 12 bytes)
+    let at : ℕ = 9 + further image in
+    omega (arith, byte_at image at bytes, byte_at image (at + 1) bytes, byte_at image (at + 1 + 1) bytes, byte_at image (at + 1 + 1 + 1) bytes)
 
 padding_small : (image : List ℕ) (size : ℕ) → 1 ≤ size → padding_of (length image) size < size
 padding_small image size some = omega (arith, (div_ceil_times (length image) size some).1)

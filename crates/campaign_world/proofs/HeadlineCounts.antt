@@ -7,6 +7,7 @@ use Rattle.package_grammar.specs.declared.command.Command.{Command}
 use Rattle.package_grammar.specs.Reading.{Reading, reading_of}
 use Rattle.device_core.specs.Device.{DeviceState}
 use Rattle.device_core.specs.Deliver.{delivery, waking}
+use Rattle.device_core.specs.Firmware.{after_migration}
 use Rattle.campaign_server.specs.declared.stage.Stage.{Stage}
 use Rattle.campaign_server.specs.declared.stage.Stage.TheVariants.{At as AtRequest}
 use Rattle.campaign_server.specs.declared.stage.Request.TheVariants.{Version}
@@ -17,7 +18,7 @@ use Rattle.campaign_server.specs.Asking.{request_of}
 use Rattle.campaign_server.specs.Fragments.{after_count, next_fragment, after_fragment as server_after_fragment, status_to_all, after_status_to_all}
 use Rattle.campaign_server.specs.Uplinks.{with_answers, read_uplink, uplink_step}
 use Rattle.script_lines.specs.declared.forms.Form.{Form}
-use Rattle.script_lines.specs.declared.forms.Form.TheVariants.{Header, Image, Group, WindowC, WindowB, Device, At, Wake, Ask, Frag, Status, Down, Raw, Up, End}
+use Rattle.script_lines.specs.declared.forms.Form.TheVariants.{Header, Image, Group, WindowC, WindowB, Device, At, Wake, Migrate, Ask, Frag, Status, Down, Raw, Up, End}
 use Rattle.script_lines.specs.Lines.{lines_of}
 use Rattle.script_lines.specs.Forms.{form_of}
 use Rattle.campaign_world.specs.declared.section.Section.{Section}
@@ -28,7 +29,7 @@ use Rattle.campaign_world.specs.declared.numbered.SentPayload.{SentPayload}
 use Rattle.campaign_world.specs.declared.numbered.MadeUplink.{MadeUplink}
 use Rattle.campaign_world.specs.World.{WorldState, first_world}
 use Rattle.campaign_world.specs.Causes.{is_event_or_end, may_come, form_cause, cause_of_form, cause_of}
-use Rattle.campaign_world.specs.Making.{with_sent, with_device, after_wake, after_down, raw_down, after_raw, after_answer, after_up, at_events, after_form}
+use Rattle.campaign_world.specs.Making.{with_sent, with_device, after_wake, after_migrate, after_down, raw_down, after_raw, after_answer, after_up, at_events, after_form}
 use Rattle.campaign_world.specs.Script.{after_form_of, after_line, line_result, read_line, read_lines, campaign_of}
 use Rattle.campaign_world.specs.Lives.{HasItsDevices}
 use Rattle.campaign_world.proofs.FormCauses.{event_at, passes}
@@ -78,6 +79,10 @@ device_many w n d = record { devices = length-set w.devices (n - 1) _; stages = 
 woken_many : (w : WorldState) (n : ℕ) (o : Option DeviceState) → IsAsMany w (after_wake w n o)
 woken_many w n None = record { devices = refl; stages = refl; planned = refl }
 woken_many w n (Some d) = device_many w n (waking w.time d).device
+
+migrated_many : (w : WorldState) (n : ℕ) (o : Option DeviceState) → IsAsMany w (after_migrate w n o)
+migrated_many w n None = record { devices = refl; stages = refl; planned = refl }
+migrated_many w n (Some d) = device_many w n (after_migration d)
 
 reached_many : (w : WorldState) (n word : ℕ) (o : Option DeviceState) (p : Option SentPayload)
     → IsAsMany w (after_down w n word o p)
@@ -171,7 +176,7 @@ form_counted w (WindowB start periodicity timeout freq dr) fine k = record {
   some = tt;
   even = record { stages = planned_even w.server.plan _ k.even.planned; planned = k.even.planned };
 }
-form_counted w (Device id class hw rows offset key descriptor) fine k =
+form_counted w (Device id class hw rows offset key descriptor v1) fine k =
     let more = length_push w.devices _ in
     let planned : length (w.server.plan.devices ++ record { key = key } ∷ []) ≡ _ =
     length_push w.server.plan.devices (record { key = key }) ∙ ap (λ (n : ℕ). n + 1) k.even.planned ∙ sym more in
@@ -189,6 +194,9 @@ form_counted w (At time) fine k =
 form_counted w (Wake device) fine k =
     event_counted w (after_wake w device (numbered w.devices device)) (Wake device) refl (passes w (Wake device) fine).comes
     k (woken_many w device (numbered w.devices device))
+form_counted w (Migrate device) fine k =
+    event_counted w (after_migrate w device (numbered w.devices device)) (Migrate device) refl
+    (passes w (Migrate device) fine).comes k (migrated_many w device (numbered w.devices device))
 form_counted w (Ask device) fine k =
     event_counted w (with_sent w (Some device) (request_of w.server device)) (Ask device) refl
     (passes w (Ask device) fine).comes k (sent_many w w.server (Some device) (request_of w.server device) refl refl)

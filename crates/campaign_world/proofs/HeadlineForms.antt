@@ -11,6 +11,7 @@ use Rattle.device_core.specs.Device.{DeviceState}
 use Rattle.frag_model.specs.Limits.{max_pieces}
 use Rattle.script_lines.specs.Limits.{max_rows, max_devices}
 use Rattle.device_core.specs.Deliver.{delivery, waking}
+use Rattle.device_core.specs.Firmware.{after_migration}
 use Rattle.campaign_server.specs.declared.plan.PlanGroup.{PlanGroup}
 use Rattle.campaign_server.specs.Plan.{Plan}
 use Rattle.campaign_server.specs.Server.{ServerState, DownlinkCommand, numbered, ledger, downlink_of}
@@ -19,7 +20,7 @@ use Rattle.campaign_server.specs.Fragments.{next_fragment, after_fragment as ser
 use Rattle.campaign_server.specs.Time.{time_answer}
 use Rattle.campaign_server.specs.Uplinks.{with_answers, read_uplink, uplink_step}
 use Rattle.script_lines.specs.declared.forms.Form.{Form}
-use Rattle.script_lines.specs.declared.forms.Form.TheVariants.{Header, Image, Group, WindowC, WindowB, Device, At as Time, Wake, Ask, Frag, Status, Down, Raw, Up, End}
+use Rattle.script_lines.specs.declared.forms.Form.TheVariants.{Header, Image, Group, WindowC, WindowB, Device, At as Time, Wake, Migrate, Ask, Frag, Status, Down, Raw, Up, End}
 use Rattle.script_lines.specs.Ranges.{in_range, is_device as ranged}
 use Rattle.campaign_world.specs.declared.section.Section.{Section}
 use Rattle.campaign_world.specs.declared.section.Section.TheVariants as section
@@ -29,10 +30,10 @@ use Rattle.campaign_world.specs.declared.numbered.MadeUplink.{MadeUplink}
 use Rattle.campaign_world.specs.World.{WorldState}
 use Rattle.campaign_world.specs.Honest.{is_raw}
 use Rattle.campaign_world.specs.Causes.{may_come, fits_script, is_device, names_device, may_reach, has_come, form_cause}
-use Rattle.campaign_world.specs.Making.{with_sent, with_device, after_wake, after_down, after_answer, after_up, at_events, after_form}
+use Rattle.campaign_world.specs.Making.{with_sent, with_device, after_wake, after_migrate, after_down, after_answer, after_up, at_events, after_form}
 use Rattle.campaign_world.proofs.LineItems.{if_some, numbered_put, numbered_there}
 use Rattle.campaign_world.proofs.HeadlineCommands.{cut_of, IsCut}
-use Rattle.campaign_world.proofs.HeadlinePayloads.{sent_acts, waking_stays}
+use Rattle.campaign_world.proofs.HeadlinePayloads.{Stays, sent_acts, waking_stays}
 use Rattle.campaign_world.proofs.HeadlineEnds.{IsDeviceFor, IsServerOf, IsDown, ask_sent, fragment_sent, status_sent, GoesOn, fragment_goes, status_goes, answers_go, time_sent}
 use Rattle.campaign_world.proofs.HeadlineWorlds.{IsPayloadOf, StandsIn, Keeps, is_down, HasStayed, Turns}
 
@@ -297,6 +298,45 @@ woken_turn image w n d k cut first there =
       empty = refl;
     })
 
+-- a device that knows both image formats from now on stays as it is but for its slots
+migration_stays : (d : DeviceState) → Stays d (taken (after_migration d))
+unfolding after_migration
+migration_stays d = record { config = refl; sessions = refl }
+
+migrated_turn : (image : List ℕ) (w : WorldState) (n : ℕ) (d : DeviceState) → Keeps image w
+    → IsCut image (cut_of w.server.plan) → 1 ≤ n → numbered w.devices n ≡ Some d
+    → Turns image (Migrate n) w (at_events (after_migrate w n (numbered w.devices n)))
+unfolding with_device
+migrated_turn image w n d k cut first there =
+    let new : DeviceState = taken (after_migration d) in
+    rw (there) (record {
+      lines = refl;
+      server = k.server;
+      stands = cut;
+      how = inl (record {
+        other = refl;
+        cut = refl;
+        devices = λ id. stayed id (numbered_put w.devices n id new first);
+        more = [];
+        sent = sym (append-nil w.sent);
+        fine = tt;
+      });
+    })
+  where
+    stayed : (id : ℕ) → (id ≡ n) ⊎ (numbered (slice_set w.devices (n - 1) (taken (after_migration d))) id ≡ numbered w.devices id)
+        → (numbered (slice_set w.devices (n - 1) (taken (after_migration d))) id ≡ numbered w.devices id)
+        ⊎ HasStayed (numbered w.devices id) (numbered (slice_set w.devices (n - 1) (taken (after_migration d))) id)
+    stayed id (inr same) = inl same
+    stayed id (inl is) = inr (record {
+      d = d;
+      e = taken (after_migration d);
+      was = ap (λ (x : ℕ). numbered w.devices x) is ∙ there;
+      is = ap (λ (x : ℕ). numbered (slice_set w.devices (n - 1) (taken (after_migration d))) x) is
+          ∙ numbered_there w.devices n d (taken (after_migration d)) there;
+      moves = migration_stays d;
+      empty = refl;
+    })
+
 -- nothing is sent, and no device changes
 still_turn : (image : List ℕ) (form : Form) (w v : WorldState) → is_down form ≡ false → IsServerOf image v.server
     → StandsIn image v v.section → v.lines ≡ w.lines → cut_of v.server.plan ≡ cut_of w.server.plan
@@ -371,14 +411,14 @@ form_turn image w (WindowB start periodicity timeout freq dr) bytes k fine hones
     (record { image_is = k.server.image_is; next = omega arith; few = k.server.few })
     (late_cut image w (WindowB start periodicity timeout freq dr) w.section refl
     (passes w (WindowB start periodicity timeout freq dr) fine).may k.stands) refl refl refl refl
-form_turn image w (Device id class hw rows offset key descriptor) bytes k fine honest =
-    let p = passes w (Device id class hw rows offset key descriptor) fine in
+form_turn image w (Device id class hw rows offset key descriptor v1) bytes k fine honest =
+    let p = passes w (Device id class hw rows offset key descriptor v1) fine in
     let both = and_parts (ranged id hw rows offset) (id == length w.devices + 1) p.ranged in
     let next : id ≡ length w.devices + 1 = eqb-true _ _ both.1 in
     record {
       lines = refl;
       server = record { image_is = k.server.image_is; next = omega arith; few = k.server.few };
-      stands = late_cut image w (Device id class hw rows offset key descriptor) w.section refl p.may k.stands;
+      stands = late_cut image w (Device id class hw rows offset key descriptor v1) w.section refl p.may k.stands;
       how = inr (inr (inl (record {
         other = refl;
         cut = refl;
@@ -388,7 +428,8 @@ form_turn image w (Device id class hw rows offset key descriptor) bytes k fine h
         offset = offset;
         key = key;
         descriptor = descriptor;
-        form_is = ap (λ (n : ℕ). Device n class hw rows offset key descriptor) next;
+        v1 = v1;
+        form_is = ap (λ (n : ℕ). Device n class hw rows offset key descriptor v1) next;
         few = few_rows id hw rows offset both.0;
         devices = refl;
         sent = refl;
@@ -402,6 +443,11 @@ form_turn image w (Wake device) bytes k fine honest =
     let there = number_there (length w.devices) device p.names in
     let d = device_there w.devices device there in
     woken_turn image w device d.0 k (late_cut image w (Wake device) w.section refl p.may k.stands) there.0 d.1
+form_turn image w (Migrate device) bytes k fine honest =
+    let p = passes w (Migrate device) fine in
+    let there = number_there (length w.devices) device p.names in
+    let d = device_there w.devices device there in
+    migrated_turn image w device d.0 k (late_cut image w (Migrate device) w.section refl p.may k.stands) there.0 d.1
 form_turn image w (Ask device) bytes k fine honest =
     sends_turn image (Ask device) w w.server (Some device) (request_of w.server device) refl
     (record { is = k.server; plan = refl })

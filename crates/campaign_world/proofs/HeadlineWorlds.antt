@@ -100,9 +100,10 @@ pub record IsJoined (form : Form) (w v : WorldState) : Type 0 where
   pub offset : ℕ
   pub key : List ℕ
   pub descriptor : Option ℕ
-  pub form_is : form ≡ Device (length w.devices + 1) class hw rows offset key descriptor
+  pub v1 : Bool
+  pub form_is : form ≡ Device (length w.devices + 1) class hw rows offset key descriptor v1
   pub few : rows ≤ max_rows
-  pub devices : v.devices ≡ w.devices ++ device_of class hw rows offset key descriptor ∷ []
+  pub devices : v.devices ≡ w.devices ++ device_of class hw rows offset key descriptor v1 ∷ []
   pub sent : v.sent ≡ w.sent
 
 -- a payload reaches a device
@@ -204,7 +205,7 @@ turn_keeps image form w v k turn = elim turn.how [
         devices = subst (λ (x : Cut). DevicesAre image x v.devices) (sym j.cut)
             (subst (DevicesAre image (cut_of w.server.plan)) (sym j.devices)
             (joined_devices image (cut_of w.server.plan) w.devices
-            (config_of j.class j.hw j.rows j.offset j.key j.descriptor)
+            (config_of j.class j.hw j.rows j.offset j.key j.descriptor j.v1)
             (record { sessions = refl; area = refl; rows = j.few }) k.devices));
       }
       | inr r ↦

@@ -28,12 +28,12 @@ use Rattle.device_core.specs.Answers.{DeviceStep, no_answer, after_answers}
 use Rattle.device_core.specs.Clock.{answer_step, periodicity_step, resync_step}
 use Rattle.device_core.specs.Groups.{groups_step, group_setup_step, group_delete_step}
 use Rattle.device_core.specs.ClassSessions.{class_session_step}
-use Rattle.device_core.specs.Firmware.{version_step, upgrade_step, delete_image_step, reboot_time_step, countdown_step, after_due_reboot}
+use Rattle.device_core.specs.Firmware.{version_step, upgrade_step, delete_image_step, reboot_time_step, countdown_step, after_due_reboot, after_migration}
 use Rattle.device_core.specs.Fragments.{setup_of, setup_step, delete_step, status_step, heard_step, fragment_step}
 use Rattle.device_core.specs.Step.{command_step, acts, step, after_commands}
 use Rattle.device_core.specs.Deliver.{Outcome, message_delivery, read_delivery, via_of, heard_delivery, delivery, waking}
 use Rattle.campaign_world.specs.Verdicts.{CameInTurn}
-use Rattle.campaign_world.specs.Independence.{Event, Wakes, Receives, after_event}
+use Rattle.campaign_world.specs.Independence.{Event, Wakes, Receives, Migrates, after_event}
 use Rattle.campaign_world.proofs.SessionSteps.{setup_keeps, fragment_keeps}
 use Rattle.campaign_world.proofs.HeadlinePayloads.{waking_stays}
 
@@ -287,6 +287,12 @@ pub waking_fine : (carries : ℕ → Command → Type 0) (last t : ℕ) (d : Dev
 waking_fine carries last t d h =
     subst (OfEach (λ index s. IfSome s (IsFine carries last index))) (sym (waking_stays t d).sessions) (h.0, h.1, h.2, h.3)
 
+-- it knows both image formats from now on
+pub migration_fine : (carries : ℕ → Command → Type 0) (last : ℕ) (d : DeviceState) → AreFine carries last d
+    → AreFine carries last (record (after_migration d) { outbox = [] })
+unfolding after_migration
+migration_fine carries last d h = (h.0, h.1, h.2, h.3)
+
 -- ---- the configuration stays
 
 config_by : (config : DeviceConfig) (b : Bool) (one other : DeviceState) → one.config ≡ config → other.config ≡ config
@@ -346,6 +352,11 @@ delivery_config t word mark down d =
     reboot_config t (heard_delivery t word mark down (after_due_reboot t d)).device
     ∙ heard_config t word mark down (after_due_reboot t d) ∙ reboot_config t d
 
+migration_config : (d : DeviceState) → (after_migration d).config ≡ d.config
+unfolding after_migration
+migration_config d = refl
+
 pub event_config : (d : DeviceState) (e : Event) → (after_event d e).config ≡ d.config
 event_config d (Wakes time) = (waking_stays time d).config
+event_config d Migrates = migration_config d
 event_config d (Receives time word line down) = delivery_config time word line down d

@@ -13,7 +13,7 @@ use Rattle.campaign_server.specs.Fragments.{next_fragment, after_fragment, statu
 use Rattle.campaign_server.specs.Time.{time_answer}
 use Rattle.campaign_server.specs.Uplinks.{with_answers, read_uplink, uplink_step}
 use Rattle.script_lines.specs.declared.forms.Form.{Form}
-use Rattle.script_lines.specs.declared.forms.Form.TheVariants.{Header, Image, Group, WindowC, WindowB, Device, At, Wake, Ask, Frag, Status, Down, Raw, Up, End}
+use Rattle.script_lines.specs.declared.forms.Form.TheVariants.{Header, Image, Group, WindowC, WindowB, Device, At, Wake, Migrate, Ask, Frag, Status, Down, Raw, Up, End}
 use Rattle.script_lines.specs.Lines.{lines_of}
 use Rattle.script_lines.specs.Forms.{form_of}
 use Rattle.campaign_world.specs.declared.faults.LineWhy.{LineWhy}
@@ -22,9 +22,9 @@ use Rattle.campaign_world.specs.declared.numbered.SentPayload.{SentPayload}
 use Rattle.campaign_world.specs.declared.numbered.MadeUplink.{MadeUplink}
 use Rattle.campaign_world.specs.World.{WorldState, first_world}
 use Rattle.campaign_world.specs.Causes.{is_device, may_reach, cause_of, cause_of_form, form_cause}
-use Rattle.campaign_world.specs.Making.{with_sent, with_device, after_wake, after_down, raw_down, after_raw, after_answer, after_up, at_events, after_form}
+use Rattle.campaign_world.specs.Making.{with_sent, with_device, after_wake, after_migrate, after_down, raw_down, after_raw, after_answer, after_up, at_events, after_form}
 use Rattle.campaign_world.specs.Script.{after_form_of, after_line, line_result, read_line, read_lines, campaign_of}
-use Rattle.campaign_world.specs.Independence.{Event, Wakes, Receives, after_event, device_in, first_devices, time_after, event_in, history_of, DevicesAreIndependent}
+use Rattle.campaign_world.specs.Independence.{Event, Wakes, Receives, Migrates, after_event, device_in, first_devices, time_after, event_in, history_of, DevicesAreIndependent}
 use Rattle.campaign_world.proofs.LineItems.{numbered_more, numbered_put, numbered_there}
 use Rattle.campaign_world.proofs.HeadlineForms.{passes}
 use Rattle.campaign_world.proofs.HeadlineLines.{cause_by, end_is}
@@ -194,6 +194,18 @@ woken_told id n all w d first there = rw (there) (record {
       (Wakes w.time) events (n == id) refl first there;
 })
 
+migrated_told : (id n : ℕ) (all : List SentPayload) (w : WorldState) (d : DeviceState) → 1 ≤ n
+    → numbered w.devices n ≡ Some d
+    → IsTold id all w (at_events (after_migrate w n (numbered w.devices n))) (Migrate n)
+unfolding with_device
+migrated_told id n all w d first there = rw (there) (record {
+  lines = refl;
+  time = refl;
+  sent = same_sent w;
+  record_is = λ grows later events. happened id n w.devices (filter_map device_in later) d
+      Migrates events (n == id) refl first there;
+})
+
 reached_told : (id number n word : ℕ) (all : List SentPayload) (w : WorldState) (d : DeviceState) (p : SentPayload)
     → 1 ≤ n → numbered w.devices n ≡ Some d → numbered w.sent number ≡ Some p
     → IsTold id all w (at_events (after_down w n word (numbered w.devices n) (numbered w.sent number))) (Down number n word)
@@ -235,7 +247,7 @@ form_told id all w (WindowC start timeout freq dr) fine =
 form_told id all w (WindowB start periodicity timeout freq dr) fine =
     still_told id all w _ (WindowB start periodicity timeout freq dr)
     (same_still w _ refl refl refl refl) refl refl refl
-form_told id all w (Device name class hw rows offset key descriptor) fine = record {
+form_told id all w (Device name class hw rows offset key descriptor v1) fine = record {
   lines = refl;
   time = refl;
   sent = same_sent w;
@@ -251,6 +263,9 @@ form_told id all w (At time) fine = record {
 form_told id all w (Wake device) fine =
     let d = is_there w.devices device (passes w (Wake device) fine).names in
     woken_told id device all w d.1.0 d.0 d.1.1
+form_told id all w (Migrate device) fine =
+    let d = is_there w.devices device (passes w (Migrate device) fine).names in
+    migrated_told id device all w d.1.0 d.0 d.1.1
 form_told id all w (Ask device) fine =
     let s = sends_still w w.server (Some device) (request_of w.server device) in
     still_told id all w _ (Ask device) (at_events_still w _ s) refl refl refl

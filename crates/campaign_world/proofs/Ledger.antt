@@ -11,6 +11,7 @@ use Rattle.package_grammar.specs.Reading.{Reading, reading_of}
 use Rattle.device_core.specs.declared.uplink.Uplink.{Uplink}
 use Rattle.device_core.specs.Device.{DeviceState}
 use Rattle.device_core.specs.Deliver.{delivery, waking}
+use Rattle.device_core.specs.Firmware.{after_migration}
 use Rattle.campaign_server.specs.declared.stage.Stage.{Stage}
 use Rattle.campaign_server.specs.declared.stage.Stage.TheVariants.{At as Asked, Updated}
 use Rattle.campaign_server.specs.declared.stage.Request.TheVariants.{Version}
@@ -22,7 +23,7 @@ use Rattle.campaign_server.specs.Time.{time_answer}
 use Rattle.campaign_server.specs.Answers.{stage_after_all}
 use Rattle.campaign_server.specs.Uplinks.{with_answers, read_uplink, uplink_step}
 use Rattle.script_lines.specs.declared.forms.Form.{Form}
-use Rattle.script_lines.specs.declared.forms.Form.TheVariants.{Header, Image, Group, WindowC, WindowB, Device, At, Wake, Ask, Frag, Status, Down, Raw, Up, End}
+use Rattle.script_lines.specs.declared.forms.Form.TheVariants.{Header, Image, Group, WindowC, WindowB, Device, At, Wake, Migrate, Ask, Frag, Status, Down, Raw, Up, End}
 use Rattle.script_lines.specs.Lines.{lines_of}
 use Rattle.script_lines.specs.Forms.{form_of}
 use Rattle.script_lines.specs.Limits.{max_rows, max_devices}
@@ -32,7 +33,7 @@ use Rattle.campaign_world.specs.declared.numbered.SentPayload.{SentPayload}
 use Rattle.campaign_world.specs.declared.numbered.MadeUplink.{MadeUplink}
 use Rattle.campaign_world.specs.World.{WorldState, first_world}
 use Rattle.campaign_world.specs.Causes.{cause_of_form, form_cause, fits_script}
-use Rattle.campaign_world.specs.Making.{with_plan, with_sent, made_by, with_device, after_wake, after_down, after_answer, after_up, at_events, after_form}
+use Rattle.campaign_world.specs.Making.{with_plan, with_sent, made_by, with_device, after_wake, after_migrate, after_down, after_answer, after_up, at_events, after_form}
 use Rattle.campaign_world.specs.Script.{after_form_of, after_line, read_lines, campaign_of}
 use Rattle.campaign_world.specs.Honest.{is_raw, has_raw, AreHonest}
 use Rattle.campaign_world.specs.Ledger.{IsRunning, Runs, TheLedgerIsTrue}
@@ -43,7 +44,7 @@ use Rattle.campaign_world.proofs.HeadlineWorlds.{IsPayloadOf, Keeps, first_keeps
 use Rattle.campaign_world.proofs.HeadlineForms.{passes, form_turn}
 use Rattle.campaign_world.proofs.HeadlineLines.{end_is}
 use Rattle.campaign_world.proofs.Independence.{read_first, line_fine, is_there, payload_there}
-use Rattle.campaign_world.proofs.LedgerDevices.{IsSound, Goes, ReadsAs, delivery_goes, waking_goes}
+use Rattle.campaign_world.proofs.LedgerDevices.{IsSound, Goes, ReadsAs, delivery_goes, waking_goes, migration_goes}
 use Rattle.campaign_world.proofs.LedgerSlots.{HasSlots, Tells, TellsTruly, tells_on}
 use Rattle.campaign_world.proofs.LedgerServers.{updated_by, IsOwn, ask_own, fragment_own, status_own, time_own, asked_reads, sent_reads}
 
@@ -318,6 +319,12 @@ woken_holds image w n d k h there = rw (there)
     (device_holds image (cut_of w.server.plan) w n d (waking w.time d).device there
     (waking_goes image (cut_of w.server.plan) w.time d (device_sound image w n d k h there)) h)
 
+migrated_holds : (image : List ℕ) (w : WorldState) (n : ℕ) (d : DeviceState) → Keeps image w → Holds image w
+    → numbered w.devices n ≡ Some d → Holds image (at_events (after_migrate w n (numbered w.devices n)))
+migrated_holds image w n d k h there = rw (there)
+    (device_holds image (cut_of w.server.plan) w n d (after_migration d) there
+    (migration_goes image (cut_of w.server.plan) d (device_sound image w n d k h there)) h)
+
 reached_holds : (image : List ℕ) (w : WorldState) (number n word : ℕ) (d : DeviceState) (p : SentPayload)
     → All (λ b. b < 2 ^ 8) image → is_image image ≡ true → IsCut image (cut_of w.server.plan) → Keeps image w
     → Holds image w
@@ -387,8 +394,8 @@ form_holds image w (Image frag_size parity) bytes is k h fine honest = plan_hold
 form_holds image w (Group addr key min max) bytes is k h fine honest = plan_holds image w _ _ h
 form_holds image w (WindowC start timeout freq dr) bytes is k h fine honest = plan_holds image w _ _ h
 form_holds image w (WindowB start periodicity timeout freq dr) bytes is k h fine honest = plan_holds image w _ _ h
-form_holds image w (Device id class hw rows offset key descriptor) bytes is k h fine honest =
-    let form : Form = Device id class hw rows offset key descriptor in
+form_holds image w (Device id class hw rows offset key descriptor v1) bytes is k h fine honest =
+    let form : Form = Device id class hw rows offset key descriptor v1 in
     let both = and_parts (in_range form) (fits_script (length w.server.image) (length w.devices) form)
     (passes w form fine).ranged in
     let small : hw < 2 ^ 32 = ltb-true hw (2 ^ 32)
@@ -396,12 +403,15 @@ form_holds image w (Device id class hw rows offset key descriptor) bytes is k h 
     (nat_lt offset (2 ^ 32)) both.0) in
     device_joins image w _ _ _ (record {
       hardware = small;
-      slots = record { running = inl refl; next = λ version none. absurd cc };
+      slots = record { running = inl refl; next = inl refl };
     }) h
 form_holds image w (At time) bytes is k h fine honest = still_holds image w _ refl refl refl refl h
 form_holds image w (Wake device) bytes is k h fine honest =
     let d = is_there w.devices device (passes w (Wake device) fine).names in
     woken_holds image w device d.1.0 k h d.1.1
+form_holds image w (Migrate device) bytes is k h fine honest =
+    let d = is_there w.devices device (passes w (Migrate device) fine).names in
+    migrated_holds image w device d.1.0 k h d.1.1
 form_holds image w (Ask device) bytes is k h fine honest =
     sends_hold image w w.server (Some device) (request_of w.server device) h h.ledger (ask_own w.server device)
 form_holds image w Frag bytes is k h fine honest =

@@ -1,5 +1,5 @@
 -- A device of a campaign has the image in its slots, and what it tells of its version is true.
-use Rattle.std.proofs.Common.{◌≡◌, ◌⊎◌, inl, inr, ⊎_elim, ℕ, zero, suc, ◌^◌, ◌<◌, Bool, true, false, cond, ◌==◌, List, [], ◌∷◌, ◌++◌, length, map, replicate, get_or, All, Option, None, Some, IfSome, Result, Ok, Err, refl, sym, ◌∙◌, subst, arith, eqb-true}
+use Rattle.std.proofs.Common.{◌≡◌, ◌⊎◌, inl, inr, ⊎_elim, ℕ, zero, suc, ◌+◌, ◌^◌, ◌<◌, Bool, true, false, cond, ◌==◌, List, [], ◌∷◌, ◌++◌, length, map, replicate, get_or, All, Option, None, Some, IfSome, Result, Ok, Err, refl, sym, ◌∙◌, subst, arith, eqb-true}
 use Rattle.std.proofs.lemmas.Bool.{cases_lt}
 use Rattle.std.proofs.lemmas.List.{get_or_past}
 use Rattle.std.specs.List.{AllByRecursion}
@@ -13,7 +13,7 @@ use Rattle.frag_session.specs.Session.{Session, new_session, followed, after_fra
 use Rattle.frag_session.specs.Stands.{IsSetUp}
 use Rattle.image_slots.specs.declared.view.ImageState.{ImageState}
 use Rattle.image_slots.specs.declared.view.ImageState.TheVariants as state
-use Rattle.image_slots.specs.Image.{is_image, firmware_of}
+use Rattle.image_slots.specs.Image.{further, is_image, firmware_of}
 use Rattle.image_slots.specs.Slots.{Slots}
 use Rattle.cast_wire.specs.declared.cmd.Cmd.{Cmd as CastCmd}
 use Rattle.cast_wire.specs.declared.cmd.Cmd.TheVariants as c
@@ -40,14 +40,14 @@ use Rattle.device_core.specs.Answers.{DeviceStep, uplink_of, after_answers, no_a
 use Rattle.device_core.specs.Clock.{time_request, answer_step, periodicity_step, resync_step}
 use Rattle.device_core.specs.ClassSessions.{class_session_step}
 use Rattle.device_core.specs.Groups.{groups_step, group_setup_step, group_delete_step}
-use Rattle.device_core.specs.Firmware.{version_step, upgrade_answer, upgrade_step, delete_image_step, reboot_time_step, countdown_step, after_due_reboot}
+use Rattle.device_core.specs.Firmware.{version_step, upgrade_answer, upgrade_step, delete_image_step, reboot_time_step, countdown_step, after_due_reboot, after_migration}
 use Rattle.device_core.specs.Fragments.{setup_step, status_answers, status_step, delete_step, heard_step, fragment_step}
 use Rattle.device_core.specs.Step.{command_step, acts, step, after_commands}
 use Rattle.campaign_world.specs.Ledger.{IsRunning}
 use Rattle.campaign_world.proofs.SessionSteps.{setup_keeps, fragment_keeps}
 use Rattle.campaign_world.proofs.HeadlineCommands.{Cut, setup_req, setup_request, fragment_command, IsNumber}
 use Rattle.campaign_world.proofs.HeadlineEnds.{IsSetFor}
-use Rattle.campaign_world.proofs.LedgerSlots.{whole_is, HasSlots, SlotsGo, same_slots, swapped_slots, deleted_slots, offered_slots, TellsTruly, tells_on, other_port, one_told}
+use Rattle.campaign_world.proofs.LedgerSlots.{whole_is, HasSlots, SlotsGo, same_slots, swapped_slots, deleted_slots, offered_slots, raised_slots, TellsTruly, tells_on, other_port, one_told}
 
 -- ---- a device
 
@@ -110,6 +110,16 @@ reboot_goes image cut t d k = reboot_by image cut d _ _ (made_goes image cut d _
   slots = swapped_slots image d.slots k.slots;
   outbox = refl;
 })) k
+
+pub migration_goes : (image : List ℕ) (cut : Cut) (d : DeviceState) → IsSound image cut d
+    → Goes image cut d (after_migration d)
+unfolding after_migration
+migration_goes image cut d k = made_goes image cut d _ k (record {
+  config = refl;
+  session = k.session;
+  slots = raised_slots image d.config.hw d.slots k.slots;
+  outbox = refl;
+})
 
 -- ---- commands that no session hears
 
@@ -311,12 +321,19 @@ byte_at image at bytes = ⊎_elim (λ lt. bytes at 0 lt)
 firmware_small : (image : List ℕ) → All (λ b. b < 2 ^ 8) image → firmware_of image < 2 ^ 32
 unfolding firmware_of number_at
 firmware_small image bytes =
-    omega (arith, byte_at image 9 bytes, byte_at image 10 bytes, byte_at image 11 bytes, byte_at image 12 bytes)
+    let at : ℕ = 9 + further image in
+    omega (arith, byte_at image at bytes, byte_at image (at + 1) bytes, byte_at image (at + 1 + 1) bytes, byte_at image (at + 1 + 1 + 1) bytes)
 
 version_small : (image : List ℕ) (slots : Slots) → All (λ b. b < 2 ^ 8) image → HasSlots image slots
     → slots.version < 2 ^ 32
 version_small image slots bytes k =
     ⊎_elim (λ none. omega (arith, none)) (λ r. omega (arith, r.version, firmware_small image bytes)) k.running
+
+next_small : (image : List ℕ) (slots : Slots) → All (λ b. b < 2 ^ 8) image → HasSlots image slots
+    → (version : ℕ) → slots.next ≡ state.Valid version → version < 2 ^ 32
+next_small image slots bytes k version is =
+    ⊎_elim (λ none. absurd (let e : Path ImageState state.None (state.Valid version) = sym none ∙ is in cc))
+    (λ q. omega (arith, q.version version is, firmware_small image bytes)) k.next
 
 -- an image file's version is not that of a device that runs none
 version_some : (image : List ℕ) → is_image image ≡ true → firmware_of image ≡ 0 → ⊥
@@ -374,7 +391,7 @@ unfolding command_step upgrade_step
 upgrade_told image cut at m bytes port k = rw (port) (
   one_told image (IsRunning image m.slots) at.t (Sync (upgrade_answer m.slots.next))
       (upgrade_valid m.slots.next
-      (λ version is. omega (arith, (k.slots.next version is).0, firmware_small image bytes)))
+      (next_small image m.slots bytes k.slots))
       (upgrade_listed m.slots.next)
       (λ hardware same. absurd (upgrade_tells m.slots.next (firmware_of image) hardware same)),
   tt,
@@ -569,6 +586,6 @@ pub first_sound : (image : List ℕ) (cut : Cut) (config : DeviceConfig) → con
 first_sound image cut config small = record {
   hardware = small;
   session = tt;
-  slots = record { running = inl refl; next = λ version is. absurd cc };
+  slots = record { running = inl refl; next = inl refl };
   outbox = tt;
 }

@@ -5,7 +5,7 @@ use Rattle.std.specs.Result.{result_ok}
 use Rattle.wire_base.specs.declared.refusal.Direction.TheVariants.{Down as Downward}
 use Rattle.wire_base.specs.Rows.{IsListed}
 use Rattle.frag_encoder.specs.Encoding.{data_of}
-use Rattle.image_slots.specs.Image.{firmware_of, hardware_of}
+use Rattle.image_slots.specs.Image.{firmware_of, is_for}
 use Rattle.cast_wire.specs.declared.cmd.Cmd.{Cmd as CastCmd}
 use Rattle.cast_wire.specs.declared.cmd.Cmd.TheVariants as c
 use Rattle.sync_wire.specs.declared.cmd.Cmd.{Cmd as SyncCmd}
@@ -82,7 +82,7 @@ version_moves : (plan : Plan) (image : List ℕ) (x : Command)
     → stage_after plan image (stage.At request.Version) x ≡ Updated → ⊥
 unfolding stage_after
 version_moves plan image (Sync (s.DevVersionAns firmware hardware)) is =
-    unless_not request.Version (cond (hardware == hardware_of image) 0 1)
+    unless_not request.Version (cond (is_for image hardware) 0 1)
     (stage.At (cond (is_some plan.group) request.Group request.Fragments)) (not_at _) is
 version_moves plan image (Sync cmd) is = not_at request.Version is
 version_moves plan image (Cast cmd) is = not_at request.Version is

@@ -1,5 +1,5 @@
 -- The slots of a device that receives an image, and an uplink that tells a version truly.
-use Rattle.std.proofs.Common.{◌≡◌, ◌⊎◌, inl, inr, ⊎_elim, ℕ, ◌^◌, ◌<◌, Bool, true, false, cond, ◌==◌, List, [], ◌∷◌, length, All, Option, None, Some, IfSome, Ok, refl, sym, ap, ◌∙◌, subst}
+use Rattle.std.proofs.Common.{◌≡◌, ◌⊎◌, inl, inr, ⊎_elim, ℕ, ◌^◌, ◌<◌, Bool, true, false, cond, ◌&&◌, not, ◌==◌, List, [], ◌∷◌, length, All, Option, None, Some, IfSome, Ok, refl, sym, ap, ◌∙◌, subst}
 use Rattle.std.specs.List.{AllByRecursion}
 use Rattle.wire_base.specs.declared.refusal.Direction.TheVariants.{Up}
 use Rattle.wire_base.specs.Rows.{IsListed}
@@ -12,8 +12,8 @@ use Rattle.frag_session.specs.FirstMoment.{IsDecidedAtFirst}
 use Rattle.frag_session.proofs.FirstMoments.{decided_at_first}
 use Rattle.image_slots.specs.declared.view.ImageState.{ImageState}
 use Rattle.image_slots.specs.declared.view.ImageState.TheVariants as state
-use Rattle.image_slots.specs.Image.{is_image, firmware_of, hardware_of, image_state}
-use Rattle.image_slots.specs.Slots.{Slots, without_next, after_offer, after_swap, after_delete}
+use Rattle.image_slots.specs.Image.{is_image, is_unknown, is_for, firmware_of, image_state}
+use Rattle.image_slots.specs.Slots.{Slots, without_next, after_offer, after_swap, after_delete, after_raise}
 use Rattle.sync_wire.specs.declared.cmd.Cmd.TheVariants as s
 use Rattle.package_grammar.specs.declared.command.Command.{Command}
 use Rattle.package_grammar.specs.declared.command.Command.TheVariants.{Sync}
@@ -83,11 +83,15 @@ whole_is image cut (Some s) file bytes k is =
 
 -- ---- slots
 
--- what runs is nothing or the image, and a valid next is the image
+-- next is the image; where it is valid, so is its version
+pub record IsNext (image : List ℕ) (slots : Slots) : Type 0 where
+  pub version : (version : ℕ) → slots.next ≡ state.Valid version → version ≡ firmware_of image
+  pub bytes : slots.next_file ≡ image
+
+-- what runs is nothing or the image, and so is next
 pub record HasSlots (image : List ℕ) (slots : Slots) : Type 0 where
   pub running : (slots.version ≡ 0) ⊎ IsRunning image slots
-  pub next : (version : ℕ) → slots.next ≡ state.Valid version → (version ≡ firmware_of image) ×
-      (slots.next_file ≡ image)
+  pub next : (slots.next ≡ state.None) ⊎ IsNext image slots
 
 -- slots go on: what runs the image runs it
 pub record SlotsGo (image : List ℕ) (old new : Slots) : Type 0 where
@@ -101,9 +105,9 @@ valid_by true true firmware version is = cc
 valid_by true false firmware version is = absurd cc
 valid_by false b firmware version is = absurd cc
 
-valid_is : (file : List ℕ) (hw version : ℕ) → image_state file hw ≡ state.Valid version → version ≡ firmware_of file
+valid_is : (file : List ℕ) (hw formats version : ℕ) → image_state file hw formats ≡ state.Valid version → version ≡ firmware_of file
 unfolding image_state
-valid_is file hw version is = valid_by (is_image file) (hardware_of file == hw) (firmware_of file) version is
+valid_is file hw formats version is = valid_by (is_image file && not (is_unknown file formats)) (is_for file hw) (firmware_of file) version is
 
 pub same_slots : (image : List ℕ) (slots : Slots) → HasSlots image slots → SlotsGo image slots slots
 same_slots image slots k = record { has = k; runs = λ r. r }
@@ -112,30 +116,32 @@ emptied_slots : (image : List ℕ) (slots : Slots) → HasSlots image slots → 
 emptied_slots image slots k = record {
   has = record {
     running = ⊎_elim (λ none. inl none) (λ r. inr (record { version = r.version; bytes = r.bytes })) k.running;
-    next = λ version is. absurd cc;
+    next = inl refl;
   };
   runs = λ r. record { version = r.version; bytes = r.bytes };
 }
 
-swap_by : (image : List ℕ) (version : ℕ) (running : List ℕ) (next : ImageState) (file : List ℕ)
-    → HasSlots image (record { version = version; running = running; next = next; next_file = file })
-    → SlotsGo image (record { version = version; running = running; next = next; next_file = file })
-    (after_swap (record { version = version; running = running; next = next; next_file = file }))
+swap_by : (image : List ℕ) (formats version : ℕ) (running : List ℕ) (next : ImageState) (file : List ℕ)
+    → HasSlots image (record { formats = formats; version = version; running = running; next = next; next_file = file })
+    → SlotsGo image (record { formats = formats; version = version; running = running; next = next; next_file = file })
+    (after_swap (record { formats = formats; version = version; running = running; next = next; next_file = file }))
 unfolding after_swap
-swap_by image version running state.None file k = same_slots image _ k
-swap_by image version running state.Corrupt file k = same_slots image _ k
-swap_by image version running state.Incompatible file k = same_slots image _ k
-swap_by image version running (state.Valid held) file k =
-    let is = k.next held refl in
-    let now : IsRunning image (record { version = held; running = file; next = state.None; next_file = [] }) =
-    record { version = is.0; bytes = is.1 } in
-    record {
-      has = record { running = inr now; next = λ v none. absurd cc };
-      runs = λ r. now;
-    }
+swap_by image formats version running state.None file k = same_slots image _ k
+swap_by image formats version running state.Corrupt file k = same_slots image _ k
+swap_by image formats version running state.Incompatible file k = same_slots image _ k
+swap_by image formats version running (state.Valid held) file k = elim k.next [
+  | inl none ↦ absurd cc
+  | inr is ↦
+      let now : IsRunning image (record { formats = formats; version = held; running = file; next = state.None; next_file = [] }) =
+      record { version = is.version held refl; bytes = is.bytes } in
+      record {
+        has = record { running = inr now; next = inl refl };
+        runs = λ r. now;
+      }
+]
 
 pub swapped_slots : (image : List ℕ) (slots : Slots) → HasSlots image slots → SlotsGo image slots (after_swap slots)
-swapped_slots image slots k = swap_by image slots.version slots.running slots.next slots.next_file k
+swapped_slots image slots k = swap_by image slots.formats slots.version slots.running slots.next slots.next_file k
 
 deleted_by : (image : List ℕ) (slots : Slots) (b : Bool) → HasSlots image slots
     → SlotsGo image slots (cond b (without_next slots) slots)
@@ -156,13 +162,58 @@ offered_slots image hw false None slots is k = same_slots image slots k
 offered_slots image hw false (Some file) slots is k = record {
   has = record {
     running = ⊎_elim (λ none. inl none) (λ r. inr (record { version = r.version; bytes = r.bytes })) k.running;
-    next = λ version valid. (
-      valid_is file hw version valid ∙ ap firmware_of (is file refl),
-      is file refl,
-    );
+    next = inr (record {
+      version = λ version valid. valid_is file hw slots.formats version valid ∙ ap firmware_of (is file refl);
+      bytes = is file refl;
+    });
   };
   runs = λ r. record { version = r.version; bytes = r.bytes };
 }
+
+raised_by : (image : List ℕ) (hw formats version : ℕ) (running : List ℕ) (next : ImageState) (file : List ℕ)
+    → HasSlots image (record { formats = formats; version = version; running = running; next = next; next_file = file })
+    → (next ≡ state.None → ⊥) → IsNext image (record { formats = 2; version = version; running = running; next = image_state file hw 2; next_file = file })
+raised_by image hw formats version running next file k some = elim k.next [
+  | inl none ↦ absurd (some none)
+  | inr is ↦ record {
+    version = λ v valid. valid_is file hw 2 v valid ∙ ap firmware_of is.bytes;
+    bytes = is.bytes;
+  }
+]
+
+again : (image : List ℕ) (hw formats version : ℕ) (running : List ℕ) (next : ImageState) (file : List ℕ)
+    → HasSlots image (record { formats = formats; version = version; running = running; next = next; next_file = file })
+    → SlotsGo image (record { formats = formats; version = version; running = running; next = next; next_file = file })
+    (after_raise hw (record { formats = formats; version = version; running = running; next = next; next_file = file }))
+unfolding after_raise
+again image hw formats version running state.None file k = record {
+  has = record { running = ⊎_elim (λ none. inl none) (λ r. inr (record { version = r.version; bytes = r.bytes })) k.running; next = inl refl };
+  runs = λ r. record { version = r.version; bytes = r.bytes };
+}
+again image hw formats version running state.Corrupt file k = record {
+  has = record {
+    running = ⊎_elim (λ none. inl none) (λ r. inr (record { version = r.version; bytes = r.bytes })) k.running;
+    next = inr (raised_by image hw formats version running state.Corrupt file k (λ none. cc));
+  };
+  runs = λ r. record { version = r.version; bytes = r.bytes };
+}
+again image hw formats version running state.Incompatible file k = record {
+  has = record {
+    running = ⊎_elim (λ none. inl none) (λ r. inr (record { version = r.version; bytes = r.bytes })) k.running;
+    next = inr (raised_by image hw formats version running state.Incompatible file k (λ none. cc));
+  };
+  runs = λ r. record { version = r.version; bytes = r.bytes };
+}
+again image hw formats version running (state.Valid held) file k = record {
+  has = record {
+    running = ⊎_elim (λ none. inl none) (λ r. inr (record { version = r.version; bytes = r.bytes })) k.running;
+    next = inr (raised_by image hw formats version running (state.Valid held) file k (λ none. cc));
+  };
+  runs = λ r. record { version = r.version; bytes = r.bytes };
+}
+
+pub raised_slots : (image : List ℕ) (hw : ℕ) (slots : Slots) → HasSlots image slots → SlotsGo image slots (after_raise hw slots)
+raised_slots image hw slots k = again image hw slots.formats slots.version slots.running slots.next slots.next_file k
 
 -- ---- what is told of a version
 

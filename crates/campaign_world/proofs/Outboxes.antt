@@ -3,10 +3,11 @@ use Rattle.std.proofs.Common.{◌≡◌, ℕ, ◌<◌, List, [], ◌∷◌, ◌+
 use Rattle.device_core.specs.declared.uplink.Uplink.{Uplink}
 use Rattle.device_core.specs.Device.{DeviceState}
 use Rattle.device_core.specs.Deliver.{taking}
+use Rattle.device_core.specs.Firmware.{after_migration}
 use Rattle.device_core.specs.HeldDevice.{HeldDevice, DeviceStands, Becomes, TakesOldest}
 use Rattle.campaign_world.specs.declared.numbered.MadeUplink.{MadeUplink}
 use Rattle.campaign_world.specs.Making.{made_by}
-use Rattle.campaign_world.specs.HeldWorld.{DeviceRests}
+use Rattle.campaign_world.specs.HeldWorld.{DeviceRests, resting}
 
 -- the outbox of a record is the one that is held
 pub outbox_is : (held : HeldDevice) (d : DeviceState) → DeviceStands held d → d.outbox ≡ held.outbox
@@ -45,3 +46,12 @@ one_moved id now after all old new u takes is so_far =
 
 pub all_moved : (id : ℕ) (now all : List MadeUplink) (old : List Uplink) → old ≡ [] → now ++ map (λ (x : Uplink). made_by id x) old ≡ all → now ≡ all
 all_moved id now all old none so_far = sym (append-nil now) ∙ ap (λ (us : List Uplink). now ++ map (λ (x : Uplink). made_by id x) us) (sym none) ∙ so_far
+
+-- a device that rests and knows both image formats from now on rests
+pub rests_raised : (old new : HeldDevice) (d : DeviceState) → Becomes old new after_migration → DeviceRests old d → DeviceRests new (resting (after_migration d))
+unfolding after_migration
+rests_raised old new d becomes rests =
+    let stands : DeviceStands new (after_migration d) = becomes d rests.stands in
+    let none : (after_migration d).outbox ≡ [] = outbox_is old d rests.stands ∙ rests.empty in
+    let empty : new.outbox ≡ [] = sym (outbox_is new (after_migration d) stands) ∙ none in
+    record { stands = subst (λ (o : List Uplink). DeviceStands new (record (after_migration d) { outbox = o })) none stands; empty = empty }

@@ -1,9 +1,10 @@
 -- What an event makes of a world that stands for a campaign.
-use Rattle.std.proofs.Common.{◌≡◌, ℕ, ◌≤◌, ◌+◌, ◌-◌, Bool, true, false, cond, ◌==◌, List, [], ◌∷◌, ◌++◌, length, slice_get, Option, Some, None, Result, Ok, Err, is_ok, is_some, refl, sym, ap, ◌∙◌, subst, arith}
+use Rattle.std.proofs.Common.{◌≡◌, ℕ, ◌≤◌, ◌+◌, ◌-◌, Bool, true, false, cond, ◌==◌, List, [], ◌∷◌, ◌++◌, length, slice_get, Option, Some, None, Result, Ok, Err, is_ok, is_some, refl, sym, ap, ◌∙◌, subst, append-nil, arith}
 use Rattle.std.proofs.lemmas.Bool.Decides.{nat_tests}
 use Rattle.std.specs.Option.{option_map}
 use Rattle.device_core.specs.Device.{DeviceState, first_device}
 use Rattle.device_core.specs.Deliver.{delivery, waking}
+use Rattle.device_core.specs.Firmware.{after_migration}
 use Rattle.device_core.specs.HeldDevice.{HeldDevice, DeviceStands}
 use Rattle.device_core.specs.declared.config.DeviceConfig.{DeviceConfig}
 use Rattle.campaign_server.specs.Plan.{Plan}
@@ -26,10 +27,10 @@ use Rattle.script_lines.specs.declared.forms.Form.{Form}
 use Rattle.script_lines.specs.declared.forms.Form.TheVariants as form
 use Rattle.campaign_world.specs.Causes.{is_event_or_end}
 use Rattle.campaign_world.specs.World.{WorldState}
-use Rattle.campaign_world.specs.Making.{with_plan, with_sent, with_device, after_answer, after_up, after_form, after_wake, after_down, raw_down, after_raw, at_events}
+use Rattle.campaign_world.specs.Making.{with_plan, with_sent, with_device, after_answer, after_up, after_form, after_wake, after_migrate, after_down, raw_down, after_raw, at_events}
 use Rattle.campaign_world.specs.HeldWorld.{HeldWorld, WorldStands, KeepsEnds, DeviceRests, DevicesRest, OneComesToRest, OnesAreNumbered, world_of, server_of}
 use Rattle.campaign_world.specs.WorldInside.{ServerIs, IsBuilt}
-use Rattle.campaign_world.proofs.Zips.{zip_some, zip_more}
+use Rattle.campaign_world.proofs.Zips.{zip_some, zip_more, zip_back}
 
 -- only the number of devices counts for a server
 pub built_alike : (image : List ℕ) (old new : List HeldDevice) (server : Option ServerState) → length new ≡ length old → ServerIs image old server → ServerIs image new server
@@ -85,6 +86,21 @@ woken_of_held held ds new_devices new_uplinks device all first last reaches =
     let one = zip_some DeviceRests held.devices ds (device - 1) all (omega (arith, first, last)) in
     rw (numbered_at ds device one.0 first one.1) (event_of_held held ds new_devices new_uplinks device _ one.0 all one.1 reaches)
 
+migrated_of_held : (held : HeldWorld) (ds : List DeviceState) (new_devices : List HeldDevice) (device : ℕ)
+    → DevicesRest held.devices ds → 1 ≤ device → device ≤ length held.devices → OneComesToRest after_migration device held.devices new_devices
+    → WorldStands (Behind held new_devices held.uplinks) (at_events (after_migrate (world_of held ds) device (numbered ds device)))
+unfolding after_migration
+migrated_of_held held ds new_devices device all first last raised =
+    let one = zip_some DeviceRests held.devices ds (device - 1) all (omega (arith, first, last)) in
+    let reaches : Reaches held new_devices held.uplinks device after_migration = record {
+      devices = raised;
+      uplinks = λ es d stand there.
+          let rests = zip_back DeviceRests held.devices es (device - 1) d stand there in
+          let none : d.outbox ≡ [] = outbox_is rests.0 d rests.1.stands ∙ rests.1.empty in
+          rw (none) (sym (append-nil held.uplinks));
+    } in
+    rw (numbered_at ds device one.0 first one.1) (event_of_held held ds new_devices held.uplinks device after_migration one.0 all one.1 reaches)
+
 struck_of_held : (held : HeldWorld) (ds : List DeviceState) (new_devices : List HeldDevice) (new_uplinks : List MadeUplink) (device word : ℕ) (down : Downlink)
     → DevicesRest held.devices ds → 1 ≤ device → device ≤ length held.devices
     → Reaches held new_devices new_uplinks device (λ d. (delivery held.time word (held.lines + 1) down d).device)
@@ -112,6 +128,15 @@ wake_step held world new_devices new_uplinks device stands first last reaches =
     subst (λ (w : WorldState). WorldStands (Behind held new_devices new_uplinks)
     (at_events (after_wake w device (numbered w.devices device)))) (sym stands.rest)
     (woken_of_held held world.devices new_devices new_uplinks device stands.devices first last reaches)
+
+pub migrate_step : (held : HeldWorld) (world : WorldState) (new_devices : List HeldDevice) (device : ℕ)
+    → WorldStands held world → 1 ≤ device → device ≤ length held.devices → OneComesToRest after_migration device held.devices new_devices
+    → WorldStands (record held { section = section.Events; devices = new_devices })
+    (at_events (after_migrate world device (numbered world.devices device)))
+migrate_step held world new_devices device stands first last raised =
+    subst (λ (w : WorldState). WorldStands (Behind held new_devices held.uplinks)
+    (at_events (after_migrate w device (numbered w.devices device)))) (sym stands.rest)
+    (migrated_of_held held world.devices new_devices device stands.devices first last raised)
 
 pub down_step : (held : HeldWorld) (world : WorldState) (new_devices : List HeldDevice) (new_uplinks : List MadeUplink) (number device word : ℕ) (sent : SentPayload)
     → WorldStands held world → 1 ≤ device → device ≤ length held.devices → numbered held.sent number ≡ Some sent
@@ -217,6 +242,11 @@ up_alike : (world : WorldState) (made : Option MadeUplink) → at_events (after_
 up_alike world None = refl
 up_alike world (Some made) = answer_alike world made.device (uplink_step world.server made.device made.uplink.port made.uplink.payload world.time) _ refl
 
+migrate_alike : (world : WorldState) (device : ℕ) (d : Option DeviceState) → at_events (after_migrate (at_events world) device d) ≡ at_events (after_migrate world device d)
+unfolding with_device
+migrate_alike world device None = refl
+migrate_alike world device (Some d) = refl
+
 wake_alike : (world : WorldState) (device : ℕ) (d : Option DeviceState) → at_events (after_wake (at_events world) device d) ≡ at_events (after_wake world device d)
 unfolding with_device
 wake_alike world device None = refl
@@ -229,9 +259,10 @@ event_alike world (form.Image frag_size parity) event = absurd cc
 event_alike world (form.Group addr key min max) event = absurd cc
 event_alike world (form.WindowC start timeout freq dr) event = absurd cc
 event_alike world (form.WindowB start periodicity timeout freq dr) event = absurd cc
-event_alike world (form.Device id class hw rows offset key descriptor) event = absurd cc
+event_alike world (form.Device id class hw rows offset key descriptor v1) event = absurd cc
 event_alike world (form.At time) event = refl
 event_alike world (form.Wake device) event = wake_alike world device (numbered world.devices device)
+event_alike world (form.Migrate device) event = migrate_alike world device (numbered world.devices device)
 event_alike world (form.Ask device) event = sent_alike world world.server (Some device) (request_of world.server device)
 event_alike world form.Frag event = sent_alike world (after_fragment world.server) None (result_ok (next_fragment world.server))
 event_alike world form.Status event = sent_alike world (after_status_to_all world.server) None (status_to_all world.server)

@@ -16,7 +16,7 @@ use Rattle.device_core.specs.Device.{DeviceState}
 use Rattle.device_core.specs.Deliver.{waking}
 use Rattle.campaign_server.specs.Server.{numbered}
 use Rattle.script_lines.specs.declared.forms.Form.{Form}
-use Rattle.script_lines.specs.declared.forms.Form.TheVariants.{Device, Wake, Down, Raw}
+use Rattle.script_lines.specs.declared.forms.Form.TheVariants.{Device, Wake, Migrate, Down, Raw}
 use Rattle.script_lines.specs.Lines.{lines_of}
 use Rattle.script_lines.specs.Forms.{form_of}
 use Rattle.campaign_world.specs.declared.numbered.SentPayload.{SentPayload}
@@ -25,11 +25,12 @@ use Rattle.campaign_world.specs.Making.{raw_down, device_of}
 use Rattle.campaign_world.specs.Script.{campaign_of}
 use Rattle.campaign_world.specs.Report.{same_word, verdict_text, session_text, session_line}
 use Rattle.campaign_world.specs.Recovery.{file_by, file_of, recovery_by, recovery}
-use Rattle.campaign_world.specs.Independence.{Event, Wakes, Receives, after_event, device_in, first_devices, time_after, reception, event_in, history_of}
+use Rattle.campaign_world.specs.Independence.{Event, Wakes, Receives, Migrates, after_event, device_in, first_devices, time_after, reception, event_in, history_of}
 use Rattle.campaign_world.specs.Verdicts.{CameInTurn, Carries, saying, IsToldOf, IsSessionOf, Verdicts}
 use Rattle.campaign_world.proofs.LineItems.{if_some, numbered_next, within}
 use Rattle.campaign_world.proofs.Independence.{devices_are_independent, folded}
-use Rattle.campaign_world.proofs.HeardSessions.{IsFine, of_one, AreFine, AreCarried, fine_later, delivery_fine, waking_fine}
+use Rattle.campaign_world.proofs.HeardSessions.{IsFine, of_one, AreFine, AreCarried, fine_later, delivery_fine, waking_fine, migration_fine}
+use Rattle.device_core.specs.Firmware.{after_migration}
 
 -- ---- what lines let happen
 
@@ -55,9 +56,14 @@ no_waking : (time t v l : ℕ) (down : Downlink) (b : Bool) → cond b (Some (Wa
 no_waking time t v l down true is = cc
 no_waking time t v l down false is = cc
 
+no_migration : (t v l : ℕ) (down : Downlink) (b : Bool) → cond b (Some Migrates) None ≡ Some (Receives t v l down) → ⊥
+no_migration t v l down true is = cc
+no_migration t v l down false is = cc
+
 at_its_line : (id : ℕ) (sent : List SentPayload) (time n t v l : ℕ) (down : Downlink) (form : Option Form)
     → event_in id sent time n form ≡ Some (Receives t v l down) → IsAt time n t l
 at_its_line id sent time n t v l down (Some (Wake device)) is = absurd (no_waking time t v l down (device == id) is)
+at_its_line id sent time n t v l down (Some (Migrate device)) is = absurd (no_migration t v l down (device == id) is)
 at_its_line id sent time n t v l down (Some (Down number device word)) is =
     by_test time n t v l down (reception time word n (numbered sent number)) (device == id)
     (sent_at time word n t v l down (numbered sent number)) is
@@ -92,6 +98,9 @@ happens : (lines : List (List ℕ)) (sent : List SentPayload) (id time k : ℕ) 
 happens lines sent id time k line d (Wakes t) line_is is h =
     fine_later (Carries lines sent id) k (k + 1) (record (waking t d).device { outbox = [] }) (omega arith)
     (waking_fine (Carries lines sent id) k t d h)
+happens lines sent id time k line d Migrates line_is is h =
+    fine_later (Carries lines sent id) k (k + 1) (record (after_migration d) { outbox = [] }) (omega arith)
+    (migration_fine (Carries lines sent id) k d h)
 happens lines sent id time k line d (Receives t v l down) line_is is h =
     let at = at_its_line id sent time (k + 1) t v l down (form_of line) is in
     let carried = carried_by lines sent id time (k + 1) t v l down line line_is is at in
@@ -123,9 +132,9 @@ history_fine lines sent id time k (line ∷ rest) d left h =
 fresh_by : (carries : ℕ → Command → Type 0) (forms : List (Option Form)) (n : ℕ) (d : DeviceState)
     → slice_get (filter_map device_in forms) n ≡ Some d → AreFine carries 0 d
 fresh_by carries [] n d is = absurd cc
-fresh_by carries (Some (Device id class hw rows offset key descriptor) ∷ forms) zero d is =
-    let same : device_of class hw rows offset key descriptor ≡ d = cc in subst (AreFine carries 0) same (tt, tt, tt, tt)
-fresh_by carries (Some (Device id class hw rows offset key descriptor) ∷ forms) (suc n) d is = fresh_by carries forms n d is
+fresh_by carries (Some (Device id class hw rows offset key descriptor v1) ∷ forms) zero d is =
+    let same : device_of class hw rows offset key descriptor v1 ≡ d = cc in subst (AreFine carries 0) same (tt, tt, tt, tt)
+fresh_by carries (Some (Device id class hw rows offset key descriptor v1) ∷ forms) (suc n) d is = fresh_by carries forms n d is
 fresh_by carries (form ∷ forms) n d is = fresh_by carries forms n d is
 
 fresh_at : (carries : ℕ → Command → Type 0) (forms : List (Option Form)) (n : ℕ) (d : DeviceState) (b : Bool)

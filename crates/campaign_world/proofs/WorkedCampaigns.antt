@@ -8,7 +8,7 @@ use Rattle.cast_wire.specs.Tests as cast
 use Rattle.cast_wire.specs.Reading.{fragment_down, fragment_up, group_down, group_up}
 use Rattle.sync_wire.specs.Tests as sync
 use Rattle.sync_wire.specs.Reading.{clock_down, clock_up, firmware_down, firmware_up}
-use Rattle.image_slots.specs.Image.{hardware_of, firmware_of}
+use Rattle.image_slots.specs.Image.{format_of, further, lowest_of, highest_of, is_for, firmware_of}
 use Rattle.image_slots.specs.Slots.{after_swap}
 use Rattle.package_grammar.specs.Reading.{named_at, command_at, is_known, stop_at, read_from, reading_of}
 use Rattle.class_windows.specs.Open.{is_after_uplink}
@@ -67,7 +67,7 @@ refused_so = record {
 }
 
 pub reported_so : AreReported
-unfolding digits int_wrap campaign_of read_lines read_line after_line cause_of form_cause in_range after_form with_device report_of device_parts view_of lines_of words_of word decimal_of key_of hex_number_of hex_bytes_of decode_pairs form_of next_fragment after_fragment status_to_all after_status_to_all request_of request_at hardware_of firmware_of number_at uplink_step read_uplink reading_of read_from command_at named_at stop_at is_known sync.is_known sync.samples cast.is_known cast.samples clock_up clock_down firmware_up firmware_down fragment_up fragment_down group_up group_down stage_after_all stage_after time_answer delivery heard_delivery read_delivery message_delivery after_due_reboot after_swap hears is_after_uplink after_commands step command_step after_answers answer_step version_step waking time_asking
+unfolding digits int_wrap campaign_of read_lines read_line after_line cause_of form_cause in_range after_form with_device report_of device_parts view_of lines_of words_of word decimal_of key_of hex_number_of hex_bytes_of decode_pairs form_of next_fragment after_fragment status_to_all after_status_to_all request_of request_at is_for lowest_of highest_of further format_of firmware_of number_at uplink_step read_uplink reading_of read_from command_at named_at stop_at is_known sync.is_known sync.samples cast.is_known cast.samples clock_up clock_down firmware_up firmware_down fragment_up fragment_down group_up group_down stage_after_all stage_after time_answer delivery heard_delivery read_delivery message_delivery after_due_reboot after_swap hears is_after_uplink after_commands step command_step after_answers answer_step version_step waking time_asking
 reported_so = record { clock = refl; version = refl; numbers = refl; others = refl; group = refl; strangers = refl }
 
 pub words_are : AreWords

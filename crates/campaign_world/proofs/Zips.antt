@@ -76,6 +76,14 @@ zip_some R (a ∷ xs) [] i all low = absurd all
 zip_some R (a ∷ xs) (b ∷ ys) zero all low = (b, refl)
 zip_some R (a ∷ xs) (b ∷ ys) (suc i) all low = zip_some R xs ys i all.1 (omega arith)
 
+-- the one for which another stands
+pub zip_back : {A B : Type 0} (R : A → B → Type 0) (xs : List A) (ys : List B) (i : ℕ) (y : B) → AllZip R xs ys → slice_get ys i ≡ Some y → (x : A) × R x y
+zip_back R [] [] i y all is = absurd cc
+zip_back R [] (b ∷ ys) i y all is = absurd all
+zip_back R (a ∷ xs) [] i y all is = absurd all
+zip_back R (a ∷ xs) (b ∷ ys) zero y all is = let same : b ≡ y = cc in (a, subst (λ z. R a z) same all.0)
+zip_back R (a ∷ xs) (b ∷ ys) (suc i) y all is = zip_back R xs ys i y all.1 is
+
 -- ---- one list
 
 pub all_more : {A : Type 0} (P : A → Type 0) (xs : List A) (x : A) → AllByRecursion P xs → P x → AllByRecursion P (xs ++ x ∷ [])

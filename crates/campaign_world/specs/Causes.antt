@@ -6,7 +6,7 @@ use Rattle.frag_encoder.specs.Encoding.{nb_frag_of}
 use Rattle.campaign_server.specs.Server.{ServerState, numbered}
 use Rattle.campaign_server.specs.Fragments.{next_fragment, status_to_all}
 use Rattle.script_lines.specs.declared.forms.Form.{Form}
-use Rattle.script_lines.specs.declared.forms.Form.TheVariants.{Header, Image, Group, WindowC, WindowB, Device, At, Wake, Ask, Frag, Status, Down, Raw, Up}
+use Rattle.script_lines.specs.declared.forms.Form.TheVariants.{Header, Image, Group, WindowC, WindowB, Device, At, Wake, Migrate, Ask, Frag, Status, Down, Raw, Up}
 use Rattle.campaign_world.specs.declared.faults.LineWhy.{LineWhy}
 use Rattle.campaign_world.specs.declared.faults.LineWhy.TheVariants as why
 use Rattle.campaign_world.specs.declared.section.Section.{Section}
@@ -27,7 +27,7 @@ is_event_or_end (Image frag_size parity) = false
 is_event_or_end (Group addr key min max) = false
 is_event_or_end (WindowC start timeout freq dr) = false
 is_event_or_end (WindowB start periodicity timeout freq dr) = false
-is_event_or_end (Device id class hw rows offset key descriptor) = false
+is_event_or_end (Device id class hw rows offset key descriptor v1) = false
 is_event_or_end form = true
 
 -- the form may come here
@@ -35,11 +35,11 @@ abbrev pub may_come : Section → Form → Bool
 may_come section.Header Header = true
 may_come section.Image (Image frag_size parity) = true
 may_come section.Group (Group addr key min max) = true
-may_come section.Group (Device id class hw rows offset key descriptor) = true
+may_come section.Group (Device id class hw rows offset key descriptor v1) = true
 may_come section.Window (WindowC start timeout freq dr) = true
 may_come section.Window (WindowB start periodicity timeout freq dr) = true
-may_come section.Device (Device id class hw rows offset key descriptor) = true
-may_come section.Devices (Device id class hw rows offset key descriptor) = true
+may_come section.Device (Device id class hw rows offset key descriptor v1) = true
+may_come section.Devices (Device id class hw rows offset key descriptor v1) = true
 may_come section.Devices form = is_event_or_end form
 may_come section.Events form = is_event_or_end form
 may_come here form = false
@@ -54,7 +54,7 @@ has_ended here = false
 -- an image of this length has at most 4,096 fragments; behind so many devices the ID is the next
 abbrev pub fits_script : (len count : ℕ) → Form → Bool
 fits_script len count (Image frag_size parity) = nat_le (nb_frag_of len frag_size) max_pieces
-fits_script len count (Device id class hw rows offset key descriptor) = id == count + 1
+fits_script len count (Device id class hw rows offset key descriptor v1) = id == count + 1
 fits_script len count form = true
 
 -- ---- device, unsent, time
@@ -65,6 +65,7 @@ is_device count device = nat_le 1 device && nat_le device count
 
 abbrev pub names_device : (count : ℕ) → Form → Bool
 names_device count (Wake device) = is_device count device
+names_device count (Migrate device) = is_device count device
 names_device count (Ask device) = is_device count device
 names_device count (Down number device word) = is_device count device
 names_device count (Raw device port payload word) = is_device count device

@@ -1,6 +1,6 @@
 -- The headline in the field's own words: what the session of a campaign hears, when it is decided, and what the report says.
 -- (This project's profile.)
-use Rattle.std.specs.Prelude.{◌≡◌, ◌≢◌, ◌⊎◌, ℕ, ◌+◌, ◌-◌, ◌^◌, ◌<◌, ◌≤◌, true, false, List, [], ◌∷◌, ◌++◌, length, min, take, drop, All, codes, Option, Some, None, Result, Ok}
+use Rattle.std.specs.Prelude.{◌≡◌, ◌≢◌, ◌⊎◌, ℕ, Bool, ◌+◌, ◌-◌, ◌^◌, ◌<◌, ◌≤◌, true, false, List, [], ◌∷◌, ◌++◌, length, min, take, drop, All, codes, Option, Some, None, Result, Ok}
 use Rattle.std.specs.List.{AllByRecursion}
 use Rattle.std.specs.Fmt.{decimal}
 use Rattle.frag_model.specs.Limits.{max_parity_index}
@@ -21,6 +21,7 @@ use Rattle.device_core.specs.declared.config.Class.TheVariants as device_class
 use Rattle.device_core.specs.declared.config.DeviceConfig.{DeviceConfig}
 use Rattle.device_core.specs.SessionTable.{SessionTable}
 use Rattle.device_core.specs.Device.{DeviceState, max_area}
+use Rattle.campaign_world.specs.Making.{formats_of}
 use Rattle.device_core.specs.ClassSessions.{hears}
 use Rattle.device_core.specs.Firmware.{after_due_reboot}
 use Rattle.device_core.specs.Deliver.{via_of}
@@ -60,23 +61,24 @@ IsClass class.A k = k ≡ device_class.A
 IsClass class.C k = k ≡ device_class.C
 
 -- line n of the script is the line of device id, which says this configuration
-pub record IsConfigured (lines : List (List ℕ)) (id : ℕ) (config : DeviceConfig) (n : ℕ) (line : List ℕ) (class : Class) (hw rows offset : ℕ) (key : List ℕ) (descriptor : Option ℕ) : Type 0 where
+pub record IsConfigured (lines : List (List ℕ)) (id : ℕ) (config : DeviceConfig) (n : ℕ) (line : List ℕ) (class : Class) (hw rows offset : ℕ) (key : List ℕ) (descriptor : Option ℕ) (v1 : Bool) : Type 0 where
   pub line_is : numbered lines n ≡ Some line
-  pub form : form_of line ≡ Some (Device id class hw rows offset key descriptor)
+  pub form : form_of line ≡ Some (Device id class hw rows offset key descriptor v1)
   pub class_is : IsClass class config.class
   pub hw_is : config.hw ≡ hw
   pub rows_are : config.rows ≡ rows
   pub offset_is : config.offset ≡ offset
   pub key_is : config.key ≡ key
   pub descriptor_is : config.descriptor ≡ descriptor
+  pub formats_are : config.formats ≡ formats_of v1
   pub sessions_are : config.sessions ≡ 4
   pub groups_are : config.groups ≡ 4
   pub area_is : config.area ≡ max_area
 
 -- the configuration is that of the device's line
 abbrev pub IsOfItsLine : List (List ℕ) → (id : ℕ) → DeviceConfig → Type 0
-IsOfItsLine lines id config = (n : ℕ) × (line : List ℕ) × (class : Class) × (hw : ℕ) × (rows : ℕ) × (offset : ℕ) × (key : List ℕ) × (descriptor : Option ℕ)
-    × IsConfigured lines id config n line class hw rows offset key descriptor
+IsOfItsLine lines id config = (n : ℕ) × (line : List ℕ) × (class : Class) × (hw : ℕ) × (rows : ℕ) × (offset : ℕ) × (key : List ℕ) × (descriptor : Option ℕ) × (v1 : Bool)
+    × IsConfigured lines id config n line class hw rows offset key descriptor v1
 
 -- the session is the one that the server sets up for the image on a device with so many rows, and hears nothing but the
 -- image's fragments

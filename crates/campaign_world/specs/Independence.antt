@@ -5,9 +5,10 @@ use Rattle.std.specs.Prelude.{◌≡◌, ℕ, ◌+◌, ◌==◌, if◌then◌els
 use Rattle.package_grammar.specs.declared.downlink.Downlink.{Downlink}
 use Rattle.device_core.specs.Device.{DeviceState}
 use Rattle.device_core.specs.Deliver.{delivery, waking}
+use Rattle.device_core.specs.Firmware.{after_migration}
 use Rattle.campaign_server.specs.Server.{numbered}
 use Rattle.script_lines.specs.declared.forms.Form.{Form}
-use Rattle.script_lines.specs.declared.forms.Form.TheVariants.{Device, At, Wake, Down, Raw}
+use Rattle.script_lines.specs.declared.forms.Form.TheVariants.{Device, At, Wake, Migrate, Down, Raw}
 use Rattle.script_lines.specs.Lines.{lines_of}
 use Rattle.script_lines.specs.Forms.{form_of}
 use Rattle.campaign_world.specs.declared.numbered.SentPayload.{SentPayload}
@@ -17,16 +18,19 @@ use Rattle.campaign_world.specs.Script.{campaign_of}
 
 -- ---- what happens at a device
 
--- at a time in ms it wakes, or a payload reaches it, with a random word and at a line of the script
+-- at a time in ms it wakes, or a payload reaches it, with a random word and at a line of the script; or it knows both image
+-- formats from now on
 pub data Event : Type 0 where
   Wakes : (time : ℕ) → Event
   Receives : (time word line : ℕ) → Downlink → Event
+  Migrates : Event
 
 -- behind each event all its uplinks are taken
 abbrev pub uplinks_taken : DeviceState → DeviceState
 uplinks_taken device = record device { outbox = [] }
 
 abbrev pub after_event : DeviceState → Event → DeviceState
+after_event device Migrates = uplinks_taken (after_migration device)
 after_event device (Wakes time) = uplinks_taken (waking time device).device
 after_event device (Receives time word line down) = uplinks_taken (delivery time word line down device).device
 
@@ -34,7 +38,7 @@ after_event device (Receives time word line down) = uplinks_taken (delivery time
 
 -- a device line gives a device, as it is first
 abbrev pub device_in : Option Form → Option DeviceState
-device_in (Some (Device id class hw rows offset key descriptor)) = Some (device_of class hw rows offset key descriptor)
+device_in (Some (Device id class hw rows offset key descriptor v1)) = Some (device_of class hw rows offset key descriptor v1)
 device_in form = None
 
 -- the devices of a script, in the order of their IDs, as they are first
@@ -50,10 +54,11 @@ time_after now form = now
 abbrev pub reception : (time word line : ℕ) → Option SentPayload → Option Event
 reception time word line sent = option_map (λ payload. Receives time word line payload.down) sent
 
--- what a line with this number lets happen at device id, at this time: a wake line, a down line and a raw line do that name
+-- what a line with this number lets happen at device id, at this time: a wake line, a migrate line, a down line and a raw line do that name
 -- it
 abbrev pub event_in : (id : ℕ) → List SentPayload → (time line : ℕ) → Option Form → Option Event
 event_in id sent time line (Some (Wake device)) = if device == id then Some (Wakes time) else None
+event_in id sent time line (Some (Migrate device)) = if device == id then Some Migrates else None
 event_in id sent time line (Some (Down number device word)) =
     if device == id then reception time word line (numbered sent number) else None
 event_in id sent time line (Some (Raw device port payload word)) =

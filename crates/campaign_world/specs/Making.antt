@@ -1,5 +1,5 @@
 -- What a form that is not refused makes of a campaign (this project's profile).
-use Rattle.std.specs.Prelude.{ℕ, ◌+◌, ◌-◌, List, [], ◌∷◌, ◌++◌, map, slice_set, Option, Some, None, Result, Ok, Err}
+use Rattle.std.specs.Prelude.{ℕ, ◌+◌, ◌-◌, Bool, true, false, List, [], ◌∷◌, ◌++◌, map, slice_set, Option, Some, None, Result, Ok, Err}
 use Rattle.std.specs.Result.{result_ok}
 use Rattle.wire_base.specs.declared.refusal.Refusal.{Refusal}
 use Rattle.package_grammar.specs.declared.downlink.Downlink.{Downlink}
@@ -10,6 +10,7 @@ use Rattle.device_core.specs.declared.config.DeviceConfig.{DeviceConfig}
 use Rattle.device_core.specs.declared.uplink.Uplink.{Uplink}
 use Rattle.device_core.specs.Device.{DeviceState, first_device, max_area}
 use Rattle.device_core.specs.Deliver.{delivery, waking}
+use Rattle.device_core.specs.Firmware.{after_migration}
 use Rattle.campaign_server.specs.declared.plan.Kind.{Kind}
 use Rattle.campaign_server.specs.declared.plan.Kind.TheVariants as kind
 use Rattle.campaign_server.specs.Plan.{Plan}
@@ -20,7 +21,7 @@ use Rattle.campaign_server.specs.Uplinks.{UplinkStep, uplink_step}
 use Rattle.script_lines.specs.declared.forms.Class.{Class}
 use Rattle.script_lines.specs.declared.forms.Class.TheVariants as class
 use Rattle.script_lines.specs.declared.forms.Form.{Form}
-use Rattle.script_lines.specs.declared.forms.Form.TheVariants.{Header, Image, Group, WindowC, WindowB, Device, At, Wake, Ask, Frag, Status, Down, Raw, Up, End}
+use Rattle.script_lines.specs.declared.forms.Form.TheVariants.{Header, Image, Group, WindowC, WindowB, Device, At, Wake, Migrate, Ask, Frag, Status, Down, Raw, Up, End}
 use Rattle.campaign_world.specs.declared.section.Section.{Section}
 use Rattle.campaign_world.specs.declared.section.Section.TheVariants as section
 use Rattle.campaign_world.specs.declared.numbered.SentPayload.{SentPayload}
@@ -41,11 +42,17 @@ abbrev pub class_of : Class → DeviceClass
 class_of class.A = device_class.A
 class_of class.C = device_class.C
 
+-- a device knows image format 1 alone, or both
+abbrev pub formats_of : (v1 : Bool) → ℕ
+formats_of true = 1
+formats_of false = 2
+
 -- a device has 4 sessions, 4 groups, and an area for the largest file
-abbrev pub config_of : Class → (hw rows offset : ℕ) → (key : List ℕ) → (descriptor : Option ℕ) → DeviceConfig
-config_of class hw rows offset key descriptor = record {
+abbrev pub config_of : Class → (hw rows offset : ℕ) → (key : List ℕ) → (descriptor : Option ℕ) → (v1 : Bool) → DeviceConfig
+config_of class hw rows offset key descriptor v1 = record {
   class = class_of class;
   hw = hw;
+  formats = formats_of v1;
   rows = rows;
   offset = offset;
   key = key;
@@ -55,8 +62,8 @@ config_of class hw rows offset key descriptor = record {
   area = max_area;
 }
 
-abbrev pub device_of : Class → (hw rows offset : ℕ) → (key : List ℕ) → (descriptor : Option ℕ) → DeviceState
-device_of class hw rows offset key descriptor = first_device (config_of class hw rows offset key descriptor)
+abbrev pub device_of : Class → (hw rows offset : ℕ) → (key : List ℕ) → (descriptor : Option ℕ) → (v1 : Bool) → DeviceState
+device_of class hw rows offset key descriptor v1 = first_device (config_of class hw rows offset key descriptor v1)
 
 -- ---- what goes down
 
@@ -83,6 +90,11 @@ with_device world n device = record world {
 abbrev pub after_wake : WorldState → (n : ℕ) → Option DeviceState → WorldState
 after_wake world n None = world
 after_wake world n (Some device) = with_device world n (waking world.time device).device
+
+-- a device knows both image formats from now on
+abbrev pub after_migrate : WorldState → (n : ℕ) → Option DeviceState → WorldState
+after_migrate world n None = world
+after_migrate world n (Some device) = with_device world n (after_migration device)
 
 -- a payload reaches a device at the time now; the mark is the line
 abbrev pub after_down : WorldState → (n word : ℕ) → Option DeviceState → Option SentPayload → WorldState
@@ -128,11 +140,12 @@ after_form world (WindowC start timeout freq dr) =
     with_plan world (with_window world.server.plan kind.C start timeout freq dr) section.Device
 after_form world (WindowB start periodicity timeout freq dr) =
     with_plan world (with_window world.server.plan (kind.B periodicity) start timeout freq dr) section.Device
-after_form world (Device id class hw rows offset key descriptor) =
+after_form world (Device id class hw rows offset key descriptor v1) =
     let plan = record world.server.plan { devices = world.server.plan.devices ++ record { key = key } ∷ [] } in
-    with_plan (record world { devices = world.devices ++ device_of class hw rows offset key descriptor ∷ [] }) plan section.Devices
+    with_plan (record world { devices = world.devices ++ device_of class hw rows offset key descriptor v1 ∷ [] }) plan section.Devices
 after_form world (At time) = at_events (record world { time = time })
 after_form world (Wake device) = at_events (after_wake world device (numbered world.devices device))
+after_form world (Migrate device) = at_events (after_migrate world device (numbered world.devices device))
 after_form world (Ask device) = at_events (with_sent world (Some device) (request_of world.server device))
 after_form world Frag =
     at_events (with_sent (record world { server = after_fragment world.server }) None (result_ok (next_fragment world.server)))

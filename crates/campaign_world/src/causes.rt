@@ -78,6 +78,7 @@ pub fn names_device(count: usize, form: &Form) -> bool
 {
     match form {
         Form::Wake { device } => is_device(count, *device),
+        Form::Migrate { device } => is_device(count, *device),
         Form::Ask { device } => is_device(count, *device),
         Form::Down { device, .. } => is_device(count, *device),
         Form::Raw { device, .. } => is_device(count, *device),

@@ -3,6 +3,7 @@
 ghost use Rattle.std.specs.Prelude.{◌≡◌, ◌≤◌, ◌+◌, length, OnOk, OnErr, vec_len, vec_capacity};
 ghost use Rattle.device_core.specs.Device.{DeviceState, max_moment, outbox_size};
 ghost use Rattle.device_core.specs.Deliver.{delivery, waking};
+ghost use Rattle.device_core.specs.Firmware.{after_migration};
 ghost use Rattle.campaign_world.specs.HeldWorld.{DeviceRests, resting, numbered_behind, ComesToRest, AreNumbered, OneComesToRest, OnesAreNumbered};
 ghost use Rattle.campaign_world.specs.WorldInside.{StayMade};
 ghost use Rattle.device_core.specs.HeldDevice.{DeviceStands};
@@ -85,6 +86,17 @@ pub fn wake(
     let device = &mut devices[id as usize - 1];
     rouse(device, uplinks, id, t);
     Ok(())
+}
+
+/// The device with a number knows both image formats from now on. It makes no uplink.
+pub fn migrate(devices: &mut Vec<Device>, id: u8)
+    requires first { 1 ≤ id }
+    requires last { id ≤ length devices.old.items }
+    ensures count { length devices.new.items ≡ length devices.old.items }
+    ensures devices { OneComesToRest after_migration id devices.old.items devices.new.items }
+{
+    let device = &mut devices[id as usize - 1];
+    device.raise();
 }
 
 /// A payload reaches a device, whose uplinks are taken.

@@ -158,6 +158,7 @@ fn cut_commands_change_nothing(rt: HostRuntime) {
         sessions: 4,
         groups: 4,
         area: MAX_AREA,
+        formats: 2,
     };
     let mut device = Device::reserve(rt.alloc(), config).expect(&rt, "no device");
     let mut refused = 0u64;

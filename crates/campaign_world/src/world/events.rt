@@ -10,13 +10,13 @@ ghost use Rattle.campaign_server.specs.Asking.{request_of};
 ghost use Rattle.campaign_server.specs.Fragments.{next_fragment, after_fragment, status_to_all, after_status_to_all};
 ghost use Rattle.campaign_server.specs.Uplinks.{uplink_step};
 ghost use Rattle.campaign_server.specs.Sent.{down_of};
-ghost use Rattle.campaign_world.specs.Making.{with_sent, after_wake, after_down, raw_down, after_raw, after_up, at_events, after_form};
+ghost use Rattle.campaign_world.specs.Making.{with_sent, after_wake, after_migrate, after_down, raw_down, after_raw, after_up, at_events, after_form};
 ghost use Rattle.campaign_world.specs.HeldWorld.{sent_by, answered};
 ghost use Rattle.campaign_world.specs.declared.numbered.SentPayload.{SentPayload};
 ghost use Rattle.campaign_world.specs.declared.numbered.MadeUplink.{MadeUplink};
 
 use super::World;
-use crate::deliveries::{Coming, deliver, wake};
+use crate::deliveries::{Coming, deliver, migrate, wake};
 use crate::numbered::{MadeUplink, SentPayload, numbered};
 use crate::section::Section;
 use campaign_server::{Plan, Server, ServerError};
@@ -102,6 +102,10 @@ impl World {
                 Ok(())
             }
             Form::Wake { device } => self.wake(*device as u8),
+            Form::Migrate { device } => {
+                self.migrate(*device as u8);
+                Ok(())
+            }
             Form::Ask { device } => self.ask(*device as u8),
             Form::Frag => self.frag(),
             Form::Status => self.status(),
@@ -206,6 +210,20 @@ impl World {
     {
         self.section = Section::Events;
         wake(&mut self.devices, &mut self.uplinks, device, self.time)
+    }
+
+    /// A device knows both image formats from now on.
+    fn migrate(&mut self, device: u8)
+        requires first { 1 ≤ device }
+        requires last { device ≤ length self.old.devices }
+        requires begun { (s : ServerState) × (self.old.server ≡ Some s) }
+        ensures taken { WorldBecomes self.old self.new
+            (λ world. at_events (after_migrate world device (numbered world.devices device))) }
+        ensures kept { self.new.kept ≡ self.old.kept }
+        ensures lines { self.new.lines ≡ self.old.lines }
+    {
+        self.section = Section::Events;
+        migrate(&mut self.devices, device);
     }
 
     /// Payload S reaches a device, whose uplinks are then numbered, oldest first.

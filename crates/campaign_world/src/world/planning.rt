@@ -4,7 +4,7 @@ ghost use Rattle.std.specs.Prelude.{◌≡◌, ◌≤◌, ◌<◌, ◌++◌, ◌
 ghost use Rattle.campaign_server.specs.Plan.{is_frag_size, fits_bits};
 ghost use Rattle.campaign_world.specs.Causes.{is_event_or_end};
 ghost use Rattle.device_core.specs.Device.{is_config, first_device};
-ghost use Rattle.campaign_world.specs.Making.{with_plan, class_of, after_form};
+ghost use Rattle.campaign_world.specs.Making.{with_plan, class_of, formats_of, after_form};
 ghost use Rattle.campaign_world.specs.declared.section.Section.TheVariants as section;
 
 use super::World;
@@ -98,12 +98,14 @@ impl World {
                 offset,
                 key,
                 descriptor,
+                v1,
                 ..
             } => {
                 let key = *key;
                 self.add_device(DeviceConfig {
                     class: class_of(*class),
                     hw: *hw as u32,
+                    formats: formats_of(*v1),
                     rows: *rows as u16,
                     offset: *offset as u32,
                     key,
@@ -210,6 +212,13 @@ fn join(
         }
         Err(_) => Err(AllocError),
     }
+}
+
+/// The image formats that a device knows at first: 1 alone, or both.
+fn formats_of(v1: bool) -> u8
+    ensures { result ≡ formats_of v1 }
+{
+    if v1 { 1 } else { 2 }
 }
 
 /// The class of a device.

@@ -1,7 +1,7 @@
 use Rattle.std.proofs.Common.{◌≡◌, Some, arith, sym, subst}
 use Rattle.campaign_server.specs.Server.{ServerState}
 use Rattle.campaign_world.specs.HeldWorld.{HeldWorld}
-use Rattle.campaign_world.proofs.FormCauses.{woken_within, asked_within, reached_within, struck_within, striking, payload_within, word_within, time_within}
+use Rattle.campaign_world.proofs.FormCauses.{woken_within, migrated_within, asked_within, reached_within, struck_within, striking, payload_within, word_within, time_within}
 use Rattle.campaign_world.proofs.world.World.event.Goals as goal
 
 pub invariant_of-self : goal.invariant_of-self
@@ -17,6 +17,9 @@ invariant_of-self c = record {
 
 pub overflow_cast-device : goal.overflow_cast-device
 overflow_cast-device c = let both = woken_within _ _ _ c.requires.names c.in-Wake.is in omega (arith, both.1, c.requires.few)
+
+pub overflow_cast-device-in-Migrate : goal.overflow_cast-device-in-Migrate
+overflow_cast-device-in-Migrate c = let both = migrated_within _ _ _ c.requires.names c.in-Migrate.is in omega (arith, both.1, c.requires.few)
 
 pub overflow_cast-device-in-Ask : goal.overflow_cast-device-in-Ask
 overflow_cast-device-in-Ask c = let both = asked_within _ _ _ c.requires.names c.in-Ask.is in omega (arith, both.1, c.requires.few)

@@ -1,0 +1,21 @@
+use Rattle.std.proofs.Common.{◌≡◌, ◌≤◌, length, Some, sym, subst}
+use Rattle.campaign_server.specs.Server.{ServerState}
+use Rattle.campaign_world.specs.HeldWorld.{HeldWorld}
+use Rattle.campaign_world.proofs.Steps.{built_alike, migrate_step}
+use Rattle.campaign_world.proofs.world.World.migrate.Goals as goal
+
+pub invariant_of-self : goal.invariant_of-self
+invariant_of-self c = record {
+  image_is = c.self.invariant.image_is;
+  counted = c.self.invariant.counted;
+  timed = c.self.invariant.timed;
+  few = rw (c.migrate.ensures.count) c.self.invariant.few;
+  built = built_alike _ _ _ _ c.migrate.ensures.count c.self.invariant.built;
+  planned = subst (λ (h : HeldWorld). (s : ServerState) × (h.server ≡ Some s)) (sym c.self.view_is) c.requires.begun;
+  made = rw (c.migrate.ensures.count) c.self.invariant.made;
+}
+
+pub returns-clause-taken : goal.returns-clause-taken
+returns-clause-taken c = rw (← c.self.view_is) (λ world stands. migrate_step _ world _ c.args.device stands c.requires.first
+    (subst (λ (h : HeldWorld). c.args.device ≤ length h.devices) (sym c.self.view_is) c.requires.last)
+    c.migrate.ensures.devices)
