@@ -10,7 +10,7 @@ use Rattle.frag_session.specs.declared.answers.Verdict.TheVariants as verdict
 use Rattle.frag_session.specs.Session.{Seen}
 use Rattle.device_core.specs.declared.config.Class.TheVariants as class
 use Rattle.device_core.specs.SessionTable.{SessionTable}
-use Rattle.device_core.specs.Device.{DeviceState, first_device, max_sessions, max_area, max_rows}
+use Rattle.device_core.specs.Device.{DeviceState, first_device, max_formats, max_sessions, max_area, max_rows}
 use Rattle.device_core.specs.Deliver.{delivery}
 use Rattle.script_lines.specs.Limits.{max_line}
 use Rattle.script_lines.specs.Lines.{lines_of, word, is_word}
@@ -37,11 +37,12 @@ header_rows line =
 
 -- ---- what the device hears
 
--- the device of a replay: class C, hardware version 0 and a clock that is right, with 4 sessions and an area for the largest file
+-- the device of a replay: class C, hardware version 0 and a clock that is right, which knows both image formats, with 4 sessions and an area for the largest file
 abbrev pub replay_device : ℕ → DeviceState
 replay_device rows = first_device (record {
   class = class.C;
   hw = 0;
+  formats = max_formats;
   rows = rows;
   offset = 0;
   key = replicate 16 0;

@@ -147,6 +147,7 @@ fn config(rows: u16) -> DeviceConfig
     DeviceConfig {
         class: Class::C,
         hw: 0,
+        formats: 2,
         rows,
         offset: 0,
         key: [0; 16],
