@@ -21,7 +21,7 @@ bytes_from g (suc left) = drawn g % 256 ∷ bytes_from (stepped g) left
 -- an image file of its versions, the body's length and the body
 unfoldable pub file_of : (hardware firmware size : ℕ) (body : List ℕ) → List ℕ
 file_of hardware firmware size body =
-    image_start ++ (number_bytes 4 hardware ++ (number_bytes 4 firmware ++ (number_bytes 4 size ++ (sha256 body ++ body))))
+    image_start 1 ++ (number_bytes 4 hardware ++ (number_bytes 4 firmware ++ (number_bytes 4 size ++ (sha256 body ++ body))))
 
 -- the image file of a seed
 unfoldable pub image_of : ℕ → List ℕ
