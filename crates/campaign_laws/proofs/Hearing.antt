@@ -12,7 +12,7 @@ use Rattle.frag_session.specs.Session.{Session, new_session, followed, after_fra
 use Rattle.frag_session.specs.Stands.{IsSetUp}
 use Rattle.frag_model.specs.Verdict.{verdict}
 use Rattle.image_slots.specs.declared.view.ImageState.TheVariants as state
-use Rattle.image_slots.specs.Image.{is_image, hardware_of, firmware_of, image_state}
+use Rattle.image_slots.specs.Image.{is_image, format_of, lowest_of, highest_of, is_for, is_unknown, firmware_of, image_state}
 use Rattle.image_slots.specs.Slots.{Slots, after_offer}
 use Rattle.device_core.specs.Answers.{after_answers}
 use Rattle.device_core.specs.Device.{DeviceState, room_of, limits_of, max_area, row_words}
@@ -36,7 +36,9 @@ count_of image = nb_frag_of (length image) 64
 
 pub record IsMade (image : List ℕ) : Type 0 where
   pub bytes : All (λ b. b < 2 ^ 8) image
-  pub hardware : hardware_of image ≡ 1
+  pub format : format_of image ≡ 1
+  pub lowest : lowest_of image ≡ 1
+  pub highest : highest_of image ≡ 1
   pub firmware : firmware_of image < 2 ^ 32
   pub image_is : is_image image ≡ true
   pub low : 4145 ≤ length image
@@ -161,11 +163,9 @@ fragment_behind image d x n mark made h low high =
     ∙ no_reboot (heard_by image x n mark d) h.plain.reboot
 
 -- the file that is offered is the image
-valid_next : (image : List ℕ) → IsMade image → image_state image 1 ≡ state.Valid (firmware_of image)
-unfolding image_state
-valid_next image made =
-    let right : (hardware_of image == 1) ≡ true = grind (arith, made.hardware) in
-    rw (made.image_is, right) refl
+valid_next : (image : List ℕ) (formats : ℕ) → IsMade image → image_state image 1 formats ≡ state.Valid (firmware_of image)
+unfolding image_state is_unknown is_for
+valid_next image formats made = rw (made.image_is, made.format, made.lowest, made.highest) refl
 
 complete_by : (v : Shown) → is_complete v ≡ true → (mark : ℕ) × (v ≡ shown.Complete mark)
 complete_by shown.Receiving is = absurd cc
@@ -177,7 +177,7 @@ next_by : (image file : List ℕ) (slots : Slots) (hw : ℕ) (was : Bool) → Is
     → (was ≡ true → slots.next ≡ state.Valid (firmware_of image)) → (slots_after hw was (Some file) slots).next ≡ state.Valid (firmware_of image)
 unfolding after_offer
 next_by image file slots hw true made one is before = before refl
-next_by image file slots hw false made one is before = rw (one, is) (valid_next image made)
+next_by image file slots hw false made one is before = rw (one, is) (valid_next image slots.formats made)
 
 pub hears_fragment : (image : List ℕ) (n m m' skipped : ℕ) (d : DeviceState) (s : Stage) → IsMade image → 1 ≤ n → n ≤ count_of image + 128
     → ((heard : List Fragment) (f : Fragment) → f.number ≡ n → OrderOf (count_of image) m skipped heard → OrderOf (count_of image) m' skipped (f ∷ heard))

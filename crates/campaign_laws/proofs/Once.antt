@@ -11,6 +11,7 @@ use Rattle.package_grammar.specs.Reading.{Reading, reading_of}
 use Rattle.device_core.specs.declared.uplink.Uplink.{Uplink}
 use Rattle.device_core.specs.Device.{DeviceState}
 use Rattle.device_core.specs.Deliver.{delivery, waking}
+use Rattle.device_core.specs.Firmware.{after_migration}
 use Rattle.campaign_server.specs.declared.stage.Stage.{Stage}
 use Rattle.campaign_server.specs.declared.stage.Stage.TheVariants.{At}
 use Rattle.campaign_server.specs.declared.stage.Request.TheVariants as request
@@ -22,14 +23,14 @@ use Rattle.campaign_server.specs.Fragments.{next_fragment, after_fragment, after
 use Rattle.campaign_server.specs.Time.{time_answer}
 use Rattle.campaign_server.specs.Uplinks.{with_answers, read_uplink, uplink_step}
 use Rattle.script_lines.specs.declared.forms.Form.{Form}
-use Rattle.script_lines.specs.declared.forms.Form.TheVariants.{Header, Image, Group, WindowC, WindowB, Device, At as AtTime, Wake, Ask, Frag, Status, Down, Raw, Up, End}
+use Rattle.script_lines.specs.declared.forms.Form.TheVariants.{Header, Image, Group, WindowC, WindowB, Device, At as AtTime, Wake, Migrate, Ask, Frag, Status, Down, Raw, Up, End}
 use Rattle.script_lines.specs.Forms.{form_of}
 use Rattle.campaign_world.specs.declared.numbered.SentPayload.{SentPayload}
 use Rattle.campaign_world.specs.declared.numbered.MadeUplink.{MadeUplink}
 use Rattle.campaign_world.specs.World.{WorldState, first_world}
 use Rattle.campaign_world.specs.Causes.{may_come, cause_of_form, form_cause}
 use Rattle.campaign_world.specs.Ledger.{Runs}
-use Rattle.campaign_world.specs.Making.{with_sent, made_by, with_device, after_wake, after_down, raw_down, after_raw, after_answer, after_up, at_events, after_form}
+use Rattle.campaign_world.specs.Making.{with_sent, made_by, with_device, after_wake, after_migrate, after_down, raw_down, after_raw, after_answer, after_up, at_events, after_form}
 use Rattle.campaign_world.specs.Script.{one_line_more, after_form_of, after_line, read_lines}
 use Rattle.campaign_world.proofs.LineItems.{numbered_more, numbered_there}
 use Rattle.campaign_world.proofs.HeadlineForms.{passes}
@@ -119,6 +120,10 @@ device_goes : (w : WorldState) (n : ℕ) (e : DeviceState) → Goes w (at_events
 unfolding with_device
 device_goes w n e = goes_by w _ (same_on w.server w.server refl refl) (map (λ (u : Uplink). made_by n u) e.outbox) refl refl
 
+migrate_go : (w : WorldState) (n : ℕ) (o : Option DeviceState) → Goes w (at_events (after_migrate w n o))
+migrate_go w n None = still w _ refl refl refl
+migrate_go w n (Some d) = device_goes w n (after_migration d)
+
 wake_go : (w : WorldState) (n : ℕ) (o : Option DeviceState) → Goes w (at_events (after_wake w n o))
 wake_go w n None = still w _ refl refl refl
 wake_go w n (Some d) = device_goes w n (waking w.time d).device
@@ -143,10 +148,11 @@ form_goes w (Image frag_size parity) fine over = no_plan w (Image frag_size pari
 form_goes w (Group addr key min max) fine over = no_plan w (Group addr key min max) fine over (plan_at w.section (Group addr key min max) refl)
 form_goes w (WindowC start timeout freq dr) fine over = no_plan w (WindowC start timeout freq dr) fine over (plan_at w.section (WindowC start timeout freq dr) refl)
 form_goes w (WindowB start periodicity timeout freq dr) fine over = no_plan w (WindowB start periodicity timeout freq dr) fine over (plan_at w.section (WindowB start periodicity timeout freq dr) refl)
-form_goes w (Device id class hw rows offset key descriptor) fine over =
-    no_plan w (Device id class hw rows offset key descriptor) fine over (plan_at w.section (Device id class hw rows offset key descriptor) refl)
+form_goes w (Device id class hw rows offset key descriptor v1) fine over =
+    no_plan w (Device id class hw rows offset key descriptor v1) fine over (plan_at w.section (Device id class hw rows offset key descriptor v1) refl)
 form_goes w (AtTime time) fine over = still w _ refl refl refl
 form_goes w (Wake n) fine over = wake_go w n (numbered w.devices n)
+form_goes w (Migrate n) fine over = migrate_go w n (numbered w.devices n)
 form_goes w (Ask n) fine over = sends_go w w.server (Some n) (request_of w.server n) (same_on w.server w.server refl refl)
 form_goes w Frag fine over = sends_go w (after_fragment w.server) None (result_ok (next_fragment w.server)) (fragment_on w.server)
 form_goes w Status fine over = sends_go w (after_status_to_all w.server) None (status_to_all w.server) (status_on w.server)
@@ -220,9 +226,10 @@ form_image w (Image frag_size parity) = refl
 form_image w (Group addr key min max) = refl
 form_image w (WindowC start timeout freq dr) = refl
 form_image w (WindowB start periodicity timeout freq dr) = refl
-form_image w (Device id class hw rows offset key descriptor) = refl
+form_image w (Device id class hw rows offset key descriptor v1) = refl
 form_image w (AtTime time) = refl
 form_image w (Wake n) = (wake_go w n (numbered w.devices n)).image
+form_image w (Migrate n) = (migrate_go w n (numbered w.devices n)).image
 form_image w (Ask n) = (sends_go w w.server (Some n) (request_of w.server n) (same_on w.server w.server refl refl)).image
 form_image w Frag = (sends_go w (after_fragment w.server) None (result_ok (next_fragment w.server)) (fragment_on w.server)).image
 form_image w Status = (sends_go w (after_status_to_all w.server) None (status_to_all w.server) (status_on w.server)).image

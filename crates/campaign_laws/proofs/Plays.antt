@@ -12,7 +12,7 @@ use Rattle.campaign_server.specs.Fragments.{next_fragment, after_fragment, statu
 use Rattle.campaign_server.specs.Time.{time_answer}
 use Rattle.campaign_server.specs.Uplinks.{with_answers, read_uplink, uplink_step}
 use Rattle.script_lines.specs.declared.forms.Form.{Form}
-use Rattle.script_lines.specs.declared.forms.Form.TheVariants.{Header, Image, Group, WindowC, WindowB, Device, At, Wake, Ask, Frag, Status, Down, Raw, Up, End}
+use Rattle.script_lines.specs.declared.forms.Form.TheVariants.{Header, Image, Group, WindowC, WindowB, Device, At, Wake, Migrate, Ask, Frag, Status, Down, Raw, Up, End}
 use Rattle.campaign_world.specs.declared.numbered.SentPayload.{SentPayload}
 use Rattle.campaign_world.specs.declared.numbered.MadeUplink.{MadeUplink}
 use Rattle.script_lines.specs.Forms.{form_of}
@@ -20,7 +20,7 @@ use Rattle.campaign_world.specs.declared.faults.LineWhy.{LineWhy}
 use Rattle.campaign_world.specs.declared.faults.LineFault.{LineFault}
 use Rattle.campaign_world.specs.World.{WorldState}
 use Rattle.campaign_world.specs.Causes.{form_cause, cause_of}
-use Rattle.campaign_world.specs.Making.{with_sent, with_device, after_wake, after_down, raw_down, after_raw, after_answer, after_up, after_form}
+use Rattle.campaign_world.specs.Making.{with_sent, with_device, after_wake, after_migrate, after_down, raw_down, after_raw, after_answer, after_up, after_form}
 use Rattle.campaign_world.specs.Script.{one_line_more, after_form_of, after_line, line_result, read_line, read_lines}
 use Rattle.campaign_world.proofs.FormCauses.{of_form}
 
@@ -57,6 +57,11 @@ sent_keeps : (w v : WorldState) (to : Option ℕ) (down : Option DownlinkCommand
 sent_keeps w v to None is = is
 sent_keeps w v to (Some down) is = is
 
+migrate_keeps : (w : WorldState) (n : ℕ) (o : Option DeviceState) → (after_migrate w n o).lines ≡ w.lines
+unfolding with_device
+migrate_keeps w n None = refl
+migrate_keeps w n (Some d) = refl
+
 wake_keeps : (w : WorldState) (n : ℕ) (o : Option DeviceState) → (after_wake w n o).lines ≡ w.lines
 unfolding with_device
 wake_keeps w n None = refl
@@ -90,9 +95,10 @@ lines_kept w (Image frag_size parity) = refl
 lines_kept w (Group addr key min max) = refl
 lines_kept w (WindowC start timeout freq dr) = refl
 lines_kept w (WindowB start periodicity timeout freq dr) = refl
-lines_kept w (Device id class hw rows offset key descriptor) = refl
+lines_kept w (Device id class hw rows offset key descriptor v1) = refl
 lines_kept w (At time) = refl
 lines_kept w (Wake device) = wake_keeps w device (numbered w.devices device)
+lines_kept w (Migrate device) = migrate_keeps w device (numbered w.devices device)
 lines_kept w (Ask device) = sent_keeps w w (Some device) (request_of w.server device) refl
 lines_kept w Frag = sent_keeps w (record w { server = after_fragment w.server }) None (result_ok (next_fragment w.server)) refl
 lines_kept w Status = sent_keeps w (record w { server = after_status_to_all w.server }) None (status_to_all w.server) refl

@@ -1,6 +1,6 @@
 -- How the server's stages go on: never back, and each answer moves its own.
 use Rattle.std.proofs.Common.{◌≡◌, ◌≢◌, ◌⊎◌, inl, inr, ⊎_elim, ℕ, ◌+◌, ◌<◌, ◌≤◌, ◌==◌, Bool, true, false, cond, List, [], ◌∷◌, Option, None, Some, is_some, refl, sym, ap, ◌∙◌, subst, lit≤, lit<, arith}
-use Rattle.image_slots.specs.Image.{hardware_of, firmware_of}
+use Rattle.image_slots.specs.Image.{is_for, firmware_of}
 use Rattle.cast_wire.specs.declared.cmd.Cmd.TheVariants as c
 use Rattle.sync_wire.specs.declared.cmd.Cmd.TheVariants as s
 use Rattle.package_grammar.specs.declared.command.Command.{Command}
@@ -35,12 +35,12 @@ on from x to up own past = inr (record { up = up; own = own; past = inl past })
 version_leads : (plan : Plan) (image : List ℕ) (firmware hardware : ℕ)
     → Leads (At Version) (Sync (s.DevVersionAns firmware hardware)) (stage_after plan image (At Version) (Sync (s.DevVersionAns firmware hardware)))
 unfolding stage_after
-version_leads plan image firmware hardware = by (cond (hardware == hardware_of image) 0 1 == 0) (is_some plan.group)
+version_leads plan image firmware hardware = by (cond (is_for image hardware) 0 1 == 0) (is_some plan.group)
   where
     first : IsFirst (At Version) (Sync (s.DevVersionAns firmware hardware))
     first = (refl, (firmware, hardware, refl))
 
-    by : (b g : Bool) → Leads (At Version) (Sync (s.DevVersionAns firmware hardware)) (cond b (At (cond g Group Fragments)) (Refused Version (cond (hardware == hardware_of image) 0 1)))
+    by : (b g : Bool) → Leads (At Version) (Sync (s.DevVersionAns firmware hardware)) (cond b (At (cond g Group Fragments)) (Refused Version (cond (is_for image hardware) 0 1)))
     by true true = inr (record { up = lit< tt; own = lit≤ tt; past = inr first })
     by true false = inr (record { up = lit< tt; own = lit≤ tt; past = inr first })
     by false g = inr (record { up = lit< tt; own = lit≤ tt; past = inr first })

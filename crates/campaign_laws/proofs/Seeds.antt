@@ -86,7 +86,7 @@ unfolding bytes_from
 drawn_are_bytes g zero = tt
 drawn_are_bytes g (suc left) = (omega arith, drawn_are_bytes (stepped g) left)
 
-start_is_bytes : AreBytes image_start
+start_is_bytes : AreBytes (image_start 1)
 unfolding image_start
 start_is_bytes = (lit< tt, (lit< tt, (lit< tt, (lit< tt, (lit< tt, tt)))))
 
@@ -96,7 +96,7 @@ file_is_bytes hardware firmware size body are =
     let rest_1 : List ℕ = sha256 body ++ body in
     let rest_2 : List ℕ = number_bytes 4 size ++ rest_1 in
     let rest_3 : List ℕ = number_bytes 4 firmware ++ rest_2 in
-    bytes_both image_start (number_bytes 4 hardware ++ rest_3) start_is_bytes (bytes_both (number_bytes 4 hardware) rest_3 (number_is_bytes 4 hardware)
+    bytes_both (image_start 1) (number_bytes 4 hardware ++ rest_3) start_is_bytes (bytes_both (number_bytes 4 hardware) rest_3 (number_is_bytes 4 hardware)
     (bytes_both (number_bytes 4 firmware) rest_2 (number_is_bytes 4 firmware) (bytes_both (number_bytes 4 size) rest_1 (number_is_bytes 4 size)
     (bytes_both (sha256 body) body (sha_is_bytes body) are))))
 
@@ -118,7 +118,9 @@ image_made seed =
     let fits = sized seed in
     record {
       bytes = All-from_recursion (λ b. b < 2 ^ 8) (image_of seed) (image_is_bytes seed);
-      hardware = file.hardware;
+      format = file.format;
+      lowest = file.lowest;
+      highest = file.highest;
       firmware = rw file.firmware (small_firmware seed);
       image_is = file.file;
       low = omega (arith, fits.0, file.size);
@@ -159,7 +161,7 @@ numbered_replicate count n x low high =
 
 -- another device may come
 abbrev pub TakesDevice : Section → Type 0
-TakesDevice here = (id hw rows offset : ℕ) (key : List ℕ) (descriptor : Option ℕ) → may_come here (Device id class.C hw rows offset key descriptor) ≡ true
+TakesDevice here = (id hw rows offset : ℕ) (key : List ℕ) (descriptor : Option ℕ) (v1 : Bool) → may_come here (Device id class.C hw rows offset key descriptor v1) ≡ true
 
 -- so many devices have joined
 pub record Joined (image : List ℕ) (devices : ℕ) (w : WorldState) : Type 0 where
@@ -186,7 +188,7 @@ start image few =
       server = refl;
       plan = record { size = refl; parity = refl; group = refl };
       time = refl;
-      takes = λ id hw rows offset key descriptor. refl;
+      takes = λ id hw rows offset key descriptor v1. refl;
       events = λ some. absurd (omega (arith, some));
       keys = refl;
       count = refl;
@@ -206,12 +208,12 @@ device_to : (image : List ℕ) (k g : ℕ) (w : WorldState) → k < 8 → Joined
 unfolding after_form in_range
 device_to image k g w few j =
     one w (device_form (k + 1) (drawn g)) (Joined image (k + 1))
-    (no_cause w (device_form (k + 1) (drawn g)) (record { comes = j.takes (k + 1) 1 64 (drawn g) (replicate 16 0) None; ranges = ranged; fits = rw j.count same }) refl refl refl refl refl)
+    (no_cause w (device_form (k + 1) (drawn g)) (record { comes = j.takes (k + 1) 1 64 (drawn g) (replicate 16 0) None false; ranges = ranged; fits = rw j.count same }) refl refl refl refl refl)
     (record {
       server = ap (λ (s : ServerState). first_server s.image plan') j.server;
       plan = record { size = j.plan.size; parity = j.plan.parity; group = j.plan.group };
       time = j.time;
-      takes = λ id hw rows offset key descriptor. refl;
+      takes = λ id hw rows offset key descriptor v1. refl;
       events = λ some. takes_first_event;
       keys = rw length-append (ap (λ (i : ℕ). i + 1) j.keys);
       count = rw length-append (ap (λ (i : ℕ). i + 1) j.count);
@@ -236,7 +238,7 @@ device_to image k g w few j =
     same = grind arith
 
     new : DeviceState
-    new = device_of class.C 1 64 (drawn g) (replicate 16 0) None
+    new = device_of class.C 1 64 (drawn g) (replicate 16 0) None false
 
     each : (n : ℕ) → 1 ≤ n → n ≤ k + 1 → (d : DeviceState) × (numbered (w.devices ++ new ∷ []) n ≡ Some d) × IsNew d
     each n l h = by (n == k + 1) refl

@@ -4,7 +4,7 @@ use Rattle.frag_session.specs.declared.answers.Verdict.{Verdict as Shown}
 use Rattle.frag_session.specs.declared.answers.Verdict.TheVariants as shown
 use Rattle.frag_session.specs.Session.{Session, new_session, renewed, after_setup, excludes, seen_of, status_by, status_in, status_of}
 use Rattle.image_slots.specs.declared.view.ImageState.TheVariants as state
-use Rattle.image_slots.specs.Image.{hardware_of, firmware_of}
+use Rattle.image_slots.specs.Image.{lowest_of, highest_of, is_for, firmware_of}
 use Rattle.image_slots.specs.Slots.{after_swap, without_next}
 use Rattle.cast_wire.specs.declared.cmd.Cmd.TheVariants.{FragSessionStatusReq, FragSessionStatusAns, FragSessionSetupAns}
 use Rattle.sync_wire.specs.declared.cmd.Cmd.TheVariants.{DevVersionReq, DevVersionAns, DevUpgradeImageReq, DevUpgradeImageAns, DevRebootCountdownReq, DevRebootCountdownAns}
@@ -51,9 +51,9 @@ Early image (suc zero) d s = (s ≡ At request.Fragments) × IsNew d
 Early image (suc (suc zero)) d s = (s ≡ At request.Status) × IsReady image d
 Early image (suc (suc (suc j))) d s = ⊥
 
-version_moves : (image : List ℕ) (plan : Plan) (v hw : ℕ) → IsPlan plan → hw ≡ 1 → hardware_of image ≡ 1 → stage_after plan image (At request.Version) (Sync (DevVersionAns v hw)) ≡ At request.Fragments
-unfolding stage_after
-version_moves image plan v hw is one made = rw (one, made, is.group) refl
+version_moves : (image : List ℕ) (plan : Plan) (v hw : ℕ) → IsPlan plan → hw ≡ 1 → lowest_of image ≡ 1 → highest_of image ≡ 1 → stage_after plan image (At request.Version) (Sync (DevVersionAns v hw)) ≡ At request.Fragments
+unfolding stage_after is_for
+version_moves image plan v hw is one low high = rw (one, low, high, is.group) refl
 
 version_turn : (image : List ℕ) (d : DeviceState) (s : Stage) → IsMade image → Early image 0 d s → TakesTurn image (Early image 1) d s
 unfolding request_at command_step version_step
@@ -68,7 +68,7 @@ version_turn image d s made (is, new) =
       up_read = version_told d.slots.version d.config.hw (omega (arith, new.version)) (omega (arith, new.plain.hw));
       silent = refl;
       after = λ plan planned. (
-        ap (λ (x : Stage). stage_after plan image x (Sync (DevVersionAns d.slots.version d.config.hw))) is ∙ version_moves image plan d.slots.version d.config.hw planned new.plain.hw made.hardware,
+        ap (λ (x : Stage). stage_after plan image x (Sync (DevVersionAns d.slots.version d.config.hw))) is ∙ version_moves image plan d.slots.version d.config.hw planned new.plain.hw made.lowest made.highest,
         record { plain = plain_holding d new.plain; session = new.session; version = new.version },
       );
     })

@@ -10,6 +10,8 @@ use Rattle.package_grammar.specs.declared.command.Command.TheVariants.{Sync, Cas
 use Rattle.package_grammar.specs.Reading.{Reading, reading_of}
 use Rattle.device_core.specs.Device.{DeviceState}
 use Rattle.device_core.specs.Deliver.{delivery, waking}
+use Rattle.device_core.specs.Firmware.{after_migration}
+use Rattle.image_slots.specs.Slots.{after_raise}
 use Rattle.campaign_server.specs.declared.plan.PlanDevice.{PlanDevice}
 use Rattle.campaign_server.specs.declared.stage.Stage.{Stage}
 use Rattle.campaign_server.specs.declared.stage.Stage.TheVariants.{At, Updated, Refused}
@@ -24,7 +26,7 @@ use Rattle.campaign_server.specs.Fragments.{next_fragment, after_fragment, statu
 use Rattle.campaign_server.specs.Time.{time_answer_to, first_answer, time_answer}
 use Rattle.campaign_server.specs.Uplinks.{with_answers, read_uplink, uplink_step}
 use Rattle.script_lines.specs.declared.forms.Form.{Form}
-use Rattle.script_lines.specs.declared.forms.Form.TheVariants.{Header, Image, Group, WindowC, WindowB, Device, At as AtTime, Wake, Ask, Frag, Status, Down, Raw, Up, End}
+use Rattle.script_lines.specs.declared.forms.Form.TheVariants.{Header, Image, Group, WindowC, WindowB, Device, At as AtTime, Wake, Migrate, Ask, Frag, Status, Down, Raw, Up, End}
 use Rattle.script_lines.specs.Forms.{form_of}
 use Rattle.campaign_world.specs.declared.section.Section.{Section}
 use Rattle.campaign_world.specs.declared.section.Section.TheVariants as section
@@ -33,7 +35,7 @@ use Rattle.campaign_world.specs.declared.numbered.MadeUplink.{MadeUplink}
 use Rattle.campaign_world.specs.World.{WorldState, first_world}
 use Rattle.campaign_world.specs.Honest.{is_raw, has_raw, AreHonest}
 use Rattle.campaign_world.specs.Causes.{is_event_or_end, may_come, may_reach, cause_of_form, form_cause}
-use Rattle.campaign_world.specs.Making.{with_plan, with_sent, with_device, after_wake, after_answer, after_up, at_events, device_of, after_form}
+use Rattle.campaign_world.specs.Making.{with_plan, with_sent, with_device, after_wake, after_migrate, after_answer, after_up, at_events, device_of, after_form}
 use Rattle.campaign_world.specs.Script.{after_form_of, after_line, read_lines}
 use Rattle.campaign_world.proofs.LineItems.{numbered_push}
 use Rattle.campaign_world.proofs.HeadlineForms.{passes}
@@ -275,6 +277,10 @@ device_waits w n d e there calm k = record {
   sent = k.sent;
 }
 
+migration_calm : (d : DeviceState) → IsUntouched d → IsUntouched (after_migration d)
+unfolding after_migration after_raise
+migration_calm d k = record { reboot = k.reboot; version = k.version }
+
 -- ---- a form
 
 -- a line of the plan
@@ -309,14 +315,18 @@ form_waits w (Group addr key min max) fine honest k = plan_waits w _ section.Win
 form_waits w (WindowC start timeout freq dr) fine honest k = plan_waits w _ section.Device (plan_at w.section (WindowC start timeout freq dr) refl (passes w (WindowC start timeout freq dr) fine).may) k
 form_waits w (WindowB start periodicity timeout freq dr) fine honest k =
     plan_waits w _ section.Device (plan_at w.section (WindowB start periodicity timeout freq dr) refl (passes w (WindowB start periodicity timeout freq dr) fine).may) k
-form_waits w (Device id class hw rows offset key descriptor) fine honest k =
-    joins_wait w (device_of class hw rows offset key descriptor) _ (plan_at w.section (Device id class hw rows offset key descriptor) refl (passes w (Device id class hw rows offset key descriptor) fine).may)
+form_waits w (Device id class hw rows offset key descriptor v1) fine honest k =
+    joins_wait w (device_of class hw rows offset key descriptor v1) _ (plan_at w.section (Device id class hw rows offset key descriptor v1) refl (passes w (Device id class hw rows offset key descriptor v1) fine).may)
     (record { reboot = refl; version = refl }) k
 form_waits w (AtTime time) fine honest k = record { none_sent = λ plan. absurd cc; all = λ plan. absurd cc; devices = k.devices; sent = k.sent }
 form_waits w (Wake n) fine honest k =
     let there = is_there w.devices n (passes w (Wake n) fine).names in
     subst (λ (o : Option DeviceState). Waits (at_events (after_wake w n o))) (sym there.1.1)
     (device_waits w n there.1.0 (waking w.time there.1.0).device there.1.1 (λ at. waking_calm w.time there.1.0 (k.devices n there.1.0 there.1.1 at)) k)
+form_waits w (Migrate n) fine honest k =
+    let there = is_there w.devices n (passes w (Migrate n) fine).names in
+    subst (λ (o : Option DeviceState). Waits (at_events (after_migrate w n o))) (sym there.1.1)
+    (device_waits w n there.1.0 (after_migration there.1.0) there.1.1 (λ at. migration_calm there.1.0 (k.devices n there.1.0 there.1.1 at)) k)
 form_waits w (Ask n) fine honest k = sends_wait w w.server (Some n) (request_of w.server n) k (λ id at. at) (asked_calm w.server n)
 form_waits w Frag fine honest k =
     sends_wait w (after_fragment w.server) None (result_ok (next_fragment w.server)) k (same_begin w.server.stages (after_fragment w.server).stages (fragment_same w.server)) (fragment_calm (after_fragment w.server).stages w.server)
