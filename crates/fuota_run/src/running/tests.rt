@@ -428,6 +428,70 @@ fn coded_fragments_complete_a_file_or_exceed_the_rows(rt: HostRuntime) -> Result
     Ok(())
 }
 
+/// An image file of format 2 for hardware 1 to 3 with firmware 2, and the body and digest of `IMAGE`.
+const RANGED: [u8; 56] = [
+    0x46, 0x55, 0x49, 0x4d, 0x02, 0x01, 0x00, 0x00, 0x00, 0x03, 0x00, 0x00, 0x00, 0x02, 0x00, 0x00,
+    0x00, 0x03, 0x00, 0x00, 0x00, 0xba, 0x78, 0x16, 0xbf, 0x8f, 0x01, 0xcf, 0xea, 0x41, 0x41, 0x40,
+    0xde, 0x5d, 0xae, 0x22, 0x23, 0xb0, 0x03, 0x61, 0xa3, 0x96, 0x17, 0x7a, 0x9c, 0xb4, 0x10, 0xff,
+    0x61, 0xf2, 0x00, 0x15, 0xad, 0x61, 0x62, 0x63,
+];
+
+const OLD_DEVICE: &str =
+    "fuota 1\nimage 56 0\ndevice 1 c 3 0 0 00000000000000000000000000000000 v1\n";
+
+const HARDWARE_4: &str =
+    "fuota 1\nimage 56 0\ndevice 1 c 4 0 0 00000000000000000000000000000000 v1\n";
+
+const ONE_FRAGMENT: &str = "ask 1\ndown 1 1\nup 1\nask 1\ndown 2 1\nup 2\nfrag\ndown 3 1\nend\n";
+
+const MIGRATED: &str =
+    "ask 1\ndown 1 1\nup 1\nask 1\ndown 2 1\nup 2\nfrag\ndown 3 1\nmigrate 1\nend\n";
+
+const NOT_KNOWN: &str =
+    "fuota report 1\nimage 56 fragments 1 size 56 padding 0 parity 0\ndevice 1 status clock 0 token 0 running 0 next corrupt\ncounts deaf 0 refused 0 full 0 dropped 0\nsession 0 received 1 missing 0 complete at 11 same\nend\n";
+
+const KNOWN: &str =
+    "fuota report 1\nimage 56 fragments 1 size 56 padding 0 parity 0\ndevice 1 status clock 0 token 0 running 0 next valid 2\ncounts deaf 0 refused 0 full 0 dropped 0\nsession 0 received 1 missing 0 complete at 11 same\nend\n";
+
+const REFUSED_HARDWARE: &str =
+    "fuota report 1\nimage 56 fragments 1 size 56 padding 0 parity 0\ndevice 1 refused version 1 clock 0 token 0 running 0 next none\ncounts deaf 0 refused 0 full 0 dropped 0\nend\n";
+
+#[test]
+fn an_image_of_format_2_is_read_once_it_is_known(rt: HostRuntime) -> Result<(), Fail> {
+    let rows = [
+        (OLD_DEVICE, ONE_FRAGMENT, Status::Done, NOT_KNOWN),
+        (OLD_DEVICE, MIGRATED, Status::Done, KNOWN),
+        (
+            HARDWARE_4,
+            "ask 1\ndown 1 1\nup 1\nend\n",
+            Status::Done,
+            REFUSED_HARDWARE,
+        ),
+        (
+            OLD_DEVICE,
+            "migrate 2\n",
+            Status::ScriptRefused,
+            "line 4 device\n",
+        ),
+        (
+            OLD_DEVICE,
+            "migrate\n",
+            Status::ScriptRefused,
+            "line 4 syntax\n",
+        ),
+    ];
+    for (start, events, status, text) in &rows {
+        let outside = Outside {
+            image: &RANGED,
+            start,
+            events,
+            ..SOUND
+        };
+        ends(&rt, rt.alloc(), &WORDS, &outside, *status, text)?;
+    }
+    Ok(())
+}
+
 #[test]
 fn the_time_never_goes_back(rt: HostRuntime) -> Result<(), Fail> {
     let later = Outside {
