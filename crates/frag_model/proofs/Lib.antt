@@ -11,3 +11,5 @@ pub mod Uniqueness
 pub mod Flips
 pub mod Enough
 pub mod Draws
+pub mod Knowing
+pub mod News

@@ -6,3 +6,5 @@ pub mod Gain
 pub mod Verdict
 pub mod File
 pub mod Laws
+pub mod News
+pub mod NewsLaw

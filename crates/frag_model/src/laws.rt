@@ -1,5 +1,6 @@
 //! Laws about the definitions, each the contract of a function that does nothing.
 
+ghost use Rattle.frag_model.specs.NewsLaw.{OldFragmentsAddNothing};
 ghost use Rattle.frag_model.specs.Laws.{ExactlyOneVerdict, OneBlockIsOneFile, FullGainIsUniqueness, GainIsBounded, EnoughRowsForTheUnheard, EveryLineHasEnoughDraws, WorkedValues};
 
 /// Of each list of heard fragments exactly one verdict is right: the one that `verdict` gives.
@@ -25,6 +26,11 @@ pub fn gain_is_bounded()
 /// As many rows as there are pieces unheard at the first coded fragment are enough.
 pub fn enough_rows_for_the_unheard()
     ensures { EnoughRowsForTheUnheard }
+{}
+
+/// Fragments that change neither gain nor direct nor the verdict can be left out of a list.
+pub fn old_fragments_add_nothing()
+    ensures { OldFragmentsAddNothing }
 {}
 
 /// Every line finds its columns within 25 states for each.
