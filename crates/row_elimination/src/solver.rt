@@ -3,6 +3,7 @@
 ghost use Rattle.std.specs.Prelude.{◌≡◌, ◌*◌, ◌+◌, ◌<◌, ◌≤◌, length, is_ok, IfOk, OnOk, OnErr};
 ghost use Rattle.frag_model.specs.Fragments.{Shape};
 ghost use Rattle.row_elimination.specs.Held.{missing_of, TwoFit, IsBegun, Receives, Completes, Contradicts, Overflows};
+ghost use Rattle.row_elimination.specs.Places.{pieces_held};
 ghost use Rattle.row_elimination.specs.Room.{has_room, words_for};
 ghost use Rattle.row_elimination.specs.Taking.{stage_after};
 ghost use Rattle.row_elimination.specs.Grid.{max_line_words};
@@ -164,6 +165,13 @@ impl<const W: usize, const B: usize> Solver<W, B> {
         ensures { result ≡ missing_of self.now }
     {
         self.kept.table.missing()
+    }
+
+    /// How many pieces came uncoded.
+    pub fn pieces(&self) -> u16
+        ensures { result ≡ pieces_held self.now.places }
+    {
+        self.kept.table.pieces()
     }
 
     /// The bytes of all pieces, one behind the other, padding included. The solver must be complete.

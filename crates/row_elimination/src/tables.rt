@@ -4,7 +4,7 @@ ghost use Rattle.std.specs.Prelude.{◌≡◌, ◌≢◌, ℕ, ◌+◌, ◌-◌,
 ghost use Rattle.frag_model.specs.Fragments.{Equation, IsPiece};
 ghost use Rattle.row_arena.specs.Limits.{max_bytes, max_words};
 ghost use Rattle.row_arena.specs.Rows.{has_room, line_in, words_for};
-ghost use Rattle.row_elimination.specs.Places.{free, piece as known, is_piece, grown, rows_held, gained_held};
+ghost use Rattle.row_elimination.specs.Places.{free, piece as known, is_piece, grown, pieces_held, rows_held, gained_held};
 ghost use Rattle.row_elimination.specs.Inside.{IsReduced};
 ghost use Rattle.row_elimination.specs.Storage.{chunk};
 ghost use Rattle.row_elimination.specs.Steps.{Reduced, IsNew, Knows, Tells};
@@ -112,6 +112,14 @@ impl<const W: usize, const B: usize> Table<W, B> {
         ensures { result ≡ self.now.shape.nb_frag - gained_held self.now.places }
     {
         self.nb_frag.saturating_sub(self.gained)
+    }
+
+    /// How many pieces came uncoded.
+    #[tactic(auto, unfolding(crate::specs::Places::gained_held))]
+    pub fn pieces(&self) -> u16
+        ensures { result ≡ pieces_held self.now.places }
+    {
+        self.gained.saturating_sub(self.count)
     }
 
     /// Whether each slot has a row.
