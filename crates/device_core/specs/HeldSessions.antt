@@ -2,7 +2,7 @@
 use Rattle.std.specs.Prelude.{◌≡◌, ℕ}
 use Rattle.frag_session.specs.Held.{HeldSlot}
 use Rattle.frag_session.specs.Stands.{Stands}
-use Rattle.frag_session.specs.Setup.{Room}
+use Rattle.frag_session.specs.Setup.{Room, memory_room}
 use Rattle.frag_session.specs.Steps.{area_of}
 use Rattle.device_core.specs.Device.{row_words, row_bytes}
 use Rattle.device_core.specs.SessionTable.{SessionTable}
@@ -24,7 +24,7 @@ pub record SessionsStand (held : HeldSessions) (table : SessionTable) : Type 0 w
 
 -- the room that each slot has
 abbrev pub room_in : HeldSessions → Room
-room_in held = record { words = row_words; bytes = row_bytes; area = held.area }
+room_in held = memory_room row_words row_bytes held.area
 
 -- what is held went this way, whatever sessions it stood for
 abbrev pub TableBecomes : (old new : HeldSessions) → (SessionTable → SessionTable) → Type 0

@@ -15,14 +15,16 @@ use Rattle.frag_session.specs.declared.answers.Cause.{Cause}
 use Rattle.frag_session.specs.declared.answers.Cause.TheVariants as cause
 use Rattle.frag_session.specs.declared.answers.Verdict.{Verdict as Shown}
 use Rattle.frag_session.specs.declared.answers.Verdict.TheVariants as shown
-use Rattle.frag_session.specs.Setup.{Room, rows_of, setup_bits, bit_where, wrong_coding, too_large, other_descriptor, same_setup, lives}
-use Rattle.frag_session.specs.Session.{Session, Seen, shape_of, followed, received_count, new_session, renewed, after_setup, excludes, cause_of, drop_cause, answer_of, after_fragment, seen_of, view_of, shown_verdict, shown_file, status_in, status_of}
+use Rattle.frag_session.specs.declared.answers.Heard.TheVariants as answer
+use Rattle.frag_session.specs.Setup.{Room, rows_of, too_long, setup_bits, bit_where, wrong_coding, too_large, other_descriptor, same_setup, lives}
+use Rattle.frag_session.specs.Session.{Session, Seen, shape_of, followed, received_count, new_session, renewed, after_setup, excludes, cause_of, drop_cause, news_in, answer_of, after_fragment, seen_of, view_of, shown_verdict, shown_file, status_in, status_of}
 use Rattle.frag_session.specs.Held as kept
 use Rattle.frag_session.specs.Held.{HeldSlot, Held}
 use Rattle.frag_session.specs.Shows.{receiving_seen, done_seen, failed_seen, overflowed_seen}
-use Rattle.frag_session.specs.Steps.{session_setup, slot_cause, slot_seen, CanHear}
+use Rattle.frag_session.specs.Steps.{session_setup, slot_cause, slot_seen, CanHear, told_of, news_between}
 use Rattle.frag_session.specs.Stands.{IsSetUp, Holds, Stands}
 use Rattle.frag_session.proofs.Standing.{setup_kept, no_setup_kept}
+use Rattle.frag_session.proofs.Telling.{told_news}
 
 -- ---- setups
 
@@ -54,6 +56,7 @@ set_up_fine req e =
 
 -- what is not too large has room
 pub record HasRoom (room : Room) (rows : ℕ) (req : SetupReq) : Type 0 where
+  pub long : too_long room.span req ≡ false
   pub most : req.nb_frag ≤ max_pieces
   pub small : req.frag_size ≤ max_frag_size
   pub room_is : has_room room.words room.bytes room.area req.nb_frag req.frag_size (rows_of rows req) ≡ true
@@ -61,9 +64,10 @@ pub record HasRoom (room : Room) (rows : ℕ) (req : SetupReq) : Type 0 where
 pub room_for : (room : Room) (rows : ℕ) (req : SetupReq) → too_large room rows req ≡ false → HasRoom room rows req
 unfolding too_large
 room_for room rows req e =
-    let r = or_parts (nat_lt max_pieces req.nb_frag || nat_lt max_frag_size req.frag_size) (not (has_room room.words room.bytes room.area req.nb_frag req.frag_size (rows_of rows req))) e in
-    let q = or_parts (nat_lt max_pieces req.nb_frag) (nat_lt max_frag_size req.frag_size) r.0 in
-    record { most = ltb-false max_pieces req.nb_frag q.0; small = ltb-false max_frag_size req.frag_size q.1; room_is = not-false _ r.1 }
+    let r = or_parts (too_long room.span req || nat_lt max_pieces req.nb_frag || nat_lt max_frag_size req.frag_size) (not (has_room room.words room.bytes room.area req.nb_frag req.frag_size (rows_of rows req))) e in
+    let q = or_parts (too_long room.span req || nat_lt max_pieces req.nb_frag) (nat_lt max_frag_size req.frag_size) r.0 in
+    let p = or_parts (too_long room.span req) (nat_lt max_pieces req.nb_frag) q.0 in
+    record { long = p.0; most = ltb-false max_pieces req.nb_frag p.1; small = ltb-false max_frag_size req.frag_size q.1; room_is = not-false _ r.1 }
 
 -- a solver that has just begun stands for a session that heard nothing
 pub begun_holds : (limits : Limits) (req : SetupReq) (solver : Solved) → wrong_coding req ≡ false → IsBegun solver
@@ -126,8 +130,21 @@ unfolding slot_cause drop_cause
 same_cause x None way n part k = ap (λ o. slot_cause o way n part) (no_setup_kept x k)
 same_cause x (Some s) way n part k = ap (λ o. slot_cause o way n part) (setup_kept x s k)
 
-pub answer_same : (x : HeldSlot) (s : Option Session) (way : Via) (n : ℕ) (part : List ℕ) (c : Option Cause) → Stands x s → c ≡ slot_cause (session_setup x) way n part → answer_of c ≡ answer_of (drop_cause s way n part)
-answer_same x s way n part c k e = ap answer_of (e ∙ same_cause x s way n part k)
+pub dropped_answer : (x : HeldSlot) (s : Option Session) (way : Via) (n : ℕ) (part : List ℕ) (mark : ℕ) (c : Cause) → Stands x s → Some c ≡ slot_cause (session_setup x) way n part
+    → answer.Dropped c ≡ answer_of (drop_cause s way n part) (news_in s n part mark)
+unfolding answer_of
+dropped_answer x s way n part mark c k e = ap (λ (o : Option Cause). answer_of o (news_in s n part mark)) (e ∙ same_cause x s way n part k)
+
+pub heard_answer : (x new : HeldSlot) (s : Option Session) (way : Via) (n : ℕ) (part : List ℕ) (mark : ℕ) → Stands x s → None ≡ slot_cause (session_setup x) way n part
+    → ((y : Session) → Stands x (Some y) → Stands new (Some (followed y n part mark)))
+    → answer.Fed (news_between (told_of x) (told_of new)) ≡ answer_of (drop_cause s way n part) (news_in s n part mark)
+unfolding answer_of drop_cause
+heard_answer x new None way n part mark k e heard =
+    let is : Some cause.NoSession ≡ None = sym (same_cause x None way n part k) ∙ sym e in
+    let h : ⊥ = cc in absurd h
+heard_answer x new (Some s) way n part mark k e heard =
+    ap answer.Fed (told_news x new s n part mark k (heard s k))
+    ∙ ap (λ (o : Option Cause). answer_of o (news_in (Some s) n part mark)) (e ∙ same_cause x (Some s) way n part k)
 
 -- a fragment that is dropped changes no history
 pub dropped_stands : (x : HeldSlot) (s : Option Session) (way : Via) (n : ℕ) (part : List ℕ) (mark : ℕ) (c : Cause) → Stands x s → Some c ≡ slot_cause (session_setup x) way n part → Stands x (after_fragment s way n part mark)

@@ -4,8 +4,8 @@ use Rattle.frag_model.specs.Fragments.{Fragment, Shape}
 use Rattle.frag_model.specs.Gain.{gain, gain_of, gain_of_lines, numbers_of}
 use Rattle.frag_model.specs.Verdict.{Verdict, receiving, complete, no_rows, conflict, verdict, verdict_now, first_verdict, lacking, missing, missing_now, missing_next}
 use Rattle.frag_session.specs.declared.answers.Verdict.TheVariants as shown
-use Rattle.frag_session.specs.Session.{Session, shape_of, seen_of, shown_verdict}
-use Rattle.frag_session.specs.Missing.{behind, MissingPieces}
+use Rattle.frag_session.specs.Session.{shape_of, seen_of, shown_verdict}
+use Rattle.frag_session.specs.Missing.{MissingPieces}
 
 -- ---- what is shown of a verdict
 

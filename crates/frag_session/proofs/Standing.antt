@@ -1,5 +1,5 @@
 -- What one fragment more makes of what is kept stands for what it makes of each history.
-use Rattle.std.proofs.Common.{◌≡◌, ℕ, zero, suc, suc-mul, ◌*◌, ◌<◌, ◌≤◌, List, ◌∷◌, length, Some, None, refl, sym, ap, ◌∙◌, arith}
+use Rattle.std.proofs.Common.{◌≡◌, ℕ, zero, suc, suc-mul, ◌*◌, ◌<◌, ◌≤◌, List, ◌∷◌, length, Option, Some, None, refl, sym, ap, ◌∙◌, option_map, arith}
 use Rattle.frag_model.specs.Fragments.{Fragment, Shape}
 use Rattle.frag_model.specs.Verdict.{Verdict, complete, no_rows, conflict, verdict, verdict_now, first_verdict, missing, missing_now, missing_next, lacking}
 use Rattle.frag_model.proofs.Files.{length-block}
@@ -191,3 +191,7 @@ no_setup_kept (kept.conflicted f) k = absurd k
 pub room_for_padding : (nb_frag frag_size padding len : ℕ) → 1 ≤ nb_frag → padding < frag_size → len ≡ nb_frag * frag_size → padding ≤ len
 room_for_padding zero frag_size padding len some short is = absurd (omega arith)
 room_for_padding (suc k) frag_size padding len some short is = omega (arith, suc-mul k frag_size)
+
+pub request_kept : (x : HeldSlot) (s : Option Session) → Stands x s → session_setup x ≡ option_map (λ (y : Session). y.setup) s
+request_kept x None k = no_setup_kept x k
+request_kept x (Some s) k = setup_kept x s k

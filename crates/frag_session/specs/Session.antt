@@ -12,6 +12,9 @@ use Rattle.frag_session.specs.declared.answers.Via.TheVariants as via
 use Rattle.frag_session.specs.declared.answers.Cause.{Cause}
 use Rattle.frag_session.specs.declared.answers.Cause.TheVariants as cause
 use Rattle.frag_session.specs.declared.answers.Heard.{Heard}
+use Rattle.frag_session.specs.declared.answers.News.{News}
+use Rattle.frag_session.specs.declared.answers.News.TheVariants as news
+use Rattle.frag_model.specs.News.{is_new}
 use Rattle.frag_session.specs.declared.answers.StatusAns.{StatusAns}
 use Rattle.frag_session.specs.declared.answers.Heard.TheVariants as answer
 use Rattle.frag_session.specs.declared.answers.Verdict.{Verdict as Shown}
@@ -60,10 +63,24 @@ unfoldable pub drop_cause : Option Session → Via → ℕ → List ℕ → Opti
 drop_cause None way n part = Some cause.NoSession
 drop_cause (Some s) way n part = cause_of s.setup way n part
 
+-- what the setup and the rows fix of the fragments
+unfoldable pub shape_of : Session → Shape
+shape_of s = record { nb_frag = s.setup.nb_frag; frag_size = s.setup.frag_size; rows = s.rows }
+
+-- a fragment as it is heard
+abbrev pub fragment : ℕ → List ℕ → ℕ → Fragment
+fragment n part mark = record { number = n; part = part; mark = mark }
+
+-- whether it is new after those that the session heard
+unfoldable pub news_in : Option Session → ℕ → List ℕ → ℕ → News
+news_in None n part mark = news.Old
+news_in (Some s) n part mark =
+    if is_new (shape_of s) (fragment n part mark) s.heard then news.New else news.Old
+
 -- the answer to a fragment
-unfoldable pub answer_of : Option Cause → Heard
-answer_of None = answer.Fed
-answer_of (Some c) = answer.Dropped c
+unfoldable pub answer_of : Option Cause → News → Heard
+answer_of None whether = answer.Fed whether
+answer_of (Some c) whether = answer.Dropped c
 
 -- the session heard one fragment more
 unfoldable pub followed : Session → ℕ → List ℕ → ℕ → Session
@@ -75,10 +92,6 @@ after_fragment s way n part mark =
     if is_none (drop_cause s way n part) then option_map (λ x. followed x n part mark) s else s
 
 -- ---- what is shown
-
--- what the setup and the rows fix of the fragments
-unfoldable pub shape_of : Session → Shape
-shape_of s = record { nb_frag = s.setup.nb_frag; frag_size = s.setup.frag_size; rows = s.rows }
 
 -- the verdict with its mark
 unfoldable pub shown_verdict : Verdict → Shown

@@ -1,5 +1,5 @@
 -- Setups: when one is refused, and when two are equal. (TS004-1.0.0, FragSessionSetupReq and FragSessionSetupAns.)
-use Rattle.std.specs.Prelude.{ℕ, ◌+◌, min, Bool, false, ◌&&◌, ◌||◌, not, ◌==◌, nat_lt, nat_le, Option, Some, None, if◌then◌else◌}
+use Rattle.std.specs.Prelude.{ℕ, ◌+◌, ◌*◌, min, Bool, false, ◌&&◌, ◌||◌, not, ◌==◌, nat_lt, nat_le, Option, Some, None, if◌then◌else◌}
 use Rattle.frag_session.specs.declared.setups.SetupReq.{SetupReq}
 use Rattle.frag_session.specs.declared.setups.Limits.{Limits}
 use Rattle.row_elimination.specs.Room.{has_room}
@@ -9,11 +9,26 @@ use Rattle.frag_model.specs.Limits.{max_frag_size, max_pieces}
 unfoldable pub wrong_coding : SetupReq → Bool
 wrong_coding req = not (req.algo == 0) || req.nb_frag == 0 || req.frag_size == 0 || nat_le req.frag_size req.padding
 
--- what there is for a session: words and bytes for rows, and bytes for the file
+-- what there is for a session: words and bytes for rows, bytes for the file, and bytes of flash, where it is kept there
 pub record Room : Type 0 where
   pub words : ℕ
   pub bytes : ℕ
   pub area : ℕ
+  pub span : Option ℕ
+
+-- that of a session which is kept in memory alone
+abbrev pub memory_room : (words bytes area : ℕ) → Room
+memory_room words bytes area = record { words = words; bytes = bytes; area = area; span = None }
+
+-- the bytes of flash that a session takes: its setup and gates, and for each fragment that can tell something new a record
+-- of its number, mark and data (this project's profile)
+abbrev pub flash_for : SetupReq → ℕ
+flash_for req = 24640 + (2 * req.nb_frag + 1) * (10 + req.frag_size)
+
+-- more than there is flash for
+abbrev pub too_long : Option ℕ → SetupReq → Bool
+too_long None req = false
+too_long (Some span) req = nat_lt span (flash_for req)
 
 -- the rows of a session: as many as are kept, and no more than there are pieces
 abbrev pub rows_of : ℕ → SetupReq → ℕ
@@ -22,7 +37,8 @@ rows_of rows req = min rows req.nb_frag
 -- more than is ever kept, or more than there is room for
 unfoldable pub too_large : Room → ℕ → SetupReq → Bool
 too_large room rows req =
-    nat_lt max_pieces req.nb_frag || nat_lt max_frag_size req.frag_size || not (has_room room.words room.bytes room.area req.nb_frag req.frag_size (rows_of rows req))
+    too_long room.span req || nat_lt max_pieces req.nb_frag || nat_lt max_frag_size req.frag_size
+    || not (has_room room.words room.bytes room.area req.nb_frag req.frag_size (rows_of rows req))
 
 -- one descriptor alone is taken, and it is another
 unfoldable pub other_descriptor : Option ℕ → ℕ → Bool

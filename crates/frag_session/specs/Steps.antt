@@ -1,5 +1,9 @@
 -- What one call makes of what is held.
-use Rattle.std.specs.Prelude.{◌≡◌, ℕ, ◌+◌, ◌≤◌, List, length, Option, Some, None}
+use Rattle.std.specs.Prelude.{◌≡◌, ℕ, ◌+◌, ◌≤◌, ◌&&◌, ◌==◌, List, length, Option, Some, None, if◌then◌else◌}
+use Rattle.row_elimination.specs.Places.{pieces_held}
+use Rattle.row_elimination.specs.Held.{missing_of}
+use Rattle.frag_session.specs.declared.answers.News.{News}
+use Rattle.frag_session.specs.declared.answers.News.TheVariants as news
 use Rattle.frag_session.specs.declared.setups.SetupReq.{SetupReq}
 use Rattle.frag_session.specs.declared.answers.Via.{Via}
 use Rattle.frag_session.specs.declared.answers.Cause.{Cause}
@@ -68,3 +72,17 @@ slot_seen (receiving h) = Some (receiving_seen h)
 slot_seen (complete d) = Some (done_seen d)
 slot_seen (overflowed f) = Some (overflowed_seen f)
 slot_seen (conflicted f) = Some (failed_seen f)
+
+-- what is known while nothing is decided: the pieces still to be gained, and how many came uncoded
+unfoldable pub told_of : HeldSlot → Option (ℕ × ℕ)
+told_of (idle area) = None
+told_of (receiving h) = Some (missing_of h.solver, pieces_held h.solver.places)
+told_of (complete d) = None
+told_of (overflowed f) = None
+told_of (conflicted f) = None
+
+-- whether one fragment has changed it
+unfoldable pub news_between : Option (ℕ × ℕ) → Option (ℕ × ℕ) → News
+news_between None after = news.Old
+news_between (Some before) None = news.New
+news_between (Some before) (Some after) = if before.0 == after.0 && before.1 == after.1 then news.Old else news.New

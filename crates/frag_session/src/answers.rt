@@ -21,10 +21,18 @@ pub enum Cause {
     Size,
 }
 
+/// Whether a fragment that was heard told something: it was heard while nothing was decided, and changed the gain, the
+/// pieces that came uncoded, or the verdict.
+#[derive(Clone, Copy, Debug, PartialEq, Eq)]
+pub enum News {
+    New,
+    Old,
+}
+
 /// What became of a fragment.
 #[derive(Clone, Copy, Debug, PartialEq, Eq)]
 pub enum Heard {
-    Fed,
+    Fed(News),
     Dropped(Cause),
 }
 

@@ -2,7 +2,7 @@
 
 ghost use Rattle.std.specs.Prelude.{◌≡◌, ◌<◌, MatchResult, IfOk};
 ghost use Rattle.row_elimination.specs.Held.{TwoFit};
-ghost use Rattle.frag_session.specs.Setup.{Room, setup_bits};
+ghost use Rattle.frag_session.specs.Setup.{memory_room, setup_bits};
 ghost use Rattle.frag_session.specs.Session.{new_session};
 ghost use Rattle.frag_session.specs.Stands.{Holds};
 
@@ -36,13 +36,13 @@ impl<const W: usize, const B: usize> Idle<W, B> {
     /// Begins a session with nothing heard, or gives the memory back with all refusal bits (see `Slot::setup`).
     pub fn setup(self, req: SetupReq, limits: Limits) -> Result<Receiving<W, B>, (Idle<W, B>, u8)>
         ensures bits { MatchResult result
-            (λ session. setup_bits limits (record { words = W; bytes = B; area = self.entry }) req ≡ 0)
-            (λ refused. (refused.1 ≡ setup_bits limits (record { words = W; bytes = B; area = self.entry }) req) × (0 < refused.1)) }
+            (λ session. setup_bits limits (memory_room W B self.entry) req ≡ 0)
+            (λ refused. (refused.1 ≡ setup_bits limits (memory_room W B self.entry) req) × (0 < refused.1)) }
         ensures area { MatchResult result (λ session. session.solver.area ≡ self.entry) (λ refused. refused.0 ≡ self.entry) }
         ensures stands { IfOk result (λ session. Holds session (new_session limits req)) }
         ensures two { IfOk result (λ session. TwoFit session.solver) }
     {
-        let bits = refusal(&self.solver, req, limits);
+        let bits = refusal(&self.solver, req, limits, None);
         if bits != 0 {
             return Err((self, bits));
         }

@@ -21,7 +21,7 @@ mod receiving_state;
 mod setups;
 mod slots;
 
-pub use answers::{Cause, Heard, StatusAns, Verdict, Via, View};
+pub use answers::{Cause, Heard, News, StatusAns, Verdict, Via, View};
 pub use complete_state::Complete;
 pub use conflicted_state::Conflicted;
 pub use idle_state::Idle;

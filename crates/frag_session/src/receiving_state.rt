@@ -1,11 +1,11 @@
 //! A session whose file is not decided.
 
-ghost use Rattle.std.specs.Prelude.{◌≡◌, ◌+◌, ◌<◌, ◌≤◌, length};
+ghost use Rattle.std.specs.Prelude.{◌≡◌, ◌+◌, ◌<◌, ◌≤◌, Some, length};
 ghost use Rattle.row_elimination.specs.Held.{IsBegun};
-ghost use Rattle.frag_session.specs.Held.{one_more};
+ghost use Rattle.frag_session.specs.Held.{one_more, receiving};
 ghost use Rattle.frag_session.specs.Session.{Session, followed};
 ghost use Rattle.frag_session.specs.Stands.{Holds, IsOpen, Stands};
-ghost use Rattle.frag_session.specs.Steps.{area_of, become};
+ghost use Rattle.frag_session.specs.Steps.{area_of, become, told_of};
 ghost use Rattle.frag_session.specs.Shows.{receiving_seen, seen};
 ghost use Rattle.frag_model.specs.Limits.{max_parity_index};
 ghost use Rattle.frag_session.specs.Limits.{max_received};
@@ -106,6 +106,14 @@ impl<const W: usize, const B: usize> Receiving<W, B> {
         ensures { result ≡ self.now.setup }
     {
         self.setup
+    }
+
+    /// What it knows: the pieces that are still to be gained, and how many came uncoded.
+    #[tactic(auto, unfolding(crate::specs::Steps::told_of))]
+    pub(crate) fn told(&self) -> (u16, u16)
+        ensures { Some result ≡ told_of (receiving self.now) }
+    {
+        (self.solver.missing(), self.solver.pieces())
     }
 
     /// The solver that is kept.

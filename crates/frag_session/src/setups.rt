@@ -1,7 +1,7 @@
 //! What a session's setup asks for, and when it is refused.
 
 ghost use Rattle.std.specs.Prelude.{◌≡◌, ◌≤◌, nat_le};
-ghost use Rattle.frag_session.specs.Setup.{Room, rows_of, wrong_coding, too_large, other_descriptor, bit_where, setup_bits, lives};
+ghost use Rattle.frag_session.specs.Setup.{rows_of, too_long, wrong_coding, too_large, other_descriptor, bit_where, setup_bits, lives};
 
 use frag_model::lines::MAX_PIECES;
 use row_elimination::Solver;
@@ -41,17 +41,19 @@ pub struct Limits {
     pub descriptor: Option<u32>,
 }
 
-/// All refusal bits of a setup over the room that a solver has; 0 where it is accepted.
+/// All refusal bits of a setup over the room that a solver has, with so many bytes of flash where it is kept there; 0 where
+/// it is accepted.
 #[tactic(auto, unfolding(crate::specs::Setup::setup_bits))]
 pub fn refusal<const W: usize, const B: usize>(
     solver: &Solver<W, B>,
     req: SetupReq,
     limits: Limits,
+    span: Option<u32>,
 ) -> u8
-    ensures { result ≡ setup_bits limits (record { words = W; bytes = B; area = solver.now.area }) req }
+    ensures { result ≡ setup_bits limits (record { words = W; bytes = B; area = solver.now.area; span = span }) req }
 {
     let coding = bit(has_wrong_coding(req), 1);
-    let size = bit(is_too_large(solver, req, limits.rows), 2);
+    let size = bit(is_too_large(solver, req, limits.rows, span), 2);
     let index = bit(req.index >= limits.sessions, 4);
     let descriptor = bit(has_other_descriptor(limits.descriptor, req.descriptor), 8);
     coding + size + index + descriptor
@@ -88,12 +90,26 @@ fn is_too_large<const W: usize, const B: usize>(
     solver: &Solver<W, B>,
     req: SetupReq,
     rows: u16,
+    span: Option<u32>,
 ) -> bool
-    ensures { result ≡ too_large (record { words = W; bytes = B; area = solver.now.area }) rows req }
+    ensures { result ≡ too_large (record { words = W; bytes = B; area = solver.now.area; span = span }) rows req }
 {
-    req.nb_frag > MAX_PIECES
+    is_too_long(span, req)
+        || req.nb_frag > MAX_PIECES
         || req.frag_size > MAX_FRAGMENT
         || !solver.fits(req.nb_frag, req.frag_size, rows_of(rows, req))
+}
+
+/// Whether a session takes more flash than there is for it.
+fn is_too_long(span: Option<u32>, req: SetupReq) -> bool
+    ensures { result ≡ too_long span req }
+{
+    match span {
+        None => false,
+        Some(span) => {
+            span < 24_640 + (2 * u32::from(req.nb_frag) + 1) * (10 + u32::from(req.frag_size))
+        }
+    }
 }
 
 #[tactic(auto, unfolding(crate::specs::Setup::other_descriptor))]

@@ -1,15 +1,15 @@
 //! A place for one session, in whatever state it is.
 
 ghost use Rattle.std.specs.Prelude.{◌≡◌, ◌<◌, ◌≢◌, ◌≤◌, Option, None, Some, IfSome, is_some, length, option_map};
-ghost use Rattle.frag_session.specs.Setup.{Room, setup_bits, lives};
-ghost use Rattle.frag_session.specs.Session.{Session, new_session, followed, excludes, cause_of, drop_cause, answer_of, after_setup, after_fragment, view_of, status_by, status_in, status_of, is_overflow};
+ghost use Rattle.frag_session.specs.Setup.{memory_room, setup_bits, lives};
+ghost use Rattle.frag_session.specs.Session.{Session, new_session, followed, excludes, cause_of, drop_cause, answer_of, news_in, after_setup, after_fragment, view_of, status_by, status_in, status_of, is_overflow};
 ghost use Rattle.frag_session.specs.Held.{idle};
-ghost use Rattle.frag_session.specs.Steps.{area_of, session_setup, slot_cause, kept, become, CanHear, slot_seen};
+ghost use Rattle.frag_session.specs.Steps.{area_of, session_setup, slot_cause, kept, become, CanHear, slot_seen, told_of, news_between};
 ghost use Rattle.frag_session.specs.Shows.{seen};
 ghost use Rattle.frag_session.specs.Stands.{Stands};
 ghost use Rattle.frag_session.specs.Limits.{max_received};
 
-use crate::answers::{Cause, Heard, StatusAns, Verdict, Via, View};
+use crate::answers::{Cause, Heard, News, StatusAns, Verdict, Via, View};
 use crate::complete_state::Complete;
 use crate::conflicted_state::Conflicted;
 use crate::idle_state::Idle;
@@ -69,12 +69,12 @@ impl<const W: usize, const B: usize> Slot<W, B> {
     /// that make no file, 2 for more than there is room for, 4 for an index that is not there, 8 for another descriptor.
     /// Where there is none, a session that was made of an equal request stays, and any other gives way to a new one.
     pub fn setup(&mut self, req: SetupReq, limits: Limits) -> u8
-        ensures bits { result ≡ setup_bits limits (record { words = W; bytes = B; area = area_of self.old }) req }
-        ensures stands { (s : Option Session) → Stands self.old s → Stands self.new (after_setup limits (record { words = W; bytes = B; area = area_of self.old }) s req) }
+        ensures bits { result ≡ setup_bits limits (memory_room W B (area_of self.old)) req }
+        ensures stands { (s : Option Session) → Stands self.old s → Stands self.new (after_setup limits (memory_room W B (area_of self.old)) s req) }
         ensures refused { result ≢ 0 → self.new ≡ self.old }
         ensures area { area_of self.new ≡ area_of self.old }
     {
-        let bits = self.refusal(req, limits);
+        let bits = self.refusal(req, limits, None);
         if bits == 0 && !lives(self.session(), req) {
             self.renew(req, limits);
         }
@@ -85,18 +85,48 @@ impl<const W: usize, const B: usize> Slot<W, B> {
     /// lives, it came by a group that the mask has not, `n` is 0 or more than 8,380 above NbFrag, or `part` has not FragSize
     /// bytes. A verdict is shown with the mark of the fragment that brought it, and stays.
     pub fn fragment(&mut self, via: Via, n: u16, part: &[u8], mark: u64) -> Heard
-        ensures answer { (s : Option Session) → Stands self.old s → result ≡ answer_of (drop_cause s via n part.now) }
+        ensures answer { (s : Option Session) → Stands self.old s → result ≡ answer_of (drop_cause s via n part.now) (news_in s n part.now mark) }
         ensures stands { (s : Option Session) → Stands self.old s → Stands self.new (after_fragment s via n part.now mark) }
-        ensures dropped { result ≢ Heard.Fed → self.new ≡ self.old }
+        ensures dropped { (c : _) → result ≡ Heard.Dropped c → self.new ≡ self.old }
         ensures area { area_of self.new ≡ area_of self.old }
     {
         match dropped(self.session(), via, n, part) {
             Some(cause) => Heard::Dropped(cause),
             None => {
+                let before = self.told();
                 self.hear(n, part, mark);
-                Heard::Fed
+                Heard::Fed(news_between(before, self.told()))
             }
         }
+    }
+
+    /// All refusal bits of a setup, with so many bytes of flash where its session is kept there.
+    #[tactic(auto, unfolding(crate::specs::Steps::area_of))]
+    pub fn refusal(&self, req: SetupReq, limits: Limits, span: Option<u32>) -> u8
+        ensures { result ≡ setup_bits limits (record { words = W; bytes = B; area = area_of self.now; span = span }) req }
+    {
+        match &self.state {
+            Some(State::Idle(idle)) => refusal(idle.solver(), req, limits, span),
+            Some(State::Receiving(receiving)) => refusal(receiving.solver(), req, limits, span),
+            Some(State::Complete(complete)) => refusal(complete.solver(), req, limits, span),
+            Some(State::Overflowed(overflowed)) => refusal(overflowed.solver(), req, limits, span),
+            Some(State::Conflicted(conflicted)) => refusal(conflicted.solver(), req, limits, span),
+            None => 0,
+        }
+    }
+
+    /// Whether a session lives here.
+    pub fn has_session(&self) -> bool
+        ensures { (s : Option Session) → Stands self.now s → result ≡ is_some s }
+    {
+        self.session().is_some()
+    }
+
+    /// Whether the session that lives here stays at this request, since it was made of an equal one.
+    pub fn keeps(&self, req: SetupReq) -> bool
+        ensures { (s : Option Session) → Stands self.now s → result ≡ lives (option_map (λ (x : Session). x.setup) s) req }
+    {
+        lives(self.session(), req)
     }
 
     /// What the session shows, if there is one.
@@ -130,12 +160,20 @@ impl<const W: usize, const B: usize> Slot<W, B> {
         ensures area { area_of self.new ≡ area_of self.old }
     {
         let lived = self.session().is_some();
-        self.end();
+        self.clear();
         lived
     }
 
+    /// Ends the session, and gives the memory back.
+    pub fn end(self) -> Idle<W, B>
+        ensures { result ≡ area_of self.entry }
+    {
+        let Slot { state } = self;
+        cleared(state.unwrap())
+    }
+
     /// Ends the session, if there is one.
-    fn end(&mut self)
+    fn clear(&mut self)
         ensures { self.new ≡ idle (area_of self.old) }
     {
         if let Some(state) = self.state.take() {
@@ -143,9 +181,9 @@ impl<const W: usize, const B: usize> Slot<W, B> {
         }
     }
 
-    /// Puts a new session in the place of whatever lived.
-    fn renew(&mut self, req: SetupReq, limits: Limits)
-        requires { setup_bits limits (record { words = W; bytes = B; area = area_of self.old }) req ≡ 0 }
+    /// Puts a new session in the place of whatever lived. The request must have no refusal bit.
+    pub fn renew(&mut self, req: SetupReq, limits: Limits)
+        requires { setup_bits limits (memory_room W B (area_of self.old)) req ≡ 0 }
         ensures stands { Stands self.new (Some (new_session limits req)) }
         ensures area { area_of self.new ≡ area_of self.old }
     {
@@ -165,6 +203,17 @@ impl<const W: usize, const B: usize> Slot<W, B> {
         }
     }
 
+    /// What is known while nothing is decided.
+    #[tactic(auto, unfolding(crate::specs::Steps::told_of))]
+    fn told(&self) -> Option<(u16, u16)>
+        ensures { result ≡ told_of self.now }
+    {
+        match &self.state {
+            Some(State::Receiving(receiving)) => Some(receiving.told()),
+            _ => None,
+        }
+    }
+
     /// What the state shows.
     #[tactic(auto, unfolding(crate::specs::Steps::slot_seen, crate::specs::Steps::area_of))]
     fn shown(&self) -> Option<View<'_>>
@@ -181,21 +230,6 @@ impl<const W: usize, const B: usize> Slot<W, B> {
         }
     }
 
-    /// All refusal bits of a setup.
-    #[tactic(auto, unfolding(crate::specs::Steps::area_of))]
-    fn refusal(&self, req: SetupReq, limits: Limits) -> u8
-        ensures { result ≡ setup_bits limits (record { words = W; bytes = B; area = area_of self.now }) req }
-    {
-        match &self.state {
-            Some(State::Idle(idle)) => refusal(idle.solver(), req, limits),
-            Some(State::Receiving(receiving)) => refusal(receiving.solver(), req, limits),
-            Some(State::Complete(complete)) => refusal(complete.solver(), req, limits),
-            Some(State::Overflowed(overflowed)) => refusal(overflowed.solver(), req, limits),
-            Some(State::Conflicted(conflicted)) => refusal(conflicted.solver(), req, limits),
-            None => 0,
-        }
-    }
-
     /// The request that the session was made of.
     #[tactic(auto, unfolding(crate::specs::Steps::session_setup))]
     fn session(&self) -> Option<SetupReq>
@@ -207,6 +241,24 @@ impl<const W: usize, const B: usize> Slot<W, B> {
             Some(State::Overflowed(overflowed)) => Some(overflowed.setup()),
             Some(State::Conflicted(conflicted)) => Some(conflicted.setup()),
             _ => None,
+        }
+    }
+}
+
+/// Whether a fragment changed what is known.
+#[tactic(auto, unfolding(crate::specs::Steps::news_between))]
+fn news_between(before: Option<(u16, u16)>, after: Option<(u16, u16)>) -> News
+    ensures { result ≡ news_between before after }
+{
+    match (before, after) {
+        (None, _) => News::Old,
+        (Some(_), None) => News::New,
+        (Some(before), Some(after)) => {
+            if before.0 == after.0 && before.1 == after.1 {
+                News::Old
+            } else {
+                News::New
+            }
         }
     }
 }
@@ -239,7 +291,7 @@ fn renewed<const W: usize, const B: usize>(
     req: SetupReq,
     limits: Limits,
 ) -> State<W, B>
-    requires { setup_bits limits (record { words = W; bytes = B; area = area_of (kept state) }) req ≡ 0 }
+    requires { setup_bits limits (memory_room W B (area_of (kept state))) req ≡ 0 }
     ensures stands { Stands (kept result) (Some (new_session limits req)) }
     ensures area { area_of (kept result) ≡ area_of (kept state.entry) }
 {

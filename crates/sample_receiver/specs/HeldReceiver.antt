@@ -11,12 +11,12 @@ use Rattle.frag_session.specs.declared.answers.Verdict.TheVariants as verdict
 use Rattle.frag_session.specs.Held.{HeldSlot}
 use Rattle.frag_session.specs.Steps.{area_of}
 use Rattle.frag_session.specs.Stands.{Stands}
-use Rattle.frag_session.specs.Setup.{Room, setup_bits}
+use Rattle.frag_session.specs.Setup.{Room, memory_room, setup_bits}
 use Rattle.frag_session.specs.Session.{Session, Seen, after_setup, after_fragment}
 
 -- 16 rows of 4 words and 48 bytes, and 256 pieces of 48 bytes
 abbrev pub room : Room
-room = record { words = 64; bytes = 768; area = 12288 }
+room = memory_room 64 768 12288
 
 abbrev pub limits : Limits
 limits = record { sessions = 1; rows = 16; descriptor = None }

@@ -187,7 +187,7 @@ fn begun(rt: &impl Abort, alloc: Global, nb_frag: u16, rows: u16) -> SmallSlot {
 fn feed(rt: &impl Abort, slot: &mut SmallSlot, fragments: &[(u16, u8)], first_mark: u64) {
     for (i, (n, byte)) in fragments.iter().enumerate() {
         let mark = first_mark.wrapping_add(i as u64);
-        assert_eq!(rt; slot.fragment(Via::Unicast, *n, &[*byte], mark), Heard::Fed);
+        assert!(rt; matches!(slot.fragment(Via::Unicast, *n, &[*byte], mark), Heard::Fed(_)));
     }
 }
 
@@ -310,8 +310,8 @@ fn fragments_are_dropped_for_the_first_cause(rt: HostRuntime) {
         (Via::Unicast, 8385, &[0x11], Heard::Dropped(Cause::Index)),
         (Via::Group(1), 1, &[0x11, 0x22], Heard::Dropped(Cause::Size)),
         (Via::Unicast, 8384, &[], Heard::Dropped(Cause::Size)),
-        (Via::Group(1), 1, &[0x11], Heard::Fed),
-        (Via::Unicast, 8384, &[0x11], Heard::Fed),
+        (Via::Group(1), 1, &[0x11], Heard::Fed(News::New)),
+        (Via::Unicast, 8384, &[0x11], Heard::Fed(News::New)),
     ];
     let mut slot: SmallSlot = reserved(&rt, rt.alloc(), 4);
     assert_eq!(rt;
@@ -360,10 +360,10 @@ fn the_padding_is_no_part_of_the_file(rt: HostRuntime) {
         ..SETUP
     };
     assert_eq!(rt; slot.setup(padded, LIMITS), 0);
-    assert_eq!(rt; slot.fragment(Via::Unicast, 2, &[0x33, 0], 1), Heard::Fed);
+    assert_eq!(rt; slot.fragment(Via::Unicast, 2, &[0x33, 0], 1), Heard::Fed(News::New));
     assert_eq!(rt;
         slot.fragment(Via::Unicast, 1, &[0x11, 0x22], 2),
-        Heard::Fed
+        Heard::Fed(News::New)
     );
     let view = slot.view().expect(&rt, "no session");
     assert_eq!(rt; view.file, [0x11, 0x22, 0x33].as_slice());

@@ -9,8 +9,8 @@ returns-clause-answer g c = λ s k. c.is_some-lived.ensures ∙ ap is_some c.ses
 
 pub returns-clause-stands : goal.returns-clause-stands
 unfolding Stands
-returns-clause-stands g c = rw c.end.ensures tt
+returns-clause-stands g c = rw c.clear.ensures tt
 
 pub returns-clause-area : goal.returns-clause-area
 unfolding area_of
-returns-clause-area g c = rw c.end.ensures refl
+returns-clause-area g c = rw c.clear.ensures refl

@@ -1,8 +1,8 @@
-use Rattle.std.proofs.Common.{Option, Some, None, lit≤, ap, ◌∙◌}
+use Rattle.std.proofs.Common.{Option, lit≤, ap, ap₂, ◌∙◌}
 use Rattle.frag_session.specs.declared.setups.SetupReq.{SetupReq}
-use Rattle.frag_session.specs.Session.{answer_of}
-use Rattle.frag_session.specs.Steps.{slot_cause}
-use Rattle.frag_session.proofs.Calls.{answer_same, dropped_stands, heard_stands, can_hear_kept}
+use Rattle.frag_session.specs.declared.answers.Heard.TheVariants as Heard
+use Rattle.frag_session.specs.Steps.{slot_cause, news_between}
+use Rattle.frag_session.proofs.Calls.{dropped_answer, heard_answer, dropped_stands, heard_stands, can_hear_kept}
 use Rattle.frag_session.proofs.slots.Slot.fragment.Goals as goal
 
 pub hear-requires : goal.hear-requires
@@ -13,9 +13,8 @@ hear-requires g c = (
 )
 
 pub returns-in-Some-clause-answer : goal.returns-in-Some-clause-answer
-unfolding answer_of
 returns-in-Some-clause-answer g c = λ s k.
-    answer_same c.args.self.now s c.args.via c.args.n c.args.part.now (Some c.in-Some.cause) k
+    dropped_answer c.args.self.now s c.args.via c.args.n c.args.part.now c.args.mark c.in-Some.cause k
     (c.in-Some.ensures ∙ ap (λ (o : Option SetupReq). slot_cause o c.args.via c.args.n c.args.part.now) c.session.ensures)
 
 pub returns-in-Some-clause-stands : goal.returns-in-Some-clause-stands
@@ -24,10 +23,10 @@ returns-in-Some-clause-stands g c = λ s k.
     (c.in-Some.ensures ∙ ap (λ (o : Option SetupReq). slot_cause o c.args.via c.args.n c.args.part.now) c.session.ensures)
 
 pub returns-in-None-clause-answer : goal.returns-in-None-clause-answer
-unfolding answer_of
 returns-in-None-clause-answer g c = λ s k.
-    answer_same c.args.self.now s c.args.via c.args.n c.args.part.now None k
-    (c.in-None.ensures ∙ ap (λ (o : Option SetupReq). slot_cause o c.args.via c.args.n c.args.part.now) c.session.ensures)
+    ap Heard.Fed (c.news_between.ensures ∙ ap₂ news_between c.told-before.ensures c.told.ensures)
+    ∙ heard_answer c.args.self.now c.hear.new.self s c.args.via c.args.n c.args.part.now c.args.mark k
+    (c.in-None.ensures ∙ ap (λ (o : Option SetupReq). slot_cause o c.args.via c.args.n c.args.part.now) c.session.ensures) c.hear.ensures.stands
 
 pub returns-in-None-clause-stands : goal.returns-in-None-clause-stands
 returns-in-None-clause-stands g c = λ s k.
