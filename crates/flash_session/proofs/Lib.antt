@@ -1,0 +1,12 @@
+pub mod Apart
+pub mod Behind
+pub mod Headers
+pub mod Hearing
+pub mod Moments
+pub mod Okay
+pub mod Openable
+pub mod Places
+pub mod Renewing
+pub mod Runs
+pub mod Steps
+pub mod Unique

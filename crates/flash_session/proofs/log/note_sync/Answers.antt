@@ -1,0 +1,15 @@
+use Rattle.std.proofs.Common.{List, length, sym, subst}
+use Rattle.flash_session.specs.declared.log.Step.{Step}
+use Rattle.flash_session.specs.Contents.{Same}
+use Rattle.flash_session.specs.Moments.{Elapses}
+use Rattle.flash_session.specs.Log.{LeftSince}
+use Rattle.flash_session.proofs.Steps.{sync_stops, sync_keeps}
+use Rattle.flash_session.proofs.log.note_sync.Goals as goal
+
+pub returns-clause-kept : goal.returns-clause-kept
+returns-clause-kept c = λ b left. sync_keeps c.args.log.now.items c.args.bytes.now b
+    (subst (λ (l : List Step). LeftSince l c.args.bytes.now (length l) b) c.note.ensures.log left)
+
+pub returns-clause-stops : goal.returns-clause-stops
+returns-clause-stops c = subst (λ (l : List Step). Elapses Same (length c.args.log.now.items) (length l) (LeftSince c.args.log.now.items c.args.bytes.now) (LeftSince l c.args.bytes.now))
+    (sym c.note.ensures.log) (sync_stops c.args.log.now.items c.args.bytes.now)

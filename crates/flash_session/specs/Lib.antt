@@ -1,0 +1,13 @@
+pub mod Body
+pub mod Contents
+pub mod Gates
+pub mod HeldInside
+pub mod HeldSession
+pub mod InRange
+pub mod Layout
+pub mod Lies
+pub mod Log
+pub mod Moments
+pub mod Opening
+pub mod Replayed
+pub mod Sessions

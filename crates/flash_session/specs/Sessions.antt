@@ -1,0 +1,91 @@
+-- When a session in flash stands for a history, and what lies in a range for one.
+use Rattle.std.specs.Prelude.{◌≡◌, ℕ, ◌+◌, ◌*◌, ◌≤◌, min, List, length, Option, None, Some, option_map}
+use Rattle.frag_model.specs.Fragments.{Fragment}
+use Rattle.frag_model.specs.Laws.{AreNumbered}
+use Rattle.frag_model.specs.News.{news, MeanTheSame}
+use Rattle.frag_session.specs.Setup.{rows_of, setup_bits}
+use Rattle.frag_session.specs.Session.{Session, shape_of, received_count}
+use Rattle.frag_session.specs.Held.{HeldSlot}
+use Rattle.frag_session.specs.Stands.{Stands}
+use Rattle.flash_session.specs.Body.{IsBody}
+use Rattle.flash_session.specs.HeldSession.{HeldSession, room_in}
+use Rattle.flash_session.specs.InRange.{AllInRange}
+use Rattle.flash_session.specs.Lies.{Stored, Lies, NoSession, IsStoredAs}
+
+-- a session as it is stored: of what it heard, what was new is a record
+unfoldable pub stored_of : Session → (body : List ℕ) → (tallies : ℕ) → Stored
+stored_of s body tallies = record {
+  body = body;
+  most = 2 * s.setup.nb_frag + 1;
+  size = s.setup.frag_size;
+  records = news (shape_of s) s.heard;
+  tallies = tallies;
+}
+
+abbrev pub stored_as : Option Session → (body : List ℕ) → (tallies : ℕ) → Option Stored
+stored_as None body tallies = None
+stored_as (Some s) body tallies = Some (stored_of s body tallies)
+
+-- the body is that of the session, if there is one
+abbrev pub IsBodyOf : List ℕ → Option Session → Type 0
+IsBodyOf body None = Unit {0}
+IsBodyOf body (Some s) = IsBody body s.setup
+
+-- records and tallies together number what was heard, up to the count's end
+abbrev pub IsCount : Session → ℕ → Type 0
+IsCount s tallies = min (length (news (shape_of s) s.heard) + tallies) 16383 ≡ received_count (length s.heard)
+
+-- a session that heard another list
+unfoldable pub hearing : Session → List Fragment → Session
+hearing s heard = record s { heard = heard }
+
+-- the slot stands for a list that means the same, so but for the count it shows what the session shows
+pub record StandsBut (x : HeldSlot) (s : Session) : Type 0 where
+  pub fed : List Fragment
+  pub stands : Stands x (Some (hearing s fed))
+  pub means : MeanTheSame (shape_of s) fed s.heard
+
+-- it can be opened: its setup has no refusal bit, that on the range's length included, and what it heard is numbered from 1 on,
+-- in the numbers that a record has room for
+pub record IsOpenable (h : HeldSession) (s : Session) : Type 0 where
+  pub taken : setup_bits h.limits (room_in h) s.setup ≡ 0
+  pub rows : s.rows ≡ rows_of h.limits.rows s.setup
+  pub numbered : AreNumbered s.heard
+  pub ranged : AllInRange (news (shape_of s) s.heard)
+
+abbrev pub IsOpenableAs : HeldSession → Option Session → Type 0
+IsOpenableAs h None = Unit {0}
+IsOpenableAs h (Some s) = IsOpenable h s
+
+-- the session lies there, and can be opened: opening gives what stands for it
+pub record LiesFor (h : HeldSession) (s : Session) (c : List ℕ) : Type 0 where
+  pub openable : IsOpenable h s
+  pub body : List ℕ
+  pub tallies : ℕ
+  pub its_body : IsBody body s.setup
+  pub counted : IsCount s tallies
+  pub lies : Lies h.base (stored_of s body tallies) c
+
+-- or that there is none
+abbrev pub LiesForAs : HeldSession → Option Session → List ℕ → Type 0
+LiesForAs h None c = NoSession h.base c
+LiesForAs h (Some s) c = LiesFor h s c
+
+-- what is held in memory stands for the session
+pub record HeldStands (h : HeldSession) (s : Session) : Type 0 where
+  pub slot : StandsBut h.slot s
+  pub openable : IsOpenable h s
+  pub records : h.records ≡ length (news (shape_of s) s.heard)
+  pub counted : IsCount s h.tallies
+  pub few : h.tallies ≤ 16383
+
+abbrev pub HeldStandsAs : HeldSession → Option Session → Type 0
+HeldStandsAs h None = Stands h.slot None
+HeldStandsAs h (Some s) = HeldStands h s
+
+-- and it is what a read gives, and what a stop leaves in the range
+pub record IsHeldAs (h : HeldSession) (o : Option Session) (holds left : List ℕ → Type 0) : Type 0 where
+  pub stands : HeldStandsAs h o
+  pub body : List ℕ
+  pub its_body : IsBodyOf body o
+  pub stored : IsStoredAs h.base h.span (stored_as o body h.tallies) holds left

@@ -1,0 +1,66 @@
+//! A flash that never fails, and of which no stop is told.
+
+ghost use Rattle.std.specs.Prelude.{◌≡◌, ◌^◌, ◌<◌, length, IfOk, replicate};
+
+use crate::flash::{Failed, Flash};
+use std::alloc::{AllocError, Global};
+
+/// Cells in memory. They never fail.
+#[derive(Drop)]
+pub struct CellFlash {
+    cells: Vec<u8>,
+    ghost small: { length cells.items < 2 ^ 32 },
+}
+
+impl CellFlash {
+    /// So many bytes, all 0.
+    pub fn reserve(alloc: Global, size: u32) -> Result<Self, AllocError>
+        ensures { IfOk result (λ f. f.cells.items ≡ replicate size 0) }
+    {
+        let cells = vec![in alloc; 0u8; size as usize]?;
+        Ok(CellFlash { cells })
+    }
+}
+
+impl Flash for CellFlash {
+    ghost use Rattle.std.specs.Prelude.{◌≡◌, length};
+
+    ghost holds = { λ f c. c ≡ f.cells.items };
+
+    ghost left_since = { λ f t c. ⊥ };
+
+    ghost moment = { λ f. 0 };
+
+    ghost faults = { λ f. 0 };
+
+    ghost room = { λ f. length f.cells.items };
+
+    ghost small = { λ f. f.small };
+
+    fn size(&self) -> u32 {
+        self.cells.len() as u32
+    }
+
+    fn read(&mut self, at: u32, buf: &mut [u8]) -> Result<(), Failed> {
+        let at = at as usize;
+        let len = buf.len();
+        buf.copy_from_slice(&self.cells[at..at + len]);
+        Ok(())
+    }
+
+    fn write(&mut self, at: u32, piece: &[u8]) -> Result<(), Failed> {
+        let at = at as usize;
+        self.cells[at..at + piece.len()].copy_from_slice(piece);
+        Ok(())
+    }
+
+    fn fill(&mut self, at: u32, n: u32) -> Result<(), Failed> {
+        let at = at as usize;
+        self.cells[at..at + n as usize].fill(0);
+        Ok(())
+    }
+
+    fn sync(&mut self) -> Result<(), Failed> {
+        Ok(())
+    }
+}

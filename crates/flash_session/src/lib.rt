@@ -1,0 +1,26 @@
+//! Sessions of fragments held in flash (this project's profile): a flash as a trait, which tells what it holds and what a stop
+//! may leave, three flashes in memory, and a session that lies in a range of one. Whatever call is stopped, opening the range
+//! again gives a session that stands for what was acknowledged, or for that and the fragment of the call that was stopped.
+//! Where sessions lie, and what becomes of a whole file, is left to the device above.
+#![tactic(auto)]
+
+mod beginning;
+mod cells;
+mod flash;
+mod held;
+mod log;
+mod memory;
+mod reading;
+//mod replaying;
+mod schedule;
+mod stops;
+mod storing;
+
+pub use cells::CellFlash;
+pub use flash::{Failed, Flash};
+pub use held::Held;
+pub use memory::MemFlash;
+pub use stops::StopFlash;
+
+#[cfg(test)]
+mod tests;

@@ -1,0 +1,84 @@
+//! What was done to a flash in memory, step by step.
+
+ghost use Rattle.std.specs.Prelude.{◌≡◌, ℕ, ◌+◌, ◌^◌, ◌<◌, ◌≤◌, List, [], ◌∷◌, ◌++◌, length, get_or, replicate, slice_set, vec_len, vec_capacity};
+ghost use Rattle.flash_session.specs.Contents.{SameOutside, Same, Put};
+ghost use Rattle.flash_session.specs.Moments.{Elapses};
+ghost use Rattle.flash_session.specs.Log.{LeftAt, LeftSince};
+
+/// One step: a byte was overwritten, at this place, and it was this; or all that was written was synced.
+#[derive(Clone, Copy, Debug, PartialEq, Eq)]
+pub enum Step {
+    Was(u32, u8),
+    Synced,
+}
+
+/// Notes a step, for which there is room.
+fn note(log: &mut Vec<Step>, step: Step)
+    requires { vec_len log.old < vec_capacity log.old }
+    ensures log { log.new.items ≡ log.old.items ++ step ∷ [] }
+    ensures len { vec_len log.new ≡ vec_len log.old + 1 }
+    ensures capacity { vec_capacity log.old ≤ vec_capacity log.new }
+{
+    if log.push(step).is_err() {
+        unreachable!();
+    }
+}
+
+/// Writes one byte.
+fn put(bytes: &mut [u8], log: &mut Vec<Step>, at: usize, byte: u8)
+    requires within { at < length bytes.old }
+    requires small { length bytes.old < 2 ^ 32 }
+    requires room { vec_len log.old < vec_capacity log.old }
+    ensures bytes { bytes.new ≡ slice_set bytes.old at byte }
+    ensures log { log.new.items ≡ log.old.items ++ Step.Was at (get_or bytes.old at 0) ∷ [] }
+    ensures len { vec_len log.new ≡ vec_len log.old + 1 }
+    ensures capacity { vec_capacity log.old ≤ vec_capacity log.new }
+{
+    note(log, Step::Was(at as u32, bytes[at]));
+    bytes[at] = byte;
+}
+
+/// Writes a piece, byte by byte.
+pub fn put_all(bytes: &mut [u8], log: &mut Vec<Step>, at: usize, piece: &[u8])
+    requires within { at + length piece.now ≤ length bytes.old }
+    requires small { length bytes.old < 2 ^ 32 }
+    requires room { vec_len log.old + length piece.now ≤ vec_capacity log.old }
+    ensures put { Put at piece.now bytes.old bytes.new }
+    ensures stops { Elapses (SameOutside at (length piece.now)) (length log.old.items) (length log.new.items)
+        (LeftSince log.old.items bytes.old) (LeftSince log.new.items bytes.new) }
+    ensures len { vec_len log.new ≡ vec_len log.old + length piece.now }
+    ensures capacity { vec_capacity log.old ≤ vec_capacity log.new }
+{
+    for i in 0..piece.len() {
+        put(bytes, log, at + i, piece[i]);
+    }
+}
+
+/// Writes zeros, byte by byte.
+pub fn put_zeros(bytes: &mut [u8], log: &mut Vec<Step>, at: usize, n: usize)
+    requires within { at + n ≤ length bytes.old }
+    requires small { length bytes.old < 2 ^ 32 }
+    requires room { vec_len log.old + n ≤ vec_capacity log.old }
+    ensures put { Put at (replicate n 0) bytes.old bytes.new }
+    ensures stops { Elapses (SameOutside at n) (length log.old.items) (length log.new.items)
+        (LeftSince log.old.items bytes.old) (LeftSince log.new.items bytes.new) }
+    ensures len { vec_len log.new ≡ vec_len log.old + n }
+    ensures capacity { vec_capacity log.old ≤ vec_capacity log.new }
+{
+    for i in 0..n {
+        put(bytes, log, at + i, 0);
+    }
+}
+
+/// Notes a sync.
+pub fn note_sync(bytes: &[u8], log: &mut Vec<Step>)
+    requires room { vec_len log.old < vec_capacity log.old }
+    ensures kept { (c : List ℕ) → LeftSince log.new.items bytes.now (length log.new.items) c → Same bytes.now c }
+    ensures stops { Elapses Same (length log.old.items) (length log.new.items)
+        (LeftSince log.old.items bytes.now) (LeftSince log.new.items bytes.now) }
+    ensures len { vec_len log.new ≡ vec_len log.old + 1 }
+    ensures capacity { vec_capacity log.old ≤ vec_capacity log.new }
+{
+    let _ = bytes;
+    note(log, Step::Synced);
+}

@@ -1,0 +1,96 @@
+//! A flash in memory that can fail and be stopped.
+
+ghost use Rattle.std.specs.Prelude.{◌≡◌, ◌^◌, ◌<◌, ◌≤◌, [], length, replicate, IfOk, vec_len, vec_capacity};
+
+use crate::flash::{Failed, Flash};
+use crate::log::{Step, note_sync, put_all, put_zeros};
+use crate::schedule::Schedule;
+use std::alloc::{AllocError, Global};
+
+/// Bytes in memory with a log of what was done to them. A call fails exactly where its number is listed, or the log has no
+/// room for it: a byte that is written takes one step of it, and a sync one.
+#[derive(Drop)]
+pub struct MemFlash {
+    pub(crate) bytes: Vec<u8>,
+    pub(crate) log: Vec<Step>,
+    room: usize,
+    pub(crate) schedule: Schedule,
+    ghost small: { length bytes.items < 2 ^ 32 },
+    ghost within: { vec_len log ≤ room },
+    ghost reserved: { room ≤ vec_capacity log },
+}
+
+impl MemFlash {
+    /// So many bytes, all 0, with room for so many steps, and the numbers of the calls that fail, counted from 1.
+    pub fn reserve(alloc: Global, size: u32, room: u32, fails: Vec<u64>) -> Result<Self, AllocError>
+        ensures bytes { IfOk result (λ f. f.bytes.items ≡ replicate size 0) }
+        ensures log { IfOk result (λ f. f.log.items ≡ []) }
+    {
+        let bytes = vec![in alloc; 0u8; size as usize]?;
+        let log = Vec::with_capacity(alloc, room as usize)?;
+        Ok(MemFlash {
+            bytes,
+            log,
+            room: room as usize,
+            schedule: Schedule::new(fails),
+        })
+    }
+}
+
+impl Flash for MemFlash {
+    ghost use Rattle.std.specs.Prelude.{◌≡◌, length};
+    ghost use Rattle.flash_session.specs.Log.{LeftSince};
+
+    ghost holds = { λ f c. c ≡ f.bytes.items };
+
+    ghost left_since = { λ f. LeftSince f.log.items f.bytes.items };
+
+    ghost moment = { λ f. length f.log.items };
+
+    ghost faults = { λ f. f.schedule.faults };
+
+    ghost room = { λ f. length f.bytes.items };
+
+    ghost small = { λ f. f.small };
+
+    fn size(&self) -> u32 {
+        self.bytes.len() as u32
+    }
+
+    fn read(&mut self, at: u32, buf: &mut [u8]) -> Result<(), Failed> {
+        if self.schedule.fails_now(false) {
+            return Err(Failed);
+        }
+        let at = at as usize;
+        let len = buf.len();
+        buf.copy_from_slice(&self.bytes[at..at + len]);
+        Ok(())
+    }
+
+    fn write(&mut self, at: u32, piece: &[u8]) -> Result<(), Failed> {
+        let full = self.room - self.log.len() < piece.len();
+        if self.schedule.fails_now(full) {
+            return Err(Failed);
+        }
+        put_all(&mut self.bytes, &mut self.log, at as usize, piece);
+        Ok(())
+    }
+
+    fn fill(&mut self, at: u32, n: u32) -> Result<(), Failed> {
+        let full = self.room - self.log.len() < n as usize;
+        if self.schedule.fails_now(full) {
+            return Err(Failed);
+        }
+        put_zeros(&mut self.bytes, &mut self.log, at as usize, n as usize);
+        Ok(())
+    }
+
+    fn sync(&mut self) -> Result<(), Failed> {
+        let full = self.room - self.log.len() < 1;
+        if self.schedule.fails_now(full) {
+            return Err(Failed);
+        }
+        note_sync(&self.bytes, &mut self.log);
+        Ok(())
+    }
+}

@@ -1,0 +1,100 @@
+//! A flash that is stopped after so many calls.
+
+ghost use Rattle.std.specs.Prelude.{◌≡◌, ◌≤◌};
+ghost use Rattle.std.specs.Bool.{OnTrue, OnFalse};
+ghost use Rattle.flash_session.specs.Contents.{HasRisen};
+
+use crate::flash::{Failed, Flash};
+use crate::memory::MemFlash;
+
+/// Passes the first calls on, and then fails each: nothing reaches the flash inside from then on.
+#[derive(Drop)]
+pub struct StopFlash {
+    flash: MemFlash,
+    left: u64,
+    failed: u64,
+}
+
+impl StopFlash {
+    /// Passes `k` calls.
+    pub fn over(flash: MemFlash, k: u64) -> Self
+        ensures flash { result.flash ≡ flash }
+        ensures calls { result.left ≡ k }
+    {
+        StopFlash {
+            flash,
+            left: k,
+            failed: 0,
+        }
+    }
+
+    /// The flash inside.
+    pub fn inner(self) -> MemFlash
+        ensures { result ≡ self.flash }
+    {
+        self.flash
+    }
+}
+
+/// Whether the next call still passes; counts a fault where it does not.
+fn passes(left: &mut u64, failed: &mut u64) -> bool
+    ensures risen { OnFalse result (HasRisen failed.old failed.new) }
+    ensures kept { OnTrue result (failed.new ≡ failed.old) }
+    ensures later { failed.old ≤ failed.new }
+{
+    if *left == 0 {
+        *failed = failed.saturating_add(1);
+        return false;
+    }
+    *left -= 1;
+    true
+}
+
+impl Flash for StopFlash {
+    ghost use Rattle.std.specs.Prelude.{◌≡◌, ◌+◌, length};
+    ghost use Rattle.flash_session.specs.Log.{LeftSince};
+
+    ghost holds = { λ s c. c ≡ s.flash.bytes.items };
+
+    ghost left_since = { λ s. LeftSince s.flash.log.items s.flash.bytes.items };
+
+    ghost moment = { λ s. length s.flash.log.items };
+
+    ghost faults = { λ s. s.flash.schedule.faults + s.failed };
+
+    ghost room = { λ s. length s.flash.bytes.items };
+
+    ghost small = { λ s. s.flash.small };
+
+    fn size(&self) -> u32 {
+        self.flash.size()
+    }
+
+    fn read(&mut self, at: u32, buf: &mut [u8]) -> Result<(), Failed> {
+        if !passes(&mut self.left, &mut self.failed) {
+            return Err(Failed);
+        }
+        self.flash.read(at, buf)
+    }
+
+    fn write(&mut self, at: u32, piece: &[u8]) -> Result<(), Failed> {
+        if !passes(&mut self.left, &mut self.failed) {
+            return Err(Failed);
+        }
+        self.flash.write(at, piece)
+    }
+
+    fn fill(&mut self, at: u32, n: u32) -> Result<(), Failed> {
+        if !passes(&mut self.left, &mut self.failed) {
+            return Err(Failed);
+        }
+        self.flash.fill(at, n)
+    }
+
+    fn sync(&mut self) -> Result<(), Failed> {
+        if !passes(&mut self.left, &mut self.failed) {
+            return Err(Failed);
+        }
+        self.flash.sync()
+    }
+}
