@@ -2,7 +2,7 @@
 
 ghost use Rattle.std.specs.Prelude.{◌≡◌, ◌≢◌, ◌<◌, ◌≤◌, Option, None, IfOk, IfSome, is_some, option_map, length};
 ghost use Rattle.frag_session.specs.Setup.{setup_bits};
-ghost use Rattle.frag_session.specs.Session.{answer_of, drop_cause, status_of, view_of};
+ghost use Rattle.frag_session.specs.Session.{answer_of, drop_cause, news_in, status_of, view_of};
 ghost use Rattle.frag_session.specs.Shows.{seen};
 ghost use Rattle.frag_session.specs.Stands.{Stands};
 ghost use Rattle.frag_session.specs.Steps.{area_of};
@@ -80,10 +80,11 @@ impl SessionSlots {
     pub fn fragment(&mut self, index: u8, via: Via, n: u16, part: &[u8], mark: u64) -> Heard
         requires { index < 4 }
         ensures answer { (table : SessionTable) → SessionsStand self.old table
-            → result ≡ answer_of (drop_cause (session_at table index) via n part.now) }
+            → result ≡ answer_of (drop_cause (session_at table index) via n part.now)
+            (news_in (session_at table index) n part.now mark) }
         ensures stands { TableBecomes self.old self.new
             (table_after_fragment index via n part.now mark) }
-        ensures dropped { result ≢ Heard.Fed → self.new ≡ self.old }
+        ensures dropped { (c : _) → result ≡ Heard.Dropped c → self.new ≡ self.old }
         ensures area { self.new.area ≡ self.old.area }
     {
         match index {

@@ -1,13 +1,15 @@
 -- Several sessions on one flash, each in a range of its own.
-use Rattle.std.proofs.Common.{◌⊎◌, ℕ, ◌+◌, ◌<◌, ◌≤◌, List, Option, None, Some, inl, inr, sym, ◌∙◌, arith}
-use Rattle.flash_session.specs.Contents.{SameOutside, SameWithin, Follows}
+use Rattle.std.proofs.Common.{◌≡◌, subst, ◌⊎◌, ℕ, ◌+◌, ◌<◌, ◌≤◌, List, Option, None, Some, inl, inr, sym, ◌∙◌, arith}
+use Rattle.flash_session.specs.Apart.{AreApart}
+use Rattle.flash_session.specs.Contents.{byte_at, SameOutside, SameWithin, Follows}
 use Rattle.flash_session.specs.Moments.{Elapses, LeavesOnly}
 use Rattle.flash_session.specs.Lies.{Stored, LiesAs, FitsAs, IsStoredAs}
-use Rattle.flash_session.proofs.Places.{lies_apart}
-
--- the ranges do not meet
-abbrev pub AreApart : (base span base2 span2 : ℕ) → Type 0
-AreApart base span base2 span2 = (base + span ≤ base2) ⊎ (base2 + span2 ≤ base)
+use Rattle.flash_session.proofs.Places.{lies_apart, lies_within}
+use Rattle.frag_session.specs.Session.{Session}
+use Rattle.flash_session.specs.HeldSession.{HeldSession}
+use Rattle.flash_session.specs.Sessions.{stored_as, LiesForAs, IsHeldAs}
+use Rattle.flash_session.proofs.Moments.{weaker}
+use Rattle.flash_session.proofs.Renewing.{old_lies}
 
 -- what a range stands for does not depend on another
 pub lies_as_apart : (base span base2 span2 : ℕ) (o : Option Stored) → 0 < span2 → FitsAs span2 o → AreApart base span base2 span2 → (c d : List ℕ) → SameOutside base span c d → LiesAs base2 o c → LiesAs base2 o d
@@ -43,4 +45,41 @@ others_stored base span base2 span2 o some apart holds0 left0 holds left stored 
   fits = stored.fits;
   read = λ b now. let from = outside.from b now in lies_as_apart base span base2 span2 o some stored.fits apart from.0 b from.2 (stored.read from.0 from.1);
   kept = kept;
+}
+
+-- ---- sessions that are held
+
+within_as : (k : HeldSession) (o : Option Session) (x : Option Stored) → FitsAs k.span x → 0 < k.span → (b c : List ℕ) → SameWithin k.base k.span b c → LiesAs k.base x b → LiesAs k.base x c
+within_as k o None fits some b c same none = λ is. none (sym (subst (λ (j : ℕ). byte_at c j ≡ byte_at b j) (omega arith) (same.within 0 some)) ∙ is)
+within_as k o (Some s) fits some b c same lies = lies_within k.base k.span s fits b c same lies
+
+-- behind a call on another range the session is held as it was
+pub other_held : (k : HeldSession) (o : Option Session) (base span : ℕ) → AreApart base span k.base k.span → 24640 ≤ k.span → (holds0 left0 holds left : List ℕ → Type 0)
+    → IsHeldAs k o holds0 left0 → Follows (SameOutside base span) holds0 holds → (Follows (SameWithin k.base k.span) holds0 left0 → Follows (SameWithin k.base k.span) holds left)
+    → IsHeldAs k o holds left
+other_held k o base span apart long holds0 left0 holds left held outside kept = record {
+  stands = held.stands;
+  counted = held.counted;
+  body = held.body;
+  its_body = held.its_body;
+  stored = others_stored base span k.base k.span (stored_as o held.body k.tallies) (omega (arith, long)) apart holds0 left0 holds left held.stored outside (kept held.stored.kept);
+}
+
+-- and at any moment of it a stop leaves what opens for it
+pub other_moments : (k : HeldSession) (o : Option Session) (base span : ℕ) → AreApart base span k.base k.span → 24640 ≤ k.span → (holds : List ℕ → Type 0)
+    → (m n : ℕ) (past since : ℕ → List ℕ → Type 0) → IsHeldAs k o holds (past m) → Elapses (SameOutside base span) m n past since → LeavesOnly (LiesForAs k o) m n past since
+other_moments k o base span apart long holds m n past since held call =
+    weaker (LiesAs k.base (stored_as o held.body k.tallies)) (LiesForAs k o) m n past since (λ c lies. old_lies k o holds (past m) held c lies)
+    (others_any_moment base span k.base k.span (stored_as o held.body k.tallies) (omega (arith, long)) held.stored.fits apart m n past since
+    (λ c now. left_as k.base k.span (stored_as o held.body k.tallies) (omega (arith, long)) holds (past m) held.stored (within_as k o (stored_as o held.body k.tallies) held.stored.fits (omega (arith, long))) c now) call)
+
+-- two things that hold at any moment hold together
+pub both_moments : (P Q : List ℕ → Type 0) (m n : ℕ) (past since : ℕ → List ℕ → Type 0) → LeavesOnly P m n past since → LeavesOnly Q m n past since → LeavesOnly (λ c. P c × Q c) m n past since
+both_moments P Q m n past since one two = record {
+  later = one.later;
+  each = λ c left. (one.each c left, two.each c left);
+  earlier = λ t c le left. elim (one.earlier t c le left) [
+    | inl before ↦ inl before
+    | inr p ↦ elim (two.earlier t c le left) [ inl before ↦ inl before | inr q ↦ inr (p, q) ]
+  ];
 }

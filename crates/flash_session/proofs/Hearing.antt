@@ -23,8 +23,8 @@ use Rattle.frag_session.specs.Steps.{area_of}
 use Rattle.frag_session.proofs.Calls.{can_hear}
 use Rattle.flash_session.specs.Body.{IsBody}
 use Rattle.flash_session.specs.HeldSession.{HeldSession}
-use Rattle.flash_session.specs.Sessions.{stored_of, IsCount, IsOpenable, LiesFor, LiesForAs, hearing, StandsBut, HeldStands, HeldStandsAs, IsHeldAs}
-use Rattle.flash_session.proofs.Openable.{openable_room, openable_same, lies_for}
+use Rattle.flash_session.specs.Sessions.{stored_of, IsCount, IsOpenable, LiesFor, LiesForAs, hearing, StandsBut, HeldStands, HeldStandsAs, CountsAs, IsHeldAs}
+use Rattle.flash_session.proofs.Openable.{openable_room, openable_same, numbered_in, cause_unicast, lies_for}
 
 module _ (way : Via) (n : ℕ) (part : List ℕ) (mark : ℕ) where
   -- the answer of the slot, on each history that it stands for
@@ -153,9 +153,9 @@ module _ (way : Via) (n : ℕ) (part : List ℕ) (mark : ℕ) where
   body_more s b is = is
 
   -- it can be opened too
-  openable_more : (h : HeldSession) (s : Session) → 1 ≤ n → AllInRange (news (shape_of (followed s n part mark)) (followed s n part mark).heard) → IsOpenable h s → IsOpenable h (followed s n part mark)
+  openable_more : (h : HeldSession) (s : Session) → cause_of s.setup way n part ≡ None → AllInRange (news (shape_of (followed s n part mark)) (followed s n part mark).heard) → IsOpenable h s → IsOpenable h (followed s n part mark)
   unfolding followed
-  openable_more h s some ranged o = record { taken = o.taken; rows = o.rows; numbered = (some, o.numbered); ranged = ranged }
+  openable_more h s cause ranged o = record { taken = o.taken; rows = o.rows; hearable = (cause_unicast way s.setup n part cause, o.hearable); ranged = ranged }
 
   -- what is told of a fragment that is heard
   pub record Hears (s : Session) (whether : News) : Type 0 where
@@ -195,7 +195,7 @@ module _ (way : Via) (n : ℕ) (part : List ℕ) (mark : ℕ) where
       let k = hears s told.New (slot_answer h (Some s) (answer.Fed told.New) held answers) in
       let can = can_hear s.setup way n part k.cause in
       let new = is_new_told (is_new (shape_of s) (fragment n part mark) s.heard) k.answered in
-      let less = room_new s can.0 held.openable.numbered new in
+      let less = room_new s can.0 (numbered_in s held.openable) new in
       let parts = openable_room h s held.openable in
       let product : (10 + s.setup.frag_size) * (h.records + 1) ≤ (10 + s.setup.frag_size) * (2 * s.setup.nb_frag + 1) =
       mul-le (10 + s.setup.frag_size) (h.records + 1) (10 + s.setup.frag_size) (2 * s.setup.nb_frag + 1) (omega arith) (omega (arith, less, held.records)) in
@@ -219,24 +219,21 @@ module _ (way : Via) (n : ℕ) (part : List ℕ) (mark : ℕ) where
         (record {
           slot = stands_more h.slot slot s k.cause held.slot stands;
           openable = openable_same h (record h { slot = slot; records = h.records + 1 }) (followed s n part mark) refl area refl refl refl
-              (openable_more h s can.0 (ranged_new s fits_n fits_mark new held.openable.ranged) held.openable);
+              (openable_more h s k.cause (ranged_new s fits_n fits_mark new held.openable.ranged) held.openable);
           records = omega (arith, held.records, ap length (news_more s ∙ news_new s new));
-          counted = count_new s h.tallies new held.counted;
           few = held.few;
         })
 
     old_stands : (u : ℕ) (s : Session) → HeldStands h s → Hears s told.Old → u ≤ 16383
-        → (u ≡ h.tallies + 1) ⊎ ((u ≡ h.tallies) × (16383 ≤ length (news (shape_of s) s.heard) + h.tallies))
         → HeldStands (record h { slot = slot; tallies = u }) (followed s n part mark)
-    old_stands u s held k most now =
+    old_stands u s held k most =
         let can = can_hear s.setup way n part k.cause in
         let old = is_old_told (is_new (shape_of s) (fragment n part mark) s.heard) k.answered in
         record {
           slot = stands_more h.slot slot s k.cause held.slot stands;
           openable = openable_same h (record h { slot = slot; tallies = u }) (followed s n part mark) refl area refl refl refl
-              (openable_more h s can.0 (ranged_old s old held.openable.ranged) held.openable);
+              (openable_more h s k.cause (ranged_old s old held.openable.ranged) held.openable);
           records = omega (arith, held.records, ap length (news_more s ∙ news_old s old));
-          counted = count_old s h.tallies u old held.counted now;
           few = most;
         }
 
@@ -246,7 +243,7 @@ module _ (way : Via) (n : ℕ) (part : List ℕ) (mark : ℕ) where
     stands_old less (Some s) held answers =
         let k = hears s told.Old (slot_answer h (Some s) (answer.Fed told.Old) held answers) in
         subst (HeldStandsAs (record h { slot = slot; tallies = h.tallies + 1 })) (sym (after_heard s k.cause))
-        (old_stands (h.tallies + 1) s held k (omega (arith, less)) (inl refl))
+        (old_stands (h.tallies + 1) s held k (omega (arith, less)))
 
     -- where the count is full it stays
     pub stands_full : 16383 ≤ h.records + h.tallies → (o : Option Session) → HeldStandsAs h o → Answers h.slot (answer.Fed told.Old)
@@ -255,7 +252,35 @@ module _ (way : Via) (n : ℕ) (part : List ℕ) (mark : ℕ) where
     stands_full full (Some s) held answers =
         let k = hears s told.Old (slot_answer h (Some s) (answer.Fed told.Old) held answers) in
         subst (HeldStandsAs (record h { slot = slot })) (sym (after_heard s k.cause))
-        (old_stands h.tallies s held k held.few (inr (refl, omega (arith, full, held.records))))
+        (old_stands h.tallies s held k held.few)
+
+  -- and its count
+  pub counts_new : (h : HeldSession) (slot : HeldSlot) (o : Option Session) → HeldStandsAs h o → CountsAs h o → Answers h.slot (answer.Fed told.New)
+      → CountsAs (record h { slot = slot; records = h.records + 1 }) (after_fragment o way n part mark)
+  counts_new h slot None held counts answers = absurd (none_fed told.New (news_in None n part mark) (answers None held))
+  counts_new h slot (Some s) held counts answers =
+      let k = hears s told.New (slot_answer h (Some s) (answer.Fed told.New) held answers) in
+      let new = is_new_told (is_new (shape_of s) (fragment n part mark) s.heard) k.answered in
+      subst (CountsAs (record h { slot = slot; records = h.records + 1 })) (sym (after_heard s k.cause)) (count_new s h.tallies new counts)
+
+  pub counts_old : (h : HeldSession) (slot : HeldSlot) (u : ℕ) (o : Option Session) → HeldStandsAs h o → CountsAs h o → Answers h.slot (answer.Fed told.Old)
+      → (u ≡ h.tallies + 1) ⊎ ((u ≡ h.tallies) × (16383 ≤ h.records + h.tallies)) → CountsAs (record h { slot = slot; tallies = u }) (after_fragment o way n part mark)
+  counts_old h slot u None held counts answers now = absurd (none_fed told.Old (news_in None n part mark) (answers None held))
+  counts_old h slot u (Some s) held counts answers now =
+      let k = hears s told.Old (slot_answer h (Some s) (answer.Fed told.Old) held answers) in
+      let old = is_old_told (is_new (shape_of s) (fragment n part mark) s.heard) k.answered in
+      let now' : (u ≡ h.tallies + 1) ⊎ ((u ≡ h.tallies) × (16383 ≤ length (news (shape_of s) s.heard) + h.tallies)) =
+      elim now [ inl one ↦ inl one | inr full ↦ inr (full.0, omega (arith, full.1, held.records)) ] in
+      subst (CountsAs (record h { slot = slot; tallies = u })) (sym (after_heard s k.cause)) (count_old s h.tallies u old counts now')
+
+  pub counts_dropped : (h : HeldSession) (slot : HeldSlot) (o : Option Session) (c : Cause) → HeldStandsAs h o → CountsAs h o → Answers h.slot (answer.Dropped c)
+      → CountsAs (record h { slot = slot }) (after_fragment o way n part mark)
+  counts_dropped h slot o c held counts answers =
+      subst (CountsAs (record h { slot = slot })) (sym (dropped_same o c (slot_answer h o (answer.Dropped c) held answers))) (with_slot o counts)
+    where
+      with_slot : (o : Option Session) → CountsAs h o → CountsAs (record h { slot = slot }) o
+      with_slot None counts = counts
+      with_slot (Some s) counts = counts
 
   pub stands_dropped : (h : HeldSession) (slot : HeldSlot) (o : Option Session) (c : Cause) → slot ≡ h.slot → HeldStandsAs h o → Answers h.slot (answer.Dropped c)
       → HeldStandsAs (record h { slot = slot }) (after_fragment o way n part mark)
@@ -293,7 +318,7 @@ module _ (way : Via) (n : ℕ) (part : List ℕ) (mark : ℕ) where
       record {
         size_is = size_of s b h.tallies ∙ sym can.2;
         count = ap length (records_of s b h.tallies) ∙ sym held.records;
-        room = omega (arith, room_new s can.0 held.openable.numbered new, held.records, most_of s b h.tallies);
+        room = omega (arith, room_new s can.0 (numbered_in s held.openable) new, held.records, most_of s b h.tallies);
       }
 
   abbrev pub Before : HeldSession → Option Session → List ℕ → Type 0
@@ -311,11 +336,11 @@ module _ (way : Via) (n : ℕ) (part : List ℕ) (mark : ℕ) where
       let can = can_hear s.setup way n part k.cause in
       let new = is_new_told (is_new (shape_of s) (fragment n part mark) s.heard) k.answered in
       let its = stores h s b stands k in
-      let after_open = openable_more h s can.0 (ranged_new s fits_n fits_mark new stands.openable.ranged) stands.openable in
+      let after_open = openable_more h s k.cause (ranged_new s fits_n fits_mark new stands.openable.ranged) stands.openable in
       let before : (c : List ℕ) → Lies h.base (stored_of s b h.tallies) c → LiesFor h s c = λ (c : List ℕ) (lies : Lies h.base (stored_of s b h.tallies) c).
-      record { openable = stands.openable; body = b; tallies = h.tallies; its_body = held.its_body; counted = stands.counted; lies = lies } in
+      record { openable = stands.openable; body = b; tallies = h.tallies; its_body = held.its_body; counted = held.counted; lies = lies } in
       let after : (c : List ℕ) → Lies h.base (stored_of (followed s n part mark) b h.tallies) c → LiesFor h (followed s n part mark) c = λ (c : List ℕ) (lies : Lies h.base (stored_of (followed s n part mark) b h.tallies) c).
-      record { openable = after_open; body = b; tallies = h.tallies; its_body = body_more s b held.its_body; counted = count_new s h.tallies new stands.counted; lies = lies } in
+      record { openable = after_open; body = b; tallies = h.tallies; its_body = body_more s b held.its_body; counted = count_new s h.tallies new held.counted; lies = lies } in
       weaker (IsBeforeOrAfter h.base (stored_of s b h.tallies) (fragment n part mark)) (Before h (Some s)) m p past since
       (λ c lies. elim lies [
         | inl was ↦ inl (before c was)
@@ -341,6 +366,7 @@ module _ (way : Via) (n : ℕ) (part : List ℕ) (mark : ℕ) where
       subst (λ (x : Option Session). IsHeldAs (record h { slot = slot; records = h.records + 1 }) x holds' left') (sym is)
       (record {
         stands = subst (HeldStandsAs (record h { slot = slot; records = h.records + 1 })) is (stands_new h slot area stands fits_n fits_mark (Some s) held.stands answers);
+        counted = count_new s h.tallies new held.counted;
         body = b;
         its_body = body_more s b held.its_body;
         stored = after;
@@ -359,11 +385,11 @@ module _ (way : Via) (n : ℕ) (part : List ℕ) (mark : ℕ) where
       let k = hears s told.Old (slot_answer h (Some s) (answer.Fed told.Old) stands answers) in
       let can = can_hear s.setup way n part k.cause in
       let old = is_old_told (is_new (shape_of s) (fragment n part mark) s.heard) k.answered in
-      let after_open = openable_more h s can.0 (ranged_old s old stands.openable.ranged) stands.openable in
+      let after_open = openable_more h s k.cause (ranged_old s old stands.openable.ranged) stands.openable in
       let before : (c : List ℕ) → Lies h.base (stored_of s b h.tallies) c → LiesFor h s c = λ (c : List ℕ) (lies : Lies h.base (stored_of s b h.tallies) c).
-      record { openable = stands.openable; body = b; tallies = h.tallies; its_body = held.its_body; counted = stands.counted; lies = lies } in
+      record { openable = stands.openable; body = b; tallies = h.tallies; its_body = held.its_body; counted = held.counted; lies = lies } in
       let after : (c : List ℕ) → Lies h.base (stored_of (followed s n part mark) b (h.tallies + 1)) c → LiesFor h (followed s n part mark) c = λ (c : List ℕ) (lies : Lies h.base (stored_of (followed s n part mark) b (h.tallies + 1)) c).
-      record { openable = after_open; body = b; tallies = h.tallies + 1; its_body = body_more s b held.its_body; counted = count_old s h.tallies (h.tallies + 1) old stands.counted (inl refl); lies = lies } in
+      record { openable = after_open; body = b; tallies = h.tallies + 1; its_body = body_more s b held.its_body; counted = count_old s h.tallies (h.tallies + 1) old held.counted (inl refl); lies = lies } in
       weaker (λ c. Lies h.base (stored_of s b h.tallies) c ⊎ Lies h.base (with_tally (stored_of s b h.tallies)) c) (Before h (Some s)) m p past since
       (λ c lies. elim lies [
         | inl was ↦ inl (before c was)
@@ -388,6 +414,7 @@ module _ (way : Via) (n : ℕ) (part : List ℕ) (mark : ℕ) where
       subst (λ (x : Option Session). IsHeldAs (record h { slot = slot; tallies = h.tallies + 1 }) x holds' left') (sym is)
       (record {
         stands = subst (HeldStandsAs (record h { slot = slot; tallies = h.tallies + 1 })) is (stands_old h slot area stands less (Some s) held.stands answers);
+        counted = count_old s h.tallies (h.tallies + 1) old held.counted (inl refl);
         body = b;
         its_body = body_more s b held.its_body;
         stored = after;
@@ -406,6 +433,7 @@ module _ (way : Via) (n : ℕ) (part : List ℕ) (mark : ℕ) where
       subst (λ (x : Option Session). IsHeldAs (record h { slot = slot }) x holds left) (sym is)
       (record {
         stands = subst (HeldStandsAs (record h { slot = slot })) is (stands_full h slot area stands full (Some s) held.stands answers);
+        counted = count_old s h.tallies h.tallies old held.counted (inr (refl, omega (arith, full, held.stands.records)));
         body = b;
         its_body = body_more s b held.its_body;
         stored = subst (λ (x : Stored). IsStored h.base h.span x holds left) (old_stored_of s b h.tallies old) held.stored;

@@ -1,12 +1,17 @@
 pub mod Apart
 pub mod Behind
+pub mod Found
+pub mod Fronts
 pub mod Headers
 pub mod Hearing
 pub mod Moments
 pub mod Okay
 pub mod Openable
+pub mod Opened
 pub mod Places
+pub mod Still
 pub mod Renewing
+pub mod HeardAgain
 pub mod Runs
 pub mod Steps
 pub mod Unique

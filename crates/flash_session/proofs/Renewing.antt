@@ -22,7 +22,7 @@ use Rattle.flash_session.specs.Body.{setup_bytes, setup_from, setup_in, IsBody, 
 use Rattle.flash_session.specs.HeldSession.{HeldSession, room_in}
 use Rattle.flash_session.specs.Lies.{Stored, Lies, LiesAs, Fits, NoSession, IsStoredAs, IsOldNoneOrNew, new_stored}
 use Rattle.flash_session.specs.Moments.{LeavesOnly}
-use Rattle.flash_session.specs.Sessions.{stored_of, stored_as, IsOpenable, LiesFor, LiesForAs, hearing, StandsBut, HeldStands, HeldStandsAs, IsHeldAs}
+use Rattle.flash_session.specs.Sessions.{stored_of, stored_as, IsOpenable, LiesFor, LiesForAs, hearing, StandsBut, HeldStands, HeldStandsAs, IsCount, CountsAs, IsHeldAs}
 use Rattle.flash_session.proofs.Moments.{stays, weaker}
 use Rattle.flash_session.proofs.Openable.{openable_fits, lies_for}
 
@@ -115,7 +115,7 @@ old_lies h (Some s) holds left held c lies = record {
   body = held.body;
   tallies = h.tallies;
   its_body = held.its_body;
-  counted = held.stands.counted;
+  counted = held.counted;
   lies = lies;
 }
 
@@ -127,16 +127,15 @@ module _ (h : HeldSession) (req : SetupReq) (fine : setup_bits h.limits (room_in
   -- a session that has just begun can be opened
   pub new_openable : IsOpenable h (new_session h.limits req)
   unfolding new_session news shape_of
-  new_openable = record { taken = fine; rows = refl; numbered = tt; ranged = tt }
+  new_openable = record { taken = fine; rows = refl; hearable = tt; ranged = tt }
 
   pub new_stands : (slot : HeldSlot) → Stands slot (Some (new_session h.limits req)) → area_of slot ≡ area_of h.slot
       → HeldStands (record h { slot = slot; records = 0; tallies = 0 }) (new_session h.limits req)
   unfolding new_session news shape_of hearing
   new_stands slot stands area = record {
     slot = record { fed = []; stands = stands; means = means_itself (shape_of (new_session h.limits req)) [] };
-    openable = record { taken = ap (λ (z : ℕ). setup_bits h.limits (record { words = h.words; bytes = h.bytes; area = z; span = Some h.span }) req) area ∙ fine; rows = refl; numbered = tt; ranged = tt };
+    openable = record { taken = ap (λ (z : ℕ). setup_bits h.limits (record { words = h.words; bytes = h.bytes; area = z; span = Some h.span }) req) area ∙ fine; rows = refl; hearable = tt; ranged = tt };
     records = refl;
-    counted = refl;
     few = omega arith;
   }
 
@@ -148,7 +147,7 @@ module _ (h : HeldSession) (req : SetupReq) (fine : setup_bits h.limits (room_in
   unfolding new_session
   new_setup_is = refl
 
-  new_counted : min (length (news (shape_of (new_session h.limits req)) (new_session h.limits req).heard) + 0) 16383 ≡ received_count (length (new_session h.limits req).heard)
+  pub new_counted : min (length (news (shape_of (new_session h.limits req)) (new_session h.limits req).heard) + 0) 16383 ≡ received_count (length (new_session h.limits req).heard)
   unfolding new_session news shape_of
   new_counted = refl
 
@@ -163,6 +162,7 @@ module _ (h : HeldSession) (req : SetupReq) (fine : setup_bits h.limits (room_in
       → IsHeldAs (record h { slot = slot; records = 0; tallies = 0 }) (Some (new_session h.limits req)) holds left
   new_held fit slot holds left stands area stored = record {
     stands = new_stands slot stands area;
+    counted = new_counted;
     body = setup_bytes req;
     its_body = new_body fit;
     stored = subst (λ (x : Stored). IsStoredAs h.base h.span (Some x) holds left) new_stored_is stored;
@@ -217,6 +217,7 @@ pub deleted_held : (h : HeldSession) (o : Option Session) (slot : HeldSlot) (hol
 deleted_held h None slot holds left holds' left' held b e is stands ended = let no : true ≡ false = sym e ∙ is None held.stands in let z : ⊥ = cc in absurd z
 deleted_held h (Some s) slot holds left holds' left' held b e is stands ended = record {
   stands = stands;
+  counted = tt;
   body = [];
   its_body = tt;
   stored = ended (stored_of s held.body h.tallies) held.stored;
@@ -239,16 +240,16 @@ shows_count s fed n means e =
       file = shown_file s.setup.padding shape (means.judged i);
     }
 
-pub count_is : (h : HeldSession) (s : Session) → HeldStands h s → min (h.records + h.tallies) 16383 ≡ received_count (length s.heard)
-count_is h s held = ap (λ (z : ℕ). min (z + h.tallies) 16383) held.records ∙ held.counted
+pub count_is : (h : HeldSession) (s : Session) → HeldStands h s → IsCount s h.tallies → min (h.records + h.tallies) 16383 ≡ received_count (length s.heard)
+count_is h s held counts = ap (λ (z : ℕ). min (z + h.tallies) 16383) held.records ∙ counts
 
-pub shown_as : (h : HeldSession) (o : Option Session) (n : ℕ) (v : Option Seen) → HeldStandsAs h o → n ≡ min (h.records + h.tallies) 16383
+pub shown_as : (h : HeldSession) (o : Option Session) (n : ℕ) (v : Option Seen) → HeldStandsAs h o → CountsAs h o → n ≡ min (h.records + h.tallies) 16383
     → ((s : Option Session) → Stands h.slot s → v ≡ view_of s) → option_map (counting n) v ≡ view_of o
 unfolding view_of
-shown_as h None n v held e shown = ap (option_map (counting n)) (shown None held)
-shown_as h (Some s) n v held e shown =
+shown_as h None n v held counts e shown = ap (option_map (counting n)) (shown None held)
+shown_as h (Some s) n v held counts e shown =
     ap (option_map (counting n)) (shown (Some (hearing s held.slot.fed)) held.slot.stands)
-    ∙ ap Some (shows_count s held.slot.fed n held.slot.means (e ∙ count_is h s held))
+    ∙ ap Some (shows_count s held.slot.fed n held.slot.means (e ∙ count_is h s held counts))
 
 abbrev pub answering : ℕ → StatusAns → StatusAns
 answering n a = record a { received = n }
@@ -261,14 +262,14 @@ counted_answer setup seen way all n = by_cases (answers setup seen way all)
     by_cases true = refl
     by_cases false = refl
 
-pub answered_as : (h : HeldSession) (o : Option Session) (way : Via) (all : Bool) (n : ℕ) (a : Option StatusAns) → HeldStandsAs h o → n ≡ min (h.records + h.tallies) 16383
+pub answered_as : (h : HeldSession) (o : Option Session) (way : Via) (all : Bool) (n : ℕ) (a : Option StatusAns) → HeldStandsAs h o → CountsAs h o → n ≡ min (h.records + h.tallies) 16383
     → ((s : Option Session) → Stands h.slot s → a ≡ status_of s way all) → option_map (answering n) a ≡ status_of o way all
 unfolding status_of
-answered_as h None way all n a held e answered = ap (option_map (answering n)) (answered None held)
-answered_as h (Some s) way all n a held e answered =
+answered_as h None way all n a held counts e answered = ap (option_map (answering n)) (answered None held)
+answered_as h (Some s) way all n a held counts e answered =
     ap (option_map (answering n)) (answered (Some (hearing s held.slot.fed)) held.slot.stands)
     ∙ counted_answer (hearing s held.slot.fed).setup (seen_of (hearing s held.slot.fed)) way all n
-    ∙ ap₂ (λ (x : SetupReq) (y : Seen). status_in x y way all) (no_more s held.slot.fed) (shows_count s held.slot.fed n held.slot.means (e ∙ count_is h s held))
+    ∙ ap₂ (λ (x : SetupReq) (y : Seen). status_in x y way all) (no_more s held.slot.fed) (shows_count s held.slot.fed n held.slot.means (e ∙ count_is h s held counts))
 
 -- ---- one history in the place of an equal one
 
@@ -304,3 +305,6 @@ at_view h k v e shown = subst (λ (x : HeldSession). (s : Option Session) → St
 
 pub at_answer : (h k : HeldSession) (way : Via) (all : Bool) (a : Option StatusAns) → h ≡ k → ((s : Option Session) → Stands h.slot s → a ≡ status_of s way all) → (s : Option Session) → Stands k.slot s → a ≡ status_of s way all
 at_answer h k way all a e answered = subst (λ (x : HeldSession). (s : Option Session) → Stands x.slot s → a ≡ status_of s way all) e answered
+
+pub counts_equal : (h : HeldSession) (o p : Option Session) → p ≡ o → CountsAs h o → CountsAs h p
+counts_equal h o p e counts = subst (CountsAs h) (sym e) counts

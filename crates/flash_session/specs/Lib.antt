@@ -1,5 +1,7 @@
+pub mod Apart
 pub mod Body
 pub mod Contents
+pub mod Fronts
 pub mod Gates
 pub mod HeldInside
 pub mod HeldSession

@@ -1,7 +1,6 @@
 -- When what lies in a range is no session's, and where.
 use Rattle.std.specs.Prelude.{◌≡◌, ◌≢◌, ◌⊎◌, ℕ, ◌+◌, ◌*◌, ◌<◌, ◌≤◌, List, [], ◌∷◌, length, Some}
 use Rattle.frag_model.specs.Fragments.{Fragment}
-use Rattle.frag_model.specs.News.{AllNew}
 use Rattle.frag_session.specs.declared.answers.Via.TheVariants as via
 use Rattle.frag_session.specs.declared.answers.News.TheVariants as news
 use Rattle.frag_session.specs.declared.answers.Heard.TheVariants as answer
@@ -34,6 +33,11 @@ pub record IsStray (c : List ℕ) (at most k : ℕ) : Type 0 where
   pub before : closed < k
   pub shut : byte_at c (at + closed) ≢ open_gate
 
+-- after these the session hears the fragment, and it tells something new
+abbrev pub IsFed : Session → List Fragment → Fragment → Type 0
+IsFed s older f = answer_of (drop_cause (Some (hearing s older)) via.Unicast f.number f.part)
+    (news_in (Some (hearing s older)) f.number f.part f.mark) ≡ answer.Fed news.New
+
 -- the gates of record k and of all before it are open, and it is no fragment that tells the session something new after them: its
 -- number is out of range, or it changes nothing
 pub record IsForeignRecord (s : Session) (c : List ℕ) (base most k : ℕ) : Type 0 where
@@ -47,8 +51,7 @@ pub record IsForeignRecord (s : Session) (c : List ℕ) (base most k : ℕ) : Ty
   pub in_range : InRange next
   pub sized : length next.part ≡ s.setup.frag_size
   pub there : SpelledAt c (record_at base s.setup.frag_size k) (spelled next)
-  pub foreign : answer_of (drop_cause (Some (hearing s older)) via.Unicast next.number next.part)
-      (news_in (Some (hearing s older)) next.number next.part next.mark) ≢ answer.Fed news.New
+  pub foreign : IsFed s older next → ⊥
 
 -- what is foreign at a place, counted from the range's first byte
 pub data IsForeign (h : HeldSession) (c : List ℕ) (place : ℕ) : Type 0 where

@@ -1,10 +1,11 @@
 -- When a session in flash stands for a history, and what lies in a range for one.
-use Rattle.std.specs.Prelude.{◌≡◌, ℕ, ◌+◌, ◌*◌, ◌≤◌, min, List, length, Option, None, Some, option_map}
+use Rattle.std.specs.Prelude.{◌≡◌, ℕ, ◌+◌, ◌*◌, ◌≤◌, min, List, [], ◌∷◌, length, Option, None, Some, option_map}
 use Rattle.frag_model.specs.Fragments.{Fragment}
-use Rattle.frag_model.specs.Laws.{AreNumbered}
 use Rattle.frag_model.specs.News.{news, MeanTheSame}
 use Rattle.frag_session.specs.Setup.{rows_of, setup_bits}
-use Rattle.frag_session.specs.Session.{Session, shape_of, received_count}
+use Rattle.frag_session.specs.Session.{Session, shape_of, cause_of, received_count}
+use Rattle.frag_session.specs.declared.setups.SetupReq.{SetupReq}
+use Rattle.frag_session.specs.declared.answers.Via.TheVariants as via
 use Rattle.frag_session.specs.Held.{HeldSlot}
 use Rattle.frag_session.specs.Stands.{Stands}
 use Rattle.flash_session.specs.Body.{IsBody}
@@ -45,12 +46,17 @@ pub record StandsBut (x : HeldSlot) (s : Session) : Type 0 where
   pub stands : Stands x (Some (hearing s fed))
   pub means : MeanTheSame (shape_of s) fed s.heard
 
--- it can be opened: its setup has no refusal bit, that on the range's length included, and what it heard is numbered from 1 on,
--- in the numbers that a record has room for
+-- each is a fragment that the session hears
+abbrev pub AreHearable : SetupReq → List Fragment → Type 0
+AreHearable setup [] = Unit {0}
+AreHearable setup (f ∷ older) = (cause_of setup via.Unicast f.number f.part ≡ None) × AreHearable setup older
+
+-- it can be opened: its setup has no refusal bit, that on the range's length included, and what it heard is heard again, with
+-- numbers that a record has room for
 pub record IsOpenable (h : HeldSession) (s : Session) : Type 0 where
   pub taken : setup_bits h.limits (room_in h) s.setup ≡ 0
   pub rows : s.rows ≡ rows_of h.limits.rows s.setup
-  pub numbered : AreNumbered s.heard
+  pub hearable : AreHearable s.setup s.heard
   pub ranged : AllInRange (news (shape_of s) s.heard)
 
 abbrev pub IsOpenableAs : HeldSession → Option Session → Type 0
@@ -71,21 +77,33 @@ abbrev pub LiesForAs : HeldSession → Option Session → List ℕ → Type 0
 LiesForAs h None c = NoSession h.base c
 LiesForAs h (Some s) c = LiesFor h s c
 
--- what is held in memory stands for the session
+-- what is held in memory stands for the session, but for the count
 pub record HeldStands (h : HeldSession) (s : Session) : Type 0 where
   pub slot : StandsBut h.slot s
   pub openable : IsOpenable h s
   pub records : h.records ≡ length (news (shape_of s) s.heard)
-  pub counted : IsCount s h.tallies
   pub few : h.tallies ≤ 16383
 
 abbrev pub HeldStandsAs : HeldSession → Option Session → Type 0
 HeldStandsAs h None = Stands h.slot None
 HeldStandsAs h (Some s) = HeldStands h s
 
--- and it is what a read gives, and what a stop leaves in the range
+-- and its count too
+abbrev pub CountsAs : HeldSession → Option Session → Type 0
+CountsAs h None = Unit {0}
+CountsAs h (Some s) = IsCount s h.tallies
+
+-- what is held stands for the session but for the count, and is what a read gives, and what a stop leaves in the range
+pub record IsHeldBut (h : HeldSession) (o : Option Session) (holds left : List ℕ → Type 0) : Type 0 where
+  pub stands : HeldStandsAs h o
+  pub body : List ℕ
+  pub its_body : IsBodyOf body o
+  pub stored : IsStoredAs h.base h.span (stored_as o body h.tallies) holds left
+
+-- and all this is what a read gives, and what a stop leaves in the range
 pub record IsHeldAs (h : HeldSession) (o : Option Session) (holds left : List ℕ → Type 0) : Type 0 where
   pub stands : HeldStandsAs h o
+  pub counted : CountsAs h o
   pub body : List ℕ
   pub its_body : IsBodyOf body o
   pub stored : IsStoredAs h.base h.span (stored_as o body h.tallies) holds left

@@ -35,6 +35,7 @@ pub trait Flash {
         requires { at + length buf.old ≤ room self.old }
         ensures bytes { OnOk result (Gives (holds self.old) at buf.new) }
         ensures held { Follows Same (holds self.old) (holds self.new) }
+        ensures stays { Follows Same (holds self.new) (holds self.old) }
         ensures stops { Elapses Same (moment self.old) (moment self.new) (left_since self.old) (left_since self.new) }
         ensures size { room self.new ≡ room self.old }
         ensures cause { HasCause (faults self.old) (faults self.new) result };

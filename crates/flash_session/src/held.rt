@@ -5,16 +5,14 @@ ghost use Rattle.frag_session.specs.Limits.{max_received};
 ghost use Rattle.frag_session.specs.Session.{Session, status_of, view_of};
 ghost use Rattle.frag_session.specs.Shows.{seen};
 ghost use Rattle.frag_session.specs.Steps.{area_of};
-ghost use Rattle.flash_session.specs.Sessions.{HeldStandsAs};
+ghost use Rattle.flash_session.specs.Sessions.{HeldStandsAs, CountsAs};
 
 mod hearing;
-//mod opening;
+mod opening;
 mod setups;
 
 use frag_session::{Idle, Limits, Slot, StatusAns, Via, View};
 use std::marker::Model;
-
-//pub use opening::OpenFault;
 
 /// The end of the count of fragments that a session heard.
 const MAX_RECEIVED: u16 = 16383;
@@ -90,7 +88,7 @@ impl<const W: usize, const B: usize> Held<W, B> {
 
     /// What the session shows, if there is one.
     pub fn view(&self) -> Option<View<'_>>
-        ensures value { (o : Option Session) → HeldStandsAs self.now o → option_map seen result ≡ view_of o }
+        ensures value { (o : Option Session) → HeldStandsAs self.now o → CountsAs self.now o → option_map seen result ≡ view_of o }
         ensures within { IfSome result (λ v. length v.file.now ≤ area_of self.now.slot) }
         ensures few { IfSome result (λ v. v.received ≤ max_received) }
     {
@@ -107,7 +105,7 @@ impl<const W: usize, const B: usize> Held<W, B> {
 
     /// The answer to FragSessionStatusReq (TS004-1.0.0), as a slot gives it.
     pub fn status(&self, via: Via, all: bool) -> Option<StatusAns>
-        ensures answer { (o : Option Session) → HeldStandsAs self.now o → result ≡ status_of o via all }
+        ensures answer { (o : Option Session) → HeldStandsAs self.now o → CountsAs self.now o → result ≡ status_of o via all }
         ensures few { IfSome result (λ a. a.received ≤ max_received) }
     {
         match self.slot.status(via, all) {

@@ -6,17 +6,20 @@
 
 mod beginning;
 mod cells;
+mod fault;
+mod finding;
 mod flash;
 mod held;
 mod log;
 mod memory;
 mod reading;
-//mod replaying;
+mod replaying;
 mod schedule;
 mod stops;
 mod storing;
 
 pub use cells::CellFlash;
+pub use fault::OpenFault;
 pub use flash::{Failed, Flash};
 pub use held::Held;
 pub use memory::MemFlash;

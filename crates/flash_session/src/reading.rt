@@ -1,21 +1,24 @@
 //! What is read of a session when it is opened.
 
 ghost use Rattle.std.specs.Prelude.{◌≡◌, ℕ, ◌+◌, ◌<◌, ◌≤◌, List, ◌++◌, length, IfOk, MatchOption};
-ghost use Rattle.flash_session.specs.Contents.{byte_at, Same, Follows, HasCause};
+ghost use Rattle.flash_session.specs.Contents.{byte_at, Same, StillHolds, HasCause};
 ghost use Rattle.flash_session.specs.Moments.{Elapses};
 ghost use Rattle.flash_session.specs.Layout.{spelled};
 ghost use Rattle.std.specs.Int.{to_le_bytes, w16, w64};
 ghost use Rattle.flash_session.specs.Lies.{SpelledAt};
+ghost use Rattle.flash_session.specs.Body.{IsBody, setup_in};
 ghost use Rattle.flash_session.specs.Gates.{AreOpen, AreShut, IsFirstShut};
+ghost use Rattle.flash_session.specs.Fronts.{IsFront};
 
 use crate::storing::OPEN;
 use crate::flash::{Failed, Flash};
+use frag_session::SetupReq;
 
 /// The byte at a place.
-fn read_byte<F: Flash>(flash: &mut F, at: u32) -> Result<u8, Failed>
+pub fn read_byte<F: Flash>(flash: &mut F, at: u32) -> Result<u8, Failed>
     requires { at < F.room flash.old }
     ensures byte { IfOk result (λ x. (b : List ℕ) → F.holds flash.new b → byte_at b at ≡ x) }
-    ensures held { Follows Same (F.holds flash.old) (F.holds flash.new) }
+    ensures held { StillHolds (F.holds flash.old) (F.holds flash.new) }
     ensures stops { Elapses Same (F.moment flash.old) (F.moment flash.new) (F.left_since flash.old) (F.left_since flash.new) }
     ensures size { F.room flash.new ≡ F.room flash.old }
     ensures cause { HasCause (F.faults flash.old) (F.faults flash.new) result }
@@ -29,7 +32,7 @@ fn read_byte<F: Flash>(flash: &mut F, at: u32) -> Result<u8, Failed>
 pub fn count_open<F: Flash>(flash: &mut F, at: u32, most: u16) -> Result<u16, Failed>
     requires { at + most ≤ F.room flash.old }
     ensures counted { IfOk result (λ n. IsFirstShut (F.holds flash.new) at n most) }
-    ensures held { Follows Same (F.holds flash.old) (F.holds flash.new) }
+    ensures held { StillHolds (F.holds flash.old) (F.holds flash.new) }
     ensures stops { Elapses Same (F.moment flash.old) (F.moment flash.new) (F.left_since flash.old) (F.left_since flash.new) }
     ensures size { F.room flash.new ≡ F.room flash.old }
     ensures cause { HasCause (F.faults flash.old) (F.faults flash.new) result }
@@ -53,7 +56,7 @@ pub fn next_open<F: Flash>(
     requires within { from ≤ most }
     ensures found { IfOk result (λ o. MatchOption o (AreShut (F.holds flash.new) at from most)
         (λ k. (from ≤ k) × (k < most) × AreShut (F.holds flash.new) at from k × AreOpen (F.holds flash.new) at k (k + 1))) }
-    ensures held { Follows Same (F.holds flash.old) (F.holds flash.new) }
+    ensures held { StillHolds (F.holds flash.old) (F.holds flash.new) }
     ensures stops { Elapses Same (F.moment flash.old) (F.moment flash.new) (F.left_since flash.old) (F.left_since flash.new) }
     ensures size { F.room flash.new ≡ F.room flash.old }
     ensures cause { HasCause (F.faults flash.old) (F.faults flash.new) result }
@@ -70,7 +73,7 @@ pub fn next_open<F: Flash>(
 pub fn read_record<F: Flash>(flash: &mut F, at: u32, part: &mut [u8]) -> Result<(u16, u64), Failed>
     requires { at + 10 + length part.old ≤ F.room flash.old }
     ensures lies { IfOk result (λ r. (b : List ℕ) → F.holds flash.new b → SpelledAt b at (spelled (record { number = r.0; part = part.new; mark = r.1 }))) }
-    ensures held { Follows Same (F.holds flash.old) (F.holds flash.new) }
+    ensures held { StillHolds (F.holds flash.old) (F.holds flash.new) }
     ensures stops { Elapses Same (F.moment flash.old) (F.moment flash.new) (F.left_since flash.old) (F.left_since flash.new) }
     ensures size { F.room flash.new ≡ F.room flash.old }
     ensures cause { HasCause (F.faults flash.old) (F.faults flash.new) result }
@@ -79,6 +82,65 @@ pub fn read_record<F: Flash>(flash: &mut F, at: u32, part: &mut [u8]) -> Result<
     flash.read(at, &mut head)?;
     flash.read(at + 10, part)?;
     Ok(head_of(head))
+}
+
+/// The setup that lies at a place.
+pub fn read_setup<F: Flash>(flash: &mut F, at: u32) -> Result<SetupReq, Failed>
+    requires { at + 10 ≤ F.room flash.old }
+    ensures reads { IfOk result (λ setup. (body : List ℕ) × IsBody body setup × ((b : List ℕ) → F.holds flash.new b → SpelledAt b at body)) }
+    ensures held { StillHolds (F.holds flash.old) (F.holds flash.new) }
+    ensures stops { Elapses Same (F.moment flash.old) (F.moment flash.new) (F.left_since flash.old) (F.left_since flash.new) }
+    ensures size { F.room flash.new ≡ F.room flash.old }
+    ensures cause { HasCause (F.faults flash.old) (F.faults flash.new) result }
+{
+    let mut body = [0; 10];
+    flash.read(at, &mut body)?;
+    Ok(setup_in(body))
+}
+
+/// What a setup's body is read as; reserved bits are ignored.
+#[tactic(auto, unfolding(crate::specs::Body::setup_from))]
+fn setup_in(body: [u8; 10]) -> SetupReq
+    ensures { result ≡ setup_in body }
+{
+    let [a, b, c, d, e, f, g, h, i, j] = body;
+    SetupReq {
+        index: a / 16 % 4,
+        mask: a % 16,
+        nb_frag: u16::from(b) + 256 * u16::from(c),
+        frag_size: d,
+        algo: e / 8 % 8,
+        delay: e % 8,
+        padding: f,
+        descriptor: u32::from(g) + 256 * u32::from(h) + 65_536 * u32::from(i) + 16_777_216 * u32::from(j),
+    }
+}
+
+/// What gates are like: the first so many are open and no other, or this one is open behind one that is closed.
+#[derive(Clone, Copy, Debug, PartialEq, Eq)]
+pub enum Front {
+    Whole(u16),
+    Stray(u16),
+}
+
+/// What the gates from a place on are like.
+#[tactic(auto, using(crate::proofs::Fronts::front_whole, crate::proofs::Fronts::all_open))]
+pub fn read_front<F: Flash>(flash: &mut F, at: u32, most: u16) -> Result<Front, Failed>
+    requires { at + most ≤ F.room flash.old }
+    ensures found { IfOk result (λ front. IsFront (F.holds flash.new) at most front) }
+    ensures held { StillHolds (F.holds flash.old) (F.holds flash.new) }
+    ensures stops { Elapses Same (F.moment flash.old) (F.moment flash.new) (F.left_since flash.old) (F.left_since flash.new) }
+    ensures size { F.room flash.new ≡ F.room flash.old }
+    ensures cause { HasCause (F.faults flash.old) (F.faults flash.new) result }
+{
+    let n = count_open(flash, at, most)?;
+    if n == most {
+        return Ok(Front::Whole(n));
+    }
+    match next_open(flash, at, n + 1, most)? {
+        None => Ok(Front::Whole(n)),
+        Some(k) => Ok(Front::Stray(k)),
+    }
 }
 
 /// The number and the mark that a record begins with.

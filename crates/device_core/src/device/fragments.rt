@@ -69,7 +69,7 @@ impl Device {
     {
         let was_whole = is_whole(&self.sessions, index);
         match self.sessions.fragment(index, here.via, n, part, here.mark) {
-            Heard::Fed => offer(&mut self.slots, &self.sessions, index, was_whole),
+            Heard::Fed(_) => offer(&mut self.slots, &self.sessions, index, was_whole),
             Heard::Dropped(_) => self.count_dropped(),
         }
     }

@@ -7,7 +7,7 @@ ghost use Rattle.flash_session.specs.Layout.{spelled};
 ghost use Rattle.flash_session.specs.Lies.{Stored, IsStored, with_record, IsBeforeOrAfter};
 ghost use Rattle.frag_session.specs.Session.{Session, fragment, drop_cause, news_in, answer_of, after_fragment};
 ghost use Rattle.frag_session.specs.Steps.{area_of};
-ghost use Rattle.flash_session.specs.Sessions.{HeldStandsAs, IsHeldAs, LiesForAs};
+ghost use Rattle.flash_session.specs.Sessions.{HeldStandsAs, CountsAs, IsHeldAs, LiesForAs};
 
 use super::{Held, MAX_RECEIVED};
 use crate::flash::{Failed, Flash};
@@ -30,6 +30,8 @@ impl<const W: usize, const B: usize> Held<W, B> {
             → IfOk result (λ r. r.1 ≡ answer_of (drop_cause o via n part.now) (news_in o n part.now mark)) }
         ensures stands { (o : Option Session) → HeldStandsAs self.entry o
             → IfOk result (λ r. HeldStandsAs r.0 (after_fragment o via n part.now mark)) }
+        ensures counted { (o : Option Session) → HeldStandsAs self.entry o → CountsAs self.entry o
+            → IfOk result (λ r. CountsAs r.0 (after_fragment o via n part.now mark)) }
         ensures acknowledged { (o : Option Session) → IsHeldAs self.entry o (F.holds flash.old) (F.left_since flash.old (F.moment flash.old))
             → IfOk result (λ r. IsHeldAs r.0 (after_fragment o via n part.now mark) (F.holds flash.new) (F.left_since flash.new (F.moment flash.new))) }
         // A stop at any moment leaves the session as it was, or followed by the fragment.

@@ -6,7 +6,7 @@ ghost use Rattle.flash_session.specs.Contents.{SameOutside, SameWithin, Follows,
 ghost use Rattle.flash_session.specs.HeldSession.{room_in};
 ghost use Rattle.flash_session.specs.Lies.{NoSession};
 ghost use Rattle.flash_session.specs.Moments.{Elapses, LeavesOnly};
-ghost use Rattle.flash_session.specs.Sessions.{HeldStandsAs, IsHeldAs, LiesForAs};
+ghost use Rattle.flash_session.specs.Sessions.{HeldStandsAs, CountsAs, IsHeldAs, LiesForAs};
 ghost use Rattle.frag_session.specs.Session.{Session, after_setup, new_session};
 ghost use Rattle.frag_session.specs.Setup.{lives, setup_bits};
 ghost use Rattle.frag_session.specs.Steps.{area_of};
@@ -28,6 +28,8 @@ impl<const W: usize, const B: usize> Held<W, B> {
         ensures bits { IfOk result (λ r. r.1 ≡ setup_bits self.entry.limits (room_in self.entry) req) }
         ensures stands { (o : Option Session) → HeldStandsAs self.entry o
             → IfOk result (λ r. HeldStandsAs r.0 (after_setup self.entry.limits (room_in self.entry) o req)) }
+        ensures counted { (o : Option Session) → HeldStandsAs self.entry o → CountsAs self.entry o
+            → IfOk result (λ r. CountsAs r.0 (after_setup self.entry.limits (room_in self.entry) o req)) }
         ensures acknowledged { (o : Option Session) → IsHeldAs self.entry o (F.holds flash.old) (F.left_since flash.old (F.moment flash.old))
             → IfOk result (λ r. IsHeldAs r.0 (after_setup self.entry.limits (room_in self.entry) o req) (F.holds flash.new) (F.left_since flash.new (F.moment flash.new))) }
         // A stop at any moment leaves the session as it was, none, or the new one.
@@ -64,6 +66,7 @@ impl<const W: usize, const B: usize> Held<W, B> {
         requires range { self.base + self.span ≤ F.room flash.old }
         requires fields { FieldsFit req }
         requires fine { setup_bits self.limits (room_in self) req ≡ 0 }
+        ensures counted { IfOk result (λ h. CountsAs h (Some (new_session self.entry.limits req))) }
         ensures stands { IfOk result (λ h. HeldStandsAs h (Some (new_session self.entry.limits req))) }
         ensures acknowledged { (o : Option Session) → IsHeldAs self.entry o (F.holds flash.old) (F.left_since flash.old (F.moment flash.old))
             → IfOk result (λ h. IsHeldAs h (Some (new_session self.entry.limits req)) (F.holds flash.new) (F.left_since flash.new (F.moment flash.new))) }

@@ -1,5 +1,5 @@
 use Rattle.std.proofs.Common.{◌≡◌, ◌≤◌}
-use Rattle.flash_session.specs.Contents.{Same, Follows}
+use Rattle.flash_session.specs.Contents.{Same, StillHolds}
 use Rattle.flash_session.specs.Moments.{Elapses}
 use Rattle.flash_session.specs.Gates.{AreOpen}
 use Rattle.flash_session.proofs.reading.count_open.Given as goal
@@ -9,7 +9,7 @@ invariant-loop-k g l =
     let F = g.F.Flash in
     record {
       opened : AreOpen (F.holds l.flash) l.at 0 l.k;
-      held : Follows Same (F.holds l.initial.flash) (F.holds l.flash);
+      held : StillHolds (F.holds l.initial.flash) (F.holds l.flash);
       stops : Elapses Same (F.moment l.initial.flash) (F.moment l.flash) (F.left_since l.initial.flash) (F.left_since l.flash);
       size : F.room l.flash ≡ F.room l.initial.flash;
       later : F.faults l.initial.flash ≤ F.faults l.flash;

@@ -1,3 +1,4 @@
+use Rattle.flash_session.proofs.Still.{still_joined}
 use Rattle.std.proofs.Common.{ℕ, ◌+◌, ◌∙◌, sym, subst, List}
 use Rattle.flash_session.specs.Contents.{Same}
 use Rattle.flash_session.proofs.Runs.{one_more}
@@ -18,3 +19,9 @@ returns-clause-lies g c = λ b now.
 
 pub returns-clause-stops : goal.returns-clause-stops
 returns-clause-stops g c = one_more Same Same Same _ _ _ _ _ _ (λ a b same. same) (λ a b d one two. record { all = λ i. two.all i ∙ one.all i }) c.read.ensures.stops c.read-2.ensures.stops
+
+pub returns-in_err-read-2-clause-held : goal.returns-in_err-read-2-clause-held
+returns-in_err-read-2-clause-held g c = still_joined (record { held = c.read.ensures.held; stays = c.read.ensures.stays }) (record { held = c.read-2.ensures.held; stays = c.read-2.ensures.stays })
+
+pub returns-clause-held : goal.returns-clause-held
+returns-clause-held g c = still_joined (record { held = c.read.ensures.held; stays = c.read.ensures.stays }) (record { held = c.read-2.ensures.held; stays = c.read-2.ensures.stays })

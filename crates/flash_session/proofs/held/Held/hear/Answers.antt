@@ -1,9 +1,9 @@
-use Rattle.std.proofs.Common.{◌≡◌, ◌<◌, sym, subst, ◌∙◌, arith, rules}
+use Rattle.std.proofs.Common.{◌≡◌, ◌<◌, ◌≤◌, inl, inr, refl, sym, subst, ◌∙◌, arith, rules}
 use Rattle.flash_session.specs.Moments.{LeavesOnly}
 use Rattle.frag_session.specs.declared.answers.Heard.TheVariants as answer
 use Rattle.frag_session.specs.declared.answers.News.TheVariants as told
 use Rattle.frag_session.specs.Session.{after_fragment}
-use Rattle.flash_session.proofs.Hearing.{slot_answer, has_room, stands_new, stands_old, stands_full, stands_dropped, new_moments, new_kept, old_moments, old_kept, full_kept, dropped_kept, no_call}
+use Rattle.flash_session.proofs.Hearing.{slot_answer, has_room, counts_new, counts_old, counts_dropped, stands_new, stands_old, stands_full, stands_dropped, new_moments, new_kept, old_moments, old_kept, full_kept, dropped_kept, no_call}
 use Rattle.flash_session.proofs.Headers.{kept_within}
 use Rattle.flash_session.proofs.held.Held.hear.Goals as goal
 
@@ -102,3 +102,15 @@ returns-in-Ok-clause-others g c = λ at len kept. kept_within at len _ _ c.in-Ok
 
 pub returns-in-Ok-tally-clause-others : goal.returns-in-Ok-tally-clause-others
 returns-in-Ok-tally-clause-others g c = λ at len kept. kept_within at len _ _ c.in-Ok-tally.ensures.kept
+
+pub returns-in-Ok-clause-counted : goal.returns-in-Ok-clause-counted
+returns-in-Ok-clause-counted g c = rw (← c.self.view_is) (λ o held counts. counts_new c.args.via c.args.n c.args.part.now c.args.mark _ c.fragment-heard.new.self o held counts (λ o k. let is : c.fragment-heard.result ≡ answer.Fed told.New = first_of (search rules, cc, grind arith) in sym is ∙ c.fragment-heard.ensures.answer o k))
+
+pub returns-in-Ok-tally-clause-counted : goal.returns-in-Ok-tally-clause-counted
+returns-in-Ok-tally-clause-counted g c = rw (← c.self.view_is) (λ o held counts. counts_old c.args.via c.args.n c.args.part.now c.args.mark _ c.fragment-heard.new.self _ o held counts (λ o k. let is : c.fragment-heard.result ≡ answer.Fed told.Old = first_of (search rules, cc, grind arith) in sym is ∙ c.fragment-heard.ensures.answer o k) (inl refl))
+
+pub returns-then-records-tallies-clause-counted : goal.returns-then-records-tallies-clause-counted
+returns-then-records-tallies-clause-counted g c = rw (← c.self.view_is) (λ o held counts. counts_old c.args.via c.args.n c.args.part.now c.args.mark _ c.fragment-heard.new.self _ o held counts (λ o k. let is : c.fragment-heard.result ≡ answer.Fed told.Old = first_of (search rules, cc, grind arith) in sym is ∙ c.fragment-heard.ensures.answer o k) (inr (refl, omega arith)))
+
+pub returns-in-Dropped-clause-counted : goal.returns-in-Dropped-clause-counted
+returns-in-Dropped-clause-counted g c = rw (← c.self.view_is) (λ o held counts. counts_dropped c.args.via c.args.n c.args.part.now c.args.mark _ c.fragment-heard.new.self o _ held counts (λ o k. sym c.in-Dropped.is ∙ c.fragment-heard.ensures.answer o k))

@@ -4,7 +4,7 @@ use Rattle.frag_session.specs.Setup.{setup_bits}
 use Rattle.frag_session.specs.declared.setups.SetupReq.{SetupReq}
 use Rattle.flash_session.specs.HeldSession.{HeldSession, room_in}
 use Rattle.flash_session.proofs.Headers.{kept_within}
-use Rattle.flash_session.proofs.Renewing.{in_memory, lives_as, stored_lives, new_stands, new_fits, new_held, new_moments}
+use Rattle.flash_session.proofs.Renewing.{in_memory, lives_as, stored_lives, new_stands, new_counted, new_fits, new_held, new_moments}
 use Rattle.flash_session.proofs.held.Held.renew.Goals as goal
 
 fine : (h k : HeldSession) (l : SetupReq) → h ≡ k → setup_bits k.limits (room_in k) l ≡ 0 → setup_bits h.limits (room_in h) l ≡ 0
@@ -50,3 +50,6 @@ returns-in-Err-clause-any_moment g c = rw (← c.self.view_is) (λ o held.
 
 pub returns-in-Ok-clause-others : goal.returns-in-Ok-clause-others
 returns-in-Ok-clause-others g c = λ at len kept. kept_within at len _ _ c.in-Ok.ensures.kept
+
+pub returns-in-Ok-clause-counted : goal.returns-in-Ok-clause-counted
+returns-in-Ok-clause-counted g c = rw (← c.self.view_is) (new_counted (record { slot = c.self.inside.slot; limits = c.self.inside.limits; base = c.self.inside.base; span = c.self.inside.span; records = c.self.inside.records; tallies = c.self.inside.tallies; words = g.row.W; bytes = g.row.B }) c.args.req (fine _ _ c.args.req c.self.view_is c.requires.fine))

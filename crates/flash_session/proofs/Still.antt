@@ -1,0 +1,84 @@
+-- Runs of reads.
+use Rattle.std.proofs.Common.{◌≡◌, ◌≢◌, ℕ, ◌+◌, List, Option, Some, None, MatchOption, IfOk, IfErr, OnOk, Result, Ok, Err, refl, sym, subst, ◌∙◌, inl, inr, arith}
+use Rattle.std.proofs.lemmas.Bool.{cases_eq}
+use Rattle.flash_session.specs.Contents.{byte_at, Same, Follows, StillHolds, IsKept}
+use Rattle.flash_session.specs.Gates.{AreOpen, AreShut}
+use Rattle.flash_session.specs.Layout.{open_gate}
+use Rattle.flash_session.specs.Moments.{Elapses}
+use Rattle.flash_session.proofs.Runs.{one_more}
+
+pub same_joined : (a b c : List ℕ → Type 0) → Follows Same a b → Follows Same b c → Follows Same a c
+same_joined a b c one two = record {
+  from = λ z now.
+      let y = two.from z now in
+      let x = one.from y.0 y.1 in
+      (x.0, x.1, record { all = λ i. y.2.all i ∙ x.2.all i });
+}
+
+pub still_joined : {a b c : List ℕ → Type 0} → StillHolds a b → StillHolds b c → StillHolds a c
+still_joined {a} {b} {c} one two = record {
+  held = same_joined a b c one.held two.held;
+  stays = same_joined c b a two.stays one.stays;
+}
+
+pub still_self : (a : List ℕ → Type 0) → StillHolds a a
+still_self a = record {
+  held = record { from = λ c now. (c, now, record { all = λ i. refl }) };
+  stays = record { from = λ c now. (c, now, record { all = λ i. refl }) };
+}
+
+-- nothing is written by a run of reads
+pub elapsed : {m n o : ℕ} {past mid since : ℕ → List ℕ → Type 0} → Elapses Same m n past mid → Elapses Same n o mid since → Elapses Same m o past since
+elapsed {m} {n} {o} {past} {mid} {since} one two =
+    one_more Same Same Same m n o past mid since (λ c d s. s) (λ c d e s t. record { all = λ i. t.all i ∙ s.all i }) one two
+
+-- one gate more
+pub open_more : (holds0 holds : List ℕ → Type 0) (at k : ℕ) → AreOpen holds0 at 0 k → Follows Same holds0 holds → ((b : List ℕ) → holds b → byte_at b (at + k) ≡ open_gate) → AreOpen holds at 0 (k + 1)
+open_more holds0 holds at k opened follows now = record {
+  opened = λ b held j le lt. elim (cases_eq j k) [
+    | inl here ↦ subst (λ (i : ℕ). byte_at b (at + i) ≡ open_gate) (sym here) (now b held)
+    | inr other ↦ let from = follows.from b held in from.2.all (at + j) ∙ opened.opened from.0 from.1 j le (omega (arith, lt, other))
+  ];
+}
+
+pub shut_more : (holds0 holds : List ℕ → Type 0) (at from k : ℕ) → AreShut holds0 at from k → Follows Same holds0 holds → ((b : List ℕ) → holds b → byte_at b (at + k) ≢ open_gate) → AreShut holds at from (k + 1)
+shut_more holds0 holds at from k shut follows now = record {
+  shut = λ b held j le lt. elim (cases_eq j k) [
+    | inl here ↦ subst (λ (i : ℕ). byte_at b (at + i) ≢ open_gate) (sym here) (now b held)
+    | inr other ↦ λ is. let before = follows.from b held in shut.shut before.0 before.1 j le (omega (arith, lt, other)) (sym (before.2.all (at + j)) ∙ is)
+  ];
+}
+
+pub found_some : {A : Type 0} (P : Type 0) (Q : A → Type 0) (o : Option A) (k : A) → o ≡ Some k → MatchOption o P Q → Q k
+found_some {A} P Q o k is found = subst (λ (x : Option A). MatchOption x P Q) is found
+
+pub found_none : {A : Type 0} (P : Type 0) (Q : A → Type 0) (o : Option A) → o ≡ None → MatchOption o P Q → P
+found_none {A} P Q o is found = subst (λ (x : Option A). MatchOption x P Q) is found
+
+-- what is told of an Err
+pub on_err : {T E : Type 0} {P Q : E → Type 0} → ((e : E) → P e → Q e) → (r : Result T E) → IfErr r P → IfErr r Q
+on_err to (Ok x) p = tt
+on_err to (Err e) p = to e p
+
+pub on_ok : {T E : Type 0} {P Q : T → Type 0} → ((x : T) → P x → Q x) → (r : Result T E) → IfOk r P → IfOk r Q
+on_ok to (Ok x) p = to x p
+on_ok to (Err e) p = tt
+
+pub on_ok_any : {T E : Type 0} {P : Type 0} → P → (r : Result T E) → OnOk r P
+on_ok_any p (Ok x) = p
+on_ok_any p (Err e) = tt
+
+-- what a stop leaves stays what a read gives, while nothing is written
+pub kept_reads : {h1 h2 : List ℕ → Type 0} {m n : ℕ} {past since : ℕ → List ℕ → Type 0} → IsKept h1 (past m) → StillHolds h1 h2 → Elapses Same m n past since → IsKept h2 (since n)
+kept_reads kept still elapses = record {
+  from = λ c left.
+      let d = elapses.last c left in
+      let e = kept.from d.0 d.1 in
+      let f = still.stays.from e.0 e.1 in
+      (f.0, f.1, record { all = λ i. d.2.all i ∙ e.2.all i ∙ f.2.all i });
+}
+
+-- what is told of an Ok, and of what an Ok promises
+pub if_ok_both : {T E : Type 0} {P Q : T → Type 0} {X Y : Type 0} → ((x : T) → P x → (X → Y) → Q x) → (r : Result T E) → IfOk r P → (X → OnOk r Y) → IfOk r Q
+if_ok_both to (Ok x) p q = to x p q
+if_ok_both to (Err e) p q = tt

@@ -1,0 +1,45 @@
+use Rattle.std.proofs.Common.{◌≡◌, ℕ, ◌+◌, ◌*◌, List, rules, arith, sym, ap, subst, ◌∙◌}
+use Rattle.flash_session.specs.declared.reading.Front.{Front}
+use Rattle.flash_session.specs.declared.reading.Front.TheVariants.{Whole, Stray}
+use Rattle.flash_session.specs.Fronts.{IsFront}
+use Rattle.flash_session.specs.Layout.{gates_at, tallies_at, most_tallies}
+use Rattle.flash_session.specs.Lies.{GatesOpen}
+use Rattle.flash_session.specs.Opening.{IsFirstForeign}
+use Rattle.flash_session.proofs.Fronts.{carried, gates_same}
+use Rattle.flash_session.proofs.Still.{still_joined, elapsed, on_err}
+use Rattle.flash_session.proofs.Found.{first_tally}
+use Rattle.flash_session.proofs.finding.find_tallies.Goals as goal
+
+pub returns-in-Ok-Stray-clause-foreign : goal.returns-in-Ok-Stray-clause-foreign
+returns-in-Ok-Stray-clause-foreign g c = λ p is b now head gates.
+    let found = subst (λ (x : Front). IsFront (g.F.Flash.holds c.read_front.new.flash) (tallies_at c.args.base) most_tallies x) (let e : c.in-Ok-Stray.field-0 ≡ Stray c.in-Ok-Stray.k = first_of (search rules, cc, grind arith) in e) c.in-Ok-Stray.ensures.found in
+    let place : 8257 + c.from.result ≡ p = cc in
+    subst (IsFirstForeign _ b) (sym (ap (λ (x : ℕ). 8257 + x) c.from.ensures) ∙ place) (first_tally _ c.args.setup b head c.requires.most c.args.records gates found.1 c.in-Ok-Stray.k (found.2 b now))
+
+pub returns-in-Err-find_records-clause-foreign : goal.returns-in-Err-find_records-clause-foreign
+returns-in-Err-find_records-clause-foreign g c = λ p is b now head gates.
+    let whole = subst (λ (x : Front). IsFront (g.F.Flash.holds c.read_front.new.flash) (tallies_at c.args.base) most_tallies x) (let e : c.in-Ok-Whole.field-0 ≡ Whole c.in-Ok-Whole.tallies = first_of (search rules, cc, grind arith) in e) c.in-Ok-Whole.ensures.found in
+    c.in-Err-find_records.ensures.foreign p is b now head gates c.in-Ok-Whole.tallies
+    (carried (λ (x : List ℕ). GatesOpen x (tallies_at c.args.base) c.in-Ok-Whole.tallies most_tallies) _ _ (gates_same (tallies_at c.args.base) c.in-Ok-Whole.tallies most_tallies) c.find_records.ensures.held.held whole.1 b now)
+
+pub returns-in-Ok-clause-found : goal.returns-in-Ok-clause-found
+returns-in-Ok-clause-found g c = λ gates.
+    let whole = subst (λ (x : Front). IsFront (g.F.Flash.holds c.read_front.new.flash) (tallies_at c.args.base) most_tallies x) (let e : c.in-Ok-Whole.field-0 ≡ Whole c.in-Ok-Whole.tallies = first_of (search rules, cc, grind arith) in e) c.in-Ok-Whole.ensures.found in
+    record {
+      replayed = c.in-Ok.ensures.found;
+      gates = gates;
+      tallies = carried (λ (x : List ℕ). GatesOpen x (tallies_at c.args.base) c.in-Ok-Whole.tallies most_tallies) _ _ (gates_same (tallies_at c.args.base) c.in-Ok-Whole.tallies most_tallies) c.find_records.ensures.held.held whole.1;
+      few = whole.0;
+    }
+
+pub returns-in-Err-find_records-clause-held : goal.returns-in-Err-find_records-clause-held
+returns-in-Err-find_records-clause-held g c = still_joined c.read_front.ensures.held c.find_records.ensures.held
+
+pub returns-in-Err-find_records-clause-stops : goal.returns-in-Err-find_records-clause-stops
+returns-in-Err-find_records-clause-stops g c = elapsed c.read_front.ensures.stops c.find_records.ensures.stops
+
+pub returns-in-Ok-clause-held : goal.returns-in-Ok-clause-held
+returns-in-Ok-clause-held g c = still_joined c.read_front.ensures.held c.find_records.ensures.held
+
+pub returns-in-Ok-clause-stops : goal.returns-in-Ok-clause-stops
+returns-in-Ok-clause-stops g c = elapsed c.read_front.ensures.stops c.find_records.ensures.stops

@@ -1,0 +1,226 @@
+//! What lies in a range, as it is found when it is opened.
+
+ghost use Rattle.std.specs.Prelude.{◌≡◌, ℕ, ◌+◌, ◌*◌, ◌<◌, ◌≤◌, List, Option, None, OnOk, IfOk, IfErr, MatchOption};
+ghost use Rattle.flash_session.specs.Contents.{byte_at, Same, StillHolds, Follows, IsKept, HasRisen};
+ghost use Rattle.flash_session.specs.HeldSession.{room_in};
+ghost use Rattle.flash_session.specs.Layout.{open_gate, gates_at, tallies_at, most_tallies};
+ghost use Rattle.flash_session.specs.Lies.{GatesOpen, NoSession};
+ghost use Rattle.flash_session.specs.Moments.{Elapses};
+ghost use Rattle.flash_session.specs.Opening.{IsFirstForeign};
+ghost use Rattle.flash_session.specs.Replayed.{Replayed, HasHeader, IsFound, IsOpened, IsEmpty, place_in};
+ghost use Rattle.frag_session.specs.Session.{new_session};
+ghost use Rattle.frag_session.specs.Setup.{setup_bits, memory_room};
+ghost use Rattle.frag_session.specs.Stands.{Stands};
+ghost use Rattle.frag_session.specs.Steps.{area_of};
+
+use crate::fault::OpenFault;
+use crate::flash::Flash;
+use crate::reading::{Front, read_byte, read_front, read_setup};
+use crate::replaying::replay;
+use crate::storing::OPEN;
+use frag_session::{Limits, SetupReq, Slot};
+
+/// How many records and tallies lie there.
+#[derive(Clone, Copy, Debug, PartialEq, Eq)]
+pub struct Counts {
+    pub records: u16,
+    pub tallies: u16,
+}
+
+/// What lies in the `span` bytes from `base`, once it is synced: None without a session, and else the slot hears its records.
+pub fn find<F: Flash, const W: usize, const B: usize>(
+    flash: &mut F,
+    base: u32,
+    span: u32,
+    limits: Limits,
+    slot: &mut Slot<W, B>,
+) -> Result<Option<Counts>, OpenFault>
+    requires range { base + span ≤ F.room flash.old }
+    requires long { 24640 ≤ span }
+    requires none { Stands slot.old None }
+    ensures found { IfOk result (λ o. MatchOption o (IsEmpty (place_in W B base span limits (area_of slot.old)) slot.new (F.holds flash.new))
+        (λ c. IsOpened (place_in W B base span limits (area_of slot.old)) slot.new (F.holds flash.new) c)) }
+    ensures foreign { IfErr result (λ e. (p : ℕ) → e ≡ OpenFault.Foreign p → (b : List ℕ) → F.holds flash.new b
+        → IsFirstForeign (place_in W B base span limits (area_of slot.old)) b p) }
+    ensures kept { OnOk result (IsKept (F.holds flash.new) (F.left_since flash.new (F.moment flash.new))) }
+    ensures held { Follows Same (F.holds flash.old) (F.holds flash.new) }
+    ensures stops { Elapses Same (F.moment flash.old) (F.moment flash.new) (F.left_since flash.old) (F.left_since flash.new) }
+    ensures size { F.room flash.new ≡ F.room flash.old }
+    ensures later { F.faults flash.old ≤ F.faults flash.new }
+    ensures fault { IfErr result (λ e. e ≡ OpenFault.Flash → HasRisen (F.faults flash.old) (F.faults flash.new)) }
+    ensures area { area_of slot.new ≡ area_of slot.old }
+{
+    match flash.sync() {
+        Err(_) => Err(OpenFault::Flash),
+        Ok(()) => find_synced(flash, base, span, limits, slot),
+    }
+}
+
+/// What lies there, where it is synced.
+fn find_synced<F: Flash, const W: usize, const B: usize>(
+    flash: &mut F,
+    base: u32,
+    span: u32,
+    limits: Limits,
+    slot: &mut Slot<W, B>,
+) -> Result<Option<Counts>, OpenFault>
+    requires range { base + span ≤ F.room flash.old }
+    requires long { 24640 ≤ span }
+    requires none { Stands slot.old None }
+    ensures found { IfOk result (λ o. MatchOption o (IsEmpty (place_in W B base span limits (area_of slot.old)) slot.new (F.holds flash.new))
+        (λ c. IsOpened (place_in W B base span limits (area_of slot.old)) slot.new (F.holds flash.new) c)) }
+    ensures foreign { IfErr result (λ e. (p : ℕ) → e ≡ OpenFault.Foreign p → (b : List ℕ) → F.holds flash.new b
+        → IsFirstForeign (place_in W B base span limits (area_of slot.old)) b p) }
+    ensures held { StillHolds (F.holds flash.old) (F.holds flash.new) }
+    ensures stops { Elapses Same (F.moment flash.old) (F.moment flash.new) (F.left_since flash.old) (F.left_since flash.new) }
+    ensures size { F.room flash.new ≡ F.room flash.old }
+    ensures later { F.faults flash.old ≤ F.faults flash.new }
+    ensures fault { IfErr result (λ e. e ≡ OpenFault.Flash → HasRisen (F.faults flash.old) (F.faults flash.new)) }
+    ensures area { area_of slot.new ≡ area_of slot.old }
+{
+    match read_byte(flash, base) {
+        Err(_) => Err(OpenFault::Flash),
+        Ok(gate) => {
+            if gate != OPEN {
+                return Ok(None);
+            }
+            match find_behind(flash, base, span, limits, slot) {
+                Err(fault) => Err(fault),
+                Ok(counts) => Ok(Some(counts)),
+            }
+        }
+    }
+}
+
+/// The session that lies behind an open header's gate.
+fn find_behind<F: Flash, const W: usize, const B: usize>(
+    flash: &mut F,
+    base: u32,
+    span: u32,
+    limits: Limits,
+    slot: &mut Slot<W, B>,
+) -> Result<Counts, OpenFault>
+    requires range { base + span ≤ F.room flash.old }
+    requires long { 24640 ≤ span }
+    ensures found { ((b : List ℕ) → F.holds flash.new b → byte_at b base ≡ open_gate)
+        → IfOk result (λ c. IsOpened (place_in W B base span limits (area_of slot.old)) slot.new (F.holds flash.new) c) }
+    ensures foreign { IfErr result (λ e. (p : ℕ) → e ≡ OpenFault.Foreign p → (b : List ℕ) → F.holds flash.new b → byte_at b base ≡ open_gate
+        → IsFirstForeign (place_in W B base span limits (area_of slot.old)) b p) }
+    ensures held { StillHolds (F.holds flash.old) (F.holds flash.new) }
+    ensures stops { Elapses Same (F.moment flash.old) (F.moment flash.new) (F.left_since flash.old) (F.left_since flash.new) }
+    ensures size { F.room flash.new ≡ F.room flash.old }
+    ensures later { F.faults flash.old ≤ F.faults flash.new }
+    ensures fault { IfErr result (λ e. e ≡ OpenFault.Flash → HasRisen (F.faults flash.old) (F.faults flash.new)) }
+    ensures area { area_of slot.new ≡ area_of slot.old }
+{
+    match read_setup(flash, base + 1) {
+        Err(_) => Err(OpenFault::Flash),
+        Ok(setup) => {
+            if slot.refusal(setup, limits, Some(span)) != 0 {
+                return Err(OpenFault::Foreign(1));
+            }
+            find_session(flash, base, span, setup, limits, slot)
+        }
+    }
+}
+
+/// The session of this setup: its gates are counted, and its records heard.
+fn find_session<F: Flash, const W: usize, const B: usize>(
+    flash: &mut F,
+    base: u32,
+    span: u32,
+    setup: SetupReq,
+    limits: Limits,
+    slot: &mut Slot<W, B>,
+) -> Result<Counts, OpenFault>
+    requires room { base + 24640 + (10 + setup.frag_size) * (2 * setup.nb_frag + 1) ≤ F.room flash.old }
+    requires most { 2 * setup.nb_frag + 1 ≤ 8193 }
+    requires fine { setup_bits limits (memory_room W B (area_of slot.old)) setup ≡ 0 }
+    ensures found { IfOk result (λ c. IsFound limits setup slot.new (F.holds flash.new) base c) }
+    ensures foreign { IfErr result (λ e. (p : ℕ) → e ≡ OpenFault.Foreign p
+        → (b : List ℕ) → F.holds flash.new b → HasHeader (place_in W B base span limits (area_of slot.old)) setup b → IsFirstForeign (place_in W B base span limits (area_of slot.old)) b p) }
+    ensures held { StillHolds (F.holds flash.old) (F.holds flash.new) }
+    ensures stops { Elapses Same (F.moment flash.old) (F.moment flash.new) (F.left_since flash.old) (F.left_since flash.new) }
+    ensures size { F.room flash.new ≡ F.room flash.old }
+    ensures later { F.faults flash.old ≤ F.faults flash.new }
+    ensures fault { IfErr result (λ e. e ≡ OpenFault.Flash → HasRisen (F.faults flash.old) (F.faults flash.new)) }
+    ensures area { area_of slot.new ≡ area_of slot.old }
+{
+    match read_front(flash, base + 64, 2 * setup.nb_frag + 1) {
+        Err(_) => Err(OpenFault::Flash),
+        Ok(Front::Stray(k)) => Err(OpenFault::Foreign(64 + u32::from(k))),
+        Ok(Front::Whole(records)) => find_tallies(flash, base, span, setup, limits, records, slot),
+    }
+}
+
+/// The same, where the gates of records are counted.
+fn find_tallies<F: Flash, const W: usize, const B: usize>(
+    flash: &mut F,
+    base: u32,
+    span: u32,
+    setup: SetupReq,
+    limits: Limits,
+    records: u16,
+    slot: &mut Slot<W, B>,
+) -> Result<Counts, OpenFault>
+    requires room { base + 24640 + (10 + setup.frag_size) * (2 * setup.nb_frag + 1) ≤ F.room flash.old }
+    requires most { 2 * setup.nb_frag + 1 ≤ 8193 }
+    requires few { records ≤ 2 * setup.nb_frag + 1 }
+    requires fine { setup_bits limits (memory_room W B (area_of slot.old)) setup ≡ 0 }
+    ensures found { ((b : List ℕ) → F.holds flash.new b → GatesOpen b (gates_at base) records (2 * setup.nb_frag + 1))
+        → IfOk result (λ c. IsFound limits setup slot.new (F.holds flash.new) base c) }
+    ensures foreign { IfErr result (λ e. (p : ℕ) → e ≡ OpenFault.Foreign p
+        → (b : List ℕ) → F.holds flash.new b → HasHeader (place_in W B base span limits (area_of slot.old)) setup b → GatesOpen b (gates_at base) records (2 * setup.nb_frag + 1) → IsFirstForeign (place_in W B base span limits (area_of slot.old)) b p) }
+    ensures held { StillHolds (F.holds flash.old) (F.holds flash.new) }
+    ensures stops { Elapses Same (F.moment flash.old) (F.moment flash.new) (F.left_since flash.old) (F.left_since flash.new) }
+    ensures size { F.room flash.new ≡ F.room flash.old }
+    ensures later { F.faults flash.old ≤ F.faults flash.new }
+    ensures fault { IfErr result (λ e. e ≡ OpenFault.Flash → HasRisen (F.faults flash.old) (F.faults flash.new)) }
+    ensures area { area_of slot.new ≡ area_of slot.old }
+{
+    match read_front(flash, base + 8257, 16_383) {
+        Err(_) => Err(OpenFault::Flash),
+        Ok(Front::Stray(k)) => Err(OpenFault::Foreign(8257 + u32::from(k))),
+        Ok(Front::Whole(tallies)) => match find_records(flash, base, span, setup, limits, records, slot) {
+            Err(fault) => Err(fault),
+            Ok(()) => Ok(Counts { records, tallies }),
+        },
+    }
+}
+
+/// The same, where all gates are counted.
+#[tactic(auto, using(crate::proofs::Found::no_heard))]
+fn find_records<F: Flash, const W: usize, const B: usize>(
+    flash: &mut F,
+    base: u32,
+    span: u32,
+    setup: SetupReq,
+    limits: Limits,
+    records: u16,
+    slot: &mut Slot<W, B>,
+) -> Result<(), OpenFault>
+    requires room { base + 24640 + (10 + setup.frag_size) * (2 * setup.nb_frag + 1) ≤ F.room flash.old }
+    requires most { 2 * setup.nb_frag + 1 ≤ 8193 }
+    requires few { records ≤ 2 * setup.nb_frag + 1 }
+    requires fine { setup_bits limits (memory_room W B (area_of slot.old)) setup ≡ 0 }
+    ensures found { OnOk result (Replayed (new_session limits setup) slot.new (F.holds flash.new) base setup.frag_size records) }
+    ensures foreign { IfErr result (λ e. (p : ℕ) → e ≡ OpenFault.Foreign p
+        → (b : List ℕ) → F.holds flash.new b → HasHeader (place_in W B base span limits (area_of slot.old)) setup b → GatesOpen b (gates_at base) records (2 * setup.nb_frag + 1)
+        → (t : ℕ) → GatesOpen b (tallies_at base) t most_tallies → IsFirstForeign (place_in W B base span limits (area_of slot.old)) b p) }
+    ensures held { StillHolds (F.holds flash.old) (F.holds flash.new) }
+    ensures stops { Elapses Same (F.moment flash.old) (F.moment flash.new) (F.left_since flash.old) (F.left_since flash.new) }
+    ensures size { F.room flash.new ≡ F.room flash.old }
+    ensures later { F.faults flash.old ≤ F.faults flash.new }
+    ensures fault { IfErr result (λ e. e ≡ OpenFault.Flash → HasRisen (F.faults flash.old) (F.faults flash.new)) }
+    ensures area { area_of slot.new ≡ area_of slot.old }
+{
+    slot.renew(setup, limits);
+    match replay(flash, base, setup.frag_size, records, slot) {
+        Err(_) => Err(OpenFault::Flash),
+        Ok(None) => Ok(()),
+        Ok(Some(k)) => {
+            let at = 24_640 + (10 + u32::from(setup.frag_size)) * u32::from(k);
+            Err(OpenFault::Foreign(at))
+        }
+    }
+}
