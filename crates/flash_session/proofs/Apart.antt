@@ -1,5 +1,5 @@
 -- Several sessions on one flash, each in a range of its own.
-use Rattle.std.proofs.Common.{◌≡◌, subst, ◌⊎◌, ℕ, ◌+◌, ◌<◌, ◌≤◌, List, Option, None, Some, inl, inr, sym, ◌∙◌, arith}
+use Rattle.std.proofs.Common.{◌≡◌, subst, ℕ, ◌<◌, ◌≤◌, List, Option, None, Some, inl, inr, sym, ◌∙◌, arith}
 use Rattle.flash_session.specs.Apart.{AreApart}
 use Rattle.flash_session.specs.Contents.{byte_at, SameOutside, SameWithin, Follows}
 use Rattle.flash_session.specs.Moments.{Elapses, LeavesOnly}

@@ -1,31 +1,22 @@
 -- The records that lie behind open gates: which of them is foreign.
-use Rattle.std.proofs.Common.{◌≡◌, ◌≢◌, ◌⊎◌, ℕ, ◌+◌, ◌*◌, ◌<◌, ◌≤◌, Bool, true, false, List, [], ◌∷◌, length, get_or, Option, Some, None, refl, sym, ap, ap₂, ◌∙◌, subst, inl, inr, arith, ◌^◌}
-use Rattle.std.specs.Prelude.{if◌then◌else◌}
+use Rattle.std.proofs.Common.{◌≡◌, ◌≢◌, ℕ, ◌+◌, ◌*◌, ◌<◌, ◌≤◌, List, [], ◌∷◌, length, get_or, refl, sym, ap, ◌∙◌, subst, inl, inr, arith}
 use Rattle.std.proofs.lemmas.Bool.{cases_lt, cases_eq}
 use Rattle.std.proofs.lemmas.Nat.{mul-le}
-use Rattle.frag_model.specs.Fragments.{Fragment, Shape}
-use Rattle.frag_model.specs.News.{is_new, news}
-use Rattle.frag_model.proofs.News.{again}
-use Rattle.frag_session.specs.declared.answers.Via.TheVariants as via
-use Rattle.frag_session.specs.declared.answers.Cause.{Cause}
-use Rattle.frag_session.specs.declared.answers.News.{News}
-use Rattle.frag_session.specs.declared.answers.News.TheVariants as told
-use Rattle.frag_session.specs.declared.answers.Heard.TheVariants as answer
+use Rattle.frag_model.specs.Fragments.{Fragment}
 use Rattle.frag_session.specs.declared.setups.SetupReq.{SetupReq}
 use Rattle.frag_session.specs.declared.setups.Limits.{Limits}
-use Rattle.frag_session.specs.Session.{Session, shape_of, new_session, cause_of, drop_cause, news_in, answer_of}
-use Rattle.frag_session.specs.Setup.{setup_bits, rows_of}
+use Rattle.frag_session.specs.Session.{Session, new_session}
+use Rattle.frag_session.specs.Setup.{setup_bits}
 use Rattle.flash_session.specs.Contents.{byte_at}
-use Rattle.flash_session.specs.Body.{setup_at, setup_in, setup_from, IsBody}
+use Rattle.flash_session.specs.Body.{setup_at, setup_in, setup_from}
 use Rattle.flash_session.specs.Fronts.{IsFirstStray}
 use Rattle.flash_session.specs.HeldSession.{HeldSession, room_in}
 use Rattle.flash_session.specs.InRange.{InRange, AllInRange}
-use Rattle.flash_session.specs.Layout.{open_gate, body_at, gates_at, tallies_at, most_tallies, spelled}
-use Rattle.flash_session.specs.Lies.{SpelledAt, RecordsLie, GatesOpen, Lies, record_at}
+use Rattle.flash_session.specs.Layout.{open_gate, gates_at, tallies_at, most_tallies, spelled}
+use Rattle.flash_session.specs.Lies.{SpelledAt, RecordsLie, GatesOpen, record_at}
 use Rattle.flash_session.specs.Opening as foreign
 use Rattle.flash_session.specs.Opening.{IsStray, IsFed, IsForeignRecord, IsForeign, IsFirstForeign, session_there, setup_there, most_records}
-use Rattle.flash_session.specs.Replayed.{AllFed, StopsAt, Replayed, HasHeader}
-use Rattle.flash_session.specs.Sessions.{AreHearable, IsOpenable, LiesFor, hearing, stored_of}
+use Rattle.flash_session.specs.Replayed.{AllFed, StopsAt, HasHeader}
 use Rattle.flash_session.proofs.Fronts.{no_stray, stray_least, stray_is}
 use Rattle.flash_session.proofs.Places.{length-spelled}
 use Rattle.flash_session.proofs.Unique.{spelled_same, same_spelled, one_list}

@@ -14,8 +14,7 @@ use Rattle.frag_session.specs.Session.{Session, shape_of, fragment, followed, dr
 use Rattle.frag_session.specs.Held.{HeldSlot}
 use Rattle.frag_session.specs.Stands.{Stands}
 use Rattle.flash_session.specs.Sessions.{hearing}
-use Rattle.flash_session.specs.Replayed.{Replayed, StopsAt, AllFed}
-use Rattle.flash_session.specs.Opening.{IsFed}
+use Rattle.flash_session.specs.Replayed.{Replayed, StopsAt}
 use Rattle.flash_session.proofs.Hearing.{Hears, hears, after_heard, Answers}
 
 pub none_replayed : (s : Session) (x : HeldSlot) (holds : List ℕ → Type 0) (base size : ℕ) → s.heard ≡ [] → Stands x (Some s) → Replayed s x holds base size 0

@@ -1,5 +1,5 @@
 -- A session that can be opened: how much room it takes, and what a stop leaves of it.
-use Rattle.std.proofs.Common.{◌≡◌, ℕ, ◌+◌, ◌*◌, ◌<◌, ◌≤◌, Bool, true, false, List, [], ◌∷◌, Option, None, Some, refl, sym, ap, ap₂, ◌∙◌, subst, arith, length, min}
+use Rattle.std.proofs.Common.{◌≡◌, ℕ, ◌+◌, ◌*◌, ◌<◌, ◌≤◌, Bool, true, false, List, [], ◌∷◌, Option, None, Some, sym, ap₂, ◌∙◌, subst, arith, length, min}
 use Rattle.std.proofs.lemmas.Bool.{ltb-false}
 use Rattle.std.proofs.Math.Nat.{mul_comm}
 use Rattle.flash_session.specs.Contents.{byte_at}
@@ -16,10 +16,9 @@ use Rattle.frag_session.specs.Session.{Session, cause_of, excludes}
 use Rattle.frag_session.specs.Setup.{Room, setup_bits}
 use Rattle.frag_session.specs.Steps.{area_of}
 use Rattle.frag_session.proofs.Calls.{accepted, room_for, can_hear}
-use Rattle.flash_session.specs.Body.{IsBody}
 use Rattle.flash_session.specs.HeldSession.{HeldSession, room_in}
-use Rattle.flash_session.specs.Lies.{Stored, Lies, Fits, NoSession}
-use Rattle.flash_session.specs.Sessions.{stored_of, AreHearable, IsOpenable, LiesFor, LiesForAs, IsHeldAs}
+use Rattle.flash_session.specs.Lies.{Fits}
+use Rattle.flash_session.specs.Sessions.{stored_of, AreHearable, IsOpenable, LiesForAs, IsHeldAs}
 use Rattle.flash_session.proofs.Places.{lies_within}
 
 -- its records and gates have room

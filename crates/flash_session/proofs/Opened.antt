@@ -1,12 +1,11 @@
 -- What is opened stands for what lies there.
-use Rattle.std.proofs.Common.{◌≡◌, ◌≢◌, ℕ, ◌+◌, ◌*◌, ◌<◌, ◌≤◌, Bool, true, false, List, [], ◌∷◌, length, Option, Some, None, refl, sym, ap, ap₂, ◌∙◌, subst, arith, min}
+use Rattle.std.proofs.Common.{◌≡◌, ℕ, ◌+◌, ◌*◌, Bool, true, false, List, [], ◌∷◌, length, Option, Some, None, refl, sym, ap, ap₂, ◌∙◌, subst, min}
 use Rattle.std.specs.Prelude.{if◌then◌else◌}
 use Rattle.frag_model.specs.Fragments.{Fragment, Shape}
 use Rattle.frag_model.specs.News.{is_new, news, MeanTheSame}
-use Rattle.frag_model.proofs.News.{again, same, means_itself}
+use Rattle.frag_model.proofs.News.{again, same}
 use Rattle.frag_session.specs.declared.answers.Via.TheVariants as via
 use Rattle.frag_session.specs.declared.answers.Cause.{Cause}
-use Rattle.frag_session.specs.declared.answers.News.{News}
 use Rattle.frag_session.specs.declared.answers.News.TheVariants as told
 use Rattle.frag_session.specs.declared.answers.Heard.TheVariants as answer
 use Rattle.frag_session.specs.declared.setups.Limits.{Limits}
@@ -14,21 +13,19 @@ use Rattle.frag_session.specs.declared.setups.SetupReq.{SetupReq}
 use Rattle.frag_session.specs.Held.{HeldSlot}
 use Rattle.frag_session.specs.Session.{Session, shape_of, new_session, cause_of, drop_cause, news_in, answer_of}
 use Rattle.frag_session.specs.Setup.{setup_bits}
-use Rattle.frag_session.specs.Stands.{Stands}
 use Rattle.frag_session.specs.Steps.{area_of}
-use Rattle.flash_session.specs.Body.{setup_at, setup_in, IsBody}
-use Rattle.flash_session.specs.Contents.{byte_at, Same, IsKept}
+use Rattle.flash_session.specs.Body.{IsBody}
+use Rattle.flash_session.specs.Contents.{Same, IsKept}
 use Rattle.flash_session.specs.declared.fault.OpenFault.{OpenFault}
 use Rattle.flash_session.specs.declared.fault.OpenFault.TheVariants as fault
-use Rattle.flash_session.specs.declared.finding.Counts.{Counts}
 use Rattle.flash_session.specs.HeldSession.{HeldSession, room_in}
 use Rattle.flash_session.specs.InRange.{AllInRange}
-use Rattle.flash_session.specs.Layout.{open_gate, body_at, gates_at, tallies_at, most_tallies}
+use Rattle.flash_session.specs.Layout.{body_at, gates_at, tallies_at, most_tallies}
 use Rattle.flash_session.specs.Lies.{SpelledAt, GatesOpen, RecordsLie, Lies, IsStoredAs}
 use Rattle.flash_session.specs.Opening as foreign
 use Rattle.flash_session.specs.Opening.{IsFed, IsForeign, IsFirstForeign, NothingForeign, setup_there}
-use Rattle.flash_session.specs.Replayed.{AllFed, Replayed, HasHeader, IsFound, IsOpened, IsEmpty}
-use Rattle.flash_session.specs.Sessions.{stored_of, AreHearable, IsOpenable, LiesFor, LiesForAs, hearing, StandsBut, HeldStands, HeldStandsAs, IsCount, IsHeldBut, IsHeldAs}
+use Rattle.flash_session.specs.Replayed.{AllFed, HasHeader, IsOpened, IsEmpty}
+use Rattle.flash_session.specs.Sessions.{stored_of, AreHearable, IsOpenable, LiesFor, LiesForAs, hearing, HeldStands, HeldStandsAs, IsCount, IsHeldBut, IsHeldAs}
 use Rattle.flash_session.proofs.Found.{setup_read, nothing_foreign}
 use Rattle.flash_session.proofs.Fronts.{one_count}
 use Rattle.flash_session.proofs.Headers.{kept_within}

@@ -1,12 +1,11 @@
 -- What a setup and a deletion make of a session that is held, and what it shows.
-use Rattle.std.proofs.Common.{◌≡◌, ◌≢◌, ◌⊎◌, ℕ, ◌+◌, ◌*◌, ◌<◌, ◌≤◌, ◌==◌, Bool, true, false, ◌||◌, List, [], length, min, Option, Some, None, is_some, option_map, refl, sym, ap, ap₂, ◌∙◌, subst, inl, inr, arith}
+use Rattle.std.proofs.Common.{◌≡◌, ◌≢◌, ◌⊎◌, ℕ, ◌+◌, ◌*◌, ◌≤◌, ◌==◌, Bool, true, false, ◌||◌, List, [], length, min, Option, Some, None, is_some, option_map, refl, sym, ap, ap₂, ◌∙◌, subst, inl, inr, arith}
 use Rattle.std.specs.Prelude.{if◌then◌else◌, nat_le, nat_lt, not, ◌/◌, ◌%◌}
 use Rattle.frag_model.specs.Limits.{max_frag_size, max_pieces}
 use Rattle.row_elimination.specs.Room.{has_room}
-use Rattle.std.proofs.lemmas.Bool.{eqb-false, ne_eqb, or_parts}
+use Rattle.std.proofs.lemmas.Bool.{ne_eqb}
 use Rattle.frag_model.specs.Fragments.{Fragment, Shape}
 use Rattle.frag_model.specs.News.{news, MeanTheSame}
-use Rattle.frag_model.specs.Verdict.{verdict, missing}
 use Rattle.frag_model.proofs.News.{means_itself}
 use Rattle.frag_session.specs.declared.answers.Via.{Via}
 use Rattle.frag_session.specs.declared.answers.StatusAns.{StatusAns}
@@ -18,11 +17,11 @@ use Rattle.frag_session.specs.Setup.{Room, memory_room, rows_of, too_long, bit_w
 use Rattle.frag_session.specs.Stands.{Stands}
 use Rattle.frag_session.specs.Steps.{area_of}
 use Rattle.frag_session.proofs.Calls.{accepted}
-use Rattle.flash_session.specs.Body.{setup_bytes, setup_from, setup_in, IsBody, FieldsFit}
+use Rattle.flash_session.specs.Body.{setup_bytes, setup_from, IsBody, FieldsFit}
 use Rattle.flash_session.specs.HeldSession.{HeldSession, room_in}
 use Rattle.flash_session.specs.Lies.{Stored, Lies, LiesAs, Fits, NoSession, IsStoredAs, IsOldNoneOrNew, new_stored}
 use Rattle.flash_session.specs.Moments.{LeavesOnly}
-use Rattle.flash_session.specs.Sessions.{stored_of, stored_as, IsOpenable, LiesFor, LiesForAs, hearing, StandsBut, HeldStands, HeldStandsAs, IsCount, CountsAs, IsHeldAs}
+use Rattle.flash_session.specs.Sessions.{stored_of, stored_as, IsOpenable, LiesFor, LiesForAs, hearing, HeldStands, HeldStandsAs, IsCount, CountsAs, IsHeldAs}
 use Rattle.flash_session.proofs.Moments.{stays, weaker}
 use Rattle.flash_session.proofs.Openable.{openable_fits, lies_for}
 

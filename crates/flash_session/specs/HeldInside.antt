@@ -1,5 +1,5 @@
 -- What the fields of a session in flash keep true.
-use Rattle.std.specs.Prelude.{ℕ, ◌≤◌, Option}
+use Rattle.std.specs.Prelude.{◌≤◌, Option}
 use Rattle.frag_session.specs.Session.{Session}
 use Rattle.flash_session.specs.HeldSession.{HeldSession}
 use Rattle.flash_session.specs.Sessions.{HeldStandsAs}

@@ -1,11 +1,11 @@
 -- When what lies in a range is no session's, and where.
-use Rattle.std.specs.Prelude.{◌≡◌, ◌≢◌, ◌⊎◌, ℕ, ◌+◌, ◌*◌, ◌<◌, ◌≤◌, List, [], ◌∷◌, length, Some}
+use Rattle.std.specs.Prelude.{◌≡◌, ◌≢◌, ℕ, ◌+◌, ◌*◌, ◌<◌, ◌≤◌, List, length, Some}
 use Rattle.frag_model.specs.Fragments.{Fragment}
 use Rattle.frag_session.specs.declared.answers.Via.TheVariants as via
 use Rattle.frag_session.specs.declared.answers.News.TheVariants as news
 use Rattle.frag_session.specs.declared.answers.Heard.TheVariants as answer
 use Rattle.frag_session.specs.declared.setups.SetupReq.{SetupReq}
-use Rattle.frag_session.specs.Session.{Session, new_session, shape_of, drop_cause, news_in, answer_of}
+use Rattle.frag_session.specs.Session.{Session, new_session, drop_cause, news_in, answer_of}
 use Rattle.frag_session.specs.Setup.{setup_bits}
 use Rattle.flash_session.specs.Body.{setup_at}
 use Rattle.flash_session.specs.Contents.{byte_at}

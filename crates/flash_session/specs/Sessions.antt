@@ -1,5 +1,5 @@
 -- When a session in flash stands for a history, and what lies in a range for one.
-use Rattle.std.specs.Prelude.{◌≡◌, ℕ, ◌+◌, ◌*◌, ◌≤◌, min, List, [], ◌∷◌, length, Option, None, Some, option_map}
+use Rattle.std.specs.Prelude.{◌≡◌, ℕ, ◌+◌, ◌*◌, ◌≤◌, min, List, [], ◌∷◌, length, Option, None, Some}
 use Rattle.frag_model.specs.Fragments.{Fragment}
 use Rattle.frag_model.specs.News.{news, MeanTheSame}
 use Rattle.frag_session.specs.Setup.{rows_of, setup_bits}

@@ -1,4 +1,4 @@
-use Rattle.std.proofs.Common.{◌≡◌, ◌≤◌, ℕ, List, sym, ap, subst, ◌∙◌, arith, rules, lit≤}
+use Rattle.std.proofs.Common.{◌≡◌, ℕ, List, sym, ap, subst, ◌∙◌, arith, lit≤}
 use Rattle.frag_session.specs.Setup.{setup_bits}
 use Rattle.frag_session.specs.Steps.{area_of}
 use Rattle.frag_session.specs.declared.setups.SetupReq.{SetupReq}

@@ -2,7 +2,7 @@ use Rattle.std.proofs.Common.{◌≡◌, ℕ, ◌+◌, ◌*◌, List, rules, ari
 use Rattle.flash_session.specs.declared.reading.Front.{Front}
 use Rattle.flash_session.specs.declared.reading.Front.TheVariants.{Whole, Stray}
 use Rattle.flash_session.specs.Fronts.{IsFront}
-use Rattle.flash_session.specs.Layout.{gates_at, tallies_at, most_tallies}
+use Rattle.flash_session.specs.Layout.{gates_at}
 use Rattle.flash_session.specs.Lies.{GatesOpen}
 use Rattle.flash_session.specs.Opening.{IsFirstForeign}
 use Rattle.flash_session.proofs.Fronts.{carried, gates_same}

@@ -1,4 +1,4 @@
-use Rattle.std.proofs.Common.{◌≡◌, ℕ, List, sym, ◌∙◌}
+use Rattle.std.proofs.Common.{◌≡◌, ℕ, List, ◌∙◌}
 use Rattle.flash_session.specs.Contents.{byte_at}
 use Rattle.flash_session.specs.Layout.{open_gate}
 use Rattle.flash_session.proofs.Fronts.{carried}

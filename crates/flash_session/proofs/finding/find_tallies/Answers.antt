@@ -1,12 +1,12 @@
-use Rattle.std.proofs.Common.{◌≡◌, ℕ, ◌+◌, ◌*◌, List, rules, arith, sym, ap, subst, ◌∙◌}
+use Rattle.std.proofs.Common.{◌≡◌, ℕ, ◌+◌, List, rules, arith, sym, ap, subst, ◌∙◌}
 use Rattle.flash_session.specs.declared.reading.Front.{Front}
 use Rattle.flash_session.specs.declared.reading.Front.TheVariants.{Whole, Stray}
 use Rattle.flash_session.specs.Fronts.{IsFront}
-use Rattle.flash_session.specs.Layout.{gates_at, tallies_at, most_tallies}
+use Rattle.flash_session.specs.Layout.{tallies_at, most_tallies}
 use Rattle.flash_session.specs.Lies.{GatesOpen}
 use Rattle.flash_session.specs.Opening.{IsFirstForeign}
 use Rattle.flash_session.proofs.Fronts.{carried, gates_same}
-use Rattle.flash_session.proofs.Still.{still_joined, elapsed, on_err}
+use Rattle.flash_session.proofs.Still.{still_joined, elapsed}
 use Rattle.flash_session.proofs.Found.{first_tally}
 use Rattle.flash_session.proofs.finding.find_tallies.Goals as goal
 

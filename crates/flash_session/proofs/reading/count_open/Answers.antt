@@ -1,4 +1,4 @@
-use Rattle.std.proofs.Common.{sym, ◌∙◌, rules, arith}
+use Rattle.std.proofs.Common.{◌∙◌, arith}
 use Rattle.flash_session.proofs.Still.{still_joined, elapsed, open_more}
 use Rattle.flash_session.proofs.reading.count_open.Goals as goal
 

@@ -1,4 +1,4 @@
-use Rattle.std.proofs.Common.{sym, ◌∙◌, rules, arith}
+use Rattle.std.proofs.Common.{sym, ◌∙◌, arith}
 use Rattle.flash_session.proofs.Still.{still_joined, elapsed, shut_more}
 use Rattle.flash_session.proofs.reading.next_open.Goals as goal
 

@@ -1,4 +1,3 @@
-use Rattle.std.proofs.Common.{sym, ◌∙◌, rules, arith}
 use Rattle.flash_session.proofs.Still.{still_joined, found_some}
 use Rattle.flash_session.proofs.Fronts.{front_stray}
 use Rattle.flash_session.proofs.reading.read_front.Goals as goal

@@ -1,4 +1,4 @@
-use Rattle.std.proofs.Common.{◌≡◌, ◌+◌, length, sym, ◌∙◌, rules}
+use Rattle.std.proofs.Common.{◌+◌, sym, ◌∙◌, rules}
 use Rattle.flash_session.proofs.reading.read_setup.Goals as goal
 
 pub returns-clause-reads : goal.returns-clause-reads

@@ -1,4 +1,3 @@
-use Rattle.std.proofs.Common.{None, ◌∙◌, sym}
 use Rattle.flash_session.specs.Lies.{NoSession}
 use Rattle.flash_session.proofs.Headers.{kept_within}
 use Rattle.flash_session.proofs.Renewing.{unmoved}

@@ -1,4 +1,4 @@
-use Rattle.std.proofs.Common.{◌≡◌, ◌≤◌, ℕ, List, Option, Some, None, sym, subst, ◌∙◌, arith, rules}
+use Rattle.std.proofs.Common.{◌≡◌, ℕ, Some, None, subst, ◌∙◌, arith, rules}
 use Rattle.frag_session.specs.Steps.{area_of}
 use Rattle.flash_session.specs.Opening.{IsFirstForeign}
 use Rattle.flash_session.specs.Replayed.{place_in, IsOpened, IsEmpty}

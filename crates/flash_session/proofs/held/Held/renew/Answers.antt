@@ -1,5 +1,5 @@
-use Rattle.std.proofs.Common.{◌≡◌, Option, Some, ◌∙◌, sym, subst, lit≤}
-use Rattle.frag_session.specs.Session.{Session, new_session}
+use Rattle.std.proofs.Common.{◌≡◌, Some, ◌∙◌, sym, subst, lit≤}
+use Rattle.frag_session.specs.Session.{new_session}
 use Rattle.frag_session.specs.Setup.{setup_bits}
 use Rattle.frag_session.specs.declared.setups.SetupReq.{SetupReq}
 use Rattle.flash_session.specs.HeldSession.{HeldSession, room_in}

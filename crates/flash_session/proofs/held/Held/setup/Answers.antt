@@ -39,11 +39,11 @@ pub returns-in-Err-clause-equal : goal.returns-in-Err-clause-equal
 returns-in-Err-clause-equal g c = λ o held equal. let no : true ≡ false = sym equal ∙ (sym (keeps_of _ _ c.args.req _ c.self.view_is c.keeps.ensures o held) ∙ c.if-keeps.false) in absurd cc
 
 pub returns-then-bits-ne0-clause-counted : goal.returns-then-bits-ne0-clause-counted
-returns-then-bits-ne0-clause-counted g c = λ o held counts. counts_equal _ _ _ (refused_setup _ _ o c.args.req (λ e. c.if-bits-ne0.true (bits_of _ _ c.args.req _ c.self.view_is c.refusal-bits.ensures ∙ e))) counts
+returns-then-bits-ne0-clause-counted g c = λ o held counts. counts_equal c.args.self _ _ (refused_setup _ _ o c.args.req (λ e. c.if-bits-ne0.true (bits_of _ _ c.args.req _ c.self.view_is c.refusal-bits.ensures ∙ e))) counts
 
 pub returns-then-keeps-clause-counted : goal.returns-then-keeps-clause-counted
-returns-then-keeps-clause-counted g c = λ o held counts. counts_equal _ _ _ (kept_setup _ _ o c.args.req (sym (bits_of _ _ c.args.req _ c.self.view_is c.refusal-bits.ensures) ∙ c.if-bits-ne0.false) (sym (keeps_of _ _ c.args.req _ c.self.view_is c.keeps.ensures o held) ∙ c.if-keeps.true)) counts
+returns-then-keeps-clause-counted g c = λ o held counts. counts_equal c.args.self _ _ (kept_setup _ _ o c.args.req (sym (bits_of _ _ c.args.req _ c.self.view_is c.refusal-bits.ensures) ∙ c.if-bits-ne0.false) (sym (keeps_of _ _ c.args.req _ c.self.view_is c.keeps.ensures o held) ∙ c.if-keeps.true)) counts
 
 pub returns-in-Ok-clause-counted : goal.returns-in-Ok-clause-counted
-returns-in-Ok-clause-counted g c = λ o held counts. counts_equal _ _ _ (new_setup _ _ o c.args.req (sym (bits_of _ _ c.args.req _ c.self.view_is c.refusal-bits.ensures) ∙ c.if-bits-ne0.false) (sym (keeps_of _ _ c.args.req _ c.self.view_is c.keeps.ensures o held) ∙ c.if-keeps.false)) c.in-Ok.ensures.counted
+returns-in-Ok-clause-counted g c = λ o held counts. counts_equal c.in-Ok.held _ _ (new_setup _ _ o c.args.req (sym (bits_of _ _ c.args.req _ c.self.view_is c.refusal-bits.ensures) ∙ c.if-bits-ne0.false) (sym (keeps_of _ _ c.args.req _ c.self.view_is c.keeps.ensures o held) ∙ c.if-keeps.false)) c.in-Ok.ensures.counted
 

@@ -1,4 +1,4 @@
-use Rattle.std.proofs.Common.{refl, sym, ap, ◌∙◌}
+use Rattle.std.proofs.Common.{refl}
 use Rattle.flash_session.proofs.Renewing.{at_answer, answered_as}
 use Rattle.flash_session.proofs.held.Held.status.Goals as goal
 
