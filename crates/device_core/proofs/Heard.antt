@@ -1,5 +1,5 @@
 -- A fragment at a device: heard, or dropped.
-use Rattle.std.proofs.Common.{◌≡◌, ℕ, ◌==◌, Bool, true, false, List, Option, Some, None, append-nil, refl, ap, ◌∙◌, arith}
+use Rattle.std.proofs.Common.{◌≡◌, ℕ, Bool, true, false, List, Option, Some, None, append-nil, refl, ap, ◌∙◌, arith}
 use Rattle.std.specs.Prelude.{is_none}
 use Rattle.frag_session.specs.declared.answers.Cause.{Cause}
 use Rattle.frag_session.specs.declared.answers.Heard.TheVariants as answer
@@ -18,10 +18,10 @@ pub some_there : {A : Type 0} (o : Option A) → (o ≡ None → ⊥) → is_non
 some_there None none = absurd (none refl)
 some_there (Some x) none = refl
 
-pub no_cause : (cause : Option Cause) (told whether : News) → answer.Fed told ≡ answer_of cause whether → is_none cause ≡ true
+pub no_cause : (cause : Option Cause) (its_news whether : News) → answer.Fed its_news ≡ answer_of cause whether → is_none cause ≡ true
 unfolding answer_of
-no_cause None told whether is = refl
-no_cause (Some c) told whether is = absurd cc
+no_cause None its_news whether is = refl
+no_cause (Some c) its_news whether is = absurd cc
 
 pub a_cause : (cause : Option Cause) (c : Cause) (whether : News) → answer.Dropped c ≡ answer_of cause whether → is_none cause ≡ false
 unfolding answer_of
@@ -32,17 +32,17 @@ a_cause (Some d) c whether is = refl
 
 -- a fragment that a session heard
 pub heard_steps : (here : Arrival) (old : HeldDevice) (sessions : HeldSessions) (slots : Slots) (hw index n : ℕ)
-    (part : List ℕ) (was_whole : Bool) (told : News) → hw ≡ old.config.hw
+    (part : List ℕ) (was_whole : Bool) (its_news : News) → hw ≡ old.config.hw
     → ((table : SessionTable) → SessionsStand old.sessions table → was_whole ≡ is_whole (view_of (session_at table index)))
     → ((table : SessionTable) → SessionsStand old.sessions table
-    → answer.Fed told ≡ answer_of (drop_cause (session_at table index) here.via n part)
+    → answer.Fed its_news ≡ answer_of (drop_cause (session_at table index) here.via n part)
     (news_in (session_at table index) n part here.mark))
     → TableBecomes old.sessions sessions (table_after_fragment index here.via n part here.mark)
     → ((table : SessionTable) → SessionsStand sessions table
     → slots ≡ slots_after hw was_whole (whole_file (view_of (session_at table index))) old.slots)
     → Steps old (record old { sessions = sessions; slots = slots }) 0 (λ device. fragment_step here device index n part)
 unfolding after_answers fragment_step heard_step
-heard_steps here old sessions slots hw index n part was_whole told hw_is was fed stand offers = record {
+heard_steps here old sessions slots hw index n part was_whole its_news hw_is was fed stand offers = record {
   stands = λ device stands.
       let table = device.sessions in
       let behind = table_after_fragment index here.via n part here.mark table in
@@ -52,7 +52,7 @@ heard_steps here old sessions slots hw index n part was_whole told hw_is was fed
       offers behind heard
       ∙ ap (λ b. slots_after hw b file old.slots) (was table stands.sessions)
       ∙ ap (λ h. slots_after h (is_whole (view_of (session_at table index))) file old.slots) hw_is in
-      rw (stands.rest, no_cause _ told _ (fed table stands.sessions)) (record {
+      rw (stands.rest, no_cause _ its_news _ (fed table stands.sessions)) (record {
         sessions = heard;
         rest = rw (append-nil old.outbox, ← slots_are) refl;
       });

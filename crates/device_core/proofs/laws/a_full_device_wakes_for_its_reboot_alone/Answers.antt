@@ -1,4 +1,4 @@
-use Rattle.std.proofs.Common.{refl, ap}
+use Rattle.std.proofs.Common.{refl}
 use Rattle.device_core.proofs.Deliveries.{full_wakes, wakes_full}
 use Rattle.device_core.proofs.laws.a_full_device_wakes_for_its_reboot_alone.Goals as goal
 
