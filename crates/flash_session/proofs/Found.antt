@@ -38,16 +38,16 @@ pub at : (s : Session) (c : List ℕ) (base size k : ℕ) (xs : List Fragment) �
 at s c base size k [] lt lie ranged fed = absurd (omega (arith, lt))
 at s c base size k (f ∷ older) lt lie ranged fed = elim (cases_eq k (length older)) [
   | inl here ↦ record {
-      it = f;
-      older = older;
-      count = sym here;
-      lie = lie.2;
-      ranged = ranged.1;
-      in_range = ranged.0;
-      sized = lie.0;
-      there = subst (λ (j : ℕ). SpelledAt c (record_at base size j) (spelled f)) (sym here) lie.1;
-      fed = fed.0;
-    }
+    it = f;
+    older = older;
+    count = sym here;
+    lie = lie.2;
+    ranged = ranged.1;
+    in_range = ranged.0;
+    sized = lie.0;
+    there = subst (λ (j : ℕ). SpelledAt c (record_at base size j) (spelled f)) (sym here) lie.1;
+    fed = fed.0;
+  }
   | inr other ↦ at s c base size k older (omega (arith, lt, other)) lie.2 ranged.1 fed.1
 ]
 

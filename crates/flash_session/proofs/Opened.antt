@@ -175,12 +175,15 @@ module _ (h : HeldSession) (holds left : List ℕ → Type 0) (kept : IsKept hol
     opened_stands = stands_for opened.found.replayed.records its_news its_openable
 
     pub opened_but : (o : Option Session) × IsHeldBut h o holds left
-    opened_but = (Some (hearing S opened.found.replayed.records), record {
-      stands = opened_stands;
-      body = opened.body;
-      its_body = body_for opened.found.replayed.records;
-      stored = stored_for opened.found.replayed.records its_news its_openable;
-    })
+    opened_but = (
+      Some (hearing S opened.found.replayed.records),
+      record {
+        stands = opened_stands;
+        body = opened.body;
+        its_body = body_for opened.found.replayed.records;
+        stored = stored_for opened.found.replayed.records its_news its_openable;
+      },
+    )
 
     header_of : (b : List ℕ) → holds b → HasHeader h opened.setup b
     header_of b now = record {

@@ -181,13 +181,13 @@ module _ (h : HeldSession) (req : SetupReq) (fine : setup_bits h.limits (room_in
         | inr others ↦ elim others [
           | inl none ↦ inr (inl none)
           | inr new ↦ inr (inr (record {
-              openable = new_openable;
-              body = setup_bytes req;
-              tallies = 0;
-              its_body = new_body fit;
-              counted = new_counted;
-              lies = subst (λ (x : Stored). Lies h.base x c) new_stored_is new;
-            }))
+            openable = new_openable;
+            body = setup_bytes req;
+            tallies = 0;
+            its_body = new_body fit;
+            counted = new_counted;
+            lies = subst (λ (x : Stored). Lies h.base x c) new_stored_is new;
+          }))
         ]
       ])
       leaves

@@ -5,8 +5,8 @@ ghost use Rattle.flash_session.specs.Contents.{SameOutside, Put, Follows, IsKept
 ghost use Rattle.flash_session.specs.Moments.{Elapses, LeavesOnly};
 ghost use Rattle.flash_session.specs.Lies.{Stored, Fits, Lies, LiesAs, IsStoredAs, NoSession, IsCleared, IsOldNoneOrNew, new_stored};
 
-use crate::storing::{OPEN, write_synced};
 use crate::flash::{Failed, Flash};
+use crate::storing::{OPEN, write_synced};
 
 /// The gates of records and of tallies.
 const GATES: u32 = 24576;

@@ -181,7 +181,9 @@ fn find_tallies<F: Flash, const W: usize, const B: usize>(
     match read_front(flash, base + 8257, 16_383) {
         Err(_) => Err(OpenFault::Flash),
         Ok(Front::Stray(k)) => Err(OpenFault::Foreign(8257 + u32::from(k))),
-        Ok(Front::Whole(tallies)) => match find_records(flash, base, span, setup, limits, records, slot) {
+        Ok(Front::Whole(tallies)) => match find_records(
+            flash, base, span, setup, limits, records, slot,
+        ) {
             Err(fault) => Err(fault),
             Ok(()) => Ok(Counts { records, tallies }),
         },

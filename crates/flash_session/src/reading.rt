@@ -10,8 +10,8 @@ ghost use Rattle.flash_session.specs.Body.{IsBody, setup_in};
 ghost use Rattle.flash_session.specs.Gates.{AreOpen, AreShut, IsFirstShut};
 ghost use Rattle.flash_session.specs.Fronts.{IsFront};
 
-use crate::storing::OPEN;
 use crate::flash::{Failed, Flash};
+use crate::storing::OPEN;
 use frag_session::SetupReq;
 
 /// The byte at a place.
@@ -112,7 +112,10 @@ fn setup_in(body: [u8; 10]) -> SetupReq
         algo: e / 8 % 8,
         delay: e % 8,
         padding: f,
-        descriptor: u32::from(g) + 256 * u32::from(h) + 65_536 * u32::from(i) + 16_777_216 * u32::from(j),
+        descriptor: u32::from(g)
+            + 256 * u32::from(h)
+            + 65_536 * u32::from(i)
+            + 16_777_216 * u32::from(j),
     }
 }
 

@@ -10,8 +10,8 @@ ghost use Rattle.frag_session.specs.Steps.{area_of};
 ghost use Rattle.flash_session.specs.Replayed.{Replayed, StopsAt};
 
 use crate::flash::{Failed, Flash};
-use frag_session::{Heard, News, Slot, Via};
 use crate::reading::read_record;
+use frag_session::{Heard, News, Slot, Via};
 
 /// Hears the first `records` records of a session again. Answers the first of them that is dropped or tells nothing new.
 pub fn replay<F: Flash, const W: usize, const B: usize>(

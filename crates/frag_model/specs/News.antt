@@ -17,8 +17,8 @@ unfoldable pub is_new : Shape → Fragment → List Fragment → Bool
 is_new shape f older =
     is_receiving (verdict shape older)
     && (not (gain shape (f ∷ older) == gain shape older)
-      || not (direct shape (f ∷ older) == direct shape older)
-      || not (is_receiving (verdict shape (f ∷ older))))
+    || not (direct shape (f ∷ older) == direct shape older)
+    || not (is_receiving (verdict shape (f ∷ older))))
 
 -- those that were new when they came
 unfoldable pub news : Shape → List Fragment → List Fragment

@@ -84,22 +84,22 @@ told_cases x new s n part mark (Some before) None e f k l =
     let open_before : is_receiving (verdict shape s.heard) ≡ true = (knows x s before e k).open_still in
     let decided_now : is_receiving (verdict shape (g ∷ s.heard)) ≡ false = old_told new (followed s n part mark) f l in
     sym (ap (λ (t : Bool). if t then news.New else news.Old)
-      (is_new_open shape g s.heard open_before
-      ∙ ap (λ (t : Bool). not (gain shape (g ∷ s.heard) == gain shape s.heard) || not (direct shape (g ∷ s.heard) == direct shape s.heard) || not t) decided_now
-      ∙ third_test (gain shape (g ∷ s.heard) == gain shape s.heard) (direct shape (g ∷ s.heard) == direct shape s.heard)))
+    (is_new_open shape g s.heard open_before
+    ∙ ap (λ (t : Bool). not (gain shape (g ∷ s.heard) == gain shape s.heard) || not (direct shape (g ∷ s.heard) == direct shape s.heard) || not t) decided_now
+    ∙ third_test (gain shape (g ∷ s.heard) == gain shape s.heard) (direct shape (g ∷ s.heard) == direct shape s.heard)))
 told_cases x new s n part mark (Some before) (Some after) e f k l =
     let shape : Shape = shape_of s in
     let g : Fragment = fragment n part mark in
     let was = knows x s before e k in
     let is = knows new (followed s n part mark) after f l in
     let gains : (before.0 == after.0) ≡ (gain shape (g ∷ s.heard) == gain shape s.heard) =
-      same_tests before.0 after.0 (gain shape (g ∷ s.heard)) (gain shape s.heard) (λ same. omega (arith, same, was.lacks, is.lacks)) (λ same. omega (arith, same, was.lacks, is.lacks)) in
+    same_tests before.0 after.0 (gain shape (g ∷ s.heard)) (gain shape s.heard) (λ same. omega (arith, same, was.lacks, is.lacks)) (λ same. omega (arith, same, was.lacks, is.lacks)) in
     let directs : (before.1 == after.1) ≡ (direct shape (g ∷ s.heard) == direct shape s.heard) =
-      same_tests before.1 after.1 (direct shape (g ∷ s.heard)) (direct shape s.heard) (λ same. sym is.pieces ∙ sym same ∙ was.pieces) (λ same. was.pieces ∙ sym same ∙ sym is.pieces) in
+    same_tests before.1 after.1 (direct shape (g ∷ s.heard)) (direct shape s.heard) (λ same. sym is.pieces ∙ sym same ∙ was.pieces) (λ same. was.pieces ∙ sym same ∙ sym is.pieces) in
     both_tests (before.0 == after.0) (before.1 == after.1) (gain shape (g ∷ s.heard) == gain shape s.heard) (direct shape (g ∷ s.heard) == direct shape s.heard) gains directs
     ∙ sym (ap (λ (t : Bool). if t then news.New else news.Old)
-      (is_new_open shape g s.heard was.open_still
-      ∙ ap (λ (t : Bool). not (gain shape (g ∷ s.heard) == gain shape s.heard) || not (direct shape (g ∷ s.heard) == direct shape s.heard) || not t) is.open_still))
+    (is_new_open shape g s.heard was.open_still
+    ∙ ap (λ (t : Bool). not (gain shape (g ∷ s.heard) == gain shape s.heard) || not (direct shape (g ∷ s.heard) == direct shape s.heard) || not t) is.open_still))
 
 pub told_news : (x new : HeldSlot) (s : Session) (n : ℕ) (part : List ℕ) (mark : ℕ) → Stands x (Some s) → Stands new (Some (followed s n part mark))
     → news_between (told_of x) (told_of new) ≡ news_in (Some s) n part mark

@@ -21,7 +21,11 @@ impl<const W: usize, const B: usize> Held<W, B> {
     /// too short for the session's records. A refused setup and an equal one make no flash call; any other closes the
     /// header's gate, clears all others and writes the setup, and opens the header's gate, each step synced. At Err the memory
     /// is handed back: open the session again.
-    pub fn setup<F: Flash>(self, flash: &mut F, req: SetupReq) -> Result<(Held<W, B>, u8), Idle<W, B>>
+    pub fn setup<F: Flash>(
+        self,
+        flash: &mut F,
+        req: SetupReq,
+    ) -> Result<(Held<W, B>, u8), Idle<W, B>>
         requires range { self.base + self.span ≤ F.room flash.old }
         requires fields { FieldsFit req }
 

@@ -187,7 +187,12 @@ fn begun(rt: &impl Abort, alloc: Global, nb_frag: u16, rows: u16) -> SmallSlot {
 fn feed(rt: &impl Abort, slot: &mut SmallSlot, fragments: &[(u16, u8)], first_mark: u64) {
     for (i, (n, byte)) in fragments.iter().enumerate() {
         let mark = first_mark.wrapping_add(i as u64);
-        assert!(rt; matches!(slot.fragment(Via::Unicast, *n, &[*byte], mark), Heard::Fed(_)));
+        assert!(rt;
+            matches!(
+                slot.fragment(Via::Unicast, *n, &[*byte], mark),
+                Heard::Fed(_)
+            )
+        );
     }
 }
 
@@ -360,7 +365,10 @@ fn the_padding_is_no_part_of_the_file(rt: HostRuntime) {
         ..SETUP
     };
     assert_eq!(rt; slot.setup(padded, LIMITS), 0);
-    assert_eq!(rt; slot.fragment(Via::Unicast, 2, &[0x33, 0], 1), Heard::Fed(News::New));
+    assert_eq!(rt;
+        slot.fragment(Via::Unicast, 2, &[0x33, 0], 1),
+        Heard::Fed(News::New)
+    );
     assert_eq!(rt;
         slot.fragment(Via::Unicast, 1, &[0x11, 0x22], 2),
         Heard::Fed(News::New)

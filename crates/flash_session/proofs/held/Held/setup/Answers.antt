@@ -46,4 +46,3 @@ returns-then-keeps-clause-counted g c = λ o held counts. counts_equal c.args.se
 
 pub returns-in-Ok-clause-counted : goal.returns-in-Ok-clause-counted
 returns-in-Ok-clause-counted g c = λ o held counts. counts_equal c.in-Ok.held _ _ (new_setup _ _ o c.args.req (sym (bits_of _ _ c.args.req _ c.self.view_is c.refusal-bits.ensures) ∙ c.if-bits-ne0.false) (sym (keeps_of _ _ c.args.req _ c.self.view_is c.keeps.ensures o held) ∙ c.if-keeps.false)) c.in-Ok.ensures.counted
-
