@@ -72,7 +72,8 @@ no_bits image d made plain =
     let e : min 64 m ≡ 64 = omega (arith, h.low) in
     let f : nat_le (64 * ((m + 63) / 64)) row_words ≡ true = (let small : (m + 63) / 64 ≤ 3 = omega (arith, h.high) in grind (arith, small)) in
     let g : nat_le (m * 64) max_area ≡ true = grind (arith, h.high) in
-    rw (plain.sessions, plain.rows, plain.descriptor, plain.area, a, b, c, e, f, g) refl
+    let n : nat_le m max_pieces ≡ true = grind (arith, h.high) in
+    rw (plain.sessions, plain.rows, plain.descriptor, plain.area, a, b, c, e, f, g, n) refl
 
 pub record IsNew (d : DeviceState) : Type 0 where
   pub plain : IsPlain d

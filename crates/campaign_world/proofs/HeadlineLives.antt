@@ -4,7 +4,7 @@ use Rattle.std.proofs.lemmas.Bool.{le-leb}
 use Rattle.std.proofs.lemmas.Bool.Decides.{nat_tests}
 use Rattle.std.proofs.lemmas.Grind.{div_ceil_times}
 use Rattle.frag_encoder.specs.Encoding.{nb_frag_of, padding_of}
-use Rattle.row_elimination.specs.Room.{words_for, has_room}
+use Rattle.row_elimination.specs.Room.{extent_for, words_for, has_room}
 use Rattle.frag_session.specs.Setup.{wrong_coding, too_large, other_descriptor, setup_bits}
 use Rattle.frag_session.specs.Session.{Session}
 use Rattle.image_slots.specs.Image.{is_image, firmware_of}
@@ -49,7 +49,7 @@ min_first : (a b : ℕ) → min a b ≤ a
 min_first a b = grind (arith, nat_tests)
 
 room_there : (config : DeviceConfig) (pieces size : ℕ) → IsBounded config → pieces ≤ max_pieces → size ≤ max_frag_size
-    → pieces * size ≤ max_area → has_room row_words row_bytes config.area pieces size (min config.rows pieces) ≡ true
+    → pieces * size ≤ max_area → has_room row_words row_bytes (extent_for config.area) pieces size (min config.rows pieces) ≡ true
 unfolding has_room
 room_there config pieces size k few small fits =
     let rows : min config.rows pieces ≤ max_rows = omega (arith, min_first config.rows pieces, k.rows) in
@@ -60,6 +60,7 @@ room_there config pieces size k few small fits =
       le-leb (min config.rows pieces * words_for pieces) row_words (omega (arith, words)),
       le-leb (min config.rows pieces * size) row_bytes (omega (arith, bytes)),
       le-leb (pieces * size) config.area area,
+      le-leb pieces max_pieces few,
     ) refl
 
 pub takes_setup : (image : List ℕ) (cut : Cut) (config : DeviceConfig) → is_image image ≡ true → IsCut image cut

@@ -5,6 +5,7 @@ use Rattle.mc_group.specs.Groups.{max_groups}
 use Rattle.mc_group.specs.declared.group.Group.{Group}
 use Rattle.image_slots.specs.Slots.{Slots, first_slots}
 use Rattle.frag_session.specs.declared.setups.Limits.{Limits}
+use Rattle.row_elimination.specs.Room.{extent_for}
 use Rattle.frag_session.specs.Setup.{Room, memory_room}
 use Rattle.device_core.specs.declared.class_session.ClassSession.{ClassSession}
 use Rattle.device_core.specs.declared.config.DeviceConfig.{DeviceConfig}
@@ -86,7 +87,7 @@ is_config config =
     && (nat_le 1 config.area && nat_le config.area max_area)
 
 abbrev pub room_of : DeviceConfig → Room
-room_of config = memory_room row_words row_bytes config.area
+room_of config = memory_room row_words row_bytes (extent_for config.area)
 
 abbrev pub limits_of : DeviceConfig → Limits
 limits_of config = record { sessions = config.sessions; rows = config.rows; descriptor = config.descriptor }

@@ -3,7 +3,8 @@ use Rattle.std.specs.Prelude.{◌≡◌, ℕ}
 use Rattle.frag_session.specs.Held.{HeldSlot}
 use Rattle.frag_session.specs.Stands.{Stands}
 use Rattle.frag_session.specs.Setup.{Room, memory_room}
-use Rattle.frag_session.specs.Steps.{area_of}
+use Rattle.row_elimination.specs.Room.{extent_for}
+use Rattle.frag_session.specs.Steps.{extent_of}
 use Rattle.device_core.specs.Device.{row_words, row_bytes}
 use Rattle.device_core.specs.SessionTable.{SessionTable}
 
@@ -24,7 +25,7 @@ pub record SessionsStand (held : HeldSessions) (table : SessionTable) : Type 0 w
 
 -- the room that each slot has
 abbrev pub room_in : HeldSessions → Room
-room_in held = memory_room row_words row_bytes held.area
+room_in held = memory_room row_words row_bytes (extent_for held.area)
 
 -- what is held went this way, whatever sessions it stood for
 abbrev pub TableBecomes : (old new : HeldSessions) → (SessionTable → SessionTable) → Type 0
@@ -32,7 +33,7 @@ TableBecomes old new after = (table : SessionTable) → SessionsStand old table 
 
 -- each slot has this file area
 pub record HaveArea (area : ℕ) (first second third fourth : HeldSlot) : Type 0 where
-  pub first_area : area_of first ≡ area
-  pub second_area : area_of second ≡ area
-  pub third_area : area_of third ≡ area
-  pub fourth_area : area_of fourth ≡ area
+  pub first_area : extent_of first ≡ extent_for area
+  pub second_area : extent_of second ≡ extent_for area
+  pub third_area : extent_of third ≡ extent_for area
+  pub fourth_area : extent_of fourth ≡ extent_for area

@@ -5,7 +5,8 @@ ghost use Rattle.frag_session.specs.Setup.{setup_bits};
 ghost use Rattle.frag_session.specs.Session.{answer_of, drop_cause, news_in, status_of, view_of};
 ghost use Rattle.frag_session.specs.Shows.{seen};
 ghost use Rattle.frag_session.specs.Stands.{Stands};
-ghost use Rattle.frag_session.specs.Steps.{area_of};
+ghost use Rattle.frag_session.specs.Steps.{extent_of};
+ghost use Rattle.row_elimination.specs.Room.{extent_for};
 ghost use Rattle.device_core.specs.SessionTable.{SessionTable, no_sessions, session_at, with_session, table_after_setup, table_after_fragment};
 ghost use Rattle.device_core.specs.HeldSessions.{SessionsStand, TableBecomes, room_in};
 
@@ -30,7 +31,7 @@ pub struct SessionSlots {
 }
 
 impl Model for SessionSlots {
-    ghost use Rattle.frag_session.specs.Steps.{area_of};
+    ghost use Rattle.frag_session.specs.Steps.{extent_of};
     ghost use Rattle.device_core.specs.HeldSessions.{HeldSessions, HaveArea};
 
     ghost Value = { HeldSessions };
@@ -40,10 +41,10 @@ impl Model for SessionSlots {
       second = s.second;
       third = s.third;
       fourth = s.fourth;
-      area = area_of s.first;
+      area = (extent_of s.first).area;
     } };
 
-    ghost invariant = { λ s. HaveArea (area_of s.first) s.first s.second s.third s.fourth };
+    ghost invariant = { λ s. HaveArea (extent_of s.first).area s.first s.second s.third s.fourth };
 }
 
 impl SessionSlots {
@@ -145,7 +146,7 @@ impl SessionSlots {
 /// A slot without a session.
 fn slot(alloc: Global, area: u32) -> Result<Slot<ROW_WORDS, ROW_BYTES>, Memory>
     ensures stands { IfOk result (λ s. Stands s None) }
-    ensures area { IfOk result (λ s. area_of s ≡ area) }
+    ensures area { IfOk result (λ s. extent_of s ≡ extent_for area) }
 {
     Ok(Slot::new(Idle::new(Solver::reserve(alloc, area)?)))
 }

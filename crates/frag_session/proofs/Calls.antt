@@ -59,12 +59,12 @@ pub record HasRoom (room : Room) (rows : ℕ) (req : SetupReq) : Type 0 where
   pub long : too_long room.span req ≡ false
   pub most : req.nb_frag ≤ max_pieces
   pub small : req.frag_size ≤ max_frag_size
-  pub room_is : has_room room.words room.bytes room.area req.nb_frag req.frag_size (rows_of rows req) ≡ true
+  pub room_is : has_room room.words room.bytes room.extent req.nb_frag req.frag_size (rows_of rows req) ≡ true
 
 pub room_for : (room : Room) (rows : ℕ) (req : SetupReq) → too_large room rows req ≡ false → HasRoom room rows req
 unfolding too_large
 room_for room rows req e =
-    let r = or_parts (too_long room.span req || nat_lt max_pieces req.nb_frag || nat_lt max_frag_size req.frag_size) (not (has_room room.words room.bytes room.area req.nb_frag req.frag_size (rows_of rows req))) e in
+    let r = or_parts (too_long room.span req || nat_lt max_pieces req.nb_frag || nat_lt max_frag_size req.frag_size) (not (has_room room.words room.bytes room.extent req.nb_frag req.frag_size (rows_of rows req))) e in
     let q = or_parts (too_long room.span req || nat_lt max_pieces req.nb_frag) (nat_lt max_frag_size req.frag_size) r.0 in
     let p = or_parts (too_long room.span req) (nat_lt max_pieces req.nb_frag) q.0 in
     record { long = p.0; most = ltb-false max_pieces req.nb_frag p.1; small = ltb-false max_frag_size req.frag_size q.1; room_is = not-false _ r.1 }
@@ -167,7 +167,7 @@ heard_stands x new (Some s) way n part mark k e heard =
 -- what is held can take it
 pub can_hear_kept : (x : HeldSlot) (way : Via) (n : ℕ) (part : List ℕ) → None ≡ slot_cause (session_setup x) way n part → CanHear x n part
 unfolding CanHear slot_cause session_setup
-can_hear_kept (kept.idle area) way n part e = tt
+can_hear_kept (kept.idle extent) way n part e = tt
 can_hear_kept (kept.receiving h) way n part e = can_hear h.setup way n part (sym e)
 can_hear_kept (kept.complete d) way n part e = tt
 can_hear_kept (kept.overflowed f) way n part e = tt
@@ -183,8 +183,8 @@ seen_same r r' m m' v v' f f' er em ev ef =
 
 pub shows : (x : HeldSlot) (s : Option Session) → Stands x s → slot_seen x ≡ view_of s
 unfolding Stands slot_seen view_of receiving_seen done_seen failed_seen overflowed_seen seen_of shown_verdict shown_file file_of shape_of
-shows (kept.idle area) None k = refl
-shows (kept.idle area) (Some s) k = absurd k
+shows (kept.idle extent) None k = refl
+shows (kept.idle extent) (Some s) k = absurd k
 shows (kept.receiving h) None k = absurd k
 shows (kept.receiving h) (Some s) k =
     let lack : missing_of h.solver ≡ missing (shape_of s) s.heard = sym (feed_stands.lacks h.solver s.heard k.stands) ∙ ap (λ (x : Shape). missing x s.heard) k.shape in

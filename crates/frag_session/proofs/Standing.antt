@@ -173,7 +173,7 @@ conflicted_counts x s n part mark k = failed_stays x s n part mark k
 -- what the slot keeps as setup is the session's
 pub setup_kept : (x : HeldSlot) (s : Session) → Stands x (Some s) → session_setup x ≡ Some s.setup
 unfolding Stands session_setup
-setup_kept (kept.idle area) s k = absurd k
+setup_kept (kept.idle extent) s k = absurd k
 setup_kept (kept.receiving h) s k = ap Some (sym k.setup)
 setup_kept (kept.complete d) s k = ap Some (sym k.1.setup)
 setup_kept (kept.overflowed f) s k = ap Some (sym k.setup)
@@ -181,7 +181,7 @@ setup_kept (kept.conflicted f) s k = ap Some (sym k.setup)
 
 pub no_setup_kept : (x : HeldSlot) → Stands x None → session_setup x ≡ None
 unfolding Stands session_setup
-no_setup_kept (kept.idle area) k = refl
+no_setup_kept (kept.idle extent) k = refl
 no_setup_kept (kept.receiving h) k = absurd k
 no_setup_kept (kept.complete d) k = absurd k
 no_setup_kept (kept.overflowed f) k = absurd k

@@ -30,7 +30,7 @@ decided shape heard v is e = ap is_receiving is ∙ e
 
 old_told : (x : HeldSlot) (s : Session) → told_of x ≡ None → Stands x (Some s) → is_receiving (verdict (shape_of s) s.heard) ≡ false
 unfolding told_of Stands is_receiving
-old_told (kept.idle area) s e k = absurd k
+old_told (kept.idle extent) s e k = absurd k
 old_told (kept.receiving h) s e k = let no : ⊥ = cc in absurd no
 old_told (kept.complete d) s e k = decided (shape_of s) s.heard _ k.1.decided refl
 old_told (kept.overflowed f) s e k = decided (shape_of s) s.heard _ k.decided refl
@@ -44,7 +44,7 @@ pub record Knows (s : Session) (told : ℕ × ℕ) : Type 0 where
 
 knows : (x : HeldSlot) (s : Session) (told : ℕ × ℕ) → told_of x ≡ Some told → Stands x (Some s) → Knows s told
 unfolding told_of Stands is_receiving missing_of shape_of
-knows (kept.idle area) s told e k = absurd k
+knows (kept.idle extent) s told e k = absurd k
 knows (kept.receiving h) s told e k =
     let shape : Shape = shape_of s in
     let is : StandsFor (record h.solver { shape = shape }) s.heard = subst (λ (z : Shape). StandsFor (record h.solver { shape = z }) s.heard) k.shape k.stands in

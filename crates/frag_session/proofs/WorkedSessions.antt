@@ -23,6 +23,7 @@ setups = record {
   words = refl;
   bytes = refl;
   area = refl;
+  pieces = refl;
   last_index = refl;
   index = refl;
   descriptor = refl;

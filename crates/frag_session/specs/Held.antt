@@ -1,6 +1,7 @@
 -- What the states of a session hold, as contracts see them.
 use Rattle.std.specs.Prelude.{ℕ, ◌+◌, min}
 use Rattle.row_elimination.specs.Held.{Held as Solved}
+use Rattle.row_elimination.specs.Room.{Extent}
 use Rattle.frag_session.specs.declared.setups.SetupReq.{SetupReq}
 use Rattle.frag_session.specs.Limits.{max_received}
 
@@ -29,9 +30,9 @@ pub record Failed : Type 0 where
 unfoldable pub one_more : ℕ → ℕ
 one_more received = min (received + 1) max_received
 
--- what a slot keeps: the bytes of its file area while no session lives, or a session
+-- what a slot keeps: what there is memory for while no session lives, or a session
 pub data HeldSlot : Type 0 where
-  idle : (area : ℕ) → HeldSlot
+  idle : Extent → HeldSlot
   receiving : Held → HeldSlot
   complete : Done → HeldSlot
   overflowed : Failed → HeldSlot

@@ -51,8 +51,8 @@ pub record IsOverflowed (f : Failed) (s : Session) : Type 0 where
 
 -- what is kept stands for the session, or for none
 unfoldable pub Stands : HeldSlot → Option Session → Type 0
-Stands (kept.idle area) None = Unit {0}
-Stands (kept.idle area) (Some s) = ⊥
+Stands (kept.idle extent) None = Unit {0}
+Stands (kept.idle extent) (Some s) = ⊥
 Stands (kept.receiving h) None = ⊥
 Stands (kept.receiving h) (Some s) = Holds h s
 Stands (kept.complete d) None = ⊥
@@ -64,7 +64,7 @@ Stands (kept.conflicted f) (Some s) = IsFailed f s
 
 -- a session hears on only while two different blocks fit what it holds
 unfoldable pub IsOpen : HeldSlot → Type 0
-IsOpen (kept.idle area) = Unit {0}
+IsOpen (kept.idle extent) = Unit {0}
 IsOpen (kept.receiving h) = TwoFit h.solver
 IsOpen (kept.complete d) = Unit {0}
 IsOpen (kept.overflowed f) = Unit {0}

@@ -2,6 +2,7 @@
 use Rattle.std.specs.Prelude.{◌≡◌, ℕ, ◌+◌, ◌≤◌, ◌&&◌, ◌==◌, List, length, Option, Some, None, if◌then◌else◌}
 use Rattle.row_elimination.specs.Places.{pieces_held}
 use Rattle.row_elimination.specs.Held.{missing_of}
+use Rattle.row_elimination.specs.Room.{Extent, extent_for}
 use Rattle.frag_session.specs.declared.answers.News.{News}
 use Rattle.frag_session.specs.declared.answers.News.TheVariants as news
 use Rattle.frag_session.specs.declared.setups.SetupReq.{SetupReq}
@@ -19,14 +20,14 @@ use Rattle.frag_model.specs.Limits.{max_parity_index}
 
 -- a state as it is kept
 abbrev pub kept : {W B : ℕ} → State W B → HeldSlot
-kept (state.Idle area) = idle area
+kept (state.Idle extent) = idle extent
 kept (state.Receiving h) = receiving h
 kept (state.Complete d) = complete d
 kept (state.Overflowed f) = overflowed f
 kept (state.Conflicted f) = conflicted f
 
 abbrev pub kept_by : {W B : ℕ} → Option (State W B) → HeldSlot
-kept_by None = idle 0
+kept_by None = idle (extent_for 0)
 kept_by (Some s) = kept s
 
 -- what a session has become
@@ -36,17 +37,17 @@ become (next.Complete d) = complete d
 become (next.Overflowed f) = overflowed f
 become (next.Conflicted f) = conflicted f
 
--- the bytes of its file area
-unfoldable pub area_of : HeldSlot → ℕ
-area_of (idle area) = area
-area_of (receiving h) = h.solver.area
-area_of (complete d) = d.solver.area
-area_of (overflowed f) = f.solver.area
-area_of (conflicted f) = f.solver.area
+-- what it has memory for
+unfoldable pub extent_of : HeldSlot → Extent
+extent_of (idle extent) = extent
+extent_of (receiving h) = h.solver.extent
+extent_of (complete d) = d.solver.extent
+extent_of (overflowed f) = f.solver.extent
+extent_of (conflicted f) = f.solver.extent
 
 -- the setup of its session
 unfoldable pub session_setup : HeldSlot → Option SetupReq
-session_setup (idle area) = None
+session_setup (idle extent) = None
 session_setup (receiving h) = Some h.setup
 session_setup (complete d) = Some d.setup
 session_setup (overflowed f) = Some f.setup
@@ -59,7 +60,7 @@ slot_cause (Some setup) way n part = cause_of setup way n part
 
 -- the fragment has a number and the size that a session that hears takes
 unfoldable pub CanHear : HeldSlot → ℕ → List ℕ → Type 0
-CanHear (idle area) n part = Unit {0}
+CanHear (idle extent) n part = Unit {0}
 CanHear (receiving h) n part = (1 ≤ n) × (n ≤ h.setup.nb_frag + max_parity_index) × (length part ≡ h.setup.frag_size)
 CanHear (complete d) n part = Unit {0}
 CanHear (overflowed f) n part = Unit {0}
@@ -67,7 +68,7 @@ CanHear (conflicted f) n part = Unit {0}
 
 -- what the slot shows
 unfoldable pub slot_seen : HeldSlot → Option Seen
-slot_seen (idle area) = None
+slot_seen (idle extent) = None
 slot_seen (receiving h) = Some (receiving_seen h)
 slot_seen (complete d) = Some (done_seen d)
 slot_seen (overflowed f) = Some (overflowed_seen f)
@@ -75,7 +76,7 @@ slot_seen (conflicted f) = Some (failed_seen f)
 
 -- what is known while nothing is decided: the pieces still to be gained, and how many came uncoded
 unfoldable pub told_of : HeldSlot → Option (ℕ × ℕ)
-told_of (idle area) = None
+told_of (idle extent) = None
 told_of (receiving h) = Some (missing_of h.solver, pieces_held h.solver.places)
 told_of (complete d) = None
 told_of (overflowed f) = None

@@ -7,6 +7,7 @@ use Rattle.frag_session.specs.declared.answers.Via.TheVariants.{Unicast, Group}
 use Rattle.frag_session.specs.declared.answers.Cause.TheVariants as cause
 use Rattle.frag_session.specs.declared.answers.Verdict.{Verdict}
 use Rattle.frag_session.specs.declared.answers.Verdict.TheVariants.{Receiving, Complete, NoRows, Conflict}
+use Rattle.row_elimination.specs.Room.{Extent, extent_for}
 use Rattle.frag_session.specs.Setup.{Room, memory_room, setup_bits}
 use Rattle.frag_session.specs.Session.{Session, Seen, after_setup, drop_cause, after_fragment, received_count, seen_of, status_in, status_of}
 
@@ -21,7 +22,11 @@ abbrev pub worked_limits : Limits
 worked_limits = record { sessions = 4; rows = 256; descriptor = None }
 
 abbrev pub worked_room : Room
-worked_room = memory_room 16384 61184 262382
+worked_room = memory_room 16384 61184 (extent_for 262382)
+
+-- an area of so many bytes, for so many pieces
+abbrev pub small : (area pieces : ℕ) → Extent
+small area pieces = record { area = area; pieces = pieces }
 
 abbrev pub bits : SetupReq → ℕ
 bits req = setup_bits worked_limits worked_room req
@@ -39,10 +44,11 @@ pub record WorkedSetups : Type 0 where
   pub too_many : bits (record worked_setup { nb_frag = 4097 }) ≡ 2
   pub most_bytes : bits (record worked_setup { frag_size = 239 }) ≡ 0
   pub too_long : bits (record worked_setup { frag_size = 240 }) ≡ 2
-  pub room : setup_bits worked_limits (memory_room 4 52 52) worked_setup ≡ 0
-  pub words : setup_bits worked_limits (memory_room 3 52 52) worked_setup ≡ 2
-  pub bytes : setup_bits worked_limits (memory_room 4 51 52) worked_setup ≡ 2
-  pub area : setup_bits worked_limits (memory_room 4 52 51) worked_setup ≡ 2
+  pub room : setup_bits worked_limits (memory_room 4 52 (small 52 4)) worked_setup ≡ 0
+  pub words : setup_bits worked_limits (memory_room 3 52 (small 52 4)) worked_setup ≡ 2
+  pub bytes : setup_bits worked_limits (memory_room 4 51 (small 52 4)) worked_setup ≡ 2
+  pub area : setup_bits worked_limits (memory_room 4 52 (small 51 4)) worked_setup ≡ 2
+  pub pieces : setup_bits worked_limits (memory_room 4 52 (small 52 3)) worked_setup ≡ 2
   -- 4: no such index; 8: another descriptor than the one that is taken; and all together
   pub last_index : bits (record worked_setup { index = 3 }) ≡ 0
   pub index : bits (record worked_setup { index = 4 }) ≡ 4

@@ -59,7 +59,7 @@ impl<const W: usize, const B: usize> Complete<W, B> {
 
     /// Ends the session.
     pub fn delete(self) -> Idle<W, B>
-        ensures { result ≡ self.entry.solver.area }
+        ensures { result ≡ self.entry.solver.extent }
     {
         let Complete { solver, .. } = self;
         Idle { solver }
@@ -88,7 +88,7 @@ impl<const W: usize, const B: usize> Complete<W, B> {
     #[tactic(auto, unfolding(crate::specs::Shows::seen, crate::specs::Shows::done_seen))]
     pub(crate) fn view(&self) -> View<'_>
         ensures value { seen result ≡ done_seen self.now }
-        ensures within { length result.file.now ≤ self.now.solver.area }
+        ensures within { length result.file.now ≤ self.now.solver.extent.area }
         ensures few { result.received ≤ max_received }
     {
         let block = self.solver.block();

@@ -11,24 +11,24 @@ use crate::setups::{Limits, SetupReq, refusal, rows_of};
 use row_elimination::{NoRoom, Solver};
 use std::marker::Model;
 
-/// No session: the solver for one. A contract sees how many bytes its file area has.
+/// No session: the solver for one. A contract sees what it has memory for.
 #[derive(Drop)]
 pub struct Idle<const W: usize, const B: usize> {
     pub(crate) solver: Solver<W, B>,
 }
 
 impl<const W: usize, const B: usize> Model for Idle<W, B> {
-    ghost use Rattle.std.specs.Prelude.{ℕ};
+    ghost use Rattle.row_elimination.specs.Room.{Extent};
 
-    ghost Value = { ℕ };
+    ghost Value = { Extent };
 
-    ghost view = { λ i. i.solver.area };
+    ghost view = { λ i. i.solver.extent };
 }
 
 impl<const W: usize, const B: usize> Idle<W, B> {
     /// A place for sessions in the memory of a solver.
     pub fn new(solver: Solver<W, B>) -> Idle<W, B>
-        ensures { result ≡ solver.entry.area }
+        ensures { result ≡ solver.entry.extent }
     {
         Idle { solver }
     }
@@ -38,7 +38,7 @@ impl<const W: usize, const B: usize> Idle<W, B> {
         ensures bits { MatchResult result
             (λ session. setup_bits limits (memory_room W B self.entry) req ≡ 0)
             (λ refused. (refused.1 ≡ setup_bits limits (memory_room W B self.entry) req) × (0 < refused.1)) }
-        ensures area { MatchResult result (λ session. session.solver.area ≡ self.entry) (λ refused. refused.0 ≡ self.entry) }
+        ensures extent { MatchResult result (λ session. session.solver.extent ≡ self.entry) (λ refused. refused.0 ≡ self.entry) }
         ensures stands { IfOk result (λ session. Holds session (new_session limits req)) }
         ensures two { IfOk result (λ session. TwoFit session.solver) }
     {
@@ -60,7 +60,7 @@ impl<const W: usize, const B: usize> Idle<W, B> {
 
     /// The solver that is kept.
     pub(crate) fn solver(&self) -> &Solver<W, B>
-        ensures { result.now.area ≡ self.now }
+        ensures { result.now.extent ≡ self.now }
     {
         &self.solver
     }

@@ -58,7 +58,7 @@ impl<const W: usize, const B: usize> Overflowed<W, B> {
 
     /// Ends the session.
     pub fn delete(self) -> Idle<W, B>
-        ensures { result ≡ self.entry.solver.area }
+        ensures { result ≡ self.entry.solver.extent }
     {
         let Overflowed { solver, .. } = self;
         Idle { solver }
@@ -87,7 +87,7 @@ impl<const W: usize, const B: usize> Overflowed<W, B> {
     #[tactic(auto, unfolding(crate::specs::Shows::seen, crate::specs::Shows::overflowed_seen))]
     pub(crate) fn view(&self) -> View<'_>
         ensures value { seen result ≡ overflowed_seen self.now }
-        ensures within { length result.file.now ≤ self.now.solver.area }
+        ensures within { length result.file.now ≤ self.now.solver.extent.area }
         ensures few { result.received ≤ max_received }
     {
         View {

@@ -5,7 +5,7 @@ ghost use Rattle.row_elimination.specs.Held.{IsBegun};
 ghost use Rattle.frag_session.specs.Held.{one_more, receiving};
 ghost use Rattle.frag_session.specs.Session.{Session, followed};
 ghost use Rattle.frag_session.specs.Stands.{Holds, IsOpen, Stands};
-ghost use Rattle.frag_session.specs.Steps.{area_of, become, told_of};
+ghost use Rattle.frag_session.specs.Steps.{extent_of, become, told_of};
 ghost use Rattle.frag_session.specs.Shows.{receiving_seen, seen};
 ghost use Rattle.frag_model.specs.Limits.{max_parity_index};
 ghost use Rattle.frag_session.specs.Limits.{max_received};
@@ -74,7 +74,7 @@ impl<const W: usize, const B: usize> Receiving<W, B> {
         requires sized { length part.now ≡ self.setup.frag_size }
         ensures stands { (s : Session) → Holds self.entry s → Stands (become result) (Some (followed s n part.now mark)) }
         ensures two { IsOpen (become result) }
-        ensures area { area_of (become result) ≡ self.entry.solver.area }
+        ensures extent { extent_of (become result) ≡ self.entry.solver.extent }
     {
         let Receiving {
             mut solver,
@@ -96,7 +96,7 @@ impl<const W: usize, const B: usize> Receiving<W, B> {
 
     /// Ends the session.
     pub fn delete(self) -> Idle<W, B>
-        ensures { result ≡ self.entry.solver.area }
+        ensures { result ≡ self.entry.solver.extent }
     {
         let Receiving { solver, .. } = self;
         Idle { solver }
@@ -126,7 +126,7 @@ impl<const W: usize, const B: usize> Receiving<W, B> {
     #[tactic(auto, unfolding(crate::specs::Shows::seen, crate::specs::Shows::receiving_seen))]
     pub(crate) fn view(&self) -> View<'_>
         ensures value { seen result ≡ receiving_seen self.now }
-        ensures within { length result.file.now ≤ self.now.solver.area }
+        ensures within { length result.file.now ≤ self.now.solver.extent.area }
         ensures few { result.received ≤ max_received }
     {
         View {

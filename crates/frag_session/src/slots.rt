@@ -4,7 +4,7 @@ ghost use Rattle.std.specs.Prelude.{◌≡◌, ◌<◌, ◌≢◌, ◌≤◌, Op
 ghost use Rattle.frag_session.specs.Setup.{memory_room, setup_bits, lives};
 ghost use Rattle.frag_session.specs.Session.{Session, new_session, followed, excludes, cause_of, drop_cause, answer_of, news_in, after_setup, after_fragment, view_of, status_by, status_in, status_of, is_overflow};
 ghost use Rattle.frag_session.specs.Held.{idle};
-ghost use Rattle.frag_session.specs.Steps.{area_of, session_setup, slot_cause, kept, become, CanHear, slot_seen, told_of, news_between};
+ghost use Rattle.frag_session.specs.Steps.{extent_of, session_setup, slot_cause, kept, become, CanHear, slot_seen, told_of, news_between};
 ghost use Rattle.frag_session.specs.Shows.{seen};
 ghost use Rattle.frag_session.specs.Stands.{Stands};
 ghost use Rattle.frag_session.specs.Limits.{max_received};
@@ -55,10 +55,10 @@ impl<const W: usize, const B: usize> Drop for Slot<W, B> {
 
 impl<const W: usize, const B: usize> Slot<W, B> {
     /// A slot without a session.
-    #[tactic(auto, unfolding(crate::specs::Stands::Stands, crate::specs::Steps::area_of))]
+    #[tactic(auto, unfolding(crate::specs::Stands::Stands, crate::specs::Steps::extent_of))]
     pub fn new(idle: Idle<W, B>) -> Slot<W, B>
         ensures stands { Stands result None }
-        ensures area { area_of result ≡ idle.entry }
+        ensures extent { extent_of result ≡ idle.entry }
     {
         Slot {
             state: Some(State::Idle(idle)),
@@ -69,10 +69,10 @@ impl<const W: usize, const B: usize> Slot<W, B> {
     /// that make no file, 2 for more than there is room for, 4 for an index that is not there, 8 for another descriptor.
     /// Where there is none, a session that was made of an equal request stays, and any other gives way to a new one.
     pub fn setup(&mut self, req: SetupReq, limits: Limits) -> u8
-        ensures bits { result ≡ setup_bits limits (memory_room W B (area_of self.old)) req }
-        ensures stands { (s : Option Session) → Stands self.old s → Stands self.new (after_setup limits (memory_room W B (area_of self.old)) s req) }
+        ensures bits { result ≡ setup_bits limits (memory_room W B (extent_of self.old)) req }
+        ensures stands { (s : Option Session) → Stands self.old s → Stands self.new (after_setup limits (memory_room W B (extent_of self.old)) s req) }
         ensures refused { result ≢ 0 → self.new ≡ self.old }
-        ensures area { area_of self.new ≡ area_of self.old }
+        ensures extent { extent_of self.new ≡ extent_of self.old }
     {
         let bits = self.refusal(req, limits, None);
         if bits == 0 && !lives(self.session(), req) {
@@ -88,7 +88,7 @@ impl<const W: usize, const B: usize> Slot<W, B> {
         ensures answer { (s : Option Session) → Stands self.old s → result ≡ answer_of (drop_cause s via n part.now) (news_in s n part.now mark) }
         ensures stands { (s : Option Session) → Stands self.old s → Stands self.new (after_fragment s via n part.now mark) }
         ensures dropped { (c : _) → result ≡ Heard.Dropped c → self.new ≡ self.old }
-        ensures area { area_of self.new ≡ area_of self.old }
+        ensures extent { extent_of self.new ≡ extent_of self.old }
     {
         match dropped(self.session(), via, n, part) {
             Some(cause) => Heard::Dropped(cause),
@@ -101,9 +101,9 @@ impl<const W: usize, const B: usize> Slot<W, B> {
     }
 
     /// All refusal bits of a setup, with so many bytes of flash where its session is kept there.
-    #[tactic(auto, unfolding(crate::specs::Steps::area_of))]
+    #[tactic(auto, unfolding(crate::specs::Steps::extent_of))]
     pub fn refusal(&self, req: SetupReq, limits: Limits, span: Option<u32>) -> u8
-        ensures { result ≡ setup_bits limits (record { words = W; bytes = B; area = area_of self.now; span = span }) req }
+        ensures { result ≡ setup_bits limits (record { words = W; bytes = B; extent = extent_of self.now; span = span }) req }
     {
         match &self.state {
             Some(State::Idle(idle)) => refusal(idle.solver(), req, limits, span),
@@ -132,7 +132,7 @@ impl<const W: usize, const B: usize> Slot<W, B> {
     /// What the session shows, if there is one.
     pub fn view(&self) -> Option<View<'_>>
         ensures value { (s : Option Session) → Stands self.now s → option_map seen result ≡ view_of s }
-        ensures within { IfSome result (λ v. length v.file.now ≤ area_of self.now) }
+        ensures within { IfSome result (λ v. length v.file.now ≤ (extent_of self.now).area) }
         ensures few { IfSome result (λ v. v.received ≤ max_received) }
     {
         self.shown()
@@ -157,7 +157,7 @@ impl<const W: usize, const B: usize> Slot<W, B> {
     pub fn delete(&mut self) -> bool
         ensures answer { (s : Option Session) → Stands self.old s → result ≡ is_some s }
         ensures stands { Stands self.new None }
-        ensures area { area_of self.new ≡ area_of self.old }
+        ensures extent { extent_of self.new ≡ extent_of self.old }
     {
         let lived = self.session().is_some();
         self.clear();
@@ -166,7 +166,7 @@ impl<const W: usize, const B: usize> Slot<W, B> {
 
     /// Ends the session, and gives the memory back.
     pub fn end(self) -> Idle<W, B>
-        ensures { result ≡ area_of self.entry }
+        ensures { result ≡ extent_of self.entry }
     {
         let Slot { state } = self;
         cleared(state.unwrap())
@@ -174,7 +174,7 @@ impl<const W: usize, const B: usize> Slot<W, B> {
 
     /// Ends the session, if there is one.
     fn clear(&mut self)
-        ensures { self.new ≡ idle (area_of self.old) }
+        ensures { self.new ≡ idle (extent_of self.old) }
     {
         if let Some(state) = self.state.take() {
             self.state = Some(ended(state));
@@ -183,9 +183,9 @@ impl<const W: usize, const B: usize> Slot<W, B> {
 
     /// Puts a new session in the place of whatever lived. The request must have no refusal bit.
     pub fn renew(&mut self, req: SetupReq, limits: Limits)
-        requires { setup_bits limits (memory_room W B (area_of self.old)) req ≡ 0 }
+        requires { setup_bits limits (memory_room W B (extent_of self.old)) req ≡ 0 }
         ensures stands { Stands self.new (Some (new_session limits req)) }
-        ensures area { area_of self.new ≡ area_of self.old }
+        ensures extent { extent_of self.new ≡ extent_of self.old }
     {
         if let Some(state) = self.state.take() {
             self.state = Some(renewed(state, req, limits));
@@ -196,7 +196,7 @@ impl<const W: usize, const B: usize> Slot<W, B> {
     fn hear(&mut self, n: u16, part: &[u8], mark: u64)
         requires { CanHear self.old n part.now }
         ensures stands { (s : Session) → Stands self.old (Some s) → Stands self.new (Some (followed s n part.now mark)) }
-        ensures area { area_of self.new ≡ area_of self.old }
+        ensures extent { extent_of self.new ≡ extent_of self.old }
     {
         if let Some(state) = self.state.take() {
             self.state = Some(fed(state, n, part, mark));
@@ -215,10 +215,10 @@ impl<const W: usize, const B: usize> Slot<W, B> {
     }
 
     /// What the state shows.
-    #[tactic(auto, unfolding(crate::specs::Steps::slot_seen, crate::specs::Steps::area_of))]
+    #[tactic(auto, unfolding(crate::specs::Steps::slot_seen, crate::specs::Steps::extent_of))]
     fn shown(&self) -> Option<View<'_>>
         ensures value { option_map seen result ≡ slot_seen self.now }
-        ensures within { IfSome result (λ v. length v.file.now ≤ area_of self.now) }
+        ensures within { IfSome result (λ v. length v.file.now ≤ (extent_of self.now).area) }
         ensures few { IfSome result (λ v. v.received ≤ max_received) }
     {
         match &self.state {
@@ -264,9 +264,9 @@ fn news_between(before: Option<(u16, u16)>, after: Option<(u16, u16)>) -> News
 }
 
 /// The memory of whatever lived.
-#[tactic(auto, unfolding(crate::specs::Steps::area_of))]
+#[tactic(auto, unfolding(crate::specs::Steps::extent_of))]
 fn cleared<const W: usize, const B: usize>(state: State<W, B>) -> Idle<W, B>
-    ensures { result ≡ area_of (kept state.entry) }
+    ensures { result ≡ extent_of (kept state.entry) }
 {
     match state {
         State::Idle(idle) => idle,
@@ -278,9 +278,9 @@ fn cleared<const W: usize, const B: usize>(state: State<W, B>) -> Idle<W, B>
 }
 
 /// The state without a session.
-#[tactic(auto, unfolding(crate::specs::Steps::area_of))]
+#[tactic(auto, unfolding(crate::specs::Steps::extent_of))]
 fn ended<const W: usize, const B: usize>(state: State<W, B>) -> State<W, B>
-    ensures { kept result ≡ idle (area_of (kept state.entry)) }
+    ensures { kept result ≡ idle (extent_of (kept state.entry)) }
 {
     State::Idle(cleared(state))
 }
@@ -291,9 +291,9 @@ fn renewed<const W: usize, const B: usize>(
     req: SetupReq,
     limits: Limits,
 ) -> State<W, B>
-    requires { setup_bits limits (memory_room W B (area_of (kept state))) req ≡ 0 }
+    requires { setup_bits limits (memory_room W B (extent_of (kept state))) req ≡ 0 }
     ensures stands { Stands (kept result) (Some (new_session limits req)) }
-    ensures area { area_of (kept result) ≡ area_of (kept state.entry) }
+    ensures extent { extent_of (kept result) ≡ extent_of (kept state.entry) }
 {
     match cleared(state).setup(req, limits) {
         Ok(receiving) => State::Receiving(receiving),
@@ -348,7 +348,7 @@ fn fed<const W: usize, const B: usize>(
 ) -> State<W, B>
     requires { CanHear (kept state) n part.now }
     ensures stands { (s : Session) → Stands (kept state.entry) (Some s) → Stands (kept result) (Some (followed s n part.now mark)) }
-    ensures area { area_of (kept result) ≡ area_of (kept state.entry) }
+    ensures extent { extent_of (kept result) ≡ extent_of (kept state.entry) }
 {
     match state {
         State::Idle(idle) => State::Idle(idle),

@@ -52,11 +52,12 @@ swapped_places size os os' k p y q part area area' arena arena1 arena' (inr w) l
     ∙ set_comm (all_cleared p y q old) k p (piece part) (row y q) w.0
 
 -- the same columns, by their number
-pub over_at : (n m : ℕ) (columns os os' : List Column) (k p y : ℕ) (q : List ℕ) (arena arena' : Arena) → m ≡ n → os ≡ set (take m columns) k Piece
-    → TakesOver (get_or (take m columns) k Free) p y q arena arena' os os' → TakesOver (get_or (take n columns) k Free) p y q arena arena' (set (take n columns) k Piece) os'
-over_at n m columns os os' k p y q arena arena' e is h =
+pub over_at : (n m : ℕ) (columns os os' : List Column) (k p y : ℕ) (q : List ℕ) (arena arena' : Arena) (kept : Column) → m ≡ n → os ≡ set (take m columns) k Piece
+    → kept ≡ get_or (take m columns) k Free → TakesOver kept p y q arena arena' os os' → TakesOver (get_or (take n columns) k Free) p y q arena arena' (set (take n columns) k Piece) os'
+over_at n m columns os os' k p y q arena arena' kept e is was h =
     subst (λ (i : ℕ). TakesOver (get_or (take i columns) k Free) p y q arena arena' (set (take i columns) k Piece) os') e
-    (subst (λ (l : List Column). TakesOver (get_or (take m columns) k Free) p y q arena arena' l os') is h)
+    (subst (λ (l : List Column). TakesOver (get_or (take m columns) k Free) p y q arena arena' l os') is
+    (subst (λ (o : Column). TakesOver o p y q arena arena' os os') was h))
 
 -- what a slice holds after its first items were written
 pub written_first : {A : Type 0} (n m : ℕ) (new old : List A) → m ≡ n → m ≤ length old → length new ≡ length (take m old) → take n (new ++ drop m old) ≡ new

@@ -51,13 +51,13 @@ same_answer false false f g = refl
 
 -- places that say the equation, with what is marked and counted
 takes : (old new : Held) (n : ℕ) (part : List ℕ) → IsReduced old.shape.nb_frag old.shape.frag_size old.places → length part ≡ old.shape.frag_size
-    → new.shape ≡ old.shape → new.area ≡ old.area → Says old.shape old.places new.places (line_for old n) part
+    → new.shape ≡ old.shape → new.extent ≡ old.extent → Says old.shape old.places new.places (line_for old n) part
     → ((c : ℕ) → c < old.shape.nb_frag → IsMarked new c ↔ (IsMarked old c ⊎ (n ≡ suc c)))
     → pieces_held new.places ≡ pieces_held old.places + (if is_new_piece old n then 1 else 0)
     → rows_held new.places ≤ old.shape.rows → Takes old new n part
 takes old new n part t sized e a says marked pieces room = record {
   shape = e;
-  area = a;
+  extent = a;
   fits = λ b.
       let P : Shape → Type 0 = λ s. FitsHeld s new.places b ↔ IsLeft old n part b in
       subst P (sym e) (
@@ -309,7 +309,7 @@ completes g now new n part sized held t reduced full places room parts =
     record {
       takes = record {
         shape = room.shape ∙ t.shape;
-        area = room.room ∙ t.area;
+        extent = room.room ∙ t.extent;
         fits = λ x.
             let P : Shape → Type 0 = λ s. FitsHeld s new.places x ↔ IsLeft old n part x in
             let Q : List Place → Type 0 = λ ps. FitsHeld now.shape ps x ↔ IsLeft old n part x in

@@ -1,5 +1,5 @@
 -- What the fields of a table keep true when it takes something in.
-use Rattle.std.proofs.Common.{◌≡◌, ◌≢◌, ◌⊎◌, ℕ, suc, ◌+◌, ◌*◌, ◌<◌, ◌≤◌, ◌^◌, false, List, length, get_or, set, take, drop, replicate, ◌++◌, [], ◌∷◌, zero, Option, Some, None, Result, Ok, Err, is_ok, OnOk, true, true≢false, bit_xor, refl, sym, ap, ◌∙◌, subst, inl, inr, arith, length-take-le, length-set}
+use Rattle.std.proofs.Common.{◌≡◌, ◌≢◌, ◌⊎◌, ℕ, suc, ◌+◌, ◌*◌, ◌<◌, ◌≤◌, ◌^◌, false, List, length, get_or, set, take, drop, replicate, ◌++◌, [], zero, Option, Some, None, Result, Ok, Err, is_ok, OnOk, true, true≢false, bit_xor, refl, sym, ap, ◌∙◌, subst, inl, inr, arith, length-take-le, length-set}
 use Rattle.std.proofs.Math.Pow.{pow-lt}
 use Rattle.std.proofs.lemmas.Nat.Bits.{bit_at-pow_same, bit_at-pow_other}
 use Rattle.std.proofs.lemmas.Bool.{cases_eq, cases_lt}
@@ -11,12 +11,14 @@ use Rattle.row_elimination.specs.declared.columns.Column.TheVariants.{Free, Piec
 use Rattle.row_elimination.specs.Places.{Place, free, piece, row, told, is_piece, is_row, pieces_held, rows_held, gained_held, grown, cleared}
 use Rattle.row_elimination.specs.Inside.{IsReduced, Marks}
 use Rattle.row_elimination.specs.Made.{no_rows}
+use Rattle.row_elimination.specs.Room.{Extent}
 use Rattle.row_elimination.specs.Storage.{chunk, place_in, places_in, part_in, IsStored, IsRowOf, SameShape, Slots}
 use Rattle.row_elimination.specs.Steps.{IsNew, Knows, Tells}
 use Rattle.row_elimination.specs.Grid.{Grid, IsGrid, max_line_words}
 use Rattle.frag_model.specs.Limits.{max_pieces}
 use Rattle.row_elimination.proofs.Chunks.{before}
 use Rattle.row_elimination.proofs.Storing.{at_places, length-places, row_told, same_shape}
+use Rattle.row_elimination.proofs.Packing.{read_there}
 use Rattle.row_elimination.proofs.Growing.{at_old, new_at, length-grown, grown_reduced}
 use Rattle.row_elimination.proofs.Lines.{none_in_first}
 use Rattle.row_elimination.proofs.Marking.{kinds_grown, marks_grown, marks_set, marks_none}
@@ -37,8 +39,8 @@ grid_next nb size rows count count' gained gained' columns columns' spare spare'
   most = h.most;
   few = h.few;
   columns_sized = omega (arith, c, h.columns_sized);
-  spare_sized = s ∙ h.spare_sized;
-  known_sized = k ∙ h.known_sized;
+  spare_sized = omega (arith, s, h.spare_sized);
+  known_sized = omega (arith, k, h.known_sized);
   room_area = omega (arith, h.room_area);
   arena_cols = shape.cols ∙ h.arena_cols;
   arena_cell = shape.cell ∙ h.arena_cell;
@@ -77,6 +79,15 @@ stored_at nb size cols len rows count gained columns spare known area arena h e 
 pub width_few : (nb : ℕ) → nb ≤ max_pieces → words_for nb ≤ max_line_words
 unfolding words_for
 width_few nb most = omega arith
+
+pub no_words : words_for 0 ≡ 0
+unfolding words_for
+no_words = refl
+
+-- and no fewer for more columns
+pub more_words : (nb most : ℕ) → nb ≤ most → words_for nb ≤ words_for most
+unfolding words_for
+more_words nb most le = omega (arith, le)
 
 -- and hold all its columns
 pub width_holds : (nb : ℕ) → nb ≤ 64 * words_for nb
@@ -215,7 +226,7 @@ settled nb size rows count less gained k slot columns columns' spare known known
     let os_sized : length (take nb columns) ≡ nb = length-take-le nb columns (omega (arith, h.most, h.columns_sized)) in
     let klt : k < length (take nb columns) = omega (arith, known_is.inside) in
     let plt : k < length ps = omega (arith, h.reduced.sized, known_is.inside) in
-    let slt : less < length spare = omega (arith, h.spare_sized, h.most, h.few, h.slots.few) in
+    let slt : less < length spare = omega (arith, h.spare_sized, h.slots.few, e) in
     let slots : Slots (take nb columns') (set spare less slot) rows less =
     subst (λ os. Slots os (set spare less slot) rows less) (sym os_are) (slots_freed (take nb columns) spare rows count less k slot klt is e slt h.slots) in
     let fresh : is_piece (get_or ps k free) ≡ false = ap is_piece (at_places size area arena k (take nb columns) ∙ ap (place_in size area arena k) is) in
@@ -231,16 +242,11 @@ part_of None = []
 part_of (Some e) = e.part
 
 -- the column that code reads
-any_default : (xs : List Column) (i : ℕ) (d e : Column) → i < length xs → get_or xs i d ≡ get_or xs i e
-any_default [] i d e lt = absurd (omega arith)
-any_default (x ∷ xs) zero d e lt = refl
-any_default (x ∷ xs) (suc i) d e lt = any_default xs i d e (omega arith)
-
 pub column_read : (columns : List Column) (nb k : ℕ) (x : Column) → k < nb → nb ≤ length columns → x ≡ get_or columns k x → get_or (take nb columns) k Free ≡ x
-column_read columns nb k x lt le is = get_or-take nb columns k Free lt ∙ any_default columns k Free x (omega arith) ∙ sym is
+column_read columns nb k x lt le is = get_or-take nb columns k Free lt ∙ sym (read_there columns k x (omega arith) is)
 
 -- what is held of a column, by what is kept of it
-pub place_read : (nb size rows count gained room k : ℕ) (columns : List Column) (spare known area : List ℕ) (arena : Arena) (g : Grid) (x kept : Column)
+pub place_read : (nb size rows count gained : ℕ) (room : Extent) (k : ℕ) (columns : List Column) (spare known area : List ℕ) (arena : Arena) (g : Grid) (x kept : Column)
     → IsGrid nb size rows count gained columns spare known area arena
     → record {
       shape = record { nb_frag = nb; frag_size = size; rows = rows };
@@ -427,7 +433,7 @@ begun_places nb size columns area arena is =
     let le : nb ≤ length columns = all_there nb columns is in
     none_placed nb size area arena (take nb columns) (length-take-le nb columns le) (none_there nb columns le (all_free nb columns is))
 
-pub begun : (nb size rows : ℕ) (columns : List Column) (spare known area : List ℕ) (arena : Arena) → nb ≤ max_pieces → rows ≤ nb → columns ≡ replicate nb Free → length spare ≡ max_pieces → length known ≡ max_line_words
+pub begun : (nb size rows : ℕ) (columns : List Column) (spare known area : List ℕ) (arena : Arena) → nb ≤ max_pieces → rows ≤ nb → columns ≡ replicate nb Free → rows ≤ length spare → words_for nb ≤ length known
     → nb * size ≤ length area → arena ≡ record { cols = nb; cell = size; rows = replicate rows (zero_row size) }
     → ((i : ℕ) → i < rows → get_or spare i 0 ≡ i) → line_in known ≡ 0
     → IsGrid nb size rows 0 0 columns spare known area arena
@@ -455,18 +461,18 @@ begun nb size rows columns spare known area arena most few c s k a shaped each u
     }
 
 -- a table for no file
-pub no_file : (columns : List Column) (spare known area : List ℕ) (arena : Arena) → length spare ≡ max_pieces → length known ≡ max_line_words
+pub no_file : (columns : List Column) (spare known area : List ℕ) (arena : Arena)
     → arena ≡ no_rows → IsGrid 0 0 0 0 0 columns spare known area arena
 unfolding words_for line_in no_rows
-no_file columns spare known area arena s k shaped =
+no_file columns spare known area arena shaped =
     let none : (i : ℕ) → get_or {A = Column} [] i Free ≡ Free = λ i. get_or_past [] i Free (omega arith) in
     let is : places_in 0 area arena [] ≡ replicate 0 free = none_placed 0 0 area arena [] refl none in
     record {
       most = omega arith;
       few = omega arith;
       columns_sized = omega arith;
-      spare_sized = s;
-      known_sized = k;
+      spare_sized = omega arith;
+      known_sized = omega arith;
       room_area = omega arith;
       arena_cols = ap (λ (x : Arena). x.cols) shaped;
       arena_cell = ap (λ (x : Arena). x.cell) shaped;

@@ -19,3 +19,4 @@ pub mod Answering
 pub mod Repeating
 pub mod Solving
 pub mod Making
+pub mod Packing

@@ -8,25 +8,26 @@ use Rattle.row_elimination.specs.declared.columns.Column.{Column}
 use Rattle.row_elimination.specs.Places.{Place, rows_held, gained_held}
 use Rattle.row_elimination.specs.Inside.{IsReduced, Marks}
 use Rattle.row_elimination.specs.Storage.{places_in, Slots}
+use Rattle.row_elimination.specs.Room.{Extent}
 
 -- how many words of 64 columns the line of the largest file takes
 abbrev pub max_line_words : ℕ
 max_line_words = max_pieces / 64
 
--- what is held, the bytes of the area that were written so far, and how many it has room for
+-- what is held, the bytes of the area that were written so far, and what there is memory for
 pub record Grid : Type 0 where
   pub shape : Shape
   pub places : List Place
   pub area : List ℕ
-  pub room : ℕ
+  pub room : Extent
 
 -- the fields of a table
 pub record IsGrid (nb_frag size rows count gained : ℕ) (columns : List Column) (spare known area : List ℕ) (arena : Arena) : Type 0 where
   pub most : nb_frag ≤ max_pieces
   pub few : rows ≤ nb_frag
   pub columns_sized : nb_frag ≤ length columns
-  pub spare_sized : length spare ≡ max_pieces
-  pub known_sized : length known ≡ max_line_words
+  pub spare_sized : rows ≤ length spare
+  pub known_sized : words_for nb_frag ≤ length known
   pub room_area : nb_frag * size ≤ length area
   pub arena_cols : arena.cols ≡ nb_frag
   pub arena_cell : arena.cell ≡ size
@@ -37,14 +38,22 @@ pub record IsGrid (nb_frag size rows count gained : ℕ) (columns : List Column)
   pub counted : count ≡ rows_held (places_in size area arena (take nb_frag columns))
   pub gained_all : gained ≡ gained_held (places_in size area arena (take nb_frag columns))
 
--- the same, of a table whose rows have so many words and bytes in all, whose columns have memory for `held`, and whose area
--- room for so many bytes in memory for `capacity`
-pub record IsTable (words bytes nb_frag size rows count gained held room capacity : ℕ) (columns : List Column) (spare known area : List ℕ) (arena : Arena) : Type 0 where
+-- the capacities are for files of so many pieces, and for an area of so many bytes
+pub record HaveMemory (most room columns spare known area : ℕ) : Type 0 where
+  pub few : most ≤ max_pieces
+  pub columns_held : most ≤ columns
+  pub spare_held : most ≤ spare
+  pub known_held : words_for most ≤ known
+  pub area_held : room ≤ area
+
+-- the same, of a table whose rows have so many words and bytes in all, with the capacities of its four vectors
+pub record IsTable (words bytes nb_frag size rows count gained most room columns_cap spare_cap known_cap area_cap : ℕ)
+    (columns : List Column) (spare known area : List ℕ) (arena : Arena) : Type 0 where
   pub words_few : words ≤ max_words
   pub bytes_few : bytes ≤ max_bytes
-  pub columns_held : max_pieces ≤ held
+  pub memory : HaveMemory most room columns_cap spare_cap known_cap area_cap
+  pub within : nb_frag ≤ most
   pub area_fits : length area ≤ room
-  pub room_held : room ≤ capacity
   pub grid : IsGrid nb_frag size rows count gained columns spare known area arena
 
 -- the storage itself stays

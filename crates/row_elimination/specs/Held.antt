@@ -5,6 +5,7 @@ use Rattle.frag_model.specs.Fragments.{Shape, Equation, Meets, line_of}
 use Rattle.frag_model.specs.Gain.{is_sum}
 use Rattle.row_elimination.specs.declared.stages.Stage.{Stage}
 use Rattle.row_elimination.specs.declared.stages.Stage.TheVariants as stage
+use Rattle.row_elimination.specs.Room.{Extent}
 use Rattle.row_elimination.specs.Places.{Place, free, is_piece, pieces_held, rows_held, gained_held, lines_held, FitsHeld}
 
 -- what a solver holds: the shape of its file, what is held of each column, and the bytes that lie in its area
@@ -14,8 +15,8 @@ pub record Held : Type 0 where
   pub stage : Stage
   -- the first bytes of the area, as many as the file's pieces have
   pub content : List ℕ
-  -- how many bytes the area has
-  pub area : ℕ
+  -- what there is memory for
+  pub extent : Extent
 
 -- the piece at the column came uncoded
 abbrev pub IsMarked : Held → ℕ → Type 0
@@ -47,7 +48,7 @@ is_new_piece h n = nat_le n h.shape.nb_frag && not (is_piece (get_or h.places (n
 -- the fragment was taken in
 pub record Takes (old new : Held) (n : ℕ) (part : List ℕ) : Type 0 where
   pub shape : new.shape ≡ old.shape
-  pub area : new.area ≡ old.area
+  pub extent : new.extent ≡ old.extent
   -- the blocks that fit are those that are left over
   pub fits : (block : List (List ℕ)) → FitsHeld new.shape new.places block ↔ IsLeft old n part block
   -- the sums of the lines are those of the lines before and the fragment's

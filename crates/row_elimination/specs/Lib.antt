@@ -1,4 +1,5 @@
 pub mod Places
+pub mod PackedColumns
 pub mod Inside
 pub mod Made
 pub mod Held

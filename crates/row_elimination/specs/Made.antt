@@ -1,5 +1,5 @@
 -- The rows of a file before and after an arena was made for them.
-use Rattle.std.specs.Prelude.{◌≤◌, ℕ, List, [], ◌∷◌, length}
+use Rattle.std.specs.Prelude.{◌≤◌, ℕ, Bool, if◌then◌else◌, Option, Some, None, List, [], ◌∷◌, length}
 use Rattle.row_arena.specs.Limits.{max_bytes, max_words}
 use Rattle.row_arena.specs.Rows.{Arena}
 
@@ -11,6 +11,11 @@ no_rows = record { cols = 0; cell = 0; rows = [] }
 unfoldable pub arena_of : List Arena → Arena
 arena_of [] = no_rows
 arena_of (arena ∷ rest) = arena
+
+-- those of the smaller one of two arenas, where it is there and in use
+abbrev pub rows_in : Option Arena → Bool → Arena → Arena
+rows_in None is_small large = large
+rows_in (Some small) is_small large = if is_small then small else large
 
 -- the fields: memory for one arena of so many words and bytes, and one at most that was made
 pub record IsMade (words bytes capacity : ℕ) (made : List Arena) : Type 0 where

@@ -19,7 +19,7 @@ held_of at g = record {
   places = g.places;
   stage = at;
   content = take (g.shape.nb_frag * g.shape.frag_size) g.area;
-  area = g.room;
+  extent = g.room;
 }
 
 -- a table that receives, and a fragment of it that was reduced

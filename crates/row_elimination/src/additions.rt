@@ -2,17 +2,18 @@
 
 ghost use Rattle.std.specs.Prelude.{◌≡◌, ◌≢◌, ◌⊎◌, ℕ, ◌+◌, ◌*◌, ◌<◌, ◌≤◌, length, get_or, List, set, take};
 ghost use Rattle.row_arena.specs.Rows.{Arena, line_in};
+ghost use Rattle.row_elimination.specs.PackedColumns.{last_slot};
 ghost use Rattle.row_elimination.specs.Places.{piece, piece as known, grown};
 ghost use Rattle.row_elimination.specs.Storage.{places_in, IsStored, IsRowOf, SameShape, Slots, TakesOver};
 
-use crate::columns::Column;
+use crate::columns::{Column, PackedColumn};
 use crate::entries::{put_piece, put_row};
 use crate::passes::clear;
 use crate::rows::Rows;
 
 /// Adds a row, which its column `p` leads, in a slot that no column uses.
 pub fn add_row<const W: usize, const B: usize>(
-    columns: &mut [Column],
+    columns: &mut [PackedColumn],
     arena: &mut Rows<W, B>,
     slot: u16,
     p: u16,
@@ -24,6 +25,7 @@ pub fn add_row<const W: usize, const B: usize>(
     requires stored { IsStored (length part.now) arena.old (take arena.old.cols columns.old) }
     requires new { IsRowOf arena.old line.now part.now }
     requires slot { slot < length arena.old.rows }
+    requires fits { slot ≤ last_slot }
     requires alone { (c : ℕ) → get_or (take arena.old.cols columns.old) c Column.Free ≢ Column.Row slot }
     ensures columns { take arena.old.cols columns.new ≡ set (take arena.old.cols columns.old) p (Column.Row slot) }
     ensures places { (area : List ℕ) → places_in (length part.now) area arena.new (take arena.old.cols columns.new) ≡
@@ -36,7 +38,7 @@ pub fn add_row<const W: usize, const B: usize>(
 }
 
 /// Puts the piece of column `k`, one of the first `cols`, into the area.
-pub fn add_piece(columns: &mut [Column], cols: usize, area: &mut [u8], k: usize, part: &[u8])
+pub fn add_piece(columns: &mut [PackedColumn], cols: usize, area: &mut [u8], k: usize, part: &[u8])
     requires columns { cols ≤ length columns.old }
     requires inside { k < cols }
     requires room { k * length part.now + length part.now ≤ length area.old }
@@ -50,7 +52,7 @@ pub fn add_piece(columns: &mut [Column], cols: usize, area: &mut [u8], k: usize,
 /// Puts the piece of column `k` into the area, and a row, which its column `p` leads, where the row was that `k` led. Where
 /// `k` led none the row is the piece itself.
 pub fn add_piece_and_row<const W: usize, const B: usize>(
-    columns: &mut [Column],
+    columns: &mut [PackedColumn],
     area: &mut [u8],
     arena: &mut Rows<W, B>,
     k: usize,
@@ -75,7 +77,7 @@ pub fn add_piece_and_row<const W: usize, const B: usize>(
 {
     let columns = &mut columns[..arena.cols() as usize];
     clear(arena, p, line, part);
-    let kept = columns[k];
+    let kept = columns[k].column();
     put_piece(columns, area, k, piece);
     take_over(kept, columns, arena, p, line, part);
 }
@@ -83,7 +85,7 @@ pub fn add_piece_and_row<const W: usize, const B: usize>(
 /// Puts a row into the slot that was kept, if one was.
 fn take_over<const W: usize, const B: usize>(
     kept: Column,
-    columns: &mut [Column],
+    columns: &mut [PackedColumn],
     arena: &mut Rows<W, B>,
     p: u16,
     line: &[u64],
@@ -91,6 +93,7 @@ fn take_over<const W: usize, const B: usize>(
 )
     requires inside { p < length columns.old }
     requires slot { (slot : ℕ) → kept ≡ Column.Row slot → slot < length arena.old.rows }
+    requires fits { (slot : ℕ) → kept ≡ Column.Row slot → slot ≤ last_slot }
     requires new { IsRowOf arena.old line.now part.now }
     requires alone { (c slot : ℕ) → kept ≡ Column.Row slot → c ≢ p → get_or columns.old c Column.Free ≢ Column.Row slot }
     ensures over { TakesOver kept p (line_in line.now) part.now arena.old arena.new columns.old columns.new }

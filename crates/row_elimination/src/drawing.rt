@@ -8,6 +8,7 @@ ghost use Rattle.row_arena.specs.Rows.{line_in};
 use parity_lines::line_uncounted;
 use row_arena::{clear_bits, flip_bit};
 
+#[inline(never)]
 /// Writes the line of fragment `n` of a file of `pieces` pieces, for each of which there is room.
 pub fn draw(n: u16, pieces: u16, line: &mut [u64])
     requires some { 1 ≤ pieces }

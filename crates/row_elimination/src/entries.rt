@@ -2,15 +2,16 @@
 
 ghost use Rattle.std.specs.Prelude.{◌≡◌, ◌≢◌, ℕ, ◌+◌, ◌*◌, ◌<◌, ◌≤◌, length, get_or, List, set};
 ghost use Rattle.row_arena.specs.Rows.{Arena, line_in};
+ghost use Rattle.row_elimination.specs.PackedColumns.{last_slot};
 ghost use Rattle.row_elimination.specs.Places.{piece, row};
 ghost use Rattle.row_elimination.specs.Storage.{chunk, part_in, places_in, IsRowOf, SameShape};
 
 use crate::bytes::put_at;
-use crate::columns::Column;
+use crate::columns::{Column, PackedColumn};
 use crate::rows::Rows;
 
 /// Puts the piece of column `k` into the area.
-pub fn put_piece(columns: &mut [Column], area: &mut [u8], k: usize, part: &[u8])
+pub fn put_piece(columns: &mut [PackedColumn], area: &mut [u8], k: usize, part: &[u8])
     requires inside { k < length columns.old }
     requires room { k * length part.now + length part.now ≤ length area.old }
     ensures columns { columns.new ≡ set columns.old k Column.Piece }
@@ -18,12 +19,12 @@ pub fn put_piece(columns: &mut [Column], area: &mut [u8], k: usize, part: &[u8])
         set (places_in (length part.now) area.old arena columns.old) k (piece part.now) }
 {
     put_at(area, k, part);
-    columns[k] = Column::Piece;
+    columns[k] = PackedColumn::new(Column::Piece);
 }
 
 /// Puts the row that column `p` leads into a slot that no other column uses.
 pub fn put_row<const W: usize, const B: usize>(
-    columns: &mut [Column],
+    columns: &mut [PackedColumn],
     arena: &mut Rows<W, B>,
     slot: u16,
     p: u16,
@@ -32,6 +33,7 @@ pub fn put_row<const W: usize, const B: usize>(
 )
     requires inside { p < length columns.old }
     requires slot { slot < length arena.old.rows }
+    requires fits { slot ≤ last_slot }
     requires new { IsRowOf arena.old line.now part.now }
     requires alone { (c : ℕ) → c ≢ p → get_or columns.old c Column.Free ≢ Column.Row slot }
     ensures columns { columns.new ≡ set columns.old p (Column.Row slot) }
@@ -40,12 +42,12 @@ pub fn put_row<const W: usize, const B: usize>(
     ensures shape { SameShape arena.old arena.new }
 {
     arena.set_row(slot, line, part);
-    columns[p as usize] = Column::Row(slot);
+    columns[p as usize] = PackedColumn::new(Column::Row(slot));
 }
 
 /// Puts the part of each row into the area, as the piece of the column that leads it.
 pub fn put_parts<const W: usize, const B: usize>(
-    columns: &[Column],
+    columns: &[PackedColumn],
     area: &mut [u8],
     arena: &Rows<W, B>,
 )
@@ -54,7 +56,7 @@ pub fn put_parts<const W: usize, const B: usize>(
     ensures { (c : ℕ) → chunk c arena.now.cell area.new ≡ part_in arena.now.cell area.old arena.now c (get_or columns.now c Column.Free) }
 {
     for c in 0..columns.len() {
-        put_part(columns[c], c, area, arena);
+        put_part(columns[c].column(), c, area, arena);
     }
 }
 

@@ -5,13 +5,12 @@ ghost use Rattle.std.specs.Int.{bit_at};
 ghost use Rattle.frag_model.specs.Fragments.{IsPiece};
 ghost use Rattle.row_arena.specs.Rows.{line_in, words_for};
 ghost use Rattle.row_arena.specs.Sums.{after_flips};
-ghost use Rattle.frag_model.specs.Limits.{max_pieces};
 ghost use Rattle.row_elimination.specs.Grid.{max_line_words};
 ghost use Rattle.row_elimination.specs.Inside.{IsReduced, Marks};
 ghost use Rattle.row_elimination.specs.Storage.{places_in, IsStored, IsRowOf, Clears, ClearsAll};
 ghost use Rattle.row_elimination.specs.Steps.{Reduced, TakesRow, TakesRows};
 
-use crate::columns::Column;
+use crate::columns::{Column, PackedColumn};
 use crate::rows::Rows;
 use crate::tables::LINE_WORDS;
 use row_arena::{pick, sum_pieces, xor_bytes, xor_words};
@@ -19,7 +18,7 @@ use row_arena::{pick, sum_pieces, xor_bytes, xor_words};
 /// Takes out of a line, and out of the bytes `part`, all columns of which a piece or a row is kept, and writes what is left
 /// of the bytes over `rest`. `known` has the columns of which a piece is kept, and `picks` room for the columns of a line.
 pub fn reduce<const W: usize, const B: usize>(
-    columns: &[Column],
+    columns: &[PackedColumn],
     area: &[u8],
     known: &[u64],
     arena: &Rows<W, B>,
@@ -37,7 +36,7 @@ pub fn reduce<const W: usize, const B: usize>(
     requires same { length line.old ≡ length known.now }
     requires few { length line.old ≤ max_line_words }
     requires within { line_in line.old < 2 ^ length columns.now }
-    requires picks { max_pieces ≤ length picks.old }
+    requires picks { 64 * length line.old ≤ length picks.old }
     requires sized { length rest.old ≡ length part.now }
     ensures { Reduced (length columns.now) (length part.now) (places_in (length part.now) area.now arena.now columns.now)
         (line_in line.old) part.now (line_in line.new) rest.new }
@@ -49,7 +48,7 @@ pub fn reduce<const W: usize, const B: usize>(
 
 /// Takes out of an equation, which has no column of which a piece is kept, all columns that lead rows.
 fn take_rows<const W: usize, const B: usize>(
-    columns: &[Column],
+    columns: &[PackedColumn],
     arena: &Rows<W, B>,
     line: &mut [u64],
     picks: &mut [u16],
@@ -60,12 +59,12 @@ fn take_rows<const W: usize, const B: usize>(
     requires few { length line.old ≤ max_line_words }
     requires within { line_in line.old < 2 ^ length columns.now }
     requires none { (c : ℕ) → get_or columns.now c Column.Free ≡ Column.Piece → bit_at (line_in line.old) c ≡ 0 }
-    requires picks { max_pieces ≤ length picks.old }
+    requires picks { 64 * length line.old ≤ length picks.old }
     ensures { TakesRows (length rest.old) arena.now columns.now (line_in line.old) rest.old (line_in line.new) rest.new }
 {
     let count = list_bits(line, picks);
     for n in 0..count {
-        take_row(columns[picks[n] as usize], arena, line, rest);
+        take_row(columns[picks[n] as usize].column(), arena, line, rest);
     }
 }
 
@@ -94,7 +93,7 @@ fn take_row<const W: usize, const B: usize>(
 /// Lists the columns of a line of at most 64 words in front of `picks`, and says how many there are.
 fn list_bits(line: &[u64], picks: &mut [u16]) -> usize
     requires few { length line.now ≤ max_line_words }
-    requires picks { max_pieces ≤ length picks.old }
+    requires picks { 64 * length line.now ≤ length picks.old }
     ensures listed { (c : ℕ) → bit_at (after_flips (line_in line.now) (take result picks.new)) c ≡ 0 }
     ensures columns { (n : ℕ) → n < result → bit_at (line_in line.now) (slice_index picks.new n) ≡ 1 }
     ensures few { result ≤ length picks.new }

@@ -21,18 +21,20 @@ const SMALL_BYTES: usize = 15_296;
 #[derive(Drop)]
 pub struct Rows<const W: usize, const B: usize> {
     is_small: bool,
-    small: Made<1024, 15296>,
+    /// None where the large one is no larger.
+    small: Option<Made<SMALL_WORDS, SMALL_BYTES>>,
     large: Made<W, B>,
 }
 
 impl<const W: usize, const B: usize> Model for Rows<W, B> {
-    ghost use Rattle.std.specs.Prelude.{if◌then◌else◌, ◌≤◌};
+    ghost use Rattle.std.specs.Prelude.{◌≤◌};
     ghost use Rattle.row_arena.specs.Limits.{max_bytes, max_words};
     ghost use Rattle.row_arena.specs.Rows.{Arena};
+    ghost use Rattle.row_elimination.specs.Made.{rows_in};
 
     ghost Value = { Arena };
 
-    ghost view = { λ r. if r.is_small then r.small else r.large };
+    ghost view = { λ r. rows_in r.small r.is_small r.large };
 
     ghost invariant = { λ r. (W ≤ max_words) × (B ≤ max_bytes) };
 }
@@ -46,7 +48,7 @@ impl<const W: usize, const B: usize> Rows<W, B> {
     {
         Ok(Rows {
             is_small: false,
-            small: Made::reserve(alloc)?,
+            small: small(alloc, W <= SMALL_WORDS && B <= SMALL_BYTES)?,
             large: Made::reserve(alloc)?,
         })
     }
@@ -62,10 +64,15 @@ impl<const W: usize, const B: usize> Rows<W, B> {
             return Err(NoRoom);
         }
         self.is_small = has_room(SMALL_WORDS, SMALL_BYTES, rows, cols, cell);
-        if self.is_small {
-            self.small.shape(rows, cols, cell)
-        } else {
-            self.large.shape(rows, cols, cell)
+        match &mut self.small {
+            Some(small) => {
+                if self.is_small {
+                    small.shape(rows, cols, cell)
+                } else {
+                    self.large.shape(rows, cols, cell)
+                }
+            }
+            None => self.large.shape(rows, cols, cell),
         }
     }
 
@@ -73,10 +80,15 @@ impl<const W: usize, const B: usize> Rows<W, B> {
     pub fn rows(&self) -> u16
         ensures { result ≡ length self.now.rows }
     {
-        if self.is_small {
-            self.small.rows()
-        } else {
-            self.large.rows()
+        match &self.small {
+            Some(small) => {
+                if self.is_small {
+                    small.rows()
+                } else {
+                    self.large.rows()
+                }
+            }
+            None => self.large.rows(),
         }
     }
 
@@ -84,10 +96,15 @@ impl<const W: usize, const B: usize> Rows<W, B> {
     pub fn cols(&self) -> u16
         ensures { result ≡ self.now.cols }
     {
-        if self.is_small {
-            self.small.cols()
-        } else {
-            self.large.cols()
+        match &self.small {
+            Some(small) => {
+                if self.is_small {
+                    small.cols()
+                } else {
+                    self.large.cols()
+                }
+            }
+            None => self.large.cols(),
         }
     }
 
@@ -99,10 +116,15 @@ impl<const W: usize, const B: usize> Rows<W, B> {
         requires part { length part.now ≡ self.old.cell }
         ensures { self.new ≡ with_row self.old r (record { line = line_in line.now; part = part.now }) }
     {
-        if self.is_small {
-            self.small.set_row(r, line, part);
-        } else {
-            self.large.set_row(r, line, part);
+        match &mut self.small {
+            Some(small) => {
+                if self.is_small {
+                    small.set_row(r, line, part)
+                } else {
+                    self.large.set_row(r, line, part)
+                }
+            }
+            None => self.large.set_row(r, line, part),
         }
     }
 
@@ -114,10 +136,15 @@ impl<const W: usize, const B: usize> Rows<W, B> {
         requires part { length part.now ≡ self.old.cell }
         ensures { self.new ≡ with_row self.old r (row_sum (row_at self.old r) (record { line = line_in line.now; part = part.now })) }
     {
-        if self.is_small {
-            self.small.add_to_row(r, line, part);
-        } else {
-            self.large.add_to_row(r, line, part);
+        match &mut self.small {
+            Some(small) => {
+                if self.is_small {
+                    small.add_to_row(r, line, part)
+                } else {
+                    self.large.add_to_row(r, line, part)
+                }
+            }
+            None => self.large.add_to_row(r, line, part),
         }
     }
 
@@ -129,10 +156,15 @@ impl<const W: usize, const B: usize> Rows<W, B> {
         ensures len { length result.now ≡ words_for self.now.cols }
         ensures few { length result.now ≤ max_width }
     {
-        if self.is_small {
-            self.small.words(r)
-        } else {
-            self.large.words(r)
+        match &self.small {
+            Some(small) => {
+                if self.is_small {
+                    small.words(r)
+                } else {
+                    self.large.words(r)
+                }
+            }
+            None => self.large.words(r),
         }
     }
 
@@ -142,10 +174,15 @@ impl<const W: usize, const B: usize> Rows<W, B> {
         ensures part { result.now ≡ (row_at self.now r).part }
         ensures len { length result.now ≡ self.now.cell }
     {
-        if self.is_small {
-            self.small.bytes(r)
-        } else {
-            self.large.bytes(r)
+        match &self.small {
+            Some(small) => {
+                if self.is_small {
+                    small.bytes(r)
+                } else {
+                    self.large.bytes(r)
+                }
+            }
+            None => self.large.bytes(r),
         }
     }
 
@@ -155,12 +192,28 @@ impl<const W: usize, const B: usize> Rows<W, B> {
         requires column { c < self.now.cols }
         ensures { result ≡ (bit_at (row_at self.now r).line c == 1) }
     {
-        if self.is_small {
-            self.small.bit(r, c)
-        } else {
-            self.large.bit(r, c)
+        match &self.small {
+            Some(small) => {
+                if self.is_small {
+                    small.bit(r, c)
+                } else {
+                    self.large.bit(r, c)
+                }
+            }
+            None => self.large.bit(r, c),
         }
     }
+}
+
+/// The small arena, or none where it is not wanted.
+fn small(
+    alloc: Global,
+    is_needless: bool,
+) -> Result<Option<Made<SMALL_WORDS, SMALL_BYTES>>, AllocError> {
+    if is_needless {
+        return Ok(None);
+    }
+    Ok(Some(Made::reserve(alloc)?))
 }
 
 /// Whether so many rows fit in so many words and bytes.

@@ -4,15 +4,16 @@ ghost use Rattle.std.specs.Prelude.{◌≡◌, ◌*◌, ◌+◌, ◌<◌, ◌≤
 ghost use Rattle.frag_model.specs.Fragments.{Shape};
 ghost use Rattle.row_elimination.specs.Held.{missing_of, TwoFit, IsBegun, Receives, Completes, Contradicts, Overflows};
 ghost use Rattle.row_elimination.specs.Places.{pieces_held};
-ghost use Rattle.row_elimination.specs.Room.{has_room, words_for};
+ghost use Rattle.row_elimination.specs.Room.{extent_for, has_room};
 ghost use Rattle.row_elimination.specs.Taking.{stage_after};
-ghost use Rattle.row_elimination.specs.Grid.{max_line_words};
 ghost use Rattle.row_arena.specs.Limits.{max_bytes, max_words};
 ghost use Rattle.frag_model.specs.Limits.{max_frag_size, max_parity_index, max_pieces};
 
 use crate::stages::{Fed, Stage};
-use crate::tables::{LINE_WORDS, MAX_PIECES, Table};
+use crate::tables::{Table, widen};
 use crate::taking::take;
+use frag_model::lines::MAX_PIECES;
+use row_arena::words_for;
 use std::alloc::Global;
 use std::marker::Model;
 
@@ -46,6 +47,7 @@ struct Kept<const W: usize, const B: usize> {
 }
 
 impl<const W: usize, const B: usize> Model for Solver<W, B> {
+    ghost use Rattle.std.specs.Prelude.{vec_capacity};
     ghost use Rattle.row_elimination.specs.Held.{Held};
     ghost use Rattle.row_elimination.specs.Taking.{held_of};
     ghost use Rattle.row_elimination.specs.SolverInside.{IsSolver};
@@ -54,23 +56,39 @@ impl<const W: usize, const B: usize> Model for Solver<W, B> {
 
     ghost view = { λ s. held_of s.kept.value.stage s.kept.value.table };
 
-    ghost invariant = { λ s. IsSolver s.kept.value.table s.kept.value.stage s.kept.value.line.items s.kept.value.picks.items s.kept.value.part.items };
+    ghost invariant = { λ s. IsSolver s.kept.value.table s.kept.value.stage
+        (vec_capacity s.kept.value.line) (vec_capacity s.kept.value.picks)
+        s.kept.value.line.items s.kept.value.picks.items s.kept.value.part.items };
 }
 
 impl<const W: usize, const B: usize> Solver<W, B> {
-    /// Takes all memory that the solver ever uses: an area of `area` bytes for the pieces, and the storage for rows.
+    /// Takes all memory that the solver ever uses: an area of `area` bytes for the pieces, and the storage for rows. Files may
+    /// have up to 4,096 pieces.
     pub fn reserve(alloc: Global, area: u32) -> Result<Solver<W, B>, Memory>
         requires words { W ≤ max_words }
         requires bytes { B ≤ max_bytes }
-        ensures { IfOk result (λ solver. (solver.stage ≡ Stage.Idle) × (solver.area ≡ area)) }
+        ensures stage { IfOk result (λ solver. solver.stage ≡ Stage.Idle) }
+        ensures extent { IfOk result (λ solver. solver.extent ≡ extent_for area) }
     {
-        let Ok(table) = Table::new(alloc, area) else {
+        Solver::reserve_for(alloc, area, MAX_PIECES)
+    }
+
+    /// The same for files of up to `pieces` pieces (at most 4,096), which takes as much less memory: some 6 bytes a piece.
+    pub fn reserve_for(alloc: Global, area: u32, pieces: u16) -> Result<Solver<W, B>, Memory>
+        requires words { W ≤ max_words }
+        requires bytes { B ≤ max_bytes }
+        requires most { pieces ≤ max_pieces }
+        ensures stage { IfOk result (λ solver. solver.stage ≡ Stage.Idle) }
+        ensures extent { IfOk result (λ solver.
+            solver.extent ≡ record { area = area; pieces = pieces }) }
+    {
+        let Ok(table) = Table::new(alloc, area, pieces) else {
             return Err(Memory);
         };
-        let Ok(line) = vec![in alloc; 0u64; LINE_WORDS] else {
+        let Ok(line) = Vec::with_capacity(alloc, words_for(pieces)) else {
             return Err(Memory);
         };
-        let Ok(picks) = vec![in alloc; 0u16; MAX_PIECES] else {
+        let Ok(picks) = Vec::with_capacity(alloc, 64 * words_for(pieces)) else {
             return Err(Memory);
         };
         let Ok(part) = vec![in alloc; 0u8; MAX_FRAG_SIZE] else {
@@ -90,15 +108,16 @@ impl<const W: usize, const B: usize> Solver<W, B> {
     }
 
     /// Whether there is room for a file of `nb_frag` pieces (at most 4,096) of `frag_size` bytes (at most 239) and for `rows`
-    /// rows (at most `nb_frag`).
+    /// rows (at most `nb_frag`), and memory for so many pieces.
     pub fn fits(&self, nb_frag: u16, frag_size: u8, rows: u16) -> bool
         requires most { nb_frag ≤ max_pieces }
         requires small { frag_size ≤ max_frag_size }
         requires few { rows ≤ nb_frag }
-        ensures { result ≡ has_room W B self.now.area nb_frag frag_size rows }
+        ensures { result ≡ has_room W B self.now.extent nb_frag frag_size rows }
     {
         let area = self.kept.table.room();
-        has_room(W, B, area, nb_frag, frag_size, rows)
+        let most = self.kept.table.most();
+        has_room(W, B, area, most, nb_frag, frag_size, rows)
     }
 
     /// Begins a file of `nb_frag` pieces (1 to 4,096) of `frag_size` bytes (1 to 239), whose last `padding` bytes (fewer than
@@ -116,18 +135,20 @@ impl<const W: usize, const B: usize> Solver<W, B> {
         requires small { frag_size ≤ max_frag_size }
         requires short { padding < frag_size }
         requires few { rows ≤ nb_frag }
-        ensures room { is_ok result ≡ has_room W B self.old.area nb_frag frag_size rows }
+        ensures room { is_ok result ≡ has_room W B self.old.extent nb_frag frag_size rows }
         ensures begun { OnOk result (IsBegun self.new) }
         ensures shape { OnOk result (self.new.shape ≡ record { nb_frag = nb_frag; frag_size = frag_size; rows = rows }) }
         ensures two { OnOk result (TwoFit self.new) }
         ensures refused { OnErr result (self.new ≡ self.old) }
-        ensures area { self.new.area ≡ self.old.area }
+        ensures extent { self.new.extent ≡ self.old.extent }
     {
         let _ = padding;
         if !self.fits(nb_frag, frag_size, rows) {
             return Err(NoRoom);
         }
         let kept = &mut *self.kept;
+        widen(&mut kept.line, words_for(nb_frag), 0);
+        widen(&mut kept.picks, 64 * words_for(nb_frag), 0);
         kept.table.begin(nb_frag, frag_size, rows);
         kept.stage = Stage::Receiving;
         Ok(())
@@ -144,7 +165,7 @@ impl<const W: usize, const B: usize> Solver<W, B> {
         ensures complete { result ≡ Fed.Complete → Completes self.old self.new n part.now }
         ensures no_rows { result ≡ Fed.NoRows → Overflows self.old self.new n part.now }
         ensures conflict { result ≡ Fed.Conflict → Contradicts self.old self.new n part.now }
-        ensures area { self.new.area ≡ self.old.area }
+        ensures extent { self.new.extent ≡ self.old.extent }
     {
         let kept = &mut *self.kept;
         let fed = take(
@@ -178,33 +199,29 @@ impl<const W: usize, const B: usize> Solver<W, B> {
     pub fn block(&self) -> &[u8]
         requires { self.now.stage ≡ Stage.Complete }
         ensures content { result.now ≡ self.now.content }
-        ensures within { length result.now ≤ self.now.area }
+        ensures within { length result.now ≤ self.now.extent.area }
     {
         self.kept.table.content()
     }
 }
 
-/// Whether so many rows of a file fit in so many words and bytes, and its pieces in the area.
+/// Whether so many rows of a file fit in so many words and bytes, its pieces in the area, and they are no more than `most`.
 #[tactic(auto, unfolding(crate::specs::Room::has_room))]
-fn has_room(words: usize, bytes: usize, area: usize, nb_frag: u16, frag_size: u8, rows: u16) -> bool
-    requires most { nb_frag ≤ max_pieces }
-    requires few { rows ≤ nb_frag }
-    ensures { result ≡ has_room words bytes area nb_frag frag_size rows }
+fn has_room(
+    words: usize,
+    bytes: usize,
+    area: usize,
+    most: u16,
+    nb_frag: u16,
+    frag_size: u8,
+    rows: u16,
+) -> bool
+    ensures { result ≡ has_room words bytes (record { area = area; pieces = most }) nb_frag frag_size rows }
 {
     let lines = rows as usize * words_for(nb_frag);
     let parts = rows as usize * frag_size as usize;
     let pieces = nb_frag as usize * frag_size as usize;
-    lines <= words && parts <= bytes && pieces <= area
-}
-
-/// How many words of 64 columns a row takes.
-#[tactic(auto, unfolding(crate::specs::Room::words_for))]
-fn words_for(nb_frag: u16) -> usize
-    requires { nb_frag ≤ max_pieces }
-    ensures value { result ≡ words_for nb_frag }
-    ensures most { result ≤ max_line_words }
-{
-    (nb_frag as usize + 63) / 64
+    lines <= words && parts <= bytes && pieces <= area && nb_frag <= most
 }
 
 /// Where the solver stands after an answer.

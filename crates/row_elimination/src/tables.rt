@@ -13,20 +13,17 @@ ghost use Rattle.frag_model.specs.Limits.{max_pieces};
 
 use crate::additions::{add_piece, add_piece_and_row, add_row};
 use crate::bytes::chunk;
-use crate::columns::Column;
+use crate::columns::{Column, PackedColumn};
 use crate::entries::put_parts;
 use crate::passes::reduce;
 use crate::rows::Rows;
-use frag_model::lines;
+use frag_model::lines::MAX_PIECES;
 use row_arena::{clear_bits, flip_bit, words_for};
 use std::alloc::{AllocError, Global};
 use std::marker::Model;
 
-/// The most pieces of a file.
-pub const MAX_PIECES: usize = lines::MAX_PIECES as usize;
-
 /// How many words of 64 columns the line of the largest file takes.
-pub const LINE_WORDS: usize = MAX_PIECES / 64;
+pub const LINE_WORDS: usize = MAX_PIECES as usize / 64;
 
 /// All that is held of a file: a piece, a row or nothing for each of its columns. Rows have `W` words and `B` bytes in all.
 #[derive(Drop)]
@@ -36,13 +33,16 @@ pub struct Table<const W: usize, const B: usize> {
     rows: u16,
     count: u16,
     gained: u16,
-    /// A file's columns or more; its memory is for the largest file's.
-    columns: Vec<Column>,
+    /// A file's columns; its memory is for `most`, as is that of all that goes by columns.
+    columns: Vec<PackedColumn>,
+    /// Slots, of which those from the `count`-th on are in no use; as many as any file had rows so far.
     spare: Vec<u16>,
+    /// The line of the pieces that came uncoded, in as many words as any file needed so far.
     known: Vec<u64>,
     /// The bytes of the pieces, as many as any file needed so far; its memory is for `room` bytes.
     area: Vec<u8>,
     room: u32,
+    most: u16,
     arena: Rows<W, B>,
 }
 
@@ -57,18 +57,21 @@ impl<const W: usize, const B: usize> Model for Table<W, B> {
       shape = record { nb_frag = t.nb_frag; frag_size = t.frag_size; rows = t.rows };
       places = places_in t.frag_size t.area.items t.arena (take t.nb_frag t.columns.items);
       area = t.area.items;
-      room = t.room;
+      room = record { area = t.room; pieces = t.most };
     } };
 
-    ghost invariant = { λ t. IsTable W B t.nb_frag t.frag_size t.rows t.count t.gained (vec_capacity t.columns) t.room (vec_capacity t.area) t.columns.items t.spare.items t.known.items t.area.items t.arena };
+    ghost invariant = { λ t. IsTable W B t.nb_frag t.frag_size t.rows t.count t.gained t.most t.room
+        (vec_capacity t.columns) (vec_capacity t.spare) (vec_capacity t.known) (vec_capacity t.area)
+        t.columns.items t.spare.items t.known.items t.area.items t.arena };
 }
 
 impl<const W: usize, const B: usize> Table<W, B> {
-    /// A table for no file yet, with memory for an area of so many bytes.
-    pub fn new(alloc: Global, area: u32) -> Result<Table<W, B>, AllocError>
+    /// A table for no file yet, with memory for an area of so many bytes and for so many pieces.
+    pub fn new(alloc: Global, area: u32, most: u16) -> Result<Table<W, B>, AllocError>
         requires words { W ≤ max_words }
         requires bytes { B ≤ max_bytes }
-        ensures room { IfOk result (λ table. table.room ≡ area) }
+        requires few { most ≤ max_pieces }
+        ensures room { IfOk result (λ table. table.room ≡ record { area = area; pieces = most }) }
         ensures shape { IfOk result (λ table. table.shape ≡ record { nb_frag = 0; frag_size = 0; rows = 0 }) }
     {
         Ok(Table {
@@ -77,20 +80,28 @@ impl<const W: usize, const B: usize> Table<W, B> {
             rows: 0,
             count: 0,
             gained: 0,
-            columns: Vec::with_capacity(alloc, MAX_PIECES)?,
-            spare: vec![in alloc; 0; MAX_PIECES]?,
-            known: vec![in alloc; 0; LINE_WORDS]?,
+            columns: Vec::with_capacity(alloc, most as usize)?,
+            spare: Vec::with_capacity(alloc, most as usize)?,
+            known: Vec::with_capacity(alloc, words_for(most))?,
             area: Vec::with_capacity(alloc, area as usize)?,
             room: area,
+            most,
             arena: Rows::reserve(alloc)?,
         })
     }
 
     /// How many bytes the area has room for.
     pub fn room(&self) -> usize
-        ensures { result ≡ self.now.room }
+        ensures { result ≡ self.now.room.area }
     {
         self.room as usize
+    }
+
+    /// The most pieces that a file may have.
+    pub fn most(&self) -> u16
+        ensures { result ≡ self.now.room.pieces }
+    {
+        self.most
     }
 
     /// How many pieces the file has.
@@ -132,7 +143,7 @@ impl<const W: usize, const B: usize> Table<W, B> {
     /// The bytes of the file's pieces in the area.
     pub fn content(&self) -> &[u8]
         ensures bytes { result.now ≡ take (self.now.shape.nb_frag * self.now.shape.frag_size) self.now.area }
-        ensures within { length result.now ≤ self.now.room }
+        ensures within { length result.now ≤ self.now.room.area }
     {
         &self.area[..self.nb_frag as usize * self.frag_size as usize]
     }
@@ -144,7 +155,7 @@ impl<const W: usize, const B: usize> Table<W, B> {
         ensures held { IsReduced self.now.shape.nb_frag self.now.shape.frag_size self.now.places }
         ensures room { rows_held self.now.places ≤ self.now.shape.rows }
     {
-        match self.columns[k] {
+        match self.columns[k].column() {
             Column::Free => None,
             Column::Piece => Some(chunk(&self.area, k, self.frag_size as usize)),
             Column::Row(_) => None,
@@ -171,7 +182,7 @@ impl<const W: usize, const B: usize> Table<W, B> {
     pub fn reduce(&self, line: &mut [u64], picks: &mut [u16], part: &[u8], rest: &mut [u8])
         requires words { length line.old ≡ words_for self.now.shape.nb_frag }
         requires within { line_in line.old < 2 ^ self.now.shape.nb_frag }
-        requires picks { max_pieces ≤ length picks.old }
+        requires picks { 64 * length line.old ≤ length picks.old }
         requires sized { length rest.old ≡ length part.now }
         requires piece { IsPiece self.now.shape.frag_size part.now }
         ensures left { Reduced self.now.shape.nb_frag self.now.shape.frag_size self.now.places (line_in line.old) part.now (line_in line.new) rest.new }
@@ -257,7 +268,7 @@ impl<const W: usize, const B: usize> Table<W, B> {
         ensures places { self.new.places ≡ set self.old.places k (known piece.now) }
         ensures room { SameRoom self.old self.new }
     {
-        if let Column::Row(slot) = self.columns[k] {
+        if let Column::Row(slot) = self.columns[k].column() {
             add_piece(
                 &mut self.columns,
                 self.nb_frag as usize,
@@ -283,18 +294,18 @@ impl<const W: usize, const B: usize> Table<W, B> {
 
     /// Holds nothing any more, and takes fragments of another file.
     pub fn begin(&mut self, nb_frag: u16, frag_size: u8, rows: u16)
-        requires most { nb_frag ≤ max_pieces }
+        requires most { nb_frag ≤ self.old.room.pieces }
         requires few { rows ≤ nb_frag }
-        requires area { nb_frag * frag_size ≤ self.old.room }
+        requires area { nb_frag * frag_size ≤ self.old.room.area }
         requires room { has_room W B rows nb_frag frag_size ≡ true }
         ensures shape { self.new.shape ≡ record { nb_frag = nb_frag; frag_size = frag_size; rows = rows } }
         ensures places { self.new.places ≡ replicate nb_frag free }
         ensures room { self.new.room ≡ self.old.room }
     {
-        widen(&mut self.area, nb_frag as usize * frag_size as usize);
+        widen(&mut self.area, nb_frag as usize * frag_size as usize, 0);
         free_all(&mut self.columns, nb_frag as usize);
-        count_up(&mut self.spare, rows);
-        clear_bits(&mut self.known);
+        spare_all(&mut self.spare, rows);
+        forget(&mut self.known, words_for(nb_frag));
         let _ = self.arena.shape(rows, nb_frag, frag_size);
         self.nb_frag = nb_frag;
         self.frag_size = frag_size;
@@ -304,28 +315,50 @@ impl<const W: usize, const B: usize> Table<W, B> {
     }
 }
 
-/// Has so many bytes at least; there is memory for them. New ones are zero.
-fn widen(area: &mut Vec<u8>, bytes: usize)
-    requires { bytes ≤ vec_capacity area.old }
-    ensures enough { bytes ≤ length area.new.items }
-    ensures most { (n : ℕ) → bytes ≤ n → length area.old.items ≤ n → length area.new.items ≤ n }
-    ensures capacity { vec_capacity area.old ≤ vec_capacity area.new }
+/// Has so many items at least; there is memory for them.
+pub fn widen<T: Copy>(items: &mut Vec<T>, n: usize, new: T)
+    requires { n ≤ vec_capacity items.old }
+    ensures enough { n ≤ length items.new.items }
+    ensures most { (m : ℕ) → n ≤ m → length items.old.items ≤ m → length items.new.items ≤ m }
+    ensures capacity { vec_capacity items.old ≤ vec_capacity items.new }
 {
-    if area.len() < bytes && area.resize(bytes, 0).is_err() {
+    if items.len() < n && items.resize(n, new).is_err() {
         unreachable!();
     }
 }
 
 /// Has so many columns, of which nothing is kept; there is memory for them.
-fn free_all(columns: &mut Vec<Column>, n: usize)
+fn free_all(columns: &mut Vec<PackedColumn>, n: usize)
     requires { n ≤ vec_capacity columns.old }
     ensures free { columns.new.items ≡ replicate n Column.Free }
     ensures capacity { vec_capacity columns.old ≤ vec_capacity columns.new }
 {
     columns.clear();
-    if columns.resize(n, Column::Free).is_err() {
+    if columns.resize(n, PackedColumn::new(Column::Free)).is_err() {
         unreachable!();
     }
+}
+
+/// Has so many slots, none of which is in use; there is memory for them.
+fn spare_all(spare: &mut Vec<u16>, rows: u16)
+    requires { rows ≤ vec_capacity spare.old }
+    ensures enough { rows ≤ length spare.new.items }
+    ensures each { (i : ℕ) → i < rows → get_or spare.new.items i 0 ≡ i }
+    ensures capacity { vec_capacity spare.old ≤ vec_capacity spare.new }
+{
+    widen(spare, rows as usize, 0);
+    count_up(spare, rows);
+}
+
+/// Has so many words at least, and no column in any; there is memory for them.
+fn forget(known: &mut Vec<u64>, words: usize)
+    requires { words ≤ vec_capacity known.old }
+    ensures enough { words ≤ length known.new.items }
+    ensures none { line_in known.new.items ≡ 0 }
+    ensures capacity { vec_capacity known.old ≤ vec_capacity known.new }
+{
+    widen(known, words, 0);
+    clear_bits(known);
 }
 
 /// Writes its own place to each of so many; what lies behind them is not used.

@@ -1,6 +1,6 @@
 //! Taking one fragment into a table.
 
-ghost use Rattle.std.specs.Prelude.{◌≡◌, ◌≢◌, ℕ, ◌+◌, ◌-◌, ◌^◌, ◌<◌, ◌≤◌, length, get_or, true, false, All, MatchOption};
+ghost use Rattle.std.specs.Prelude.{◌≡◌, ◌≢◌, ℕ, ◌+◌, ◌-◌, ◌*◌, ◌^◌, ◌<◌, ◌≤◌, length, get_or, true, false, All, MatchOption};
 ghost use Rattle.std.specs.Int.{bit_at};
 ghost use Rattle.frag_model.specs.Fragments.{IsPiece, line_of, xor_bytes};
 ghost use Rattle.row_arena.specs.Rows.{line_in, words_for};
@@ -28,8 +28,8 @@ pub fn take<const W: usize, const B: usize>(
     picks: &mut [u16],
     rest: &mut [u8],
 ) -> Fed
-    requires words { max_line_words ≤ length line.old }
-    requires picks { max_pieces ≤ length picks.old }
+    requires words { words_for table.old.shape.nb_frag ≤ length line.old }
+    requires picks { 64 * words_for table.old.shape.nb_frag ≤ length picks.old }
     requires most { table.old.shape.nb_frag ≤ max_pieces }
     requires bytes { length part.now ≤ length rest.old }
     requires sized { length part.now ≡ table.old.shape.frag_size }
@@ -101,7 +101,7 @@ fn take_in<const W: usize, const B: usize>(
     requires words { length line.old ≡ words_for table.old.shape.nb_frag }
     requires few { length line.old ≤ max_line_words }
     requires drawn { line_in line.old ≡ line_of table.old.shape.nb_frag n }
-    requires picks { max_pieces ≤ length picks.old }
+    requires picks { 64 * length line.old ≤ length picks.old }
     requires sized { length rest.old ≡ length part.now }
     requires piece { IsPiece table.old.shape.frag_size part.now }
     requires some { 1 ≤ table.old.shape.frag_size }

@@ -9,21 +9,26 @@ use Rattle.frag_session.specs.declared.answers.Via.TheVariants.{Unicast}
 use Rattle.frag_session.specs.declared.answers.Verdict.{Verdict}
 use Rattle.frag_session.specs.declared.answers.Verdict.TheVariants as verdict
 use Rattle.frag_session.specs.Held.{HeldSlot}
-use Rattle.frag_session.specs.Steps.{area_of}
+use Rattle.row_elimination.specs.Room.{Extent}
+use Rattle.frag_session.specs.Steps.{extent_of}
 use Rattle.frag_session.specs.Stands.{Stands}
 use Rattle.frag_session.specs.Setup.{Room, memory_room, setup_bits}
 use Rattle.frag_session.specs.Session.{Session, Seen, after_setup, after_fragment}
 
--- 16 rows of 4 words and 48 bytes, and 256 pieces of 48 bytes
+-- 256 pieces of 48 bytes
+abbrev pub extent : Extent
+extent = record { area = 12288; pieces = 256 }
+
+-- and 16 rows of 4 words and 48 bytes
 abbrev pub room : Room
-room = memory_room 64 768 12288
+room = memory_room 64 768 extent
 
 abbrev pub limits : Limits
 limits = record { sessions = 1; rows = 16; descriptor = None }
 
 -- a slot with that room stands for the session, or for none
 pub record ReceiverStands (slot : HeldSlot) (s : Option Session) : Type 0 where
-  pub area : area_of slot ≡ room.area
+  pub extent_is : extent_of slot ≡ extent
   pub stands : Stands slot s
 
 -- a setup is answered with all its refusal bits, and without one its session lives

@@ -27,7 +27,7 @@ const LIMITS: Limits = Limits {
 pub fn receiver(alloc: Global) -> Result<Receiver, Memory>
     ensures { IfOk result (λ receiver. ReceiverStands receiver None) }
 {
-    let solver = Solver::reserve(alloc, 256 * 48)?;
+    let solver = Solver::reserve_for(alloc, 256 * 48, 256)?;
     Ok(Slot::new(Idle::new(solver)))
 }
 

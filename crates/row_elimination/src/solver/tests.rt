@@ -280,6 +280,9 @@ fn room_is_needed_for_rows_and_for_pieces(rt: HostRuntime) -> Result<(), Fail> {
     assert_eq!(rt; solver.begin(4, 5, 4, 3), Err(NoRoom));
     assert_eq!(rt; solver.begin(4, 5, 4, 2), Ok(()));
     assert_eq!(rt; solver.missing(), 4);
+    let few = Solver::<2, 10>::reserve_for(alloc, 20, 5).expect(&rt, "no memory");
+    assert!(rt; few.fits(5, 1, 2));
+    assert!(rt; !few.fits(6, 1, 2));
     Ok(())
 }
 

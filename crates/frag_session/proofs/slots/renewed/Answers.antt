@@ -1,5 +1,5 @@
 use Rattle.std.proofs.Common.{◌∙◌}
-use Rattle.frag_session.specs.Steps.{area_of}
+use Rattle.frag_session.specs.Steps.{extent_of}
 use Rattle.frag_session.specs.Stands.{Stands}
 use Rattle.frag_session.proofs.slots.renewed.Goals as goal
 
@@ -7,6 +7,6 @@ pub returns-in-Ok-clause-stands : goal.returns-in-Ok-clause-stands
 unfolding Stands
 returns-in-Ok-clause-stands g c = c.in-Ok.ensures.stands
 
-pub returns-in-Ok-clause-area : goal.returns-in-Ok-clause-area
-unfolding area_of
-returns-in-Ok-clause-area g c = c.in-Ok.ensures.area ∙ c.cleared.ensures
+pub returns-in-Ok-clause-extent : goal.returns-in-Ok-clause-extent
+unfolding extent_of
+returns-in-Ok-clause-extent g c = c.in-Ok.ensures.extent ∙ c.cleared.ensures

@@ -1,4 +1,4 @@
-use Rattle.std.proofs.Common.{sym, eqb-true, ap, ◌∙◌, length, is_ok, arith}
+use Rattle.std.proofs.Common.{sym, eqb-true, ap, ◌∙◌, is_ok, arith}
 use Rattle.row_elimination.specs.Made.{no_rows, arena_of}
 use Rattle.row_elimination.proofs.Making.{pushed}
 use Rattle.row_elimination.proofs.made.make.Goals.{else-is_empty-via-then-is_empty+else-is_err, else-is_empty-via-else-is_empty}

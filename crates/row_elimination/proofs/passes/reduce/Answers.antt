@@ -30,7 +30,7 @@ take_rows-requires g c =
               taken.within,
               (
                 λ k is. c.pick-count.ensures.none k (c.requires.marks.all k (column_piece size c.args.area.now c.args.arena.now k os is)),
-                omega (arith, c.pick-count.auto.picks, c.requires.picks),
+                omega (arith, c.pick-count.auto.line, c.pick-count.auto.picks, c.requires.picks),
               ),
             ),
           ),

@@ -1,8 +1,11 @@
-use Rattle.std.proofs.Common.{◌≡◌, ◌<◌, ℕ, List, length, take, get_or, refl, sym, ◌∙◌, subst, arith}
+use Rattle.std.proofs.Common.{◌≡◌, ◌<◌, ℕ, List, length, take, get_or, refl, sym, ap, ◌∙◌, subst, arith}
 use Rattle.std.specs.Int.{bit_at}
 use Rattle.std.proofs.lemmas.List.{take_more}
 use Rattle.row_arena.specs.Sums.{after_flips}
-use Rattle.row_arena.specs.Rows.{line_in}
+use Rattle.row_arena.specs.Rows.{line_in, words_for}
+use Rattle.row_elimination.specs.declared.columns.Column.{Column}
+use Rattle.row_elimination.specs.Steps.{TakesRow}
+use Rattle.row_elimination.proofs.Packing.{read_there}
 use Rattle.row_elimination.proofs.Lines.{column_inside}
 use Rattle.row_elimination.proofs.Storing.{RowsTaken, rows_none, rows_more, rows_all}
 use Rattle.row_elimination.proofs.passes.take_rows.Goals as goal
@@ -30,11 +33,12 @@ loop-n-preserved g c =
     let q = c.args.rest.now in
     let on : bit_at l k ≡ 1 = c.list_bits-count.ensures.columns n c.loop-n-test.true in
     let lt : n < length picks = omega (arith, c.list_bits-count.ensures.few, c.loop-n-test.true) in
+    let inside : k < length os = column_inside (length os) l k c.requires.within on in
     record {
       taken =
           subst (λ (ks : List ℕ). RowsTaken size arena os l q ks (line_in c.take_row.new.line) c.take_row.new.rest) (sym (take_more picks n 0 lt))
           (rows_more size arena os l q (take n picks) k (line_in c.loop-n.line) c.loop-n.rest (line_in c.take_row.new.line) c.take_row.new.rest c.requires.stored
-          (λ e. absurd (omega (arith, on, c.requires.none k e))) c.take_row.ensures c.loop-n.invariant.taken);
+          (λ e. absurd (omega (arith, on, c.requires.none k e))) (subst (λ (o : Column). TakesRow arena o (line_in c.loop-n.line) c.loop-n.rest (line_in c.take_row.new.line) c.take_row.new.rest) (c.column.ensures.same ∙ read_there os k c.index-columns-picks.result inside c.index-columns-picks.is) c.take_row.ensures) c.loop-n.invariant.taken);
       line_sized = c.take_row.auto.line ∙ c.loop-n.invariant.line_sized;
       rest_sized = c.take_row.auto.rest ∙ c.loop-n.invariant.rest_sized;
     }
@@ -49,3 +53,19 @@ returns g c =
           rows_all (length c.args.rest.now) area c.args.arena.now c.args.columns.now l c.args.rest.now (take c.loop-n.n picks) (line_in c.loop-n.line) c.loop-n.rest y part
           (subst (λ (n : ℕ). (d : ℕ) → bit_at (after_flips l (take n picks)) d ≡ 0) all c.list_bits-count.ensures.listed) c.loop-n.invariant.taken t k;
     }
+
+pub take_row-requires : goal.take_row-requires
+take_row-requires g c =
+    let os = c.args.columns.now in
+    let k = get_or c.list_bits-count.new.picks c.loop-n.n 0 in
+    let inside : k < length os = column_inside (length os) (line_in c.args.line.now) k c.requires.within (c.list_bits-count.ensures.columns c.loop-n.n c.loop-n-test.true) in
+    let there = c.column.ensures.same ∙ read_there os k c.index-columns-picks.result inside c.index-columns-picks.is in (
+      omega arith,
+      (
+        λ slot e. c.requires.stored.rows k slot (sym there ∙ e),
+        (
+          c.loop-n.invariant.line_sized ∙ c.requires.words ∙ ap words_for (sym c.requires.stored.cols),
+          c.loop-n.invariant.rest_sized ∙ sym c.requires.stored.cell,
+        ),
+      ),
+    )

@@ -35,13 +35,13 @@ take_first-requires g c =
 pub draw-requires-clause-room : goal.draw-requires-clause-room
 draw-requires-clause-room g c =
     let nb : ℕ = c.args.table.now.shape.nb_frag in
-    let long : length (take c.width.result c.args.line.now) ≡ c.width.result = length-take-le c.width.result c.args.line.now (omega (arith, c.width.ensures.few, c.requires.words)) in
+    let long : length (take c.width.result c.args.line.now) ≡ c.width.result = length-take-le c.width.result c.args.line.now (omega (arith, c.width.ensures.value, c.requires.words)) in
     omega (arith, c.nb_frag-2.ensures, long, c.width.ensures.value, width_holds nb)
 
 pub take_in-requires : goal.take_in-requires
 take_in-requires g c =
     let t = c.args.table.now in
-    let long : length (take c.width.result c.args.line.now) ≡ c.width.result = length-take-le c.width.result c.args.line.now (omega (arith, c.width.ensures.few, c.requires.words)) in
+    let long : length (take c.width.result c.args.line.now) ≡ c.width.result = length-take-le c.width.result c.args.line.now (omega (arith, c.width.ensures.value, c.requires.words)) in
     let words : length c.draw.new.line ≡ words_for t.shape.nb_frag = c.draw.auto.line ∙ long ∙ c.width.ensures.value in (
       omega arith,
       (
@@ -51,7 +51,7 @@ take_in-requires g c =
           (
             c.draw.ensures ∙ ap (λ (m : ℕ). line_of m c.args.n) c.nb_frag-2.ensures,
             (
-              c.requires.picks,
+              omega (arith, words, c.requires.picks),
               (
                 length-take-le (length c.args.part.now) c.args.rest.now c.requires.bytes,
                 (

@@ -1,7 +1,7 @@
 use Rattle.std.proofs.Common.{◌≡◌, ◌*◌, length, sym, ap, ap₂, subst, ◌∙◌, lit≤}
 use Rattle.frag_model.specs.Fragments.{Shape}
 use Rattle.frag_session.specs.Held.{Held}
-use Rattle.frag_session.specs.Steps.{area_of}
+use Rattle.frag_session.specs.Steps.{extent_of}
 use Rattle.frag_session.specs.Stands.{Holds, IsOpen, Stands}
 use Rattle.frag_session.proofs.Standing.{receives_holds, completes_whole, complete_sized, contradicts_failed, overflows_failed}
 use Rattle.frag_session.proofs.receiving_state.Receiving.feed.Goals as goal
@@ -20,9 +20,9 @@ returns-in-Receiving-clause-stands g c = λ s k.
     let here = subst (λ (h : Held). Holds h s) (sym c.self.view_is) k in
     rw c.one_more-received.ensures.value (receives_holds _ s c.feed.new.self c.args.n c.args.part.now c.args.mark here c.requires.first (c.feed.ensures.receiving c.in-Receiving.is))
 
-pub returns-in-Receiving-clause-area : goal.returns-in-Receiving-clause-area
-unfolding area_of
-returns-in-Receiving-clause-area g c = c.feed.ensures.area ∙ ap (λ (h : Held). h.solver.area) c.self.view_is
+pub returns-in-Receiving-clause-extent : goal.returns-in-Receiving-clause-extent
+unfolding extent_of
+returns-in-Receiving-clause-extent g c = c.feed.ensures.extent ∙ ap (λ (h : Held). h.solver.extent) c.self.view_is
 
 pub returns-in-Complete-clause-stands : goal.returns-in-Complete-clause-stands
 unfolding Stands
@@ -30,9 +30,9 @@ returns-in-Complete-clause-stands g c = λ s k.
     let here = subst (λ (h : Held). Holds h s) (sym c.self.view_is) k in
     rw (c.decided.ensures, c.one_more-received.ensures.value) (completes_whole _ s c.feed.new.self c.args.n c.args.part.now c.args.mark here c.requires.first (c.feed.ensures.complete c.in-Complete.is))
 
-pub returns-in-Complete-clause-area : goal.returns-in-Complete-clause-area
-unfolding area_of
-returns-in-Complete-clause-area g c = rw c.decided.ensures (c.feed.ensures.area ∙ ap (λ (h : Held). h.solver.area) c.self.view_is)
+pub returns-in-Complete-clause-extent : goal.returns-in-Complete-clause-extent
+unfolding extent_of
+returns-in-Complete-clause-extent g c = rw c.decided.ensures (c.feed.ensures.extent ∙ ap (λ (h : Held). h.solver.extent) c.self.view_is)
 
 pub returns-in-NoRows-clause-stands : goal.returns-in-NoRows-clause-stands
 unfolding Stands
@@ -40,9 +40,9 @@ returns-in-NoRows-clause-stands g c = λ s k.
     let here = subst (λ (h : Held). Holds h s) (sym c.self.view_is) k in
     rw (c.decided-in-NoRows.ensures, c.one_more-received.ensures.value) (overflows_failed _ s c.feed.new.self c.args.n c.args.part.now c.args.mark here c.requires.first (c.feed.ensures.no_rows c.in-NoRows.is))
 
-pub returns-in-NoRows-clause-area : goal.returns-in-NoRows-clause-area
-unfolding area_of
-returns-in-NoRows-clause-area g c = rw c.decided-in-NoRows.ensures (c.feed.ensures.area ∙ ap (λ (h : Held). h.solver.area) c.self.view_is)
+pub returns-in-NoRows-clause-extent : goal.returns-in-NoRows-clause-extent
+unfolding extent_of
+returns-in-NoRows-clause-extent g c = rw c.decided-in-NoRows.ensures (c.feed.ensures.extent ∙ ap (λ (h : Held). h.solver.extent) c.self.view_is)
 
 pub returns-in-Conflict-clause-stands : goal.returns-in-Conflict-clause-stands
 unfolding Stands
@@ -50,9 +50,9 @@ returns-in-Conflict-clause-stands g c = λ s k.
     let here = subst (λ (h : Held). Holds h s) (sym c.self.view_is) k in
     rw (c.decided-in-Conflict.ensures, c.one_more-received.ensures.value) (contradicts_failed _ s c.feed.new.self c.args.n c.args.part.now c.args.mark here c.requires.first (c.feed.ensures.conflict c.in-Conflict.is))
 
-pub returns-in-Conflict-clause-area : goal.returns-in-Conflict-clause-area
-unfolding area_of
-returns-in-Conflict-clause-area g c = rw c.decided-in-Conflict.ensures (c.feed.ensures.area ∙ ap (λ (h : Held). h.solver.area) c.self.view_is)
+pub returns-in-Conflict-clause-extent : goal.returns-in-Conflict-clause-extent
+unfolding extent_of
+returns-in-Conflict-clause-extent g c = rw c.decided-in-Conflict.ensures (c.feed.ensures.extent ∙ ap (λ (h : Held). h.solver.extent) c.self.view_is)
 
 pub returns-in-Receiving-clause-two : goal.returns-in-Receiving-clause-two
 unfolding IsOpen

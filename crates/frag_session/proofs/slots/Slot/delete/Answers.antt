@@ -1,5 +1,5 @@
 use Rattle.std.proofs.Common.{is_some, ap, refl, ◌∙◌}
-use Rattle.frag_session.specs.Steps.{area_of}
+use Rattle.frag_session.specs.Steps.{extent_of}
 use Rattle.frag_session.specs.Stands.{Stands}
 use Rattle.frag_session.proofs.Calls.{lived}
 use Rattle.frag_session.proofs.slots.Slot.delete.Goals as goal
@@ -11,6 +11,6 @@ pub returns-clause-stands : goal.returns-clause-stands
 unfolding Stands
 returns-clause-stands g c = rw c.clear.ensures tt
 
-pub returns-clause-area : goal.returns-clause-area
-unfolding area_of
-returns-clause-area g c = rw c.clear.ensures refl
+pub returns-clause-extent : goal.returns-clause-extent
+unfolding extent_of
+returns-clause-extent g c = rw c.clear.ensures refl

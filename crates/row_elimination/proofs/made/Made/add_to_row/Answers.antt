@@ -1,6 +1,5 @@
-use Rattle.std.proofs.Common.{◌≡◌, ◌<◌, ◌∙◌, ◌^◌, sym, ap, subst, length, arith}
-use Rattle.row_arena.specs.Rows.{Arena, line_in, words_for, row_at, row_sum, with_row}
-use Rattle.row_elimination.specs.Made.{arena_of}
+use Rattle.std.proofs.Common.{◌<◌, ◌∙◌, sym, ap, subst, length, arith}
+use Rattle.row_arena.specs.Rows.{Arena, line_in, row_at, row_sum, with_row}
 use Rattle.row_elimination.proofs.Making.{has_made, is_made, remade}
 use Rattle.row_elimination.proofs.made.Made.add_to_row.Goals as goal
 

@@ -1,7 +1,6 @@
-use Rattle.std.proofs.Common.{◌≡◌, ◌<◌, ◌∙◌, ◌==◌, sym, ap, subst, length, arith}
+use Rattle.std.proofs.Common.{◌<◌, ◌∙◌, ◌==◌, sym, ap, subst, length, arith}
 use Rattle.std.specs.Int.{bit_at}
 use Rattle.row_arena.specs.Rows.{Arena, row_at}
-use Rattle.row_elimination.specs.Made.{arena_of}
 use Rattle.row_elimination.proofs.Making.{has_made, is_made}
 use Rattle.row_elimination.proofs.made.Made.bit.Goals as goal
 

@@ -1,6 +1,5 @@
-use Rattle.std.proofs.Common.{◌≡◌, ◌<◌, ◌∙◌, sym, ap, subst, length, arith}
+use Rattle.std.proofs.Common.{◌<◌, ◌∙◌, sym, ap, subst, length, arith}
 use Rattle.row_arena.specs.Rows.{Arena, row_at}
-use Rattle.row_elimination.specs.Made.{arena_of}
 use Rattle.row_elimination.proofs.Making.{has_made, is_made}
 use Rattle.row_elimination.proofs.made.Made.bytes.Goals as goal
 

@@ -1,6 +1,6 @@
-use Rattle.std.proofs.Common.{◌∙◌, sym, ap, length, arith}
+use Rattle.std.proofs.Common.{◌∙◌, sym, ap, length}
 use Rattle.row_arena.specs.Rows.{Arena}
-use Rattle.row_elimination.specs.Made.{arena_of, no_rows}
+use Rattle.row_elimination.specs.Made.{no_rows}
 use Rattle.row_elimination.proofs.Making.{first_made, none_made}
 use Rattle.row_elimination.proofs.made.Made.rows.Goals as goal
 

@@ -1,6 +1,4 @@
-use Rattle.std.proofs.Common.{◌≡◌, ◌<◌, length, replicate, OnOk, ap, ◌∙◌, arith}
-use Rattle.row_arena.specs.Rows.{Arena, zero_row}
-use Rattle.row_elimination.specs.Made.{arena_of}
+use Rattle.std.proofs.Common.{◌<◌, length, arith}
 use Rattle.row_elimination.proofs.Making.{remade}
 use Rattle.row_elimination.proofs.made.Made.shape.Goals as goal
 

@@ -13,9 +13,9 @@ invariant_of-self g c =
     (record {
       words_few = c.self.invariant.words_few;
       bytes_few = c.self.invariant.bytes_few;
-      columns_held = c.self.invariant.columns_held;
+      memory = c.self.invariant.memory;
+      within = c.self.invariant.within;
       area_fits = omega (arith, c.put_parts.auto.area, ap length c.deref_mut.ensures.value, c.self.invariant.area_fits);
-      room_held = c.self.invariant.room_held;
       grid = finished s.nb_frag s.frag_size s.rows s.count s.gained s.columns.items s.spare.items s.known.items s.area.items
           c.put_parts.new.area s.arena c.self.invariant.grid (c.put_parts.auto.area ∙ ap length c.deref_mut.ensures.value)
           (wrote_parts s.nb_frag s.frag_size s.arena.cell s.columns.items c.deref.result.now s.area.items c.deref_mut.result.now c.put_parts.new.area s.arena

@@ -7,7 +7,7 @@ use Rattle.row_elimination.specs.Storage.{places_in, Slots}
 use Rattle.row_elimination.specs.Steps.{IsNew, Knows}
 use Rattle.row_elimination.specs.Grid.{Grid}
 use Rattle.row_elimination.proofs.Counting.{gained-le}
-use Rattle.row_elimination.proofs.Gridding.{stored_at, file_row, piece_room, width_few, written, lead_free, learned_kind, learned}
+use Rattle.row_elimination.proofs.Gridding.{stored_at, file_row, piece_room, written, lead_free, learned_kind, learned}
 use Rattle.row_elimination.proofs.tables.Table.learn.Goals as goal
 
 pub add_piece_and_row-requires : goal.add_piece_and_row-requires
@@ -60,7 +60,7 @@ add_piece_and_row-requires g c =
 
 pub mark-requires-clause-words : goal.mark-requires-clause-words
 mark-requires-clause-words g c =
-    omega (arith, ap length c.deref_mut-3.ensures.value, c.self.invariant.grid.known_sized, width_few c.self.inside.nb_frag c.self.invariant.grid.most)
+    omega (arith, ap length c.deref_mut-3.ensures.value, c.self.invariant.grid.known_sized)
 
 pub overflow_add-self : goal.overflow_add-self
 overflow_add-self g c =
@@ -112,9 +112,9 @@ invariant_of-self g c =
     (record {
       words_few = c.self.invariant.words_few;
       bytes_few = c.self.invariant.bytes_few;
-      columns_held = c.self.invariant.columns_held;
+      memory = c.self.invariant.memory;
+      within = c.self.invariant.within;
       area_fits = omega (arith, c.add_piece_and_row.auto.area, ap length c.deref_mut-2.ensures.value, c.self.invariant.area_fits);
-      room_held = c.self.invariant.room_held;
       grid = learned nb size s.rows s.count s.gained cols (length part) c.args.k c.args.p columns now.columns s.spare.items s.known.items c.mark.new.known area now.area arena now.arena l part c.args.piece.now
           i cn sz new known_is fresh (c.add_piece_and_row.auto.columns ∙ ap length c.deref_mut.ensures.value) (c.mark.auto.known ∙ ap length c.deref_mut-3.ensures.value)
           (c.add_piece_and_row.auto.area ∙ ap length c.deref_mut-2.ensures.value) c.add_piece_and_row.ensures.shape slots told marked;

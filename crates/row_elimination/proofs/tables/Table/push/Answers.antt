@@ -23,7 +23,7 @@ add_row-requires g c =
     let more : s.count < s.rows = omega (arith, i.counted, room) in
     let new = subst (λ (g : Grid). IsNew g.shape.nb_frag g.shape.frag_size g.places c.args.p (line_in line) part) (sym c.self.view_is) c.requires.new in
     let slot : c.index-slot.result.now ≡ get_or s.spare.items s.count 0 =
-    c.index-slot.ensures ∙ get_or_default_zero s.spare.items s.count c.index-slot.result.now (omega (arith, more, i.few, i.most, i.spare_sized)) in (
+    c.index-slot.ensures ∙ get_or_default_zero s.spare.items s.count c.index-slot.result.now (omega (arith, more, i.spare_sized)) in (
       omega (arith, c.self.invariant.words_few, c.self.invariant.bytes_few),
       (
         omega (arith, i.arena_cols, ap length c.deref_mut.ensures.value, i.most, i.columns_sized),
@@ -36,7 +36,10 @@ add_row-requires g c =
               file_row s.nb_frag s.frag_size s.rows s.count s.gained s.columns.items s.spare.items s.known.items s.area.items s.arena line part i ln new.within sz,
               (
                 rw (i.arena_rows, slot) (i.slots.spare_within s.count (omega arith) more),
-                rw (c.deref_mut.ensures.value, i.arena_cols, slot) (λ d e. i.slots.spare_free s.count d (omega arith) more e),
+                (
+                  omega (arith, slot, i.slots.spare_within s.count (omega arith) more, i.few, i.most),
+                  rw (c.deref_mut.ensures.value, i.arena_cols, slot) (λ d e. i.slots.spare_free s.count d (omega arith) more e),
+                ),
               ),
             ),
           ),
@@ -73,7 +76,7 @@ invariant_of-self g c =
     let room : rows_held ps < s.rows = subst (λ (g : Grid). rows_held g.places < g.shape.rows) (sym c.self.view_is) c.requires.room in
     let more : s.count < s.rows = omega (arith, i.counted, room) in
     let slot : c.index-slot.result.now ≡ get_or s.spare.items s.count 0 =
-    c.index-slot.ensures ∙ get_or_default_zero s.spare.items s.count c.index-slot.result.now (omega (arith, more, i.few, i.most, i.spare_sized)) in
+    c.index-slot.ensures ∙ get_or_default_zero s.spare.items s.count c.index-slot.result.now (omega (arith, more, i.spare_sized)) in
     let new : IsNew nb size ps c.args.p l part = subst (λ (g : Grid). IsNew g.shape.nb_frag g.shape.frag_size g.places c.args.p l part) (sym c.self.view_is) c.requires.new in
     let os : take cols c.add_row.new.columns ≡ set (take cols columns) c.args.p (Row c.index-slot.result.now) =
     subst (λ (l : List Column). take cols c.add_row.new.columns ≡ set (take cols l) c.args.p (Row c.index-slot.result.now)) c.deref_mut.ensures.value c.add_row.ensures.columns in
@@ -84,9 +87,9 @@ invariant_of-self g c =
     (record {
       words_few = c.self.invariant.words_few;
       bytes_few = c.self.invariant.bytes_few;
-      columns_held = c.self.invariant.columns_held;
+      memory = c.self.invariant.memory;
+      within = c.self.invariant.within;
       area_fits = c.self.invariant.area_fits;
-      room_held = c.self.invariant.room_held;
       grid = pushed nb size s.rows s.count s.gained cols (length part) c.index-slot.result.now c.args.p columns c.add_row.new.columns s.spare.items s.known.items area arena c.add_row.new.arena l part
           i cn sz slot new more (c.add_row.auto.columns ∙ ap length c.deref_mut.ensures.value) c.add_row.ensures.shape os told;
     })

@@ -7,12 +7,12 @@ use Rattle.row_elimination.specs.Places.{Place, free, piece, rows_held}
 use Rattle.row_elimination.specs.Storage.{places_in}
 use Rattle.row_elimination.specs.Grid.{Grid}
 use Rattle.row_elimination.proofs.Counting.{gained-le}
-use Rattle.row_elimination.proofs.Gridding.{written, width_few, put_in}
+use Rattle.row_elimination.proofs.Gridding.{written, put_in}
 use Rattle.row_elimination.proofs.tables.Table.put.Goals as goal
 
 pub mark-requires-clause-words : goal.mark-requires-clause-words
 mark-requires-clause-words g c =
-    omega (arith, ap length c.deref_mut-3.ensures.value, c.self.invariant.grid.known_sized, width_few c.self.inside.nb_frag c.self.invariant.grid.most)
+    omega (arith, ap length c.deref_mut-3.ensures.value, c.self.invariant.grid.known_sized)
 
 pub overflow_add-self : goal.overflow_add-self
 overflow_add-self g c =
@@ -56,9 +56,9 @@ invariant_of-self g c =
     (record {
       words_few = c.self.invariant.words_few;
       bytes_few = c.self.invariant.bytes_few;
-      columns_held = c.self.invariant.columns_held;
+      memory = c.self.invariant.memory;
+      within = c.self.invariant.within;
       area_fits = omega (arith, c.add_piece.auto.area, ap length c.deref_mut-2.ensures.value, c.self.invariant.area_fits);
-      room_held = c.self.invariant.room_held;
       grid = put_in nb size c.self.inside.rows c.self.inside.count c.self.inside.gained c.args.k columns c.add_piece.new.columns c.self.inside.spare.items known c.mark.new.known
           area c.add_piece.new.area arena part c.self.invariant.grid lt sized fresh none
           (c.add_piece.auto.columns ∙ ap length c.deref_mut.ensures.value) (c.mark.auto.known ∙ ap length c.deref_mut-3.ensures.value) (c.add_piece.auto.area ∙ ap length c.deref_mut-2.ensures.value)

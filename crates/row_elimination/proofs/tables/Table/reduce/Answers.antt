@@ -3,7 +3,7 @@ use Rattle.row_arena.specs.Rows.{line_in, words_for}
 use Rattle.row_elimination.specs.Places.{Place}
 use Rattle.row_elimination.specs.Storage.{places_in}
 use Rattle.row_elimination.specs.Steps.{Reduced}
-use Rattle.row_elimination.specs.Grid.{Grid, max_line_words}
+use Rattle.row_elimination.specs.Grid.{Grid}
 use Rattle.row_elimination.proofs.Gridding.{stored, width_few}
 use Rattle.row_elimination.proofs.tables.Table.reduce.Goals as goal
 
@@ -11,9 +11,8 @@ pub slice_bounds-known-end : goal.slice_bounds-known-end
 slice_bounds-known-end g c =
     let i = c.self.invariant.grid in
     let ln : length c.args.line.now ≡ words_for c.self.inside.nb_frag = c.requires.words ∙ ap (λ (x : Grid). words_for x.shape.nb_frag) (sym c.self.view_is) in
-    let all : length c.deref-2.result.now ≡ max_line_words = ap length c.deref-2.ensures.value ∙ i.known_sized in
-    let few : words_for c.self.inside.nb_frag ≤ max_line_words = width_few c.self.inside.nb_frag i.most in
-    omega (arith, ln, all, few, length-take-le (length c.args.line.now) c.deref-2.result.now (omega (arith, ln, all, few)))
+    let all : words_for c.self.inside.nb_frag ≤ length c.deref-2.result.now = omega (arith, ap length c.deref-2.ensures.value, i.known_sized) in
+    omega (arith, ln, all, length-take-le (length c.args.line.now) c.deref-2.result.now (omega (arith, ln, all)))
 
 pub reduce-requires : goal.reduce-requires
 reduce-requires g c =
@@ -38,7 +37,7 @@ reduce-requires g c =
                 (
                   rw (c.deref.ensures.value, long) ln,
                   (
-                    rw (c.deref-2.ensures.value) (sym (length-take-le (length c.args.line.now) s.known.items (omega (arith, ln, few, i.known_sized)))),
+                    rw (c.deref-2.ensures.value) (sym (length-take-le (length c.args.line.now) s.known.items (omega (arith, ln, i.known_sized)))),
                     (
                       omega (arith, ln, few),
                       (

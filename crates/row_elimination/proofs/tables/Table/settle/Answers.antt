@@ -7,7 +7,7 @@ use Rattle.row_elimination.specs.Places.{Place, piece}
 use Rattle.row_elimination.specs.Storage.{places_in}
 use Rattle.row_elimination.specs.Steps.{Knows}
 use Rattle.row_elimination.specs.Grid.{Grid}
-use Rattle.row_elimination.proofs.Gridding.{written, width_few, column_read, settled_count, settled, settled_already}
+use Rattle.row_elimination.proofs.Gridding.{written, column_read, settled_count, settled, settled_already}
 use Rattle.row_elimination.proofs.tables.Table.settle.Goals as goal
 
 pub overflow_sub-self : goal.overflow_sub-self
@@ -22,7 +22,7 @@ overflow_sub-self g c =
     omega (
       arith,
       c.self.invariant.grid.counted,
-      settled_count shape c.self.inside.area.items c.self.inside.arena os c.args.k c.in-Row.slot c.args.piece.now known (at ∙ c.in-Row.is),
+      settled_count shape c.self.inside.area.items c.self.inside.arena os c.args.k c.in-Row.slot c.args.piece.now known (at ∙ sym c.in-Row.ensures.same),
     )
 
 pub invariant_of-self : goal.invariant_of-self
@@ -43,7 +43,7 @@ invariant_of-self g c =
     let known : Knows shape ps c.args.k part = subst (λ (g : Grid). Knows g.shape g.places c.args.k part) (sym c.self.view_is) c.requires.known in
     let at : get_or os c.args.k Free ≡ c.index.result.now =
     column_read columns nb c.args.k c.index.result.now known.inside (omega (arith, c.self.invariant.grid.most, c.self.invariant.grid.columns_sized)) c.index.ensures in
-    let is : get_or os c.args.k Free ≡ Row c.in-Row.slot = at ∙ c.in-Row.is in
+    let is : get_or os c.args.k Free ≡ Row c.in-Row.slot = at ∙ sym c.in-Row.ensures.same in
     let some : 1 ≤ count = omega (arith, c.self.invariant.grid.counted, settled_count shape area arena os c.args.k c.in-Row.slot part known is) in
     let cols : take nb c.add_piece.new.columns ≡ set os c.args.k Piece =
     subst (λ (l : List Column). take nb c.add_piece.new.columns ≡ set (take nb l) c.args.k Piece) c.deref_mut.ensures.value c.add_piece.ensures.columns in
@@ -61,9 +61,9 @@ invariant_of-self g c =
     (record {
       words_few = c.self.invariant.words_few;
       bytes_few = c.self.invariant.bytes_few;
-      columns_held = c.self.invariant.columns_held;
+      memory = c.self.invariant.memory;
+      within = c.self.invariant.within;
       area_fits = omega (arith, c.add_piece.auto.area, ap length c.deref_mut-in-Row.ensures.value, c.self.invariant.area_fits);
-      room_held = c.self.invariant.room_held;
       grid = settled nb size rows count (count - 1) c.self.inside.gained c.args.k c.in-Row.slot columns c.add_piece.new.columns spare marks c.mark.new.known area c.add_piece.new.area arena part
           c.self.invariant.grid known is (omega arith)
           (c.add_piece.auto.columns ∙ ap length c.deref_mut.ensures.value) (c.mark.auto.known ∙ ap length c.deref_mut-in-Row-2.ensures.value) (c.add_piece.auto.area ∙ ap length c.deref_mut-in-Row.ensures.value)
@@ -72,7 +72,7 @@ invariant_of-self g c =
 
 pub mark-requires-clause-words : goal.mark-requires-clause-words
 mark-requires-clause-words g c =
-    omega (arith, ap length c.deref_mut-in-Row-2.ensures.value, c.self.invariant.grid.known_sized, width_few c.self.inside.nb_frag c.self.invariant.grid.most)
+    omega (arith, ap length c.deref_mut-in-Row-2.ensures.value, c.self.invariant.grid.known_sized)
 
 pub returns-in_default-clause-places : goal.returns-in_default-clause-places
 returns-in_default-clause-places g c =
@@ -85,4 +85,21 @@ returns-in_default-clause-places g c =
     let at : get_or os c.args.k Free ≡ c.index.result.now =
     column_read columns nb c.args.k c.index.result.now known.inside (omega (arith, c.self.invariant.grid.most, c.self.invariant.grid.columns_sized)) c.index.ensures in
     subst (λ (g : Grid). g.places ≡ set g.places c.args.k (piece c.args.piece.now)) c.self.view_is
-    (settled_already shape c.self.inside.area.items c.self.inside.arena os c.args.k c.args.piece.now known (λ slot e. c.in_default.not-Row slot (sym at ∙ e)))
+    (settled_already shape c.self.inside.area.items c.self.inside.arena os c.args.k c.args.piece.now known (λ slot e. c.in_default.not-Row slot (c.column.ensures.same ∙ sym at ∙ e)))
+
+pub index_mut-requires : goal.index_mut-requires
+index_mut-requires g c =
+    let shape : Shape = record { nb_frag = c.self.inside.nb_frag; frag_size = c.self.inside.frag_size; rows = c.self.inside.rows } in
+    let columns : List Column = c.self.inside.columns.items in
+    let os : List Column = take c.self.inside.nb_frag columns in
+    let known : Knows shape (places_in c.self.inside.frag_size c.self.inside.area.items c.self.inside.arena os) c.args.k c.args.piece.now =
+    subst (λ (g : Grid). Knows g.shape g.places c.args.k c.args.piece.now) (sym c.self.view_is) c.requires.known in
+    let at : get_or os c.args.k Free ≡ c.index.result.now =
+    column_read columns c.self.inside.nb_frag c.args.k c.index.result.now known.inside (omega (arith, c.self.invariant.grid.most, c.self.invariant.grid.columns_sized)) c.index.ensures in
+    omega (
+      arith,
+      c.self.invariant.grid.counted,
+      c.self.invariant.grid.slots.few,
+      c.self.invariant.grid.spare_sized,
+      settled_count shape c.self.inside.area.items c.self.inside.arena os c.args.k c.in-Row.slot c.args.piece.now known (at ∙ sym c.in-Row.ensures.same),
+    )
