@@ -23,7 +23,7 @@ use Rattle.device_core.specs.Step.{command_step}
 use Rattle.campaign_server.specs.declared.stage.Stage.{Stage}
 use Rattle.campaign_server.specs.declared.stage.Stage.TheVariants.{At}
 use Rattle.campaign_server.specs.declared.stage.Request.TheVariants as request
-use Rattle.campaign_world.proofs.HeadlineCommands.{setup_req, IsCut, fragment_sized, fragment_good, good_read}
+use Rattle.campaign_laws.proofs.HeadlineCommands.{setup_req, IsCut, fragment_sized, fragment_good, good_read}
 use Rattle.campaign_laws.proofs.Stands.{fragment_command, behind}
 use Rattle.campaign_laws.proofs.Devices.{IsPlain, at_of, delivered_is}
 use Rattle.campaign_laws.proofs.Sessions.{cut, IsOurs, complete_is_image}

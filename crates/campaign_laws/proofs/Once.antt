@@ -29,13 +29,13 @@ use Rattle.campaign_world.specs.declared.numbered.SentPayload.{SentPayload}
 use Rattle.campaign_world.specs.declared.numbered.MadeUplink.{MadeUplink}
 use Rattle.campaign_world.specs.World.{WorldState, first_world}
 use Rattle.campaign_world.specs.Causes.{may_come, cause_of_form, form_cause}
-use Rattle.campaign_world.specs.Ledger.{Runs}
+use Rattle.campaign_laws.specs.Ledger.{Runs}
 use Rattle.campaign_world.specs.Making.{with_sent, made_by, with_device, after_wake, after_migrate, after_down, raw_down, after_raw, after_answer, after_up, at_events, after_form}
 use Rattle.campaign_world.specs.Script.{one_line_more, after_form_of, after_line, read_lines}
-use Rattle.campaign_world.proofs.LineItems.{numbered_more, numbered_there}
-use Rattle.campaign_world.proofs.HeadlineForms.{passes}
-use Rattle.campaign_world.proofs.Independence.{read_first, line_fine}
-use Rattle.campaign_world.proofs.Ledger.{MadeTruly, uplinks_are_true}
+use Rattle.campaign_server.proofs.LineItems.{numbered_more, numbered_there}
+use Rattle.campaign_laws.proofs.HeadlineForms.{passes}
+use Rattle.campaign_laws.proofs.Independence.{read_first, line_fine}
+use Rattle.campaign_laws.proofs.Ledger.{MadeTruly, uplinks_are_true}
 use Rattle.campaign_laws.specs.Once.{rank, MovesOnce}
 use Rattle.campaign_laws.proofs.Stands.{put_cases}
 use Rattle.campaign_laws.proofs.Ranks.{ranks_up, moves_once}

@@ -42,10 +42,10 @@ use Rattle.campaign_world.specs.Causes.{may_come}
 use Rattle.campaign_world.specs.Making.{device_of, after_form}
 use Rattle.campaign_world.specs.Script.{one_line_more, read_lines, end_result, campaign_of}
 use Rattle.campaign_world.specs.Summary.{has_file, is_updated, with_device, totals_from, nothing_counted}
-use Rattle.campaign_world.specs.Headline.{IsFragmentOf}
-use Rattle.campaign_world.proofs.HeadlineImage.{behind}
+use Rattle.campaign_laws.specs.Headline.{IsFragmentOf}
+use Rattle.campaign_laws.proofs.HeadlineImage.{behind}
 use Rattle.campaign_world.proofs.FormCauses.{none as no_cause}
-use Rattle.campaign_world.proofs.LineItems.{numbered_more, within}
+use Rattle.campaign_server.proofs.LineItems.{numbered_more, within}
 use Rattle.campaign_laws.specs.Accepted.{AllSeedsHaveCampaigns}
 use Rattle.campaign_laws.proofs.Plays.{To, Plays, none, one, both, lines_read}
 use Rattle.campaign_laws.proofs.Stands.{Stand, IsOne, IsPlan, Takes, takes_first_event, stand_within, numbered_last}

@@ -15,11 +15,11 @@ use Rattle.frag_encoder.proofs.Blocks.{block_shaped}
 use Rattle.frag_session.specs.declared.answers.Verdict.TheVariants as shown
 use Rattle.frag_session.specs.Session.{Session, seen_of, shape_of, shown_verdict}
 use Rattle.frag_session.proofs.FirstMoments.{decided_at_first}
-use Rattle.campaign_world.specs.Headline.{IsFragmentOf, IsRecovered}
-use Rattle.campaign_world.proofs.HeadlineCommands.{Cut}
-use Rattle.campaign_world.proofs.HeadlineEnds.{IsSetFor}
-use Rattle.campaign_world.proofs.HeadlineImage.{IsShapeFor, behind}
-use Rattle.campaign_world.proofs.HeadlineLaw.{shape_for, recovered_by}
+use Rattle.campaign_laws.specs.Headline.{IsFragmentOf, IsRecovered}
+use Rattle.campaign_laws.proofs.HeadlineCommands.{Cut}
+use Rattle.campaign_laws.proofs.HeadlineEnds.{IsSetFor}
+use Rattle.campaign_laws.proofs.HeadlineImage.{IsShapeFor, behind}
+use Rattle.campaign_laws.proofs.HeadlineLaw.{shape_for, recovered_by}
 
 -- how a seed's image is cut
 abbrev pub cut : Cut

@@ -34,7 +34,7 @@ use Rattle.campaign_world.specs.World.{WorldState}
 use Rattle.campaign_world.specs.Causes.{may_come, is_device, may_reach}
 use Rattle.campaign_world.specs.Making.{made_by, with_device, after_form}
 use Rattle.campaign_world.proofs.FormCauses.{none as no_cause}
-use Rattle.campaign_world.proofs.LineItems.{numbered_more, numbered_put, numbered_there}
+use Rattle.campaign_server.proofs.LineItems.{numbered_more, numbered_put, numbered_there}
 use Rattle.campaign_laws.proofs.Plays.{To, one, both, weaker}
 
 -- ---- lists

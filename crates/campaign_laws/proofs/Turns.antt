@@ -23,7 +23,7 @@ use Rattle.campaign_server.specs.declared.stage.Request.TheVariants as request
 use Rattle.campaign_server.specs.Plan.{Plan}
 use Rattle.campaign_server.specs.Asking.{request_at}
 use Rattle.campaign_server.specs.Answers.{stage_after}
-use Rattle.campaign_world.proofs.HeadlineCommands.{setup_req, setup_request, setup_good, status_good, good_read}
+use Rattle.campaign_laws.proofs.HeadlineCommands.{setup_req, setup_request, setup_good, status_good, good_read}
 use Rattle.campaign_laws.proofs.Stands.{IsPlan, TakesTurn}
 use Rattle.campaign_laws.proofs.Rounds.{TakesTurns}
 use Rattle.campaign_laws.proofs.Devices.{IsPlain, at_of, holding, still_due, takes_turn, version_asked, version_told, setup_told, status_told, image_asked, image_told, reboot_asked, reboot_told}

@@ -37,9 +37,9 @@ use Rattle.campaign_world.specs.Honest.{is_raw, has_raw, AreHonest}
 use Rattle.campaign_world.specs.Causes.{is_event_or_end, may_come, may_reach, cause_of_form, form_cause}
 use Rattle.campaign_world.specs.Making.{with_plan, with_sent, with_device, after_wake, after_migrate, after_answer, after_up, at_events, device_of, after_form}
 use Rattle.campaign_world.specs.Script.{after_form_of, after_line, read_lines}
-use Rattle.campaign_world.proofs.LineItems.{numbered_push}
-use Rattle.campaign_world.proofs.HeadlineForms.{passes}
-use Rattle.campaign_world.proofs.Independence.{read_first, line_fine, is_there, payload_there}
+use Rattle.campaign_server.proofs.LineItems.{numbered_push}
+use Rattle.campaign_laws.proofs.HeadlineForms.{passes}
+use Rattle.campaign_laws.proofs.Independence.{read_first, line_fine, is_there, payload_there}
 use Rattle.campaign_laws.specs.Once.{rank}
 use Rattle.campaign_laws.proofs.Stands.{put_cases}
 use Rattle.campaign_laws.proofs.Ranks.{ranks_up}

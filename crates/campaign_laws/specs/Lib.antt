@@ -1,2 +1,9 @@
+pub mod Headline
+pub mod Lives
+pub mod WorkedCampaigns
+pub mod Independence
+pub mod Verdicts
+pub mod Ledger
+pub mod Recovers
 pub mod Accepted
 pub mod Once

@@ -2,3 +2,4 @@ pub mod Wrapping
 pub mod WorkedSteps
 pub mod Plans
 pub mod Times
+pub mod LineItems

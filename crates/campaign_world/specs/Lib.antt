@@ -10,9 +10,3 @@ pub mod HeldWorld
 pub mod HeardWorld
 pub mod WorldInside
 pub mod Texts
-pub mod Headline
-pub mod Lives
-pub mod WorkedCampaigns
-pub mod Independence
-pub mod Verdicts
-pub mod Ledger

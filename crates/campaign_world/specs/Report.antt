@@ -5,7 +5,7 @@ use Rattle.std.specs.Str.{bytes_eq}
 use Rattle.frag_encoder.specs.Encoding.{nb_frag_of, padding_of}
 use Rattle.frag_session.specs.declared.answers.Verdict.{Verdict}
 use Rattle.frag_session.specs.declared.answers.Verdict.TheVariants as verdict
-use Rattle.frag_session.specs.Session.{Seen, view_of}
+use Rattle.frag_session.specs.Session.{Session, Seen, seen_of, view_of}
 use Rattle.image_slots.specs.declared.view.ImageState.{ImageState}
 use Rattle.image_slots.specs.declared.view.ImageState.TheVariants as image
 use Rattle.device_core.specs.declared.counts.Counts.{Counts}
@@ -100,6 +100,10 @@ abbrev pub session_line : (image : List ℕ) → (index : ℕ) → Option Seen �
 session_line image index None = []
 session_line image index (Some seen) =
     session_text index seen.received seen.missing (verdict_text seen.verdict (same_word (bytes_eq seen.file image)))
+
+-- the line of a session, with these words as its verdict
+abbrev pub saying : (index : ℕ) → Session → List ℕ → List ℕ
+saying index s words = session_text index (seen_of s).received (seen_of s).missing words
 
 -- the text of each session, by its index
 abbrev pub text_of_each : (ℕ → Option Seen → List ℕ) → SessionTable → List ℕ

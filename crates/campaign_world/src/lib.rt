@@ -15,7 +15,6 @@ mod causes;
 mod deliveries;
 mod faults;
 mod hearing;
-mod laws;
 mod numbered;
 mod recovery;
 mod report;
@@ -27,10 +26,6 @@ mod world;
 
 pub use deliveries::throw_away;
 pub use faults::{LineError, LineFault, LineWhy};
-pub use laws::{
-    a_script_has_its_devices, devices_are_independent, headline, recovers_the_image,
-    sessions_are_decided_at_first, sessions_live, the_ledger_is_true, worked_campaigns,
-};
 pub use recovery::NoFile;
 pub use report::{counts_line, session_text, sessions_text, verdict_text};
 pub use world::{MAX_LINE, MAX_LINES, World};

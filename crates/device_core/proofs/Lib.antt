@@ -4,3 +4,6 @@ pub mod WorkedSteps
 pub mod Sending
 pub mod Heard
 pub mod Acting
+pub mod Stays
+pub mod SessionSteps
+pub mod HeardSessions

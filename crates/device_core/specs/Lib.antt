@@ -15,3 +15,4 @@ pub mod HeldSessions
 pub mod HeldDevice
 pub mod OutboxInside
 pub mod DeviceInside
+pub mod Events

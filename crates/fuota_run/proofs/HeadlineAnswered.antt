@@ -7,7 +7,7 @@ use Rattle.campaign_world.specs.Honest.{IsHonest}
 use Rattle.campaign_world.specs.Report.{report_of}
 use Rattle.campaign_world.specs.declared.recovery.NoFile.{NoFile}
 use Rattle.campaign_world.specs.Recovery.{recovery}
-use Rattle.campaign_world.proofs.HeadlineLaw.{recovers}
+use Rattle.campaign_laws.proofs.HeadlineLaw.{recovers}
 use Rattle.campaign_laws.proofs.Seeds.{generated}
 use Rattle.fuota_run.specs.declared.status.Status.TheVariants as status
 use Rattle.fuota_run.specs.Outside.{Held}

@@ -2,8 +2,8 @@
 use Rattle.std.proofs.Common.{◌≡◌, ℕ, List, Option, Some, None, IfSome, ap, ◌∙◌, subst}
 use Rattle.std.specs.Io.KnownBytes.{Appends}
 use Rattle.campaign_world.specs.Report.{report_of}
-use Rattle.campaign_world.proofs.HeadlineLaw.{headline}
-use Rattle.campaign_world.proofs.Verdicts.{verdicts}
+use Rattle.campaign_laws.proofs.HeadlineLaw.{headline}
+use Rattle.campaign_laws.proofs.Verdicts.{verdicts}
 use Rattle.fuota_run.specs.declared.status.Status.{Status}
 use Rattle.fuota_run.specs.declared.status.Status.TheVariants as status
 use Rattle.fuota_run.specs.Outside.{Held}

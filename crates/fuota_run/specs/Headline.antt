@@ -6,8 +6,9 @@ use Rattle.campaign_world.specs.World.{WorldState}
 use Rattle.campaign_world.specs.Script.{campaign_of}
 use Rattle.campaign_world.specs.Honest.{IsHonest}
 use Rattle.campaign_world.specs.Report.{report_of}
-use Rattle.campaign_world.specs.Headline.{IsOfItsLine, HasNoOther, IsServed, HearsBrought, IsRecovered, IsReported, IsCampaign}
-use Rattle.campaign_world.specs.Verdicts.{CameInTurn, Carries, IsToldOf, IsSessionOf}
+use Rattle.campaign_laws.specs.Headline.{IsOfItsLine, HasNoOther, IsServed, HearsBrought, IsRecovered, IsReported, IsCampaign}
+use Rattle.device_core.specs.Events.{CameInTurn}
+use Rattle.campaign_laws.specs.Verdicts.{Carries, IsToldOf, IsSessionOf}
 use Rattle.campaign_laws.specs.Accepted.{IsCampaignOf}
 use Rattle.campaign_server.specs.declared.stage.Stage.{Stage}
 use Rattle.campaign_server.specs.Server.{numbered}

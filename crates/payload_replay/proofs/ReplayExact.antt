@@ -31,7 +31,7 @@ use Rattle.device_core.specs.Step.{command_step, step, after_commands, weights}
 use Rattle.device_core.specs.Deliver.{Outcome, message_delivery, read_delivery, heard_delivery, delivery}
 use Rattle.campaign_world.specs.declared.faults.LineWhy.{LineWhy}
 use Rattle.campaign_world.specs.declared.faults.LineFault.{LineFault}
-use Rattle.campaign_world.proofs.HeardSessions.{OfEach}
+use Rattle.device_core.proofs.HeardSessions.{OfEach}
 use Rattle.payload_replay.specs.PayloadLines.{payload_of, BehindLine, TakesLines}
 use Rattle.payload_replay.specs.Replay.{replay_device, captured, after_payload, Hears}
 use Rattle.payload_replay.specs.Carried.{CarriedCommand, carried, carried_by, carried_in, carried_after, after_command, session_behind}

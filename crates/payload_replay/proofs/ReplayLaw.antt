@@ -17,11 +17,12 @@ use Rattle.campaign_world.specs.Report.{verdict_text, session_text}
 use Rattle.payload_replay.specs.Replay.{header_rows, replay_device, ReachesBehind, Reaches, file_line, told_session}
 use Rattle.payload_replay.specs.Carried.{CarriedCommand, carried_after, session_behind}
 use Rattle.frag_session.specs.FirstMoment.{MakesFile, IsDecidedAtFirst}
-use Rattle.campaign_world.specs.Verdicts.{CameInTurn, saying}
+use Rattle.device_core.specs.Events.{CameInTurn}
+use Rattle.campaign_world.specs.Report.{saying}
 use Rattle.payload_replay.specs.ReplayHeadline.{IsReplayed, Carries, IsFileOf, IsSince, IsToldOf, ReplayHeadline}
 use Rattle.frag_session.proofs.FirstMoments.{decided_at_first}
-use Rattle.campaign_world.proofs.LineItems.{within}
-use Rattle.campaign_world.proofs.HeardSessions.{IsFine, of_one}
+use Rattle.campaign_server.proofs.LineItems.{within}
+use Rattle.device_core.proofs.HeardSessions.{IsFine, of_one}
 use Rattle.payload_replay.proofs.ReplaySessions.{reaches_fine}
 use Rattle.payload_replay.proofs.ReplayExact.{replay_holds}
 use Rattle.payload_replay.proofs.ReplayAll.{all_heard}

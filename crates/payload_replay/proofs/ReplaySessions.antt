@@ -8,8 +8,8 @@ use Rattle.campaign_world.specs.declared.faults.LineFault.{LineFault}
 use Rattle.payload_replay.specs.PayloadLines.{payload_of, BehindLine, TakesLines}
 use Rattle.payload_replay.specs.Replay.{header_rows, replay_device, captured, after_payload, Hears, ReachesBehind, Reaches}
 use Rattle.payload_replay.specs.ReplayHeadline.{Carries}
-use Rattle.campaign_world.proofs.HeardSessions.{AreFine, AreCarried, delivery_fine}
-use Rattle.campaign_world.proofs.LineItems.{numbered_next}
+use Rattle.device_core.proofs.HeardSessions.{AreFine, AreCarried, delivery_fine}
+use Rattle.campaign_server.proofs.LineItems.{numbered_next}
 
 -- ---- a payload
 

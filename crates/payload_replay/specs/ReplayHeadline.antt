@@ -17,7 +17,8 @@ use Rattle.script_lines.specs.Lines.{lines_of}
 use Rattle.campaign_server.specs.Server.{numbered}
 use Rattle.device_core.specs.SessionTable.{session_at}
 use Rattle.device_core.specs.Device.{DeviceState}
-use Rattle.campaign_world.specs.Verdicts.{CameInTurn, saying}
+use Rattle.device_core.specs.Events.{CameInTurn}
+use Rattle.campaign_world.specs.Report.{saying}
 use Rattle.payload_replay.specs.PayloadLines.{payload_of}
 use Rattle.payload_replay.specs.Replay.{header_rows, replay_device, Reaches, told_session}
 use Rattle.payload_replay.specs.Carried.{CarriedCommand, carried, carried_after, session_behind, leaves}

@@ -1,0 +1,265 @@
+-- An accepted script has its devices, with a stage for each.
+use Rattle.std.proofs.Common.{◌≡◌, inl, inr, ℕ, ◌+◌, ◌-◌, ◌≤◌, Bool, true, false, cond, List, [], ◌∷◌, ◌++◌, length, replicate, Option, None, Some, Result, Ok, Err, IfOk, is_ok, is_some, refl, sym, ap, ◌∙◌, subst, arith}
+use Rattle.std.specs.Result.{result_ok}
+use Rattle.std.proofs.lemmas.List.{length-set, length_push, length-replicate}
+use Rattle.wire_base.specs.declared.refusal.Direction.TheVariants.{Up as Upwards}
+use Rattle.package_grammar.specs.declared.command.Command.{Command}
+use Rattle.package_grammar.specs.Reading.{Reading, reading_of}
+use Rattle.device_core.specs.Device.{DeviceState}
+use Rattle.device_core.specs.Deliver.{delivery, waking}
+use Rattle.device_core.specs.Firmware.{after_migration}
+use Rattle.campaign_server.specs.declared.stage.Stage.{Stage}
+use Rattle.campaign_server.specs.declared.stage.Stage.TheVariants.{At as AtRequest}
+use Rattle.campaign_server.specs.declared.stage.Request.TheVariants.{Version}
+use Rattle.campaign_server.specs.Plan.{Plan}
+use Rattle.package_grammar.specs.declared.downlink.Downlink.{Downlink}
+use Rattle.campaign_server.specs.Server.{ServerState, DownlinkCommand, numbered, ledger}
+use Rattle.campaign_server.specs.Asking.{request_of}
+use Rattle.campaign_server.specs.Fragments.{after_count, next_fragment, after_fragment as server_after_fragment, status_to_all, after_status_to_all}
+use Rattle.campaign_server.specs.Uplinks.{with_answers, read_uplink, uplink_step}
+use Rattle.script_lines.specs.declared.forms.Form.{Form}
+use Rattle.script_lines.specs.declared.forms.Form.TheVariants.{Header, Image, Group, WindowC, WindowB, Device, At, Wake, Migrate, Ask, Frag, Status, Down, Raw, Up, End}
+use Rattle.script_lines.specs.Lines.{lines_of}
+use Rattle.script_lines.specs.Forms.{form_of}
+use Rattle.campaign_world.specs.declared.section.Section.{Section}
+use Rattle.campaign_world.specs.declared.section.Section.TheVariants as section
+use Rattle.campaign_world.specs.declared.faults.LineWhy.{LineWhy}
+use Rattle.campaign_world.specs.declared.faults.LineFault.{LineFault}
+use Rattle.campaign_world.specs.declared.numbered.SentPayload.{SentPayload}
+use Rattle.campaign_world.specs.declared.numbered.MadeUplink.{MadeUplink}
+use Rattle.campaign_world.specs.World.{WorldState, first_world}
+use Rattle.campaign_world.specs.Causes.{is_event_or_end, may_come, form_cause, cause_of_form, cause_of}
+use Rattle.campaign_world.specs.Making.{with_sent, with_device, after_wake, after_migrate, after_down, raw_down, after_raw, after_answer, after_up, at_events, after_form}
+use Rattle.campaign_world.specs.Script.{after_form_of, after_line, line_result, read_line, read_lines, campaign_of}
+use Rattle.campaign_laws.specs.Lives.{HasItsDevices}
+use Rattle.campaign_world.proofs.FormCauses.{event_at, passes}
+use Rattle.campaign_laws.proofs.HeadlineLines.{cause_by, end_is}
+use Rattle.campaign_laws.proofs.HeadlineLives.{ended}
+
+-- where events may come there are devices
+abbrev SomeIn : Section → ℕ → Type 0
+SomeIn section.Devices n = 1 ≤ n
+SomeIn section.Events n = 1 ≤ n
+SomeIn section.Ended n = 1 ≤ n
+SomeIn here n = Unit {0}
+
+-- a stage for each device, and each is planned
+record IsEven (server : ServerState) (devices : List DeviceState) : Type 0 where
+  stages : length server.stages ≡ length devices
+  planned : length server.plan.devices ≡ length devices
+
+record IsCounted (w : WorldState) : Type 0 where
+  some : SomeIn w.section (length w.devices)
+  even : IsEven w.server w.devices
+
+-- ---- an event
+
+-- the devices are as many, and there is a stage for each
+record IsAsMany (w v : WorldState) : Type 0 where
+  devices : length v.devices ≡ length w.devices
+  stages : length v.server.stages ≡ length w.server.stages
+  planned : length v.server.plan.devices ≡ length w.server.plan.devices
+
+as_many : (w v : WorldState) → IsEven w.server w.devices → IsAsMany w v → IsEven v.server v.devices
+as_many w v k m = record {
+  stages = m.stages ∙ k.stages ∙ sym m.devices;
+  planned = m.planned ∙ k.planned ∙ sym m.devices;
+}
+
+sent_many : (w : WorldState) (server : ServerState) (to : Option ℕ) (down : Option DownlinkCommand)
+    → length server.stages ≡ length w.server.stages → length server.plan.devices ≡ length w.server.plan.devices
+    → IsAsMany w (with_sent (record w { server = server }) to down)
+sent_many w server to None stages planned = record { devices = refl; stages = stages; planned = planned }
+sent_many w server to (Some down) stages planned = record { devices = refl; stages = stages; planned = planned }
+
+device_many : (w : WorldState) (n : ℕ) (d : DeviceState) → IsAsMany w (with_device w n d)
+unfolding with_device
+device_many w n d = record { devices = length-set w.devices (n - 1) _; stages = refl; planned = refl }
+
+woken_many : (w : WorldState) (n : ℕ) (o : Option DeviceState) → IsAsMany w (after_wake w n o)
+woken_many w n None = record { devices = refl; stages = refl; planned = refl }
+woken_many w n (Some d) = device_many w n (waking w.time d).device
+
+migrated_many : (w : WorldState) (n : ℕ) (o : Option DeviceState) → IsAsMany w (after_migrate w n o)
+migrated_many w n None = record { devices = refl; stages = refl; planned = refl }
+migrated_many w n (Some d) = device_many w n (after_migration d)
+
+reached_many : (w : WorldState) (n word : ℕ) (o : Option DeviceState) (p : Option SentPayload)
+    → IsAsMany w (after_down w n word o p)
+reached_many w n word (Some d) (Some p) = device_many w n (delivery w.time word (w.lines + 1) p.down d).device
+reached_many w n word (Some d) None = record { devices = refl; stages = refl; planned = refl }
+reached_many w n word None p = record { devices = refl; stages = refl; planned = refl }
+
+struck_many : (w : WorldState) (n word : ℕ) (down : Downlink) (o : Option DeviceState)
+    → IsAsMany w (after_raw w n word down o)
+struck_many w n word down None = record { devices = refl; stages = refl; planned = refl }
+struck_many w n word down (Some d) = device_many w n (delivery w.time word (w.lines + 1) down d).device
+
+fragment_by : (s : ServerState) (b : Bool) → (length (cond b (after_count (record s { next = s.next + 1 })) s).stages
+    ≡ length s.stages) × (length (cond b (after_count (record s { next = s.next + 1 })) s).plan.devices
+    ≡ length s.plan.devices)
+fragment_by s true = (refl, refl)
+fragment_by s false = (refl, refl)
+
+fragment_same : (s : ServerState) → (length (server_after_fragment s).stages ≡ length s.stages)
+    × (length (server_after_fragment s).plan.devices ≡ length s.plan.devices)
+unfolding server_after_fragment
+fragment_same s = fragment_by s (is_ok (next_fragment s))
+
+status_by : (s : ServerState) (b : Bool) → (length (cond b (after_count s) s).stages ≡ length s.stages)
+    × (length (cond b (after_count s) s).plan.devices ≡ length s.plan.devices)
+status_by s true = (refl, refl)
+status_by s false = (refl, refl)
+
+status_same : (s : ServerState) → (length (after_status_to_all s).stages ≡ length s.stages)
+    × (length (after_status_to_all s).plan.devices ≡ length s.plan.devices)
+unfolding after_status_to_all
+status_same s = status_by s (is_some (status_to_all s))
+
+moved_many : (s : ServerState) (dev : ℕ) (cs : List Command) (o : Option Stage)
+    → (length (with_answers s dev cs o).stages ≡ length s.stages)
+    × (length (with_answers s dev cs o).plan.devices ≡ length s.plan.devices)
+moved_many s dev cs None = (refl, refl)
+moved_many s dev cs (Some stage) = (length-set s.stages (dev - 1) _, refl)
+
+read_many : (w : WorldState) (dev t : ℕ) (r : Reading) → IsAsMany w (after_answer w dev (read_uplink w.server dev t r))
+unfolding read_uplink
+read_many w dev t (Ok cs) =
+    let m = moved_many w.server dev cs (ledger w.server dev) in
+    sent_many w (with_answers w.server dev cs (ledger w.server dev)) (Some dev) _ m.0 m.1
+read_many w dev t (Err refusal) = record { devices = refl; stages = refl; planned = refl }
+
+up_many : (w : WorldState) (o : Option MadeUplink) → IsAsMany w (after_up w o)
+unfolding uplink_step
+up_many w None = record { devices = refl; stages = refl; planned = refl }
+up_many w (Some made) =
+    read_many w made.device w.time (reading_of made.uplink.port Upwards made.uplink.payload)
+
+-- ---- a form
+
+-- an event comes where there are devices
+some_there : (w : WorldState) (form : Form) → is_event_or_end form ≡ true → may_come w.section form ≡ true
+    → SomeIn w.section (length w.devices) → 1 ≤ length w.devices
+some_there w form event may k = elim (event_at w.section form event may) [
+  | inl is ↦ subst (λ (s : Section). SomeIn s (length w.devices)) is k
+  | inr is ↦ subst (λ (s : Section). SomeIn s (length w.devices)) is k
+]
+
+event_counted : (w v : WorldState) (form : Form) → is_event_or_end form ≡ true → may_come w.section form ≡ true
+    → IsCounted w → IsAsMany w v → IsCounted (at_events v)
+event_counted w v form event may k m = record {
+  some = subst (λ (n : ℕ). 1 ≤ n) (sym m.devices) (some_there w form event may k.some);
+  even = record { stages = (as_many w v k.even m).stages; planned = (as_many w v k.even m).planned };
+}
+
+-- a plan in which as many devices are planned as there are
+planned_even : (plan : Plan) (n : ℕ) → length plan.devices ≡ n
+    → length (replicate (length plan.devices) (AtRequest Version)) ≡ n
+planned_even plan n is = length-replicate (length plan.devices) (AtRequest Version) ∙ is
+
+form_counted : (w : WorldState) (form : Form) → form_cause w form ≡ None → IsCounted w → IsCounted (after_form w form)
+unfolding after_form
+form_counted w Header fine k = record { some = tt; even = k.even }
+form_counted w (Image frag_size parity) fine k = record {
+  some = tt;
+  even = record { stages = planned_even w.server.plan _ k.even.planned; planned = k.even.planned };
+}
+form_counted w (Group addr key min max) fine k = record {
+  some = tt;
+  even = record { stages = planned_even w.server.plan _ k.even.planned; planned = k.even.planned };
+}
+form_counted w (WindowC start timeout freq dr) fine k = record {
+  some = tt;
+  even = record { stages = planned_even w.server.plan _ k.even.planned; planned = k.even.planned };
+}
+form_counted w (WindowB start periodicity timeout freq dr) fine k = record {
+  some = tt;
+  even = record { stages = planned_even w.server.plan _ k.even.planned; planned = k.even.planned };
+}
+form_counted w (Device id class hw rows offset key descriptor v1) fine k =
+    let more = length_push w.devices _ in
+    let planned : length (w.server.plan.devices ++ record { key = key } ∷ []) ≡ _ =
+    length_push w.server.plan.devices (record { key = key }) ∙ ap (λ (n : ℕ). n + 1) k.even.planned ∙ sym more in
+    record {
+      some = omega (arith, more);
+      even = record {
+        stages = length-replicate (length (w.server.plan.devices ++ record { key = key } ∷ [])) (AtRequest Version)
+            ∙ planned;
+        planned = planned;
+      };
+    }
+form_counted w (At time) fine k =
+    event_counted w (record w { time = time }) (At time) refl (passes w (At time) fine).comes k
+    (record { devices = refl; stages = refl; planned = refl })
+form_counted w (Wake device) fine k =
+    event_counted w (after_wake w device (numbered w.devices device)) (Wake device) refl (passes w (Wake device) fine).comes
+    k (woken_many w device (numbered w.devices device))
+form_counted w (Migrate device) fine k =
+    event_counted w (after_migrate w device (numbered w.devices device)) (Migrate device) refl
+    (passes w (Migrate device) fine).comes k (migrated_many w device (numbered w.devices device))
+form_counted w (Ask device) fine k =
+    event_counted w (with_sent w (Some device) (request_of w.server device)) (Ask device) refl
+    (passes w (Ask device) fine).comes k (sent_many w w.server (Some device) (request_of w.server device) refl refl)
+form_counted w Frag fine k =
+    let same = fragment_same w.server in
+    event_counted w (with_sent (record w { server = server_after_fragment w.server }) None
+    (result_ok (next_fragment w.server))) Frag refl (passes w Frag fine).comes k
+    (sent_many w (server_after_fragment w.server) None (result_ok (next_fragment w.server)) same.0 same.1)
+form_counted w Status fine k =
+    let same = status_same w.server in
+    event_counted w (with_sent (record w { server = after_status_to_all w.server }) None (status_to_all w.server)) Status
+    refl (passes w Status fine).comes k
+    (sent_many w (after_status_to_all w.server) None (status_to_all w.server) same.0 same.1)
+form_counted w (Down number device word) fine k =
+    event_counted w (after_down w device word (numbered w.devices device) (numbered w.sent number))
+    (Down number device word) refl (passes w (Down number device word) fine).comes k
+    (reached_many w device word (numbered w.devices device) (numbered w.sent number))
+form_counted w (Raw device port payload word) fine k =
+    event_counted w (after_raw w device word (raw_down port payload) (numbered w.devices device))
+    (Raw device port payload word) refl (passes w (Raw device port payload word) fine).comes k
+    (struck_many w device word (raw_down port payload) (numbered w.devices device))
+form_counted w (Up number) fine k =
+    event_counted w (after_up w (numbered w.uplinks number)) (Up number) refl (passes w (Up number) fine).comes k
+    (up_many w (numbered w.uplinks number))
+form_counted w End fine k =
+    record { some = some_there w End refl (passes w End fine).comes k.some; even = k.even }
+
+-- ---- a script
+
+forms_counted : (w : WorldState) (form : Option Form) → cause_of_form w form ≡ None → IsCounted w
+    → IsCounted (after_form_of w form)
+forms_counted w None fine k = absurd cc
+forms_counted w (Some form) fine k =
+    let after = form_counted w form fine k in
+    record { some = after.some; even = record { stages = after.even.stages; planned = after.even.planned } }
+
+line_counted : (w : WorldState) (line : List ℕ) (cause : Option LineWhy) → cause_of w line ≡ cause → IsCounted w
+    → IfOk (line_result w line cause) IsCounted
+unfolding cause_of after_line
+line_counted w line (Some why) is k = tt
+line_counted w line None is k = forms_counted w (form_of line) (cause_by _ _ _ is) k
+
+all_counted : (r : Result WorldState LineFault) (lines : List (List ℕ)) → IfOk r IsCounted
+    → IfOk (read_lines r lines) IsCounted
+unfolding read_lines read_line
+all_counted (Err fault) lines k = tt
+all_counted (Ok w) [] k = k
+all_counted (Ok w) (line ∷ lines) k = all_counted (read_line w line) lines (line_counted w line (cause_of w line) refl k)
+
+counted : (image script : List ℕ) (world : WorldState) → campaign_of image script ≡ Ok world → IsCounted world
+unfolding campaign_of
+counted image script world is =
+    subst (λ (r : Result WorldState LineFault). IfOk r IsCounted)
+    (end_is (read_lines (Ok (first_world image)) (lines_of script)) world is)
+    (all_counted (Ok (first_world image)) (lines_of script)
+    (record { some = tt; even = record { stages = refl; planned = refl } }))
+
+section_is : (image script : List ℕ) (world : WorldState) → campaign_of image script ≡ Ok world
+    → world.section ≡ section.Ended
+unfolding campaign_of
+section_is image script world is = ended (read_lines (Ok (first_world image)) (lines_of script)) world is
+
+pub devices_there : HasItsDevices
+devices_there image script world is =
+    let k = counted image script world is in
+    (subst (λ (s : Section). SomeIn s (length world.devices)) (section_is image script world is) k.some, k.even.stages)

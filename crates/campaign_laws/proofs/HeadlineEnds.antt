@@ -1,0 +1,306 @@
+-- What both ends of a campaign keep: a device has no session but the server's, and the server sends the image.
+use Rattle.std.proofs.Common.{◌≡◌, inl, inr, ℕ, ◌+◌, ◌≤◌, Bool, true, false, cond, nat_lt, List, [], ◌∷◌, length, Option, None, Some, IfSome, is_ok, is_some, Result, Ok, Err, refl, sym, subst, arith, ◌/◌, ltb-false}
+use Rattle.std.specs.Result.{result_ok}
+use Rattle.std.specs.List.{AllByRecursion}
+use Rattle.frag_session.specs.declared.setups.Limits.{Limits}
+use Rattle.frag_session.specs.declared.answers.Via.{Via}
+use Rattle.frag_session.specs.Setup.{Room, rows_of}
+use Rattle.frag_session.specs.Session.{Session, new_session, after_setup, followed, after_fragment}
+use Rattle.frag_session.specs.Stands.{IsSetUp}
+use Rattle.frag_encoder.specs.Encoding.{nb_frag_of, data_of}
+use Rattle.cast_wire.specs.declared.cmd.Cmd.TheVariants.{DataFragment}
+use Rattle.sync_wire.specs.declared.cmd.Cmd.TheVariants.{AppTimeReq, AppTimeAns, DevVersionReq}
+use Rattle.clock_sync.specs.Clock.{correction_of, is_answer_needed}
+use Rattle.package_grammar.specs.declared.command.Command.{Command}
+use Rattle.package_grammar.specs.declared.command.Command.TheVariants.{Sync, Cast}
+use Rattle.package_grammar.specs.declared.downlink.To.TheVariants.{Unicast}
+use Rattle.device_core.specs.declared.config.DeviceConfig.{DeviceConfig}
+use Rattle.device_core.specs.SessionTable.{SessionTable}
+use Rattle.device_core.specs.Device.{DeviceState, limits_of, max_area, max_rows}
+use Rattle.campaign_server.specs.declared.plan.Kind.{Kind}
+use Rattle.campaign_server.specs.declared.plan.Kind.TheVariants as kind
+use Rattle.campaign_server.specs.declared.plan.PlanGroup.{PlanGroup}
+use Rattle.campaign_server.specs.declared.plan.PlanWindow.{PlanWindow}
+use Rattle.campaign_server.specs.declared.plan.PlanDevice.{PlanDevice}
+use Rattle.campaign_server.specs.declared.stage.Stage.{Stage}
+use Rattle.campaign_server.specs.declared.stage.Stage.TheVariants.{At, Updated, Refused}
+use Rattle.campaign_server.specs.declared.stage.Request.TheVariants as request
+use Rattle.campaign_server.specs.declared.fragments.Spent.{Spent}
+use Rattle.campaign_server.specs.declared.fragments.Spent.TheVariants.{Fragments, Counts}
+use Rattle.campaign_server.specs.Plan.{Plan}
+use Rattle.campaign_server.specs.Server.{ServerState, DownlinkCommand, port_of, numbered, ledger}
+use Rattle.campaign_server.specs.Asking.{window_request_of, window_request, group_request, cast_of, request_at, command_for, by_unicast, request_of}
+use Rattle.campaign_server.specs.Fragments.{receivers, has_no_count, after_count, next_fragment, after_fragment as server_after_fragment, status_to_all, after_status_to_all}
+use Rattle.campaign_server.specs.Time.{time_answer_to, first_answer, time_answer}
+use Rattle.campaign_server.specs.Uplinks.{with_answers}
+use Rattle.device_core.proofs.SessionSteps.{setup_keeps, fragment_keeps}
+use Rattle.campaign_laws.proofs.HeadlineCommands.{Cut, cut_of, setup_req, IsSentOf}
+use Rattle.device_core.proofs.Stays.{Moves, stays}
+use Rattle.campaign_laws.proofs.HeadlinePayloads.{Acts}
+use Rattle.campaign_laws.specs.Headline.{HasNoOther, IsFragmentOf}
+
+-- ---- a session
+
+-- a session that the server set up, and its fragments
+pub record IsSetFor (image : List ℕ) (cut : Cut) (s : Session) : Type 0 where
+  pub setup : s.setup ≡ setup_req image cut
+  pub makes : IsSetUp (setup_req image cut)
+  pub heard : AllByRecursion (IsFragmentOf image cut.size) s.heard
+
+fresh : (image : List ℕ) (cut : Cut) (limits : Limits) → IsSetUp (setup_req image cut)
+    → IsSetFor image cut (new_session limits (setup_req image cut))
+unfolding new_session
+fresh image cut limits makes = record { setup = refl; makes = makes; heard = tt }
+
+setup_set : (image : List ℕ) (cut : Cut) (limits : Limits) (here : Room) (s : Option Session)
+    → IfSome s (IsSetFor image cut)
+    → IfSome (after_setup limits here s (setup_req image cut)) (IsSetFor image cut)
+setup_set image cut limits here s k =
+    setup_keeps (IsSetFor image cut) limits here s (setup_req image cut) (λ makes. fresh image cut limits makes) k
+
+followed_set : (image : List ℕ) (cut : Cut) (n : ℕ) (part : List ℕ) (mark : ℕ)
+    → IsFragmentOf image cut.size (record { number = n; part = part; mark = mark })
+    → (s : Session) → IsSetFor image cut s → IsSetFor image cut (followed s n part mark)
+unfolding followed
+followed_set image cut n part mark f s k = record { setup = k.setup; makes = k.makes; heard = (f, k.heard) }
+
+fragment_set : (image : List ℕ) (cut : Cut) (s : Option Session) (way : Via) (n : ℕ) (part : List ℕ) (mark : ℕ)
+    → IsFragmentOf image cut.size (record { number = n; part = part; mark = mark })
+    → IfSome s (IsSetFor image cut) → IfSome (after_fragment s way n part mark) (IsSetFor image cut)
+fragment_set image cut s way n part mark f k =
+    fragment_keeps (IsSetFor image cut) s way n part mark (followed_set image cut n part mark f) k
+
+-- ---- a device
+
+-- what the lines of devices allow
+pub record IsBounded (config : DeviceConfig) : Type 0 where
+  pub sessions : config.sessions ≡ 4
+  pub area : config.area ≡ max_area
+  pub rows : config.rows ≤ max_rows
+
+-- the session has the rows that the device keeps, or a row a piece
+abbrev HasRows : List ℕ → Cut → DeviceConfig → Session → Type 0
+HasRows image cut config s = s.rows ≡ rows_of config.rows (setup_req image cut)
+
+-- it holds no uplink, and its session, if it has one, is the server's
+pub record IsDeviceFor (image : List ℕ) (cut : Cut) (d : DeviceState) : Type 0 where
+  pub empty : d.outbox ≡ []
+  pub session : IfSome d.sessions.first (IsSetFor image cut)
+  pub rows : IfSome d.sessions.first (HasRows image cut d.config)
+  pub alone : HasNoOther d.sessions
+  pub bounds : IsBounded d.config
+
+setup_rows : (image : List ℕ) (cut : Cut) (config : DeviceConfig) (here : Room) (s : Option Session)
+    → IfSome s (HasRows image cut config)
+    → IfSome (after_setup (limits_of config) here s (setup_req image cut)) (HasRows image cut config)
+unfolding new_session
+setup_rows image cut config here s k =
+    setup_keeps (HasRows image cut config) (limits_of config) here s (setup_req image cut) (λ makes. refl) k
+
+fragment_rows : (image : List ℕ) (cut : Cut) (config : DeviceConfig) (s : Option Session) (way : Via) (n : ℕ)
+    (part : List ℕ) (mark : ℕ) → IfSome s (HasRows image cut config)
+    → IfSome (after_fragment s way n part mark) (HasRows image cut config)
+unfolding followed
+fragment_rows image cut config s way n part mark k =
+    fragment_keeps (HasRows image cut config) s way n part mark (λ x r. r) k
+
+moved : (image : List ℕ) (cut : Cut) (F : DeviceConfig → Option Session → Option Session) (d e : DeviceState)
+    → IsDeviceFor image cut d → Moves F d e → e.outbox ≡ []
+    → IfSome (F d.config d.sessions.first) (IsSetFor image cut)
+    → IfSome (F d.config d.sessions.first) (HasRows image cut d.config) → IsDeviceFor image cut e
+moved image cut F d e k m empty session rows = record {
+  empty = empty;
+  session = subst (λ (t : SessionTable). IfSome t.first (IsSetFor image cut)) (sym m.sessions) session;
+  rows = subst (λ (x : DeviceConfig). IfSome e.sessions.first (HasRows image cut x)) (sym m.config)
+      (subst (λ (t : SessionTable). IfSome t.first (HasRows image cut d.config)) (sym m.sessions) rows);
+  bounds = subst IsBounded (sym m.config) k.bounds;
+  alone = subst HasNoOther (sym m.sessions) (record {
+    second = k.alone.second;
+    third = k.alone.third;
+    fourth =
+        k.alone.fourth;
+  });
+}
+
+pub stays_for : (image : List ℕ) (cut : Cut) (d e : DeviceState) → IsDeviceFor image cut d → Moves stays d e
+    → e.outbox ≡ [] → IsDeviceFor image cut e
+stays_for image cut d e k m empty = moved image cut stays d e k m empty k.session k.rows
+
+pub acts_keep : (image : List ℕ) (cut : Cut) (t mark : ℕ) (d e : DeviceState) (down : DownlinkCommand)
+    → IsDeviceFor image cut d → Acts image cut t mark d e down → e.outbox ≡ [] → IsDeviceFor image cut e
+acts_keep image cut t mark d e down k (inl deaf) empty = stays_for image cut d e k deaf.1 empty
+acts_keep image cut t mark d e down k (inr (on, inl a)) empty =
+    moved image cut _ d e k a.2 empty (setup_set image cut _ _ d.sessions.first k.session)
+    (setup_rows image cut d.config _ d.sessions.first k.rows)
+acts_keep image cut t mark d e down k (inr (on, inr (inl a))) empty =
+    moved image cut _ d e k a.3 empty
+    (fragment_set image cut d.sessions.first _ a.0 (data_of image cut.size a.0) mark
+    (record { first = a.1.0; last = a.1.1; part = refl }) k.session)
+    (fragment_rows image cut d.config d.sessions.first _ a.0 (data_of image cut.size a.0) mark k.rows)
+acts_keep image cut t mark d e down k (inr (on, inr (inr a))) empty = stays_for image cut d e k a.1 empty
+
+-- whatever is sent, the configuration stays
+pub acts_config : (image : List ℕ) (cut : Cut) (t mark : ℕ) (d e : DeviceState) (down : DownlinkCommand)
+    → Acts image cut t mark d e down → e.config ≡ d.config
+acts_config image cut t mark d e down (inl deaf) = deaf.1.config
+acts_config image cut t mark d e down (inr (on, inl a)) = a.2.config
+acts_config image cut t mark d e down (inr (on, inr (inl a))) = a.3.config
+acts_config image cut t mark d e down (inr (on, inr (inr a))) = a.1.config
+
+-- ---- a server
+
+-- the server sends the image
+pub record IsServerOf (image : List ℕ) (s : ServerState) : Type 0 where
+  pub image_is : s.image ≡ image
+  pub next : 1 ≤ s.next
+  pub few : s.plan.parity ≤ 512
+
+abbrev pub IsDown : List ℕ → Cut → DownlinkCommand → Type 0
+IsDown image cut down = IsSentOf image cut down
+
+-- a command to one device, by unicast
+abbrev IsAsked : List ℕ → Cut → Command → Type 0
+IsAsked image cut x = IsSentOf image cut (record { to = Unicast; command = x })
+
+group_sent : (image : List ℕ) (cut : Cut) (key : List ℕ) (group : Option PlanGroup)
+    → IfSome (cast_of (λ g. group_request key g) group) (IsAsked image cut)
+group_sent image cut key None = tt
+group_sent image cut key (Some group) = inr (inr (inr (inl refl)))
+
+window_port : (window : PlanWindow) (k : Kind) → port_of (Cast (window_request_of window k)) ≡ 200
+window_port window kind.C = refl
+window_port window (kind.B periodicity) = refl
+
+window_sent : (image : List ℕ) (cut : Cut) (window : Option PlanWindow)
+    → IfSome (cast_of (λ w. window_request w) window) (IsAsked image cut)
+window_sent image cut None = tt
+window_sent image cut (Some window) = inr (inr (inr (inl (window_port window window.kind))))
+
+request_sent : (plan : Plan) (image key : List ℕ) (stage : Stage)
+    → IfSome (request_at plan image key stage) (IsAsked image (cut_of plan))
+unfolding request_at
+request_sent plan image key (At request.Version) = inr (inr (inr (inr (DevVersionReq, refl))))
+request_sent plan image key (At request.Group) = group_sent image (cut_of plan) key plan.group
+request_sent plan image key (At request.Fragments) = inl (refl, refl)
+request_sent plan image key (At request.Window) = window_sent image (cut_of plan) plan.window
+request_sent plan image key (At request.Status) = inr (inr (inl (true, refl)))
+request_sent plan image key (At request.Image) = inr (inr (inr (inr (_, refl))))
+request_sent plan image key (At request.Reboot) = inr (inr (inr (inr (_, refl))))
+request_sent plan image key (At request.Check) = inr (inr (inr (inr (_, refl))))
+request_sent plan image key Updated = tt
+request_sent plan image key (Refused request bits) = tt
+
+pub down_of : (image : List ℕ) (cut : Cut) (x : Option Command) → IfSome x (IsAsked image cut)
+    → IfSome (by_unicast x) (IsDown image cut)
+down_of image cut None k = tt
+down_of image cut (Some x) k = k
+
+command_sent : (plan : Plan) (image : List ℕ) (device : Option PlanDevice) (stage : Option Stage)
+    → IfSome (command_for plan image device stage) (IsAsked image (cut_of plan))
+command_sent plan image (Some device) (Some stage) = request_sent plan image device.key stage
+command_sent plan image (Some device) None = tt
+command_sent plan image None (Some stage) = tt
+command_sent plan image None None = tt
+
+pub ask_sent : (image : List ℕ) (s : ServerState) (dev : ℕ) → IsServerOf image s
+    → IfSome (request_of s dev) (IsDown image (cut_of s.plan))
+unfolding request_of
+ask_sent image s dev k =
+    subst (λ (i : List ℕ). IfSome (request_of s dev) (IsDown i (cut_of s.plan))) k.image_is
+    (down_of s.image (cut_of s.plan) _ (command_sent s.plan s.image (numbered s.plan.devices dev) (ledger s dev)))
+
+counted_by : (image : List ℕ) (cut : Cut) (b : Bool) (down : DownlinkCommand) → IsDown image cut down
+    → IfSome (result_ok (cond {A = Result DownlinkCommand Spent} b (Err Counts) (Ok down))) (IsDown image cut)
+counted_by image cut true down k = tt
+counted_by image cut false down k = k
+
+next_by : (image : List ℕ) (cut : Cut) (parity next count : ℕ) (group : Option PlanGroup) (b : Bool)
+    → nat_lt (nb_frag_of (length image) cut.size + parity) next ≡ b → 1 ≤ next → parity ≤ 512
+    → IfSome (result_ok (cond {A = Result DownlinkCommand Spent} b (Err Fragments)
+    (cond {A = Result DownlinkCommand Spent} (has_no_count group count) (Err Counts)
+    (Ok (record { to = receivers group count; command = Cast (DataFragment 0 next (data_of image cut.size next)) })))))
+    (IsDown image cut)
+next_by image cut parity next count group true is from few = tt
+next_by image cut parity next count group false is from few =
+    let last = ltb-false _ _ is in
+    counted_by image cut (has_no_count group count) _ (inr (inl (next, (from, omega (arith, last, few)), refl)))
+
+pub fragment_sent : (image : List ℕ) (s : ServerState) → IsServerOf image s
+    → IfSome (result_ok (next_fragment s)) (IsDown image (cut_of s.plan))
+unfolding next_fragment
+fragment_sent image s k =
+    subst (λ (i : List ℕ). IfSome (result_ok (next_fragment s)) (IsDown i (cut_of s.plan))) k.image_is
+    (next_by s.image (cut_of s.plan) s.plan.parity s.next s.count s.plan.group _ refl k.next k.few)
+
+all_by : (image : List ℕ) (cut : Cut) (b : Bool) (down : DownlinkCommand) → IsDown image cut down
+    → IfSome (cond b None (Some down)) (IsDown image cut)
+all_by image cut true down k = tt
+all_by image cut false down k = k
+
+pub status_sent : (image : List ℕ) (cut : Cut) (s : ServerState) → IfSome (status_to_all s) (IsDown image cut)
+unfolding status_to_all
+status_sent image cut s = all_by image cut (has_no_count s.plan.group s.count) _ (inr (inr (inl (false, refl))))
+
+-- the server goes on, and cuts alike
+pub record GoesOn (image : List ℕ) (s new : ServerState) : Type 0 where
+  pub is : IsServerOf image new
+  pub plan : new.plan ≡ s.plan
+
+moved_by : (image : List ℕ) (s : ServerState) (b : Bool) → IsServerOf image s
+    → GoesOn image s (cond b (after_count (record s { next = s.next + 1 })) s)
+moved_by image s true k =
+    record {
+      is = record { image_is = k.image_is; next = omega arith; few = k.few };
+      plan = refl;
+    }
+moved_by image s false k = record { is = k; plan = refl }
+
+counts_by : (image : List ℕ) (s : ServerState) (b : Bool) → IsServerOf image s → GoesOn image s (cond b (after_count s) s)
+counts_by image s true k =
+    record { is = record { image_is = k.image_is; next = k.next; few = k.few }; plan = refl }
+counts_by image s false k = record { is = k; plan = refl }
+
+pub status_goes : (image : List ℕ) (s : ServerState) → IsServerOf image s → GoesOn image s (after_status_to_all s)
+unfolding after_status_to_all
+status_goes image s k = counts_by image s (is_some (status_to_all s)) k
+
+pub fragment_goes : (image : List ℕ) (s : ServerState) → IsServerOf image s → GoesOn image s (server_after_fragment s)
+unfolding server_after_fragment
+fragment_goes image s k = moved_by image s (is_ok (next_fragment s)) k
+
+pub answers_go : (image : List ℕ) (s : ServerState) (dev : ℕ) (cs : List Command) (stage : Option Stage)
+    → IsServerOf image s → GoesOn image s (with_answers s dev cs stage)
+answers_go image s dev cs None k = record { is = k; plan = refl }
+answers_go image s dev cs (Some stage) k =
+    record {
+      is = record { image_is = k.image_is; next = k.next; few = k.few };
+      plan = refl;
+    }
+
+-- an answer with the time
+time_by : (image : List ℕ) (cut : Cut) (b : Bool) (x : Command) → IsAsked image cut x
+    → IfSome (cond b (Some x) None) (IsAsked image cut)
+time_by image cut true x k = k
+time_by image cut false x k = tt
+
+time_sent_to : (image : List ℕ) (cut : Cut) (t : ℕ) (x : Command) → IfSome (time_answer_to t x) (IsAsked image cut)
+time_sent_to image cut t (Sync (AppTimeReq time required token)) =
+    time_by image cut (is_answer_needed required (correction_of (t / 1000) time)) _
+    (inr (inr (inr (inr (AppTimeAns (correction_of (t / 1000) time) token, refl)))))
+time_sent_to image cut t x = tt
+
+first_sent : (image : List ℕ) (cut : Cut) (one later : Option Command) → IfSome one (IsAsked image cut)
+    → IfSome later (IsAsked image cut) → IfSome (first_answer one later) (IsAsked image cut)
+first_sent image cut None later k l = l
+first_sent image cut (Some x) later k l = k
+
+answers_sent : (image : List ℕ) (cut : Cut) (t : ℕ) (cs : List Command) → IfSome (time_answer t cs) (IsAsked image cut)
+unfolding time_answer
+answers_sent image cut t [] = tt
+answers_sent image cut t (x ∷ cs) =
+    first_sent image cut (time_answer_to t x) (time_answer t cs) (time_sent_to image cut t x)
+    (answers_sent image cut t cs)
+
+pub time_sent : (image : List ℕ) (cut : Cut) (t : ℕ) (cs : List Command)
+    → IfSome (by_unicast (time_answer t cs)) (IsDown image cut)
+time_sent image cut t cs = down_of image cut (time_answer t cs) (answers_sent image cut t cs)

@@ -1,0 +1,479 @@
+-- What each form that is not refused makes of a campaign.
+use Rattle.std.proofs.Common.{◌&&◌, nat_le, nat_lt, ◌≡◌, ◌⊎◌, inl, inr, ℕ, zero, suc, ◌+◌, ◌-◌, ◌^◌, ◌<◌, ◌≤◌, Bool, true, false, cond, not, ◌==◌, List, [], ◌∷◌, length, All, slice_get, Option, None, Some, IfSome, Ok, Err, append-nil, refl, sym, ap, ◌∙◌, subst, arith, true≢false, eqb-true}
+use Rattle.std.proofs.lemmas.Bool.{leb-true, and_parts}
+use Rattle.std.specs.Result.{result_ok}
+use Rattle.std.specs.List.{AllByRecursion, slice_set}
+use Rattle.frag_encoder.specs.Encoding.{nb_frag_of}
+use Rattle.package_grammar.specs.declared.downlink.Downlink.{Downlink}
+use Rattle.package_grammar.specs.Reading.{Reading, reading_of}
+use Rattle.wire_base.specs.declared.refusal.Direction.TheVariants as direction
+use Rattle.device_core.specs.Device.{DeviceState}
+use Rattle.frag_model.specs.Limits.{max_pieces}
+use Rattle.script_lines.specs.Limits.{max_rows, max_devices}
+use Rattle.device_core.specs.Deliver.{delivery, waking}
+use Rattle.device_core.specs.Firmware.{after_migration}
+use Rattle.campaign_server.specs.declared.plan.PlanGroup.{PlanGroup}
+use Rattle.campaign_server.specs.Plan.{Plan}
+use Rattle.campaign_server.specs.Server.{ServerState, DownlinkCommand, numbered, ledger, downlink_of}
+use Rattle.campaign_server.specs.Asking.{mask_of, by_unicast, request_of}
+use Rattle.campaign_server.specs.Fragments.{next_fragment, after_fragment as server_after_fragment, status_to_all, after_status_to_all}
+use Rattle.campaign_server.specs.Time.{time_answer}
+use Rattle.campaign_server.specs.Uplinks.{with_answers, read_uplink, uplink_step}
+use Rattle.script_lines.specs.declared.forms.Form.{Form}
+use Rattle.script_lines.specs.declared.forms.Form.TheVariants.{Header, Image, Group, WindowC, WindowB, Device, At as Time, Wake, Migrate, Ask, Frag, Status, Down, Raw, Up, End}
+use Rattle.script_lines.specs.Ranges.{in_range, is_device as ranged}
+use Rattle.campaign_world.specs.declared.section.Section.{Section}
+use Rattle.campaign_world.specs.declared.section.Section.TheVariants as section
+use Rattle.campaign_world.specs.declared.faults.LineWhy.{LineWhy}
+use Rattle.campaign_world.specs.declared.numbered.SentPayload.{SentPayload}
+use Rattle.campaign_world.specs.declared.numbered.MadeUplink.{MadeUplink}
+use Rattle.campaign_world.specs.World.{WorldState}
+use Rattle.campaign_world.specs.Honest.{is_raw}
+use Rattle.campaign_world.specs.Causes.{may_come, fits_script, is_device, names_device, may_reach, has_come, form_cause}
+use Rattle.campaign_world.specs.Making.{with_sent, with_device, after_wake, after_migrate, after_down, after_answer, after_up, at_events, after_form}
+use Rattle.campaign_server.proofs.LineItems.{if_some, numbered_put, numbered_there}
+use Rattle.campaign_laws.proofs.HeadlineCommands.{cut_of, IsCut}
+use Rattle.device_core.proofs.Stays.{Stays, waking_stays}
+use Rattle.campaign_laws.proofs.HeadlinePayloads.{sent_acts}
+use Rattle.campaign_laws.proofs.HeadlineEnds.{IsDeviceFor, IsServerOf, IsDown, ask_sent, fragment_sent, status_sent, GoesOn, fragment_goes, status_goes, answers_go, time_sent}
+use Rattle.campaign_laws.proofs.HeadlineWorlds.{IsPayloadOf, StandsIn, Keeps, is_down, HasStayed, Turns}
+
+-- ---- a form that is not refused
+
+-- the tests that it passed
+pub record Passes (w : WorldState) (form : Form) : Type 0 where
+  pub may : may_come w.section form ≡ true
+  pub ranged : (in_range form && fits_script (length w.server.image) (length w.devices) form) ≡ true
+  pub names : names_device (length w.devices) form ≡ true
+  pub come : has_come w.sent w.uplinks w.time form ≡ true
+
+test_passed : (b : Bool) (why : LineWhy) (rest : Option LineWhy) → cond (not b) (Some why) rest ≡ None
+    → (b ≡ true) × (rest ≡ None)
+test_passed true why rest fine = (refl, fine)
+test_passed false why rest fine = absurd cc
+
+pub passes : (w : WorldState) (form : Form) → form_cause w form ≡ None → Passes w form
+unfolding form_cause
+passes w form fine =
+    let a = test_passed _ _ _ fine in
+    let b = test_passed _ _ _ a.1 in
+    let c = test_passed _ _ _ b.1 in
+    let d = test_passed _ _ _ c.1 in
+    record { may = a.0; ranged = b.0; names = c.0; come = d.0 }
+
+at_header : (image : List ℕ) (w : WorldState) (here : Section) → may_come here Header ≡ true → StandsIn image w here
+    → (w.sent ≡ []) × (w.devices ≡ [])
+at_header image w section.Header may stands = stands
+at_header image w section.Image may stands = stands
+at_header image w section.Group may stands = absurd cc
+at_header image w section.Window may stands = absurd cc
+at_header image w section.Device may stands = absurd cc
+at_header image w section.Devices may stands = absurd cc
+at_header image w section.Events may stands = absurd cc
+at_header image w section.Ended may stands = absurd cc
+
+at_image : (image : List ℕ) (w : WorldState) (size parity : ℕ) (here : Section)
+    → may_come here (Image size parity) ≡ true → StandsIn image w here → (w.sent ≡ []) × (w.devices ≡ [])
+at_image image w size parity section.Header may stands = stands
+at_image image w size parity section.Image may stands = stands
+at_image image w size parity section.Group may stands = absurd cc
+at_image image w size parity section.Window may stands = absurd cc
+at_image image w size parity section.Device may stands = absurd cc
+at_image image w size parity section.Devices may stands = absurd cc
+at_image image w size parity section.Events may stands = absurd cc
+at_image image w size parity section.Ended may stands = absurd cc
+
+at_group : (image : List ℕ) (w : WorldState) (addr min max : ℕ) (key : List ℕ) (here : Section)
+    → may_come here (Group addr key min max) ≡ true → StandsIn image w here
+    → (w.sent ≡ []) × (w.devices ≡ []) × IsCut image (cut_of w.server.plan)
+at_group image w addr min max key section.Header may stands = absurd cc
+at_group image w addr min max key section.Image may stands = absurd cc
+at_group image w addr min max key section.Group may stands = stands
+at_group image w addr min max key section.Window may stands = absurd cc
+at_group image w addr min max key section.Device may stands = absurd cc
+at_group image w addr min max key section.Devices may stands = absurd cc
+at_group image w addr min max key section.Events may stands = absurd cc
+at_group image w addr min max key section.Ended may stands = absurd cc
+
+-- any other form comes behind the image's line
+is_early : Form → Bool
+is_early Header = true
+is_early (Image size parity) = true
+is_early form = false
+
+not_header : (form : Form) → is_early form ≡ false → may_come section.Header form ≡ true → ⊥
+unfolding is_early
+not_header Header late may = true≢false late
+not_header (Image size parity) late may = true≢false late
+not_header form late may = true≢false (sym may)
+
+not_image : (form : Form) → is_early form ≡ false → may_come section.Image form ≡ true → ⊥
+unfolding is_early
+not_image Header late may = true≢false late
+not_image (Image size parity) late may = true≢false late
+not_image form late may = true≢false (sym may)
+
+late_cut : (image : List ℕ) (w : WorldState) (form : Form) (here : Section) → is_early form ≡ false
+    → may_come here form ≡ true → StandsIn image w here → IsCut image (cut_of w.server.plan)
+late_cut image w form section.Header late may stands = absurd (not_header form late may)
+late_cut image w form section.Image late may stands = absurd (not_image form late may)
+late_cut image w form section.Group late may stands = stands.2
+late_cut image w form section.Window late may stands = stands
+late_cut image w form section.Device late may stands = stands
+late_cut image w form section.Devices late may stands = stands
+late_cut image w form section.Events late may stands = stands
+late_cut image w form section.Ended late may stands = stands
+
+-- ---- each form
+
+-- the same plan cuts alike
+cut_on : (s new : ServerState) → new.plan ≡ s.plan → cut_of new.plan ≡ cut_of s.plan
+cut_on s new same = ap (λ (p : Plan). cut_of p) same
+
+-- what is sent
+sends_turn : (image : List ℕ) (form : Form) (w : WorldState) (s : ServerState) (to : Option ℕ)
+    (o : Option DownlinkCommand) → is_down form ≡ false → GoesOn image w.server s
+    → IsCut image (cut_of w.server.plan) → IfSome o (IsDown image (cut_of w.server.plan))
+    → Turns image form w (at_events (with_sent (record w { server = s }) to o))
+sends_turn image form w s to None other goes cut fine = record {
+  lines = refl;
+  server = goes.is;
+  stands = subst (IsCut image) (sym (cut_on w.server s goes.plan)) cut;
+  how = inl (record {
+    other = other;
+    cut = cut_on w.server s goes.plan;
+    devices = λ id. inl refl;
+    more = [];
+    sent =
+        sym (append-nil w.sent);
+    fine = tt;
+  });
+}
+sends_turn image form w s to (Some down) other goes cut fine = record {
+  lines = refl;
+  server = goes.is;
+  stands = subst (IsCut image) (sym (cut_on w.server s goes.plan)) cut;
+  how = inl (record {
+    other = other;
+    cut = cut_on w.server s goes.plan;
+    devices = λ id. inl refl;
+    more = record { receiver = to; down = downlink_of down } ∷ [];
+    sent = refl;
+    fine = ((down, fine, refl), tt);
+  });
+}
+
+read_turn : (image : List ℕ) (form : Form) (w : WorldState) (dev t : ℕ) (r : Reading) → is_down form ≡ false
+    → IsServerOf image w.server → IsCut image (cut_of w.server.plan)
+    → Turns image form w (at_events (after_answer w dev (read_uplink w.server dev t r)))
+unfolding read_uplink
+read_turn image form w dev t (Ok cs) other k cut =
+    sends_turn image form w (with_answers w.server dev cs (ledger w.server dev)) (Some dev)
+    (by_unicast (time_answer t cs)) other (answers_go image w.server dev cs (ledger w.server dev) k) cut
+    (time_sent image (cut_of w.server.plan) t cs)
+read_turn image form w dev t (Err refusal) other k cut =
+    sends_turn image form w w.server None None other (record { is = k; plan = refl }) cut tt
+
+up_turn : (image : List ℕ) (form : Form) (w : WorldState) (o : Option MadeUplink) → is_down form ≡ false
+    → IsServerOf image w.server → IsCut image (cut_of w.server.plan)
+    → Turns image form w (at_events (after_up w o))
+unfolding uplink_step
+up_turn image form w None other k cut =
+    sends_turn image form w w.server None None other (record { is = k; plan = refl }) cut tt
+up_turn image form w (Some made) other k cut =
+    read_turn image form w made.device w.time (reading_of made.uplink.port direction.Up made.uplink.payload) other k cut
+
+-- a number that a device has
+number_there : (count n : ℕ) → is_device count n ≡ true → (1 ≤ n) × (n ≤ count)
+number_there count n is = let parts =
+    and_parts (nat_le 1 n) (nat_le n count) is in (leb-true _ _ parts.0, leb-true _ _ parts.1)
+
+get_device : (ds : List DeviceState) (k : ℕ) → k < length ds → (d : DeviceState) × (slice_get ds k ≡ Some d)
+get_device [] k lt = absurd (omega (arith, lt))
+get_device (d ∷ ds) zero lt = (d, refl)
+get_device (d ∷ ds) (suc k) lt = get_device ds k (omega (arith, lt))
+
+device_by : (ds : List DeviceState) (n : ℕ) (b : Bool) → (n == 0) ≡ b → (1 ≤ n) × (n ≤ length ds)
+    → (d : DeviceState) × (cond b None (slice_get ds (n - 1)) ≡ Some d)
+device_by ds n true is there = let none : n ≡ 0 = eqb-true _ _ is in absurd (omega (arith, none, there.0))
+device_by ds n false is there = get_device ds (n - 1) (omega (arith, there.0, there.1))
+
+-- so it has one
+device_there : (ds : List DeviceState) (n : ℕ) → (1 ≤ n) × (n ≤ length ds)
+    → (d : DeviceState) × (numbered ds n ≡ Some d)
+device_there ds n there = device_by ds n (n == 0) refl there
+
+payload_there : (device : ℕ) (o : Option SentPayload) → may_reach device o ≡ true → (p : SentPayload) × (o ≡ Some p)
+payload_there device None may = absurd cc
+payload_there device (Some p) may = (p, refl)
+
+all_get : {A : Type 0} (P : A → Type 0) (xs : List A) (n : ℕ) (x : A) → AllByRecursion P xs → slice_get xs n ≡ Some x
+    → P x
+all_get P [] n x all is = absurd cc
+all_get P (y ∷ ys) zero x all is = let here : y ≡ x = cc in subst P here all.0
+all_get P (y ∷ ys) (suc n) x all is = all_get P ys n x all.1 is
+
+all_by_test : {A : Type 0} (P : A → Type 0) (xs : List A) (b : Bool) (k : ℕ) (x : A) → AllByRecursion P xs
+    → cond b None (slice_get xs k) ≡ Some x → P x
+all_by_test P xs true k x all is = absurd cc
+all_by_test P xs false k x all is = all_get P xs k x all is
+
+all_numbered : {A : Type 0} (P : A → Type 0) (xs : List A) (n : ℕ) (x : A) → AllByRecursion P xs
+    → numbered xs n ≡ Some x → P x
+all_numbered P xs n x all is = all_by_test P xs (n == 0) (n - 1) x all is
+
+-- the device behind an event, its uplinks taken
+abbrev taken : DeviceState → DeviceState
+taken d = record d { outbox = [] }
+
+reached_turn : (image : List ℕ) (w : WorldState) (number n word : ℕ) (d : DeviceState) (p : SentPayload)
+    → All (λ b. b < 2 ^ 8) image → Keeps image w → IsCut image (cut_of w.server.plan)
+    → 1 ≤ n → numbered w.devices n ≡ Some d → numbered w.sent number ≡ Some p
+    → Turns image (Down number n word) w (at_events
+    (after_down w n word (numbered w.devices n) (numbered w.sent number)))
+unfolding with_device
+reached_turn image w number n word d p bytes k cut first there got =
+    let down = all_numbered (IsPayloadOf image (cut_of w.server.plan)) w.sent number p k.sent got in
+    let its = if_some (IsDeviceFor image (cut_of w.server.plan)) (numbered w.devices n) d there (k.devices n) in
+    let new : DeviceState = taken (delivery w.time word (w.lines + 1) (downlink_of down.0) d).device in
+    let same : taken (delivery w.time word (w.lines + 1) p.down d).device ≡ new =
+    ap (λ (x : Downlink). taken (delivery w.time word (w.lines + 1) x d).device) down.2 in
+    rw (there, got) (record {
+      lines = refl;
+      server = k.server;
+      stands = cut;
+      how = inr (inr (inr (record {
+        number = number;
+        id = n;
+        word = word;
+        form_is = refl;
+        first = first;
+        cut = refl;
+        old = d;
+        new = new;
+        before = there;
+        devices = ap (λ (e : DeviceState). slice_set w.devices (n - 1) e) same;
+        payload = p;
+        got = got;
+        down = down.0;
+        is_sent = down.1;
+        down_is = down.2;
+        acts = sent_acts image (cut_of w.server.plan) w.time word (w.lines + 1) d down.0 bytes cut down.1 its.empty;
+        empty = refl;
+        sent = refl;
+        is_cut = cut;
+      })));
+    })
+
+woken_turn : (image : List ℕ) (w : WorldState) (n : ℕ) (d : DeviceState) → Keeps image w
+    → IsCut image (cut_of w.server.plan) → 1 ≤ n → numbered w.devices n ≡ Some d
+    → Turns image (Wake n) w (at_events (after_wake w n (numbered w.devices n)))
+unfolding with_device
+woken_turn image w n d k cut first there =
+    let new : DeviceState = taken (waking w.time d).device in
+    rw (there) (record {
+      lines = refl;
+      server = k.server;
+      stands = cut;
+      how = inl (record {
+        other = refl;
+        cut = refl;
+        devices = λ id. stayed id (numbered_put w.devices n id new first);
+        more = [];
+        sent = sym (append-nil w.sent);
+        fine = tt;
+      });
+    })
+  where
+    stayed : (id : ℕ) → (id ≡ n) ⊎ (numbered (slice_set w.devices (n - 1) (taken (waking w.time d).device)) id ≡ numbered w.devices id)
+        → (numbered (slice_set w.devices (n - 1) (taken (waking w.time d).device)) id ≡ numbered w.devices id)
+        ⊎ HasStayed (numbered w.devices id) (numbered (slice_set w.devices (n - 1) (taken (waking w.time d).device)) id)
+    stayed id (inr same) = inl same
+    stayed id (inl is) = inr (record {
+      d = d;
+      e = taken (waking w.time d).device;
+      was = ap (λ (x : ℕ). numbered w.devices x) is ∙ there;
+      is = ap (λ (x : ℕ). numbered (slice_set w.devices (n - 1) (taken (waking w.time d).device)) x) is
+          ∙ numbered_there w.devices n d (taken (waking w.time d).device) there;
+      moves = waking_stays w.time d;
+      empty = refl;
+    })
+
+-- a device that knows both image formats from now on stays as it is but for its slots
+migration_stays : (d : DeviceState) → Stays d (taken (after_migration d))
+unfolding after_migration
+migration_stays d = record { config = refl; sessions = refl }
+
+migrated_turn : (image : List ℕ) (w : WorldState) (n : ℕ) (d : DeviceState) → Keeps image w
+    → IsCut image (cut_of w.server.plan) → 1 ≤ n → numbered w.devices n ≡ Some d
+    → Turns image (Migrate n) w (at_events (after_migrate w n (numbered w.devices n)))
+unfolding with_device
+migrated_turn image w n d k cut first there =
+    let new : DeviceState = taken (after_migration d) in
+    rw (there) (record {
+      lines = refl;
+      server = k.server;
+      stands = cut;
+      how = inl (record {
+        other = refl;
+        cut = refl;
+        devices = λ id. stayed id (numbered_put w.devices n id new first);
+        more = [];
+        sent = sym (append-nil w.sent);
+        fine = tt;
+      });
+    })
+  where
+    stayed : (id : ℕ) → (id ≡ n) ⊎ (numbered (slice_set w.devices (n - 1) (taken (after_migration d))) id ≡ numbered w.devices id)
+        → (numbered (slice_set w.devices (n - 1) (taken (after_migration d))) id ≡ numbered w.devices id)
+        ⊎ HasStayed (numbered w.devices id) (numbered (slice_set w.devices (n - 1) (taken (after_migration d))) id)
+    stayed id (inr same) = inl same
+    stayed id (inl is) = inr (record {
+      d = d;
+      e = taken (after_migration d);
+      was = ap (λ (x : ℕ). numbered w.devices x) is ∙ there;
+      is = ap (λ (x : ℕ). numbered (slice_set w.devices (n - 1) (taken (after_migration d))) x) is
+          ∙ numbered_there w.devices n d (taken (after_migration d)) there;
+      moves = migration_stays d;
+      empty = refl;
+    })
+
+-- nothing is sent, and no device changes
+still_turn : (image : List ℕ) (form : Form) (w v : WorldState) → is_down form ≡ false → IsServerOf image v.server
+    → StandsIn image v v.section → v.lines ≡ w.lines → cut_of v.server.plan ≡ cut_of w.server.plan
+    → v.devices ≡ w.devices → v.sent ≡ w.sent → Turns image form w v
+still_turn image form w v other server stands lines cut devices sent = record {
+  lines = lines;
+  server = server;
+  stands = stands;
+  how = inl (record {
+    other = other;
+    cut = cut;
+    devices = λ id. inl (ap (λ (ds : List DeviceState). numbered ds id) devices);
+    more = [];
+    sent = sent ∙ sym (append-nil w.sent);
+    fine = tt;
+  });
+}
+
+few_groups : (group : Option PlanGroup) → mask_of group ≤ 1
+few_groups None = omega arith
+few_groups (Some group) = omega arith
+
+few_rows : (id hw rows offset : ℕ) → ranged id hw rows offset ≡ true → rows ≤ max_rows
+few_rows id hw rows offset all =
+    let a = and_parts (nat_le 1 id && nat_le id max_devices && nat_lt hw (2 ^ 32) && nat_le rows max_rows) (nat_lt offset (2 ^ 32)) all in
+    let b = and_parts (nat_le 1 id && nat_le id max_devices && nat_lt hw (2 ^ 32)) (nat_le rows max_rows) a.0 in
+    leb-true _ _ b.1
+
+pub form_turn : (image : List ℕ) (w : WorldState) (form : Form) → All (λ b. b < 2 ^ 8) image → Keeps image w
+    → form_cause w form ≡ None → is_raw form ≡ false → Turns image form w (after_form w form)
+unfolding after_form is_early in_range
+form_turn image w Header bytes k fine honest =
+    let was = at_header image w w.section (passes w Header fine).may k.stands in
+    still_turn image Header w _ refl k.server was refl refl refl refl
+form_turn image w (Image frag_size parity) bytes k fine honest =
+    let p = passes w (Image frag_size parity) fine in
+    let was = at_image image w frag_size parity w.section p.may k.stands in
+    let both = and_parts _ _ p.ranged in
+    let low = and_parts _ _ both.0 in
+    let cuts = and_parts _ _ low.0 in
+    let few : nb_frag_of (length w.server.image) frag_size ≤ max_pieces = leb-true _ _ both.1 in
+    record {
+      lines = refl;
+      server = record { image_is = k.server.image_is; next = omega arith; few = leb-true _ _ low.1 };
+      stands = (
+        was.0,
+        was.1,
+        record {
+          some = leb-true _ _ cuts.0;
+          small = leb-true _ _ cuts.1;
+          few = subst (λ (i : List ℕ). nb_frag_of (length i) frag_size ≤ max_pieces) k.server.image_is few;
+          groups = few_groups w.server.plan.group;
+        },
+      );
+      how = inr (inl (record { other = refl; before = was.1; devices = was.1; none = was.0; sent = was.0 }));
+    }
+form_turn image w (Group addr key min max) bytes k fine honest =
+    let was = at_group image w addr min max key w.section (passes w (Group addr key min max) fine).may k.stands in
+    record {
+      lines = refl;
+      server = record { image_is = k.server.image_is; next = omega arith; few = k.server.few };
+      stands = record { some = was.2.some; small = was.2.small; few = was.2.few; groups = omega arith };
+      how = inr (inl (record { other = refl; before = was.1; devices = was.1; none = was.0; sent = was.0 }));
+    }
+form_turn image w (WindowC start timeout freq dr) bytes k fine honest =
+    still_turn image (WindowC start timeout freq dr) w _ refl
+    (record { image_is = k.server.image_is; next = omega arith; few = k.server.few })
+    (late_cut image w (WindowC start timeout freq dr) w.section refl
+    (passes w (WindowC start timeout freq dr) fine).may k.stands) refl refl refl refl
+form_turn image w (WindowB start periodicity timeout freq dr) bytes k fine honest =
+    still_turn image (WindowB start periodicity timeout freq dr) w _ refl
+    (record { image_is = k.server.image_is; next = omega arith; few = k.server.few })
+    (late_cut image w (WindowB start periodicity timeout freq dr) w.section refl
+    (passes w (WindowB start periodicity timeout freq dr) fine).may k.stands) refl refl refl refl
+form_turn image w (Device id class hw rows offset key descriptor v1) bytes k fine honest =
+    let p = passes w (Device id class hw rows offset key descriptor v1) fine in
+    let both = and_parts (ranged id hw rows offset) (id == length w.devices + 1) p.ranged in
+    let next : id ≡ length w.devices + 1 = eqb-true _ _ both.1 in
+    record {
+      lines = refl;
+      server = record { image_is = k.server.image_is; next = omega arith; few = k.server.few };
+      stands = late_cut image w (Device id class hw rows offset key descriptor v1) w.section refl p.may k.stands;
+      how = inr (inr (inl (record {
+        other = refl;
+        cut = refl;
+        class = class;
+        hw = hw;
+        rows = rows;
+        offset = offset;
+        key = key;
+        descriptor = descriptor;
+        v1 = v1;
+        form_is = ap (λ (n : ℕ). Device n class hw rows offset key descriptor v1) next;
+        few = few_rows id hw rows offset both.0;
+        devices = refl;
+        sent = refl;
+      })));
+    }
+form_turn image w (Time time) bytes k fine honest =
+    still_turn image (Time time) w _ refl k.server
+    (late_cut image w (Time time) w.section refl (passes w (Time time) fine).may k.stands) refl refl refl refl
+form_turn image w (Wake device) bytes k fine honest =
+    let p = passes w (Wake device) fine in
+    let there = number_there (length w.devices) device p.names in
+    let d = device_there w.devices device there in
+    woken_turn image w device d.0 k (late_cut image w (Wake device) w.section refl p.may k.stands) there.0 d.1
+form_turn image w (Migrate device) bytes k fine honest =
+    let p = passes w (Migrate device) fine in
+    let there = number_there (length w.devices) device p.names in
+    let d = device_there w.devices device there in
+    migrated_turn image w device d.0 k (late_cut image w (Migrate device) w.section refl p.may k.stands) there.0 d.1
+form_turn image w (Ask device) bytes k fine honest =
+    sends_turn image (Ask device) w w.server (Some device) (request_of w.server device) refl
+    (record { is = k.server; plan = refl })
+    (late_cut image w (Ask device) w.section refl (passes w (Ask device) fine).may k.stands)
+    (ask_sent image w.server device k.server)
+form_turn image w Frag bytes k fine honest =
+    sends_turn image Frag w (server_after_fragment w.server) None (result_ok (next_fragment w.server)) refl
+    (fragment_goes image w.server k.server)
+    (late_cut image w Frag w.section refl (passes w Frag fine).may k.stands) (fragment_sent image w.server k.server)
+form_turn image w Status bytes k fine honest =
+    sends_turn image Status w (after_status_to_all w.server) None (status_to_all w.server) refl
+    (status_goes image w.server k.server)
+    (late_cut image w Status w.section refl (passes w Status fine).may k.stands)
+    (status_sent image (cut_of w.server.plan) w.server)
+form_turn image w (Down number device word) bytes k fine honest =
+    let p = passes w (Down number device word) fine in
+    let there = number_there (length w.devices) device p.names in
+    let d = device_there w.devices device there in
+    let s = payload_there device (numbered w.sent number) p.come in
+    reached_turn image w number device word d.0 s.0 bytes k
+    (late_cut image w (Down number device word) w.section refl p.may k.stands) there.0 d.1 s.1
+form_turn image w (Raw device port payload word) bytes k fine honest = absurd (true≢false honest)
+form_turn image w (Up number) bytes k fine honest =
+    up_turn image (Up number) w (numbered w.uplinks number) refl k.server
+    (late_cut image w (Up number) w.section refl (passes w (Up number) fine).may k.stands)
+form_turn image w End bytes k fine honest =
+    still_turn image End w _ refl k.server
+    (late_cut image w End w.section refl (passes w End fine).may k.stands) refl refl refl refl

@@ -1,0 +1,328 @@
+-- The headline: what is seen of the session in each campaign, and what the report says of it.
+use Rattle.std.proofs.Common.{◌≡◌, ◌≢◌, ◌⊎◌, inl, inr, ℕ, zero, suc, ◌+◌, ◌-◌, ◌<◌, ◌≤◌, ◌^◌, Bool, true, false, cond, ◌==◌, List, [], ◌∷◌, ◌++◌, length, min, take, drop, slice_get, codes, All, None, Some, Option, Ok, arith, refl, sym, ap, ◌∙◌, subst, append-nil, append_assoc, bytes_eq}
+use Rattle.std.specs.List.{AllByRecursion}
+use Rattle.std.proofs.lemmas.Slice.Eq.{bytes_eq-Decides}
+use Rattle.frag_model.specs.Fragments.{Fragment, Shape}
+use Rattle.frag_model.specs.File.{OneFileFits}
+use Rattle.frag_encoder.specs.Encoding.{nb_frag_of, padding_of}
+use Rattle.frag_session.specs.declared.answers.Verdict.{Verdict}
+use Rattle.frag_session.specs.declared.answers.Verdict.TheVariants as verdict
+use Rattle.frag_session.specs.declared.setups.SetupReq.{SetupReq}
+use Rattle.frag_session.specs.Session.{Session, Seen, shape_of, seen_of, view_of}
+use Rattle.frag_session.specs.FirstMoment.{IsWhole, FirstAt, IsDecidedAtFirst}
+use Rattle.frag_session.proofs.FirstMoments.{decided_at_first}
+use Rattle.package_grammar.specs.declared.command.Command.{Command}
+use Rattle.package_grammar.specs.declared.command.Command.TheVariants.{Cast}
+use Rattle.device_core.specs.SessionTable.{SessionTable}
+use Rattle.device_core.specs.Device.{DeviceState}
+use Rattle.campaign_server.specs.declared.stage.Stage.{Stage}
+use Rattle.campaign_server.specs.Server.{ServerState, numbered, ledger}
+use Rattle.campaign_server.specs.Asking.{fragments_request}
+use Rattle.script_lines.specs.Lines.{lines_of}
+use Rattle.campaign_world.specs.World.{WorldState}
+use Rattle.campaign_world.specs.Report.{◌⧺◌, image_line, device_line, counts_line, same_word, verdict_text, session_text, session_line, session_lines, device_part, device_parts, report_of}
+use Rattle.campaign_world.specs.Script.{campaign_of}
+use Rattle.campaign_world.specs.Recovery.{file_by, file_of, recovery_by, recovery}
+use Rattle.campaign_laws.specs.Recovers.{RecoversTheImage}
+use Rattle.campaign_world.specs.Honest.{IsHonest}
+use Rattle.campaign_laws.specs.Headline.{WholeAt, HasNoOther, IsOfItsLine, IsFragmentOf, IsServed, Brings, CameInOrder, setup_command, HearsBrought, text_before, text_behind, IsRecovered, IsReported, IsCampaign, Headline}
+use Rattle.campaign_laws.proofs.HeadlineCommands.{Cut, cut_of, setup_request}
+use Rattle.campaign_laws.proofs.HeadlineEnds.{IsSetFor, IsServerOf}
+use Rattle.campaign_server.proofs.LineItems.{if_some}
+use Rattle.campaign_laws.proofs.HeadlineLines.{campaign_reads, campaign_device, campaign_session, campaign_came}
+use Rattle.campaign_laws.proofs.HeadlineHeard.{campaign_hears}
+use Rattle.campaign_laws.proofs.Configured.{is_configured}
+use Rattle.campaign_laws.proofs.HeadlineImage.{IsShapeFor, image_fits, alone_is_image, behind}
+
+-- the session's shape is the image's
+pub shape_for : (image : List ℕ) (whole : Cut) (s : Session) → All (λ b. b < 2 ^ 8) image → IsSetFor image whole s
+    → IsShapeFor image (shape_of s) s.setup.padding × ((shape_of s).frag_size ≡ whole.size)
+unfolding shape_of
+shape_for image whole s bytes k =
+    let size : ℕ = whole.size in
+    let cut : s.setup.frag_size ≡ size = ap (λ (r : SetupReq). r.frag_size) k.setup in
+    let count : s.setup.nb_frag ≡ nb_frag_of (length image) size = ap (λ (r : SetupReq). r.nb_frag) k.setup in
+    let pad : s.setup.padding ≡ padding_of (length image) size = ap (λ (r : SetupReq). r.padding) k.setup in (
+      record {
+        count = count ∙ ap (nb_frag_of (length image)) (sym cut);
+        padded = pad ∙ ap (padding_of (length image)) (sym cut);
+        makes = record {
+          some = subst (λ (n : ℕ). 0 < n) (sym count) k.makes.some;
+          short = subst (λ (n : ℕ). s.setup.padding < n) (sym cut)
+              (subst (λ (n : ℕ). n < size) (sym pad) k.makes.short);
+        };
+        bytes = bytes;
+      },
+      cut,
+    )
+
+only_image : (image : List ℕ) (shape : Shape) (padding : ℕ) (heard newer older : List Fragment) (file : List ℕ)
+    → IsShapeFor image shape padding → AllByRecursion (IsFragmentOf image shape.frag_size) heard
+    → heard ≡ newer ++ older → OneFileFits shape padding older file → file ≡ image
+only_image image shape padding heard newer older file h all parted one =
+    alone_is_image image shape padding older file h
+    (behind (IsFragmentOf image shape.frag_size) newer older
+    (subst (AllByRecursion (IsFragmentOf image shape.frag_size)) parted all)) one
+
+pub recovered_by : (image : List ℕ) (s : Session) → IsShapeFor image (shape_of s) s.setup.padding
+    → AllByRecursion (IsFragmentOf image (shape_of s).frag_size) s.heard → IsRecovered image s
+recovered_by image s h all =
+    let shape : Shape = shape_of s in
+    let padding : ℕ = s.setup.padding in
+    let decided : IsDecidedAtFirst s = decided_at_first s h.makes in
+    record {
+      decided = decided;
+      alone = λ newer older file parted one. only_image image shape padding s.heard newer older file h all parted one;
+      shown = λ mark is.
+          let at = (decided.complete mark).0 is in
+          decided.file mark at.0 at.1 ∙ only_image image shape padding s.heard at.1.0
+          (at.1.1 ∷ at.1.2) at.0 h all at.1.3.parted at.1.3.now.alone;
+      agrees = λ mark is.
+          let at = (decided.conflict mark).0 is in
+          let from = behind (IsFragmentOf image shape.frag_size) at.0 (at.1 ∷ at.2)
+          (subst (AllByRecursion (IsFragmentOf image shape.frag_size)) at.3.parted all) in
+          at.3.now image (image_fits image shape padding (at.1 ∷ at.2) h from);
+    }
+
+set_for : (image script : List ℕ) (world : WorldState) (id : ℕ) (stage : Stage) (device : DeviceState) (session : Session)
+    → IsCampaign image script world id stage device session → IsSetFor image (cut_of world.server.plan) session
+set_for image script world id stage device session c =
+    campaign_session image script world id device session c.bytes c.honest c.accepted c.device_is c.session_is
+
+server_of : (image script : List ℕ) (world : WorldState) (id : ℕ) (stage : Stage) (device : DeviceState)
+    (session : Session) → IsCampaign image script world id stage device session → IsServerOf image world.server
+server_of image script world id stage device session c =
+    (campaign_reads image script world c.bytes c.honest c.accepted).keeps.server
+
+session_rows : (image script : List ℕ) (world : WorldState) (id : ℕ) (stage : Stage) (device : DeviceState)
+    (session : Session) → IsCampaign image script world id stage device session
+    → session.rows ≡ min device.config.rows (nb_frag_of (length image) world.server.plan.frag_size)
+session_rows image script world id stage device session c =
+    if_some (λ (s : Session). s.rows ≡ min device.config.rows (nb_frag_of (length image) world.server.plan.frag_size))
+    device.sessions.first session c.session_is
+    (campaign_device image script world id device c.bytes c.honest c.accepted c.device_is).rows
+
+served : (image script : List ℕ) (world : WorldState) (id : ℕ) (stage : Stage) (device : DeviceState)
+    (session : Session) → IsCampaign image script world id stage device session
+    → IsServed image world.server device.config.rows session
+served image script world id stage device session c =
+    let k = set_for image script world id stage device session c in
+    record {
+      image_is = (server_of image script world id stage device session c).image_is;
+      nb_frag = ap (λ (r : SetupReq). r.nb_frag) k.setup;
+      frag_size = ap (λ (r : SetupReq). r.frag_size) k.setup;
+      padding = ap (λ (r : SetupReq). r.padding) k.setup;
+      rows_are = session_rows image script world id stage device session c;
+      heard = k.heard;
+    }
+
+-- the setup that the server sends
+pub setup_is : (image : List ℕ) (server : ServerState) → IsServerOf image server
+    → setup_command server ≡ setup_request image (cut_of server.plan)
+setup_is image server k =
+    ap (λ (i : List ℕ). let c : Command = Cast (fragments_request server.plan i) in c) k.image_is
+
+brought : (image script : List ℕ) (world : WorldState) (id : ℕ) (stage : Stage) (device : DeviceState)
+    (session : Session) → IsCampaign image script world id stage device session
+    → HearsBrought image (lines_of script) world id session
+brought image script world id stage device session c =
+    let lines : List (List ℕ) = lines_of script in
+    let setup = setup_is image world.server (server_of image script world id stage device session c) in
+    record {
+      only = subst (λ (x : Command). CameInOrder image lines world.sent id x world.lines session.heard) (sym setup)
+          (campaign_came image script world id device session c.bytes c.honest c.accepted c.device_is c.session_is);
+      all = λ f n d later w. campaign_hears image script world id device session c.bytes c.honest c.accepted c.device_is
+          c.session_is f n (subst (λ (x : Command). Brings image lines world.sent id n x) setup d) later w;
+    }
+
+recovered_at : (image script : List ℕ) (world : WorldState) (id : ℕ) (device : DeviceState) (session : Session)
+    → All (λ b. b < 2 ^ 8) image → IsHonest script → campaign_of image script ≡ Ok world → numbered world.devices id ≡ Some device
+    → device.sessions.first ≡ Some session → IsRecovered image session
+recovered_at image script world id device session bytes honest is d s =
+    let k = campaign_session image script world id device session bytes honest is d s in
+    let shape = shape_for image (cut_of world.server.plan) session bytes k in
+    recovered_by image session shape.0 (subst (λ (n : ℕ). AllByRecursion (IsFragmentOf image n) session.heard)
+    (sym shape.1) k.heard)
+
+recovered : (image script : List ℕ) (world : WorldState) (id : ℕ) (stage : Stage) (device : DeviceState)
+    (session : Session) → IsCampaign image script world id stage device session → IsRecovered image session
+recovered image script world id stage device session c =
+    recovered_at image script world id device session c.bytes c.honest c.accepted c.device_is c.session_is
+
+-- the report over a device that has no session but the first
+alone_lines : (sent : List ℕ) (all : SessionTable) (session : Session) → all.first ≡ Some session → HasNoOther all
+    → session_lines sent all ≡ session_line sent 0 (Some (seen_of session))
+unfolding view_of
+alone_lines sent all session is none = rw (is, none.second, none.third, none.fourth) (append-nil _)
+
+-- the parts of devices are those before one, its own and those behind it
+parts_split : (image : List ℕ) (k from id : ℕ) (stages : List Stage) (devices : List DeviceState) (stage : Stage)
+    (device : DeviceState) → slice_get stages k ≡ Some stage → slice_get devices k ≡ Some device → from + k ≡ id
+    → device_parts image from stages devices
+    ≡ device_parts image from (take k stages) (take k devices)
+    ++ (device_part image id stage device ++ device_parts image (id + 1) (drop (suc k) stages) (drop (suc k) devices))
+unfolding device_parts
+parts_split image k from id [] devices stage device s d is = absurd cc
+parts_split image k from id (x ∷ xs) [] stage device s d is = absurd cc
+parts_split image zero from id (x ∷ xs) (y ∷ ys) stage device s d is =
+    let one : x ≡ stage = cc in
+    let two : y ≡ device = cc in
+    let same : from ≡ id = omega (arith, is) in
+    ap (λ (a : Stage). device_part image from a y ++ device_parts image (from + 1) xs ys) one
+    ∙ ap (λ (b : DeviceState). device_part image from stage b ++ device_parts image (from + 1) xs ys) two
+    ∙ ap (λ (n : ℕ). device_part image n stage device ++ device_parts image (n + 1) xs ys) same
+parts_split image (suc k) from id (x ∷ xs) (y ∷ ys) stage device s d is =
+    ap (λ (t : List ℕ). device_part image from x y ++ t)
+    (parts_split image k (from + 1) id xs ys stage device s d (omega (arith, is)))
+    ∙ sym (append_assoc (device_part image from x y) (device_parts image (from + 1) (take k xs) (take k ys))
+    (device_part image id stage device ++ device_parts image (id + 1) (drop (suc k) xs) (drop (suc k) ys)))
+
+-- the report in which these are the lines of the sessions of device id
+abbrev report_over : WorldState → (id : ℕ) → Stage → DeviceState → List ℕ → List ℕ
+report_over world id stage device sessions =
+    text_before world id ⧺ device_line id stage device ⧺ counts_line device.counts ⧺ sessions ⧺ text_behind world id
+
+-- texts, one behind another
+parts_on : (a b p x y z q end : List ℕ)
+    → a ++ (b ++ ((p ++ ((x ++ (y ++ z)) ++ q)) ++ end)) ≡ (a ++ (b ++ p)) ++ (x ++ (y ++ (z ++ (q ++ end))))
+parts_on a b p x y z q end =
+    let inner : ((x ++ (y ++ z)) ++ q) ++ end ≡ x ++ (y ++ (z ++ (q ++ end))) =
+    append_assoc (x ++ (y ++ z)) q end ∙ append_assoc x (y ++ z) (q ++ end)
+    ∙ ap (λ (t : List ℕ). x ++ t) (append_assoc y z (q ++ end)) in
+    let whole : (p ++ ((x ++ (y ++ z)) ++ q)) ++ end ≡ p ++ (x ++ (y ++ (z ++ (q ++ end)))) =
+    append_assoc p ((x ++ (y ++ z)) ++ q) end ∙ ap (λ (t : List ℕ). p ++ t) inner in
+    ap (λ (t : List ℕ). a ++ (b ++ t)) whole
+    ∙ ap (λ (t : List ℕ). a ++ t) (sym (append_assoc b p (x ++ (y ++ (z ++ (q ++ end))))))
+    ∙ sym (append_assoc a (b ++ p) (x ++ (y ++ (z ++ (q ++ end)))))
+
+item_by : {A : Type 0} (xs : List A) (id : ℕ) (x : A) (b : Bool) → (id == 0) ≡ b
+    → cond b None (slice_get xs (id - 1)) ≡ Some x → (slice_get xs (id - 1) ≡ Some x) × (1 ≤ id)
+item_by xs id x true is there = absurd cc
+item_by xs zero x false is there = absurd cc
+item_by xs (suc id) x false is there = (there, omega arith)
+
+report_is : (world : WorldState) (id : ℕ) (stage : Stage) (device : DeviceState) (session : Session)
+    → ledger world.server id ≡ Some stage → numbered world.devices id ≡ Some device
+    → device.sessions.first ≡ Some session → HasNoOther device.sessions
+    → report_of world ≡ report_over world id stage device (session_line world.server.image 0 (Some (seen_of session)))
+unfolding report_of
+report_is world id stage device session s d e none =
+    let image : List ℕ = world.server.image in
+    let stages : List Stage = world.server.stages in
+    let there = item_by stages id stage (id == 0) refl s in
+    let here = item_by world.devices id device (id == 0) refl d in
+    let at : suc (id - 1) ≡ id = omega (arith, there.1) in
+    let split = parts_split image (id - 1) 1 id stages world.devices stage device there.0 here.0 (omega (arith, there.1)) in
+    let moved : device_parts image 1 stages world.devices
+    ≡ device_parts image 1 (take (id - 1) stages) (take (id - 1) world.devices)
+    ++ (device_part image id stage device ++ device_parts image (id + 1) (drop id stages) (drop id world.devices)) =
+    split ∙ ap (λ (k : ℕ). device_parts image 1 (take (id - 1) stages) (take (id - 1) world.devices)
+    ++ (device_part image id stage device ++ device_parts image (id + 1) (drop k stages) (drop k world.devices))) at in
+    ap (λ (t : List ℕ). codes "fuota report 1\n" ++ (image_line world.server ++ (t ++ codes "end\n"))) moved
+    ∙ parts_on (codes "fuota report 1\n") (image_line world.server)
+    (device_parts image 1 (take (id - 1) stages) (take (id - 1) world.devices))
+    (device_line id stage device) (counts_line device.counts) (session_lines image device.sessions)
+    (device_parts image (id + 1) (drop id stages) (drop id world.devices)) (codes "end\n")
+    ∙ ap (report_over world id stage device) (alone_lines image device.sessions session e none)
+
+line_is : (sent : List ℕ) (seen : Seen) (v : Verdict) → seen.verdict ≡ v
+    → session_line sent 0 (Some seen) ≡ session_text 0 seen.received seen.missing
+    (verdict_text v (same_word (bytes_eq seen.file sent)))
+line_is sent seen v is =
+    ap (λ (x : Verdict). session_text 0 seen.received seen.missing
+    (verdict_text x (same_word (bytes_eq seen.file sent)))) is
+
+-- a session is complete, without rows or receiving, where there never is a conflict
+abbrev Cases : Verdict → Type 0
+Cases v = ((mark : ℕ) × (v ≡ verdict.Complete mark))
+    ⊎ (((mark : ℕ) × (v ≡ verdict.NoRows mark)) ⊎ (v ≡ verdict.Receiving))
+
+seen_cases : (v : Verdict) → ((mark : ℕ) → v ≢ verdict.Conflict mark) → Cases v
+seen_cases verdict.Receiving agrees = inr (inr refl)
+seen_cases (verdict.Complete mark) agrees = inl (mark, refl)
+seen_cases (verdict.NoRows mark) agrees = inr (inl (mark, refl))
+seen_cases (verdict.Conflict mark) agrees = absurd (agrees mark refl)
+
+whole_of_image : (image : List ℕ) (s : Session) → IsRecovered image s → (mark : ℕ) (file : List ℕ)
+    → FirstAt (shape_of s) s.setup.padding (IsWhole (shape_of s) s.setup.padding file) s.heard mark
+    → WholeAt image s mark
+whole_of_image image s r mark file at =
+    subst (λ (f : List ℕ). FirstAt (shape_of s) s.setup.padding (IsWhole (shape_of s) s.setup.padding f) s.heard mark)
+    (r.alone at.0 (at.1 ∷ at.2) file at.3.parted at.3.now.alone) at
+
+reported : (image script : List ℕ) (world : WorldState) (id : ℕ) (stage : Stage) (device : DeviceState)
+    (session : Session) → IsCampaign image script world id stage device session
+    → IsReported image world id stage device session
+reported image script world id stage device session c =
+    let k = server_of image script world id stage device session c in
+    let r = recovered image script world id stage device session c in
+    let seen : Seen = seen_of session in
+    let server : ServerState = world.server in
+    let text = report_is world id stage device session c.stage_is c.device_is c.session_is
+    (campaign_device image script world id device c.bytes c.honest c.accepted c.device_is).alone in
+    let whole : List ℕ → List ℕ = λ line. report_over world id stage device line in
+    record {
+      cases = elim (seen_cases seen.verdict r.agrees) [
+        | inl is ↦ let at = (r.decided.complete is.0).0 is.1 in inl
+            (is.0, whole_of_image image session r is.0 at.0 at.1)
+        | inr other ↦ inr (elim other [
+          | inl is ↦ inl (is.0, (r.decided.no_rows is.0).0 is.1)
+          | inr is ↦ inr (r.decided.receiving.0 is)
+        ])
+      ];
+      complete = λ line at.
+          let is = (r.decided.complete line).1 (image, at) in
+          let same : bytes_eq seen.file server.image
+          ≡ true = (bytes_eq-Decides seen.file server.image).1 (r.shown line is ∙ sym k.image_is) in
+          text ∙ ap whole (line_is server.image seen (verdict.Complete line) is
+          ∙ ap (λ b. session_text 0 seen.received seen.missing (verdict_text (verdict.Complete line) (same_word b)))
+          same);
+      no_rows = λ line at. text ∙ ap whole (line_is server.image seen (verdict.NoRows line)
+          ((r.decided.no_rows line).1 at));
+      receiving = λ stays. text ∙ ap whole (line_is server.image seen verdict.Receiving (r.decided.receiving.1 stays));
+    }
+
+configured : (image script : List ℕ) (world : WorldState) (id : ℕ) (device : DeviceState) → All (λ b. b < 2 ^ 8) image
+    → campaign_of image script ≡ Ok world → numbered world.devices id ≡ Some device
+    → IsOfItsLine (lines_of script) id device.config
+configured image script world id device bytes is there = is_configured image script world id device is there
+
+one : (image script : List ℕ) (world : WorldState) (id : ℕ) (device : DeviceState) → All (λ b. b < 2 ^ 8) image
+    → IsHonest script → campaign_of image script ≡ Ok world → numbered world.devices id ≡ Some device → HasNoOther device.sessions
+one image script world id device bytes honest is there = (campaign_device image script world id device bytes honest is there).alone
+
+pub headline : Headline
+headline = record { configured = configured; one = one; served = served; brought = brought; recovered = recovered; reported = reported }
+
+-- ---- what is recovered
+
+-- a session that gives a file is complete, and the file is the image
+file_by_image : (image : List ℕ) (session : Session) (seen : Seen) (v : Verdict) (file : List ℕ) → seen_of session ≡ seen
+    → seen.verdict ≡ v → IsRecovered image session → file_by v seen.file ≡ Ok file → file ≡ image
+file_by_image image session seen verdict.Receiving file is at r given = absurd cc
+file_by_image image session seen (verdict.Complete mark) file is at r given =
+    let same : seen.file ≡ file = cc in
+    sym same ∙ sym (ap (λ (x : Seen). x.file) is)
+    ∙ r.shown mark (ap (λ (x : Seen). x.verdict) is ∙ at)
+file_by_image image session seen (verdict.NoRows mark) file is at r given = absurd cc
+file_by_image image session seen (verdict.Conflict mark) file is at r given = absurd cc
+
+session_image : (image : List ℕ) (s : Option Session) (file : List ℕ) → ((x : Session) → s ≡ Some x → IsRecovered image x)
+    → file_of (view_of s) ≡ Ok file → file ≡ image
+unfolding view_of
+session_image image None file r given = absurd cc
+session_image image (Some s) file r given =
+    file_by_image image s (seen_of s) (seen_of s).verdict file refl refl (r s refl) given
+
+device_image : (image script : List ℕ) (world : WorldState) (id : ℕ) (o : Option DeviceState) (file : List ℕ)
+    → All (λ b. b < 2 ^ 8) image → IsHonest script → campaign_of image script ≡ Ok world → numbered world.devices id ≡ o
+    → recovery_by o ≡ Ok file → file ≡ image
+device_image image script world id None file bytes honest is there given = absurd cc
+device_image image script world id (Some device) file bytes honest is there given =
+    session_image image device.sessions.first file
+    (λ s at. recovered_at image script world id device s bytes honest is there at) given
+
+pub recovers : RecoversTheImage
+unfolding recovery
+recovers image script world id file bytes honest is given =
+    device_image image script world id (numbered world.devices id) file bytes honest is refl given

@@ -1,0 +1,523 @@
+-- Each heard fragment was brought by the line whose number is its mark.
+use Rattle.std.proofs.Common.{◌≡◌, ◌⊎◌, inl, inr, ℕ, suc, ◌+◌, ◌-◌, ◌^◌, ◌<◌, ◌≤◌, Bool, true, false, cond, ◌==◌, List, [], ◌∷◌, ◌++◌, All, take, drop, Option, None, Some, IfSome, is_none, Result, Ok, Err, IfOk, refl, sym, ap, ◌∙◌, subst, arith}
+use Rattle.std.specs.List.{slice_set}
+use Rattle.cast_wire.specs.declared.cmd.Cmd.TheVariants.{DataFragment}
+use Rattle.frag_model.specs.Fragments.{Fragment}
+use Rattle.frag_encoder.specs.Encoding.{data_of}
+use Rattle.frag_session.specs.declared.setups.SetupReq.{SetupReq}
+use Rattle.frag_session.specs.declared.setups.Limits.{Limits}
+use Rattle.frag_session.specs.declared.answers.Cause.{Cause}
+use Rattle.frag_session.specs.declared.answers.Cause.TheVariants as cause
+use Rattle.frag_session.specs.declared.answers.Via.{Via}
+use Rattle.frag_session.specs.Setup.{Room, setup_bits, same_setup}
+use Rattle.frag_session.specs.Session as sessions
+use Rattle.frag_session.specs.Session.{Session, new_session, renewed, after_setup, followed, after_fragment, drop_cause, excludes}
+use Rattle.package_grammar.specs.declared.command.Command.{Command}
+use Rattle.package_grammar.specs.declared.command.Command.TheVariants.{Cast}
+use Rattle.package_grammar.specs.declared.downlink.To.{To}
+use Rattle.package_grammar.specs.declared.downlink.To.TheVariants.{Unicast}
+use Rattle.package_grammar.specs.declared.downlink.Downlink.{Downlink}
+use Rattle.device_core.specs.declared.config.DeviceConfig.{DeviceConfig}
+use Rattle.device_core.specs.SessionTable.{SessionTable}
+use Rattle.device_core.specs.Device.{DeviceState, first_device}
+use Rattle.device_core.specs.ClassSessions.{hears}
+use Rattle.campaign_server.specs.Server.{DownlinkCommand, numbered, downlink_of}
+use Rattle.script_lines.specs.declared.forms.Form.{Form}
+use Rattle.script_lines.specs.declared.forms.Form.TheVariants.{Down}
+use Rattle.script_lines.specs.Lines.{lines_of}
+use Rattle.script_lines.specs.Forms.{form_of}
+use Rattle.campaign_world.specs.declared.section.Section.{Section}
+use Rattle.campaign_world.specs.declared.section.Section.TheVariants as section
+use Rattle.campaign_world.specs.declared.faults.LineWhy.{LineWhy}
+use Rattle.campaign_world.specs.declared.faults.LineFault.{LineFault}
+use Rattle.campaign_world.specs.declared.numbered.SentPayload.{SentPayload}
+use Rattle.campaign_world.specs.World.{WorldState, first_world}
+use Rattle.campaign_world.specs.Causes.{cause_of_form, cause_of}
+use Rattle.campaign_world.specs.Making.{config_of, after_form}
+use Rattle.campaign_world.specs.Script.{after_form_of, after_line, line_result, read_line, read_lines, end_result_at, end_result, campaign_of}
+use Rattle.campaign_world.specs.Honest.{is_raw, has_raw, AreHonest, IsHonest}
+use Rattle.campaign_laws.specs.Headline.{Delivers, Listens, campaign_before, Brings, WasBrought, CameInOrder}
+use Rattle.campaign_server.proofs.LineItems.{if_some, some_is, some_weaker, none_there, numbered_more, numbered_push, numbered_put, numbered_there, numbered_next, take_next}
+use Rattle.campaign_laws.proofs.HeadlineCommands.{Cut, cut_of, setup_req, command_of, setup_request, fragment_command, IsGood, setup_good, fragment_good}
+use Rattle.device_core.proofs.Stays.{Moves, stays}
+use Rattle.campaign_laws.proofs.HeadlinePayloads.{comes_to, way_of}
+use Rattle.campaign_laws.proofs.HeadlineEnds.{IsSetFor, IsDeviceFor}
+use Rattle.campaign_laws.proofs.HeadlineWorlds.{Keeps, first_keeps, HasStayed, IsQuiet, Turns, IsReached, turn_keeps}
+use Rattle.campaign_laws.proofs.HeadlineForms.{form_turn}
+
+-- ---- deliveries as the campaign goes on
+
+later : (image : List ℕ) (lines : List (List ℕ)) (sent : List SentPayload) (id : ℕ) (setup : Command) (last next : ℕ)
+    (heard : List Fragment) → last ≤ next → CameInOrder image lines sent id setup last heard
+    → CameInOrder image lines sent id setup next heard
+later image lines sent id setup last next [] le h = (h.0, omega (arith, h.1, le), h.2)
+later image lines sent id setup last next (f ∷ older) le h = (omega (arith, h.0, le), h.1, h.2)
+
+pub still_brings : (image : List ℕ) (lines : List (List ℕ)) (sent more : List SentPayload) (id n : ℕ) (c : Command)
+    → Brings image lines sent id n c → Brings image lines (sent ++ more) id n c
+still_brings image lines sent more id n c b = (
+  b.0,
+  b.1,
+  b.2,
+  (
+    b.3.0,
+    b.3.1,
+    b.3.2,
+    b.3.3,
+    record {
+      line_is = b.3.4.line_is;
+      form = b.3.4.form;
+      payload_is = numbered_more sent more b.3.1 _ b.3.4.payload_is;
+      valid = b.3.4.valid;
+    },
+  ),
+  b.4,
+)
+
+more_sent : (image : List ℕ) (lines : List (List ℕ)) (sent more : List SentPayload) (id : ℕ) (setup : Command)
+    (last : ℕ) (heard : List Fragment) → CameInOrder image lines sent id setup last heard
+    → CameInOrder image lines (sent ++ more) id setup last heard
+more_sent image lines sent more id setup last [] h = (h.0, h.1, still_brings image lines sent more id h.0 setup h.2)
+more_sent image lines sent more id setup last (f ∷ older) h = (
+  h.0,
+  still_brings image lines sent more id f.mark (Cast (DataFragment 0 f.number f.part)) h.1,
+  more_sent image lines sent more id setup (f.mark - 1) older h.2,
+)
+
+-- what a session heard
+abbrev SessionCame : List ℕ → List (List ℕ) → List SentPayload → (id last : ℕ) → Session → Type 0
+SessionCame image lines sent id last s = CameInOrder image lines sent id (command_of s.setup) last s.heard
+
+-- what a device's session heard
+abbrev DeviceCame : List ℕ → List (List ℕ) → List SentPayload → (id last : ℕ) → DeviceState → Type 0
+DeviceCame image lines sent id last d = IfSome d.sessions.first (SessionCame image lines sent id last)
+
+session_later : (image : List ℕ) (lines : List (List ℕ)) (sent : List SentPayload) (id n : ℕ) (s : Option Session)
+    → IfSome s (SessionCame image lines sent id n) → IfSome s (SessionCame image lines sent id (n + 1))
+session_later image lines sent id n s h =
+    some_weaker (SessionCame image lines sent id n) (SessionCame image lines sent id (n + 1)) s
+    (λ x c. later image lines sent id (command_of x.setup) n (n + 1) x.heard (omega arith) c) h
+
+session_on : (image : List ℕ) (lines : List (List ℕ)) (sent more : List SentPayload) (id n : ℕ) (s : Option Session)
+    → IfSome s (SessionCame image lines sent id n) → IfSome s (SessionCame image lines (sent ++ more) id (n + 1))
+session_on image lines sent more id n s h =
+    some_weaker (SessionCame image lines sent id (n + 1)) (SessionCame image lines (sent ++ more) id (n + 1)) s
+    (λ x c. more_sent image lines sent more id (command_of x.setup) (n + 1) x.heard c)
+    (session_later image lines sent id n s h)
+
+-- ---- a command
+
+fresh_came : (image : List ℕ) (lines : List (List ℕ)) (sent : List SentPayload) (id last : ℕ) (limits : Limits)
+    (req : SetupReq) → Brings image lines sent id last (command_of req)
+    → SessionCame image lines sent id last (new_session limits req)
+unfolding new_session
+fresh_came image lines sent id last limits req b = (last, omega arith, b)
+
+renewed_by : (image : List ℕ) (lines : List (List ℕ)) (sent : List SentPayload) (id last : ℕ) (limits : Limits)
+    (s : Session) (req : SetupReq) (b : Bool) → Brings image lines sent id last (command_of req)
+    → SessionCame image lines sent id last s
+    → SessionCame image lines sent id last (cond b s (new_session limits req))
+renewed_by image lines sent id last limits s req true d h = h
+renewed_by image lines sent id last limits s req false d h = fresh_came image lines sent id last limits req d
+
+renewed_came : (image : List ℕ) (lines : List (List ℕ)) (sent : List SentPayload) (id last : ℕ) (limits : Limits)
+    (s : Option Session) (req : SetupReq) → Brings image lines sent id last (command_of req)
+    → IfSome s (SessionCame image lines sent id last)
+    → SessionCame image lines sent id last (renewed limits s req)
+unfolding renewed
+renewed_came image lines sent id last limits None req d h = fresh_came image lines sent id last limits req d
+renewed_came image lines sent id last limits (Some s) req d h =
+    renewed_by image lines sent id last limits s req (same_setup s.setup req) d h
+
+setup_by : (image : List ℕ) (lines : List (List ℕ)) (sent : List SentPayload) (id last : ℕ) (limits : Limits)
+    (s : Option Session) (req : SetupReq) (b : Bool) → Brings image lines sent id last (command_of req)
+    → IfSome s (SessionCame image lines sent id last)
+    → IfSome (cond b (Some (renewed limits s req)) s) (SessionCame image lines sent id last)
+setup_by image lines sent id last limits s req true d h = renewed_came image lines sent id last limits s req d h
+setup_by image lines sent id last limits s req false d h = h
+
+setup_came : (image : List ℕ) (lines : List (List ℕ)) (sent : List SentPayload) (id last : ℕ) (limits : Limits)
+    (here : Room) (s : Option Session) (req : SetupReq) → Brings image lines sent id last (command_of req)
+    → IfSome s (SessionCame image lines sent id last)
+    → IfSome (after_setup limits here s req) (SessionCame image lines sent id last)
+unfolding after_setup
+setup_came image lines sent id last limits here s req d h =
+    setup_by image lines sent id last limits s req (setup_bits limits here req == 0) d h
+
+followed_came : (image : List ℕ) (lines : List (List ℕ)) (sent : List SentPayload) (id n : ℕ) (s : Session)
+    (number : ℕ) (part : List ℕ)
+    → WasBrought image lines sent id (record { number = number; part = part; mark = n + 1 })
+    → SessionCame image lines sent id n s
+    → SessionCame image lines sent id (n + 1) (followed s number part (n + 1))
+unfolding followed
+followed_came image lines sent id n s number part f h =
+    let back : (n + 1) - 1 ≡ n = omega arith in (
+      omega arith,
+      f,
+      subst (λ (k : ℕ). CameInOrder image lines sent id (command_of s.setup) k s.heard) (sym back) h,
+    )
+
+-- a fragment that is not dropped came by a way that the session takes
+open_by : (b : Bool) (rest : Option Cause) → is_none (cond b (Some cause.Group) rest) ≡ true → b ≡ false
+open_by true rest is = absurd cc
+open_by false rest is = refl
+
+pub open_way : (s : Session) (way : Via) (n : ℕ) (part : List ℕ) → is_none (drop_cause (Some s) way n part) ≡ true
+    → excludes s.setup.mask way ≡ false
+unfolding drop_cause sessions.cause_of
+open_way s way n part is = open_by (excludes s.setup.mask way) _ is
+
+heard_by : (image : List ℕ) (lines : List (List ℕ)) (sent : List SentPayload) (id n : ℕ) (s : Session) (number : ℕ)
+    (part : List ℕ) (b : Bool)
+    → (b ≡ true → WasBrought image lines sent id (record { number = number; part = part; mark = n + 1 }))
+    → SessionCame image lines sent id n s
+    → IfSome (cond b (Some (followed s number part (n + 1))) (Some s)) (SessionCame image lines sent id (n + 1))
+heard_by image lines sent id n s number part true f h = followed_came image lines sent id n s number part (f refl) h
+heard_by image lines sent id n s number part false f h =
+    later image lines sent id (command_of s.setup) n (n + 1) s.heard (omega arith) h
+
+no_session : (image : List ℕ) (lines : List (List ℕ)) (sent : List SentPayload) (id n : ℕ) (way : Via) (number : ℕ)
+    (part : List ℕ) → IfSome (after_fragment None way number part (n + 1)) (SessionCame image lines sent id (n + 1))
+unfolding after_fragment drop_cause
+no_session image lines sent id n way number part = tt
+
+fragment_came : (image : List ℕ) (lines : List (List ℕ)) (sent : List SentPayload) (id n : ℕ) (s : Option Session)
+    (way : Via) (number : ℕ) (part : List ℕ)
+    → ((x : Session) → s ≡ Some x → excludes x.setup.mask way ≡ false
+    → WasBrought image lines sent id (record { number = number; part = part; mark = n + 1 }))
+    → IfSome s (SessionCame image lines sent id n)
+    → IfSome (after_fragment s way number part (n + 1)) (SessionCame image lines sent id (n + 1))
+unfolding after_fragment
+fragment_came image lines sent id n None way number part f h = no_session image lines sent id n way number part
+fragment_came image lines sent id n (Some s) way number part f h =
+    heard_by image lines sent id n s number part (is_none (drop_cause (Some s) way number part))
+    (λ is. f s refl (open_way s way number part is)) h
+
+-- a payload that the server sent reaches the device by this line
+delivers : (lines : List (List ℕ)) (sent : List SentPayload) (id n : ℕ) (p : SentPayload) (down : DownlinkCommand)
+    (c : Command) (line : List ℕ) (number word : ℕ) → numbered lines n ≡ Some line
+    → form_of line ≡ Some (Down number id word)
+    → numbered sent number ≡ Some p → p.down ≡ downlink_of down → down.command ≡ c → IsGood c
+    → Delivers lines sent id n (record { to = down.to; command = c })
+delivers lines sent id n p down c line number word line_is form got down_is is good = (
+  line,
+  number,
+  word,
+  p.receiver,
+  record {
+    line_is = line_is;
+    form = form;
+    payload_is = got ∙ ap (λ (x : Downlink). let o : Option SentPayload =
+        Some (record { receiver = p.receiver; down = x }) in o)
+        (down_is ∙ ap (λ (x : Command). downlink_of (record { to = down.to; command = x })) is);
+    valid = good.valid;
+  },
+)
+
+moved_came : (image : List ℕ) (lines : List (List ℕ)) (sent : List SentPayload) (id n : ℕ)
+    (F : DeviceConfig → Option Session → Option Session) (d e : DeviceState) → Moves F d e
+    → IfSome (F d.config d.sessions.first) (SessionCame image lines sent id n) → DeviceCame image lines sent id n e
+moved_came image lines sent id n F d e m h =
+    subst (λ (t : SessionTable). IfSome t.first (SessionCame image lines sent id n)) (sym m.sessions) h
+
+-- the campaign before a line is the one that is read up to it
+pub before_next : (image : List ℕ) (lines : List (List ℕ)) (w : WorldState)
+    → read_lines (Ok (first_world image)) (take w.lines lines) ≡ Ok w
+    → campaign_before image lines (w.lines + 1) ≡ Ok w
+before_next image lines w is =
+    let back : (w.lines + 1) - 1 ≡ w.lines = omega arith in
+    ap (λ (k : ℕ). read_lines (Ok (first_world image)) (take k lines)) back ∙ is
+
+-- a device that hears
+listens : (image : List ℕ) (lines : List (List ℕ)) (w : WorldState) (id : ℕ) (to : To) (d : DeviceState)
+    → read_lines (Ok (first_world image)) (take w.lines lines) ≡ Ok w → numbered w.devices id ≡ Some d
+    → hears (comes_to w.time d) w.time to ≡ true
+    → excludes (cut_of w.server.plan).mask (way_of w.time d to) ≡ false
+    → Listens image lines id (w.lines + 1) to w d
+listens image lines w id to d is there hears_it way =
+    record { before = before_next image lines w is; there = there; hearing = hears_it; way = way }
+
+mask_is : (image : List ℕ) (cut : Cut) (s : Session) (way : Via) → IsSetFor image cut s
+    → excludes s.setup.mask way ≡ false → excludes cut.mask way ≡ false
+mask_is image cut s way k is =
+    sym (ap (λ (r : SetupReq). excludes r.mask way) k.setup) ∙ is
+
+by_unicast : (mask t : ℕ) (d : DeviceState) → excludes mask (way_of t d Unicast) ≡ false
+unfolding excludes
+by_unicast mask t d = refl
+
+reached_came : (image : List ℕ) (lines : List (List ℕ)) (w v : WorldState) (form : Form) (line : List ℕ)
+    (r : IsReached image form w v) → All (λ b. b < 2 ^ 8) image
+    → read_lines (Ok (first_world image)) (take w.lines lines) ≡ Ok w
+    → numbered lines (w.lines + 1) ≡ Some line → form_of line ≡ Some form
+    → IsDeviceFor image (cut_of w.server.plan) r.old
+    → DeviceCame image lines w.sent r.id w.lines r.old → DeviceCame image lines w.sent r.id (w.lines + 1) r.new
+reached_came image lines w v form line r bytes read line_is form_is its h =
+    let cut : Cut = cut_of w.server.plan in
+    let n : ℕ = w.lines + 1 in
+    let down : form_of line ≡ Some (Down r.number r.id r.word) = form_is ∙ ap (λ (f : Form). Some f) r.form_is in
+    let old : IfSome r.old.sessions.first (SessionCame image lines w.sent r.id n) =
+    session_later image lines w.sent r.id w.lines r.old.sessions.first h in
+    elim r.acts [
+      | inl deaf ↦ moved_came image lines w.sent r.id n stays r.old r.new deaf.1 old
+      | inr heard ↦ elim heard.1 [
+        | inl a ↦
+            moved_came image lines w.sent r.id n _ r.old r.new a.2
+            (setup_came image lines w.sent r.id n _ _ r.old.sessions.first (setup_req image cut) (
+              r.down.to,
+              w,
+              r.old,
+              delivers lines w.sent r.id n r.payload r.down (setup_request image cut) line r.number r.word line_is
+                  down r.got r.down_is a.0 (setup_good image cut bytes r.is_cut),
+              listens image lines w r.id r.down.to r.old read r.before heard.0
+                  (ap (λ (to : To). excludes cut.mask (way_of w.time r.old to)) a.1 ∙ by_unicast cut.mask w.time r.old),
+            ) old)
+        | inr other ↦ elim other [
+          | inl a ↦
+              moved_came image lines w.sent r.id n _ r.old r.new a.3
+              (fragment_came image lines w.sent r.id w.lines r.old.sessions.first (way_of w.time r.old r.down.to) a.0
+              (data_of image cut.size a.0)
+              (λ s is way. (
+                r.down.to,
+                w,
+                r.old,
+                delivers lines w.sent r.id n r.payload r.down (fragment_command image cut.size a.0) line r.number r.word
+                    line_is down r.got r.down_is a.2 (fragment_good image cut a.0 r.is_cut a.1),
+                listens image lines w r.id r.down.to r.old read r.before heard.0
+                    (mask_is image cut s _ (if_some (IsSetFor image cut) r.old.sessions.first s is its.session) way),
+              )) h)
+          | inr a ↦ moved_came image lines w.sent r.id n stays r.old r.new a.1 old
+        ]
+      ]
+    ]
+
+-- ---- a line
+
+-- what each device heard
+pub AllCame : List ℕ → List (List ℕ) → List SentPayload → ℕ → List DeviceState → Type 0
+AllCame image lines sent n ds = (id : ℕ) → IfSome (numbered ds id) (DeviceCame image lines sent id n)
+
+none_came : (image : List ℕ) (lines : List (List ℕ)) (sent : List SentPayload) (n : ℕ) (ds : List DeviceState)
+    → ds ≡ [] → AllCame image lines sent n ds
+unfolding AllCame
+none_came image lines sent n ds is id =
+    subst (λ (o : Option DeviceState). IfSome o (DeviceCame image lines sent id n))
+    (sym (none_there ds id is)) tt
+
+quiet_came : (image : List ℕ) (lines : List (List ℕ)) (sent more : List SentPayload) (id n : ℕ)
+    (old new : Option DeviceState) → IfSome old (DeviceCame image lines sent id n)
+    → (new ≡ old) ⊎ HasStayed old new → IfSome new (DeviceCame image lines (sent ++ more) id (n + 1))
+quiet_came image lines sent more id n old new h (inl same) =
+    subst (λ (o : Option DeviceState). IfSome o (DeviceCame image lines (sent ++ more) id (n + 1))) (sym same)
+    (some_weaker (DeviceCame image lines sent id n) (DeviceCame image lines (sent ++ more) id (n + 1)) old
+    (λ d c. session_on image lines sent more id n d.sessions.first c) h)
+quiet_came image lines sent more id n old new h (inr s) =
+    some_is (DeviceCame image lines (sent ++ more) id (n + 1)) new s.e s.is
+    (moved_came image lines (sent ++ more) id (n + 1) stays s.d s.e s.moves
+    (session_on image lines sent more id n s.d.sessions.first
+    (if_some (DeviceCame image lines sent id n) old s.d s.was h)))
+
+device_later : (image : List ℕ) (lines : List (List ℕ)) (sent : List SentPayload) (id n : ℕ) (o : Option DeviceState)
+    → IfSome o (DeviceCame image lines sent id n) → IfSome o (DeviceCame image lines sent id (n + 1))
+device_later image lines sent id n o h =
+    some_weaker (DeviceCame image lines sent id n) (DeviceCame image lines sent id (n + 1)) o
+    (λ d c. session_later image lines sent id n d.sessions.first c) h
+
+joined_came : (image : List ℕ) (lines : List (List ℕ)) (sent : List SentPayload) (n : ℕ) (ds : List DeviceState)
+    (config : DeviceConfig) → AllCame image lines sent n ds
+    → AllCame image lines sent (n + 1) (ds ++ first_device config ∷ [])
+unfolding AllCame
+joined_came image lines sent n ds config h id = elim (numbered_push ds (first_device config) id) [
+  | inl same ↦ subst (λ (o : Option DeviceState). IfSome o (DeviceCame image lines sent id (n + 1))) (sym same)
+      (device_later image lines sent id n (numbered ds id) (h id))
+  | inr new ↦ some_is (DeviceCame image lines sent id (n + 1)) _ (first_device config) new.1 tt
+]
+
+turn_came : (image : List ℕ) (lines : List (List ℕ)) (w v : WorldState) (form : Form) (line : List ℕ)
+    → All (λ b. b < 2 ^ 8) image → Keeps image w
+    → read_lines (Ok (first_world image)) (take w.lines lines) ≡ Ok w
+    → Turns image form w v → numbered lines (w.lines + 1) ≡ Some line → form_of line ≡ Some form
+    → AllCame image lines w.sent w.lines w.devices → AllCame image lines v.sent (w.lines + 1) v.devices
+unfolding AllCame
+turn_came image lines w v form line bytes k read turn line_is form_is h = elim turn.how [
+  | inl q ↦ subst (λ (ss : List SentPayload). AllCame image lines ss (w.lines + 1) v.devices) (sym q.sent) (quiet q)
+  | inr other ↦ elim other [
+    | inl b ↦ none_came image lines v.sent (w.lines + 1) v.devices b.devices
+    | inr another ↦ elim another [
+      | inl j ↦ subst (λ (ss : List SentPayload). AllCame image lines ss (w.lines + 1) v.devices) (sym j.sent)
+          (subst (AllCame image lines w.sent (w.lines + 1)) (sym j.devices)
+          (joined_came image lines w.sent w.lines w.devices
+          (config_of j.class j.hw j.rows j.offset j.key j.descriptor j.v1) h))
+      | inr r ↦ subst (λ (ss : List SentPayload). AllCame image lines ss (w.lines + 1) v.devices) (sym r.sent)
+          (subst (AllCame image lines w.sent (w.lines + 1)) (sym r.devices) (reached r))
+    ]
+  ]
+]
+  where
+    quiet : (q : IsQuiet image form w v) → AllCame image lines (w.sent ++ q.more) (w.lines + 1) v.devices
+    quiet q id = quiet_came image lines w.sent q.more id w.lines (numbered w.devices id) (numbered v.devices id) (h id)
+        (q.devices id)
+
+    reached : (r : IsReached image form w v)
+        → AllCame image lines w.sent (w.lines + 1) (slice_set w.devices (r.id - 1) r.new)
+    reached r id = elim (numbered_put w.devices r.id id r.new r.first) [
+      | inr same ↦ subst (λ (o : Option DeviceState). IfSome o (DeviceCame image lines w.sent id (w.lines + 1))) (sym same)
+          (device_later image lines w.sent id w.lines (numbered w.devices id) (h id))
+      | inl is ↦ some_is (DeviceCame image lines w.sent id (w.lines + 1)) _ r.new
+          (ap (λ (x : ℕ). numbered (slice_set w.devices (r.id - 1) r.new) x) is
+          ∙ numbered_there w.devices r.id r.old r.new r.before)
+          (subst (λ (x : ℕ). DeviceCame image lines w.sent x (w.lines + 1) r.new) (sym is)
+          (reached_came image lines w v form line r bytes read line_is form_is
+          (if_some (IsDeviceFor image (cut_of w.server.plan)) (numbered w.devices r.id) r.old r.before (k.devices r.id))
+          (if_some (DeviceCame image lines w.sent r.id w.lines) (numbered w.devices r.id) r.old r.before (h r.id))))
+    ]
+
+-- ---- lines that are read
+
+-- what holds between two lines, with these lines left
+pub record Reads (image : List ℕ) (lines : List (List ℕ)) (rest : List (List ℕ)) (w : WorldState) : Type 0 where
+  pub keeps : Keeps image w
+  pub came : AllCame image lines w.sent w.lines w.devices
+  pub left : drop w.lines lines ≡ rest
+  pub read : read_lines (Ok (first_world image)) (take w.lines lines) ≡ Ok w
+  pub honest : AreHonest rest
+
+-- lines are read one after another
+read_more : (r : Result WorldState LineFault) (xs : List (List ℕ)) (x : List ℕ)
+    → read_lines r (xs ++ x ∷ []) ≡ read_lines (read_lines r xs) (x ∷ [])
+unfolding read_lines
+read_more (Err fault) xs x = refl
+read_more (Ok w) [] x = refl
+read_more (Ok w) (y ∷ ys) x = read_more (read_line w y) ys x
+
+read_one : (w : WorldState) (x : List ℕ) → cause_of w x ≡ None → read_lines (Ok w) (x ∷ []) ≡ Ok (after_line w x)
+unfolding read_lines read_line
+read_one w x fine = ap (λ (c : Option LineWhy). read_lines (line_result w x c) []) fine
+
+read_next : (image : List ℕ) (lines : List (List ℕ)) (w : WorldState) (line : List ℕ) (rest : List (List ℕ))
+    → read_lines (Ok (first_world image)) (take w.lines lines) ≡ Ok w → drop w.lines lines ≡ line ∷ rest
+    → cause_of w line ≡ None
+    → read_lines (Ok (first_world image)) (take (w.lines + 1) lines) ≡ Ok (after_line w line)
+read_next image lines w line rest read left fine =
+    let one : w.lines + 1 ≡ suc w.lines = omega arith in
+    ap (λ (k : ℕ). read_lines (Ok (first_world image)) (take k lines)) one
+    ∙ ap (λ (xs : List (List ℕ)). read_lines (Ok (first_world image)) xs) (take_next lines w.lines line rest left)
+    ∙ read_more (Ok (first_world image)) (take w.lines lines) line
+    ∙ ap (λ (r : Result WorldState LineFault). read_lines r (line ∷ [])) read
+    ∙ read_one w line fine
+
+-- the next line is read
+form_reads : (image : List ℕ) (lines : List (List ℕ)) (w : WorldState) (line : List ℕ) (rest : List (List ℕ))
+    (form : Option Form) → All (λ b. b < 2 ^ 8) image → Reads image lines (line ∷ rest) w → form_of line ≡ form
+    → cause_of w line ≡ None → cause_of_form w form ≡ None → Reads image lines rest (after_form_of w form)
+unfolding after_line
+form_reads image lines w line rest None bytes r is none fine = absurd cc
+form_reads image lines w line rest (Some form) bytes r is none fine =
+    let next = numbered_next lines w.lines line rest r.left in
+    let mine : is_raw form ≡ false = ap has_raw (sym is) ∙ r.honest.0 in
+    let turn = form_turn image w form bytes r.keeps fine mine in
+    let keeps = turn_keeps image form w (after_form w form) r.keeps turn in
+    let came = turn_came image lines w (after_form w form) form line bytes r.keeps r.read turn next.0 is r.came in
+    let after : WorldState = after_form w form in
+    record {
+      keeps = record { server = keeps.server; stands = keeps.stands; sent = keeps.sent; devices = keeps.devices };
+      came = subst (λ (n : ℕ). AllCame image lines after.sent (n + 1) after.devices) (sym turn.lines) came;
+      left = ap (λ (n : ℕ). drop (n + 1) lines) turn.lines ∙ next.1;
+      honest = r.honest.1;
+      read = ap (λ (n : ℕ). read_lines (Ok (first_world image)) (take (n + 1) lines)) turn.lines
+          ∙ read_next image lines w line rest r.read r.left none
+          ∙ ap (λ (f : Option Form). let o : Result WorldState LineFault = Ok (after_form_of w f) in o) is;
+    }
+
+pub cause_by : (b : Bool) (why : LineWhy) (rest : Option LineWhy) → cond b (Some why) rest ≡ None → rest ≡ None
+cause_by true why rest is = absurd cc
+cause_by false why rest is = is
+
+form_fine : (w : WorldState) (line : List ℕ) → cause_of w line ≡ None → cause_of_form w (form_of line) ≡ None
+unfolding cause_of
+form_fine w line is = cause_by _ _ _ is
+
+pub line_reads : (image : List ℕ) (lines : List (List ℕ)) (w : WorldState) (line : List ℕ) (rest : List (List ℕ))
+    (cause : Option LineWhy) → All (λ b. b < 2 ^ 8) image → Reads image lines (line ∷ rest) w → cause_of w line ≡ cause
+    → IfOk (line_result w line cause) (Reads image lines rest)
+unfolding after_line
+line_reads image lines w line rest (Some why) bytes r is = tt
+line_reads image lines w line rest None bytes r is =
+    form_reads image lines w line rest (form_of line) bytes r refl is (form_fine w line is)
+
+all_read : (image : List ℕ) (lines : List (List ℕ)) (r : Result WorldState LineFault) (rest : List (List ℕ))
+    → All (λ b. b < 2 ^ 8) image → IfOk r (Reads image lines rest) → IfOk (read_lines r rest) (Reads image lines [])
+unfolding read_lines read_line
+all_read image lines (Err fault) rest bytes h = tt
+all_read image lines (Ok w) [] bytes h = h
+all_read image lines (Ok w) (line ∷ rest) bytes h =
+    all_read image lines (read_line w line) rest bytes
+    (line_reads image lines w line rest (cause_of w line) bytes h refl)
+
+pub first_reads : (image : List ℕ) (lines : List (List ℕ)) → AreHonest lines → Reads image lines lines (first_world image)
+unfolding read_lines
+first_reads image lines honest = record {
+  keeps = first_keeps image;
+  came = none_came image lines [] 0 [] refl;
+  left = refl;
+  read = refl;
+  honest = honest;
+}
+
+pub end_by : (here : Section) (w world : WorldState) → end_result_at here w ≡ Ok world → w ≡ world
+end_by section.Header w world is = absurd cc
+end_by section.Image w world is = absurd cc
+end_by section.Group w world is = absurd cc
+end_by section.Window w world is = absurd cc
+end_by section.Device w world is = absurd cc
+end_by section.Devices w world is = absurd cc
+end_by section.Events w world is = absurd cc
+end_by section.Ended w world is = cc
+
+pub end_is : (r : Result WorldState LineFault) (world : WorldState) → end_result r ≡ Ok world → r ≡ Ok world
+end_is (Err fault) world is = absurd cc
+end_is (Ok w) world is =
+    ap (λ (x : WorldState). let o : Result WorldState LineFault = Ok x in o) (end_by w.section w world is)
+
+pub campaign_reads : (image script : List ℕ) (world : WorldState) → All (λ b. b < 2 ^ 8) image
+    → IsHonest script → campaign_of image script ≡ Ok world → Reads image (lines_of script) [] world
+unfolding campaign_of
+campaign_reads image script world bytes honest is =
+    subst (λ (r : Result WorldState LineFault). IfOk r (Reads image (lines_of script) []))
+    (end_is (read_lines (Ok (first_world image)) (lines_of script)) world is)
+    (all_read image (lines_of script) (Ok (first_world image)) (lines_of script) bytes
+    (first_reads image (lines_of script) honest))
+
+-- ---- so it is in each accepted honest campaign
+
+-- a device is one of the server's
+pub campaign_device : (image script : List ℕ) (world : WorldState) (id : ℕ) (device : DeviceState)
+    → All (λ b. b < 2 ^ 8) image → IsHonest script → campaign_of image script ≡ Ok world → numbered world.devices id ≡ Some device
+    → IsDeviceFor image (cut_of world.server.plan) device
+campaign_device image script world id device bytes honest is d =
+    if_some (IsDeviceFor image (cut_of world.server.plan)) (numbered world.devices id) device d
+    ((campaign_reads image script world bytes honest is).keeps.devices id)
+
+-- and so is its session
+pub campaign_session : (image script : List ℕ) (world : WorldState) (id : ℕ) (device : DeviceState) (session : Session)
+    → All (λ b. b < 2 ^ 8) image → IsHonest script → campaign_of image script ≡ Ok world
+    → numbered world.devices id ≡ Some device → device.sessions.first ≡ Some session
+    → IsSetFor image (cut_of world.server.plan) session
+campaign_session image script world id device session bytes honest is d s =
+    if_some (IsSetFor image (cut_of world.server.plan)) device.sessions.first session s
+    (campaign_device image script world id device bytes honest is d).session
+
+pub campaign_came : (image script : List ℕ) (world : WorldState) (id : ℕ) (device : DeviceState) (session : Session)
+    → All (λ b. b < 2 ^ 8) image → IsHonest script → campaign_of image script ≡ Ok world
+    → numbered world.devices id ≡ Some device → device.sessions.first ≡ Some session
+    → CameInOrder image (lines_of script) world.sent id (setup_request image (cut_of world.server.plan)) world.lines
+    session.heard
+unfolding AllCame
+campaign_came image script world id device session bytes honest is d s =
+    let r = campaign_reads image script world bytes honest is in
+    let lines : List (List ℕ) = lines_of script in
+    let came : SessionCame image lines world.sent id world.lines session =
+    if_some (SessionCame image lines world.sent id world.lines) device.sessions.first session s
+    (if_some (DeviceCame image lines world.sent id world.lines) (numbered world.devices id) device d (r.came id)) in
+    subst (λ (x : SetupReq). CameInOrder image lines world.sent id (command_of x) world.lines session.heard)
+    (campaign_session image script world id device session bytes honest is d s).setup came

@@ -1,0 +1,135 @@
+-- A device to which the setup was brought, and that takes its descriptor, has its session.
+use Rattle.std.proofs.Common.{◌≡◌, ℕ, zero, suc, ◌*◌, ◌^◌, ◌<◌, ◌≤◌, true, false, nat_le, List, length, min, drop, All, Option, None, Some, is_some, Result, Ok, Err, refl, sym, ap, ◌∙◌, subst, arith, ne_eqb, le-ltb, length-drop, mul-le-mul}
+use Rattle.std.proofs.lemmas.Bool.{le-leb}
+use Rattle.std.proofs.lemmas.Bool.Decides.{nat_tests}
+use Rattle.std.proofs.lemmas.Grind.{div_ceil_times}
+use Rattle.frag_encoder.specs.Encoding.{nb_frag_of, padding_of}
+use Rattle.row_elimination.specs.Room.{extent_for, words_for, has_room}
+use Rattle.frag_session.specs.Setup.{wrong_coding, too_large, other_descriptor, setup_bits}
+use Rattle.frag_session.specs.Session.{Session}
+use Rattle.image_slots.specs.Image.{is_image, firmware_of}
+use Rattle.image_slots.proofs.ImageLemmas.{image_long, image_short}
+use Rattle.package_grammar.specs.declared.command.Command.{Command}
+use Rattle.device_core.specs.declared.config.DeviceConfig.{DeviceConfig}
+use Rattle.device_core.specs.Device.{limits_of, room_of, max_area, max_rows, row_words, row_bytes}
+use Rattle.frag_model.specs.Limits.{max_frag_size, max_pieces}
+use Rattle.row_elimination.specs.Grid.{max_line_words}
+use Rattle.script_lines.specs.Lines.{lines_of}
+use Rattle.campaign_world.specs.declared.section.Section.{Section}
+use Rattle.campaign_world.specs.declared.section.Section.TheVariants as section
+use Rattle.campaign_world.specs.declared.faults.LineFault.{LineFault}
+use Rattle.campaign_world.specs.World.{WorldState, first_world}
+use Rattle.campaign_world.specs.Script.{read_lines, end_result_at, end_result, campaign_of}
+use Rattle.campaign_world.specs.Honest.{IsHonest}
+use Rattle.campaign_laws.specs.Headline.{Brings}
+use Rattle.campaign_laws.specs.Lives.{SessionsLive}
+use Rattle.campaign_server.proofs.LineItems.{within}
+use Rattle.campaign_laws.proofs.HeadlineCommands.{Cut, cut_of, setup_req, setup_request, IsCut}
+use Rattle.campaign_laws.proofs.HeadlineEnds.{IsBounded}
+use Rattle.campaign_laws.proofs.HeadlineWorlds.{StandsIn}
+use Rattle.campaign_laws.proofs.HeadlineLines.{end_by, campaign_reads, campaign_device}
+use Rattle.campaign_laws.proofs.HeadlineSessions.{SessionHears}
+use Rattle.campaign_laws.proofs.HeadlineHeard.{campaign_full_at}
+use Rattle.campaign_laws.proofs.HeadlineLaw.{setup_is}
+
+-- ---- the setup of an image has room
+
+not_le : (a b : ℕ) → b < a → nat_le a b ≡ false
+not_le a b lt = grind (arith, nat_tests)
+
+some_piece : (len size n : ℕ) → 1 ≤ len → len ≤ n * size → 1 ≤ n
+some_piece len size zero some fits = absurd (omega (arith, some, fits))
+some_piece len size (suc n) some fits = omega arith
+
+few_words : (n : ℕ) → n ≤ max_pieces → words_for n ≤ max_line_words
+unfolding words_for
+few_words n few = omega (arith, few)
+
+min_first : (a b : ℕ) → min a b ≤ a
+min_first a b = grind (arith, nat_tests)
+
+room_there : (config : DeviceConfig) (pieces size : ℕ) → IsBounded config → pieces ≤ max_pieces → size ≤ max_frag_size
+    → pieces * size ≤ max_area → has_room row_words row_bytes (extent_for config.area) pieces size (min config.rows pieces) ≡ true
+unfolding has_room
+room_there config pieces size k few small fits =
+    let rows : min config.rows pieces ≤ max_rows = omega (arith, min_first config.rows pieces, k.rows) in
+    let words : min config.rows pieces * words_for pieces ≤ max_rows * max_line_words = mul-le-mul rows (few_words pieces few) in
+    let bytes : min config.rows pieces * size ≤ max_rows * max_frag_size = mul-le-mul rows small in
+    let area : pieces * size ≤ config.area = omega (arith, fits, k.area) in
+    rw (
+      le-leb (min config.rows pieces * words_for pieces) row_words (omega (arith, words)),
+      le-leb (min config.rows pieces * size) row_bytes (omega (arith, bytes)),
+      le-leb (pieces * size) config.area area,
+      le-leb pieces max_pieces few,
+    ) refl
+
+pub takes_setup : (image : List ℕ) (cut : Cut) (config : DeviceConfig) → is_image image ≡ true → IsCut image cut
+    → IsBounded config → other_descriptor config.descriptor (firmware_of image) ≡ false
+    → setup_bits (limits_of config) (room_of config) (setup_req image cut) ≡ 0
+unfolding setup_bits wrong_coding too_large
+takes_setup image cut config fine is k takes =
+    let ceil = div_ceil_times (length image) cut.size is.some in
+    let some : 1 ≤ nb_frag_of (length image) cut.size =
+    some_piece (length image) cut.size (nb_frag_of (length image) cut.size) (omega (arith, image_long image fine)) ceil.0 in
+    let short : padding_of (length image) cut.size < cut.size = omega (arith, ceil.1, is.some) in
+    let fits : nb_frag_of (length image) cut.size * cut.size ≤ max_area =
+    omega (arith, ceil.1, image_short image fine, is.small) in
+    let room = room_there config (nb_frag_of (length image) cut.size) cut.size k is.few is.small fits in
+    rw (
+      ne_eqb (nb_frag_of (length image) cut.size) 0 (omega (arith, some)),
+      ne_eqb cut.size 0 (omega (arith, is.some)),
+      not_le cut.size (padding_of (length image) cut.size) short,
+      le-ltb max_pieces (nb_frag_of (length image) cut.size) is.few,
+      le-ltb max_frag_size cut.size is.small,
+      room,
+      k.sessions,
+      takes,
+    ) refl
+
+-- ---- the image is cut where the script has ended
+
+ended_by : (here : Section) (w world : WorldState) → end_result_at here w ≡ Ok world → here ≡ section.Ended
+ended_by section.Header w world is = absurd cc
+ended_by section.Image w world is = absurd cc
+ended_by section.Group w world is = absurd cc
+ended_by section.Window w world is = absurd cc
+ended_by section.Device w world is = absurd cc
+ended_by section.Devices w world is = absurd cc
+ended_by section.Events w world is = absurd cc
+ended_by section.Ended w world is = refl
+
+pub ended : (r : Result WorldState LineFault) (world : WorldState) → end_result r ≡ Ok world → world.section ≡ section.Ended
+ended (Err fault) world is = absurd cc
+ended (Ok w) world is =
+    ap (λ (x : WorldState). x.section) (sym (end_by w.section w world is)) ∙ ended_by w.section w world is
+
+campaign_cut : (image script : List ℕ) (world : WorldState) → All (λ b. b < 2 ^ 8) image
+    → IsHonest script → campaign_of image script ≡ Ok world → IsCut image (cut_of world.server.plan)
+unfolding campaign_of
+campaign_cut image script world bytes honest is =
+    subst (StandsIn image world) (ended (read_lines (Ok (first_world image)) (lines_of script)) world is)
+    (campaign_reads image script world bytes honest is).keeps.stands
+
+-- ---- a session
+
+lives_by : (image : List ℕ) (cut : Cut) (brings : ℕ → Command → Type 0) (last n : ℕ) (config : DeviceConfig)
+    (o : Option Session) → setup_bits (limits_of config) (room_of config) (setup_req image cut) ≡ 0
+    → SessionHears image cut brings last config o → n ≤ last → brings n (setup_request image cut) → is_some o ≡ true
+lives_by image cut brings last n config None takes h le b = absurd (h takes n le b)
+lives_by image cut brings last n config (Some s) takes h le b = refl
+
+pub live : SessionsLive
+live image script world id device n bytes fine honest is there takes b =
+    let lines : List (List ℕ) = lines_of script in
+    let cut : Cut = cut_of world.server.plan in
+    let brings : ℕ → Command → Type 0 = Brings image lines world.sent id in
+    let reads = campaign_reads image script world bytes honest is in
+    let all : SessionHears image cut brings world.lines device.config device.sessions.first =
+    campaign_full_at image script world id device bytes honest is there in
+    let left : length (drop world.lines lines) ≡ 0 = ap length reads.left in
+    let inside : n ≤ length lines = within lines n b.3.0 b.3.4.line_is in
+    lives_by image cut brings world.lines n device.config device.sessions.first
+    (takes_setup image cut device.config fine (campaign_cut image script world bytes honest is)
+    (campaign_device image script world id device bytes honest is there).bounds takes)
+    all (omega (arith, left, inside, length-drop world.lines lines))
+    (subst (λ (x : Command). brings n x) (setup_is image world.server reads.keeps.server) b)

@@ -1,0 +1,340 @@
+-- Each device for itself.
+use Rattle.std.proofs.Common.{◌≡◌, inl, inr, ℕ, zero, suc, ◌+◌, ◌-◌, ◌<◌, ◌≤◌, Bool, true, false, cond, ◌==◌, nat_le, List, [], ◌∷◌, ◌++◌, length, map, fold, append-nil, append_assoc, slice_get, Option, None, Some, option_map, Ok, Err, refl, sym, ap, ◌∙◌, subst, arith, eqb-true}
+use Rattle.std.proofs.lemmas.Bool.{leb-true, and_parts}
+use Rattle.std.specs.Prelude.{filter_map, option_to_list}
+use Rattle.std.specs.List.{slice_set}
+use Rattle.std.specs.Result.{result_ok}
+use Rattle.wire_base.specs.declared.refusal.Direction.TheVariants as direction
+use Rattle.package_grammar.specs.Reading.{Reading, reading_of}
+use Rattle.device_core.specs.Device.{DeviceState}
+use Rattle.campaign_server.specs.Server.{ServerState, DownlinkCommand, numbered, ledger}
+use Rattle.campaign_server.specs.Asking.{by_unicast, request_of}
+use Rattle.campaign_server.specs.Fragments.{next_fragment, after_fragment, status_to_all, after_status_to_all}
+use Rattle.campaign_server.specs.Time.{time_answer}
+use Rattle.campaign_server.specs.Uplinks.{with_answers, read_uplink, uplink_step}
+use Rattle.script_lines.specs.declared.forms.Form.{Form}
+use Rattle.script_lines.specs.declared.forms.Form.TheVariants.{Header, Image, Group, WindowC, WindowB, Device, At, Wake, Migrate, Ask, Frag, Status, Down, Raw, Up, End}
+use Rattle.script_lines.specs.Lines.{lines_of}
+use Rattle.script_lines.specs.Forms.{form_of}
+use Rattle.campaign_world.specs.declared.faults.LineWhy.{LineWhy}
+use Rattle.campaign_world.specs.declared.faults.LineFault.{LineFault}
+use Rattle.campaign_world.specs.declared.numbered.SentPayload.{SentPayload}
+use Rattle.campaign_world.specs.declared.numbered.MadeUplink.{MadeUplink}
+use Rattle.campaign_world.specs.World.{WorldState, first_world}
+use Rattle.campaign_world.specs.Causes.{is_device, may_reach, cause_of, cause_of_form, form_cause}
+use Rattle.campaign_world.specs.Making.{with_sent, with_device, after_wake, after_migrate, after_down, raw_down, after_raw, after_answer, after_up, at_events, after_form}
+use Rattle.campaign_world.specs.Script.{after_form_of, after_line, line_result, read_line, read_lines, campaign_of}
+use Rattle.device_core.specs.Events.{Event, Wakes, Receives, Migrates, after_event}
+use Rattle.campaign_laws.specs.Independence.{device_in, first_devices, time_after, event_in, history_of, DevicesAreIndependent}
+use Rattle.campaign_server.proofs.LineItems.{numbered_more, numbered_put, numbered_there}
+use Rattle.campaign_laws.proofs.HeadlineForms.{passes}
+use Rattle.campaign_laws.proofs.HeadlineLines.{cause_by, end_is}
+
+-- ---- lines that are read
+
+no_more : (fault : LineFault) (lines : List (List ℕ)) (end : WorldState) → read_lines (Err fault) lines ≡ Ok end → ⊥
+unfolding read_lines
+no_more fault [] end is = cc
+no_more fault (line ∷ lines) end is = cc
+
+read_by : (w end : WorldState) (line : List ℕ) (cause : Option LineWhy) (lines : List (List ℕ))
+    → read_lines (line_result w line cause) lines ≡ Ok end
+    → (cause ≡ None) × (read_lines (Ok (after_line w line)) lines ≡ Ok end)
+read_by w end line None lines is = (refl, is)
+read_by w end line (Some why) lines is = absurd (no_more _ lines end is)
+
+-- the first line is not refused, and the others are read behind it
+pub read_first : (w end : WorldState) (line : List ℕ) (lines : List (List ℕ))
+    → read_lines (Ok w) (line ∷ lines) ≡ Ok end
+    → (cause_of w line ≡ None) × (read_lines (Ok (after_line w line)) lines ≡ Ok end)
+unfolding read_lines read_line
+read_first w end line lines is = read_by w end line (cause_of w line) lines is
+
+pub line_fine : (w : WorldState) (line : List ℕ) → cause_of w line ≡ None → cause_of_form w (form_of line) ≡ None
+unfolding cause_of
+line_fine w line is = cause_by _ _ _ is
+
+-- ---- lists
+
+get_set : {A : Type 0} (xs ys : List A) (k : ℕ) (x y : A) → slice_get xs k ≡ Some x
+    → slice_set xs k y ++ ys ≡ slice_set (xs ++ ys) k y
+get_set [] ys k x y is = absurd cc
+get_set (z ∷ xs) ys zero x y is = refl
+get_set (z ∷ xs) ys (suc k) x y is = ap (λ (zs : List _). z ∷ zs) (get_set xs ys k x y is)
+
+set_by : {A : Type 0} (xs ys : List A) (k : ℕ) (x y : A) (b : Bool) → cond b None (slice_get xs k) ≡ Some x
+    → slice_set xs k y ++ ys ≡ slice_set (xs ++ ys) k y
+set_by xs ys k x y true is = absurd cc
+set_by xs ys k x y false is = get_set xs ys k x y is
+
+-- another item at a place that is there, with more items behind
+set_front : {A : Type 0} (xs ys : List A) (n : ℕ) (x y : A) → numbered xs n ≡ Some x
+    → slice_set xs (n - 1) y ++ ys ≡ slice_set (xs ++ ys) (n - 1) y
+set_front xs ys n x y is = set_by xs ys (n - 1) x y (n == 0) is
+
+get_there : {A : Type 0} (xs : List A) (k : ℕ) → k < length xs → (x : A) × (slice_get xs k ≡ Some x)
+get_there [] k lt = absurd (omega (arith, lt))
+get_there (x ∷ xs) zero lt = (x, refl)
+get_there (x ∷ xs) (suc k) lt = get_there xs k (omega (arith, lt))
+
+there_by : {A : Type 0} (xs : List A) (n : ℕ) (b : Bool) → (n == 0) ≡ b → 1 ≤ n → n ≤ length xs
+    → (x : A) × (cond b None (slice_get xs (n - 1)) ≡ Some x)
+there_by xs n true is first last = let none : n ≡ 0 = eqb-true _ _ is in absurd (omega (arith, none, first))
+there_by xs n false is first last = get_there xs (n - 1) (omega (arith, first, last))
+
+-- an item that is there has each number that a list of that length has
+pub is_there : {A : Type 0} (xs : List A) (n : ℕ) → is_device (length xs) n ≡ true
+    → (1 ≤ n) × ((x : A) × (numbered xs n ≡ Some x))
+is_there xs n is =
+    let parts = and_parts (nat_le 1 n) (nat_le n (length xs)) is in
+    (leb-true _ _ parts.0, there_by xs n (n == 0) refl (leb-true _ _ parts.0) (leb-true _ _ parts.1))
+
+pub payload_there : (device : ℕ) (o : Option SentPayload) → may_reach device o ≡ true →
+    (p : SentPayload) × (o ≡ Some p)
+payload_there device None may = absurd cc
+payload_there device (Some p) may = (p, refl)
+
+pub unchanged : {A : Type 0} (o : Option A) → option_map (λ (x : A). x) o ≡ o
+unchanged None = refl
+unchanged (Some x) = refl
+
+-- ---- what a form leaves
+
+-- payloads are only added
+abbrev pub Grows : List SentPayload → List SentPayload → Type 0
+Grows old new = (more : List SentPayload) × (new ≡ old ++ more)
+
+-- nothing happens at a device
+record IsStill (w v : WorldState) : Type 0 where
+  devices : v.devices ≡ w.devices
+  time : v.time ≡ w.time
+  lines : v.lines ≡ w.lines
+  sent : Grows w.sent v.sent
+
+pub same_sent : (w : WorldState) → Grows w.sent w.sent
+same_sent w = ([], sym (append-nil w.sent))
+
+same_still : (w v : WorldState) → v.devices ≡ w.devices → v.time ≡ w.time → v.lines ≡ w.lines → v.sent ≡ w.sent
+    → IsStill w v
+same_still w v devices time lines sent =
+    record { devices = devices; time = time; lines = lines; sent = ([], sent ∙ sym (append-nil w.sent)) }
+
+at_events_still : (w v : WorldState) → IsStill w v → IsStill w (at_events v)
+at_events_still w v s = record { devices = s.devices; time = s.time; lines = s.lines; sent = s.sent }
+
+sends_still : (w : WorldState) (s : ServerState) (to : Option ℕ) (down : Option DownlinkCommand)
+    → IsStill w (with_sent (record w { server = s }) to down)
+sends_still w s to None = same_still w _ refl refl refl refl
+sends_still w s to (Some down) = record { devices = refl; time = refl; lines = refl; sent = (_, refl) }
+
+read_still : (w : WorldState) (dev t : ℕ) (r : Reading)
+    → IsStill w (after_answer w dev (read_uplink w.server dev t r))
+unfolding read_uplink
+read_still w dev t (Ok cs) =
+    sends_still w (with_answers w.server dev cs (ledger w.server dev)) (Some dev) (by_unicast (time_answer t cs))
+read_still w dev t (Err refusal) = same_still w _ refl refl refl refl
+
+up_still : (w : WorldState) (o : Option MadeUplink) → IsStill w (after_up w o)
+unfolding uplink_step
+up_still w None = same_still w _ refl refl refl refl
+up_still w (Some made) =
+    read_still w made.device w.time (reading_of made.uplink.port direction.Up made.uplink.payload)
+
+-- ---- one form
+
+-- a device's record, where so much is told of it
+abbrev pub folded : List Event → Option DeviceState → Option DeviceState
+folded events start = option_map (λ (first : DeviceState). fold after_event first events) start
+
+-- what holds behind a form that is not refused: the line's number, the time, what was sent, and the record of a device
+-- behind what the form tells of it, with these devices and events to come
+pub record IsTold (id : ℕ) (all : List SentPayload) (w v : WorldState) (form : Form) : Type 0 where
+  pub lines : v.lines ≡ w.lines
+  pub time : v.time ≡ time_after w.time (Some form)
+  pub sent : Grows w.sent v.sent
+  pub record_is : Grows w.sent all → (later : List (Option Form)) (events : List Event)
+      → folded events (numbered (v.devices ++ filter_map device_in later) id)
+      ≡ folded (option_to_list (event_in id all w.time (w.lines + 1) (Some form)) ++ events)
+      (numbered (w.devices ++ filter_map device_in (Some form ∷ later)) id)
+
+still_told : (id : ℕ) (all : List SentPayload) (w v : WorldState) (form : Form) → IsStill w v
+    → time_after w.time (Some form) ≡ w.time → event_in id all w.time (w.lines + 1) (Some form) ≡ None
+    → device_in (Some form) ≡ None → IsTold id all w v form
+still_told id all w v form s time event device = record {
+  lines = s.lines;
+  time = s.time ∙ sym time;
+  sent = s.sent;
+  record_is = λ grows later events. rw (event, device, s.devices) refl;
+}
+
+-- an event at device n
+happened : (id n : ℕ) (ds later : List DeviceState) (d : DeviceState) (e : Event) (events : List Event) (b : Bool)
+    → (n == id) ≡ b → 1 ≤ n → numbered ds n ≡ Some d
+    → folded events (numbered (slice_set ds (n - 1) (after_event d e) ++ later) id)
+    ≡ folded (option_to_list (cond b (Some e) None) ++ events) (numbered (ds ++ later) id)
+happened id n ds later d e events true is first there =
+    let same : n ≡ id = eqb-true _ _ is in
+    let here = numbered_more ds later n d there in
+    let put = numbered_there (ds ++ later) n d (after_event d e) here in
+    rw (set_front ds later n d (after_event d e) there, ← same, put, here) refl
+happened id n ds later d e events false is first there =
+    elim (numbered_put (ds ++ later) n id (after_event d e) first) [
+      | inl same ↦ absurd (grind (arith, is, same))
+      | inr other ↦ rw (set_front ds later n d (after_event d e) there, other) refl
+    ]
+
+woken_told : (id n : ℕ) (all : List SentPayload) (w : WorldState) (d : DeviceState) → 1 ≤ n
+    → numbered w.devices n ≡ Some d
+    → IsTold id all w (at_events (after_wake w n (numbered w.devices n))) (Wake n)
+unfolding with_device
+woken_told id n all w d first there = rw (there) (record {
+  lines = refl;
+  time = refl;
+  sent = same_sent w;
+  record_is = λ grows later events. happened id n w.devices (filter_map device_in later) d
+      (Wakes w.time) events (n == id) refl first there;
+})
+
+migrated_told : (id n : ℕ) (all : List SentPayload) (w : WorldState) (d : DeviceState) → 1 ≤ n
+    → numbered w.devices n ≡ Some d
+    → IsTold id all w (at_events (after_migrate w n (numbered w.devices n))) (Migrate n)
+unfolding with_device
+migrated_told id n all w d first there = rw (there) (record {
+  lines = refl;
+  time = refl;
+  sent = same_sent w;
+  record_is = λ grows later events. happened id n w.devices (filter_map device_in later) d
+      Migrates events (n == id) refl first there;
+})
+
+reached_told : (id number n word : ℕ) (all : List SentPayload) (w : WorldState) (d : DeviceState) (p : SentPayload)
+    → 1 ≤ n → numbered w.devices n ≡ Some d → numbered w.sent number ≡ Some p
+    → IsTold id all w (at_events (after_down w n word (numbered w.devices n) (numbered w.sent number))) (Down number n word)
+unfolding with_device
+reached_told id number n word all w d p first there got = rw (there, got) (record {
+  lines = refl;
+  time = refl;
+  sent = same_sent w;
+  record_is = λ grows later events.
+      let late : numbered all number ≡ Some p = rw (grows.1) (numbered_more w.sent grows.0 number p got) in
+      rw (late) (happened id n w.devices (filter_map device_in later) d
+      (Receives w.time word (w.lines + 1) p.down) events (n == id) refl first there);
+})
+
+struck_told : (id n port : ℕ) (payload : List ℕ) (word : ℕ) (all : List SentPayload) (w : WorldState) (d : DeviceState)
+    → 1 ≤ n → numbered w.devices n ≡ Some d
+    → IsTold id all w (at_events (after_raw w n word (raw_down port payload) (numbered w.devices n)))
+    (Raw n port payload word)
+unfolding with_device
+struck_told id n port payload word all w d first there = rw (there) (record {
+  lines = refl;
+  time = refl;
+  sent = same_sent w;
+  record_is = λ grows later events. happened id n w.devices (filter_map device_in later) d
+      (Receives w.time word (w.lines + 1) (raw_down port payload)) events (n == id) refl first there;
+})
+
+pub form_told : (id : ℕ) (all : List SentPayload) (w : WorldState) (form : Form) → form_cause w form ≡ None
+    → IsTold id all w (after_form w form) form
+unfolding after_form
+form_told id all w Header fine =
+    still_told id all w _ Header (same_still w _ refl refl refl refl) refl refl refl
+form_told id all w (Image frag_size parity) fine =
+    still_told id all w _ (Image frag_size parity) (same_still w _ refl refl refl refl) refl refl refl
+form_told id all w (Group addr key min max) fine =
+    still_told id all w _ (Group addr key min max) (same_still w _ refl refl refl refl) refl refl refl
+form_told id all w (WindowC start timeout freq dr) fine =
+    still_told id all w _ (WindowC start timeout freq dr) (same_still w _ refl refl refl refl) refl refl refl
+form_told id all w (WindowB start periodicity timeout freq dr) fine =
+    still_told id all w _ (WindowB start periodicity timeout freq dr)
+    (same_still w _ refl refl refl refl) refl refl refl
+form_told id all w (Device name class hw rows offset key descriptor v1) fine = record {
+  lines = refl;
+  time = refl;
+  sent = same_sent w;
+  record_is = λ grows later events. ap (λ (ds : List DeviceState). folded events (numbered ds id))
+      (append_assoc w.devices (_ ∷ []) (filter_map device_in later));
+}
+form_told id all w (At time) fine = record {
+  lines = refl;
+  time = refl;
+  sent = same_sent w;
+  record_is = λ grows later events. refl;
+}
+form_told id all w (Wake device) fine =
+    let d = is_there w.devices device (passes w (Wake device) fine).names in
+    woken_told id device all w d.1.0 d.0 d.1.1
+form_told id all w (Migrate device) fine =
+    let d = is_there w.devices device (passes w (Migrate device) fine).names in
+    migrated_told id device all w d.1.0 d.0 d.1.1
+form_told id all w (Ask device) fine =
+    let s = sends_still w w.server (Some device) (request_of w.server device) in
+    still_told id all w _ (Ask device) (at_events_still w _ s) refl refl refl
+form_told id all w Frag fine =
+    let s = sends_still w (after_fragment w.server) None (result_ok (next_fragment w.server)) in
+    still_told id all w _ Frag (at_events_still w _ s) refl refl refl
+form_told id all w Status fine =
+    let s = sends_still w (after_status_to_all w.server) None (status_to_all w.server) in
+    still_told id all w _ Status (at_events_still w _ s) refl refl refl
+form_told id all w (Down number device word) fine =
+    let p = passes w (Down number device word) fine in
+    let d = is_there w.devices device p.names in
+    let s = payload_there device (numbered w.sent number) p.come in
+    reached_told id number device word all w d.1.0 s.0 d.0 d.1.1 s.1
+form_told id all w (Raw device port payload word) fine =
+    let d = is_there w.devices device (passes w (Raw device port payload word) fine).names in
+    struck_told id device port payload word all w d.1.0 d.0 d.1.1
+form_told id all w (Up number) fine =
+    let s = up_still w (numbered w.uplinks number) in
+    still_told id all w _ (Up number) (at_events_still w _ s) refl refl refl
+form_told id all w End fine =
+    still_told id all w _ End (same_still w _ refl refl refl refl) refl refl refl
+
+-- ---- all lines
+
+form_grows : (w : WorldState) (form : Option Form) → cause_of_form w form ≡ None
+    → Grows w.sent (after_form_of w form).sent
+form_grows w None fine = absurd cc
+form_grows w (Some form) fine = (form_told 0 [] w form fine).sent
+
+pub sent_grows : (w end : WorldState) (lines : List (List ℕ)) → read_lines (Ok w) lines ≡ Ok end → Grows w.sent end.sent
+unfolding read_lines after_line
+sent_grows w end [] is = let same : w ≡ end = cc in subst (λ (e : WorldState). Grows w.sent e.sent) same (same_sent w)
+sent_grows w end (line ∷ lines) is =
+    let first = read_first w end line lines is in
+    let here = form_grows w (form_of line) (line_fine w line first.0) in
+    let rest = sent_grows (after_form_of w (form_of line)) end lines first.1 in (
+      here.0 ++ rest.0,
+      rest.1 ∙ ap (λ (ss : List SentPayload). ss ++ rest.0) here.1
+          ∙ append_assoc w.sent here.0 rest.0,
+    )
+
+-- what is told from a line on is what it tells, and what is told behind it
+line_told : (id : ℕ) (all : List SentPayload) (w : WorldState) (form : Option Form) (rest : List (List ℕ))
+    → cause_of_form w form ≡ None → Grows w.sent all
+    → folded (history_of id all (after_form_of w form).time ((after_form_of w form).lines + 1) rest)
+    (numbered ((after_form_of w form).devices ++ first_devices rest) id)
+    ≡ folded (option_to_list (event_in id all w.time (w.lines + 1) form)
+    ++ history_of id all (time_after w.time form) (w.lines + 1 + 1) rest)
+    (numbered (w.devices ++ filter_map device_in (form ∷ map form_of rest)) id)
+line_told id all w None rest fine grows = absurd cc
+line_told id all w (Some form) rest fine grows =
+    let t = form_told id all w form fine in rw (t.lines, t.time) (t.record_is grows (map form_of rest) _)
+
+-- from any campaign on
+from_here : (id : ℕ) (w end : WorldState) (lines : List (List ℕ)) → read_lines (Ok w) lines ≡ Ok end
+    → numbered end.devices id
+    ≡ folded (history_of id end.sent w.time (w.lines + 1) lines) (numbered (w.devices ++ first_devices lines) id)
+unfolding read_lines after_line history_of
+from_here id w end [] is =
+    let same : w ≡ end = cc in rw (← same, append-nil w.devices) (sym (unchanged (numbered w.devices id)))
+from_here id w end (line ∷ lines) is =
+    let first = read_first w end line lines is in
+    from_here id (after_form_of w (form_of line)) end lines first.1
+    ∙ line_told id end.sent w (form_of line) lines (line_fine w line first.0) (sent_grows w end (line ∷ lines) is)
+
+pub devices_are_independent : DevicesAreIndependent
+unfolding campaign_of
+devices_are_independent image script world id is =
+    from_here id (first_world image) world (lines_of script)
+    (end_is (read_lines (Ok (first_world image)) (lines_of script)) world is)

@@ -1,0 +1,67 @@
+-- Devices are independent of one another (this project's profile): the record of each is its own first one, folded over
+-- what its script tells of it. No campaign stands in what is folded: only the forms of the lines, and the payloads that
+-- were sent in all.
+use Rattle.std.specs.Prelude.{◌≡◌, ℕ, ◌+◌, ◌==◌, if◌then◌else◌, List, [], ◌∷◌, ◌++◌, map, fold, filter_map, Option, Some, None, option_map, option_to_list, Ok}
+use Rattle.package_grammar.specs.declared.downlink.Downlink.{Downlink}
+use Rattle.device_core.specs.Device.{DeviceState}
+use Rattle.device_core.specs.Deliver.{delivery, waking}
+use Rattle.device_core.specs.Firmware.{after_migration}
+use Rattle.campaign_server.specs.Server.{numbered}
+use Rattle.script_lines.specs.declared.forms.Form.{Form}
+use Rattle.script_lines.specs.declared.forms.Form.TheVariants.{Device, At, Wake, Migrate, Down, Raw}
+use Rattle.script_lines.specs.Lines.{lines_of}
+use Rattle.script_lines.specs.Forms.{form_of}
+use Rattle.campaign_world.specs.declared.numbered.SentPayload.{SentPayload}
+use Rattle.campaign_world.specs.World.{WorldState}
+use Rattle.campaign_world.specs.Making.{device_of, raw_down}
+use Rattle.campaign_world.specs.Script.{campaign_of}
+
+-- ---- what the lines of a script tell of it
+
+-- a device line gives a device, as it is first
+abbrev pub device_in : Option Form → Option DeviceState
+device_in (Some (Device id class hw rows offset key descriptor v1)) = Some (device_of class hw rows offset key descriptor v1)
+device_in form = None
+
+-- the devices of a script, in the order of their IDs, as they are first
+abbrev pub first_devices : (lines : List (List ℕ)) → List DeviceState
+first_devices lines = filter_map device_in (map form_of lines)
+
+-- the time behind a line: an `at` line tells it
+abbrev pub time_after : (now : ℕ) → Option Form → ℕ
+time_after now (Some (At time)) = time
+time_after now form = now
+
+-- a sent payload reaches a device
+abbrev pub reception : (time word line : ℕ) → Option SentPayload → Option Event
+reception time word line sent = option_map (λ payload. Receives time word line payload.down) sent
+
+-- what a line with this number lets happen at device id, at this time: a wake line, a migrate line, a down line and a raw line do that name
+-- it
+abbrev pub event_in : (id : ℕ) → List SentPayload → (time line : ℕ) → Option Form → Option Event
+event_in id sent time line (Some (Wake device)) = if device == id then Some (Wakes time) else None
+event_in id sent time line (Some (Migrate device)) = if device == id then Some Migrates else None
+event_in id sent time line (Some (Down number device word)) =
+    if device == id then reception time word line (numbered sent number) else None
+event_in id sent time line (Some (Raw device port payload word)) =
+    if device == id then Some (Receives time word line (raw_down port payload)) else None
+event_in id sent time line form = None
+
+-- what lines let happen at device id: from this time on, where the first of them has this number
+unfoldable pub history_of : (id : ℕ) → List SentPayload → (time line : ℕ) → (lines : List (List ℕ)) → List Event
+history_of id sent time line [] = []
+history_of id sent time line (text ∷ rest) =
+    option_to_list (event_in id sent time line (form_of text))
+    ++ history_of id sent (time_after time (form_of text)) (line + 1) rest
+
+-- ---- the law
+
+-- after all lines: each device line's device, behind its own history
+abbrev pub own_record : (lines : List (List ℕ)) → List SentPayload → (id : ℕ) → Option DeviceState
+own_record lines sent id =
+    option_map (λ first. fold after_event first (history_of id sent 0 1 lines)) (numbered (first_devices lines) id)
+
+-- whatever image and accepted script there are
+abbrev pub DevicesAreIndependent : Type 0
+DevicesAreIndependent = (image script : List ℕ) (world : WorldState) (id : ℕ) → campaign_of image script ≡ Ok world
+    → numbered world.devices id ≡ own_record (lines_of script) world.sent id

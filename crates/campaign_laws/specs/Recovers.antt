@@ -1,0 +1,20 @@
+-- What a device recovered is the image, and is its own (this project's profile).
+use Rattle.std.specs.Prelude.{◌≡◌, ℕ, ◌+◌, ◌^◌, ◌<◌, List, ◌∷◌, ◌++◌, length, All, Some, None, Ok, Err}
+use Rattle.device_core.specs.Device.{DeviceState}
+use Rattle.campaign_server.specs.Server.{numbered}
+use Rattle.campaign_world.specs.declared.recovery.NoFile.TheVariants as no_file
+use Rattle.campaign_world.specs.World.{WorldState}
+use Rattle.campaign_world.specs.Script.{campaign_of}
+use Rattle.campaign_world.specs.Honest.{IsHonest}
+use Rattle.campaign_world.specs.Recovery.{recovery_by, recovery}
+
+-- whatever image and accepted honest script there are, what a device recovered is the image
+abbrev pub RecoversTheImage : Type 0
+RecoversTheImage = (image script : List ℕ) (world : WorldState) (id : ℕ) (file : List ℕ) → All (λ b. b < 2 ^ 8) image
+    → IsHonest script → campaign_of image script ≡ Ok world → recovery world id ≡ Ok file → file ≡ image
+
+-- what is recovered of a device is its own, its number being its place in the list, counted from 1; of no device it is nothing
+pub record RecoversItsOwn : Type 0 where
+  pub own : (world : WorldState) (before behind : List DeviceState) (device : DeviceState) → world.devices ≡ before ++ device ∷ behind
+      → recovery world (length before + 1) ≡ recovery_by (Some device)
+  pub nothing : (world : WorldState) (id : ℕ) → numbered world.devices id ≡ None → recovery world id ≡ Err no_file.None

@@ -1,0 +1,82 @@
+-- What a campaign says of each session, whoever sent what reached its device: each is decided at its first moment, over what
+-- its lines brought. (TS004-1.0.0 leaves recovery to the device; when it ends, and how, is this project's profile.)
+use Rattle.std.specs.Prelude.{◌≡◌, ℕ, ◌<◌, ◌≤◌, List, [], ◌∷◌, ◌++◌, length, codes, Some, Ok}
+use Rattle.std.specs.Str.{bytes_eq}
+use Rattle.std.specs.Fmt.{decimal}
+use Rattle.wire_base.specs.declared.refusal.Direction.TheVariants.{Down as Downwards}
+use Rattle.frag_model.specs.Fragments.{Fragment}
+use Rattle.frag_model.specs.Members.{In}
+use Rattle.frag_session.specs.Session.{Session, shape_of, seen_of}
+use Rattle.frag_session.specs.FirstMoment.{AfterEach, IsOpen, IsWhole, Overflows, NoFileFits, FirstAt, IsDecidedAtFirst}
+use Rattle.cast_wire.specs.declared.cmd.Cmd.TheVariants.{DataFragment}
+use Rattle.package_grammar.specs.declared.command.Command.{Command}
+use Rattle.package_grammar.specs.declared.command.Command.TheVariants.{Cast}
+use Rattle.package_grammar.specs.declared.downlink.Downlink.{Downlink}
+use Rattle.package_grammar.specs.Grammar.{IsMessage}
+use Rattle.device_core.specs.SessionTable.{session_at}
+use Rattle.device_core.specs.Device.{DeviceState}
+use Rattle.campaign_server.specs.Server.{numbered}
+use Rattle.script_lines.specs.Lines.{lines_of}
+use Rattle.script_lines.specs.Forms.{form_of}
+use Rattle.campaign_world.specs.declared.numbered.SentPayload.{SentPayload}
+use Rattle.campaign_world.specs.World.{WorldState}
+use Rattle.campaign_world.specs.Script.{campaign_of}
+use Rattle.campaign_world.specs.Report.{same_word, session_text, session_line}
+use Rattle.campaign_world.specs.Recovery.{recovery}
+use Rattle.device_core.specs.Events.{Receives}
+use Rattle.campaign_laws.specs.Independence.{event_in}
+
+-- ---- what a session heard
+
+-- line n of the script brings device id a payload, one that was sent or anybody's, and this command is among its own
+pub record IsCarried (lines : List (List ℕ)) (sent : List SentPayload) (id n : ℕ) (c : Command) (line : List ℕ) (time word : ℕ) (down : Downlink) (cs : List Command) : Type 0 where
+  pub line_is : numbered lines n ≡ Some line
+  pub event : event_in id sent time n (form_of line) ≡ Some (Receives time word n down)
+  pub message : IsMessage cs down.port Downwards down.payload
+  pub among : In c cs
+
+abbrev pub Carries : List (List ℕ) → List SentPayload → (id n : ℕ) → Command → Type 0
+Carries lines sent id n c = (line : List ℕ) × (time : ℕ) × (word : ℕ) × (down : Downlink) × (cs : List Command)
+    × IsCarried lines sent id n c line time word down cs
+
+-- ---- what the report says of it
+
+pub record IsToldOf (image : List ℕ) (index : ℕ) (s : Session) : Type 0 where
+  -- where some fragment is the first after which one file alone fits: its line, and whether that file is the server's image
+  pub complete : (line : ℕ) (file : List ℕ) → FirstAt (shape_of s) s.setup.padding (IsWhole (shape_of s) s.setup.padding file) s.heard line
+      → session_line image index (Some (seen_of s)) ≡ saying index s (codes "complete at " ++ (decimal line ++ same_word (bytes_eq file image)))
+  -- where one is the first after which independent coded fragments exceed the rows: its line
+  pub no_rows : (line : ℕ) → FirstAt (shape_of s) s.setup.padding (Overflows (shape_of s) s.setup.padding) s.heard line
+      → session_line image index (Some (seen_of s)) ≡ saying index s (codes "norows at " ++ decimal line)
+  -- where one is the first after which no file fits: its line
+  pub conflict : (line : ℕ) → FirstAt (shape_of s) s.setup.padding (NoFileFits (shape_of s) s.setup.padding) s.heard line
+      → session_line image index (Some (seen_of s)) ≡ saying index s (codes "conflict at " ++ decimal line)
+  -- and until then that it is open
+  pub receiving : AfterEach (IsOpen (shape_of s) s.setup.padding) s.heard
+      → session_line image index (Some (seen_of s)) ≡ saying index s (codes "receiving")
+
+-- ---- the law
+
+-- a session of a device of a campaign
+pub record IsSessionOf (image script : List ℕ) (world : WorldState) (id : ℕ) (device : DeviceState) (index : ℕ) (s : Session) : Type 0 where
+  pub accepted : campaign_of image script ≡ Ok world
+  pub device_is : numbered world.devices id ≡ Some device
+  pub index_is : index < 4
+  pub session_is : session_at device.sessions index ≡ Some s
+
+-- whatever image and accepted script there are, anybody's payloads in it or none
+pub record Verdicts : Type 0 where
+  -- a session hears nothing but what the lines bring its device, each fragment at its line
+  pub heard : (image script : List ℕ) (world : WorldState) (id : ℕ) (device : DeviceState) (index : ℕ) (s : Session)
+      → IsSessionOf image script world id device index s
+      → CameInTurn (Carries (lines_of script) world.sent id) index (length (lines_of script)) s.heard
+  -- it is decided at the first fragment after which its file is no longer open
+  pub decided : (image script : List ℕ) (world : WorldState) (id : ℕ) (device : DeviceState) (index : ℕ) (s : Session)
+      → IsSessionOf image script world id device index s → IsDecidedAtFirst s
+  -- the report says so
+  pub told : (image script : List ℕ) (world : WorldState) (id : ℕ) (device : DeviceState) (index : ℕ) (s : Session)
+      → IsSessionOf image script world id device index s → IsToldOf world.server.image index s
+  -- and the file that is recovered is the one that alone fits
+  pub recovered : (image script : List ℕ) (world : WorldState) (id : ℕ) (device : DeviceState) (s : Session) (file : List ℕ)
+      → IsSessionOf image script world id device 0 s → recovery world id ≡ Ok file
+      → (line : ℕ) × FirstAt (shape_of s) s.setup.padding (IsWhole (shape_of s) s.setup.padding file) s.heard line

@@ -1,9 +1,0 @@
-use Rattle.campaign_world.proofs.HeadlineLaw.{recovers}
-use Rattle.campaign_world.proofs.Recovered.{recovers_own}
-use Rattle.campaign_world.proofs.laws.recovers_the_image.Goals as goal
-
-pub returns-clause-image : goal.returns-clause-image
-returns-clause-image c = recovers
-
-pub returns-clause-own : goal.returns-clause-own
-returns-clause-own c = recovers_own

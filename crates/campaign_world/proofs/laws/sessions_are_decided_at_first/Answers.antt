@@ -1,5 +1,0 @@
-use Rattle.campaign_world.proofs.Verdicts.{verdicts}
-use Rattle.campaign_world.proofs.laws.sessions_are_decided_at_first.Goals as goal
-
-pub returns : goal.returns
-returns c = verdicts

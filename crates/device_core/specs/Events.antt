@@ -1,0 +1,35 @@
+-- What happens at a device, whoever brings it about (this project's profile): it wakes, a payload reaches it, or it learns
+-- an image format; and when what a session heard came in turn.
+use Rattle.std.specs.Prelude.{ℕ, ◌≤◌, List, [], ◌∷◌}
+use Rattle.frag_model.specs.Fragments.{Fragment}
+use Rattle.cast_wire.specs.declared.cmd.Cmd.TheVariants.{DataFragment}
+use Rattle.package_grammar.specs.declared.command.Command.{Command}
+use Rattle.package_grammar.specs.declared.command.Command.TheVariants.{Cast}
+use Rattle.package_grammar.specs.declared.downlink.Downlink.{Downlink}
+use Rattle.device_core.specs.Device.{DeviceState}
+use Rattle.device_core.specs.Deliver.{delivery, waking}
+use Rattle.device_core.specs.Firmware.{after_migration}
+
+-- at a time in ms it wakes, or a payload reaches it, with a random word and at a line of the script; or it knows both image
+-- formats from now on
+pub data Event : Type 0 where
+  Wakes : (time : ℕ) → Event
+  Receives : (time word line : ℕ) → Downlink → Event
+  Migrates : Event
+
+-- behind each event all its uplinks are taken
+abbrev pub uplinks_taken : DeviceState → DeviceState
+uplinks_taken device = record device { outbox = [] }
+
+abbrev pub after_event : DeviceState → Event → DeviceState
+after_event device Migrates = uplinks_taken (after_migration device)
+after_event device (Wakes time) = uplinks_taken (waking time device).device
+after_event device (Receives time word line down) = uplinks_taken (delivery time word line down device).device
+
+-- ---- what a session heard
+
+-- each fragment came with the payload whose number is its mark, up to this one, and those heard before it no later
+abbrev pub CameInTurn : (carries : ℕ → Command → Type 0) → (index last : ℕ) → List Fragment → Type 0
+CameInTurn carries index last [] = Unit {0}
+CameInTurn carries index last (f ∷ older) =
+    (f.mark ≤ last) × carries f.mark (Cast (DataFragment index f.number f.part)) × CameInTurn carries index f.mark older
