@@ -9,14 +9,14 @@ use Rattle.cast_wire.specs.Reading.{fragment_down, fragment_up, group_down, grou
 use Rattle.sync_wire.specs.Tests as sync
 use Rattle.sync_wire.specs.Reading.{clock_down, clock_up, firmware_down, firmware_up}
 use Rattle.image_slots.specs.Image.{format_of, further, lowest_of, highest_of, is_for, firmware_of}
-use Rattle.image_slots.specs.Slots.{after_swap}
+use Rattle.image_slots.specs.Slots.{after_swap, after_raise}
 use Rattle.package_grammar.specs.Reading.{named_at, command_at, is_known, stop_at, read_from, reading_of}
 use Rattle.class_windows.specs.Open.{is_after_uplink}
 use Rattle.frag_session.specs.Session.{view_of}
 use Rattle.device_core.specs.Answers.{after_answers}
 use Rattle.device_core.specs.Clock.{answer_step}
 use Rattle.device_core.specs.ClassSessions.{hears}
-use Rattle.device_core.specs.Firmware.{version_step, after_due_reboot}
+use Rattle.device_core.specs.Firmware.{version_step, after_due_reboot, after_migration}
 use Rattle.device_core.specs.Step.{command_step, step, after_commands}
 use Rattle.device_core.specs.Deliver.{message_delivery, read_delivery, heard_delivery, time_asking, delivery, waking}
 use Rattle.campaign_server.specs.Asking.{request_at, request_of}
@@ -45,6 +45,7 @@ refused_so = record {
   range = refl;
   next_id = refl;
   device = refl;
+  device_to_migrate = refl;
   device_of_no_payload = refl;
   payload = refl;
   to_another = refl;
@@ -67,8 +68,17 @@ refused_so = record {
 }
 
 pub reported_so : AreReported
-unfolding digits int_wrap campaign_of read_lines read_line after_line cause_of form_cause in_range after_form with_device report_of device_parts view_of lines_of words_of word decimal_of key_of hex_number_of hex_bytes_of decode_pairs form_of next_fragment after_fragment status_to_all after_status_to_all request_of request_at is_for lowest_of highest_of further format_of firmware_of number_at uplink_step read_uplink reading_of read_from command_at named_at stop_at is_known sync.is_known sync.samples cast.is_known cast.samples clock_up clock_down firmware_up firmware_down fragment_up fragment_down group_up group_down stage_after_all stage_after time_answer delivery heard_delivery read_delivery message_delivery after_due_reboot after_swap hears is_after_uplink after_commands step command_step after_answers answer_step version_step waking time_asking
-reported_so = record { clock = refl; version = refl; numbers = refl; others = refl; group = refl; strangers = refl }
+unfolding digits int_wrap campaign_of read_lines read_line after_line cause_of form_cause in_range after_form with_device report_of device_parts view_of lines_of words_of word decimal_of key_of hex_number_of hex_bytes_of decode_pairs form_of next_fragment after_fragment status_to_all after_status_to_all request_of request_at is_for lowest_of highest_of further format_of firmware_of number_at uplink_step read_uplink reading_of read_from command_at named_at stop_at is_known sync.is_known sync.samples cast.is_known cast.samples clock_up clock_down firmware_up firmware_down fragment_up fragment_down group_up group_down stage_after_all stage_after time_answer delivery heard_delivery read_delivery message_delivery after_due_reboot after_migration after_raise after_swap hears is_after_uplink after_commands step command_step after_answers answer_step version_step waking time_asking
+reported_so = record {
+  clock = refl;
+  version = refl;
+  numbers = refl;
+  others = refl;
+  ranged = refl;
+  formats = refl;
+  group = refl;
+  strangers = refl;
+}
 
 pub words_are : AreWords
 unfolding digits

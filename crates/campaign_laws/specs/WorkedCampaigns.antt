@@ -1,8 +1,8 @@
 -- Campaigns worked out: their reports, and the first refused lines of scripts.
-use Rattle.std.specs.Prelude.{◌≡◌, ℕ, true, false, List, [], ◌∷◌, ◌++◌, replicate, codes, Some, Result, Ok, Err}
+use Rattle.std.specs.Prelude.{◌≡◌, ℕ, true, false, List, [], ◌∷◌, ◌++◌, map, replicate, codes, Some, Result, Ok, Err}
 use Rattle.frag_session.specs.declared.answers.Verdict.TheVariants as verdict
 use Rattle.image_slots.specs.declared.view.ImageState.TheVariants as next
-use Rattle.image_slots.specs.WorkedImages.{worked_image}
+use Rattle.image_slots.specs.WorkedImages.{worked_image, ranged_image}
 use Rattle.campaign_server.specs.declared.stage.Stage.TheVariants.{At, Updated, Refused}
 use Rattle.campaign_server.specs.declared.stage.Request.TheVariants as request
 use Rattle.campaign_world.specs.declared.faults.LineFault.{LineFault}
@@ -31,6 +31,14 @@ refused line cause = Err (record { line = line; why = cause })
 abbrev pub one_device : List ℕ → List ℕ
 one_device events = codes "fuota 1\nimage 13 0\ndevice 1 c 1 0 5 00000000000000000000000000000000\n" ++ events
 
+-- which image formats the devices know behind a script
+abbrev pub formats_behind : (script : List ℕ) → List ℕ
+formats_behind script = known_in (campaign_of worked_image script)
+  where
+    known_in : Result WorldState LineFault → List ℕ
+    known_in (Err fault) = []
+    known_in (Ok world) = map (λ device. device.slots.formats) world.devices
+
 pub record AreReported : Type 0 where
   -- a device that wakes is set right once
   pub clock : told (one_device (codes "at 10000\nwake 1\nup 1\ndown 1 1\ndown 1 1\nend\n")) ≡ reported (codes
@@ -46,6 +54,15 @@ pub record AreReported : Type 0 where
       "fuota 1\nimage 50 2\ndevice 1 c 7 0 0 00000000000000000000000000000000\ndevice 2 a 1 0 0 00000000000000000000000000000000\nask 1\nask 2\ndown 1 1\nup 1\ndown 2 2\nend\n")
       ≡ reported (codes
       "fuota report 1\nimage 52 fragments 2 size 50 padding 48 parity 2\ndevice 1 refused version 1 clock 0 token 0 running 0 next none\ncounts deaf 0 refused 0 full 0 dropped 0\ndevice 2 version clock 0 token 0 running 0 next none\ncounts deaf 1 refused 0 full 0 dropped 0\nend\n")
+  -- an image for hardware 1 to 3 goes to hardware 3, and not to hardware 4
+  pub ranged : report_or_fault (campaign_of ranged_image (codes
+      "fuota 1\nimage 56 0\ndevice 1 c 3 0 0 00000000000000000000000000000000\ndevice 2 c 4 0 0 00000000000000000000000000000000\nask 1\nask 2\ndown 1 1\ndown 2 2\nup 1\nup 2\nend\n"))
+      ≡ reported (codes
+      "fuota report 1\nimage 56 fragments 1 size 56 padding 0 parity 0\ndevice 1 fragments clock 0 token 0 running 0 next none\ncounts deaf 0 refused 0 full 0 dropped 0\ndevice 2 refused version 1 clock 0 token 0 running 0 next none\ncounts deaf 0 refused 0 full 0 dropped 0\nend\n")
+  -- two of three devices know format 1 alone at first, and the last one learns the other
+  pub formats : formats_behind (codes
+      "fuota 1\nimage 13 0\ndevice 1 c 1 0 0 00000000000000000000000000000000\ndevice 2 c 1 0 0 00000000000000000000000000000000 v1\ndevice 3 c 1 0 0 00000000000000000000000000000000 0000000a v1\nmigrate 3\nend\n")
+      ≡ 2 ∷ 1 ∷ 2 ∷ []
   -- a device of a group is asked for it first, and is deaf to the group until it has its session
   pub group : told (codes
       "fuota 1\nimage 52 0\ngroup 11223344 00000000000000000000000000000000 0 10\nwindow c 1000 0 8695250 0\ndevice 1 c 1 0 0 00000000000000000000000000000000\nask 1\ndown 1 1\nup 1\nfrag\nstatus\ndown 2 1\ndown 3 1\nend\n")
@@ -64,6 +81,7 @@ pub record AreRefused : Type 0 where
   pub range : told (one_device (codes "at 4294967296000\n")) ≡ refused 4 why.Range
   pub next_id : told (one_device (codes "device 3 c 1 0 0 00000000000000000000000000000000\n")) ≡ refused 4 why.Range
   pub device : told (one_device (codes "ask 2\n")) ≡ refused 4 why.Device
+  pub device_to_migrate : told (one_device (codes "migrate 2\n")) ≡ refused 4 why.Device
   -- the device is asked for before the payload
   pub device_of_no_payload : told (one_device (codes "down 1 2\n")) ≡ refused 4 why.Device
   pub payload : told (one_device (codes "down 1 1\n")) ≡ refused 4 why.Unsent

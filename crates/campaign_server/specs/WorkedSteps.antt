@@ -25,6 +25,11 @@ use Rattle.campaign_server.specs.Uplinks.{uplink_step}
 abbrev pub image : List ℕ
 image = 0x46 ∷ 0x55 ∷ 0x49 ∷ 0x4d ∷ 0x01 ∷ 0x01 ∷ 0 ∷ 0 ∷ 0 ∷ 0x02 ∷ 0 ∷ 0 ∷ 0 ∷ 0x03 ∷ 0 ∷ 0 ∷ 0 ∷ replicate 35 0
 
+-- one of format 2, of hardware 1 to 3 and firmware 2, 56 bytes
+abbrev pub ranged : List ℕ
+ranged =
+    0x46 ∷ 0x55 ∷ 0x49 ∷ 0x4d ∷ 0x02 ∷ 0x01 ∷ 0 ∷ 0 ∷ 0 ∷ 0x03 ∷ 0 ∷ 0 ∷ 0 ∷ 0x02 ∷ 0 ∷ 0 ∷ 0 ∷ 0x03 ∷ 0 ∷ 0 ∷ 0 ∷ replicate 35 0
+
 abbrev pub alone : Plan
 alone = record { frag_size = 13; parity = 4; group = None; window = None; devices = record { key = replicate 16 0 } ∷ [] }
 
@@ -64,6 +69,8 @@ pub record AskSteps : Type 0 where
   pub fragments : asks alone (At Fragments) ≡ by_unicast 201 (0x02 ∷ 0x00 ∷ 0x04 ∷ 0x00 ∷ 0x0d ∷ 0x00 ∷ 0x00 ∷ 0x02 ∷ 0x00 ∷ 0x00 ∷ 0x00 ∷ [])
   pub padded : asks (record alone { frag_size = 50 }) (At Fragments)
       ≡ by_unicast 201 (0x02 ∷ 0x00 ∷ 0x02 ∷ 0x00 ∷ 0x32 ∷ 0x00 ∷ 0x30 ∷ 0x02 ∷ 0x00 ∷ 0x00 ∷ 0x00 ∷ [])
+  pub of_format_2 : down_of (request_of (record (first_server ranged alone) { stages = At Fragments ∷ [] }) 1)
+      ≡ by_unicast 201 (0x02 ∷ 0x00 ∷ 0x05 ∷ 0x00 ∷ 0x0d ∷ 0x00 ∷ 0x09 ∷ 0x02 ∷ 0x00 ∷ 0x00 ∷ 0x00 ∷ [])
   pub fed : asks grouped (At Fragments) ≡ by_unicast 201 (0x02 ∷ 0x01 ∷ 0x04 ∷ 0x00 ∷ 0x0d ∷ 0x00 ∷ 0x00 ∷ 0x02 ∷ 0x00 ∷ 0x00 ∷ 0x00 ∷ [])
   pub window : asks grouped (At Window) ≡ by_unicast 200 (0x04 ∷ 0x00 ∷ 0xe8 ∷ 0x03 ∷ 0x00 ∷ 0x00 ∷ 0x00 ∷ 0xd2 ∷ 0xad ∷ 0x84 ∷ 0x00 ∷ [])
   pub window_b : asks (record grouped { window = Some (record worked_window { kind = kind.B 3; timeout = 1 }) }) (At Window)
@@ -84,10 +91,18 @@ leads plan stage port payload = ledger (uplink_step (at_stage plan stage) 1 port
 abbrev pub versions : (firmware hardware : ℕ) → List ℕ
 versions firmware hardware = 0x01 ∷ firmware ∷ 0 ∷ 0 ∷ 0 ∷ hardware ∷ 0 ∷ 0 ∷ 0 ∷ []
 
+-- where a hardware version leads with the image of format 2
+abbrev pub leads_in_range : (hardware : ℕ) → Option Stage
+leads_in_range hardware = ledger (uplink_step (first_server ranged alone) 1 203 (versions 0 hardware) 0).server 1
+
 pub record AnswerSteps : Type 0 where
   pub hardware : leads alone (At Version) 203 (versions 0 1) ≡ Some (At Fragments)
   pub to_group : leads grouped (At Version) 203 (versions 0 1) ≡ Some (At Group)
   pub other_hardware : leads alone (At Version) 203 (versions 0 2) ≡ Some (Refused Version 1)
+  pub lowest : leads_in_range 1 ≡ Some (At Fragments)
+  pub highest : leads_in_range 3 ≡ Some (At Fragments)
+  pub below : leads_in_range 0 ≡ Some (Refused Version 1)
+  pub above : leads_in_range 4 ≡ Some (Refused Version 1)
   pub group : leads grouped (At Group) 200 (0x02 ∷ 0x00 ∷ []) ≡ Some (At Fragments)
   pub group_error : leads grouped (At Group) 200 (0x02 ∷ 0x04 ∷ []) ≡ Some (Refused Group 4)
   pub other_id : leads grouped (At Group) 200 (0x02 ∷ 0x05 ∷ []) ≡ Some (At Group)
