@@ -19,8 +19,6 @@ mod plan;
 mod server;
 mod spelling;
 mod stage;
-#[cfg(test)]
-mod tests;
 mod time;
 
 pub use fragments::Spent;

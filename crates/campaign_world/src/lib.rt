@@ -20,8 +20,6 @@ mod recovery;
 mod report;
 mod section;
 mod summary;
-#[cfg(test)]
-mod tests;
 mod world;
 
 pub use deliveries::throw_away;

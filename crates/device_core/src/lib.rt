@@ -32,6 +32,3 @@ pub use laws::{
     what_does_not_act_is_counted, worked_steps,
 };
 pub use uplink::{Uplink, UplinkCommand};
-
-#[cfg(test)]
-mod tests;

@@ -1,4 +1,4 @@
-use crate::{LineError, LineFault, LineWhy, NoFile, World};
+use campaign_world::{LineError, LineFault, LineWhy, NoFile, World};
 use device_core::{Class, Delivered, Device, DeviceConfig, MAX_AREA};
 use image_slots::{ImageState, is_image};
 use package_grammar::{Downlink, To};

@@ -1,6 +1,6 @@
 ghost use Rattle.std.specs.Prelude.{◌≡◌, length, IfOk};
 
-use crate::{
+use campaign_server::{
     Field, Kind, Plan, PlanDevice, PlanGroup, PlanWindow, Request, Server, ServerError, Spent,
     Stage,
 };
@@ -419,17 +419,17 @@ impl OneDevice {
         self.server.ledger(1)
     }
 
-    #[tactic(auto, unfolding(crate::specs::Uplinks::uplink_step, crate::specs::Uplinks::read_uplink))]
+    #[tactic(auto, unfolding(campaign_server::specs::Uplinks::uplink_step, campaign_server::specs::Uplinks::read_uplink))]
     fn uplink(&mut self, port: u8, payload: &[u8], t: u64) -> Result<Option<Downlink>, Refusal> {
         self.server.uplink(1, port, payload, t)
     }
 
-    #[tactic(auto, unfolding(crate::specs::Fragments::after_fragment))]
+    #[tactic(auto, unfolding(campaign_server::specs::Fragments::after_fragment))]
     fn fragment(&mut self) -> Result<Downlink, Spent> {
         self.server.next_fragment()
     }
 
-    #[tactic(auto, unfolding(crate::specs::Fragments::after_status_to_all))]
+    #[tactic(auto, unfolding(campaign_server::specs::Fragments::after_status_to_all))]
     fn status_all(&mut self) -> Option<Downlink> {
         self.server.status_all()
     }

@@ -3,7 +3,7 @@
 ghost use Rattle.std.specs.Prelude.{◌≤◌, length};
 ghost use Rattle.wire_base.specs.declared.payload.TheConstants.{MAX_PAYLOAD};
 
-use super::*;
+use device_core::*;
 use image_slots::ImageState;
 use package_grammar::{Downlink, To};
 use std::alloc::Global;
