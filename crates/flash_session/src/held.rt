@@ -10,6 +10,8 @@ ghost use Rattle.flash_session.specs.Sessions.{HeldStandsAs, CountsAs};
 mod hearing;
 mod opening;
 mod setups;
+#[cfg(test)]
+mod tests;
 
 use frag_session::{Idle, Limits, Slot, StatusAns, Via, View};
 use std::marker::Model;

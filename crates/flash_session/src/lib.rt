@@ -10,6 +10,7 @@ mod fault;
 mod finding;
 mod flash;
 mod held;
+mod laws;
 mod log;
 mod memory;
 mod reading;
@@ -22,8 +23,6 @@ pub use cells::CellFlash;
 pub use fault::OpenFault;
 pub use flash::{Failed, Flash};
 pub use held::Held;
+pub use laws::fixed_memory_knows_all;
 pub use memory::MemFlash;
 pub use stops::StopFlash;
-
-#[cfg(test)]
-mod tests;
