@@ -3,7 +3,7 @@
 ghost use Rattle.std.specs.Prelude.{◌≡◌, ℕ, ◌+◌, ◌*◌, ◌<◌, ◌≤◌, List, Option, None, OnOk, IfOk, IfErr, MatchOption};
 ghost use Rattle.flash_session.specs.Contents.{byte_at, Same, StillHolds, Follows, IsKept, HasRisen};
 ghost use Rattle.flash_session.specs.HeldSession.{room_in};
-ghost use Rattle.flash_session.specs.Layout.{open_gate, gates_at, tallies_at, most_tallies};
+ghost use Rattle.flash_session.specs.Layout.{open_gate, gates_at, tallies_at, most_records, most_tallies, records_place};
 ghost use Rattle.flash_session.specs.Lies.{GatesOpen, NoSession};
 ghost use Rattle.flash_session.specs.Moments.{Elapses};
 ghost use Rattle.flash_session.specs.Opening.{IsFirstForeign};
@@ -15,9 +15,9 @@ ghost use Rattle.frag_session.specs.Steps.{area_of};
 
 use crate::fault::OpenFault;
 use crate::flash::Flash;
+use crate::layout::{BODY, MAX_TALLIES, OPEN, RECORD_GATES, RECORDS, TALLY_GATES};
 use crate::reading::{Front, read_byte, read_front, read_setup};
 use crate::replaying::replay;
-use crate::storing::OPEN;
 use frag_session::{Limits, SetupReq, Slot};
 
 /// How many records and tallies lie there.
@@ -36,7 +36,7 @@ pub fn find<F: Flash, const W: usize, const B: usize>(
     slot: &mut Slot<W, B>,
 ) -> Result<Option<Counts>, OpenFault>
     requires range { base + span ≤ F.room flash.old }
-    requires long { 24640 ≤ span }
+    requires long { records_place ≤ span }
     requires none { Stands slot.old None }
     ensures found { IfOk result (λ o. MatchOption o (IsEmpty (place_in W B base span limits (area_of slot.old)) slot.new (F.holds flash.new))
         (λ c. IsOpened (place_in W B base span limits (area_of slot.old)) slot.new (F.holds flash.new) c)) }
@@ -65,7 +65,7 @@ fn find_synced<F: Flash, const W: usize, const B: usize>(
     slot: &mut Slot<W, B>,
 ) -> Result<Option<Counts>, OpenFault>
     requires range { base + span ≤ F.room flash.old }
-    requires long { 24640 ≤ span }
+    requires long { records_place ≤ span }
     requires none { Stands slot.old None }
     ensures found { IfOk result (λ o. MatchOption o (IsEmpty (place_in W B base span limits (area_of slot.old)) slot.new (F.holds flash.new))
         (λ c. IsOpened (place_in W B base span limits (area_of slot.old)) slot.new (F.holds flash.new) c)) }
@@ -101,7 +101,7 @@ fn find_behind<F: Flash, const W: usize, const B: usize>(
     slot: &mut Slot<W, B>,
 ) -> Result<Counts, OpenFault>
     requires range { base + span ≤ F.room flash.old }
-    requires long { 24640 ≤ span }
+    requires long { records_place ≤ span }
     ensures found { ((b : List ℕ) → F.holds flash.new b → byte_at b base ≡ open_gate)
         → IfOk result (λ c. IsOpened (place_in W B base span limits (area_of slot.old)) slot.new (F.holds flash.new) c) }
     ensures foreign { IfErr result (λ e. (p : ℕ) → e ≡ OpenFault.Foreign p → (b : List ℕ) → F.holds flash.new b → byte_at b base ≡ open_gate
@@ -113,11 +113,11 @@ fn find_behind<F: Flash, const W: usize, const B: usize>(
     ensures fault { IfErr result (λ e. e ≡ OpenFault.Flash → HasRisen (F.faults flash.old) (F.faults flash.new)) }
     ensures area { area_of slot.new ≡ area_of slot.old }
 {
-    match read_setup(flash, base + 1) {
+    match read_setup(flash, base + BODY) {
         Err(_) => Err(OpenFault::Flash),
         Ok(setup) => {
             if slot.refusal(setup, limits, Some(span)) != 0 {
-                return Err(OpenFault::Foreign(1));
+                return Err(OpenFault::Foreign(BODY));
             }
             find_session(flash, base, span, setup, limits, slot)
         }
@@ -133,8 +133,8 @@ fn find_session<F: Flash, const W: usize, const B: usize>(
     limits: Limits,
     slot: &mut Slot<W, B>,
 ) -> Result<Counts, OpenFault>
-    requires room { base + 24640 + (10 + setup.frag_size) * (2 * setup.nb_frag + 1) ≤ F.room flash.old }
-    requires most { 2 * setup.nb_frag + 1 ≤ 8193 }
+    requires room { base + records_place + (10 + setup.frag_size) * (2 * setup.nb_frag + 1) ≤ F.room flash.old }
+    requires most { 2 * setup.nb_frag + 1 ≤ most_records }
     requires fine { setup_bits limits (memory_room W B (area_of slot.old)) setup ≡ 0 }
     ensures found { IfOk result (λ c. IsFound limits setup slot.new (F.holds flash.new) base c) }
     ensures foreign { IfErr result (λ e. (p : ℕ) → e ≡ OpenFault.Foreign p
@@ -146,9 +146,9 @@ fn find_session<F: Flash, const W: usize, const B: usize>(
     ensures fault { IfErr result (λ e. e ≡ OpenFault.Flash → HasRisen (F.faults flash.old) (F.faults flash.new)) }
     ensures area { area_of slot.new ≡ area_of slot.old }
 {
-    match read_front(flash, base + 64, 2 * setup.nb_frag + 1) {
+    match read_front(flash, base + RECORD_GATES, 2 * setup.nb_frag + 1) {
         Err(_) => Err(OpenFault::Flash),
-        Ok(Front::Stray(k)) => Err(OpenFault::Foreign(64 + u32::from(k))),
+        Ok(Front::Stray(k)) => Err(OpenFault::Foreign(RECORD_GATES + u32::from(k))),
         Ok(Front::Whole(records)) => find_tallies(flash, base, span, setup, limits, records, slot),
     }
 }
@@ -163,8 +163,8 @@ fn find_tallies<F: Flash, const W: usize, const B: usize>(
     records: u16,
     slot: &mut Slot<W, B>,
 ) -> Result<Counts, OpenFault>
-    requires room { base + 24640 + (10 + setup.frag_size) * (2 * setup.nb_frag + 1) ≤ F.room flash.old }
-    requires most { 2 * setup.nb_frag + 1 ≤ 8193 }
+    requires room { base + records_place + (10 + setup.frag_size) * (2 * setup.nb_frag + 1) ≤ F.room flash.old }
+    requires most { 2 * setup.nb_frag + 1 ≤ most_records }
     requires few { records ≤ 2 * setup.nb_frag + 1 }
     requires fine { setup_bits limits (memory_room W B (area_of slot.old)) setup ≡ 0 }
     ensures found { ((b : List ℕ) → F.holds flash.new b → GatesOpen b (gates_at base) records (2 * setup.nb_frag + 1))
@@ -178,9 +178,9 @@ fn find_tallies<F: Flash, const W: usize, const B: usize>(
     ensures fault { IfErr result (λ e. e ≡ OpenFault.Flash → HasRisen (F.faults flash.old) (F.faults flash.new)) }
     ensures area { area_of slot.new ≡ area_of slot.old }
 {
-    match read_front(flash, base + 8257, 16_383) {
+    match read_front(flash, base + TALLY_GATES, MAX_TALLIES) {
         Err(_) => Err(OpenFault::Flash),
-        Ok(Front::Stray(k)) => Err(OpenFault::Foreign(8257 + u32::from(k))),
+        Ok(Front::Stray(k)) => Err(OpenFault::Foreign(TALLY_GATES + u32::from(k))),
         Ok(Front::Whole(tallies)) => match find_records(
             flash, base, span, setup, limits, records, slot,
         ) {
@@ -201,8 +201,8 @@ fn find_records<F: Flash, const W: usize, const B: usize>(
     records: u16,
     slot: &mut Slot<W, B>,
 ) -> Result<(), OpenFault>
-    requires room { base + 24640 + (10 + setup.frag_size) * (2 * setup.nb_frag + 1) ≤ F.room flash.old }
-    requires most { 2 * setup.nb_frag + 1 ≤ 8193 }
+    requires room { base + records_place + (10 + setup.frag_size) * (2 * setup.nb_frag + 1) ≤ F.room flash.old }
+    requires most { 2 * setup.nb_frag + 1 ≤ most_records }
     requires few { records ≤ 2 * setup.nb_frag + 1 }
     requires fine { setup_bits limits (memory_room W B (area_of slot.old)) setup ≡ 0 }
     ensures found { OnOk result (Replayed (new_session limits setup) slot.new (F.holds flash.new) base setup.frag_size records) }
@@ -221,7 +221,7 @@ fn find_records<F: Flash, const W: usize, const B: usize>(
         Err(_) => Err(OpenFault::Flash),
         Ok(None) => Ok(()),
         Ok(Some(k)) => {
-            let at = 24_640 + (10 + u32::from(setup.frag_size)) * u32::from(k);
+            let at = RECORDS + (10 + u32::from(setup.frag_size)) * u32::from(k);
             Err(OpenFault::Foreign(at))
         }
     }

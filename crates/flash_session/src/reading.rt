@@ -11,7 +11,7 @@ ghost use Rattle.flash_session.specs.Gates.{AreOpen, AreShut, IsFirstShut};
 ghost use Rattle.flash_session.specs.Fronts.{IsFront};
 
 use crate::flash::{Failed, Flash};
-use crate::storing::OPEN;
+use crate::layout::OPEN;
 use frag_session::SetupReq;
 
 /// The byte at a place.

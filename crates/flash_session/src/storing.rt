@@ -4,12 +4,11 @@ ghost use Rattle.std.specs.Prelude.{◌≡◌, ◌⊎◌, ℕ, ◌+◌, ◌*◌,
 ghost use Rattle.frag_model.specs.Fragments.{Fragment};
 ghost use Rattle.flash_session.specs.Contents.{SameOutside, Put, Follows, IsKept, HasCause};
 ghost use Rattle.flash_session.specs.Moments.{Elapses, LeavesOnly};
-ghost use Rattle.flash_session.specs.Layout.{spelled};
+ghost use Rattle.flash_session.specs.Layout.{most_records, most_tallies, records_place, spelled};
 ghost use Rattle.flash_session.specs.Lies.{Stored, Lies, IsStored, with_record, with_tally, IsBeforeOrAfter};
 
 use crate::flash::{Failed, Flash};
-
-pub const OPEN: u8 = 0xa5;
+use crate::layout::{OPEN, RECORD_GATES, RECORDS, TALLY_GATES};
 
 /// Writes a piece and syncs it.
 pub fn write_synced<F: Flash>(flash: &mut F, at: u32, piece: &[u8]) -> Result<(), Failed>
@@ -36,8 +35,8 @@ pub fn store<F: Flash>(
     piece: &[u8],
 ) -> Result<(), Failed>
     requires range { base + span ≤ F.room flash.old }
-    requires gate { n < 8193 }
-    requires room { 24640 + (10 + size) * (n + 1) ≤ span }
+    requires gate { n < most_records }
+    requires room { records_place + (10 + size) * (n + 1) ≤ span }
     requires sized { length piece.now ≡ 10 + size }
 
     // At Ok the session has the record.
@@ -57,17 +56,17 @@ pub fn store<F: Flash>(
     ensures size { F.room flash.new ≡ F.room flash.old }
     ensures cause { HasCause (F.faults flash.old) (F.faults flash.new) result }
 {
-    let at = base + 24640 + (10 + size as u32) * n as u32;
+    let at = base + RECORDS + (10 + size as u32) * n as u32;
     write_synced(flash, at, piece)?;
-    let gate = base + 64 + n as u32;
+    let gate = base + RECORD_GATES + n as u32;
     write_synced(flash, gate, &[OPEN])
 }
 
 /// Notes a fragment by tally gate `n` alone.
 pub fn tally<F: Flash>(flash: &mut F, base: u32, span: u32, n: u16) -> Result<(), Failed>
     requires range { base + span ≤ F.room flash.old }
-    requires long { 24640 ≤ span }
-    requires gate { n < 16383 }
+    requires long { records_place ≤ span }
+    requires gate { n < most_tallies }
     ensures acknowledged { (s : Stored) → s.tallies ≡ n → IsStored base span s (F.holds flash.old) (F.left_since flash.old (F.moment flash.old))
         → OnOk result (IsStored base span (with_tally s) (F.holds flash.new) (F.left_since flash.new (F.moment flash.new))) }
     ensures any_moment { (s : Stored) → s.tallies ≡ n → IsStored base span s (F.holds flash.old) (F.left_since flash.old (F.moment flash.old))
@@ -78,6 +77,6 @@ pub fn tally<F: Flash>(flash: &mut F, base: u32, span: u32, n: u16) -> Result<()
     ensures size { F.room flash.new ≡ F.room flash.old }
     ensures cause { HasCause (F.faults flash.old) (F.faults flash.new) result }
 {
-    let place = base + 8257 + n as u32;
+    let place = base + TALLY_GATES + n as u32;
     write_synced(flash, place, &[OPEN])
 }

@@ -3,7 +3,7 @@
 ghost use Rattle.std.specs.Prelude.{◌≡◌, ◌⊎◌, ℕ, ◌+◌, ◌*◌, ◌<◌, ◌≤◌, length, Option, OnOk, IfOk, IfErr};
 ghost use Rattle.flash_session.specs.Contents.{SameOutside, SameWithin, Follows, IsKept, HasCause};
 ghost use Rattle.flash_session.specs.Moments.{Elapses, LeavesOnly};
-ghost use Rattle.flash_session.specs.Layout.{spelled};
+ghost use Rattle.flash_session.specs.Layout.{most_records, records_place, spelled};
 ghost use Rattle.flash_session.specs.Lies.{Stored, IsStored, with_record, IsBeforeOrAfter};
 ghost use Rattle.frag_session.specs.Session.{Session, fragment, drop_cause, news_in, answer_of, after_fragment};
 ghost use Rattle.frag_session.specs.Steps.{area_of};
@@ -129,8 +129,8 @@ fn keep<F: Flash>(
 ) -> Result<(), Failed>
     requires range { base + span ≤ F.room flash.old }
     requires small { length part.now ≤ 239 }
-    requires gate { records < 8193 }
-    requires room { 24640 + (10 + length part.now) * (records + 1) ≤ span }
+    requires gate { records < most_records }
+    requires room { records_place + (10 + length part.now) * (records + 1) ≤ span }
     ensures acknowledged { (s : Stored) → s.size ≡ length part.now → length s.records ≡ records → records < s.most
         → IsStored base span s (F.holds flash.old) (F.left_since flash.old (F.moment flash.old))
         → OnOk result (IsStored base span (with_record s (fragment n part.now mark)) (F.holds flash.new) (F.left_since flash.new (F.moment flash.new))) }

@@ -2,6 +2,7 @@
 
 ghost use Rattle.std.specs.Prelude.{◌≡◌, ℕ, ◌+◌, ◌≤◌, List, Option, IfOk, IfErr, MatchResult};
 ghost use Rattle.flash_session.specs.Contents.{Same, Follows, HasRisen};
+ghost use Rattle.flash_session.specs.Layout.{records_place};
 ghost use Rattle.flash_session.specs.Moments.{Elapses};
 ghost use Rattle.flash_session.specs.Opening.{IsFirstForeign, NothingForeign};
 ghost use Rattle.flash_session.specs.Replayed.{place_in, IsPlaceOf};
@@ -25,7 +26,7 @@ impl<const W: usize, const B: usize> Held<W, B> {
         limits: Limits,
     ) -> Result<Held<W, B>, (Idle<W, B>, OpenFault)>
         requires range { base + span ≤ F.room flash.old }
-        requires long { 24640 ≤ span }
+        requires long { records_place ≤ span }
 
         // What lies for a session, as each call leaves it at any moment, opens for that session.
         ensures opened { (o : Option Session) (b : List ℕ) → F.holds flash.new b → LiesForAs (place_in W B base span limits idle.entry) o b

@@ -241,9 +241,10 @@ const STOPPED: [Stopped; 9] = [
 
 fn opens_again(rt: &impl Abort, alloc: Global, row: &Stopped) -> Result<(), Fail> {
     for (k, found) in row.found.iter().enumerate() {
-        let mut left = stop(rt, alloc, row.before, row.last, k as u64)?;
+        let left = stop(rt, alloc, row.before, row.last, k as u64)?;
         assert_eq!(rt; left.done, k + 1 == row.found.len());
-        let held = open(rt, &mut left.flash, left.idle);
+        let mut flash = left.flash;
+        let held = open(rt, &mut flash, left.idle);
         assert_eq!(rt; shows(&held), *found);
     }
     Ok(())
