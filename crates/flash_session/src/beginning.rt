@@ -4,7 +4,8 @@ ghost use Rattle.std.specs.Prelude.{◌≡◌, ◌⊎◌, ℕ, ◌+◌, ◌*◌,
 ghost use Rattle.flash_session.specs.Contents.{SameOutside, Put, Follows, IsKept, HasCause};
 ghost use Rattle.flash_session.specs.Moments.{Elapses, LeavesOnly};
 ghost use Rattle.flash_session.specs.Layout.{body_size, records_place};
-ghost use Rattle.flash_session.specs.Lies.{Stored, Fits, Lies, LiesAs, IsStoredAs, NoSession, IsCleared, IsOldNoneOrNew, new_stored};
+ghost use Rattle.flash_session.specs.Lies.{Stored, Fits, Lies, LiesAs, IsStoredAs, NoSession, IsCleared};
+ghost use Rattle.flash_session.specs.Lies.{IsOldNoneOrNew, new_stored};
 
 use crate::flash::{Failed, Flash};
 use crate::layout::{BODY, GATES, OPEN, RECORD_GATES};
@@ -14,13 +15,22 @@ use crate::storing::write_synced;
 fn close<F: Flash>(flash: &mut F, base: u32, span: u32) -> Result<(), Failed>
     requires range { base + span ≤ F.room flash.old }
     requires long { records_place ≤ span }
-    ensures ended { (s : Stored) → IsStoredAs base span (Some s) (F.holds flash.old) (F.left_since flash.old (F.moment flash.old))
-        → OnOk result (IsStoredAs base span None (F.holds flash.new) (F.left_since flash.new (F.moment flash.new))) }
-    ensures any_moment { (s : Stored) → IsStoredAs base span (Some s) (F.holds flash.old) (F.left_since flash.old (F.moment flash.old))
-        → LeavesOnly (λ c. Lies base s c ⊎ NoSession base c) (F.moment flash.old) (F.moment flash.new) (F.left_since flash.old) (F.left_since flash.new) }
-    ensures kept { OnOk result (IsKept (F.holds flash.new) (F.left_since flash.new (F.moment flash.new))) }
+    ensures ended { (s : Stored)
+        → IsStoredAs base span (Some s) (F.holds flash.old)
+        (F.left_since flash.old (F.moment flash.old))
+        → OnOk result
+        (IsStoredAs base span None (F.holds flash.new)
+        (F.left_since flash.new (F.moment flash.new))) }
+    ensures any_moment { (s : Stored)
+        → IsStoredAs base span (Some s) (F.holds flash.old)
+        (F.left_since flash.old (F.moment flash.old))
+        → LeavesOnly (λ c. Lies base s c ⊎ NoSession base c) (F.moment flash.old)
+        (F.moment flash.new) (F.left_since flash.old) (F.left_since flash.new) }
+    ensures kept { OnOk result
+        (IsKept (F.holds flash.new) (F.left_since flash.new (F.moment flash.new))) }
     ensures held { Follows (SameOutside base span) (F.holds flash.old) (F.holds flash.new) }
-    ensures stops { Elapses (SameOutside base span) (F.moment flash.old) (F.moment flash.new) (F.left_since flash.old) (F.left_since flash.new) }
+    ensures stops { Elapses (SameOutside base span) (F.moment flash.old) (F.moment flash.new)
+        (F.left_since flash.old) (F.left_since flash.new) }
     ensures size { F.room flash.new ≡ F.room flash.old }
     ensures cause { HasCause (F.faults flash.old) (F.faults flash.new) result }
 {
@@ -31,12 +41,18 @@ fn close<F: Flash>(flash: &mut F, base: u32, span: u32) -> Result<(), Failed>
 fn close_if<F: Flash>(flash: &mut F, base: u32, span: u32, lives: bool) -> Result<(), Failed>
     requires range { base + span ≤ F.room flash.old }
     requires long { records_place ≤ span }
-    ensures ended { (o : Option Stored) → lives ≡ is_some o → IsStoredAs base span o (F.holds flash.old) (F.left_since flash.old (F.moment flash.old))
-        → OnOk result (IsStoredAs base span None (F.holds flash.new) (F.left_since flash.new (F.moment flash.new))) }
-    ensures any_moment { (o : Option Stored) → lives ≡ is_some o → IsStoredAs base span o (F.holds flash.old) (F.left_since flash.old (F.moment flash.old))
-        → LeavesOnly (λ c. LiesAs base o c ⊎ NoSession base c) (F.moment flash.old) (F.moment flash.new) (F.left_since flash.old) (F.left_since flash.new) }
+    ensures ended { (o : Option Stored) → lives ≡ is_some o
+        → IsStoredAs base span o (F.holds flash.old) (F.left_since flash.old (F.moment flash.old))
+        → OnOk result
+        (IsStoredAs base span None (F.holds flash.new)
+        (F.left_since flash.new (F.moment flash.new))) }
+    ensures any_moment { (o : Option Stored) → lives ≡ is_some o
+        → IsStoredAs base span o (F.holds flash.old) (F.left_since flash.old (F.moment flash.old))
+        → LeavesOnly (λ c. LiesAs base o c ⊎ NoSession base c) (F.moment flash.old)
+        (F.moment flash.new) (F.left_since flash.old) (F.left_since flash.new) }
     ensures held { Follows (SameOutside base span) (F.holds flash.old) (F.holds flash.new) }
-    ensures stops { Elapses (SameOutside base span) (F.moment flash.old) (F.moment flash.new) (F.left_since flash.old) (F.left_since flash.new) }
+    ensures stops { Elapses (SameOutside base span) (F.moment flash.old) (F.moment flash.new)
+        (F.left_since flash.old) (F.left_since flash.new) }
     ensures size { F.room flash.new ≡ F.room flash.old }
     ensures cause { HasCause (F.faults flash.old) (F.faults flash.new) result }
 {
@@ -53,12 +69,18 @@ fn clear<F: Flash>(flash: &mut F, base: u32, span: u32, body: &[u8]) -> Result<(
     requires long { records_place ≤ span }
     requires body { length body.now ≡ body_size }
     ensures cleared { OnOk result ((b : List ℕ) → F.holds flash.new b → IsCleared base body.now b) }
-    ensures none { IsStoredAs base span None (F.holds flash.old) (F.left_since flash.old (F.moment flash.old))
-        → OnOk result (IsStoredAs base span None (F.holds flash.new) (F.left_since flash.new (F.moment flash.new))) }
-    ensures any_moment { IsStoredAs base span None (F.holds flash.old) (F.left_since flash.old (F.moment flash.old))
-        → LeavesOnly (NoSession base) (F.moment flash.old) (F.moment flash.new) (F.left_since flash.old) (F.left_since flash.new) }
+    ensures none { IsStoredAs base span None (F.holds flash.old)
+        (F.left_since flash.old (F.moment flash.old))
+        → OnOk result
+        (IsStoredAs base span None (F.holds flash.new)
+        (F.left_since flash.new (F.moment flash.new))) }
+    ensures any_moment { IsStoredAs base span None (F.holds flash.old)
+        (F.left_since flash.old (F.moment flash.old))
+        → LeavesOnly (NoSession base) (F.moment flash.old) (F.moment flash.new)
+        (F.left_since flash.old) (F.left_since flash.new) }
     ensures held { Follows (SameOutside base span) (F.holds flash.old) (F.holds flash.new) }
-    ensures stops { Elapses (SameOutside base span) (F.moment flash.old) (F.moment flash.new) (F.left_since flash.old) (F.left_since flash.new) }
+    ensures stops { Elapses (SameOutside base span) (F.moment flash.old) (F.moment flash.new)
+        (F.left_since flash.old) (F.left_since flash.new) }
     ensures size { F.room flash.new ≡ F.room flash.old }
     ensures cause { HasCause (F.faults flash.old) (F.faults flash.new) result }
 {
@@ -70,15 +92,25 @@ fn clear<F: Flash>(flash: &mut F, base: u32, span: u32, body: &[u8]) -> Result<(
 fn open<F: Flash>(flash: &mut F, base: u32, span: u32) -> Result<(), Failed>
     requires range { base + span ≤ F.room flash.old }
     requires long { records_place ≤ span }
-    ensures begun { (body : List ℕ) (most size : ℕ) → Fits span (new_stored body most size) → ((b : List ℕ) → F.holds flash.old b → IsCleared base body b)
-        → IsStoredAs base span None (F.holds flash.old) (F.left_since flash.old (F.moment flash.old))
-        → OnOk result (IsStoredAs base span (Some (new_stored body most size)) (F.holds flash.new) (F.left_since flash.new (F.moment flash.new))) }
-    ensures any_moment { (body : List ℕ) (most size : ℕ) → Fits span (new_stored body most size) → ((b : List ℕ) → F.holds flash.old b → IsCleared base body b)
-        → IsStoredAs base span None (F.holds flash.old) (F.left_since flash.old (F.moment flash.old))
-        → LeavesOnly (λ c. NoSession base c ⊎ Lies base (new_stored body most size) c) (F.moment flash.old) (F.moment flash.new) (F.left_since flash.old) (F.left_since flash.new) }
-    ensures kept { OnOk result (IsKept (F.holds flash.new) (F.left_since flash.new (F.moment flash.new))) }
+    ensures begun { (body : List ℕ) (most size : ℕ) → Fits span (new_stored body most size)
+        → ((b : List ℕ) → F.holds flash.old b → IsCleared base body b)
+        → IsStoredAs base span None (F.holds flash.old)
+        (F.left_since flash.old (F.moment flash.old))
+        → OnOk result
+        (IsStoredAs base span (Some (new_stored body most size)) (F.holds flash.new)
+        (F.left_since flash.new (F.moment flash.new))) }
+    ensures any_moment { (body : List ℕ) (most size : ℕ) → Fits span (new_stored body most size)
+        → ((b : List ℕ) → F.holds flash.old b → IsCleared base body b)
+        → IsStoredAs base span None (F.holds flash.old)
+        (F.left_since flash.old (F.moment flash.old))
+        → LeavesOnly (λ c. NoSession base c ⊎ Lies base (new_stored body most size) c)
+        (F.moment flash.old) (F.moment flash.new) (F.left_since flash.old)
+        (F.left_since flash.new) }
+    ensures kept { OnOk result
+        (IsKept (F.holds flash.new) (F.left_since flash.new (F.moment flash.new))) }
     ensures held { Follows (SameOutside base span) (F.holds flash.old) (F.holds flash.new) }
-    ensures stops { Elapses (SameOutside base span) (F.moment flash.old) (F.moment flash.new) (F.left_since flash.old) (F.left_since flash.new) }
+    ensures stops { Elapses (SameOutside base span) (F.moment flash.old) (F.moment flash.new)
+        (F.left_since flash.old) (F.left_since flash.new) }
     ensures size { F.room flash.new ≡ F.room flash.old }
     ensures cause { HasCause (F.faults flash.old) (F.faults flash.new) result }
 {
@@ -97,15 +129,22 @@ pub fn begin<F: Flash>(
     requires range { base + span ≤ F.room flash.old }
     requires long { records_place ≤ span }
     requires body { length body.now ≡ body_size }
-    ensures begun { (o : Option Stored) (most size : ℕ) → Fits span (new_stored body.now most size) → lives ≡ is_some o
+    ensures begun { (o : Option Stored) (most size : ℕ) → Fits span (new_stored body.now most size)
+        → lives ≡ is_some o
         → IsStoredAs base span o (F.holds flash.old) (F.left_since flash.old (F.moment flash.old))
-        → OnOk result (IsStoredAs base span (Some (new_stored body.now most size)) (F.holds flash.new) (F.left_since flash.new (F.moment flash.new))) }
-    ensures any_moment { (o : Option Stored) (most size : ℕ) → Fits span (new_stored body.now most size) → lives ≡ is_some o
+        → OnOk result
+        (IsStoredAs base span (Some (new_stored body.now most size)) (F.holds flash.new)
+        (F.left_since flash.new (F.moment flash.new))) }
+    ensures any_moment { (o : Option Stored) (most size : ℕ)
+        → Fits span (new_stored body.now most size) → lives ≡ is_some o
         → IsStoredAs base span o (F.holds flash.old) (F.left_since flash.old (F.moment flash.old))
-        → LeavesOnly (IsOldNoneOrNew base o (new_stored body.now most size)) (F.moment flash.old) (F.moment flash.new) (F.left_since flash.old) (F.left_since flash.new) }
-    ensures kept { OnOk result (IsKept (F.holds flash.new) (F.left_since flash.new (F.moment flash.new))) }
+        → LeavesOnly (IsOldNoneOrNew base o (new_stored body.now most size)) (F.moment flash.old)
+        (F.moment flash.new) (F.left_since flash.old) (F.left_since flash.new) }
+    ensures kept { OnOk result
+        (IsKept (F.holds flash.new) (F.left_since flash.new (F.moment flash.new))) }
     ensures held { Follows (SameOutside base span) (F.holds flash.old) (F.holds flash.new) }
-    ensures stops { Elapses (SameOutside base span) (F.moment flash.old) (F.moment flash.new) (F.left_since flash.old) (F.left_since flash.new) }
+    ensures stops { Elapses (SameOutside base span) (F.moment flash.old) (F.moment flash.new)
+        (F.left_since flash.old) (F.left_since flash.new) }
     ensures size { F.room flash.new ≡ F.room flash.old }
     ensures cause { HasCause (F.faults flash.old) (F.faults flash.new) result }
 {
@@ -118,13 +157,22 @@ pub fn begin<F: Flash>(
 pub fn end<F: Flash>(flash: &mut F, base: u32, span: u32) -> Result<(), Failed>
     requires range { base + span ≤ F.room flash.old }
     requires long { records_place ≤ span }
-    ensures ended { (s : Stored) → IsStoredAs base span (Some s) (F.holds flash.old) (F.left_since flash.old (F.moment flash.old))
-        → OnOk result (IsStoredAs base span None (F.holds flash.new) (F.left_since flash.new (F.moment flash.new))) }
-    ensures any_moment { (s : Stored) → IsStoredAs base span (Some s) (F.holds flash.old) (F.left_since flash.old (F.moment flash.old))
-        → LeavesOnly (λ c. Lies base s c ⊎ NoSession base c) (F.moment flash.old) (F.moment flash.new) (F.left_since flash.old) (F.left_since flash.new) }
-    ensures kept { OnOk result (IsKept (F.holds flash.new) (F.left_since flash.new (F.moment flash.new))) }
+    ensures ended { (s : Stored)
+        → IsStoredAs base span (Some s) (F.holds flash.old)
+        (F.left_since flash.old (F.moment flash.old))
+        → OnOk result
+        (IsStoredAs base span None (F.holds flash.new)
+        (F.left_since flash.new (F.moment flash.new))) }
+    ensures any_moment { (s : Stored)
+        → IsStoredAs base span (Some s) (F.holds flash.old)
+        (F.left_since flash.old (F.moment flash.old))
+        → LeavesOnly (λ c. Lies base s c ⊎ NoSession base c) (F.moment flash.old)
+        (F.moment flash.new) (F.left_since flash.old) (F.left_since flash.new) }
+    ensures kept { OnOk result
+        (IsKept (F.holds flash.new) (F.left_since flash.new (F.moment flash.new))) }
     ensures held { Follows (SameOutside base span) (F.holds flash.old) (F.holds flash.new) }
-    ensures stops { Elapses (SameOutside base span) (F.moment flash.old) (F.moment flash.new) (F.left_since flash.old) (F.left_since flash.new) }
+    ensures stops { Elapses (SameOutside base span) (F.moment flash.old) (F.moment flash.new)
+        (F.left_since flash.old) (F.left_since flash.new) }
     ensures size { F.room flash.new ≡ F.room flash.old }
     ensures cause { HasCause (F.faults flash.old) (F.faults flash.new) result }
 {

@@ -38,16 +38,24 @@ pub fn find<F: Flash, const W: usize, const B: usize>(
     requires range { base + span ≤ F.room flash.old }
     requires long { records_place ≤ span }
     requires none { Stands slot.old None }
-    ensures found { IfOk result (λ o. MatchOption o (IsEmpty (place_in W B base span limits (area_of slot.old)) slot.new (F.holds flash.new))
-        (λ c. IsOpened (place_in W B base span limits (area_of slot.old)) slot.new (F.holds flash.new) c)) }
-    ensures foreign { IfErr result (λ e. (p : ℕ) → e ≡ OpenFault.Foreign p → (b : List ℕ) → F.holds flash.new b
+    ensures found { IfOk result
+        (λ o. MatchOption o
+        (IsEmpty (place_in W B base span limits (area_of slot.old)) slot.new
+        (F.holds flash.new))
+        (λ c. IsOpened (place_in W B base span limits (area_of slot.old)) slot.new
+        (F.holds flash.new) c)) }
+    ensures foreign { IfErr result
+        (λ e. (p : ℕ) → e ≡ OpenFault.Foreign p → (b : List ℕ) → F.holds flash.new b
         → IsFirstForeign (place_in W B base span limits (area_of slot.old)) b p) }
-    ensures kept { OnOk result (IsKept (F.holds flash.new) (F.left_since flash.new (F.moment flash.new))) }
+    ensures kept { OnOk result
+        (IsKept (F.holds flash.new) (F.left_since flash.new (F.moment flash.new))) }
     ensures held { Follows Same (F.holds flash.old) (F.holds flash.new) }
-    ensures stops { Elapses Same (F.moment flash.old) (F.moment flash.new) (F.left_since flash.old) (F.left_since flash.new) }
+    ensures stops { Elapses Same (F.moment flash.old) (F.moment flash.new) (F.left_since flash.old)
+        (F.left_since flash.new) }
     ensures size { F.room flash.new ≡ F.room flash.old }
     ensures later { F.faults flash.old ≤ F.faults flash.new }
-    ensures fault { IfErr result (λ e. e ≡ OpenFault.Flash → HasRisen (F.faults flash.old) (F.faults flash.new)) }
+    ensures fault { IfErr result
+        (λ e. e ≡ OpenFault.Flash → HasRisen (F.faults flash.old) (F.faults flash.new)) }
     ensures area { area_of slot.new ≡ area_of slot.old }
 {
     match flash.sync() {
@@ -67,15 +75,22 @@ fn find_synced<F: Flash, const W: usize, const B: usize>(
     requires range { base + span ≤ F.room flash.old }
     requires long { records_place ≤ span }
     requires none { Stands slot.old None }
-    ensures found { IfOk result (λ o. MatchOption o (IsEmpty (place_in W B base span limits (area_of slot.old)) slot.new (F.holds flash.new))
-        (λ c. IsOpened (place_in W B base span limits (area_of slot.old)) slot.new (F.holds flash.new) c)) }
-    ensures foreign { IfErr result (λ e. (p : ℕ) → e ≡ OpenFault.Foreign p → (b : List ℕ) → F.holds flash.new b
+    ensures found { IfOk result
+        (λ o. MatchOption o
+        (IsEmpty (place_in W B base span limits (area_of slot.old)) slot.new
+        (F.holds flash.new))
+        (λ c. IsOpened (place_in W B base span limits (area_of slot.old)) slot.new
+        (F.holds flash.new) c)) }
+    ensures foreign { IfErr result
+        (λ e. (p : ℕ) → e ≡ OpenFault.Foreign p → (b : List ℕ) → F.holds flash.new b
         → IsFirstForeign (place_in W B base span limits (area_of slot.old)) b p) }
     ensures held { StillHolds (F.holds flash.old) (F.holds flash.new) }
-    ensures stops { Elapses Same (F.moment flash.old) (F.moment flash.new) (F.left_since flash.old) (F.left_since flash.new) }
+    ensures stops { Elapses Same (F.moment flash.old) (F.moment flash.new) (F.left_since flash.old)
+        (F.left_since flash.new) }
     ensures size { F.room flash.new ≡ F.room flash.old }
     ensures later { F.faults flash.old ≤ F.faults flash.new }
-    ensures fault { IfErr result (λ e. e ≡ OpenFault.Flash → HasRisen (F.faults flash.old) (F.faults flash.new)) }
+    ensures fault { IfErr result
+        (λ e. e ≡ OpenFault.Flash → HasRisen (F.faults flash.old) (F.faults flash.new)) }
     ensures area { area_of slot.new ≡ area_of slot.old }
 {
     match read_byte(flash, base) {
@@ -103,14 +118,20 @@ fn find_behind<F: Flash, const W: usize, const B: usize>(
     requires range { base + span ≤ F.room flash.old }
     requires long { records_place ≤ span }
     ensures found { ((b : List ℕ) → F.holds flash.new b → byte_at b base ≡ open_gate)
-        → IfOk result (λ c. IsOpened (place_in W B base span limits (area_of slot.old)) slot.new (F.holds flash.new) c) }
-    ensures foreign { IfErr result (λ e. (p : ℕ) → e ≡ OpenFault.Foreign p → (b : List ℕ) → F.holds flash.new b → byte_at b base ≡ open_gate
+        → IfOk result
+        (λ c. IsOpened (place_in W B base span limits (area_of slot.old)) slot.new
+        (F.holds flash.new) c) }
+    ensures foreign { IfErr result
+        (λ e. (p : ℕ) → e ≡ OpenFault.Foreign p → (b : List ℕ) → F.holds flash.new b
+        → byte_at b base ≡ open_gate
         → IsFirstForeign (place_in W B base span limits (area_of slot.old)) b p) }
     ensures held { StillHolds (F.holds flash.old) (F.holds flash.new) }
-    ensures stops { Elapses Same (F.moment flash.old) (F.moment flash.new) (F.left_since flash.old) (F.left_since flash.new) }
+    ensures stops { Elapses Same (F.moment flash.old) (F.moment flash.new) (F.left_since flash.old)
+        (F.left_since flash.new) }
     ensures size { F.room flash.new ≡ F.room flash.old }
     ensures later { F.faults flash.old ≤ F.faults flash.new }
-    ensures fault { IfErr result (λ e. e ≡ OpenFault.Flash → HasRisen (F.faults flash.old) (F.faults flash.new)) }
+    ensures fault { IfErr result
+        (λ e. e ≡ OpenFault.Flash → HasRisen (F.faults flash.old) (F.faults flash.new)) }
     ensures area { area_of slot.new ≡ area_of slot.old }
 {
     match read_setup(flash, base + BODY) {
@@ -133,17 +154,22 @@ fn find_session<F: Flash, const W: usize, const B: usize>(
     limits: Limits,
     slot: &mut Slot<W, B>,
 ) -> Result<Counts, OpenFault>
-    requires room { base + records_place + (10 + setup.frag_size) * (2 * setup.nb_frag + 1) ≤ F.room flash.old }
+    requires room { base + records_place + (10 + setup.frag_size) * (2 * setup.nb_frag + 1) ≤ F.room
+        flash.old }
     requires most { 2 * setup.nb_frag + 1 ≤ most_records }
     requires fine { setup_bits limits (memory_room W B (area_of slot.old)) setup ≡ 0 }
     ensures found { IfOk result (λ c. IsFound limits setup slot.new (F.holds flash.new) base c) }
     ensures foreign { IfErr result (λ e. (p : ℕ) → e ≡ OpenFault.Foreign p
-        → (b : List ℕ) → F.holds flash.new b → HasHeader (place_in W B base span limits (area_of slot.old)) setup b → IsFirstForeign (place_in W B base span limits (area_of slot.old)) b p) }
+        → (b : List ℕ) → F.holds flash.new b
+        → HasHeader (place_in W B base span limits (area_of slot.old)) setup b
+        → IsFirstForeign (place_in W B base span limits (area_of slot.old)) b p) }
     ensures held { StillHolds (F.holds flash.old) (F.holds flash.new) }
-    ensures stops { Elapses Same (F.moment flash.old) (F.moment flash.new) (F.left_since flash.old) (F.left_since flash.new) }
+    ensures stops { Elapses Same (F.moment flash.old) (F.moment flash.new) (F.left_since flash.old)
+        (F.left_since flash.new) }
     ensures size { F.room flash.new ≡ F.room flash.old }
     ensures later { F.faults flash.old ≤ F.faults flash.new }
-    ensures fault { IfErr result (λ e. e ≡ OpenFault.Flash → HasRisen (F.faults flash.old) (F.faults flash.new)) }
+    ensures fault { IfErr result
+        (λ e. e ≡ OpenFault.Flash → HasRisen (F.faults flash.old) (F.faults flash.new)) }
     ensures area { area_of slot.new ≡ area_of slot.old }
 {
     match read_front(flash, base + RECORD_GATES, 2 * setup.nb_frag + 1) {
@@ -163,19 +189,26 @@ fn find_tallies<F: Flash, const W: usize, const B: usize>(
     records: u16,
     slot: &mut Slot<W, B>,
 ) -> Result<Counts, OpenFault>
-    requires room { base + records_place + (10 + setup.frag_size) * (2 * setup.nb_frag + 1) ≤ F.room flash.old }
+    requires room { base + records_place + (10 + setup.frag_size) * (2 * setup.nb_frag + 1) ≤ F.room
+        flash.old }
     requires most { 2 * setup.nb_frag + 1 ≤ most_records }
     requires few { records ≤ 2 * setup.nb_frag + 1 }
     requires fine { setup_bits limits (memory_room W B (area_of slot.old)) setup ≡ 0 }
-    ensures found { ((b : List ℕ) → F.holds flash.new b → GatesOpen b (gates_at base) records (2 * setup.nb_frag + 1))
+    ensures found { ((b : List ℕ) → F.holds flash.new b
+        → GatesOpen b (gates_at base) records (2 * setup.nb_frag + 1))
         → IfOk result (λ c. IsFound limits setup slot.new (F.holds flash.new) base c) }
     ensures foreign { IfErr result (λ e. (p : ℕ) → e ≡ OpenFault.Foreign p
-        → (b : List ℕ) → F.holds flash.new b → HasHeader (place_in W B base span limits (area_of slot.old)) setup b → GatesOpen b (gates_at base) records (2 * setup.nb_frag + 1) → IsFirstForeign (place_in W B base span limits (area_of slot.old)) b p) }
+        → (b : List ℕ) → F.holds flash.new b
+        → HasHeader (place_in W B base span limits (area_of slot.old)) setup b
+        → GatesOpen b (gates_at base) records (2 * setup.nb_frag + 1)
+        → IsFirstForeign (place_in W B base span limits (area_of slot.old)) b p) }
     ensures held { StillHolds (F.holds flash.old) (F.holds flash.new) }
-    ensures stops { Elapses Same (F.moment flash.old) (F.moment flash.new) (F.left_since flash.old) (F.left_since flash.new) }
+    ensures stops { Elapses Same (F.moment flash.old) (F.moment flash.new) (F.left_since flash.old)
+        (F.left_since flash.new) }
     ensures size { F.room flash.new ≡ F.room flash.old }
     ensures later { F.faults flash.old ≤ F.faults flash.new }
-    ensures fault { IfErr result (λ e. e ≡ OpenFault.Flash → HasRisen (F.faults flash.old) (F.faults flash.new)) }
+    ensures fault { IfErr result
+        (λ e. e ≡ OpenFault.Flash → HasRisen (F.faults flash.old) (F.faults flash.new)) }
     ensures area { area_of slot.new ≡ area_of slot.old }
 {
     match read_front(flash, base + TALLY_GATES, MAX_TALLIES) {
@@ -201,19 +234,27 @@ fn find_records<F: Flash, const W: usize, const B: usize>(
     records: u16,
     slot: &mut Slot<W, B>,
 ) -> Result<(), OpenFault>
-    requires room { base + records_place + (10 + setup.frag_size) * (2 * setup.nb_frag + 1) ≤ F.room flash.old }
+    requires room { base + records_place + (10 + setup.frag_size) * (2 * setup.nb_frag + 1) ≤ F.room
+        flash.old }
     requires most { 2 * setup.nb_frag + 1 ≤ most_records }
     requires few { records ≤ 2 * setup.nb_frag + 1 }
     requires fine { setup_bits limits (memory_room W B (area_of slot.old)) setup ≡ 0 }
-    ensures found { OnOk result (Replayed (new_session limits setup) slot.new (F.holds flash.new) base setup.frag_size records) }
+    ensures found { OnOk result
+        (Replayed (new_session limits setup) slot.new (F.holds flash.new) base setup.frag_size
+        records) }
     ensures foreign { IfErr result (λ e. (p : ℕ) → e ≡ OpenFault.Foreign p
-        → (b : List ℕ) → F.holds flash.new b → HasHeader (place_in W B base span limits (area_of slot.old)) setup b → GatesOpen b (gates_at base) records (2 * setup.nb_frag + 1)
-        → (t : ℕ) → GatesOpen b (tallies_at base) t most_tallies → IsFirstForeign (place_in W B base span limits (area_of slot.old)) b p) }
+        → (b : List ℕ) → F.holds flash.new b
+        → HasHeader (place_in W B base span limits (area_of slot.old)) setup b
+        → GatesOpen b (gates_at base) records (2 * setup.nb_frag + 1)
+        → (t : ℕ) → GatesOpen b (tallies_at base) t most_tallies
+        → IsFirstForeign (place_in W B base span limits (area_of slot.old)) b p) }
     ensures held { StillHolds (F.holds flash.old) (F.holds flash.new) }
-    ensures stops { Elapses Same (F.moment flash.old) (F.moment flash.new) (F.left_since flash.old) (F.left_since flash.new) }
+    ensures stops { Elapses Same (F.moment flash.old) (F.moment flash.new) (F.left_since flash.old)
+        (F.left_since flash.new) }
     ensures size { F.room flash.new ≡ F.room flash.old }
     ensures later { F.faults flash.old ≤ F.faults flash.new }
-    ensures fault { IfErr result (λ e. e ≡ OpenFault.Flash → HasRisen (F.faults flash.old) (F.faults flash.new)) }
+    ensures fault { IfErr result
+        (λ e. e ≡ OpenFault.Flash → HasRisen (F.faults flash.old) (F.faults flash.new)) }
     ensures area { area_of slot.new ≡ area_of slot.old }
 {
     slot.renew(setup, limits);

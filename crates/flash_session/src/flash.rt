@@ -39,7 +39,8 @@ pub trait Flash {
         ensures bytes { OnOk result (Gives (holds self.old) at buf.new) }
         ensures held { Follows Same (holds self.old) (holds self.new) }
         ensures stays { Follows Same (holds self.new) (holds self.old) }
-        ensures stops { Elapses Same (moment self.old) (moment self.new) (left_since self.old) (left_since self.new) }
+        ensures stops { Elapses Same (moment self.old) (moment self.new) (left_since self.old)
+            (left_since self.new) }
         ensures size { room self.new ≡ room self.old }
         ensures cause { HasCause (faults self.old) (faults self.new) result }
         ensures told { tells self.old self.new 0 (is_err result) };
@@ -47,9 +48,12 @@ pub trait Flash {
     /// Writes the piece. Until a sync, and after a failure, any bytes may stand there.
     fn write(&mut self, at: u32, piece: &[u8]) -> Result<(), Failed>
         requires { at + length piece.now ≤ room self.old }
-        ensures written { OnOk result (Follows (Put at piece.now) (holds self.old) (holds self.new)) }
-        ensures held { Follows (SameOutside at (length piece.now)) (holds self.old) (holds self.new) }
-        ensures stops { Elapses (SameOutside at (length piece.now)) (moment self.old) (moment self.new) (left_since self.old) (left_since self.new) }
+        ensures written { OnOk result
+            (Follows (Put at piece.now) (holds self.old) (holds self.new)) }
+        ensures held { Follows (SameOutside at (length piece.now)) (holds self.old)
+            (holds self.new) }
+        ensures stops { Elapses (SameOutside at (length piece.now)) (moment self.old)
+            (moment self.new) (left_since self.old) (left_since self.new) }
         ensures size { room self.new ≡ room self.old }
         ensures cause { HasCause (faults self.old) (faults self.new) result }
         ensures told { tells self.old self.new (length piece.now) (is_err result) };
@@ -57,18 +61,22 @@ pub trait Flash {
     /// Writes `n` zeros.
     fn fill(&mut self, at: u32, n: u32) -> Result<(), Failed>
         requires { at + n ≤ room self.old }
-        ensures written { OnOk result (Follows (Put at (replicate n 0)) (holds self.old) (holds self.new)) }
+        ensures written { OnOk result
+            (Follows (Put at (replicate n 0)) (holds self.old) (holds self.new)) }
         ensures held { Follows (SameOutside at n) (holds self.old) (holds self.new) }
-        ensures stops { Elapses (SameOutside at n) (moment self.old) (moment self.new) (left_since self.old) (left_since self.new) }
+        ensures stops { Elapses (SameOutside at n) (moment self.old) (moment self.new)
+            (left_since self.old) (left_since self.new) }
         ensures size { room self.new ≡ room self.old }
         ensures cause { HasCause (faults self.old) (faults self.new) result }
         ensures told { tells self.old self.new n (is_err result) };
 
     /// After it, a stop leaves what a read gives.
     fn sync(&mut self) -> Result<(), Failed>
-        ensures durable { OnOk result (IsKept (holds self.new) (left_since self.new (moment self.new))) }
+        ensures durable { OnOk result
+            (IsKept (holds self.new) (left_since self.new (moment self.new))) }
         ensures held { Follows Same (holds self.old) (holds self.new) }
-        ensures stops { Elapses Same (moment self.old) (moment self.new) (left_since self.old) (left_since self.new) }
+        ensures stops { Elapses Same (moment self.old) (moment self.new) (left_since self.old)
+            (left_since self.new) }
         ensures size { room self.new ≡ room self.old }
         ensures cause { HasCause (faults self.old) (faults self.new) result }
         ensures told { tells self.old self.new 1 (is_err result) };

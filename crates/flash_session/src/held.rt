@@ -90,7 +90,8 @@ impl<const W: usize, const B: usize> Held<W, B> {
 
     /// What the session shows, if there is one.
     pub fn view(&self) -> Option<View<'_>>
-        ensures value { (o : Option Session) → HeldStandsAs self.now o → CountsAs self.now o → option_map seen result ≡ view_of o }
+        ensures value { (o : Option Session) → HeldStandsAs self.now o → CountsAs self.now o
+            → option_map seen result ≡ view_of o }
         ensures within { IfSome result (λ v. length v.file.now ≤ area_of self.now.slot) }
         ensures few { IfSome result (λ v. v.received ≤ max_received) }
     {
@@ -107,7 +108,8 @@ impl<const W: usize, const B: usize> Held<W, B> {
 
     /// The answer to FragSessionStatusReq (TS004-1.0.0), as a slot gives it.
     pub fn status(&self, via: Via, all: bool) -> Option<StatusAns>
-        ensures answer { (o : Option Session) → HeldStandsAs self.now o → CountsAs self.now o → result ≡ status_of o via all }
+        ensures answer { (o : Option Session) → HeldStandsAs self.now o → CountsAs self.now o
+            → result ≡ status_of o via all }
         ensures few { IfSome result (λ a. a.received ≤ max_received) }
     {
         match self.slot.status(via, all) {

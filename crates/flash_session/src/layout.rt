@@ -2,7 +2,8 @@
 
 ghost use Rattle.std.specs.Prelude.{◌≡◌, ◌+◌, ◌*◌, ◌≤◌};
 ghost use Rattle.frag_model.specs.Limits.{max_pieces};
-ghost use Rattle.flash_session.specs.Layout.{open_gate, body_place, body_size, gates_place, most_records, tallies_place, most_tallies, gates_size, records_place};
+ghost use Rattle.flash_session.specs.Layout.{open_gate, body_place, body_size, gates_place, most_records};
+ghost use Rattle.flash_session.specs.Layout.{tallies_place, most_tallies, gates_size, records_place};
 
 /// A gate that is open; any other byte is a closed one. The header's gate is the first byte.
 pub const OPEN: u8 = 0xa5;
@@ -29,10 +30,13 @@ pub const GATES: u32 = RECORDS - RECORD_GATES;
 /// ends where the next one begins, or before.
 pub fn parts_lie_side_by_side()
     ensures gate { OPEN ≡ open_gate }
-    ensures places { (BODY ≡ body_place) × (RECORD_GATES ≡ gates_place) × (TALLY_GATES ≡ tallies_place)
+    ensures places { (BODY ≡ body_place) × (RECORD_GATES ≡ gates_place)
+        × (TALLY_GATES ≡ tallies_place)
         × (RECORDS ≡ records_place) }
-    ensures counts { (MAX_TALLIES ≡ most_tallies) × (GATES ≡ gates_size) × (2 * max_pieces + 1 ≡ most_records) }
-    ensures apart { (body_place + body_size ≤ gates_place) × (gates_place + most_records ≡ tallies_place)
+    ensures counts { (MAX_TALLIES ≡ most_tallies) × (GATES ≡ gates_size)
+        × (2 * max_pieces + 1 ≡ most_records) }
+    ensures apart { (body_place + body_size ≤ gates_place)
+        × (gates_place + most_records ≡ tallies_place)
         × (tallies_place + most_tallies ≡ records_place)
         × (gates_place + gates_size ≡ records_place) }
 {}

@@ -46,7 +46,8 @@ impl MemFlash {
     pub fn reserve(alloc: Global, size: u32, room: u32, fails: Vec<u64>) -> Result<Self, AllocError>
         ensures bytes { IfOk result (λ f. f.bytes ≡ replicate size 0) }
         ensures log { IfOk result (λ f. f.log ≡ []) }
-        ensures calls { IfOk result (λ f. f.calls ≡ record { room = room; taken = 0; fails = fails.items; made = 0 }) }
+        ensures calls { IfOk result
+            (λ f. f.calls ≡ record { room = room; taken = 0; fails = fails.items; made = 0 }) }
         ensures faults { IfOk result (λ f. f.faults ≡ 0) }
     {
         let bytes = vec![in alloc; 0u8; size as usize]?;

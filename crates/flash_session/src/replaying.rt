@@ -24,12 +24,14 @@ pub fn replay<F: Flash, const W: usize, const B: usize>(
     slot: &mut Slot<W, B>,
 ) -> Result<Option<u16>, Failed>
     requires { base + records_place + (10 + size) * records ≤ F.room flash.old }
-    ensures replayed { (s : Session) → s.heard ≡ [] → Stands slot.old (Some s) → IfOk result (λ o. MatchOption o
+    ensures replayed { (s : Session) → s.heard ≡ [] → Stands slot.old (Some s)
+        → IfOk result (λ o. MatchOption o
         (Replayed s slot.new (F.holds flash.new) base size records)
         (λ k. (k + 1 ≤ records) × StopsAt s (F.holds flash.new) base size k)) }
     ensures area { area_of slot.new ≡ area_of slot.old }
     ensures held { StillHolds (F.holds flash.old) (F.holds flash.new) }
-    ensures stops { Elapses Same (F.moment flash.old) (F.moment flash.new) (F.left_since flash.old) (F.left_since flash.new) }
+    ensures stops { Elapses Same (F.moment flash.old) (F.moment flash.new) (F.left_since flash.old)
+        (F.left_since flash.new) }
     ensures size { F.room flash.new ≡ F.room flash.old }
     ensures cause { HasCause (F.faults flash.old) (F.faults flash.new) result }
 {
@@ -51,10 +53,13 @@ fn replay_one<F: Flash, const W: usize, const B: usize>(
 ) -> Result<bool, Failed>
     requires { base + records_place + (10 + size) * (k + 1) ≤ F.room flash.old }
     ensures replayed { (s : Session) → Replayed s slot.old (F.holds flash.old) base size k
-        → IfOk result (λ new. MatchBool new (Replayed s slot.new (F.holds flash.new) base size (k + 1)) (StopsAt s (F.holds flash.new) base size k)) }
+        → IfOk result
+        (λ new. MatchBool new (Replayed s slot.new (F.holds flash.new) base size (k + 1))
+        (StopsAt s (F.holds flash.new) base size k)) }
     ensures area { area_of slot.new ≡ area_of slot.old }
     ensures held { StillHolds (F.holds flash.old) (F.holds flash.new) }
-    ensures stops { Elapses Same (F.moment flash.old) (F.moment flash.new) (F.left_since flash.old) (F.left_since flash.new) }
+    ensures stops { Elapses Same (F.moment flash.old) (F.moment flash.new) (F.left_since flash.old)
+        (F.left_since flash.new) }
     ensures size { F.room flash.new ≡ F.room flash.old }
     ensures cause { HasCause (F.faults flash.old) (F.faults flash.new) result }
 {

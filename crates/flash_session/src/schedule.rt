@@ -27,7 +27,8 @@ impl Schedule {
 
     /// Counts a call, and a fault where it is listed or `full`; says whether it fails.
     pub fn fails_now(&mut self, full: bool) -> bool
-        ensures exact { result ≡ (full || list_any (λ n. n == next_call self.old.calls) self.old.fails.items) }
+        ensures exact { result ≡
+            (full || list_any (λ n. n == next_call self.old.calls) self.old.fails.items) }
         ensures calls { self.new.calls ≡ next_call self.old.calls }
         ensures fails { self.new.fails.items ≡ self.old.fails.items }
         ensures risen { OnTrue result (HasRisen self.old.faults self.new.faults) }
