@@ -15,7 +15,7 @@ use Rattle.flash_session.specs.InRange.{InRange, AllInRange}
 use Rattle.flash_session.specs.Layout.{open_gate, gates_at, tallies_at, most_tallies, spelled}
 use Rattle.flash_session.specs.Lies.{SpelledAt, RecordsLie, GatesOpen, record_at}
 use Rattle.flash_session.specs.Opening as foreign
-use Rattle.flash_session.specs.Opening.{IsStray, IsFed, IsForeignRecord, IsForeign, IsFirstForeign, session_there, setup_there, most_records}
+use Rattle.flash_session.specs.Opening.{IsStray, IsFed, IsForeignRecord, IsForeign, IsFirstForeign, session_there, setup_there, records_of}
 use Rattle.flash_session.specs.Replayed.{AllFed, StopsAt, HasHeader}
 use Rattle.flash_session.proofs.Fronts.{no_stray, stray_least, stray_is}
 use Rattle.flash_session.proofs.Places.{length-spelled}
@@ -72,18 +72,18 @@ module _ (h : HeldSession) (setup : SetupReq) (c : List ℕ) (head : HasHeader h
   abbrev pub M : ℕ
   M = 2 * setup.nb_frag + 1
 
-  most_is : most_records h c ≡ M
+  most_is : records_of h c ≡ M
   most_is = ap (λ (x : SetupReq). 2 * x.nb_frag + 1) head.setup_is
 
   no_setup : setup_bits h.limits (room_in h) (setup_there h c) ≢ 0 → ⊥
   no_setup some = some (ap (λ (x : SetupReq). setup_bits h.limits (room_in h) x) head.setup_is ∙ head.fine)
 
-  its_stray : (k : ℕ) → IsStray c (gates_at h.base) (most_records h c) k → IsStray c (gates_at h.base) M k
+  its_stray : (k : ℕ) → IsStray c (gates_at h.base) (records_of h c) k → IsStray c (gates_at h.base) M k
   its_stray k stray = subst (λ (m : ℕ). IsStray c (gates_at h.base) m k) most_is stray
 
-  its_record : (k : ℕ) → IsForeignRecord (session_there h c) c h.base (most_records h c) k → IsForeignRecord (new_session h.limits setup) c h.base M k
+  its_record : (k : ℕ) → IsForeignRecord (session_there h c) c h.base (records_of h c) k → IsForeignRecord (new_session h.limits setup) c h.base M k
   its_record k r = subst (λ (m : ℕ). IsForeignRecord (new_session h.limits setup) c h.base m k) most_is
-      (subst (λ (x : SetupReq). IsForeignRecord (new_session h.limits x) c h.base (most_records h c) k) head.setup_is r)
+      (subst (λ (x : SetupReq). IsForeignRecord (new_session h.limits x) c h.base (records_of h c) k) head.setup_is r)
 
   size_is : (setup_there h c).frag_size ≡ setup.frag_size
   size_is = ap (λ (x : SetupReq). x.frag_size) head.setup_is
@@ -102,7 +102,7 @@ module _ (h : HeldSession) (setup : SetupReq) (c : List ℕ) (head : HasHeader h
   }
 
   module _ (records : ℕ) (gates : GatesOpen c (gates_at h.base) records M) where
-    no_gate : (k : ℕ) → IsStray c (gates_at h.base) (most_records h c) k → ⊥
+    no_gate : (k : ℕ) → IsStray c (gates_at h.base) (records_of h c) k → ⊥
     no_gate k stray = no_stray c (gates_at h.base) records M k gates (its_stray k stray)
 
     tally_lowest : (n k : ℕ) → IsFirstStray c (tallies_at h.base) most_tallies n k → (other : ℕ) → IsForeign h c other → 8257 + k ≤ other
@@ -121,7 +121,7 @@ module _ (h : HeldSession) (setup : SetupReq) (c : List ℕ) (head : HasHeader h
     module _ (t : ℕ) (tallies : GatesOpen c (tallies_at h.base) t most_tallies) where
       -- a foreign record is none of those that tell something new
       not_among : (xs : List Fragment) (j : ℕ) → RecordsLie c h.base setup.frag_size xs → AllInRange xs → AllFed (new_session h.limits setup) xs
-          → IsForeignRecord (session_there h c) c h.base (most_records h c) j → length xs ≤ j
+          → IsForeignRecord (session_there h c) c h.base (records_of h c) j → length xs ≤ j
       not_among xs j lie ranged fed r = elim (cases_lt j (length xs)) [
         | inr le ↦ le
         | inl lt ↦ absurd (no_foreign_record (new_session h.limits setup) c h.base M j xs lt (subst (λ (z : ℕ). RecordsLie c h.base z xs) (new_size h.limits setup) lie) ranged fed (its_record j r))

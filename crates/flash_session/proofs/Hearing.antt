@@ -19,7 +19,7 @@ use Rattle.frag_session.specs.declared.answers.News.TheVariants as told
 use Rattle.frag_session.specs.Session.{Session, shape_of, fragment, followed, cause_of, drop_cause, news_in, answer_of, after_fragment}
 use Rattle.frag_session.specs.Held.{HeldSlot}
 use Rattle.frag_session.specs.Stands.{Stands}
-use Rattle.frag_session.specs.Steps.{area_of}
+use Rattle.frag_session.specs.Steps.{extent_of}
 use Rattle.frag_session.proofs.Calls.{can_hear}
 use Rattle.flash_session.specs.Body.{IsBody}
 use Rattle.flash_session.specs.HeldSession.{HeldSession}
@@ -207,7 +207,7 @@ module _ (way : Via) (n : ℕ) (part : List ℕ) (mark : ℕ) where
 
   -- ---- what is held in memory, behind it
 
-  module _ (h : HeldSession) (slot : HeldSlot) (area : area_of slot ≡ area_of h.slot) (stands : (o : Option Session) → Stands h.slot o → Stands slot (after_fragment o way n part mark)) where
+  module _ (h : HeldSession) (slot : HeldSlot) (area : extent_of slot ≡ extent_of h.slot) (stands : (o : Option Session) → Stands h.slot o → Stands slot (after_fragment o way n part mark)) where
     pub stands_new : n < 2 ^ 16 → mark < 2 ^ 64 → (o : Option Session) → HeldStandsAs h o → Answers h.slot (answer.Fed told.New)
         → HeldStandsAs (record h { slot = slot; records = h.records + 1 }) (after_fragment o way n part mark)
     stands_new fits_n fits_mark None held answers = absurd (none_fed told.New (news_in None n part mark) (answers None held))
@@ -350,7 +350,7 @@ module _ (way : Via) (n : ℕ) (part : List ℕ) (mark : ℕ) where
       (leaves (stored_of s b h.tallies) its.size_is its.count its.room held.stored)
 
   pub new_kept : n < 2 ^ 16 → mark < 2 ^ 64 → (h : HeldSession) (slot : HeldSlot) (o : Option Session) (holds left holds' left' : List ℕ → Type 0) → IsHeldAs h o holds left → Answers h.slot (answer.Fed told.New)
-      → area_of slot ≡ area_of h.slot → ((o : Option Session) → Stands h.slot o → Stands slot (after_fragment o way n part mark))
+      → extent_of slot ≡ extent_of h.slot → ((o : Option Session) → Stands h.slot o → Stands slot (after_fragment o way n part mark))
       → ((s : Stored) → s.size ≡ length part → length s.records ≡ h.records → h.records < s.most → IsStored h.base h.span s holds left → IsStored h.base h.span (with_record s (fragment n part mark)) holds' left')
       → IsHeldAs (record h { slot = slot; records = h.records + 1 }) (after_fragment o way n part mark) holds' left'
   new_kept fits_n fits_mark h slot None holds left holds' left' held answers area stands acked = absurd (none_fed told.New (news_in None n part mark) (answers None held.stands))
@@ -399,7 +399,7 @@ module _ (way : Via) (n : ℕ) (part : List ℕ) (mark : ℕ) where
       (leaves (stored_of s b h.tallies) (tallies_of s b h.tallies) held.stored)
 
   pub old_kept : (h : HeldSession) (slot : HeldSlot) (o : Option Session) (holds left holds' left' : List ℕ → Type 0) → IsHeldAs h o holds left → Answers h.slot (answer.Fed told.Old) → h.tallies < 16383
-      → area_of slot ≡ area_of h.slot → ((o : Option Session) → Stands h.slot o → Stands slot (after_fragment o way n part mark))
+      → extent_of slot ≡ extent_of h.slot → ((o : Option Session) → Stands h.slot o → Stands slot (after_fragment o way n part mark))
       → ((s : Stored) → s.tallies ≡ h.tallies → IsStored h.base h.span s holds left → IsStored h.base h.span (with_tally s) holds' left')
       → IsHeldAs (record h { slot = slot; tallies = h.tallies + 1 }) (after_fragment o way n part mark) holds' left'
   old_kept h slot None holds left holds' left' held answers less area stands acked = absurd (none_fed told.Old (news_in None n part mark) (answers None held.stands))
@@ -422,7 +422,7 @@ module _ (way : Via) (n : ℕ) (part : List ℕ) (mark : ℕ) where
 
   -- where the count is full nothing is written
   pub full_kept : (h : HeldSession) (slot : HeldSlot) (o : Option Session) (holds left : List ℕ → Type 0) → IsHeldAs h o holds left → Answers h.slot (answer.Fed told.Old) → 16383 ≤ h.records + h.tallies
-      → area_of slot ≡ area_of h.slot → ((o : Option Session) → Stands h.slot o → Stands slot (after_fragment o way n part mark))
+      → extent_of slot ≡ extent_of h.slot → ((o : Option Session) → Stands h.slot o → Stands slot (after_fragment o way n part mark))
       → IsHeldAs (record h { slot = slot }) (after_fragment o way n part mark) holds left
   full_kept h slot None holds left held answers full area stands = absurd (none_fed told.Old (news_in None n part mark) (answers None held.stands))
   full_kept h slot (Some s) holds left held answers full area stands =

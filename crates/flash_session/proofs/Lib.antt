@@ -1,5 +1,6 @@
 pub mod Apart
 pub mod Behind
+pub mod FixedMemory
 pub mod Found
 pub mod Fronts
 pub mod Headers

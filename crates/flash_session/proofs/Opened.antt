@@ -4,6 +4,7 @@ use Rattle.std.specs.Prelude.{if◌then◌else◌}
 use Rattle.frag_model.specs.Fragments.{Fragment, Shape}
 use Rattle.frag_model.specs.News.{is_new, news, MeanTheSame}
 use Rattle.frag_model.proofs.News.{again, same}
+use Rattle.row_elimination.specs.Room.{Extent}
 use Rattle.frag_session.specs.declared.answers.Via.TheVariants as via
 use Rattle.frag_session.specs.declared.answers.Cause.{Cause}
 use Rattle.frag_session.specs.declared.answers.News.TheVariants as told
@@ -13,7 +14,7 @@ use Rattle.frag_session.specs.declared.setups.SetupReq.{SetupReq}
 use Rattle.frag_session.specs.Held.{HeldSlot}
 use Rattle.frag_session.specs.Session.{Session, shape_of, new_session, cause_of, drop_cause, news_in, answer_of}
 use Rattle.frag_session.specs.Setup.{setup_bits}
-use Rattle.frag_session.specs.Steps.{area_of}
+use Rattle.frag_session.specs.Steps.{extent_of}
 use Rattle.flash_session.specs.Body.{IsBody}
 use Rattle.flash_session.specs.Contents.{Same, IsKept}
 use Rattle.flash_session.specs.declared.fault.OpenFault.{OpenFault}
@@ -253,12 +254,12 @@ not_foreign h (fault.Foreign p) (Some s) b lies first = absurd (lies_fine h s b 
 
 -- ---- the place, and what is held there
 
-module _ (h : HeldSession) (x : HeldSlot) (r t : ℕ) (area : area_of x ≡ area_of h.slot) where
+module _ (h : HeldSession) (x : HeldSlot) (r t : ℕ) (area : extent_of x ≡ extent_of h.slot) where
   abbrev pub there : HeldSession
   there = record h { slot = x; records = r; tallies = t }
 
   bits_there : (setup : SetupReq) → setup_bits h.limits (room_in there) setup ≡ setup_bits h.limits (room_in h) setup
-  bits_there setup = ap (λ (z : ℕ). setup_bits h.limits (record { words = h.words; bytes = h.bytes; area = z; span = Some h.span }) setup) area
+  bits_there setup = ap (λ (z : Extent). setup_bits h.limits (record { words = h.words; bytes = h.bytes; extent = z; span = Some h.span }) setup) area
 
   pub opened_there : (holds : List ℕ → Type 0) → IsOpened h x holds (record { records = r; tallies = t }) → IsOpened there x holds (record { records = r; tallies = t })
   opened_there holds o = record {

@@ -7,6 +7,7 @@ use Rattle.std.proofs.lemmas.Bool.{ne_eqb}
 use Rattle.frag_model.specs.Fragments.{Fragment, Shape}
 use Rattle.frag_model.specs.News.{news, MeanTheSame}
 use Rattle.frag_model.proofs.News.{means_itself}
+use Rattle.row_elimination.specs.Room.{Extent}
 use Rattle.frag_session.specs.declared.answers.Via.{Via}
 use Rattle.frag_session.specs.declared.answers.StatusAns.{StatusAns}
 use Rattle.frag_session.specs.declared.setups.Limits.{Limits}
@@ -15,7 +16,7 @@ use Rattle.frag_session.specs.Held.{HeldSlot}
 use Rattle.frag_session.specs.Session.{Session, Seen, shape_of, received_count, new_session, renewed, after_setup, seen_of, view_of, shown_verdict, shown_file, answers, status_by, status_in, status_of}
 use Rattle.frag_session.specs.Setup.{Room, memory_room, rows_of, too_long, bit_where, wrong_coding, too_large, other_descriptor, setup_bits, lives}
 use Rattle.frag_session.specs.Stands.{Stands}
-use Rattle.frag_session.specs.Steps.{area_of}
+use Rattle.frag_session.specs.Steps.{extent_of}
 use Rattle.frag_session.proofs.Calls.{accepted}
 use Rattle.flash_session.specs.Body.{setup_bytes, setup_from, IsBody, FieldsFit}
 use Rattle.flash_session.specs.HeldSession.{HeldSession, room_in}
@@ -77,11 +78,11 @@ new_setup limits room None req none e = fine_setup limits room None req none
 new_setup limits room (Some s) req none e = fine_setup limits room (Some s) req none ∙ ap (λ (t : Bool). Some (if t then s else new_session limits req)) e
 
 -- what is accepted with so much flash is accepted without
-pub in_memory : (limits : Limits) (room : Room) (req : SetupReq) → setup_bits limits room req ≡ 0 → setup_bits limits (memory_room room.words room.bytes room.area) req ≡ 0
+pub in_memory : (limits : Limits) (room : Room) (req : SetupReq) → setup_bits limits room req ≡ 0 → setup_bits limits (memory_room room.words room.bytes room.extent) req ≡ 0
 unfolding setup_bits too_large
 in_memory limits room req e =
     let fine = accepted limits room req e in
-    let rest : too_large (memory_room room.words room.bytes room.area) limits.rows req ≡ false = or_front (too_long room.span req) (nat_lt max_pieces req.nb_frag) (nat_lt max_frag_size req.frag_size) (not (has_room room.words room.bytes room.area req.nb_frag req.frag_size (rows_of limits.rows req))) fine.1 in
+    let rest : too_large (memory_room room.words room.bytes room.extent) limits.rows req ≡ false = or_front (too_long room.span req) (nat_lt max_pieces req.nb_frag) (nat_lt max_frag_size req.frag_size) (not (has_room room.words room.bytes room.extent req.nb_frag req.frag_size (rows_of limits.rows req))) fine.1 in
     let others : bit_where (wrong_coding req) 1 + 0 + bit_where (nat_le limits.sessions req.index) 4 + bit_where (other_descriptor limits.descriptor req.descriptor) 8 ≡ 0 = omega (arith, e) in
     ap (λ (t : Bool). bit_where (wrong_coding req) 1 + bit_where t 2 + bit_where (nat_le limits.sessions req.index) 4 + bit_where (other_descriptor limits.descriptor req.descriptor) 8) rest ∙ others
   where
@@ -128,12 +129,12 @@ module _ (h : HeldSession) (req : SetupReq) (fine : setup_bits h.limits (room_in
   unfolding new_session news shape_of
   new_openable = record { taken = fine; rows = refl; hearable = tt; ranged = tt }
 
-  pub new_stands : (slot : HeldSlot) → Stands slot (Some (new_session h.limits req)) → area_of slot ≡ area_of h.slot
+  pub new_stands : (slot : HeldSlot) → Stands slot (Some (new_session h.limits req)) → extent_of slot ≡ extent_of h.slot
       → HeldStands (record h { slot = slot; records = 0; tallies = 0 }) (new_session h.limits req)
   unfolding new_session news shape_of hearing
   new_stands slot stands area = record {
     slot = record { fed = []; stands = stands; means = means_itself (shape_of (new_session h.limits req)) [] };
-    openable = record { taken = ap (λ (z : ℕ). setup_bits h.limits (record { words = h.words; bytes = h.bytes; area = z; span = Some h.span }) req) area ∙ fine; rows = refl; hearable = tt; ranged = tt };
+    openable = record { taken = ap (λ (z : Extent). setup_bits h.limits (record { words = h.words; bytes = h.bytes; extent = z; span = Some h.span }) req) area ∙ fine; rows = refl; hearable = tt; ranged = tt };
     records = refl;
     few = omega arith;
   }
@@ -156,7 +157,7 @@ module _ (h : HeldSession) (req : SetupReq) (fine : setup_bits h.limits (room_in
   pub new_fits : FieldsFit req → Fits h.span (new_stored (setup_bytes req) (2 * req.nb_frag + 1) req.frag_size)
   new_fits fit = subst (Fits h.span) (sym new_stored_is) (openable_fits h (new_session h.limits req) (setup_bytes req) 0 (new_body fit).sized new_openable)
 
-  pub new_held : FieldsFit req → (slot : HeldSlot) (holds left : List ℕ → Type 0) → Stands slot (Some (new_session h.limits req)) → area_of slot ≡ area_of h.slot
+  pub new_held : FieldsFit req → (slot : HeldSlot) (holds left : List ℕ → Type 0) → Stands slot (Some (new_session h.limits req)) → extent_of slot ≡ extent_of h.slot
       → IsStoredAs h.base h.span (Some (new_stored (setup_bytes req) (2 * req.nb_frag + 1) req.frag_size)) holds left
       → IsHeldAs (record h { slot = slot; records = 0; tallies = 0 }) (Some (new_session h.limits req)) holds left
   new_held fit slot holds left stands area stored = record {

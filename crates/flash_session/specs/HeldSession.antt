@@ -3,7 +3,7 @@ use Rattle.std.specs.Prelude.{ℕ, Some}
 use Rattle.frag_session.specs.declared.setups.Limits.{Limits}
 use Rattle.frag_session.specs.Held.{HeldSlot}
 use Rattle.frag_session.specs.Setup.{Room}
-use Rattle.frag_session.specs.Steps.{area_of}
+use Rattle.frag_session.specs.Steps.{extent_of}
 
 -- what its slot keeps, the limits, its range, how many records and tallies lie there, and what there is for rows
 pub record HeldSession : Type 0 where
@@ -18,4 +18,4 @@ pub record HeldSession : Type 0 where
 
 -- the room for a session
 abbrev pub room_in : HeldSession → Room
-room_in h = record { words = h.words; bytes = h.bytes; area = area_of h.slot; span = Some h.span }
+room_in h = record { words = h.words; bytes = h.bytes; extent = extent_of h.slot; span = Some h.span }

@@ -3,26 +3,55 @@ use Rattle.std.specs.Prelude.{ℕ, ◌+◌, List, ◌++◌}
 use Rattle.std.specs.Int.{to_le_bytes, w16, w64}
 use Rattle.frag_model.specs.Fragments.{Fragment}
 
--- an open gate
+-- ---- numbers of this project's profile
+
+-- an open gate; any other byte is a closed one
 abbrev pub open_gate : ℕ
 open_gate = 0xa5
 
 -- the header's gate is the first byte, and the setup's body lies behind it
-abbrev pub body_at : ℕ → ℕ
-body_at base = base + 1
+abbrev pub body_place : ℕ
+body_place = 1
 
--- the gate of record k
-abbrev pub gates_at : ℕ → ℕ
-gates_at base = base + 64
+abbrev pub body_size : ℕ
+body_size = 10
 
-abbrev pub tallies_at : ℕ → ℕ
-tallies_at base = base + 8257
+-- a gate for each record, of which a session of the most pieces has 2 M + 1
+abbrev pub gates_place : ℕ
+gates_place = 64
+
+abbrev pub most_records : ℕ
+most_records = 8193
+
+-- a gate for each fragment that is counted alone
+abbrev pub tallies_place : ℕ
+tallies_place = 8257
 
 abbrev pub most_tallies : ℕ
 most_tallies = 16383
 
+-- both kinds of gates
+abbrev pub gates_size : ℕ
+gates_size = 24576
+
+-- the records
+abbrev pub records_place : ℕ
+records_place = 24640
+
+-- ---- where they lie in a flash
+
+abbrev pub body_at : ℕ → ℕ
+body_at base = base + body_place
+
+-- the gate of record 0
+abbrev pub gates_at : ℕ → ℕ
+gates_at base = base + gates_place
+
+abbrev pub tallies_at : ℕ → ℕ
+tallies_at base = base + tallies_place
+
 abbrev pub records_at : ℕ → ℕ
-records_at base = base + 24640
+records_at base = base + records_place
 
 -- a record: the number in two bytes, the mark in eight, and the data
 unfoldable pub spelled : Fragment → List ℕ

@@ -1,6 +1,8 @@
 pub mod Apart
 pub mod Body
 pub mod Contents
+pub mod FixedMemory
+pub mod Flashes
 pub mod Fronts
 pub mod Gates
 pub mod HeldInside

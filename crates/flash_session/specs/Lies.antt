@@ -2,7 +2,7 @@
 use Rattle.std.specs.Prelude.{◌≡◌, ◌≢◌, ◌⊎◌, ℕ, ◌+◌, ◌*◌, ◌<◌, ◌≤◌, List, [], ◌∷◌, length, get_or, Option, None, Some}
 use Rattle.frag_model.specs.Fragments.{Fragment}
 use Rattle.flash_session.specs.Contents.{byte_at, SameWithin, Follows}
-use Rattle.flash_session.specs.Layout.{open_gate, body_at, gates_at, tallies_at, most_tallies, records_at, spelled}
+use Rattle.flash_session.specs.Layout.{open_gate, body_size, most_records, gates_size, records_place, body_at, gates_at, tallies_at, most_tallies, records_at, spelled}
 
 -- a session as it lies in flash: the bytes of its setup, how many records it has at most, the bytes of a record's data,
 -- its records, newest first, and how many fragments were noted by a gate alone
@@ -42,9 +42,9 @@ pub record Lies (base : ℕ) (s : Stored) (c : List ℕ) : Type 0 where
 
 -- the session fits in the range
 pub record Fits (span : ℕ) (s : Stored) : Type 0 where
-  pub body : length s.body ≡ 10
-  pub most : s.most ≤ 8193
-  pub room : 24640 + (10 + s.size) * s.most ≤ span
+  pub body : length s.body ≡ body_size
+  pub most : s.most ≤ most_records
+  pub room : records_place + (10 + s.size) * s.most ≤ span
 
 -- one record more
 unfoldable pub with_record : Stored → Fragment → Stored
@@ -92,4 +92,4 @@ IsOldNoneOrNew base o new c = LiesAs base o c ⊎ NoSession base c ⊎ Lies base
 -- the parts of a session that heard nothing lie behind the header's gate
 pub record IsCleared (base : ℕ) (body : List ℕ) (c : List ℕ) : Type 0 where
   pub body_is : SpelledAt c (body_at base) body
-  pub gates : (k : ℕ) → k < 24576 → byte_at c (gates_at base + k) ≡ 0
+  pub gates : (k : ℕ) → k < gates_size → byte_at c (gates_at base + k) ≡ 0

@@ -11,7 +11,7 @@ use Rattle.flash_session.specs.Body.{setup_at}
 use Rattle.flash_session.specs.Contents.{byte_at}
 use Rattle.flash_session.specs.HeldSession.{HeldSession, room_in}
 use Rattle.flash_session.specs.InRange.{InRange, AllInRange}
-use Rattle.flash_session.specs.Layout.{open_gate, body_at, gates_at, tallies_at, most_tallies, spelled}
+use Rattle.flash_session.specs.Layout.{open_gate, body_place, gates_place, tallies_place, records_place, body_at, gates_at, tallies_at, most_tallies, spelled}
 use Rattle.flash_session.specs.Lies.{SpelledAt, RecordsLie, record_at}
 use Rattle.flash_session.specs.Sessions.{hearing}
 
@@ -22,8 +22,8 @@ setup_there h c = setup_at c (body_at h.base)
 abbrev pub session_there : HeldSession → List ℕ → Session
 session_there h c = new_session h.limits (setup_there h c)
 
-abbrev pub most_records : HeldSession → List ℕ → ℕ
-most_records h c = 2 * (setup_there h c).nb_frag + 1
+abbrev pub records_of : HeldSession → List ℕ → ℕ
+records_of h c = 2 * (setup_there h c).nb_frag + 1
 
 -- of the gates from a place on, fewer than `most`, the one of number k is open behind one that is closed
 pub record IsStray (c : List ℕ) (at most k : ℕ) : Type 0 where
@@ -55,11 +55,11 @@ pub record IsForeignRecord (s : Session) (c : List ℕ) (base most k : ℕ) : Ty
 
 -- what is foreign at a place, counted from the range's first byte
 pub data IsForeign (h : HeldSession) (c : List ℕ) (place : ℕ) : Type 0 where
-  setup : place ≡ 1 → setup_bits h.limits (room_in h) (setup_there h c) ≢ 0 → IsForeign h c place
-  gate : (k : ℕ) → place ≡ 64 + k → IsStray c (gates_at h.base) (most_records h c) k → IsForeign h c place
-  tally : (k : ℕ) → place ≡ 8257 + k → IsStray c (tallies_at h.base) most_tallies k → IsForeign h c place
-  written : (k : ℕ) → place ≡ 24640 + (10 + (setup_there h c).frag_size) * k
-      → IsForeignRecord (session_there h c) c h.base (most_records h c) k → IsForeign h c place
+  setup : place ≡ body_place → setup_bits h.limits (room_in h) (setup_there h c) ≢ 0 → IsForeign h c place
+  gate : (k : ℕ) → place ≡ gates_place + k → IsStray c (gates_at h.base) (records_of h c) k → IsForeign h c place
+  tally : (k : ℕ) → place ≡ tallies_place + k → IsStray c (tallies_at h.base) most_tallies k → IsForeign h c place
+  written : (k : ℕ) → place ≡ records_place + (10 + (setup_there h c).frag_size) * k
+      → IsForeignRecord (session_there h c) c h.base (records_of h c) k → IsForeign h c place
 
 -- the header's gate is open, and the lowest foreign place is this
 pub record IsFirstForeign (h : HeldSession) (c : List ℕ) (place : ℕ) : Type 0 where

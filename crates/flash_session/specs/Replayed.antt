@@ -7,7 +7,8 @@ use Rattle.frag_session.specs.Held.{HeldSlot, idle}
 use Rattle.frag_session.specs.Session.{Session, new_session}
 use Rattle.frag_session.specs.Setup.{setup_bits}
 use Rattle.frag_session.specs.Stands.{Stands}
-use Rattle.frag_session.specs.Steps.{area_of}
+use Rattle.row_elimination.specs.Room.{Extent}
+use Rattle.frag_session.specs.Steps.{extent_of}
 use Rattle.flash_session.specs.Body.{IsBody}
 use Rattle.flash_session.specs.Contents.{byte_at}
 use Rattle.flash_session.specs.declared.finding.Counts.{Counts}
@@ -46,9 +47,9 @@ pub record StopsAt (s : Session) (holds : List ℕ → Type 0) (base size k : �
   pub foreign : IsFed s records next → ⊥
 
 -- a place for a session, of which nothing is known yet
-abbrev pub place_in : (words bytes base span : ℕ) → Limits → (area : ℕ) → HeldSession
-place_in words bytes base span limits area = record {
-  slot = idle area;
+abbrev pub place_in : (words bytes base span : ℕ) → Limits → Extent → HeldSession
+place_in words bytes base span limits extent = record {
+  slot = idle extent;
   limits = limits;
   base = base;
   span = span;
@@ -87,10 +88,10 @@ pub record IsEmpty (h : HeldSession) (x : HeldSlot) (holds : List ℕ → Type 0
   pub stands : Stands x None
 
 -- what is held is this place
-pub record IsPlaceOf (h : HeldSession) (words bytes base span : ℕ) (limits : Limits) (area : ℕ) : Type 0 where
+pub record IsPlaceOf (h : HeldSession) (words bytes base span : ℕ) (limits : Limits) (extent : Extent) : Type 0 where
   pub words_are : h.words ≡ words
   pub bytes_are : h.bytes ≡ bytes
   pub base_is : h.base ≡ base
   pub span_is : h.span ≡ span
   pub limits_are : h.limits ≡ limits
-  pub area_is : area_of h.slot ≡ area
+  pub extent_is : extent_of h.slot ≡ extent

@@ -2,6 +2,7 @@
 use Rattle.std.specs.Prelude.{◌≡◌, ℕ, ◌+◌, ◌*◌, ◌≤◌, min, List, [], ◌∷◌, length, Option, None, Some}
 use Rattle.frag_model.specs.Fragments.{Fragment}
 use Rattle.frag_model.specs.News.{news, MeanTheSame}
+use Rattle.frag_session.specs.Limits.{max_received}
 use Rattle.frag_session.specs.Setup.{rows_of, setup_bits}
 use Rattle.frag_session.specs.Session.{Session, shape_of, cause_of, received_count}
 use Rattle.frag_session.specs.declared.setups.SetupReq.{SetupReq}
@@ -11,6 +12,7 @@ use Rattle.frag_session.specs.Stands.{Stands}
 use Rattle.flash_session.specs.Body.{IsBody}
 use Rattle.flash_session.specs.HeldSession.{HeldSession, room_in}
 use Rattle.flash_session.specs.InRange.{AllInRange}
+use Rattle.flash_session.specs.Layout.{most_tallies}
 use Rattle.flash_session.specs.Lies.{Stored, Lies, NoSession, IsStoredAs}
 
 -- a session as it is stored: of what it heard, what was new is a record
@@ -34,7 +36,7 @@ IsBodyOf body (Some s) = IsBody body s.setup
 
 -- records and tallies together number what was heard, up to the count's end
 abbrev pub IsCount : Session → ℕ → Type 0
-IsCount s tallies = min (length (news (shape_of s) s.heard) + tallies) 16383 ≡ received_count (length s.heard)
+IsCount s tallies = min (length (news (shape_of s) s.heard) + tallies) max_received ≡ received_count (length s.heard)
 
 -- a session that heard another list
 unfoldable pub hearing : Session → List Fragment → Session
@@ -82,7 +84,7 @@ pub record HeldStands (h : HeldSession) (s : Session) : Type 0 where
   pub slot : StandsBut h.slot s
   pub openable : IsOpenable h s
   pub records : h.records ≡ length (news (shape_of s) s.heard)
-  pub few : h.tallies ≤ 16383
+  pub few : h.tallies ≤ most_tallies
 
 abbrev pub HeldStandsAs : HeldSession → Option Session → Type 0
 HeldStandsAs h None = Stands h.slot None

@@ -4,6 +4,7 @@ ghost use Rattle.std.specs.Prelude.{◌≡◌, ◌^◌, ◌<◌, length, IfOk, r
 
 use crate::flash::{Failed, Flash};
 use std::alloc::{AllocError, Global};
+use std::marker::Model;
 
 /// Cells in memory. They never fail.
 #[derive(Drop)]
@@ -12,10 +13,18 @@ pub struct CellFlash {
     ghost small: { length cells.items < 2 ^ 32 },
 }
 
+impl Model for CellFlash {
+    ghost use Rattle.flash_session.specs.Flashes.{Cells};
+
+    ghost Value = { Cells };
+
+    ghost view = { λ f. record { bytes = f.cells.items; small = f.small } };
+}
+
 impl CellFlash {
     /// So many bytes, all 0.
     pub fn reserve(alloc: Global, size: u32) -> Result<Self, AllocError>
-        ensures { IfOk result (λ f. f.cells.items ≡ replicate size 0) }
+        ensures { IfOk result (λ f. f.bytes ≡ replicate size 0) }
     {
         let cells = vec![in alloc; 0u8; size as usize]?;
         Ok(CellFlash { cells })
@@ -23,9 +32,9 @@ impl CellFlash {
 }
 
 impl Flash for CellFlash {
-    ghost use Rattle.std.specs.Prelude.{◌≡◌, length};
+    ghost use Rattle.std.specs.Prelude.{◌≡◌, false, length};
 
-    ghost holds = { λ f c. c ≡ f.cells.items };
+    ghost holds = { λ f c. c ≡ f.bytes };
 
     ghost left_since = { λ f t c. ⊥ };
 
@@ -33,7 +42,9 @@ impl Flash for CellFlash {
 
     ghost faults = { λ f. 0 };
 
-    ghost room = { λ f. length f.cells.items };
+    ghost room = { λ f. length f.bytes };
+
+    ghost tells = { λ old new steps failed. failed ≡ false };
 
     ghost small = { λ f. f.small };
 

@@ -3,7 +3,7 @@
 ghost use Rattle.std.specs.Prelude.{◌≡◌, ℕ, ◌+◌, ◌*◌, ◌<◌, ◌≤◌, List, Option, None, OnOk, IfOk, IfErr, MatchOption};
 ghost use Rattle.flash_session.specs.Contents.{byte_at, Same, StillHolds, Follows, IsKept, HasRisen};
 ghost use Rattle.flash_session.specs.HeldSession.{room_in};
-ghost use Rattle.flash_session.specs.Layout.{open_gate, gates_at, tallies_at, most_tallies};
+ghost use Rattle.flash_session.specs.Layout.{open_gate, gates_at, tallies_at, most_records, most_tallies, records_place};
 ghost use Rattle.flash_session.specs.Lies.{GatesOpen, NoSession};
 ghost use Rattle.flash_session.specs.Moments.{Elapses};
 ghost use Rattle.flash_session.specs.Opening.{IsFirstForeign};
@@ -11,13 +11,13 @@ ghost use Rattle.flash_session.specs.Replayed.{Replayed, HasHeader, IsFound, IsO
 ghost use Rattle.frag_session.specs.Session.{new_session};
 ghost use Rattle.frag_session.specs.Setup.{setup_bits, memory_room};
 ghost use Rattle.frag_session.specs.Stands.{Stands};
-ghost use Rattle.frag_session.specs.Steps.{area_of};
+ghost use Rattle.frag_session.specs.Steps.{extent_of};
 
 use crate::fault::OpenFault;
 use crate::flash::Flash;
+use crate::layout::{BODY, MAX_TALLIES, OPEN, RECORD_GATES, RECORDS, TALLY_GATES};
 use crate::reading::{Front, read_byte, read_front, read_setup};
 use crate::replaying::replay;
-use crate::storing::OPEN;
 use frag_session::{Limits, SetupReq, Slot};
 
 /// How many records and tallies lie there.
@@ -36,19 +36,27 @@ pub fn find<F: Flash, const W: usize, const B: usize>(
     slot: &mut Slot<W, B>,
 ) -> Result<Option<Counts>, OpenFault>
     requires range { base + span ≤ F.room flash.old }
-    requires long { 24640 ≤ span }
+    requires long { records_place ≤ span }
     requires none { Stands slot.old None }
-    ensures found { IfOk result (λ o. MatchOption o (IsEmpty (place_in W B base span limits (area_of slot.old)) slot.new (F.holds flash.new))
-        (λ c. IsOpened (place_in W B base span limits (area_of slot.old)) slot.new (F.holds flash.new) c)) }
-    ensures foreign { IfErr result (λ e. (p : ℕ) → e ≡ OpenFault.Foreign p → (b : List ℕ) → F.holds flash.new b
-        → IsFirstForeign (place_in W B base span limits (area_of slot.old)) b p) }
-    ensures kept { OnOk result (IsKept (F.holds flash.new) (F.left_since flash.new (F.moment flash.new))) }
+    ensures found { IfOk result
+        (λ o. MatchOption o
+        (IsEmpty (place_in W B base span limits (extent_of slot.old)) slot.new
+        (F.holds flash.new))
+        (λ c. IsOpened (place_in W B base span limits (extent_of slot.old)) slot.new
+        (F.holds flash.new) c)) }
+    ensures foreign { IfErr result
+        (λ e. (p : ℕ) → e ≡ OpenFault.Foreign p → (b : List ℕ) → F.holds flash.new b
+        → IsFirstForeign (place_in W B base span limits (extent_of slot.old)) b p) }
+    ensures kept { OnOk result
+        (IsKept (F.holds flash.new) (F.left_since flash.new (F.moment flash.new))) }
     ensures held { Follows Same (F.holds flash.old) (F.holds flash.new) }
-    ensures stops { Elapses Same (F.moment flash.old) (F.moment flash.new) (F.left_since flash.old) (F.left_since flash.new) }
+    ensures stops { Elapses Same (F.moment flash.old) (F.moment flash.new) (F.left_since flash.old)
+        (F.left_since flash.new) }
     ensures size { F.room flash.new ≡ F.room flash.old }
     ensures later { F.faults flash.old ≤ F.faults flash.new }
-    ensures fault { IfErr result (λ e. e ≡ OpenFault.Flash → HasRisen (F.faults flash.old) (F.faults flash.new)) }
-    ensures area { area_of slot.new ≡ area_of slot.old }
+    ensures fault { IfErr result
+        (λ e. e ≡ OpenFault.Flash → HasRisen (F.faults flash.old) (F.faults flash.new)) }
+    ensures extent { extent_of slot.new ≡ extent_of slot.old }
 {
     match flash.sync() {
         Err(_) => Err(OpenFault::Flash),
@@ -65,18 +73,25 @@ fn find_synced<F: Flash, const W: usize, const B: usize>(
     slot: &mut Slot<W, B>,
 ) -> Result<Option<Counts>, OpenFault>
     requires range { base + span ≤ F.room flash.old }
-    requires long { 24640 ≤ span }
+    requires long { records_place ≤ span }
     requires none { Stands slot.old None }
-    ensures found { IfOk result (λ o. MatchOption o (IsEmpty (place_in W B base span limits (area_of slot.old)) slot.new (F.holds flash.new))
-        (λ c. IsOpened (place_in W B base span limits (area_of slot.old)) slot.new (F.holds flash.new) c)) }
-    ensures foreign { IfErr result (λ e. (p : ℕ) → e ≡ OpenFault.Foreign p → (b : List ℕ) → F.holds flash.new b
-        → IsFirstForeign (place_in W B base span limits (area_of slot.old)) b p) }
+    ensures found { IfOk result
+        (λ o. MatchOption o
+        (IsEmpty (place_in W B base span limits (extent_of slot.old)) slot.new
+        (F.holds flash.new))
+        (λ c. IsOpened (place_in W B base span limits (extent_of slot.old)) slot.new
+        (F.holds flash.new) c)) }
+    ensures foreign { IfErr result
+        (λ e. (p : ℕ) → e ≡ OpenFault.Foreign p → (b : List ℕ) → F.holds flash.new b
+        → IsFirstForeign (place_in W B base span limits (extent_of slot.old)) b p) }
     ensures held { StillHolds (F.holds flash.old) (F.holds flash.new) }
-    ensures stops { Elapses Same (F.moment flash.old) (F.moment flash.new) (F.left_since flash.old) (F.left_since flash.new) }
+    ensures stops { Elapses Same (F.moment flash.old) (F.moment flash.new) (F.left_since flash.old)
+        (F.left_since flash.new) }
     ensures size { F.room flash.new ≡ F.room flash.old }
     ensures later { F.faults flash.old ≤ F.faults flash.new }
-    ensures fault { IfErr result (λ e. e ≡ OpenFault.Flash → HasRisen (F.faults flash.old) (F.faults flash.new)) }
-    ensures area { area_of slot.new ≡ area_of slot.old }
+    ensures fault { IfErr result
+        (λ e. e ≡ OpenFault.Flash → HasRisen (F.faults flash.old) (F.faults flash.new)) }
+    ensures extent { extent_of slot.new ≡ extent_of slot.old }
 {
     match read_byte(flash, base) {
         Err(_) => Err(OpenFault::Flash),
@@ -101,23 +116,29 @@ fn find_behind<F: Flash, const W: usize, const B: usize>(
     slot: &mut Slot<W, B>,
 ) -> Result<Counts, OpenFault>
     requires range { base + span ≤ F.room flash.old }
-    requires long { 24640 ≤ span }
+    requires long { records_place ≤ span }
     ensures found { ((b : List ℕ) → F.holds flash.new b → byte_at b base ≡ open_gate)
-        → IfOk result (λ c. IsOpened (place_in W B base span limits (area_of slot.old)) slot.new (F.holds flash.new) c) }
-    ensures foreign { IfErr result (λ e. (p : ℕ) → e ≡ OpenFault.Foreign p → (b : List ℕ) → F.holds flash.new b → byte_at b base ≡ open_gate
-        → IsFirstForeign (place_in W B base span limits (area_of slot.old)) b p) }
+        → IfOk result
+        (λ c. IsOpened (place_in W B base span limits (extent_of slot.old)) slot.new
+        (F.holds flash.new) c) }
+    ensures foreign { IfErr result
+        (λ e. (p : ℕ) → e ≡ OpenFault.Foreign p → (b : List ℕ) → F.holds flash.new b
+        → byte_at b base ≡ open_gate
+        → IsFirstForeign (place_in W B base span limits (extent_of slot.old)) b p) }
     ensures held { StillHolds (F.holds flash.old) (F.holds flash.new) }
-    ensures stops { Elapses Same (F.moment flash.old) (F.moment flash.new) (F.left_since flash.old) (F.left_since flash.new) }
+    ensures stops { Elapses Same (F.moment flash.old) (F.moment flash.new) (F.left_since flash.old)
+        (F.left_since flash.new) }
     ensures size { F.room flash.new ≡ F.room flash.old }
     ensures later { F.faults flash.old ≤ F.faults flash.new }
-    ensures fault { IfErr result (λ e. e ≡ OpenFault.Flash → HasRisen (F.faults flash.old) (F.faults flash.new)) }
-    ensures area { area_of slot.new ≡ area_of slot.old }
+    ensures fault { IfErr result
+        (λ e. e ≡ OpenFault.Flash → HasRisen (F.faults flash.old) (F.faults flash.new)) }
+    ensures extent { extent_of slot.new ≡ extent_of slot.old }
 {
-    match read_setup(flash, base + 1) {
+    match read_setup(flash, base + BODY) {
         Err(_) => Err(OpenFault::Flash),
         Ok(setup) => {
             if slot.refusal(setup, limits, Some(span)) != 0 {
-                return Err(OpenFault::Foreign(1));
+                return Err(OpenFault::Foreign(BODY));
             }
             find_session(flash, base, span, setup, limits, slot)
         }
@@ -133,22 +154,27 @@ fn find_session<F: Flash, const W: usize, const B: usize>(
     limits: Limits,
     slot: &mut Slot<W, B>,
 ) -> Result<Counts, OpenFault>
-    requires room { base + 24640 + (10 + setup.frag_size) * (2 * setup.nb_frag + 1) ≤ F.room flash.old }
-    requires most { 2 * setup.nb_frag + 1 ≤ 8193 }
-    requires fine { setup_bits limits (memory_room W B (area_of slot.old)) setup ≡ 0 }
+    requires room { base + records_place + (10 + setup.frag_size) * (2 * setup.nb_frag + 1) ≤ F.room
+        flash.old }
+    requires most { 2 * setup.nb_frag + 1 ≤ most_records }
+    requires fine { setup_bits limits (memory_room W B (extent_of slot.old)) setup ≡ 0 }
     ensures found { IfOk result (λ c. IsFound limits setup slot.new (F.holds flash.new) base c) }
     ensures foreign { IfErr result (λ e. (p : ℕ) → e ≡ OpenFault.Foreign p
-        → (b : List ℕ) → F.holds flash.new b → HasHeader (place_in W B base span limits (area_of slot.old)) setup b → IsFirstForeign (place_in W B base span limits (area_of slot.old)) b p) }
+        → (b : List ℕ) → F.holds flash.new b
+        → HasHeader (place_in W B base span limits (extent_of slot.old)) setup b
+        → IsFirstForeign (place_in W B base span limits (extent_of slot.old)) b p) }
     ensures held { StillHolds (F.holds flash.old) (F.holds flash.new) }
-    ensures stops { Elapses Same (F.moment flash.old) (F.moment flash.new) (F.left_since flash.old) (F.left_since flash.new) }
+    ensures stops { Elapses Same (F.moment flash.old) (F.moment flash.new) (F.left_since flash.old)
+        (F.left_since flash.new) }
     ensures size { F.room flash.new ≡ F.room flash.old }
     ensures later { F.faults flash.old ≤ F.faults flash.new }
-    ensures fault { IfErr result (λ e. e ≡ OpenFault.Flash → HasRisen (F.faults flash.old) (F.faults flash.new)) }
-    ensures area { area_of slot.new ≡ area_of slot.old }
+    ensures fault { IfErr result
+        (λ e. e ≡ OpenFault.Flash → HasRisen (F.faults flash.old) (F.faults flash.new)) }
+    ensures extent { extent_of slot.new ≡ extent_of slot.old }
 {
-    match read_front(flash, base + 64, 2 * setup.nb_frag + 1) {
+    match read_front(flash, base + RECORD_GATES, 2 * setup.nb_frag + 1) {
         Err(_) => Err(OpenFault::Flash),
-        Ok(Front::Stray(k)) => Err(OpenFault::Foreign(64 + u32::from(k))),
+        Ok(Front::Stray(k)) => Err(OpenFault::Foreign(RECORD_GATES + u32::from(k))),
         Ok(Front::Whole(records)) => find_tallies(flash, base, span, setup, limits, records, slot),
     }
 }
@@ -163,24 +189,31 @@ fn find_tallies<F: Flash, const W: usize, const B: usize>(
     records: u16,
     slot: &mut Slot<W, B>,
 ) -> Result<Counts, OpenFault>
-    requires room { base + 24640 + (10 + setup.frag_size) * (2 * setup.nb_frag + 1) ≤ F.room flash.old }
-    requires most { 2 * setup.nb_frag + 1 ≤ 8193 }
+    requires room { base + records_place + (10 + setup.frag_size) * (2 * setup.nb_frag + 1) ≤ F.room
+        flash.old }
+    requires most { 2 * setup.nb_frag + 1 ≤ most_records }
     requires few { records ≤ 2 * setup.nb_frag + 1 }
-    requires fine { setup_bits limits (memory_room W B (area_of slot.old)) setup ≡ 0 }
-    ensures found { ((b : List ℕ) → F.holds flash.new b → GatesOpen b (gates_at base) records (2 * setup.nb_frag + 1))
+    requires fine { setup_bits limits (memory_room W B (extent_of slot.old)) setup ≡ 0 }
+    ensures found { ((b : List ℕ) → F.holds flash.new b
+        → GatesOpen b (gates_at base) records (2 * setup.nb_frag + 1))
         → IfOk result (λ c. IsFound limits setup slot.new (F.holds flash.new) base c) }
     ensures foreign { IfErr result (λ e. (p : ℕ) → e ≡ OpenFault.Foreign p
-        → (b : List ℕ) → F.holds flash.new b → HasHeader (place_in W B base span limits (area_of slot.old)) setup b → GatesOpen b (gates_at base) records (2 * setup.nb_frag + 1) → IsFirstForeign (place_in W B base span limits (area_of slot.old)) b p) }
+        → (b : List ℕ) → F.holds flash.new b
+        → HasHeader (place_in W B base span limits (extent_of slot.old)) setup b
+        → GatesOpen b (gates_at base) records (2 * setup.nb_frag + 1)
+        → IsFirstForeign (place_in W B base span limits (extent_of slot.old)) b p) }
     ensures held { StillHolds (F.holds flash.old) (F.holds flash.new) }
-    ensures stops { Elapses Same (F.moment flash.old) (F.moment flash.new) (F.left_since flash.old) (F.left_since flash.new) }
+    ensures stops { Elapses Same (F.moment flash.old) (F.moment flash.new) (F.left_since flash.old)
+        (F.left_since flash.new) }
     ensures size { F.room flash.new ≡ F.room flash.old }
     ensures later { F.faults flash.old ≤ F.faults flash.new }
-    ensures fault { IfErr result (λ e. e ≡ OpenFault.Flash → HasRisen (F.faults flash.old) (F.faults flash.new)) }
-    ensures area { area_of slot.new ≡ area_of slot.old }
+    ensures fault { IfErr result
+        (λ e. e ≡ OpenFault.Flash → HasRisen (F.faults flash.old) (F.faults flash.new)) }
+    ensures extent { extent_of slot.new ≡ extent_of slot.old }
 {
-    match read_front(flash, base + 8257, 16_383) {
+    match read_front(flash, base + TALLY_GATES, MAX_TALLIES) {
         Err(_) => Err(OpenFault::Flash),
-        Ok(Front::Stray(k)) => Err(OpenFault::Foreign(8257 + u32::from(k))),
+        Ok(Front::Stray(k)) => Err(OpenFault::Foreign(TALLY_GATES + u32::from(k))),
         Ok(Front::Whole(tallies)) => match find_records(
             flash, base, span, setup, limits, records, slot,
         ) {
@@ -201,27 +234,35 @@ fn find_records<F: Flash, const W: usize, const B: usize>(
     records: u16,
     slot: &mut Slot<W, B>,
 ) -> Result<(), OpenFault>
-    requires room { base + 24640 + (10 + setup.frag_size) * (2 * setup.nb_frag + 1) ≤ F.room flash.old }
-    requires most { 2 * setup.nb_frag + 1 ≤ 8193 }
+    requires room { base + records_place + (10 + setup.frag_size) * (2 * setup.nb_frag + 1) ≤ F.room
+        flash.old }
+    requires most { 2 * setup.nb_frag + 1 ≤ most_records }
     requires few { records ≤ 2 * setup.nb_frag + 1 }
-    requires fine { setup_bits limits (memory_room W B (area_of slot.old)) setup ≡ 0 }
-    ensures found { OnOk result (Replayed (new_session limits setup) slot.new (F.holds flash.new) base setup.frag_size records) }
+    requires fine { setup_bits limits (memory_room W B (extent_of slot.old)) setup ≡ 0 }
+    ensures found { OnOk result
+        (Replayed (new_session limits setup) slot.new (F.holds flash.new) base setup.frag_size
+        records) }
     ensures foreign { IfErr result (λ e. (p : ℕ) → e ≡ OpenFault.Foreign p
-        → (b : List ℕ) → F.holds flash.new b → HasHeader (place_in W B base span limits (area_of slot.old)) setup b → GatesOpen b (gates_at base) records (2 * setup.nb_frag + 1)
-        → (t : ℕ) → GatesOpen b (tallies_at base) t most_tallies → IsFirstForeign (place_in W B base span limits (area_of slot.old)) b p) }
+        → (b : List ℕ) → F.holds flash.new b
+        → HasHeader (place_in W B base span limits (extent_of slot.old)) setup b
+        → GatesOpen b (gates_at base) records (2 * setup.nb_frag + 1)
+        → (t : ℕ) → GatesOpen b (tallies_at base) t most_tallies
+        → IsFirstForeign (place_in W B base span limits (extent_of slot.old)) b p) }
     ensures held { StillHolds (F.holds flash.old) (F.holds flash.new) }
-    ensures stops { Elapses Same (F.moment flash.old) (F.moment flash.new) (F.left_since flash.old) (F.left_since flash.new) }
+    ensures stops { Elapses Same (F.moment flash.old) (F.moment flash.new) (F.left_since flash.old)
+        (F.left_since flash.new) }
     ensures size { F.room flash.new ≡ F.room flash.old }
     ensures later { F.faults flash.old ≤ F.faults flash.new }
-    ensures fault { IfErr result (λ e. e ≡ OpenFault.Flash → HasRisen (F.faults flash.old) (F.faults flash.new)) }
-    ensures area { area_of slot.new ≡ area_of slot.old }
+    ensures fault { IfErr result
+        (λ e. e ≡ OpenFault.Flash → HasRisen (F.faults flash.old) (F.faults flash.new)) }
+    ensures extent { extent_of slot.new ≡ extent_of slot.old }
 {
     slot.renew(setup, limits);
     match replay(flash, base, setup.frag_size, records, slot) {
         Err(_) => Err(OpenFault::Flash),
         Ok(None) => Ok(()),
         Ok(Some(k)) => {
-            let at = 24_640 + (10 + u32::from(setup.frag_size)) * u32::from(k);
+            let at = RECORDS + (10 + u32::from(setup.frag_size)) * u32::from(k);
             Err(OpenFault::Foreign(at))
         }
     }

@@ -1,6 +1,6 @@
 //! A flash: bytes by place, which a sync makes outlast a stop.
 
-ghost use Rattle.std.specs.Prelude.{◌≡◌, ℕ, ◌+◌, ◌^◌, ◌<◌, ◌≤◌, List, length, replicate, OnOk};
+ghost use Rattle.std.specs.Prelude.{◌≡◌, ℕ, ◌+◌, ◌^◌, ◌<◌, ◌≤◌, Bool, List, length, replicate, OnOk, is_err};
 ghost use Rattle.flash_session.specs.Contents.{SameOutside, Same, Put, Follows, IsKept, HasCause, Gives};
 ghost use Rattle.flash_session.specs.Moments.{Elapses};
 
@@ -27,6 +27,9 @@ pub trait Flash {
     /// How many bytes it has.
     ghost room: { Self → ℕ };
 
+    /// What it tells of a call that takes so many steps, between what it was before and is behind it: whether it failed.
+    ghost tells: { Self → Self → (steps : ℕ) → (failed : Bool) → Type 0 };
+
     fn size(&self) -> u32
         ensures { result ≡ room self.now };
 
@@ -36,35 +39,47 @@ pub trait Flash {
         ensures bytes { OnOk result (Gives (holds self.old) at buf.new) }
         ensures held { Follows Same (holds self.old) (holds self.new) }
         ensures stays { Follows Same (holds self.new) (holds self.old) }
-        ensures stops { Elapses Same (moment self.old) (moment self.new) (left_since self.old) (left_since self.new) }
+        ensures stops { Elapses Same (moment self.old) (moment self.new) (left_since self.old)
+            (left_since self.new) }
         ensures size { room self.new ≡ room self.old }
-        ensures cause { HasCause (faults self.old) (faults self.new) result };
+        ensures cause { HasCause (faults self.old) (faults self.new) result }
+        ensures told { tells self.old self.new 0 (is_err result) };
 
     /// Writes the piece. Until a sync, and after a failure, any bytes may stand there.
     fn write(&mut self, at: u32, piece: &[u8]) -> Result<(), Failed>
         requires { at + length piece.now ≤ room self.old }
-        ensures written { OnOk result (Follows (Put at piece.now) (holds self.old) (holds self.new)) }
-        ensures held { Follows (SameOutside at (length piece.now)) (holds self.old) (holds self.new) }
-        ensures stops { Elapses (SameOutside at (length piece.now)) (moment self.old) (moment self.new) (left_since self.old) (left_since self.new) }
+        ensures written { OnOk result
+            (Follows (Put at piece.now) (holds self.old) (holds self.new)) }
+        ensures held { Follows (SameOutside at (length piece.now)) (holds self.old)
+            (holds self.new) }
+        ensures stops { Elapses (SameOutside at (length piece.now)) (moment self.old)
+            (moment self.new) (left_since self.old) (left_since self.new) }
         ensures size { room self.new ≡ room self.old }
-        ensures cause { HasCause (faults self.old) (faults self.new) result };
+        ensures cause { HasCause (faults self.old) (faults self.new) result }
+        ensures told { tells self.old self.new (length piece.now) (is_err result) };
 
     /// Writes `n` zeros.
     fn fill(&mut self, at: u32, n: u32) -> Result<(), Failed>
         requires { at + n ≤ room self.old }
-        ensures written { OnOk result (Follows (Put at (replicate n 0)) (holds self.old) (holds self.new)) }
+        ensures written { OnOk result
+            (Follows (Put at (replicate n 0)) (holds self.old) (holds self.new)) }
         ensures held { Follows (SameOutside at n) (holds self.old) (holds self.new) }
-        ensures stops { Elapses (SameOutside at n) (moment self.old) (moment self.new) (left_since self.old) (left_since self.new) }
+        ensures stops { Elapses (SameOutside at n) (moment self.old) (moment self.new)
+            (left_since self.old) (left_since self.new) }
         ensures size { room self.new ≡ room self.old }
-        ensures cause { HasCause (faults self.old) (faults self.new) result };
+        ensures cause { HasCause (faults self.old) (faults self.new) result }
+        ensures told { tells self.old self.new n (is_err result) };
 
     /// After it, a stop leaves what a read gives.
     fn sync(&mut self) -> Result<(), Failed>
-        ensures durable { OnOk result (IsKept (holds self.new) (left_since self.new (moment self.new))) }
+        ensures durable { OnOk result
+            (IsKept (holds self.new) (left_since self.new (moment self.new))) }
         ensures held { Follows Same (holds self.old) (holds self.new) }
-        ensures stops { Elapses Same (moment self.old) (moment self.new) (left_since self.old) (left_since self.new) }
+        ensures stops { Elapses Same (moment self.old) (moment self.new) (left_since self.old)
+            (left_since self.new) }
         ensures size { room self.new ≡ room self.old }
-        ensures cause { HasCause (faults self.old) (faults self.new) result };
+        ensures cause { HasCause (faults self.old) (faults self.new) result }
+        ensures told { tells self.old self.new 1 (is_err result) };
 
     /// Places are numbers of 32 bits.
     ghost small: { (f : Self) → room f < 2 ^ 32 };

@@ -4,12 +4,14 @@ ghost use Rattle.std.specs.Prelude.{◌≡◌, ◌+◌, ◌≤◌, Option, IfSom
 ghost use Rattle.frag_session.specs.Limits.{max_received};
 ghost use Rattle.frag_session.specs.Session.{Session, status_of, view_of};
 ghost use Rattle.frag_session.specs.Shows.{seen};
-ghost use Rattle.frag_session.specs.Steps.{area_of};
+ghost use Rattle.frag_session.specs.Steps.{extent_of};
 ghost use Rattle.flash_session.specs.Sessions.{HeldStandsAs, CountsAs};
 
 mod hearing;
 mod opening;
 mod setups;
+#[cfg(test)]
+mod tests;
 
 use frag_session::{Idle, Limits, Slot, StatusAns, Via, View};
 use std::marker::Model;
@@ -73,7 +75,7 @@ impl<const W: usize, const B: usize> Drop for Held<W, B> {
 impl<const W: usize, const B: usize> Held<W, B> {
     /// Gives the memory back, for another opening. No flash is called.
     pub fn close(self) -> Idle<W, B>
-        ensures { result ≡ area_of self.entry.slot }
+        ensures { result ≡ extent_of self.entry.slot }
     {
         let Held {
             slot,
@@ -88,8 +90,9 @@ impl<const W: usize, const B: usize> Held<W, B> {
 
     /// What the session shows, if there is one.
     pub fn view(&self) -> Option<View<'_>>
-        ensures value { (o : Option Session) → HeldStandsAs self.now o → CountsAs self.now o → option_map seen result ≡ view_of o }
-        ensures within { IfSome result (λ v. length v.file.now ≤ area_of self.now.slot) }
+        ensures value { (o : Option Session) → HeldStandsAs self.now o → CountsAs self.now o
+            → option_map seen result ≡ view_of o }
+        ensures within { IfSome result (λ v. length v.file.now ≤ (extent_of self.now.slot).area) }
         ensures few { IfSome result (λ v. v.received ≤ max_received) }
     {
         match self.slot.view() {
@@ -105,7 +108,8 @@ impl<const W: usize, const B: usize> Held<W, B> {
 
     /// The answer to FragSessionStatusReq (TS004-1.0.0), as a slot gives it.
     pub fn status(&self, via: Via, all: bool) -> Option<StatusAns>
-        ensures answer { (o : Option Session) → HeldStandsAs self.now o → CountsAs self.now o → result ≡ status_of o via all }
+        ensures answer { (o : Option Session) → HeldStandsAs self.now o → CountsAs self.now o
+            → result ≡ status_of o via all }
         ensures few { IfSome result (λ a. a.received ≤ max_received) }
     {
         match self.slot.status(via, all) {

@@ -2,6 +2,16 @@
 //! may leave, three flashes in memory, and a session that lies in a range of one. Whatever call is stopped, opening the range
 //! again gives a session that stands for what was acknowledged, or for that and the fragment of the call that was stopped.
 //! Where sessions lie, and what becomes of a whole file, is left to the device above.
+//!
+//!     let idle = Idle::new(Solver::reserve(alloc, 256 * 48)?); // all memory; `flash` is a `Flash`
+//!     let held = match Held::open(&mut flash, 0, span, idle, limits) {
+//!         Ok(held) => held,                                    // with the session that lies there, or with none
+//!         Err((idle, fault)) => return Err(fault),             // the flash failed, or a place is foreign
+//!     };
+//!     match held.hear(&mut flash, Via::Unicast, n, part, mark) {
+//!         Ok((held, heard)) => held.status(Via::Unicast, true), // what was heard outlasts a stop
+//!         Err(idle) => None,                                   // the flash failed: open again
+//!     }
 #![tactic(auto)]
 
 mod beginning;
@@ -10,6 +20,8 @@ mod fault;
 mod finding;
 mod flash;
 mod held;
+mod laws;
+mod layout;
 mod log;
 mod memory;
 mod reading;
@@ -22,8 +34,7 @@ pub use cells::CellFlash;
 pub use fault::OpenFault;
 pub use flash::{Failed, Flash};
 pub use held::Held;
+pub use laws::fixed_memory_knows_all;
+pub use layout::parts_lie_side_by_side;
 pub use memory::MemFlash;
 pub use stops::StopFlash;
-
-#[cfg(test)]
-mod tests;

@@ -1,6 +1,7 @@
 //! What was done to a flash in memory, step by step.
 
-ghost use Rattle.std.specs.Prelude.{◌≡◌, ℕ, ◌+◌, ◌^◌, ◌<◌, ◌≤◌, List, [], ◌∷◌, ◌++◌, length, get_or, replicate, slice_set, vec_len, vec_capacity};
+ghost use Rattle.std.specs.Prelude.{◌≡◌, ℕ, ◌+◌, ◌^◌, ◌<◌, ◌≤◌, List, [], ◌∷◌, ◌++◌, length, get_or, replicate};
+ghost use Rattle.std.specs.Prelude.{slice_set, vec_len, vec_capacity};
 ghost use Rattle.flash_session.specs.Contents.{SameOutside, Same, Put};
 ghost use Rattle.flash_session.specs.Moments.{Elapses};
 ghost use Rattle.flash_session.specs.Log.{LeftAt, LeftSince};
@@ -44,7 +45,8 @@ pub fn put_all(bytes: &mut [u8], log: &mut Vec<Step>, at: usize, piece: &[u8])
     requires small { length bytes.old < 2 ^ 32 }
     requires room { vec_len log.old + length piece.now ≤ vec_capacity log.old }
     ensures put { Put at piece.now bytes.old bytes.new }
-    ensures stops { Elapses (SameOutside at (length piece.now)) (length log.old.items) (length log.new.items)
+    ensures stops { Elapses (SameOutside at (length piece.now)) (length log.old.items)
+        (length log.new.items)
         (LeftSince log.old.items bytes.old) (LeftSince log.new.items bytes.new) }
     ensures len { vec_len log.new ≡ vec_len log.old + length piece.now }
     ensures capacity { vec_capacity log.old ≤ vec_capacity log.new }
@@ -73,7 +75,8 @@ pub fn put_zeros(bytes: &mut [u8], log: &mut Vec<Step>, at: usize, n: usize)
 /// Notes a sync.
 pub fn note_sync(bytes: &[u8], log: &mut Vec<Step>)
     requires room { vec_len log.old < vec_capacity log.old }
-    ensures kept { (c : List ℕ) → LeftSince log.new.items bytes.now (length log.new.items) c → Same bytes.now c }
+    ensures kept { (c : List ℕ) → LeftSince log.new.items bytes.now (length log.new.items) c
+        → Same bytes.now c }
     ensures stops { Elapses Same (length log.old.items) (length log.new.items)
         (LeftSince log.old.items bytes.now) (LeftSince log.new.items bytes.now) }
     ensures len { vec_len log.new ≡ vec_len log.old + 1 }

@@ -6,6 +6,7 @@ use crate::flash::{Failed, Flash};
 use crate::log::{Step, note_sync, put_all, put_zeros};
 use crate::schedule::Schedule;
 use std::alloc::{AllocError, Global};
+use std::marker::Model;
 
 /// Bytes in memory with a log of what was done to them. A call fails exactly where its number is listed, or the log has no
 /// room for it: a byte that is written takes one step of it, and a sync one.
@@ -14,17 +15,40 @@ pub struct MemFlash {
     pub(crate) bytes: Vec<u8>,
     pub(crate) log: Vec<Step>,
     room: usize,
-    pub(crate) schedule: Schedule,
+    schedule: Schedule,
     ghost small: { length bytes.items < 2 ^ 32 },
     ghost within: { vec_len log ≤ room },
     ghost reserved: { room ≤ vec_capacity log },
 }
 
+impl Model for MemFlash {
+    ghost use Rattle.std.specs.Prelude.{length};
+    ghost use Rattle.flash_session.specs.Flashes.{Memory};
+
+    ghost Value = { Memory };
+
+    ghost view = { λ f. record {
+      bytes = f.bytes.items;
+      log = f.log.items;
+      calls = record {
+        room = f.room;
+        taken = length f.log.items;
+        fails = f.schedule.fails.items;
+        made = f.schedule.calls;
+      };
+      faults = f.schedule.faults;
+      small = f.small;
+    } };
+}
+
 impl MemFlash {
     /// So many bytes, all 0, with room for so many steps, and the numbers of the calls that fail, counted from 1.
     pub fn reserve(alloc: Global, size: u32, room: u32, fails: Vec<u64>) -> Result<Self, AllocError>
-        ensures bytes { IfOk result (λ f. f.bytes.items ≡ replicate size 0) }
-        ensures log { IfOk result (λ f. f.log.items ≡ []) }
+        ensures bytes { IfOk result (λ f. f.bytes ≡ replicate size 0) }
+        ensures log { IfOk result (λ f. f.log ≡ []) }
+        ensures calls { IfOk result
+            (λ f. f.calls ≡ record { room = room; taken = 0; fails = fails.items; made = 0 }) }
+        ensures faults { IfOk result (λ f. f.faults ≡ 0) }
     {
         let bytes = vec![in alloc; 0u8; size as usize]?;
         let log = Vec::with_capacity(alloc, room as usize)?;
@@ -39,17 +63,20 @@ impl MemFlash {
 
 impl Flash for MemFlash {
     ghost use Rattle.std.specs.Prelude.{◌≡◌, length};
+    ghost use Rattle.flash_session.specs.Flashes.{IsCounted};
     ghost use Rattle.flash_session.specs.Log.{LeftSince};
 
-    ghost holds = { λ f c. c ≡ f.bytes.items };
+    ghost holds = { λ f c. c ≡ f.bytes };
 
-    ghost left_since = { λ f. LeftSince f.log.items f.bytes.items };
+    ghost left_since = { λ f. LeftSince f.log f.bytes };
 
-    ghost moment = { λ f. length f.log.items };
+    ghost moment = { λ f. length f.log };
 
-    ghost faults = { λ f. f.schedule.faults };
+    ghost faults = { λ f. f.faults };
 
-    ghost room = { λ f. length f.bytes.items };
+    ghost room = { λ f. length f.bytes };
+
+    ghost tells = { λ old new. IsCounted old.calls new.calls };
 
     ghost small = { λ f. f.small };
 

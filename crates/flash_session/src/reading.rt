@@ -11,7 +11,7 @@ ghost use Rattle.flash_session.specs.Gates.{AreOpen, AreShut, IsFirstShut};
 ghost use Rattle.flash_session.specs.Fronts.{IsFront};
 
 use crate::flash::{Failed, Flash};
-use crate::storing::OPEN;
+use crate::layout::OPEN;
 use frag_session::SetupReq;
 
 /// The byte at a place.
@@ -19,7 +19,8 @@ pub fn read_byte<F: Flash>(flash: &mut F, at: u32) -> Result<u8, Failed>
     requires { at < F.room flash.old }
     ensures byte { IfOk result (λ x. (b : List ℕ) → F.holds flash.new b → byte_at b at ≡ x) }
     ensures held { StillHolds (F.holds flash.old) (F.holds flash.new) }
-    ensures stops { Elapses Same (F.moment flash.old) (F.moment flash.new) (F.left_since flash.old) (F.left_since flash.new) }
+    ensures stops { Elapses Same (F.moment flash.old) (F.moment flash.new) (F.left_since flash.old)
+        (F.left_since flash.new) }
     ensures size { F.room flash.new ≡ F.room flash.old }
     ensures cause { HasCause (F.faults flash.old) (F.faults flash.new) result }
 {
@@ -33,7 +34,8 @@ pub fn count_open<F: Flash>(flash: &mut F, at: u32, most: u16) -> Result<u16, Fa
     requires { at + most ≤ F.room flash.old }
     ensures counted { IfOk result (λ n. IsFirstShut (F.holds flash.new) at n most) }
     ensures held { StillHolds (F.holds flash.old) (F.holds flash.new) }
-    ensures stops { Elapses Same (F.moment flash.old) (F.moment flash.new) (F.left_since flash.old) (F.left_since flash.new) }
+    ensures stops { Elapses Same (F.moment flash.old) (F.moment flash.new) (F.left_since flash.old)
+        (F.left_since flash.new) }
     ensures size { F.room flash.new ≡ F.room flash.old }
     ensures cause { HasCause (F.faults flash.old) (F.faults flash.new) result }
 {
@@ -55,9 +57,11 @@ pub fn next_open<F: Flash>(
     requires room { at + most ≤ F.room flash.old }
     requires within { from ≤ most }
     ensures found { IfOk result (λ o. MatchOption o (AreShut (F.holds flash.new) at from most)
-        (λ k. (from ≤ k) × (k < most) × AreShut (F.holds flash.new) at from k × AreOpen (F.holds flash.new) at k (k + 1))) }
+        (λ k. (from ≤ k) × (k < most) × AreShut (F.holds flash.new) at from k
+        × AreOpen (F.holds flash.new) at k (k + 1))) }
     ensures held { StillHolds (F.holds flash.old) (F.holds flash.new) }
-    ensures stops { Elapses Same (F.moment flash.old) (F.moment flash.new) (F.left_since flash.old) (F.left_since flash.new) }
+    ensures stops { Elapses Same (F.moment flash.old) (F.moment flash.new) (F.left_since flash.old)
+        (F.left_since flash.new) }
     ensures size { F.room flash.new ≡ F.room flash.old }
     ensures cause { HasCause (F.faults flash.old) (F.faults flash.new) result }
 {
@@ -72,9 +76,12 @@ pub fn next_open<F: Flash>(
 /// A record that lies at a place: its number and its mark. `part` takes its data.
 pub fn read_record<F: Flash>(flash: &mut F, at: u32, part: &mut [u8]) -> Result<(u16, u64), Failed>
     requires { at + 10 + length part.old ≤ F.room flash.old }
-    ensures lies { IfOk result (λ r. (b : List ℕ) → F.holds flash.new b → SpelledAt b at (spelled (record { number = r.0; part = part.new; mark = r.1 }))) }
+    ensures lies { IfOk result
+        (λ r. (b : List ℕ) → F.holds flash.new b
+        → SpelledAt b at (spelled (record { number = r.0; part = part.new; mark = r.1 }))) }
     ensures held { StillHolds (F.holds flash.old) (F.holds flash.new) }
-    ensures stops { Elapses Same (F.moment flash.old) (F.moment flash.new) (F.left_since flash.old) (F.left_since flash.new) }
+    ensures stops { Elapses Same (F.moment flash.old) (F.moment flash.new) (F.left_since flash.old)
+        (F.left_since flash.new) }
     ensures size { F.room flash.new ≡ F.room flash.old }
     ensures cause { HasCause (F.faults flash.old) (F.faults flash.new) result }
 {
@@ -87,9 +94,12 @@ pub fn read_record<F: Flash>(flash: &mut F, at: u32, part: &mut [u8]) -> Result<
 /// The setup that lies at a place.
 pub fn read_setup<F: Flash>(flash: &mut F, at: u32) -> Result<SetupReq, Failed>
     requires { at + 10 ≤ F.room flash.old }
-    ensures reads { IfOk result (λ setup. (body : List ℕ) × IsBody body setup × ((b : List ℕ) → F.holds flash.new b → SpelledAt b at body)) }
+    ensures reads { IfOk result
+        (λ setup. (body : List ℕ) × IsBody body setup
+        × ((b : List ℕ) → F.holds flash.new b → SpelledAt b at body)) }
     ensures held { StillHolds (F.holds flash.old) (F.holds flash.new) }
-    ensures stops { Elapses Same (F.moment flash.old) (F.moment flash.new) (F.left_since flash.old) (F.left_since flash.new) }
+    ensures stops { Elapses Same (F.moment flash.old) (F.moment flash.new) (F.left_since flash.old)
+        (F.left_since flash.new) }
     ensures size { F.room flash.new ≡ F.room flash.old }
     ensures cause { HasCause (F.faults flash.old) (F.faults flash.new) result }
 {
@@ -132,7 +142,8 @@ pub fn read_front<F: Flash>(flash: &mut F, at: u32, most: u16) -> Result<Front, 
     requires { at + most ≤ F.room flash.old }
     ensures found { IfOk result (λ front. IsFront (F.holds flash.new) at most front) }
     ensures held { StillHolds (F.holds flash.old) (F.holds flash.new) }
-    ensures stops { Elapses Same (F.moment flash.old) (F.moment flash.new) (F.left_since flash.old) (F.left_since flash.new) }
+    ensures stops { Elapses Same (F.moment flash.old) (F.moment flash.new) (F.left_since flash.old)
+        (F.left_since flash.new) }
     ensures size { F.room flash.new ≡ F.room flash.old }
     ensures cause { HasCause (F.faults flash.old) (F.faults flash.new) result }
 {

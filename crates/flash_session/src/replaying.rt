@@ -6,10 +6,12 @@ ghost use Rattle.flash_session.specs.Contents.{Same, StillHolds, HasCause};
 ghost use Rattle.flash_session.specs.Moments.{Elapses};
 ghost use Rattle.frag_session.specs.Session.{Session};
 ghost use Rattle.frag_session.specs.Stands.{Stands};
-ghost use Rattle.frag_session.specs.Steps.{area_of};
+ghost use Rattle.frag_session.specs.Steps.{extent_of};
+ghost use Rattle.flash_session.specs.Layout.{records_place};
 ghost use Rattle.flash_session.specs.Replayed.{Replayed, StopsAt};
 
 use crate::flash::{Failed, Flash};
+use crate::layout::RECORDS;
 use crate::reading::read_record;
 use frag_session::{Heard, News, Slot, Via};
 
@@ -21,13 +23,15 @@ pub fn replay<F: Flash, const W: usize, const B: usize>(
     records: u16,
     slot: &mut Slot<W, B>,
 ) -> Result<Option<u16>, Failed>
-    requires { base + 24640 + (10 + size) * records ≤ F.room flash.old }
-    ensures replayed { (s : Session) → s.heard ≡ [] → Stands slot.old (Some s) → IfOk result (λ o. MatchOption o
+    requires { base + records_place + (10 + size) * records ≤ F.room flash.old }
+    ensures replayed { (s : Session) → s.heard ≡ [] → Stands slot.old (Some s)
+        → IfOk result (λ o. MatchOption o
         (Replayed s slot.new (F.holds flash.new) base size records)
         (λ k. (k + 1 ≤ records) × StopsAt s (F.holds flash.new) base size k)) }
-    ensures area { area_of slot.new ≡ area_of slot.old }
+    ensures extent { extent_of slot.new ≡ extent_of slot.old }
     ensures held { StillHolds (F.holds flash.old) (F.holds flash.new) }
-    ensures stops { Elapses Same (F.moment flash.old) (F.moment flash.new) (F.left_since flash.old) (F.left_since flash.new) }
+    ensures stops { Elapses Same (F.moment flash.old) (F.moment flash.new) (F.left_since flash.old)
+        (F.left_since flash.new) }
     ensures size { F.room flash.new ≡ F.room flash.old }
     ensures cause { HasCause (F.faults flash.old) (F.faults flash.new) result }
 {
@@ -47,18 +51,21 @@ fn replay_one<F: Flash, const W: usize, const B: usize>(
     k: u16,
     slot: &mut Slot<W, B>,
 ) -> Result<bool, Failed>
-    requires { base + 24640 + (10 + size) * (k + 1) ≤ F.room flash.old }
+    requires { base + records_place + (10 + size) * (k + 1) ≤ F.room flash.old }
     ensures replayed { (s : Session) → Replayed s slot.old (F.holds flash.old) base size k
-        → IfOk result (λ new. MatchBool new (Replayed s slot.new (F.holds flash.new) base size (k + 1)) (StopsAt s (F.holds flash.new) base size k)) }
-    ensures area { area_of slot.new ≡ area_of slot.old }
+        → IfOk result
+        (λ new. MatchBool new (Replayed s slot.new (F.holds flash.new) base size (k + 1))
+        (StopsAt s (F.holds flash.new) base size k)) }
+    ensures extent { extent_of slot.new ≡ extent_of slot.old }
     ensures held { StillHolds (F.holds flash.old) (F.holds flash.new) }
-    ensures stops { Elapses Same (F.moment flash.old) (F.moment flash.new) (F.left_since flash.old) (F.left_since flash.new) }
+    ensures stops { Elapses Same (F.moment flash.old) (F.moment flash.new) (F.left_since flash.old)
+        (F.left_since flash.new) }
     ensures size { F.room flash.new ≡ F.room flash.old }
     ensures cause { HasCause (F.faults flash.old) (F.faults flash.new) result }
 {
     let mut bytes = [0; 255];
     let part = &mut bytes[..size as usize];
-    let at = base + 24640 + (10 + size as u32) * k as u32;
+    let at = base + RECORDS + (10 + size as u32) * k as u32;
     let (n, mark) = read_record(flash, at, part)?;
     let heard = slot.fragment(Via::Unicast, n, part, mark);
     Ok(is_new(heard))

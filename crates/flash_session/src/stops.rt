@@ -1,11 +1,12 @@
 //! A flash that is stopped after so many calls.
 
-ghost use Rattle.std.specs.Prelude.{◌≡◌, ◌≤◌};
+ghost use Rattle.std.specs.Prelude.{◌≡◌, ◌-◌, ◌≤◌, nat_lt};
 ghost use Rattle.std.specs.Bool.{OnTrue, OnFalse};
 ghost use Rattle.flash_session.specs.Contents.{HasRisen};
 
 use crate::flash::{Failed, Flash};
 use crate::memory::MemFlash;
+use std::marker::Model;
 
 /// Passes the first calls on, and then fails each: nothing reaches the flash inside from then on.
 #[derive(Drop)]
@@ -15,11 +16,22 @@ pub struct StopFlash {
     failed: u64,
 }
 
+impl Model for StopFlash {
+    ghost use Rattle.flash_session.specs.Flashes.{Stopping};
+
+    ghost Value = { Stopping };
+
+    ghost view = { λ s. record {
+      flash = s.flash;
+      left = s.left;
+      failed = s.failed;
+    } };
+}
+
 impl StopFlash {
     /// Passes `k` calls.
     pub fn over(flash: MemFlash, k: u64) -> Self
-        ensures flash { result.flash ≡ flash }
-        ensures calls { result.left ≡ k }
+        ensures { result ≡ record { flash = flash; left = k; failed = 0 } }
     {
         StopFlash {
             flash,
@@ -38,6 +50,8 @@ impl StopFlash {
 
 /// Whether the next call still passes; counts a fault where it does not.
 fn passes(left: &mut u64, failed: &mut u64) -> bool
+    ensures last { result ≡ nat_lt 0 left.old }
+    ensures left { left.new ≡ left.old - 1 }
     ensures risen { OnFalse result (HasRisen failed.old failed.new) }
     ensures kept { OnTrue result (failed.new ≡ failed.old) }
     ensures later { failed.old ≤ failed.new }
@@ -52,17 +66,20 @@ fn passes(left: &mut u64, failed: &mut u64) -> bool
 
 impl Flash for StopFlash {
     ghost use Rattle.std.specs.Prelude.{◌≡◌, ◌+◌, length};
+    ghost use Rattle.flash_session.specs.Flashes.{IsPassed};
     ghost use Rattle.flash_session.specs.Log.{LeftSince};
 
-    ghost holds = { λ s c. c ≡ s.flash.bytes.items };
+    ghost holds = { λ s c. c ≡ s.flash.bytes };
 
-    ghost left_since = { λ s. LeftSince s.flash.log.items s.flash.bytes.items };
+    ghost left_since = { λ s. LeftSince s.flash.log s.flash.bytes };
 
-    ghost moment = { λ s. length s.flash.log.items };
+    ghost moment = { λ s. length s.flash.log };
 
-    ghost faults = { λ s. s.flash.schedule.faults + s.failed };
+    ghost faults = { λ s. s.flash.faults + s.failed };
 
-    ghost room = { λ s. length s.flash.bytes.items };
+    ghost room = { λ s. length s.flash.bytes };
+
+    ghost tells = { IsPassed };
 
     ghost small = { λ s. s.flash.small };
 

@@ -4,20 +4,23 @@ ghost use Rattle.std.specs.Prelude.{◌≡◌, ◌⊎◌, ℕ, ◌+◌, ◌*◌,
 ghost use Rattle.frag_model.specs.Fragments.{Fragment};
 ghost use Rattle.flash_session.specs.Contents.{SameOutside, Put, Follows, IsKept, HasCause};
 ghost use Rattle.flash_session.specs.Moments.{Elapses, LeavesOnly};
-ghost use Rattle.flash_session.specs.Layout.{spelled};
+ghost use Rattle.flash_session.specs.Layout.{most_records, most_tallies, records_place, spelled};
 ghost use Rattle.flash_session.specs.Lies.{Stored, Lies, IsStored, with_record, with_tally, IsBeforeOrAfter};
 
 use crate::flash::{Failed, Flash};
-
-pub const OPEN: u8 = 0xa5;
+use crate::layout::{OPEN, RECORD_GATES, RECORDS, TALLY_GATES};
 
 /// Writes a piece and syncs it.
 pub fn write_synced<F: Flash>(flash: &mut F, at: u32, piece: &[u8]) -> Result<(), Failed>
     requires { at + length piece.now ≤ F.room flash.old }
-    ensures written { OnOk result (Follows (Put at piece.now) (F.holds flash.old) (F.holds flash.new)) }
-    ensures kept { OnOk result (IsKept (F.holds flash.new) (F.left_since flash.new (F.moment flash.new))) }
-    ensures held { Follows (SameOutside at (length piece.now)) (F.holds flash.old) (F.holds flash.new) }
-    ensures stops { Elapses (SameOutside at (length piece.now)) (F.moment flash.old) (F.moment flash.new) (F.left_since flash.old) (F.left_since flash.new) }
+    ensures written { OnOk result
+        (Follows (Put at piece.now) (F.holds flash.old) (F.holds flash.new)) }
+    ensures kept { OnOk result
+        (IsKept (F.holds flash.new) (F.left_since flash.new (F.moment flash.new))) }
+    ensures held { Follows (SameOutside at (length piece.now)) (F.holds flash.old)
+        (F.holds flash.new) }
+    ensures stops { Elapses (SameOutside at (length piece.now)) (F.moment flash.old)
+        (F.moment flash.new) (F.left_since flash.old) (F.left_since flash.new) }
     ensures size { F.room flash.new ≡ F.room flash.old }
     ensures cause { HasCause (F.faults flash.old) (F.faults flash.new) result }
 {
@@ -36,48 +39,62 @@ pub fn store<F: Flash>(
     piece: &[u8],
 ) -> Result<(), Failed>
     requires range { base + span ≤ F.room flash.old }
-    requires gate { n < 8193 }
-    requires room { 24640 + (10 + size) * (n + 1) ≤ span }
+    requires gate { n < most_records }
+    requires room { records_place + (10 + size) * (n + 1) ≤ span }
     requires sized { length piece.now ≡ 10 + size }
 
     // At Ok the session has the record.
-    ensures acknowledged { (s : Stored) (f : Fragment) → s.size ≡ size → length s.records ≡ n → n < s.most → length f.part ≡ size → piece.now ≡ spelled f
+    ensures acknowledged { (s : Stored) (f : Fragment) → s.size ≡ size → length s.records ≡ n
+        → n < s.most → length f.part ≡ size → piece.now ≡ spelled f
         → IsStored base span s (F.holds flash.old) (F.left_since flash.old (F.moment flash.old))
-        → OnOk result (IsStored base span (with_record s f) (F.holds flash.new) (F.left_since flash.new (F.moment flash.new))) }
+        → OnOk result
+        (IsStored base span (with_record s f) (F.holds flash.new)
+        (F.left_since flash.new (F.moment flash.new))) }
 
     // A stop at any moment leaves the session as it was, or with the record.
-    ensures any_moment { (s : Stored) (f : Fragment) → s.size ≡ size → length s.records ≡ n → n < s.most → length f.part ≡ size → piece.now ≡ spelled f
+    ensures any_moment { (s : Stored) (f : Fragment) → s.size ≡ size → length s.records ≡ n
+        → n < s.most → length f.part ≡ size → piece.now ≡ spelled f
         → IsStored base span s (F.holds flash.old) (F.left_since flash.old (F.moment flash.old))
-        → LeavesOnly (IsBeforeOrAfter base s f) (F.moment flash.old) (F.moment flash.new) (F.left_since flash.old) (F.left_since flash.new) }
+        → LeavesOnly (IsBeforeOrAfter base s f) (F.moment flash.old) (F.moment flash.new)
+        (F.left_since flash.old) (F.left_since flash.new) }
 
     // Nothing outside the range is written.
-    ensures kept { OnOk result (IsKept (F.holds flash.new) (F.left_since flash.new (F.moment flash.new))) }
+    ensures kept { OnOk result
+        (IsKept (F.holds flash.new) (F.left_since flash.new (F.moment flash.new))) }
     ensures outside { Follows (SameOutside base span) (F.holds flash.old) (F.holds flash.new) }
-    ensures stops { Elapses (SameOutside base span) (F.moment flash.old) (F.moment flash.new) (F.left_since flash.old) (F.left_since flash.new) }
+    ensures stops { Elapses (SameOutside base span) (F.moment flash.old) (F.moment flash.new)
+        (F.left_since flash.old) (F.left_since flash.new) }
     ensures size { F.room flash.new ≡ F.room flash.old }
     ensures cause { HasCause (F.faults flash.old) (F.faults flash.new) result }
 {
-    let at = base + 24640 + (10 + size as u32) * n as u32;
+    let at = base + RECORDS + (10 + size as u32) * n as u32;
     write_synced(flash, at, piece)?;
-    let gate = base + 64 + n as u32;
+    let gate = base + RECORD_GATES + n as u32;
     write_synced(flash, gate, &[OPEN])
 }
 
 /// Notes a fragment by tally gate `n` alone.
 pub fn tally<F: Flash>(flash: &mut F, base: u32, span: u32, n: u16) -> Result<(), Failed>
     requires range { base + span ≤ F.room flash.old }
-    requires long { 24640 ≤ span }
-    requires gate { n < 16383 }
-    ensures acknowledged { (s : Stored) → s.tallies ≡ n → IsStored base span s (F.holds flash.old) (F.left_since flash.old (F.moment flash.old))
-        → OnOk result (IsStored base span (with_tally s) (F.holds flash.new) (F.left_since flash.new (F.moment flash.new))) }
-    ensures any_moment { (s : Stored) → s.tallies ≡ n → IsStored base span s (F.holds flash.old) (F.left_since flash.old (F.moment flash.old))
-        → LeavesOnly (λ c. Lies base s c ⊎ Lies base (with_tally s) c) (F.moment flash.old) (F.moment flash.new) (F.left_since flash.old) (F.left_since flash.new) }
-    ensures kept { OnOk result (IsKept (F.holds flash.new) (F.left_since flash.new (F.moment flash.new))) }
+    requires long { records_place ≤ span }
+    requires gate { n < most_tallies }
+    ensures acknowledged { (s : Stored) → s.tallies ≡ n
+        → IsStored base span s (F.holds flash.old) (F.left_since flash.old (F.moment flash.old))
+        → OnOk result
+        (IsStored base span (with_tally s) (F.holds flash.new)
+        (F.left_since flash.new (F.moment flash.new))) }
+    ensures any_moment { (s : Stored) → s.tallies ≡ n
+        → IsStored base span s (F.holds flash.old) (F.left_since flash.old (F.moment flash.old))
+        → LeavesOnly (λ c. Lies base s c ⊎ Lies base (with_tally s) c) (F.moment flash.old)
+        (F.moment flash.new) (F.left_since flash.old) (F.left_since flash.new) }
+    ensures kept { OnOk result
+        (IsKept (F.holds flash.new) (F.left_since flash.new (F.moment flash.new))) }
     ensures outside { Follows (SameOutside base span) (F.holds flash.old) (F.holds flash.new) }
-    ensures stops { Elapses (SameOutside base span) (F.moment flash.old) (F.moment flash.new) (F.left_since flash.old) (F.left_since flash.new) }
+    ensures stops { Elapses (SameOutside base span) (F.moment flash.old) (F.moment flash.new)
+        (F.left_since flash.old) (F.left_since flash.new) }
     ensures size { F.room flash.new ≡ F.room flash.old }
     ensures cause { HasCause (F.faults flash.old) (F.faults flash.new) result }
 {
-    let place = base + 8257 + n as u32;
+    let place = base + TALLY_GATES + n as u32;
     write_synced(flash, place, &[OPEN])
 }

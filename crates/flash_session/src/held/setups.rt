@@ -1,6 +1,7 @@
 //! A session in flash is set up and deleted.
 
-ghost use Rattle.std.specs.Prelude.{◌≡◌, ◌≢◌, ◌⊎◌, ℕ, ◌+◌, ◌≤◌, Option, Some, None, OnOk, IfOk, IfErr, is_some, option_map, true, false};
+ghost use Rattle.std.specs.Prelude.{◌≡◌, ◌≢◌, ◌⊎◌, ℕ, ◌+◌, ◌≤◌, Option, Some, None, OnOk, IfOk, IfErr, is_some};
+ghost use Rattle.std.specs.Prelude.{option_map, true, false};
 ghost use Rattle.flash_session.specs.Body.{FieldsFit, setup_bytes};
 ghost use Rattle.flash_session.specs.Contents.{SameOutside, SameWithin, Follows, HasCause};
 ghost use Rattle.flash_session.specs.HeldSession.{room_in};
@@ -9,7 +10,7 @@ ghost use Rattle.flash_session.specs.Moments.{Elapses, LeavesOnly};
 ghost use Rattle.flash_session.specs.Sessions.{HeldStandsAs, CountsAs, IsHeldAs, LiesForAs};
 ghost use Rattle.frag_session.specs.Session.{Session, after_setup, new_session};
 ghost use Rattle.frag_session.specs.Setup.{lives, setup_bits};
-ghost use Rattle.frag_session.specs.Steps.{area_of};
+ghost use Rattle.frag_session.specs.Steps.{extent_of};
 
 use super::Held;
 use crate::beginning::{begin, end};
@@ -29,26 +30,45 @@ impl<const W: usize, const B: usize> Held<W, B> {
         requires range { self.base + self.span ≤ F.room flash.old }
         requires fields { FieldsFit req }
 
-        ensures bits { IfOk result (λ r. r.1 ≡ setup_bits self.entry.limits (room_in self.entry) req) }
+        ensures bits { IfOk result
+            (λ r. r.1 ≡ setup_bits self.entry.limits (room_in self.entry) req) }
         ensures stands { (o : Option Session) → HeldStandsAs self.entry o
-            → IfOk result (λ r. HeldStandsAs r.0 (after_setup self.entry.limits (room_in self.entry) o req)) }
+            → IfOk result
+            (λ r. HeldStandsAs r.0 (after_setup self.entry.limits (room_in self.entry) o req)) }
         ensures counted { (o : Option Session) → HeldStandsAs self.entry o → CountsAs self.entry o
-            → IfOk result (λ r. CountsAs r.0 (after_setup self.entry.limits (room_in self.entry) o req)) }
-        ensures acknowledged { (o : Option Session) → IsHeldAs self.entry o (F.holds flash.old) (F.left_since flash.old (F.moment flash.old))
-            → IfOk result (λ r. IsHeldAs r.0 (after_setup self.entry.limits (room_in self.entry) o req) (F.holds flash.new) (F.left_since flash.new (F.moment flash.new))) }
+            → IfOk result
+            (λ r. CountsAs r.0 (after_setup self.entry.limits (room_in self.entry) o req)) }
+        ensures acknowledged { (o : Option Session)
+            → IsHeldAs self.entry o (F.holds flash.old)
+            (F.left_since flash.old (F.moment flash.old))
+            → IfOk result
+            (λ r. IsHeldAs r.0 (after_setup self.entry.limits (room_in self.entry) o req)
+            (F.holds flash.new) (F.left_since flash.new (F.moment flash.new))) }
         // A stop at any moment leaves the session as it was, none, or the new one.
-        ensures any_moment { (o : Option Session) → IsHeldAs self.entry o (F.holds flash.old) (F.left_since flash.old (F.moment flash.old))
-            → LeavesOnly (λ c. LiesForAs self.entry o c ⊎ NoSession self.entry.base c ⊎ LiesForAs self.entry (after_setup self.entry.limits (room_in self.entry) o req) c)
-            (F.moment flash.old) (F.moment flash.new) (F.left_since flash.old) (F.left_since flash.new) }
+        ensures any_moment { (o : Option Session)
+            → IsHeldAs self.entry o (F.holds flash.old)
+            (F.left_since flash.old (F.moment flash.old))
+            → LeavesOnly
+            (λ c. LiesForAs self.entry o c ⊎ NoSession self.entry.base c
+            ⊎ LiesForAs self.entry (after_setup self.entry.limits (room_in self.entry) o req) c)
+            (F.moment flash.old) (F.moment flash.new) (F.left_since flash.old)
+            (F.left_since flash.new) }
         // Without a new session no flash is called.
-        ensures refused { setup_bits self.entry.limits (room_in self.entry) req ≢ 0 → flash.new ≡ flash.old }
+        ensures refused { setup_bits self.entry.limits (room_in self.entry) req ≢ 0
+            → flash.new ≡ flash.old }
         ensures equal { (o : Option Session) → HeldStandsAs self.entry o
             → lives (option_map (λ (s : Session). s.setup) o) req ≡ true → flash.new ≡ flash.old }
-        ensures others { (at n : ℕ) → Follows (SameWithin at n) (F.holds flash.old) (F.left_since flash.old (F.moment flash.old))
-            → OnOk result (Follows (SameWithin at n) (F.holds flash.new) (F.left_since flash.new (F.moment flash.new))) }
-        ensures area { IfErr result (λ idle. idle ≡ area_of self.entry.slot) }
-        ensures held { Follows (SameOutside self.entry.base self.entry.span) (F.holds flash.old) (F.holds flash.new) }
-        ensures stops { Elapses (SameOutside self.entry.base self.entry.span) (F.moment flash.old) (F.moment flash.new) (F.left_since flash.old) (F.left_since flash.new) }
+        ensures others { (at n : ℕ)
+            → Follows (SameWithin at n) (F.holds flash.old)
+            (F.left_since flash.old (F.moment flash.old))
+            → OnOk result
+            (Follows (SameWithin at n) (F.holds flash.new)
+            (F.left_since flash.new (F.moment flash.new))) }
+        ensures extent { IfErr result (λ idle. idle ≡ extent_of self.entry.slot) }
+        ensures held { Follows (SameOutside self.entry.base self.entry.span) (F.holds flash.old)
+            (F.holds flash.new) }
+        ensures stops { Elapses (SameOutside self.entry.base self.entry.span) (F.moment flash.old)
+            (F.moment flash.new) (F.left_since flash.old) (F.left_since flash.new) }
         ensures size { F.room flash.new ≡ F.room flash.old }
         ensures cause { HasCause (F.faults flash.old) (F.faults flash.new) result }
     {
@@ -71,17 +91,33 @@ impl<const W: usize, const B: usize> Held<W, B> {
         requires fields { FieldsFit req }
         requires fine { setup_bits self.limits (room_in self) req ≡ 0 }
         ensures counted { IfOk result (λ h. CountsAs h (Some (new_session self.entry.limits req))) }
-        ensures stands { IfOk result (λ h. HeldStandsAs h (Some (new_session self.entry.limits req))) }
-        ensures acknowledged { (o : Option Session) → IsHeldAs self.entry o (F.holds flash.old) (F.left_since flash.old (F.moment flash.old))
-            → IfOk result (λ h. IsHeldAs h (Some (new_session self.entry.limits req)) (F.holds flash.new) (F.left_since flash.new (F.moment flash.new))) }
-        ensures any_moment { (o : Option Session) → IsHeldAs self.entry o (F.holds flash.old) (F.left_since flash.old (F.moment flash.old))
-            → LeavesOnly (λ c. LiesForAs self.entry o c ⊎ NoSession self.entry.base c ⊎ LiesForAs self.entry (Some (new_session self.entry.limits req)) c)
-            (F.moment flash.old) (F.moment flash.new) (F.left_since flash.old) (F.left_since flash.new) }
-        ensures others { (at n : ℕ) → Follows (SameWithin at n) (F.holds flash.old) (F.left_since flash.old (F.moment flash.old))
-            → OnOk result (Follows (SameWithin at n) (F.holds flash.new) (F.left_since flash.new (F.moment flash.new))) }
-        ensures area { IfErr result (λ idle. idle ≡ area_of self.entry.slot) }
-        ensures held { Follows (SameOutside self.entry.base self.entry.span) (F.holds flash.old) (F.holds flash.new) }
-        ensures stops { Elapses (SameOutside self.entry.base self.entry.span) (F.moment flash.old) (F.moment flash.new) (F.left_since flash.old) (F.left_since flash.new) }
+        ensures stands { IfOk result
+            (λ h. HeldStandsAs h (Some (new_session self.entry.limits req))) }
+        ensures acknowledged { (o : Option Session)
+            → IsHeldAs self.entry o (F.holds flash.old)
+            (F.left_since flash.old (F.moment flash.old))
+            → IfOk result
+            (λ h. IsHeldAs h (Some (new_session self.entry.limits req)) (F.holds flash.new)
+            (F.left_since flash.new (F.moment flash.new))) }
+        ensures any_moment { (o : Option Session)
+            → IsHeldAs self.entry o (F.holds flash.old)
+            (F.left_since flash.old (F.moment flash.old))
+            → LeavesOnly
+            (λ c. LiesForAs self.entry o c ⊎ NoSession self.entry.base c
+            ⊎ LiesForAs self.entry (Some (new_session self.entry.limits req)) c)
+            (F.moment flash.old) (F.moment flash.new) (F.left_since flash.old)
+            (F.left_since flash.new) }
+        ensures others { (at n : ℕ)
+            → Follows (SameWithin at n) (F.holds flash.old)
+            (F.left_since flash.old (F.moment flash.old))
+            → OnOk result
+            (Follows (SameWithin at n) (F.holds flash.new)
+            (F.left_since flash.new (F.moment flash.new))) }
+        ensures extent { IfErr result (λ idle. idle ≡ extent_of self.entry.slot) }
+        ensures held { Follows (SameOutside self.entry.base self.entry.span) (F.holds flash.old)
+            (F.holds flash.new) }
+        ensures stops { Elapses (SameOutside self.entry.base self.entry.span) (F.moment flash.old)
+            (F.moment flash.new) (F.left_since flash.old) (F.left_since flash.new) }
         ensures size { F.room flash.new ≡ F.room flash.old }
         ensures cause { HasCause (F.faults flash.old) (F.faults flash.new) result }
     {
@@ -115,19 +151,34 @@ impl<const W: usize, const B: usize> Held<W, B> {
     pub fn delete<F: Flash>(self, flash: &mut F) -> Result<(Held<W, B>, bool), Idle<W, B>>
         requires range { self.base + self.span ≤ F.room flash.old }
 
-        ensures answer { (o : Option Session) → HeldStandsAs self.entry o → IfOk result (λ r. r.1 ≡ is_some o) }
+        ensures answer { (o : Option Session) → HeldStandsAs self.entry o
+            → IfOk result (λ r. r.1 ≡ is_some o) }
         ensures stands { IfOk result (λ r. HeldStandsAs r.0 None) }
-        ensures acknowledged { (o : Option Session) → IsHeldAs self.entry o (F.holds flash.old) (F.left_since flash.old (F.moment flash.old))
-            → IfOk result (λ r. IsHeldAs r.0 None (F.holds flash.new) (F.left_since flash.new (F.moment flash.new))) }
+        ensures acknowledged { (o : Option Session)
+            → IsHeldAs self.entry o (F.holds flash.old)
+            (F.left_since flash.old (F.moment flash.old))
+            → IfOk result
+            (λ r. IsHeldAs r.0 None (F.holds flash.new)
+            (F.left_since flash.new (F.moment flash.new))) }
         // A stop at any moment leaves the session as it was, or none.
-        ensures any_moment { (o : Option Session) → IsHeldAs self.entry o (F.holds flash.old) (F.left_since flash.old (F.moment flash.old))
-            → LeavesOnly (λ c. LiesForAs self.entry o c ⊎ NoSession self.entry.base c) (F.moment flash.old) (F.moment flash.new) (F.left_since flash.old) (F.left_since flash.new) }
+        ensures any_moment { (o : Option Session)
+            → IsHeldAs self.entry o (F.holds flash.old)
+            (F.left_since flash.old (F.moment flash.old))
+            → LeavesOnly (λ c. LiesForAs self.entry o c ⊎ NoSession self.entry.base c)
+            (F.moment flash.old) (F.moment flash.new) (F.left_since flash.old)
+            (F.left_since flash.new) }
         ensures quiet { HeldStandsAs self.entry None → flash.new ≡ flash.old }
-        ensures others { (at n : ℕ) → Follows (SameWithin at n) (F.holds flash.old) (F.left_since flash.old (F.moment flash.old))
-            → OnOk result (Follows (SameWithin at n) (F.holds flash.new) (F.left_since flash.new (F.moment flash.new))) }
-        ensures area { IfErr result (λ idle. idle ≡ area_of self.entry.slot) }
-        ensures held { Follows (SameOutside self.entry.base self.entry.span) (F.holds flash.old) (F.holds flash.new) }
-        ensures stops { Elapses (SameOutside self.entry.base self.entry.span) (F.moment flash.old) (F.moment flash.new) (F.left_since flash.old) (F.left_since flash.new) }
+        ensures others { (at n : ℕ)
+            → Follows (SameWithin at n) (F.holds flash.old)
+            (F.left_since flash.old (F.moment flash.old))
+            → OnOk result
+            (Follows (SameWithin at n) (F.holds flash.new)
+            (F.left_since flash.new (F.moment flash.new))) }
+        ensures extent { IfErr result (λ idle. idle ≡ extent_of self.entry.slot) }
+        ensures held { Follows (SameOutside self.entry.base self.entry.span) (F.holds flash.old)
+            (F.holds flash.new) }
+        ensures stops { Elapses (SameOutside self.entry.base self.entry.span) (F.moment flash.old)
+            (F.moment flash.new) (F.left_since flash.old) (F.left_since flash.new) }
         ensures size { F.room flash.new ≡ F.room flash.old }
         ensures cause { HasCause (F.faults flash.old) (F.faults flash.new) result }
     {

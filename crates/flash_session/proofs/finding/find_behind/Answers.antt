@@ -1,6 +1,6 @@
 use Rattle.std.proofs.Common.{◌≡◌, ℕ, List, sym, ap, subst, ◌∙◌, arith, lit≤}
 use Rattle.frag_session.specs.Setup.{setup_bits}
-use Rattle.frag_session.specs.Steps.{area_of}
+use Rattle.frag_session.specs.Steps.{extent_of}
 use Rattle.frag_session.specs.declared.setups.SetupReq.{SetupReq}
 use Rattle.flash_session.specs.HeldSession.{HeldSession, room_in}
 use Rattle.flash_session.specs.Layout.{body_at}
@@ -16,9 +16,9 @@ use Rattle.flash_session.proofs.Still.{still_joined, on_ok, on_err}
 use Rattle.flash_session.proofs.finding.find_behind.Goals as goal
 
 pub returns-then-refusal-ne0-clause-foreign : goal.returns-then-refusal-ne0-clause-foreign
-unfolding area_of setup_bits
+unfolding extent_of setup_bits
 returns-then-refusal-ne0-clause-foreign g c = λ p is b now header.
-    let h : HeldSession = place_in g.row.W g.row.B c.args.base c.args.span c.args.limits (area_of c.args.slot.now) in
+    let h : HeldSession = place_in g.row.W g.row.B c.args.base c.args.span c.args.limits (extent_of c.args.slot.now) in
     let reads = c.in-Ok.ensures.reads in
     let place : 1 ≡ p = cc in
     let there = setup_read b (body_at c.args.base) reads.0 reads.1.sized (reads.2 b now) ∙ reads.1.reads in
@@ -26,13 +26,13 @@ returns-then-refusal-ne0-clause-foreign g c = λ p is b now header.
     (λ none. c.if-refusal-ne0.true (c.refusal.ensures ∙ sym (ap (λ (x : SetupReq). setup_bits h.limits (room_in h) x) there) ∙ none)))
 
 pub find_session-requires : goal.find_session-requires
-unfolding area_of
+unfolding extent_of
 find_session-requires g c =
-    let places = setup_places (place_in g.row.W g.row.B c.args.base c.args.span c.args.limits (area_of c.args.slot.now)) c.in-Ok.setup (sym c.refusal.ensures ∙ c.if-refusal-ne0.false) in
-    (lit≤ tt, (omega (arith, places.room, c.requires.range, c.read_setup.ensures.size), (places.most, in_memory c.args.limits (room_in (place_in g.row.W g.row.B c.args.base c.args.span c.args.limits (area_of c.args.slot.now))) c.in-Ok.setup (sym c.refusal.ensures ∙ c.if-refusal-ne0.false))))
+    let places = setup_places (place_in g.row.W g.row.B c.args.base c.args.span c.args.limits (extent_of c.args.slot.now)) c.in-Ok.setup (sym c.refusal.ensures ∙ c.if-refusal-ne0.false) in
+    (lit≤ tt, (omega (arith, places.room, c.requires.range, c.read_setup.ensures.size), (places.most, in_memory c.args.limits (room_in (place_in g.row.W g.row.B c.args.base c.args.span c.args.limits (extent_of c.args.slot.now))) c.in-Ok.setup (sym c.refusal.ensures ∙ c.if-refusal-ne0.false))))
 
 pub returns-else-refusal-ne0-clause-found : goal.returns-else-refusal-ne0-clause-found
-unfolding area_of
+unfolding extent_of
 returns-else-refusal-ne0-clause-found g c = λ headers.
     let reads = c.in-Ok.ensures.reads in
     on_ok (λ counts found. record {
@@ -46,7 +46,7 @@ returns-else-refusal-ne0-clause-found g c = λ headers.
     }) c.find_session.result c.find_session.ensures.found
 
 pub returns-else-refusal-ne0-clause-foreign : goal.returns-else-refusal-ne0-clause-foreign
-unfolding area_of
+unfolding extent_of
 returns-else-refusal-ne0-clause-foreign g c =
     let reads = c.in-Ok.ensures.reads in
     on_err (λ e foreign p is b now header. foreign p is b now (record {

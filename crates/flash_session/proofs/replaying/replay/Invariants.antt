@@ -3,7 +3,7 @@ use Rattle.flash_session.specs.Contents.{Same, StillHolds}
 use Rattle.flash_session.specs.Moments.{Elapses}
 use Rattle.frag_session.specs.Session.{Session}
 use Rattle.frag_session.specs.Stands.{Stands}
-use Rattle.frag_session.specs.Steps.{area_of}
+use Rattle.frag_session.specs.Steps.{extent_of}
 use Rattle.flash_session.specs.Replayed.{Replayed}
 use Rattle.flash_session.proofs.replaying.replay.Given as goal
 
@@ -12,7 +12,7 @@ invariant-loop-k g l =
     let F = g.F.Flash in
     record {
       replayed : (s : Session) → s.heard ≡ [] → Stands l.initial.slot (Some s) → Replayed s l.slot (F.holds l.flash) l.base l.size l.k;
-      area : area_of l.slot ≡ area_of l.initial.slot;
+      area : extent_of l.slot ≡ extent_of l.initial.slot;
       held : StillHolds (F.holds l.initial.flash) (F.holds l.flash);
       stops : Elapses Same (F.moment l.initial.flash) (F.moment l.flash) (F.left_since l.initial.flash) (F.left_since l.flash);
       size : F.room l.flash ≡ F.room l.initial.flash;

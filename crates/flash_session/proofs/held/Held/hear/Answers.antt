@@ -36,31 +36,31 @@ pub invariant_of-result-in-Ok : goal.invariant_of-result-in-Ok
 invariant_of-result-in-Ok g c = record {
   long = c.self.invariant.long;
   session = after_fragment c.self.invariant.session c.args.via c.args.n c.args.part.now c.args.mark;
-  stands = stands_new c.args.via c.args.n c.args.part.now c.args.mark _ _ c.fragment-heard.ensures.area c.fragment-heard.ensures.stands (search rules) (search rules) c.self.invariant.session c.self.invariant.stands (λ o k. let is : c.fragment-heard.result ≡ answer.Fed told.New = first_of (search rules, cc, grind arith) in sym is ∙ c.fragment-heard.ensures.answer o k);
+  stands = stands_new c.args.via c.args.n c.args.part.now c.args.mark _ _ c.fragment-heard.ensures.extent c.fragment-heard.ensures.stands (search rules) (search rules) c.self.invariant.session c.self.invariant.stands (λ o k. let is : c.fragment-heard.result ≡ answer.Fed told.New = first_of (search rules, cc, grind arith) in sym is ∙ c.fragment-heard.ensures.answer o k);
 }
 
 pub invariant_of-result-in-Ok-tally : goal.invariant_of-result-in-Ok-tally
 invariant_of-result-in-Ok-tally g c = record {
   long = c.self.invariant.long;
   session = after_fragment c.self.invariant.session c.args.via c.args.n c.args.part.now c.args.mark;
-  stands = stands_old c.args.via c.args.n c.args.part.now c.args.mark _ _ c.fragment-heard.ensures.area c.fragment-heard.ensures.stands (omega arith) c.self.invariant.session c.self.invariant.stands (λ o k. let is : c.fragment-heard.result ≡ answer.Fed told.Old = first_of (search rules, cc, grind arith) in sym is ∙ c.fragment-heard.ensures.answer o k);
+  stands = stands_old c.args.via c.args.n c.args.part.now c.args.mark _ _ c.fragment-heard.ensures.extent c.fragment-heard.ensures.stands (omega arith) c.self.invariant.session c.self.invariant.stands (λ o k. let is : c.fragment-heard.result ≡ answer.Fed told.Old = first_of (search rules, cc, grind arith) in sym is ∙ c.fragment-heard.ensures.answer o k);
 }
 
 pub invariant_of-result-then-records-tallies : goal.invariant_of-result-then-records-tallies
 invariant_of-result-then-records-tallies g c = record {
   long = c.self.invariant.long;
   session = after_fragment c.self.invariant.session c.args.via c.args.n c.args.part.now c.args.mark;
-  stands = stands_full c.args.via c.args.n c.args.part.now c.args.mark _ _ c.fragment-heard.ensures.area c.fragment-heard.ensures.stands (omega arith) c.self.invariant.session c.self.invariant.stands (λ o k. let is : c.fragment-heard.result ≡ answer.Fed told.Old = first_of (search rules, cc, grind arith) in sym is ∙ c.fragment-heard.ensures.answer o k);
+  stands = stands_full c.args.via c.args.n c.args.part.now c.args.mark _ _ c.fragment-heard.ensures.extent c.fragment-heard.ensures.stands (omega arith) c.self.invariant.session c.self.invariant.stands (λ o k. let is : c.fragment-heard.result ≡ answer.Fed told.Old = first_of (search rules, cc, grind arith) in sym is ∙ c.fragment-heard.ensures.answer o k);
 }
 
 pub returns-in-Ok-clause-stands : goal.returns-in-Ok-clause-stands
-returns-in-Ok-clause-stands g c = rw (← c.self.view_is) (λ o held. stands_new c.args.via c.args.n c.args.part.now c.args.mark _ _ c.fragment-heard.ensures.area c.fragment-heard.ensures.stands (search rules) (search rules) o held (λ o k. let is : c.fragment-heard.result ≡ answer.Fed told.New = first_of (search rules, cc, grind arith) in sym is ∙ c.fragment-heard.ensures.answer o k))
+returns-in-Ok-clause-stands g c = rw (← c.self.view_is) (λ o held. stands_new c.args.via c.args.n c.args.part.now c.args.mark _ _ c.fragment-heard.ensures.extent c.fragment-heard.ensures.stands (search rules) (search rules) o held (λ o k. let is : c.fragment-heard.result ≡ answer.Fed told.New = first_of (search rules, cc, grind arith) in sym is ∙ c.fragment-heard.ensures.answer o k))
 
 pub returns-in-Ok-tally-clause-stands : goal.returns-in-Ok-tally-clause-stands
-returns-in-Ok-tally-clause-stands g c = rw (← c.self.view_is) (λ o held. stands_old c.args.via c.args.n c.args.part.now c.args.mark _ _ c.fragment-heard.ensures.area c.fragment-heard.ensures.stands (omega arith) o held (λ o k. let is : c.fragment-heard.result ≡ answer.Fed told.Old = first_of (search rules, cc, grind arith) in sym is ∙ c.fragment-heard.ensures.answer o k))
+returns-in-Ok-tally-clause-stands g c = rw (← c.self.view_is) (λ o held. stands_old c.args.via c.args.n c.args.part.now c.args.mark _ _ c.fragment-heard.ensures.extent c.fragment-heard.ensures.stands (omega arith) o held (λ o k. let is : c.fragment-heard.result ≡ answer.Fed told.Old = first_of (search rules, cc, grind arith) in sym is ∙ c.fragment-heard.ensures.answer o k))
 
 pub returns-then-records-tallies-clause-stands : goal.returns-then-records-tallies-clause-stands
-returns-then-records-tallies-clause-stands g c = rw (← c.self.view_is) (λ o held. stands_full c.args.via c.args.n c.args.part.now c.args.mark _ _ c.fragment-heard.ensures.area c.fragment-heard.ensures.stands (omega arith) o held (λ o k. let is : c.fragment-heard.result ≡ answer.Fed told.Old = first_of (search rules, cc, grind arith) in sym is ∙ c.fragment-heard.ensures.answer o k))
+returns-then-records-tallies-clause-stands g c = rw (← c.self.view_is) (λ o held. stands_full c.args.via c.args.n c.args.part.now c.args.mark _ _ c.fragment-heard.ensures.extent c.fragment-heard.ensures.stands (omega arith) o held (λ o k. let is : c.fragment-heard.result ≡ answer.Fed told.Old = first_of (search rules, cc, grind arith) in sym is ∙ c.fragment-heard.ensures.answer o k))
 
 pub returns-in-Dropped-clause-stands : goal.returns-in-Dropped-clause-stands
 returns-in-Dropped-clause-stands g c = rw (← c.self.view_is) (λ o held. stands_dropped c.args.via c.args.n c.args.part.now c.args.mark _ _ o _ (c.fragment-heard.ensures.dropped _ c.in-Dropped.is) held (λ o k. sym c.in-Dropped.is ∙ c.fragment-heard.ensures.answer o k))
@@ -84,13 +84,13 @@ pub returns-in-Err-tally-clause-any_moment : goal.returns-in-Err-tally-clause-an
 returns-in-Err-tally-clause-any_moment g c = rw (← c.self.view_is) (λ o held. old_moments c.args.via c.args.n c.args.part.now c.args.mark _ o _ _ held (λ o k. let is : c.fragment-heard.result ≡ answer.Fed told.Old = first_of (search rules, cc, grind arith) in sym is ∙ c.fragment-heard.ensures.answer o k) _ _ _ _ c.tally.ensures.any_moment)
 
 pub returns-in-Ok-clause-acknowledged : goal.returns-in-Ok-clause-acknowledged
-returns-in-Ok-clause-acknowledged g c = rw (← c.self.view_is) (λ o held. new_kept c.args.via c.args.n c.args.part.now c.args.mark (search rules) (search rules) _ _ o _ _ _ _ held (λ o k. let is : c.fragment-heard.result ≡ answer.Fed told.New = first_of (search rules, cc, grind arith) in sym is ∙ c.fragment-heard.ensures.answer o k) c.fragment-heard.ensures.area c.fragment-heard.ensures.stands c.in-Ok.ensures.acknowledged)
+returns-in-Ok-clause-acknowledged g c = rw (← c.self.view_is) (λ o held. new_kept c.args.via c.args.n c.args.part.now c.args.mark (search rules) (search rules) _ _ o _ _ _ _ held (λ o k. let is : c.fragment-heard.result ≡ answer.Fed told.New = first_of (search rules, cc, grind arith) in sym is ∙ c.fragment-heard.ensures.answer o k) c.fragment-heard.ensures.extent c.fragment-heard.ensures.stands c.in-Ok.ensures.acknowledged)
 
 pub returns-in-Ok-tally-clause-acknowledged : goal.returns-in-Ok-tally-clause-acknowledged
-returns-in-Ok-tally-clause-acknowledged g c = rw (← c.self.view_is) (λ o held. old_kept c.args.via c.args.n c.args.part.now c.args.mark _ _ o _ _ _ _ held (λ o k. let is : c.fragment-heard.result ≡ answer.Fed told.Old = first_of (search rules, cc, grind arith) in sym is ∙ c.fragment-heard.ensures.answer o k) (omega arith) c.fragment-heard.ensures.area c.fragment-heard.ensures.stands c.in-Ok-tally.ensures.acknowledged)
+returns-in-Ok-tally-clause-acknowledged g c = rw (← c.self.view_is) (λ o held. old_kept c.args.via c.args.n c.args.part.now c.args.mark _ _ o _ _ _ _ held (λ o k. let is : c.fragment-heard.result ≡ answer.Fed told.Old = first_of (search rules, cc, grind arith) in sym is ∙ c.fragment-heard.ensures.answer o k) (omega arith) c.fragment-heard.ensures.extent c.fragment-heard.ensures.stands c.in-Ok-tally.ensures.acknowledged)
 
 pub returns-then-records-tallies-clause-acknowledged : goal.returns-then-records-tallies-clause-acknowledged
-returns-then-records-tallies-clause-acknowledged g c = rw (← c.self.view_is) (λ o held. full_kept c.args.via c.args.n c.args.part.now c.args.mark _ _ o _ _ held (λ o k. let is : c.fragment-heard.result ≡ answer.Fed told.Old = first_of (search rules, cc, grind arith) in sym is ∙ c.fragment-heard.ensures.answer o k) (omega arith) c.fragment-heard.ensures.area c.fragment-heard.ensures.stands)
+returns-then-records-tallies-clause-acknowledged g c = rw (← c.self.view_is) (λ o held. full_kept c.args.via c.args.n c.args.part.now c.args.mark _ _ o _ _ held (λ o k. let is : c.fragment-heard.result ≡ answer.Fed told.Old = first_of (search rules, cc, grind arith) in sym is ∙ c.fragment-heard.ensures.answer o k) (omega arith) c.fragment-heard.ensures.extent c.fragment-heard.ensures.stands)
 
 pub returns-in-Dropped-clause-acknowledged : goal.returns-in-Dropped-clause-acknowledged
 returns-in-Dropped-clause-acknowledged g c = rw (← c.self.view_is) (λ o held. dropped_kept c.args.via c.args.n c.args.part.now c.args.mark _ _ o _ _ _ held (c.fragment-heard.ensures.dropped _ c.in-Dropped.is) (λ o k. sym c.in-Dropped.is ∙ c.fragment-heard.ensures.answer o k))

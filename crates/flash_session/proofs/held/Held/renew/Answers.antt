@@ -17,19 +17,19 @@ pub invariant_of-result : goal.invariant_of-result
 invariant_of-result g c = record {
   long = c.self.invariant.long;
   session = Some (new_session c.self.inside.limits c.args.req);
-  stands = new_stands (record { slot = c.self.inside.slot; limits = c.self.inside.limits; base = c.self.inside.base; span = c.self.inside.span; records = c.self.inside.records; tallies = c.self.inside.tallies; words = g.row.W; bytes = g.row.B }) c.args.req (fine _ _ c.args.req c.self.view_is c.requires.fine) _ c.renew.ensures.stands c.renew.ensures.area;
+  stands = new_stands (record { slot = c.self.inside.slot; limits = c.self.inside.limits; base = c.self.inside.base; span = c.self.inside.span; records = c.self.inside.records; tallies = c.self.inside.tallies; words = g.row.W; bytes = g.row.B }) c.args.req (fine _ _ c.args.req c.self.view_is c.requires.fine) _ c.renew.ensures.stands c.renew.ensures.extent;
 }
 
 pub returns-in-Ok-clause-stands : goal.returns-in-Ok-clause-stands
 returns-in-Ok-clause-stands g c = rw (← c.self.view_is)
-    (new_stands (record { slot = c.self.inside.slot; limits = c.self.inside.limits; base = c.self.inside.base; span = c.self.inside.span; records = c.self.inside.records; tallies = c.self.inside.tallies; words = g.row.W; bytes = g.row.B }) c.args.req (fine _ _ c.args.req c.self.view_is c.requires.fine) _ c.renew.ensures.stands c.renew.ensures.area)
+    (new_stands (record { slot = c.self.inside.slot; limits = c.self.inside.limits; base = c.self.inside.base; span = c.self.inside.span; records = c.self.inside.records; tallies = c.self.inside.tallies; words = g.row.W; bytes = g.row.B }) c.args.req (fine _ _ c.args.req c.self.view_is c.requires.fine) _ c.renew.ensures.stands c.renew.ensures.extent)
 
 pub returns-in-Ok-clause-acknowledged : goal.returns-in-Ok-clause-acknowledged
 returns-in-Ok-clause-acknowledged g c = rw (← c.self.view_is) (λ o held.
     let h : HeldSession = record { slot = c.self.inside.slot; limits = c.self.inside.limits; base = c.self.inside.base; span = c.self.inside.span; records = c.self.inside.records; tallies = c.self.inside.tallies; words = g.row.W; bytes = g.row.B } in
     let is = fine _ _ c.args.req c.self.view_is c.requires.fine in
     let lives = lives_as h o _ held.stands c.has_session-lives.ensures ∙ sym (stored_lives o held.body _) in
-    new_held h c.args.req is c.requires.fields _ _ _ c.renew.ensures.stands c.renew.ensures.area
+    new_held h c.args.req is c.requires.fields _ _ _ c.renew.ensures.stands c.renew.ensures.extent
     (rw (← c.setup_bytes.ensures) (c.in-Ok.ensures.begun _ _ _ (rw c.setup_bytes.ensures (new_fits h c.args.req is c.requires.fields)) lives held.stored)))
 
 pub returns-in-Ok-clause-any_moment : goal.returns-in-Ok-clause-any_moment

@@ -1,0 +1,565 @@
+//! Calls that are stopped at each call of the flash, bytes that a stop tears, places that are foreign, and each public call.
+
+ghost use Rattle.std.specs.Prelude.{◌+◌, ◌≤◌};
+ghost use Rattle.std.specs.Bool.{OnTrue};
+
+use super::*;
+use crate::log::Step;
+use crate::{CellFlash, Flash, MemFlash, OpenFault, StopFlash};
+use frag_session::{Cause, Heard, News, SetupReq, Verdict};
+use row_elimination::Solver;
+use std::alloc::Global;
+use std::process::Abort;
+use std::test::Fail;
+
+/// Storage for four rows of eight pieces of a byte.
+type SmallHeld = Held<4, 4>;
+
+type SmallIdle = Idle<4, 4>;
+
+/// Room for the records of four fragments of a byte.
+const SPAN: u32 = 24_640 + 9 * 11;
+
+/// Room for the steps of two setups, and of what is heard in them.
+const ROOM: u32 = 60_000;
+
+const SETUP: SetupReq = SetupReq {
+    index: 0,
+    mask: 0,
+    nb_frag: 4,
+    frag_size: 1,
+    algo: 0,
+    delay: 0,
+    padding: 0,
+    descriptor: 0,
+};
+
+const LIMITS: Limits = Limits {
+    sessions: 4,
+    rows: 0,
+    descriptor: None,
+};
+
+/// A call of a session: a setup of so many pieces, a fragment of one byte, or a delete.
+#[derive(Clone, Copy)]
+enum Call {
+    Setup(u16),
+    Hear(u16, u8),
+    Delete,
+}
+
+/// What a session shows.
+#[derive(Clone, Copy, Debug, PartialEq, Eq)]
+struct Shown {
+    received: u16,
+    missing: u16,
+}
+
+/// After one fragment of four, two, and the same one twice; a session that heard nothing, and one of three pieces.
+const HEARD_ONE: Option<Shown> = Some(Shown {
+    received: 1,
+    missing: 3,
+});
+
+const HEARD_TWO: Option<Shown> = Some(Shown {
+    received: 2,
+    missing: 2,
+});
+
+const HEARD_TWICE: Option<Shown> = Some(Shown {
+    received: 2,
+    missing: 3,
+});
+
+const NEW: Option<Shown> = Some(Shown {
+    received: 0,
+    missing: 4,
+});
+
+const NEW_OF_THREE: Option<Shown> = Some(Shown {
+    received: 0,
+    missing: 3,
+});
+
+fn solver(rt: &impl Abort, alloc: Global) -> SmallIdle {
+    Idle::new(Solver::reserve(alloc, 8).expect(rt, "no memory"))
+}
+
+fn fits<F: Flash>(held: &SmallHeld, flash: &F) -> bool
+    ensures { OnTrue result (held.now.base + held.now.span ≤ F.room flash.now) }
+{
+    held.base as u64 + held.span as u64 <= flash.size() as u64
+}
+
+fn open<F: Flash>(rt: &impl Abort, flash: &mut F, idle: SmallIdle) -> SmallHeld {
+    assert!(rt; SPAN <= flash.size());
+    match Held::open(flash, 0, SPAN, idle, LIMITS) {
+        Ok(held) => held,
+        Err(_) => panic!(rt; "it does not open"),
+    }
+}
+
+fn make<F: Flash>(
+    rt: &impl Abort,
+    held: SmallHeld,
+    flash: &mut F,
+    call: Call,
+) -> Result<SmallHeld, SmallIdle> {
+    assert!(rt; fits(&held, flash));
+    match call {
+        Call::Setup(nb_frag) => match held.setup(flash, SetupReq { nb_frag, ..SETUP }) {
+            Ok((held, _)) => Ok(held),
+            Err(idle) => Err(idle),
+        },
+        Call::Hear(n, byte) => match held.hear(flash, Via::Unicast, n, &[byte], 7) {
+            Ok((held, _)) => Ok(held),
+            Err(idle) => Err(idle),
+        },
+        Call::Delete => match held.delete(flash) {
+            Ok((held, _)) => Ok(held),
+            Err(idle) => Err(idle),
+        },
+    }
+}
+
+fn make_all<F: Flash>(
+    rt: &impl Abort,
+    flash: &mut F,
+    idle: SmallIdle,
+    calls: &[Call],
+) -> SmallHeld {
+    let mut held = open(rt, flash, idle);
+    for next in calls {
+        held = match make(rt, held, flash, *next) {
+            Ok(held) => held,
+            Err(_) => panic!(rt; "a call failed"),
+        };
+    }
+    held
+}
+
+fn shows(held: &SmallHeld) -> Option<Shown> {
+    let view = held.view()?;
+    Some(Shown {
+        received: view.received,
+        missing: view.missing,
+    })
+}
+
+/// What is left of a call that was stopped.
+#[derive(Drop)]
+struct Left {
+    flash: MemFlash,
+    idle: SmallIdle,
+    done: bool,
+}
+
+/// The last call after others, stopped after `k` calls of the flash.
+fn stop(rt: &impl Abort, alloc: Global, before: &[Call], last: Call, k: u64) -> Result<Left, Fail> {
+    let mut flash = MemFlash::reserve(alloc, SPAN, ROOM, Vec::new(alloc))?;
+    let held = make_all(rt, &mut flash, solver(rt, alloc), before);
+    let mut stopped = StopFlash::over(flash, k);
+    let (idle, done) = match make(rt, held, &mut stopped, last) {
+        Ok(held) => (held.close(), true),
+        Err(idle) => (idle, false),
+    };
+    let flash = stopped.inner();
+    Ok(Left { flash, idle, done })
+}
+
+/// A call after others, and what opens where it is stopped after 0, 1, 2 .. calls of the flash, up to all of them.
+struct Stopped<'a> {
+    before: &'a [Call],
+    last: Call,
+    found: &'a [Option<Shown>],
+}
+
+const ONE: [Call; 2] = [Call::Setup(4), Call::Hear(1, 0x11)];
+
+const STOPPED: [Stopped; 9] = [
+    // A record and its gate, each written and synced.
+    Stopped {
+        before: &ONE,
+        last: Call::Hear(3, 0x33),
+        found: &[HEARD_ONE, HEARD_ONE, HEARD_ONE, HEARD_TWO, HEARD_TWO],
+    },
+    // A gate alone.
+    Stopped {
+        before: &ONE,
+        last: Call::Hear(1, 0x11),
+        found: &[HEARD_ONE, HEARD_TWICE, HEARD_TWICE],
+    },
+    // One that is dropped.
+    Stopped {
+        before: &ONE,
+        last: Call::Hear(0, 0x11),
+        found: &[HEARD_ONE],
+    },
+    // No session before: the header's gate is not written at first.
+    Stopped {
+        before: &[],
+        last: Call::Setup(4),
+        found: &[None, None, None, None, NEW, NEW],
+    },
+    Stopped {
+        before: &ONE,
+        last: Call::Setup(3),
+        found: &[
+            HEARD_ONE,
+            None,
+            None,
+            None,
+            None,
+            None,
+            NEW_OF_THREE,
+            NEW_OF_THREE,
+        ],
+    },
+    // An equal setup, and a refused one.
+    Stopped {
+        before: &ONE,
+        last: Call::Setup(4),
+        found: &[HEARD_ONE],
+    },
+    Stopped {
+        before: &ONE,
+        last: Call::Setup(0),
+        found: &[HEARD_ONE],
+    },
+    Stopped {
+        before: &ONE,
+        last: Call::Delete,
+        found: &[HEARD_ONE, None, None],
+    },
+    // No session to delete.
+    Stopped {
+        before: &[],
+        last: Call::Delete,
+        found: &[None],
+    },
+];
+
+fn opens_again(rt: &impl Abort, alloc: Global, row: &Stopped) -> Result<(), Fail> {
+    for (k, found) in row.found.iter().enumerate() {
+        let left = stop(rt, alloc, row.before, row.last, k as u64)?;
+        assert_eq!(rt; left.done, k + 1 == row.found.len());
+        let mut flash = left.flash;
+        let held = open(rt, &mut flash, left.idle);
+        assert_eq!(rt; shows(&held), *found);
+    }
+    Ok(())
+}
+
+#[test]
+fn a_stop_leaves_what_was_or_what_comes(rt: HostRuntime) -> Result<(), Fail> {
+    for row in &STOPPED {
+        opens_again(&rt, rt.alloc(), row)?;
+    }
+    Ok(())
+}
+
+/// A call after others that is stopped where a byte was written and not synced, and what opens where that byte is left open,
+/// and where it is left as any other.
+struct Torn<'a> {
+    before: &'a [Call],
+    last: Call,
+    stop: u64,
+    place: u32,
+    open: Option<Shown>,
+    shut: Option<Shown>,
+}
+
+const TORN: [Torn; 8] = [
+    // The record's number, its data, and its gate.
+    Torn {
+        before: &ONE,
+        last: Call::Hear(3, 0x33),
+        stop: 1,
+        place: 24_640 + 11,
+        open: HEARD_ONE,
+        shut: HEARD_ONE,
+    },
+    Torn {
+        before: &ONE,
+        last: Call::Hear(3, 0x33),
+        stop: 3,
+        place: 64 + 1,
+        open: HEARD_TWO,
+        shut: HEARD_ONE,
+    },
+    // The gate of a fragment that tells nothing new.
+    Torn {
+        before: &ONE,
+        last: Call::Hear(1, 0x11),
+        stop: 1,
+        place: 8257,
+        open: HEARD_TWICE,
+        shut: HEARD_ONE,
+    },
+    // The header's gate, closed and opened, and others between.
+    Torn {
+        before: &ONE,
+        last: Call::Setup(3),
+        stop: 1,
+        place: 0,
+        open: HEARD_ONE,
+        shut: None,
+    },
+    Torn {
+        before: &ONE,
+        last: Call::Setup(3),
+        stop: 3,
+        place: 64 + 1,
+        open: None,
+        shut: None,
+    },
+    Torn {
+        before: &ONE,
+        last: Call::Setup(3),
+        stop: 6,
+        place: 0,
+        open: NEW_OF_THREE,
+        shut: None,
+    },
+    Torn {
+        before: &[],
+        last: Call::Setup(4),
+        stop: 4,
+        place: 0,
+        open: NEW,
+        shut: None,
+    },
+    Torn {
+        before: &ONE,
+        last: Call::Delete,
+        stop: 1,
+        place: 0,
+        open: HEARD_ONE,
+        shut: None,
+    },
+];
+
+/// Whether a place was written since the last sync.
+fn is_loose(flash: &MemFlash, place: u32) -> bool {
+    let mut loose = false;
+    for step in &flash.log {
+        loose = match *step {
+            Step::Was(at, _) => loose || at == place,
+            Step::Synced => false,
+        };
+    }
+    loose
+}
+
+fn opens_torn(rt: &impl Abort, alloc: Global, row: &Torn) -> Result<(), Fail> {
+    let left = stop(rt, alloc, row.before, row.last, row.stop)?;
+    let mut flash = left.flash;
+    let mut idle = left.idle;
+    assert!(rt; is_loose(&flash, row.place));
+    for byte in 0..=255u8 {
+        poke(rt, &mut flash, row.place, byte);
+        let held = open(rt, &mut flash, idle);
+        let found = if byte == 0xa5 { row.open } else { row.shut };
+        assert_eq!(rt; shows(&held), found);
+        idle = held.close();
+    }
+    Ok(())
+}
+
+fn poke<F: Flash>(rt: &impl Abort, flash: &mut F, place: u32, byte: u8) {
+    assert!(rt; place < flash.size());
+    assert!(rt; flash.write(place, &[byte]).is_ok());
+}
+
+#[test]
+fn any_byte_that_a_stop_leaves_opens(rt: HostRuntime) -> Result<(), Fail> {
+    for row in &TORN {
+        opens_torn(&rt, rt.alloc(), row)?;
+    }
+    Ok(())
+}
+
+/// Bytes that are written over a session with records 1 and 3, and the place that is foreign then.
+struct Foreign<'a> {
+    bytes: &'a [(u32, u8)],
+    place: Option<u32>,
+}
+
+const FOREIGN: [Foreign; 13] = [
+    // Another coding, and one piece more than there is room for.
+    Foreign {
+        bytes: &[(5, 8)],
+        place: Some(1),
+    },
+    Foreign {
+        bytes: &[(2, 5)],
+        place: Some(1),
+    },
+    // A record's gate behind one that is closed, the last that counts, and the first that does not.
+    Foreign {
+        bytes: &[(64 + 3, 0xa5)],
+        place: Some(64 + 3),
+    },
+    Foreign {
+        bytes: &[(64 + 8, 0xa5)],
+        place: Some(64 + 8),
+    },
+    Foreign {
+        bytes: &[(64 + 9, 0xa5)],
+        place: None,
+    },
+    // The first tally's gate is closed; the last one's is open.
+    Foreign {
+        bytes: &[(8257 + 1, 0xa5)],
+        place: Some(8257 + 1),
+    },
+    Foreign {
+        bytes: &[(8257 + 16_382, 0xa5)],
+        place: Some(8257 + 16_382),
+    },
+    // The number 0, one beyond all, and one that was heard.
+    Foreign {
+        bytes: &[(24_640 + 11, 0)],
+        place: Some(24_640 + 11),
+    },
+    Foreign {
+        bytes: &[(24_640 + 12, 0xff)],
+        place: Some(24_640 + 11),
+    },
+    Foreign {
+        bytes: &[(24_640 + 11, 1), (24_640 + 21, 0x11)],
+        place: Some(24_640 + 11),
+    },
+    // Two at once: the lower one is named.
+    Foreign {
+        bytes: &[(24_640, 0), (8257 + 5, 0xa5)],
+        place: Some(8257 + 5),
+    },
+    Foreign {
+        bytes: &[(8257 + 5, 0xa5), (64 + 4, 0xa5), (64 + 6, 0xa5)],
+        place: Some(64 + 4),
+    },
+    // Without a session nothing is foreign.
+    Foreign {
+        bytes: &[(0, 0xa4), (5, 8), (64 + 3, 0xa5)],
+        place: None,
+    },
+];
+
+fn is_foreign(rt: &impl Abort, alloc: Global, row: &Foreign) -> Result<(), Fail> {
+    let mut flash = CellFlash::reserve(alloc, SPAN)?;
+    let calls = [Call::Setup(4), Call::Hear(1, 0x11), Call::Hear(3, 0x33)];
+    let idle = make_all(rt, &mut flash, solver(rt, alloc), &calls).close();
+    for (place, byte) in row.bytes {
+        poke(rt, &mut flash, *place, *byte);
+    }
+    assert!(rt; SPAN <= flash.size());
+    let fault = match Held::open(&mut flash, 0, SPAN, idle, LIMITS) {
+        Ok(_) => None,
+        Err((_, fault)) => Some(fault),
+    };
+    assert_eq!(rt; fault, row.place.map(OpenFault::Foreign));
+    Ok(())
+}
+
+#[test]
+fn the_lowest_foreign_place_is_named(rt: HostRuntime) -> Result<(), Fail> {
+    for row in &FOREIGN {
+        is_foreign(&rt, rt.alloc(), row)?;
+    }
+    Ok(())
+}
+
+#[test]
+fn a_session_is_whole_is_deleted_and_begins_again(rt: HostRuntime) -> Result<(), Fail> {
+    let alloc = rt.alloc();
+    let mut flash = CellFlash::reserve(alloc, SPAN)?;
+    let held = open(&rt, &mut flash, solver(&rt, alloc));
+    assert!(rt; fits(&held, &flash));
+    let Ok((held, bits)) = held.setup(&mut flash, SetupReq { algo: 1, ..SETUP }) else {
+        panic!(rt; "the setup failed");
+    };
+    assert_eq!(rt; bits, 1);
+    assert!(rt; fits(&held, &flash));
+    let Ok((held, heard)) = held.hear(&mut flash, Via::Unicast, 1, &[0x11], 5) else {
+        panic!(rt; "the fragment failed");
+    };
+    assert_eq!(rt; heard, Heard::Dropped(Cause::NoSession));
+    let calls = [
+        Call::Setup(4),
+        Call::Hear(1, 0x11),
+        Call::Hear(2, 0x22),
+        Call::Hear(2, 0x22),
+        Call::Hear(3, 0x33),
+    ];
+    let held = make_all(&rt, &mut flash, held.close(), &calls);
+    assert!(rt; fits(&held, &flash));
+    let Ok((held, heard)) = held.hear(&mut flash, Via::Unicast, 4, &[0x44], 9) else {
+        panic!(rt; "the fragment failed");
+    };
+    assert_eq!(rt; heard, Heard::Fed(News::New));
+    assert!(rt; fits(&held, &flash));
+    let Ok((held, heard)) = held.hear(&mut flash, Via::Unicast, 4, &[0x44], 10) else {
+        panic!(rt; "the fragment failed");
+    };
+    assert_eq!(rt; heard, Heard::Fed(News::Old));
+    let held = open(&rt, &mut flash, held.close());
+    let view = held.view().expect(&rt, "no session");
+    assert_eq!(rt; view.received, 6);
+    assert_eq!(rt; view.missing, 0);
+    assert_eq!(rt; view.verdict, Verdict::Complete(9));
+    assert_eq!(rt; view.file, [0x11, 0x22, 0x33, 0x44].as_slice());
+    let status = held.status(Via::Unicast, true).expect(&rt, "no answer");
+    assert_eq!(rt; status.received, 6);
+    assert!(rt; fits(&held, &flash));
+    let Ok((held, lived)) = held.delete(&mut flash) else {
+        panic!(rt; "the delete failed");
+    };
+    assert!(rt; lived);
+    let held = open(&rt, &mut flash, held.close());
+    assert!(rt; held.view().is_none());
+    Ok(())
+}
+
+const COUNTED_ALL: Option<Shown> = Some(Shown {
+    received: 16_383,
+    missing: 3,
+});
+
+/// 16,383 fragments are counted; one more takes no call of the flash.
+#[test]
+fn the_count_ends(rt: HostRuntime) -> Result<(), Fail> {
+    let alloc = rt.alloc();
+    let mut flash = MemFlash::reserve(alloc, SPAN, ROOM, Vec::new(alloc))?;
+    let idle = make_all(&rt, &mut flash, solver(&rt, alloc), &ONE).close();
+    for k in 0..16_382u32 {
+        poke(&rt, &mut flash, 8257 + k, 0xa5);
+    }
+    let held = open(&rt, &mut flash, idle);
+    assert_eq!(rt; shows(&held), COUNTED_ALL);
+    let mut stopped = StopFlash::over(flash, 0);
+    let Ok(held) = make(&rt, held, &mut stopped, Call::Hear(1, 0x11)) else {
+        panic!(rt; "a call of the flash");
+    };
+    assert_eq!(rt; shows(&held), COUNTED_ALL);
+    Ok(())
+}
+
+/// The calls that fail: those that are listed, and those that the log has no room for.
+#[test]
+fn a_flash_in_memory_fails_where_it_is_told_to(rt: HostRuntime) -> Result<(), Fail> {
+    let alloc = rt.alloc();
+    let mut flash = MemFlash::reserve(alloc, 8, 5, vec![in alloc; 2, 6]?)?;
+    assert_eq!(rt; flash.size(), 8);
+    assert!(rt; flash.write(0, &[1, 2]).is_ok());
+    assert!(rt; flash.write(0, &[3, 4]).is_err());
+    assert!(rt; flash.sync().is_ok());
+    assert!(rt; flash.fill(1, 3).is_err());
+    assert!(rt; flash.fill(1, 2).is_ok());
+    let mut bytes = [7; 4];
+    assert!(rt; flash.read(0, &mut bytes).is_err());
+    assert!(rt; flash.read(0, &mut bytes).is_ok());
+    assert_eq!(rt; bytes, [1, 0, 0, 0]);
+    assert!(rt; flash.sync().is_err());
+    Ok(())
+}
