@@ -12,7 +12,7 @@ use Rattle.flash_session.proofs.Fronts.{carried}
 use Rattle.flash_session.proofs.Openable.{setup_places}
 use Rattle.flash_session.proofs.Opened.{spelled_same}
 use Rattle.flash_session.proofs.Renewing.{in_memory}
-use Rattle.flash_session.proofs.Still.{still_joined, on_ok, on_err}
+use Rattle.flash_session.proofs.Still.{still_joined, elapsed, on_ok, on_err}
 use Rattle.flash_session.proofs.finding.find_behind.Goals as goal
 
 pub returns-then-refusal-ne0-clause-foreign : goal.returns-then-refusal-ne0-clause-foreign
@@ -58,3 +58,6 @@ returns-else-refusal-ne0-clause-foreign g c =
 
 pub returns-else-refusal-ne0-clause-held : goal.returns-else-refusal-ne0-clause-held
 returns-else-refusal-ne0-clause-held g c = still_joined c.read_setup.ensures.held c.find_session.ensures.held
+
+pub returns-else-refusal-ne0-clause-stops : goal.returns-else-refusal-ne0-clause-stops
+returns-else-refusal-ne0-clause-stops g c = elapsed c.read_setup.ensures.stops c.find_session.ensures.stops
