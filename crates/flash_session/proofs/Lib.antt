@@ -1,10 +1,10 @@
 pub mod Apart
 pub mod Behind
-pub mod FixedMemory
 pub mod Found
 pub mod Fronts
 pub mod Headers
 pub mod Hearing
+pub mod Knowing
 pub mod Moments
 pub mod Okay
 pub mod Openable

@@ -2,7 +2,8 @@
 use Rattle.std.specs.Prelude.{◌≡◌, ◌≢◌, ◌⊎◌, ℕ, ◌+◌, ◌*◌, ◌<◌, ◌≤◌, List, [], ◌∷◌, length, get_or, Option, None, Some}
 use Rattle.frag_model.specs.Fragments.{Fragment}
 use Rattle.flash_session.specs.Contents.{byte_at, SameWithin, Follows}
-use Rattle.flash_session.specs.Layout.{open_gate, body_size, most_records, gates_size, records_place, body_at, gates_at, tallies_at, most_tallies, records_at, spelled}
+use Rattle.flash_session.specs.Layout.{open_gate, body_size, most_records, gates_size, records_place}
+use Rattle.flash_session.specs.Layout.{body_at, gates_at, tallies_at, most_tallies, records_at, spelled}
 
 -- a session as it lies in flash: the bytes of its setup, how many records it has at most, the bytes of a record's data,
 -- its records, newest first, and how many fragments were noted by a gate alone
@@ -30,7 +31,8 @@ record_at base size k = records_at base + (10 + size) * k
 -- the records, newest first
 abbrev pub RecordsLie : List ℕ → ℕ → ℕ → List Fragment → Type 0
 RecordsLie c base size [] = Unit {0}
-RecordsLie c base size (f ∷ older) = (length f.part ≡ size) × SpelledAt c (record_at base size (length older)) (spelled f) × RecordsLie c base size older
+RecordsLie c base size (f ∷ older) =
+    (length f.part ≡ size) × SpelledAt c (record_at base size (length older)) (spelled f) × RecordsLie c base size older
 
 -- the session lies there
 pub record Lies (base : ℕ) (s : Stored) (c : List ℕ) : Type 0 where

@@ -11,7 +11,8 @@ use Rattle.flash_session.specs.Body.{setup_at}
 use Rattle.flash_session.specs.Contents.{byte_at}
 use Rattle.flash_session.specs.HeldSession.{HeldSession, room_in}
 use Rattle.flash_session.specs.InRange.{InRange, AllInRange}
-use Rattle.flash_session.specs.Layout.{open_gate, body_place, gates_place, tallies_place, records_place, body_at, gates_at, tallies_at, most_tallies, spelled}
+use Rattle.flash_session.specs.Layout.{open_gate, body_place, gates_place, tallies_place, records_place}
+use Rattle.flash_session.specs.Layout.{body_at, gates_at, tallies_at, most_tallies, spelled}
 use Rattle.flash_session.specs.Lies.{SpelledAt, RecordsLie, record_at}
 use Rattle.flash_session.specs.Sessions.{hearing}
 

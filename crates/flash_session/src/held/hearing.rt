@@ -5,6 +5,7 @@ ghost use Rattle.flash_session.specs.Contents.{SameOutside, SameWithin, Follows,
 ghost use Rattle.flash_session.specs.Moments.{Elapses, LeavesOnly};
 ghost use Rattle.flash_session.specs.Layout.{most_records, records_place, spelled};
 ghost use Rattle.flash_session.specs.Lies.{Stored, IsStored, with_record, IsBeforeOrAfter};
+ghost use Rattle.frag_session.specs.Limits.{max_received};
 ghost use Rattle.frag_session.specs.Session.{Session, fragment, drop_cause, news_in, answer_of, after_fragment};
 ghost use Rattle.frag_session.specs.Steps.{extent_of};
 ghost use Rattle.flash_session.specs.Sessions.{HeldStandsAs, CountsAs, IsHeldAs, LiesForAs};
@@ -48,6 +49,10 @@ impl<const W: usize, const B: usize> Held<W, B> {
             ⊎ LiesForAs self.entry (after_fragment o via n part.now mark) c)
             (F.moment flash.old) (F.moment flash.new) (F.left_since flash.old)
             (F.left_since flash.new) }
+        // Nothing is written of what is dropped, nor of what tells nothing new once the count has come to its end.
+        ensures dropped { IfOk result (λ r. (c : _) → r.1 ≡ Heard.Dropped c → flash.new ≡ flash.old) }
+        ensures full { max_received ≤ self.entry.records + self.entry.tallies
+            → IfOk result (λ r. r.1 ≡ Heard.Fed News.Old → flash.new ≡ flash.old) }
         // What a stop leaves as a read gives it in another range is left so.
         ensures others { (at n : ℕ)
             → Follows (SameWithin at n) (F.holds flash.old)

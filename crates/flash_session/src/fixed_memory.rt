@@ -1,4 +1,4 @@
-//! Laws about sessions in flash, each the contract of a function that does nothing.
+//! What a session in flash knows in its fixed memory: a law, the contract of a function that does nothing.
 
 ghost use Rattle.flash_session.specs.FixedMemory.{FixedMemory};
 
