@@ -4,8 +4,7 @@
 use Rattle.std.specs.Prelude.{◌≡◌, ℕ, ◌+◌, ◌==◌, if◌then◌else◌, List, [], ◌∷◌, ◌++◌, map, fold, filter_map, Option, Some, None, option_map, option_to_list, Ok}
 use Rattle.package_grammar.specs.declared.downlink.Downlink.{Downlink}
 use Rattle.device_core.specs.Device.{DeviceState}
-use Rattle.device_core.specs.Deliver.{delivery, waking}
-use Rattle.device_core.specs.Firmware.{after_migration}
+use Rattle.device_core.specs.Events.{Event, Wakes, Receives, Migrates, after_event}
 use Rattle.campaign_server.specs.Server.{numbered}
 use Rattle.script_lines.specs.declared.forms.Form.{Form}
 use Rattle.script_lines.specs.declared.forms.Form.TheVariants.{Device, At, Wake, Migrate, Down, Raw}

@@ -15,15 +15,15 @@ use Rattle.package_grammar.specs.declared.downlink.Downlink.{Downlink}
 use Rattle.package_grammar.specs.Grammar.{IsMessage}
 use Rattle.device_core.specs.SessionTable.{session_at}
 use Rattle.device_core.specs.Device.{DeviceState}
+use Rattle.device_core.specs.Events.{Receives, CameInTurn}
 use Rattle.campaign_server.specs.Server.{numbered}
 use Rattle.script_lines.specs.Lines.{lines_of}
 use Rattle.script_lines.specs.Forms.{form_of}
 use Rattle.campaign_world.specs.declared.numbered.SentPayload.{SentPayload}
 use Rattle.campaign_world.specs.World.{WorldState}
 use Rattle.campaign_world.specs.Script.{campaign_of}
-use Rattle.campaign_world.specs.Report.{same_word, session_text, session_line}
+use Rattle.campaign_world.specs.Report.{same_word, saying, session_line}
 use Rattle.campaign_world.specs.Recovery.{recovery}
-use Rattle.device_core.specs.Events.{Receives}
 use Rattle.campaign_laws.specs.Independence.{event_in}
 
 -- ---- what a session heard
