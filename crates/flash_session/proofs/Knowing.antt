@@ -1,21 +1,16 @@
 -- What is held of the records is what is known of all that was heard.
-use Rattle.std.proofs.Common.{◌≡◌, ◌↔◌, ℕ, suc, ◌-◌, ◌<◌, ◌≤◌, List, Some, refl, sym, ap, ap₂, ◌∙◌, subst, arith}
+use Rattle.std.proofs.Common.{◌≡◌, ℕ, suc, ◌-◌, ◌<◌, List, Some, refl, sym, ap, ap₂, ◌∙◌, subst}
 use Rattle.frag_model.specs.Fragments.{Fragment, Shape}
-use Rattle.frag_model.specs.Gain.{is_sum, gain, direct, excess, numbers_of}
-use Rattle.frag_model.specs.Members.{In}
+use Rattle.frag_model.specs.Gain.{is_sum, gain, direct, excess}
 use Rattle.frag_model.specs.News.{lines_heard, KnowTheSame, MeanTheSame}
 use Rattle.frag_model.specs.Verdict.{receiving, verdict, FittingBlock}
-use Rattle.frag_session.specs.Held as kept
-use Rattle.frag_session.specs.Held.{Held, HeldSlot}
-use Rattle.frag_session.specs.Session.{Session, shape_of}
+use Rattle.frag_session.specs.Held.{HeldSlot}
+use Rattle.frag_session.specs.Session.{shape_of}
 use Rattle.frag_session.specs.Stands.{Stands, Holds}
-use Rattle.row_elimination.specs.Held.{IsMarked}
 use Rattle.row_elimination.specs.Held.{Held as Solved}
-use Rattle.row_elimination.specs.Places.{FitsHeld}
 use Rattle.row_elimination.specs.Stands.{StandsFor}
-use Rattle.flash_session.specs.FixedMemory.{KnowsAll, FixedMemory}
-use Rattle.flash_session.specs.HeldSession.{HeldSession}
-use Rattle.flash_session.specs.Sessions.{HeldStands, hearing}
+use Rattle.flash_session.specs.FixedMemory.{FixedMemory}
+use Rattle.flash_session.specs.Sessions.{hearing}
 
 -- over plain variables: the solver stands for one list, and another means the same
 knows_all : (held : Solved) (shape : Shape) (fed heard : List Fragment) → held.shape ≡ shape → StandsFor held fed → MeanTheSame shape fed heard

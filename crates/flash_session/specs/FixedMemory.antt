@@ -1,5 +1,5 @@
 -- What the fixed memory of a session in flash knows of all that the session heard, though a part of it is counted alone.
-use Rattle.std.specs.Prelude.{◌≡◌, ◌↔◌, ℕ, ◌≤◌, suc, ◌<◌, List}
+use Rattle.std.specs.Prelude.{◌≡◌, ◌↔◌, ℕ, suc, ◌<◌, List}
 use Rattle.frag_model.specs.Gain.{is_sum, gain, direct, excess, numbers_of}
 use Rattle.frag_model.specs.Members.{In}
 use Rattle.frag_model.specs.News.{lines_heard}

@@ -91,12 +91,16 @@ fn fits<F: Flash>(held: &SmallHeld, flash: &F) -> bool
     held.base as u64 + held.span as u64 <= flash.size() as u64
 }
 
-fn open<F: Flash>(rt: &impl Abort, flash: &mut F, idle: SmallIdle) -> SmallHeld {
-    assert!(rt; SPAN <= flash.size());
-    match Held::open(flash, 0, SPAN, idle, LIMITS) {
+fn open_at<F: Flash>(rt: &impl Abort, flash: &mut F, base: u32, idle: SmallIdle) -> SmallHeld {
+    assert!(rt; base as u64 + SPAN as u64 <= flash.size() as u64);
+    match Held::open(flash, base, SPAN, idle, LIMITS) {
         Ok(held) => held,
         Err(_) => panic!(rt; "it does not open"),
     }
+}
+
+fn open<F: Flash>(rt: &impl Abort, flash: &mut F, idle: SmallIdle) -> SmallHeld {
+    open_at(rt, flash, 0, idle)
 }
 
 fn make<F: Flash>(
@@ -542,6 +546,39 @@ fn the_count_ends(rt: HostRuntime) -> Result<(), Fail> {
         panic!(rt; "a call of the flash");
     };
     assert_eq!(rt; shows(&held), COUNTED_ALL);
+    Ok(())
+}
+
+/// Two sessions on one flash: where a call of one is stopped, the other opens as it was.
+#[test]
+fn a_stop_leaves_the_session_beside(rt: HostRuntime) -> Result<(), Fail> {
+    let alloc = rt.alloc();
+    let mut flash = MemFlash::reserve(alloc, 2 * SPAN, 2 * ROOM, Vec::new(alloc))?;
+    let first = make_all(&rt, &mut flash, solver(&rt, alloc), &ONE);
+    let second = open_at(&rt, &mut flash, SPAN, solver(&rt, alloc));
+    let mut stopped = StopFlash::over(flash, 3);
+    let second = match make(&rt, second, &mut stopped, Call::Setup(3)) {
+        Ok(_) => panic!(rt; "it was not stopped"),
+        Err(idle) => idle,
+    };
+    let mut flash = stopped.inner();
+    let first = open(&rt, &mut flash, first.close());
+    assert_eq!(rt; shows(&first), HEARD_ONE);
+    let second = open_at(&rt, &mut flash, SPAN, second);
+    assert_eq!(rt; shows(&second), None);
+    let Ok(second) = make(&rt, second, &mut flash, Call::Setup(3)) else {
+        panic!(rt; "the setup failed");
+    };
+    let mut stopped = StopFlash::over(flash, 1);
+    let first = match make(&rt, first, &mut stopped, Call::Delete) {
+        Ok(_) => panic!(rt; "it was not stopped"),
+        Err(idle) => idle,
+    };
+    let mut flash = stopped.inner();
+    let second = open_at(&rt, &mut flash, SPAN, second.close());
+    assert_eq!(rt; shows(&second), NEW_OF_THREE);
+    let first = open(&rt, &mut flash, first);
+    assert_eq!(rt; shows(&first), None);
     Ok(())
 }
 
