@@ -74,7 +74,7 @@ fn the_first_wrong_line_is_named(rt: HostRuntime) {
     let rows = [
         ("", 1, LineWhy::Syntax),
         ("replay 2 0\n", 1, LineWhy::Syntax),
-        ("replay 1 65\n", 1, LineWhy::Range),
+        ("replay 1 257\n", 1, LineWhy::Range),
         ("replay 1 0\n0\n", 2, LineWhy::Syntax),
     ];
     for (lines, line, why) in &rows {
