@@ -3,7 +3,7 @@ use Rattle.std.proofs.Common.{◌≡◌, inl, inr, ℕ, ◌+◌, ◌==◌, List,
 use Rattle.std.proofs.lemmas.Bool.{and_parts}
 use Rattle.std.specs.Prelude.{filter_map, option_to_list}
 use Rattle.device_core.specs.Device.{DeviceState}
-use Rattle.campaign_server.specs.Server.{numbered}
+use Rattle.wire_base.specs.Numbered.{numbered}
 use Rattle.script_lines.specs.declared.forms.Class.{Class}
 use Rattle.script_lines.specs.declared.forms.Class.TheVariants as class
 use Rattle.script_lines.specs.declared.forms.Form.{Form}

@@ -13,7 +13,8 @@ use Rattle.campaign_server.specs.declared.stage.Stage.TheVariants.{At as AtReque
 use Rattle.campaign_server.specs.declared.stage.Request.TheVariants.{Version}
 use Rattle.campaign_server.specs.Plan.{Plan}
 use Rattle.package_grammar.specs.declared.downlink.Downlink.{Downlink}
-use Rattle.campaign_server.specs.Server.{ServerState, DownlinkCommand, numbered, ledger}
+use Rattle.campaign_server.specs.Server.{ServerState, DownlinkCommand, ledger}
+use Rattle.wire_base.specs.Numbered.{numbered}
 use Rattle.campaign_server.specs.Asking.{request_of}
 use Rattle.campaign_server.specs.Fragments.{after_count, next_fragment, after_fragment as server_after_fragment, status_to_all, after_status_to_all}
 use Rattle.campaign_server.specs.Uplinks.{with_answers, read_uplink, uplink_step}

@@ -14,7 +14,8 @@ use Rattle.device_core.specs.Deliver.{delivery, waking}
 use Rattle.device_core.specs.Firmware.{after_migration}
 use Rattle.campaign_server.specs.declared.plan.PlanGroup.{PlanGroup}
 use Rattle.campaign_server.specs.Plan.{Plan}
-use Rattle.campaign_server.specs.Server.{ServerState, DownlinkCommand, numbered, ledger, downlink_of}
+use Rattle.campaign_server.specs.Server.{ServerState, DownlinkCommand, ledger, downlink_of}
+use Rattle.wire_base.specs.Numbered.{numbered}
 use Rattle.campaign_server.specs.Asking.{mask_of, by_unicast, request_of}
 use Rattle.campaign_server.specs.Fragments.{next_fragment, after_fragment as server_after_fragment, status_to_all, after_status_to_all}
 use Rattle.campaign_server.specs.Time.{time_answer}

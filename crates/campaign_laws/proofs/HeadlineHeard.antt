@@ -6,7 +6,7 @@ use Rattle.frag_model.specs.Members.{In}
 use Rattle.frag_session.specs.Session.{Session}
 use Rattle.package_grammar.specs.declared.command.Command.{Command}
 use Rattle.device_core.specs.Device.{DeviceState}
-use Rattle.campaign_server.specs.Server.{numbered}
+use Rattle.wire_base.specs.Numbered.{numbered}
 use Rattle.script_lines.specs.declared.forms.Form.{Form}
 use Rattle.script_lines.specs.declared.forms.Form.TheVariants.{Down}
 use Rattle.script_lines.specs.Lines.{lines_of}

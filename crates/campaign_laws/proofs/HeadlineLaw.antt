@@ -16,7 +16,8 @@ use Rattle.package_grammar.specs.declared.command.Command.TheVariants.{Cast}
 use Rattle.device_core.specs.SessionTable.{SessionTable}
 use Rattle.device_core.specs.Device.{DeviceState}
 use Rattle.campaign_server.specs.declared.stage.Stage.{Stage}
-use Rattle.campaign_server.specs.Server.{ServerState, numbered, ledger}
+use Rattle.campaign_server.specs.Server.{ServerState, ledger}
+use Rattle.wire_base.specs.Numbered.{numbered}
 use Rattle.campaign_server.specs.Asking.{fragments_request}
 use Rattle.script_lines.specs.Lines.{lines_of}
 use Rattle.campaign_world.specs.World.{WorldState}

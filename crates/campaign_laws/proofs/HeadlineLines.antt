@@ -21,7 +21,8 @@ use Rattle.device_core.specs.declared.config.DeviceConfig.{DeviceConfig}
 use Rattle.device_core.specs.SessionTable.{SessionTable}
 use Rattle.device_core.specs.Device.{DeviceState, first_device}
 use Rattle.device_core.specs.ClassSessions.{hears}
-use Rattle.campaign_server.specs.Server.{DownlinkCommand, numbered, downlink_of}
+use Rattle.campaign_server.specs.Server.{DownlinkCommand, downlink_of}
+use Rattle.wire_base.specs.Numbered.{numbered}
 use Rattle.script_lines.specs.declared.forms.Form.{Form}
 use Rattle.script_lines.specs.declared.forms.Form.TheVariants.{Down}
 use Rattle.script_lines.specs.Lines.{lines_of}

@@ -23,7 +23,8 @@ use Rattle.device_core.specs.declared.config.DeviceConfig.{DeviceConfig}
 use Rattle.device_core.specs.SessionTable.{SessionTable}
 use Rattle.device_core.specs.Device.{DeviceState, room_of, limits_of}
 use Rattle.device_core.specs.ClassSessions.{hears}
-use Rattle.campaign_server.specs.Server.{DownlinkCommand, numbered, port_of, downlink_of}
+use Rattle.campaign_server.specs.Server.{DownlinkCommand, port_of, downlink_of}
+use Rattle.wire_base.specs.Numbered.{numbered}
 use Rattle.script_lines.specs.declared.forms.Form.{Form}
 use Rattle.script_lines.specs.declared.forms.Form.TheVariants.{Down}
 use Rattle.script_lines.specs.Forms.{form_of}

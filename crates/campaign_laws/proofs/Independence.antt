@@ -7,7 +7,8 @@ use Rattle.std.specs.Result.{result_ok}
 use Rattle.wire_base.specs.declared.refusal.Direction.TheVariants as direction
 use Rattle.package_grammar.specs.Reading.{Reading, reading_of}
 use Rattle.device_core.specs.Device.{DeviceState}
-use Rattle.campaign_server.specs.Server.{ServerState, DownlinkCommand, numbered, ledger}
+use Rattle.campaign_server.specs.Server.{ServerState, DownlinkCommand, ledger}
+use Rattle.wire_base.specs.Numbered.{numbered}
 use Rattle.campaign_server.specs.Asking.{by_unicast, request_of}
 use Rattle.campaign_server.specs.Fragments.{next_fragment, after_fragment, status_to_all, after_status_to_all}
 use Rattle.campaign_server.specs.Time.{time_answer}

@@ -27,7 +27,8 @@ use Rattle.campaign_server.specs.declared.stage.Stage.TheVariants.{Updated, Refu
 use Rattle.campaign_server.specs.declared.stage.Request.{Request}
 use Rattle.campaign_server.specs.declared.stage.Request.TheVariants as request
 use Rattle.campaign_server.specs.Plan.{Plan, session_index, group_id}
-use Rattle.campaign_server.specs.Server.{ServerState, DownlinkCommand, port_of, numbered, ledger}
+use Rattle.campaign_server.specs.Server.{ServerState, DownlinkCommand, port_of, ledger}
+use Rattle.wire_base.specs.Numbered.{numbered}
 use Rattle.clock_sync.specs.Clock.{correction_of, is_answer_needed}
 use Rattle.package_grammar.specs.declared.downlink.To.{To}
 use Rattle.campaign_server.specs.declared.fragments.Spent.{Spent}

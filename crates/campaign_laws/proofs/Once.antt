@@ -16,7 +16,8 @@ use Rattle.campaign_server.specs.declared.stage.Stage.{Stage}
 use Rattle.campaign_server.specs.declared.stage.Stage.TheVariants.{At}
 use Rattle.campaign_server.specs.declared.stage.Request.TheVariants as request
 use Rattle.package_grammar.specs.declared.downlink.Downlink.{Downlink}
-use Rattle.campaign_server.specs.Server.{ServerState, DownlinkCommand, numbered, ledger}
+use Rattle.campaign_server.specs.Server.{ServerState, DownlinkCommand, ledger}
+use Rattle.wire_base.specs.Numbered.{numbered}
 use Rattle.campaign_server.specs.Asking.{request_of, by_unicast}
 use Rattle.campaign_server.specs.Answers.{stage_after, stage_after_all}
 use Rattle.campaign_server.specs.Fragments.{next_fragment, after_fragment, after_count, status_to_all, after_status_to_all}

@@ -6,7 +6,8 @@ use Rattle.wire_base.specs.declared.refusal.Direction.TheVariants.{Up as Upwards
 use Rattle.package_grammar.specs.Reading.{Reading, reading_of}
 use Rattle.device_core.specs.Device.{DeviceState}
 use Rattle.package_grammar.specs.declared.downlink.Downlink.{Downlink}
-use Rattle.campaign_server.specs.Server.{DownlinkCommand, numbered, ledger}
+use Rattle.campaign_server.specs.Server.{DownlinkCommand, ledger}
+use Rattle.wire_base.specs.Numbered.{numbered}
 use Rattle.campaign_server.specs.Asking.{request_of, by_unicast}
 use Rattle.campaign_server.specs.Fragments.{next_fragment, after_fragment, status_to_all, after_status_to_all}
 use Rattle.campaign_server.specs.Time.{time_answer}

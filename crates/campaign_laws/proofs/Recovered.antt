@@ -1,6 +1,6 @@
 -- What is recovered of a device is its own.
 use Rattle.std.proofs.Common.{◌≡◌, ◌+◌, ◌-◌, ◌==◌, false, List, [], ◌∷◌, ◌++◌, length, slice_get, Some, refl, ap, arith}
-use Rattle.campaign_server.specs.Server.{numbered}
+use Rattle.wire_base.specs.Numbered.{numbered}
 use Rattle.campaign_world.specs.Recovery.{recovery_by, recovery}
 use Rattle.campaign_laws.specs.Recovers.{RecoversItsOwn}
 

@@ -16,7 +16,8 @@ use Rattle.device_core.specs.Deliver.{delivery}
 use Rattle.campaign_server.specs.declared.plan.PlanDevice.{PlanDevice}
 use Rattle.campaign_server.specs.declared.stage.Stage.{Stage}
 use Rattle.campaign_server.specs.Plan.{Plan}
-use Rattle.campaign_server.specs.Server.{ServerState, numbered}
+use Rattle.campaign_server.specs.Server.{ServerState}
+use Rattle.wire_base.specs.Numbered.{numbered}
 use Rattle.campaign_server.specs.Sent.{unicast_of}
 use Rattle.campaign_server.specs.Asking.{request_at, request_of}
 use Rattle.campaign_server.specs.Answers.{stage_after, stage_after_all}

@@ -17,7 +17,8 @@ use Rattle.campaign_server.specs.declared.stage.Stage.{Stage}
 use Rattle.campaign_server.specs.declared.stage.Stage.TheVariants.{At, Updated, Refused}
 use Rattle.campaign_server.specs.declared.stage.Request.TheVariants as request
 use Rattle.campaign_server.specs.Plan.{Plan}
-use Rattle.campaign_server.specs.Server.{ServerState, DownlinkCommand, port_of, downlink_of, numbered, ledger}
+use Rattle.campaign_server.specs.Server.{ServerState, DownlinkCommand, port_of, downlink_of, ledger}
+use Rattle.wire_base.specs.Numbered.{numbered}
 use Rattle.campaign_server.specs.Asking.{request_at, command_for, by_unicast, request_of}
 use Rattle.campaign_server.specs.Answers.{stage_after_all}
 use Rattle.campaign_server.specs.declared.fragments.Spent.{Spent}

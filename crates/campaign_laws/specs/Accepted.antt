@@ -3,7 +3,7 @@ use Rattle.std.specs.Prelude.{◌≡◌, ℕ, length, Some, Ok}
 use Rattle.frag_session.specs.Session.{view_of}
 use Rattle.device_core.specs.Device.{DeviceState}
 use Rattle.campaign_server.specs.declared.stage.Stage.{Stage}
-use Rattle.campaign_server.specs.Server.{numbered}
+use Rattle.wire_base.specs.Numbered.{numbered}
 use Rattle.campaign_generator.specs.Firmware.{image_of}
 use Rattle.campaign_generator.specs.Script.{script_of, sent_of}
 use Rattle.campaign_world.specs.declared.summary.Totals.{Totals}

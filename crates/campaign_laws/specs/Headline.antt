@@ -26,7 +26,8 @@ use Rattle.device_core.specs.ClassSessions.{hears}
 use Rattle.device_core.specs.Firmware.{after_due_reboot}
 use Rattle.device_core.specs.Deliver.{via_of}
 use Rattle.campaign_server.specs.declared.stage.Stage.{Stage}
-use Rattle.campaign_server.specs.Server.{ServerState, DownlinkCommand, numbered, ledger, downlink_of}
+use Rattle.campaign_server.specs.Server.{ServerState, DownlinkCommand, ledger, downlink_of}
+use Rattle.wire_base.specs.Numbered.{numbered}
 use Rattle.campaign_server.specs.Plan.{session_index}
 use Rattle.campaign_server.specs.Asking.{mask_of, fragments_request}
 use Rattle.script_lines.specs.declared.forms.Class.{Class}

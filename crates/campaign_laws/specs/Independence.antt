@@ -5,7 +5,7 @@ use Rattle.std.specs.Prelude.{◌≡◌, ℕ, ◌+◌, ◌==◌, if◌then◌els
 use Rattle.package_grammar.specs.declared.downlink.Downlink.{Downlink}
 use Rattle.device_core.specs.Device.{DeviceState}
 use Rattle.device_core.specs.Events.{Event, Wakes, Receives, Migrates, after_event}
-use Rattle.campaign_server.specs.Server.{numbered}
+use Rattle.wire_base.specs.Numbered.{numbered}
 use Rattle.script_lines.specs.declared.forms.Form.{Form}
 use Rattle.script_lines.specs.declared.forms.Form.TheVariants.{Device, At, Wake, Migrate, Down, Raw}
 use Rattle.script_lines.specs.Lines.{lines_of}

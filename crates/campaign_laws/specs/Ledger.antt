@@ -5,7 +5,8 @@ use Rattle.image_slots.specs.Image.{is_image, firmware_of}
 use Rattle.image_slots.specs.Slots.{Slots}
 use Rattle.device_core.specs.Device.{DeviceState}
 use Rattle.campaign_server.specs.declared.stage.Stage.TheVariants.{Updated}
-use Rattle.campaign_server.specs.Server.{numbered, ledger}
+use Rattle.campaign_server.specs.Server.{ledger}
+use Rattle.wire_base.specs.Numbered.{numbered}
 use Rattle.campaign_world.specs.World.{WorldState}
 use Rattle.campaign_world.specs.Script.{campaign_of}
 use Rattle.campaign_world.specs.Honest.{IsHonest}

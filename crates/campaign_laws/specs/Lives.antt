@@ -3,7 +3,7 @@ use Rattle.std.specs.Prelude.{◌≡◌, ℕ, ◌^◌, ◌<◌, ◌≤◌, true,
 use Rattle.frag_session.specs.Setup.{other_descriptor}
 use Rattle.image_slots.specs.Image.{is_image, firmware_of}
 use Rattle.device_core.specs.Device.{DeviceState}
-use Rattle.campaign_server.specs.Server.{numbered}
+use Rattle.wire_base.specs.Numbered.{numbered}
 use Rattle.script_lines.specs.Lines.{lines_of}
 use Rattle.campaign_world.specs.World.{WorldState}
 use Rattle.campaign_world.specs.Script.{campaign_of}

@@ -12,7 +12,7 @@ use Rattle.campaign_server.specs.declared.stage.Stage.TheVariants.{At, Updated, 
 use Rattle.campaign_server.specs.declared.stage.Request.{Request}
 use Rattle.campaign_server.specs.declared.stage.Request.TheVariants.{Version, Group, Fragments, Window, Status, Image, Reboot, Check}
 use Rattle.campaign_server.specs.Plan.{Plan}
-use Rattle.campaign_server.specs.Server.{numbered}
+use Rattle.wire_base.specs.Numbered.{numbered}
 use Rattle.campaign_server.specs.Answers.{stage_after}
 use Rattle.script_lines.specs.declared.forms.Form.TheVariants.{Up}
 use Rattle.script_lines.specs.Forms.{form_of}

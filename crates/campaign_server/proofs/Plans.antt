@@ -16,7 +16,8 @@ use Rattle.campaign_server.specs.declared.plan.PlanDevice.{PlanDevice}
 use Rattle.campaign_server.specs.declared.stage.Stage.{Stage}
 use Rattle.campaign_server.specs.declared.stage.Stage.TheVariants.{At}
 use Rattle.campaign_server.specs.declared.stage.Request.TheVariants.{Version}
-use Rattle.campaign_server.specs.Server.{ServerState, numbered, ledger, first_count}
+use Rattle.campaign_server.specs.Server.{ServerState, ledger, first_count}
+use Rattle.wire_base.specs.Numbered.{numbered}
 use Rattle.campaign_server.specs.Asking.{request_at, request_of, by_unicast}
 use Rattle.campaign_server.specs.Answers.{stage_after_all}
 use Rattle.campaign_server.specs.Time.{time_answer}

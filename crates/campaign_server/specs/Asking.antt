@@ -19,7 +19,8 @@ use Rattle.campaign_server.specs.declared.stage.Stage.TheVariants.{At, Updated, 
 use Rattle.campaign_server.specs.declared.stage.Request.TheVariants.{Version, Group, Fragments, Window, Status, Image, Reboot, Check}
 use Rattle.campaign_server.specs.Plan.{Plan, session_index, group_id}
 use Rattle.campaign_server.specs.Wrapping.{wrapped_key}
-use Rattle.campaign_server.specs.Server.{ServerState, DownlinkCommand, numbered, ledger}
+use Rattle.campaign_server.specs.Server.{ServerState, DownlinkCommand, ledger}
+use Rattle.wire_base.specs.Numbered.{numbered}
 
 -- ---- the requests
 

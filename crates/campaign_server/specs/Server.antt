@@ -1,5 +1,6 @@
 -- A server of a campaign: what it is at a moment, and at its start (this project's profile).
-use Rattle.std.specs.Prelude.{ℕ, ◌-◌, ◌==◌, if◌then◌else◌, List, length, replicate, slice_get, slice_index_or, Option, Some, None}
+use Rattle.std.specs.Prelude.{ℕ, List, length, replicate, slice_index_or, Option, None}
+use Rattle.wire_base.specs.Numbered.{numbered}
 use Rattle.package_grammar.specs.declared.command.Command.{Command}
 use Rattle.package_grammar.specs.declared.downlink.To.{To}
 use Rattle.package_grammar.specs.declared.downlink.Downlink.{Downlink}
@@ -32,10 +33,6 @@ first_server image plan = record {
   next = 1;
   count = first_count plan.group;
 }
-
--- the item with a number, counted from 1
-abbrev pub numbered : {A : Type 0} → List A → (n : ℕ) → Option A
-numbered items n = if n == 0 then None else slice_get items (n - 1)
 
 -- where a device stands: the ledger
 abbrev pub ledger : ServerState → (dev : ℕ) → Option Stage

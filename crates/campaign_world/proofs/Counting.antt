@@ -2,7 +2,8 @@
 use Rattle.std.proofs.Common.{◌≡◌, ℕ, ◌≤◌, ◌+◌, List, [], ◌∷◌, length, drop, slice_get, Some, refl, sym, ap, ◌∙◌, subst}
 use Rattle.device_core.specs.Device.{DeviceState}
 use Rattle.campaign_server.specs.declared.stage.Stage.{Stage}
-use Rattle.campaign_server.specs.Server.{ServerState, numbered}
+use Rattle.campaign_server.specs.Server.{ServerState}
+use Rattle.wire_base.specs.Numbered.{numbered}
 use Rattle.campaign_world.specs.declared.summary.Totals.{Totals}
 use Rattle.campaign_world.specs.HeldWorld.{HeldWorld, WorldStands, world_of}
 use Rattle.campaign_world.specs.World.{WorldState}

@@ -1,7 +1,7 @@
 -- Two lists that stand for one another, one by one.
 use Rattle.std.proofs.Common.{◌≡◌, ℕ, ◌<◌, length, List, [], ◌∷◌, ◌++◌, None, Some, Bool, true, false, cond, ◌==◌, ◌-◌, slice_get, zero, suc, refl, sym, subst, arith}
 use Rattle.std.specs.List.{AllByRecursion, AllZip, slice_set, slice_index_or}
-use Rattle.campaign_server.specs.Server.{numbered}
+use Rattle.wire_base.specs.Numbered.{numbered}
 
 -- the one at a place
 pub zip_get : {A B : Type 0} (R : A → B → Type 0) (xs : List A) (ys : List B) (i : ℕ) (x : A) → AllZip R xs ys → i < length xs → x ≡ slice_index_or xs i x

@@ -3,7 +3,8 @@ use Rattle.std.specs.Prelude.{ℕ, ◌+◌, Bool, true, false, ◌&&◌, ◌||�
 use Rattle.wire_base.specs.Payload.{max_payload}
 use Rattle.frag_model.specs.Limits.{max_pieces}
 use Rattle.frag_encoder.specs.Encoding.{nb_frag_of}
-use Rattle.campaign_server.specs.Server.{ServerState, numbered}
+use Rattle.campaign_server.specs.Server.{ServerState}
+use Rattle.wire_base.specs.Numbered.{numbered}
 use Rattle.campaign_server.specs.Fragments.{next_fragment, status_to_all}
 use Rattle.script_lines.specs.declared.forms.Form.{Form}
 use Rattle.script_lines.specs.declared.forms.Form.TheVariants.{Header, Image, Group, WindowC, WindowB, Device, At, Wake, Migrate, Ask, Frag, Status, Down, Raw, Up}

@@ -14,7 +14,8 @@ use Rattle.device_core.specs.Firmware.{after_migration}
 use Rattle.campaign_server.specs.declared.plan.Kind.{Kind}
 use Rattle.campaign_server.specs.declared.plan.Kind.TheVariants as kind
 use Rattle.campaign_server.specs.Plan.{Plan}
-use Rattle.campaign_server.specs.Server.{DownlinkCommand, first_server, numbered, downlink_of}
+use Rattle.campaign_server.specs.Server.{DownlinkCommand, first_server, downlink_of}
+use Rattle.wire_base.specs.Numbered.{numbered}
 use Rattle.campaign_server.specs.Asking.{request_of}
 use Rattle.campaign_server.specs.Fragments.{next_fragment, after_fragment, status_to_all, after_status_to_all}
 use Rattle.campaign_server.specs.Uplinks.{UplinkStep, uplink_step}

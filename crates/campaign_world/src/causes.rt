@@ -4,7 +4,7 @@ ghost use Rattle.std.specs.Prelude.{◌≡◌, ◌≤◌, ◌<◌, ◌^◌, ℕ,
 ghost use Rattle.script_lines.specs.declared.forms.Form.TheVariants.{Image};
 ghost use Rattle.image_slots.specs.Image.{max_image};
 ghost use Rattle.campaign_world.specs.Causes.{is_event_or_end, may_come, has_ended, fits_script, is_device, names_device, may_reach, is_due_by, has_come, is_to_come, fits_payload};
-ghost use Rattle.campaign_server.specs.Server.{numbered};
+ghost use Rattle.wire_base.specs.Numbered.{numbered};
 
 use crate::numbered::{MadeUplink, SentPayload, numbered};
 use crate::section::Section;

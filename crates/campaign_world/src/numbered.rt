@@ -2,7 +2,7 @@
 
 ghost use Rattle.std.specs.Prelude.{◌≡◌, ◌<◌, ◌^◌, length};
 ghost use Rattle.std.specs.Option.{option_map};
-ghost use Rattle.campaign_server.specs.Server.{numbered};
+ghost use Rattle.wire_base.specs.Numbered.{numbered};
 
 use device_core::Uplink;
 use package_grammar::Downlink;

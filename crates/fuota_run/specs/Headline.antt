@@ -11,7 +11,7 @@ use Rattle.device_core.specs.Events.{CameInTurn}
 use Rattle.campaign_laws.specs.Verdicts.{Carries, IsToldOf, IsSessionOf}
 use Rattle.campaign_laws.specs.Accepted.{IsCampaignOf}
 use Rattle.campaign_server.specs.declared.stage.Stage.{Stage}
-use Rattle.campaign_server.specs.Server.{numbered}
+use Rattle.wire_base.specs.Numbered.{numbered}
 use Rattle.frag_session.specs.Session.{Session}
 use Rattle.frag_session.specs.FirstMoment.{IsDecidedAtFirst}
 use Rattle.fuota_run.specs.declared.status.Status.{Status}

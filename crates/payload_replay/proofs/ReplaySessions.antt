@@ -2,7 +2,7 @@
 -- hears what the lines carry.
 use Rattle.std.proofs.Common.{◌≡◌, ℕ, ◌+◌, List, [], ◌∷◌, drop, Some, Result, Ok, Err, refl, sym, subst, arith}
 use Rattle.device_core.specs.Device.{DeviceState}
-use Rattle.campaign_server.specs.Server.{numbered}
+use Rattle.wire_base.specs.Numbered.{numbered}
 use Rattle.campaign_world.specs.declared.faults.LineWhy.{LineWhy}
 use Rattle.campaign_world.specs.declared.faults.LineFault.{LineFault}
 use Rattle.payload_replay.specs.PayloadLines.{payload_of, BehindLine, TakesLines}

@@ -14,7 +14,7 @@ use Rattle.package_grammar.specs.declared.command.Command.{Command}
 use Rattle.package_grammar.specs.declared.command.Command.TheVariants.{Cast}
 use Rattle.package_grammar.specs.Grammar.{IsMessage}
 use Rattle.script_lines.specs.Lines.{lines_of}
-use Rattle.campaign_server.specs.Server.{numbered}
+use Rattle.wire_base.specs.Numbered.{numbered}
 use Rattle.device_core.specs.SessionTable.{session_at}
 use Rattle.device_core.specs.Device.{DeviceState}
 use Rattle.device_core.specs.Events.{CameInTurn}

@@ -1,3 +1,4 @@
+pub mod Numbered
 pub mod Numbers
 pub mod Payload
 pub mod Rows

@@ -1,7 +1,8 @@
 //! Events, over the server that the plan's end made.
 
 ghost use Rattle.std.specs.Prelude.{◌≡◌, ◌≤◌, ◌<◌, ◌+◌, ◌-◌, ◌++◌, true, length, None, Some, Ok, Err, IfOk, OnOk, OnErr, vec_len, vec_capacity};
-ghost use Rattle.campaign_server.specs.Server.{ServerState, numbered};
+ghost use Rattle.campaign_server.specs.Server.{ServerState};
+ghost use Rattle.wire_base.specs.Numbered.{numbered};
 ghost use Rattle.script_lines.specs.Limits.{max_lines};
 ghost use Rattle.script_lines.specs.Ranges.{in_range};
 ghost use Rattle.campaign_world.specs.Causes.{is_event_or_end, names_device, has_come, fits_payload};

@@ -1,5 +1,6 @@
 use Rattle.std.proofs.Common.{◌≡◌, ◌≤◌, List, length, ap, Some, sym, ◌∙◌, subst}
-use Rattle.campaign_server.specs.Server.{ServerState, numbered}
+use Rattle.campaign_server.specs.Server.{ServerState}
+use Rattle.wire_base.specs.Numbered.{numbered}
 use Rattle.campaign_world.specs.declared.numbered.SentPayload.{SentPayload}
 use Rattle.campaign_world.specs.HeldWorld.{HeldWorld}
 use Rattle.campaign_world.proofs.Outcomes.{on_ok, on_ok_then}

@@ -1,7 +1,7 @@
 use Rattle.std.proofs.Common.{◌≡◌, ◌∙◌, List, Ok, Err, IfOk, IfErr, Option, sym, ap, subst}
 use Rattle.device_core.specs.Device.{DeviceState}
 use Rattle.device_core.specs.HeldDevice.{HeldDevice}
-use Rattle.campaign_server.specs.Server.{numbered}
+use Rattle.wire_base.specs.Numbered.{numbered}
 use Rattle.campaign_world.specs.HeldWorld.{DeviceRests}
 use Rattle.campaign_world.specs.Recovery.{recovery_by, recovery}
 use Rattle.campaign_world.proofs.Steps.{some_now, none_now}
