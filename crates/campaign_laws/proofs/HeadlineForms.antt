@@ -25,7 +25,7 @@ use Rattle.script_lines.specs.declared.forms.Form.TheVariants.{Header, Image, Gr
 use Rattle.script_lines.specs.Ranges.{in_range, is_device as ranged}
 use Rattle.campaign_world.specs.declared.section.Section.{Section}
 use Rattle.campaign_world.specs.declared.section.Section.TheVariants as section
-use Rattle.campaign_world.specs.declared.faults.LineWhy.{LineWhy}
+use Rattle.report_lines.specs.declared.faults.LineWhy.{LineWhy}
 use Rattle.campaign_world.specs.declared.numbered.SentPayload.{SentPayload}
 use Rattle.campaign_world.specs.declared.numbered.MadeUplink.{MadeUplink}
 use Rattle.campaign_world.specs.World.{WorldState}

@@ -21,12 +21,15 @@ use Rattle.wire_base.specs.Numbered.{numbered}
 use Rattle.campaign_server.specs.Asking.{fragments_request}
 use Rattle.script_lines.specs.Lines.{lines_of}
 use Rattle.campaign_world.specs.World.{WorldState}
-use Rattle.campaign_world.specs.Report.{◌⧺◌, image_line, device_line, counts_line, same_word, verdict_text, session_text, session_line, session_lines, device_part, device_parts, report_of}
+use Rattle.campaign_world.specs.Report.{report_of}
+use Rattle.campaign_laws.specs.Told.{report_over}
+use Rattle.campaign_laws.proofs.Told.{report_parted}
+use Rattle.report_lines.specs.Sessions.{same, same_word, verdict_text, session_text, session_line, session_lines}
 use Rattle.campaign_world.specs.Script.{campaign_of}
 use Rattle.campaign_world.specs.Recovery.{file_by, file_of, recovery_by, recovery}
 use Rattle.campaign_laws.specs.Recovers.{RecoversTheImage}
 use Rattle.campaign_world.specs.Honest.{IsHonest}
-use Rattle.campaign_laws.specs.Headline.{WholeAt, HasNoOther, IsOfItsLine, IsFragmentOf, IsServed, Brings, CameInOrder, setup_command, HearsBrought, text_before, text_behind, IsRecovered, IsReported, IsCampaign, Headline}
+use Rattle.campaign_laws.specs.Headline.{WholeAt, HasNoOther, IsOfItsLine, IsFragmentOf, IsServed, Brings, CameInOrder, setup_command, HearsBrought, IsRecovered, IsReported, IsCampaign, Headline}
 use Rattle.campaign_laws.proofs.HeadlineCommands.{Cut, cut_of, setup_request}
 use Rattle.campaign_laws.proofs.HeadlineEnds.{IsSetFor, IsServerOf}
 use Rattle.campaign_server.proofs.LineItems.{if_some}
@@ -152,82 +155,20 @@ recovered image script world id stage device session c =
 
 -- the report over a device that has no session but the first
 alone_lines : (sent : List ℕ) (all : SessionTable) (session : Session) → all.first ≡ Some session → HasNoOther all
-    → session_lines sent all ≡ session_line sent 0 (Some (seen_of session))
+    → session_lines (same sent) all ≡ session_line (same sent) 0 (Some (seen_of session))
 unfolding view_of
 alone_lines sent all session is none = rw (is, none.second, none.third, none.fourth) (append-nil _)
-
--- the parts of devices are those before one, its own and those behind it
-parts_split : (image : List ℕ) (k from id : ℕ) (stages : List Stage) (devices : List DeviceState) (stage : Stage)
-    (device : DeviceState) → slice_get stages k ≡ Some stage → slice_get devices k ≡ Some device → from + k ≡ id
-    → device_parts image from stages devices
-    ≡ device_parts image from (take k stages) (take k devices)
-    ++ (device_part image id stage device ++ device_parts image (id + 1) (drop (suc k) stages) (drop (suc k) devices))
-unfolding device_parts
-parts_split image k from id [] devices stage device s d is = absurd cc
-parts_split image k from id (x ∷ xs) [] stage device s d is = absurd cc
-parts_split image zero from id (x ∷ xs) (y ∷ ys) stage device s d is =
-    let one : x ≡ stage = cc in
-    let two : y ≡ device = cc in
-    let same : from ≡ id = omega (arith, is) in
-    ap (λ (a : Stage). device_part image from a y ++ device_parts image (from + 1) xs ys) one
-    ∙ ap (λ (b : DeviceState). device_part image from stage b ++ device_parts image (from + 1) xs ys) two
-    ∙ ap (λ (n : ℕ). device_part image n stage device ++ device_parts image (n + 1) xs ys) same
-parts_split image (suc k) from id (x ∷ xs) (y ∷ ys) stage device s d is =
-    ap (λ (t : List ℕ). device_part image from x y ++ t)
-    (parts_split image k (from + 1) id xs ys stage device s d (omega (arith, is)))
-    ∙ sym (append_assoc (device_part image from x y) (device_parts image (from + 1) (take k xs) (take k ys))
-    (device_part image id stage device ++ device_parts image (id + 1) (drop (suc k) xs) (drop (suc k) ys)))
-
--- the report in which these are the lines of the sessions of device id
-abbrev report_over : WorldState → (id : ℕ) → Stage → DeviceState → List ℕ → List ℕ
-report_over world id stage device sessions =
-    text_before world id ⧺ device_line id stage device ⧺ counts_line device.counts ⧺ sessions ⧺ text_behind world id
-
--- texts, one behind another
-parts_on : (a b p x y z q end : List ℕ)
-    → a ++ (b ++ ((p ++ ((x ++ (y ++ z)) ++ q)) ++ end)) ≡ (a ++ (b ++ p)) ++ (x ++ (y ++ (z ++ (q ++ end))))
-parts_on a b p x y z q end =
-    let inner : ((x ++ (y ++ z)) ++ q) ++ end ≡ x ++ (y ++ (z ++ (q ++ end))) =
-    append_assoc (x ++ (y ++ z)) q end ∙ append_assoc x (y ++ z) (q ++ end)
-    ∙ ap (λ (t : List ℕ). x ++ t) (append_assoc y z (q ++ end)) in
-    let whole : (p ++ ((x ++ (y ++ z)) ++ q)) ++ end ≡ p ++ (x ++ (y ++ (z ++ (q ++ end)))) =
-    append_assoc p ((x ++ (y ++ z)) ++ q) end ∙ ap (λ (t : List ℕ). p ++ t) inner in
-    ap (λ (t : List ℕ). a ++ (b ++ t)) whole
-    ∙ ap (λ (t : List ℕ). a ++ t) (sym (append_assoc b p (x ++ (y ++ (z ++ (q ++ end))))))
-    ∙ sym (append_assoc a (b ++ p) (x ++ (y ++ (z ++ (q ++ end)))))
-
-item_by : {A : Type 0} (xs : List A) (id : ℕ) (x : A) (b : Bool) → (id == 0) ≡ b
-    → cond b None (slice_get xs (id - 1)) ≡ Some x → (slice_get xs (id - 1) ≡ Some x) × (1 ≤ id)
-item_by xs id x true is there = absurd cc
-item_by xs zero x false is there = absurd cc
-item_by xs (suc id) x false is there = (there, omega arith)
 
 report_is : (world : WorldState) (id : ℕ) (stage : Stage) (device : DeviceState) (session : Session)
     → ledger world.server id ≡ Some stage → numbered world.devices id ≡ Some device
     → device.sessions.first ≡ Some session → HasNoOther device.sessions
-    → report_of world ≡ report_over world id stage device (session_line world.server.image 0 (Some (seen_of session)))
-unfolding report_of
+    → report_of world ≡ report_over world id stage device (session_line (same world.server.image) 0 (Some (seen_of session)))
 report_is world id stage device session s d e none =
-    let image : List ℕ = world.server.image in
-    let stages : List Stage = world.server.stages in
-    let there = item_by stages id stage (id == 0) refl s in
-    let here = item_by world.devices id device (id == 0) refl d in
-    let at : suc (id - 1) ≡ id = omega (arith, there.1) in
-    let split = parts_split image (id - 1) 1 id stages world.devices stage device there.0 here.0 (omega (arith, there.1)) in
-    let moved : device_parts image 1 stages world.devices
-    ≡ device_parts image 1 (take (id - 1) stages) (take (id - 1) world.devices)
-    ++ (device_part image id stage device ++ device_parts image (id + 1) (drop id stages) (drop id world.devices)) =
-    split ∙ ap (λ (k : ℕ). device_parts image 1 (take (id - 1) stages) (take (id - 1) world.devices)
-    ++ (device_part image id stage device ++ device_parts image (id + 1) (drop k stages) (drop k world.devices))) at in
-    ap (λ (t : List ℕ). codes "fuota report 1\n" ++ (image_line world.server ++ (t ++ codes "end\n"))) moved
-    ∙ parts_on (codes "fuota report 1\n") (image_line world.server)
-    (device_parts image 1 (take (id - 1) stages) (take (id - 1) world.devices))
-    (device_line id stage device) (counts_line device.counts) (session_lines image device.sessions)
-    (device_parts image (id + 1) (drop id stages) (drop id world.devices)) (codes "end\n")
-    ∙ ap (report_over world id stage device) (alone_lines image device.sessions session e none)
+    report_parted world id stage device s d
+    ∙ ap (report_over world id stage device) (alone_lines world.server.image device.sessions session e none)
 
 line_is : (sent : List ℕ) (seen : Seen) (v : Verdict) → seen.verdict ≡ v
-    → session_line sent 0 (Some seen) ≡ session_text 0 seen.received seen.missing
+    → session_line (same sent) 0 (Some seen) ≡ session_text 0 seen.received seen.missing
     (verdict_text v (same_word (bytes_eq seen.file sent)))
 line_is sent seen v is =
     ap (λ (x : Verdict). session_text 0 seen.received seen.missing

@@ -17,7 +17,7 @@ use Rattle.row_elimination.specs.Grid.{max_line_words}
 use Rattle.script_lines.specs.Lines.{lines_of}
 use Rattle.campaign_world.specs.declared.section.Section.{Section}
 use Rattle.campaign_world.specs.declared.section.Section.TheVariants as section
-use Rattle.campaign_world.specs.declared.faults.LineFault.{LineFault}
+use Rattle.report_lines.specs.declared.faults.LineFault.{LineFault}
 use Rattle.campaign_world.specs.World.{WorldState, first_world}
 use Rattle.campaign_world.specs.Script.{read_lines, end_result_at, end_result, campaign_of}
 use Rattle.campaign_world.specs.Honest.{IsHonest}

@@ -17,8 +17,8 @@ use Rattle.script_lines.specs.declared.forms.Form.{Form}
 use Rattle.script_lines.specs.declared.forms.Form.TheVariants.{Header, Image, Group, WindowC, WindowB, Device, At, Wake, Migrate, Ask, Frag, Status, Down, Raw, Up, End}
 use Rattle.script_lines.specs.Lines.{lines_of}
 use Rattle.script_lines.specs.Forms.{form_of}
-use Rattle.campaign_world.specs.declared.faults.LineWhy.{LineWhy}
-use Rattle.campaign_world.specs.declared.faults.LineFault.{LineFault}
+use Rattle.report_lines.specs.declared.faults.LineWhy.{LineWhy}
+use Rattle.report_lines.specs.declared.faults.LineFault.{LineFault}
 use Rattle.campaign_world.specs.declared.numbered.SentPayload.{SentPayload}
 use Rattle.campaign_world.specs.declared.numbered.MadeUplink.{MadeUplink}
 use Rattle.campaign_world.specs.World.{WorldState, first_world}

@@ -1,3 +1,4 @@
+pub mod Told
 pub mod Configured
 pub mod HeadlineCommands
 pub mod HeadlinePayloads

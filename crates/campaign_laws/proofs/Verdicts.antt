@@ -23,13 +23,13 @@ use Rattle.campaign_world.specs.declared.numbered.SentPayload.{SentPayload}
 use Rattle.campaign_world.specs.World.{WorldState}
 use Rattle.campaign_world.specs.Making.{raw_down, device_of}
 use Rattle.campaign_world.specs.Script.{campaign_of}
-use Rattle.campaign_world.specs.Report.{same_word, verdict_text, session_text, session_line}
+use Rattle.report_lines.specs.Sessions.{same_word, verdict_text, session_text, session_line}
 use Rattle.campaign_world.specs.Recovery.{file_by, file_of, recovery_by, recovery}
 use Rattle.device_core.specs.Events.{Event, Wakes, Receives, Migrates, after_event}
 use Rattle.campaign_laws.specs.Independence.{device_in, first_devices, time_after, reception, event_in, history_of}
 use Rattle.device_core.specs.Events.{CameInTurn}
 use Rattle.campaign_laws.specs.Verdicts.{Carries, IsToldOf, IsSessionOf, Verdicts}
-use Rattle.campaign_world.specs.Report.{saying}
+use Rattle.report_lines.specs.Sessions.{saying}
 use Rattle.campaign_server.proofs.LineItems.{if_some, numbered_next, within}
 use Rattle.campaign_laws.proofs.Independence.{devices_are_independent, folded}
 use Rattle.device_core.proofs.HeardSessions.{IsFine, of_one, AreFine, AreCarried, fine_later, delivery_fine, waking_fine, migration_fine}
@@ -194,24 +194,36 @@ decided image script world id device index s r =
 
 -- ---- its line
 
--- the line by its verdict
-by_verdict : (image : List ℕ) (index : ℕ) (seen : Seen) (v : Verdict) → seen.verdict ≡ v
-    → session_line image index (Some seen)
-    ≡ session_text index seen.received seen.missing (verdict_text v (same_word (bytes_eq seen.file image)))
-by_verdict image index seen v is =
-    ap (λ (x : Verdict). session_text index seen.received seen.missing (verdict_text x (same_word (bytes_eq seen.file image)))) is
-
-told_of : (image : List ℕ) (index : ℕ) (s : Session) → IsDecidedAtFirst s → IsToldOf image index s
-told_of image index s d =
+-- the report by its verdict
+by_verdict : (world : WorldState) (id : ℕ) (stage : Stage) (device : DeviceState) (index : ℕ) (s : Session) (v : Verdict)
+    → ledger world.server id ≡ Some stage → numbered world.devices id ≡ Some device → index < 4
+    → session_at device.sessions index ≡ Some s → (seen_of s).verdict ≡ v
+    → report_of world ≡ report_with_line world id stage device index
+    (saying index s (verdict_text v (same_word (bytes_eq (seen_of s).file world.server.image))))
+unfolding view_of
+by_verdict world id stage device index s v stage_is device_is small here is =
+    let image : List ℕ = world.server.image in
     let seen : Seen = seen_of s in
+    line_parted world id stage device index s
+    (saying index s (verdict_text v (same_word (bytes_eq seen.file image)))) stage_is device_is small
+    (ap (λ (o : Option Session). session_line (same image) index (view_of o)) here
+    ∙ ap (λ (x : Verdict). session_text index seen.received seen.missing (verdict_text x (same_word (bytes_eq seen.file image)))) is)
+
+told_of : (world : WorldState) (id : ℕ) (stage : Stage) (device : DeviceState) (index : ℕ) (s : Session)
+    → ledger world.server id ≡ Some stage → numbered world.devices id ≡ Some device → index < 4
+    → session_at device.sessions index ≡ Some s → IsDecidedAtFirst s → IsToldOf world id stage device index s
+told_of world id stage device index s stage_is device_is small here d =
+    let image : List ℕ = world.server.image in
+    let by = λ (v : Verdict). by_verdict world id stage device index s v stage_is device_is small here in
     record {
       complete = λ line file at.
-          by_verdict image index seen (verdict.Complete line) ((d.complete line).1 (file, at))
-          ∙ ap (λ (f : List ℕ). saying index s (codes "complete at " ++ (decimal line ++ same_word (bytes_eq f image))))
+          by (verdict.Complete line) ((d.complete line).1 (file, at))
+          ∙ ap (λ (f : List ℕ). report_with_line world id stage device index
+          (saying index s (codes "complete at " ++ (decimal line ++ same_word (bytes_eq f image)))))
           (d.file line file at);
-      no_rows = λ line at. by_verdict image index seen (verdict.NoRows line) ((d.no_rows line).1 at);
-      conflict = λ line at. by_verdict image index seen (verdict.Conflict line) ((d.conflict line).1 at);
-      receiving = λ stays. by_verdict image index seen verdict.Receiving (d.receiving.1 stays);
+      no_rows = λ line at. by (verdict.NoRows line) ((d.no_rows line).1 at);
+      conflict = λ line at. by (verdict.Conflict line) ((d.conflict line).1 at);
+      receiving = λ stays. by verdict.Receiving (d.receiving.1 stays);
     }
 
 -- ---- the file that is recovered
@@ -252,7 +264,7 @@ verdicts = record {
       let fine = session_fine image script world id device index s r in
       in_the_script (lines_of script) world.sent id index fine.0 s.heard fine.1.came;
   decided = decided;
-  told = λ image script world id device index s r.
-      told_of world.server.image index s (decided image script world id device index s r);
+  told = λ image script world id stage device index s r stage_is.
+      told_of world id stage device index s stage_is r.device_is r.index_is r.session_is (decided image script world id device index s r);
   recovered = recovered;
 }

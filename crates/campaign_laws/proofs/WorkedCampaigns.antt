@@ -32,7 +32,7 @@ use Rattle.campaign_world.specs.Causes.{form_cause, cause_of}
 use Rattle.campaign_world.specs.Making.{with_device, after_form}
 use Rattle.campaign_world.specs.Script.{after_line, read_line, read_lines, campaign_of}
 use Rattle.campaign_world.specs.Report.{device_parts, report_of}
-use Rattle.campaign_laws.specs.WorkedCampaigns.{AreReported, AreRefused, AreWords}
+use Rattle.campaign_laws.specs.WorkedCampaigns.{AreReported, AreRefused}
 
 pub refused_so : AreRefused
 unfolding campaign_of read_lines read_line after_line cause_of form_cause in_range after_form with_device lines_of words_of word decimal_of key_of hex_number_of hex_bytes_of decode_pairs form_of next_fragment after_fragment status_to_all after_status_to_all request_of request_at
@@ -78,32 +78,4 @@ reported_so = record {
   formats = refl;
   group = refl;
   strangers = refl;
-}
-
-pub words_are : AreWords
-unfolding digits
-words_are = record {
-  version = refl;
-  group = refl;
-  fragments = refl;
-  window = refl;
-  status = refl;
-  image = refl;
-  reboot = refl;
-  check = refl;
-  updated = refl;
-  refused_with_bits = refl;
-  no_next = refl;
-  corrupt = refl;
-  incompatible = refl;
-  valid = refl;
-  device = refl;
-  counts = refl;
-  session = refl;
-  receiving = refl;
-  complete = refl;
-  no_rows = refl;
-  conflict = refl;
-  same = refl;
-  other = refl;
 }

@@ -36,11 +36,13 @@ use Rattle.script_lines.specs.declared.forms.Form.TheVariants.{Device, Down}
 use Rattle.script_lines.specs.Lines.{lines_of}
 use Rattle.script_lines.specs.Forms.{form_of}
 use Rattle.campaign_world.specs.declared.numbered.SentPayload.{SentPayload}
-use Rattle.campaign_world.specs.declared.faults.LineFault.{LineFault}
+use Rattle.report_lines.specs.declared.faults.LineFault.{LineFault}
 use Rattle.campaign_world.specs.World.{WorldState, first_world}
 use Rattle.campaign_world.specs.Script.{read_lines, campaign_of}
 use Rattle.campaign_world.specs.Honest.{IsHonest}
-use Rattle.campaign_world.specs.Report.{◌⧺◌, image_line, device_line, counts_line, session_text, device_parts, report_of}
+use Rattle.campaign_world.specs.Report.{report_of}
+use Rattle.campaign_laws.specs.Told.{report_over}
+use Rattle.report_lines.specs.Sessions.{session_text}
 
 -- ---- what the session of a campaign is, and what it hears
 
@@ -156,21 +158,10 @@ pub record IsRecovered (image : List ℕ) (s : Session) : Type 0 where
 
 -- ---- what the report says
 
--- the report before the part of a device, and behind it
-abbrev pub text_before : WorldState → (id : ℕ) → List ℕ
-text_before world id =
-    codes "fuota report 1\n" ⧺ image_line world.server
-    ⧺ device_parts world.server.image 1 (take (id - 1) world.server.stages) (take (id - 1) world.devices)
-
-abbrev pub text_behind : WorldState → (id : ℕ) → List ℕ
-text_behind world id =
-    device_parts world.server.image (id + 1) (drop id world.server.stages) (drop id world.devices) ⧺ codes "end\n"
-
 -- the report in which this is said of the verdict of the one session of device id
 abbrev pub report_saying : WorldState → (id : ℕ) → Stage → DeviceState → Seen → List ℕ → List ℕ
 report_saying world id stage device seen words =
-    text_before world id ⧺ device_line id stage device ⧺ counts_line device.counts
-    ⧺ session_text session_index seen.received seen.missing words ⧺ text_behind world id
+    report_over world id stage device (session_text session_index seen.received seen.missing words)
 
 -- what is said of a session that is complete from a line on, with the server's image as its file
 abbrev pub complete_words : ℕ → List ℕ

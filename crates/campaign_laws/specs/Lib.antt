@@ -1,3 +1,4 @@
+pub mod Told
 pub mod Headline
 pub mod Lives
 pub mod WorkedCampaigns

@@ -16,14 +16,18 @@ use Rattle.package_grammar.specs.Grammar.{IsMessage}
 use Rattle.device_core.specs.SessionTable.{session_at}
 use Rattle.device_core.specs.Device.{DeviceState}
 use Rattle.device_core.specs.Events.{Receives, CameInTurn}
+use Rattle.campaign_server.specs.declared.stage.Stage.{Stage}
+use Rattle.campaign_server.specs.Server.{ledger}
 use Rattle.wire_base.specs.Numbered.{numbered}
 use Rattle.script_lines.specs.Lines.{lines_of}
 use Rattle.script_lines.specs.Forms.{form_of}
 use Rattle.campaign_world.specs.declared.numbered.SentPayload.{SentPayload}
 use Rattle.campaign_world.specs.World.{WorldState}
 use Rattle.campaign_world.specs.Script.{campaign_of}
-use Rattle.campaign_world.specs.Report.{same_word, saying, session_line}
+use Rattle.report_lines.specs.Sessions.{same_word, saying}
+use Rattle.campaign_world.specs.Report.{report_of}
 use Rattle.campaign_world.specs.Recovery.{recovery}
+use Rattle.campaign_laws.specs.Told.{report_with_line}
 use Rattle.campaign_laws.specs.Independence.{event_in}
 
 -- ---- what a session heard
@@ -41,19 +45,21 @@ Carries lines sent id n c = (line : List ℕ) × (time : ℕ) × (word : ℕ) ×
 
 -- ---- what the report says of it
 
-pub record IsToldOf (image : List ℕ) (index : ℕ) (s : Session) : Type 0 where
+-- the report, with this line in its place, between those of the other sessions
+pub record IsToldOf (world : WorldState) (id : ℕ) (stage : Stage) (device : DeviceState) (index : ℕ) (s : Session) : Type 0 where
   -- where some fragment is the first after which one file alone fits: its line, and whether that file is the server's image
   pub complete : (line : ℕ) (file : List ℕ) → FirstAt (shape_of s) s.setup.padding (IsWhole (shape_of s) s.setup.padding file) s.heard line
-      → session_line image index (Some (seen_of s)) ≡ saying index s (codes "complete at " ++ (decimal line ++ same_word (bytes_eq file image)))
+      → report_of world ≡ report_with_line world id stage device index
+      (saying index s (codes "complete at " ++ (decimal line ++ same_word (bytes_eq file world.server.image))))
   -- where one is the first after which independent coded fragments exceed the rows: its line
   pub no_rows : (line : ℕ) → FirstAt (shape_of s) s.setup.padding (Overflows (shape_of s) s.setup.padding) s.heard line
-      → session_line image index (Some (seen_of s)) ≡ saying index s (codes "norows at " ++ decimal line)
+      → report_of world ≡ report_with_line world id stage device index (saying index s (codes "norows at " ++ decimal line))
   -- where one is the first after which no file fits: its line
   pub conflict : (line : ℕ) → FirstAt (shape_of s) s.setup.padding (NoFileFits (shape_of s) s.setup.padding) s.heard line
-      → session_line image index (Some (seen_of s)) ≡ saying index s (codes "conflict at " ++ decimal line)
+      → report_of world ≡ report_with_line world id stage device index (saying index s (codes "conflict at " ++ decimal line))
   -- and until then that it is open
   pub receiving : AfterEach (IsOpen (shape_of s) s.setup.padding) s.heard
-      → session_line image index (Some (seen_of s)) ≡ saying index s (codes "receiving")
+      → report_of world ≡ report_with_line world id stage device index (saying index s (codes "receiving"))
 
 -- ---- the law
 
@@ -73,9 +79,10 @@ pub record Verdicts : Type 0 where
   -- it is decided at the first fragment after which its file is no longer open
   pub decided : (image script : List ℕ) (world : WorldState) (id : ℕ) (device : DeviceState) (index : ℕ) (s : Session)
       → IsSessionOf image script world id device index s → IsDecidedAtFirst s
-  -- the report says so
-  pub told : (image script : List ℕ) (world : WorldState) (id : ℕ) (device : DeviceState) (index : ℕ) (s : Session)
-      → IsSessionOf image script world id device index s → IsToldOf world.server.image index s
+  -- the report says so, in its place
+  pub told : (image script : List ℕ) (world : WorldState) (id : ℕ) (stage : Stage) (device : DeviceState) (index : ℕ) (s : Session)
+      → IsSessionOf image script world id device index s → ledger world.server id ≡ Some stage
+      → IsToldOf world id stage device index s
   -- and the file that is recovered is the one that alone fits
   pub recovered : (image script : List ℕ) (world : WorldState) (id : ℕ) (device : DeviceState) (s : Session) (file : List ℕ)
       → IsSessionOf image script world id device 0 s → recovery world id ≡ Ok file

@@ -1,17 +1,13 @@
 -- Campaigns worked out: their reports, and the first refused lines of scripts.
 use Rattle.std.specs.Prelude.{◌≡◌, ℕ, true, false, List, [], ◌∷◌, ◌++◌, map, replicate, codes, Some, Result, Ok, Err}
-use Rattle.frag_session.specs.declared.answers.Verdict.TheVariants as verdict
-use Rattle.image_slots.specs.declared.view.ImageState.TheVariants as next
 use Rattle.image_slots.specs.WorkedImages.{worked_image, ranged_image}
-use Rattle.campaign_server.specs.declared.stage.Stage.TheVariants.{At, Updated, Refused}
-use Rattle.campaign_server.specs.declared.stage.Request.TheVariants as request
-use Rattle.campaign_world.specs.declared.faults.LineFault.{LineFault}
-use Rattle.campaign_world.specs.declared.faults.LineWhy.{LineWhy}
-use Rattle.campaign_world.specs.declared.faults.LineWhy.TheVariants as why
+use Rattle.report_lines.specs.declared.faults.LineFault.{LineFault}
+use Rattle.report_lines.specs.declared.faults.LineWhy.{LineWhy}
+use Rattle.report_lines.specs.declared.faults.LineWhy.TheVariants as why
 use Rattle.campaign_world.specs.World.{WorldState}
 use Rattle.campaign_world.specs.Causes.{is_due_by}
 use Rattle.campaign_world.specs.Script.{campaign_of}
-use Rattle.campaign_world.specs.Report.{stage_text, next_text, device_text, counts_line, same_word, verdict_text, session_text, report_of}
+use Rattle.campaign_world.specs.Report.{report_of}
 
 abbrev pub report_or_fault : Result WorldState LineFault → Result (List ℕ) LineFault
 report_or_fault (Ok world) = Ok (report_of world)
@@ -115,31 +111,3 @@ pub record AreRefused : Type 0 where
   -- an uplink comes when it is due, and not before
   pub due : is_due_by 6 (Some (record { device = 1; uplink = record { due = 6; port = 202; payload = [] } })) ≡ true
   pub not_due : is_due_by 5 (Some (record { device = 1; uplink = record { due = 6; port = 202; payload = [] } })) ≡ false
-
--- the words of a report
-pub record AreWords : Type 0 where
-  pub version : stage_text (At request.Version) ≡ codes "version"
-  pub group : stage_text (At request.Group) ≡ codes "group"
-  pub fragments : stage_text (At request.Fragments) ≡ codes "fragments"
-  pub window : stage_text (At request.Window) ≡ codes "window"
-  pub status : stage_text (At request.Status) ≡ codes "status"
-  pub image : stage_text (At request.Image) ≡ codes "image"
-  pub reboot : stage_text (At request.Reboot) ≡ codes "reboot"
-  pub check : stage_text (At request.Check) ≡ codes "check"
-  pub updated : stage_text Updated ≡ codes "updated"
-  pub refused_with_bits : stage_text (Refused request.Window 28) ≡ codes "refused window 28"
-  pub no_next : next_text next.None ≡ codes "none"
-  pub corrupt : next_text next.Corrupt ≡ codes "corrupt"
-  pub incompatible : next_text next.Incompatible ≡ codes "incompatible"
-  pub valid : next_text (next.Valid 2) ≡ codes "valid 2"
-  pub device : device_text 3 (codes "check") 4294967295 15 2 (codes "none")
-      ≡ codes "device 3 check clock 4294967295 token 15 running 2 next none\n"
-  pub counts : counts_line (record { deaf = 1; refused = 2; full = 3; dropped = 4 })
-      ≡ codes "counts deaf 1 refused 2 full 3 dropped 4\n"
-  pub session : session_text 0 16383 255 (codes "receiving") ≡ codes "session 0 received 16383 missing 255 receiving\n"
-  pub receiving : verdict_text verdict.Receiving (codes " same") ≡ codes "receiving"
-  pub complete : verdict_text (verdict.Complete 18) (codes " same") ≡ codes "complete at 18 same"
-  pub no_rows : verdict_text (verdict.NoRows 18) (codes " same") ≡ codes "norows at 18"
-  pub conflict : verdict_text (verdict.Conflict 18) (codes " same") ≡ codes "conflict at 18"
-  pub same : same_word true ≡ codes " same"
-  pub other : same_word false ≡ codes " other"

@@ -6,7 +6,7 @@ ghost use Rattle.campaign_laws.specs.Independence.{DevicesAreIndependent};
 ghost use Rattle.campaign_laws.specs.Ledger.{TheLedgerIsTrue};
 ghost use Rattle.campaign_laws.specs.Recovers.{RecoversTheImage, RecoversItsOwn};
 ghost use Rattle.campaign_laws.specs.Verdicts.{Verdicts};
-ghost use Rattle.campaign_laws.specs.WorkedCampaigns.{AreRefused, AreReported, AreWords};
+ghost use Rattle.campaign_laws.specs.WorkedCampaigns.{AreRefused, AreReported};
 ghost use Rattle.campaign_laws.specs.Accepted.{AllSeedsHaveCampaigns};
 ghost use Rattle.campaign_laws.specs.Once.{MovesOnce, PastMovesNone};
 
@@ -41,11 +41,10 @@ pub fn sessions_live()
     ensures { SessionsLive }
 {}
 
-/// Campaigns that are worked out have these reports, and these first refused lines; and the words of a report.
+/// Campaigns that are worked out have these reports, and these first refused lines.
 pub fn worked_campaigns()
     ensures reported { AreReported }
     ensures refused { AreRefused }
-    ensures words { AreWords }
 {}
 
 /// Whatever image and accepted script there are: the record of each device is its own first one, behind the events of the

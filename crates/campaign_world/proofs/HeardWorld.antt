@@ -5,11 +5,11 @@ use Rattle.std.proofs.lemmas.List.{take_all, length-take}
 use Rattle.script_lines.specs.Lines.{lines_of}
 use Rattle.script_lines.specs.Pieces.{cut, cut_lines}
 use Rattle.script_lines.specs.Hearing.{HearsAll, HearsLines}
-use Rattle.campaign_world.specs.declared.faults.LineWhy.{LineWhy}
-use Rattle.campaign_world.specs.declared.faults.LineWhy.TheVariants as why
-use Rattle.campaign_world.specs.declared.faults.LineFault.{LineFault}
-use Rattle.campaign_world.specs.declared.faults.LineError.{LineError}
-use Rattle.campaign_world.specs.declared.faults.LineError.TheVariants as error
+use Rattle.report_lines.specs.declared.faults.LineWhy.{LineWhy}
+use Rattle.report_lines.specs.declared.faults.LineWhy.TheVariants as why
+use Rattle.report_lines.specs.declared.faults.LineFault.{LineFault}
+use Rattle.report_lines.specs.declared.faults.LineError.{LineError}
+use Rattle.report_lines.specs.declared.faults.LineError.TheVariants as error
 use Rattle.campaign_world.specs.World.{WorldState, first_world}
 use Rattle.campaign_world.specs.Causes.{cause_of}
 use Rattle.campaign_world.specs.Script.{line_result, read_line, read_lines}

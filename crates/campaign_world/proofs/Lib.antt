@@ -1,7 +1,6 @@
 pub mod Zips
 pub mod Outboxes
 pub mod OutboxRoom
-pub mod Outcomes
 pub mod FormCauses
 pub mod Steps
 pub mod Lines

@@ -7,10 +7,10 @@ use Rattle.campaign_server.specs.Server.{ServerState}
 use Rattle.wire_base.specs.Numbered.{numbered}
 use Rattle.script_lines.specs.declared.forms.Form.{Form}
 use Rattle.script_lines.specs.Forms.{form_of}
-use Rattle.campaign_world.specs.declared.faults.LineError.{LineError}
-use Rattle.campaign_world.specs.declared.faults.LineError.TheVariants as error
-use Rattle.campaign_world.specs.declared.faults.LineWhy.{LineWhy}
-use Rattle.campaign_world.specs.declared.faults.LineWhy.TheVariants as why
+use Rattle.report_lines.specs.declared.faults.LineError.{LineError}
+use Rattle.report_lines.specs.declared.faults.LineError.TheVariants as error
+use Rattle.report_lines.specs.declared.faults.LineWhy.{LineWhy}
+use Rattle.report_lines.specs.declared.faults.LineWhy.TheVariants as why
 use Rattle.campaign_world.specs.declared.section.Section.{Section}
 use Rattle.campaign_world.specs.declared.section.Section.TheVariants as section
 use Rattle.campaign_world.specs.World.{WorldState}

@@ -1,5 +1,5 @@
 -- An event at a device that rests leaves at most eight uplinks in its outbox.
-use Rattle.std.proofs.Common.{◌≡◌, ℕ, ◌≤◌, ◌+◌, Bool, true, false, cond, nat_lt, nat_le, List, [], ◌∷◌, ◌++◌, length, map, replicate, get_or, is_none, Option, Some, None, Ok, Err, refl, ap, ◌∙◌, subst, arith}
+use Rattle.std.proofs.Common.{◌≡◌, ℕ, ◌≤◌, ◌+◌, Bool, true, false, cond, nat_lt, nat_le, List, [], ◌∷◌, length, map, replicate, get_or, is_none, Option, Some, None, Ok, Err, refl, ap, ◌∙◌, subst, arith}
 use Rattle.std.proofs.lemmas.Bool.Decides.{nat_tests}
 use Rattle.std.proofs.lemmas.List.{length-append, length-map, length-replicate}
 use Rattle.package_grammar.specs.declared.command.Command.{Command}
@@ -25,7 +25,7 @@ use Rattle.device_core.specs.Step.{command_step, acts, step, after_commands, wei
 use Rattle.device_core.specs.HeldDevice.{HeldDevice, DeviceStands}
 use Rattle.campaign_world.specs.declared.numbered.MadeUplink.{MadeUplink}
 use Rattle.campaign_world.specs.HeldWorld.{numbered_behind}
-use Rattle.campaign_world.proofs.Outboxes.{outbox_is}
+use Rattle.device_core.proofs.Outboxes.{outbox_is}
 use Rattle.device_core.specs.Deliver.{Outcome, message_delivery, read_delivery, heard_delivery, time_asking, delivery, waking}
 
 -- ---- a command

@@ -8,7 +8,7 @@ use Rattle.device_core.specs.Firmware.{after_migration}
 use Rattle.device_core.specs.HeldDevice.{HeldDevice, DeviceStands}
 use Rattle.device_core.specs.declared.config.DeviceConfig.{DeviceConfig}
 use Rattle.campaign_server.specs.Plan.{Plan}
-use Rattle.campaign_world.proofs.Outboxes.{outbox_is}
+use Rattle.device_core.proofs.Outboxes.{outbox_is}
 use Rattle.package_grammar.specs.declared.downlink.Downlink.{Downlink}
 use Rattle.campaign_server.specs.Server.{ServerState, DownlinkCommand, ledger}
 use Rattle.wire_base.specs.Numbered.{numbered}

@@ -8,8 +8,8 @@ use Rattle.wire_base.specs.Numbered.{numbered}
 use Rattle.campaign_server.specs.Fragments.{next_fragment, status_to_all}
 use Rattle.script_lines.specs.declared.forms.Form.{Form}
 use Rattle.script_lines.specs.declared.forms.Form.TheVariants.{Header, Image, Group, WindowC, WindowB, Device, At, Wake, Migrate, Ask, Frag, Status, Down, Raw, Up}
-use Rattle.campaign_world.specs.declared.faults.LineWhy.{LineWhy}
-use Rattle.campaign_world.specs.declared.faults.LineWhy.TheVariants as why
+use Rattle.report_lines.specs.declared.faults.LineWhy.{LineWhy}
+use Rattle.report_lines.specs.declared.faults.LineWhy.TheVariants as why
 use Rattle.campaign_world.specs.declared.section.Section.{Section}
 use Rattle.campaign_world.specs.declared.section.Section.TheVariants as section
 use Rattle.script_lines.specs.Forms.{form_of}

@@ -1,7 +1,7 @@
 -- A world behind the lines that it has heard, whatever came of them.
 use Rattle.std.specs.Prelude.{◌≡◌, ◌⊎◌, ℕ, List, [], ◌∷◌, None, Some, Result, Ok, Err}
-use Rattle.campaign_world.specs.declared.faults.LineError.TheVariants as error
-use Rattle.campaign_world.specs.declared.faults.LineFault.{LineFault}
+use Rattle.report_lines.specs.declared.faults.LineError.TheVariants as error
+use Rattle.report_lines.specs.declared.faults.LineFault.{LineFault}
 use Rattle.campaign_world.specs.World.{WorldState}
 use Rattle.campaign_world.specs.Script.{read_lines}
 use Rattle.campaign_world.specs.HeldWorld.{HeldWorld, WorldStands}

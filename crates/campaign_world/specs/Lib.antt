@@ -9,4 +9,3 @@ pub mod Recovery
 pub mod HeldWorld
 pub mod HeardWorld
 pub mod WorldInside
-pub mod Texts

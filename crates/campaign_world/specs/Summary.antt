@@ -11,7 +11,7 @@ use Rattle.campaign_server.specs.declared.stage.Stage.TheVariants.{Updated}
 use Rattle.campaign_server.specs.Server.{ServerState}
 use Rattle.campaign_world.specs.declared.summary.Totals.{Totals}
 use Rattle.campaign_world.specs.World.{WorldState}
-use Rattle.campaign_world.specs.Report.{◌⧺◌}
+use Rattle.report_lines.specs.Devices.{◌⧺◌}
 
 -- ---- what it counts
 

@@ -150,10 +150,3 @@ fn take_uplinks(id: u8, device: &mut Device, uplinks: &mut Vec<MadeUplink>)
         uplinks.push_reserved(MadeUplink { device: id, uplink });
     }
 }
-
-/// Throws all uplinks of a device away.
-pub fn throw_away(device: &mut Device)
-    ensures { (d : DeviceState) → DeviceStands device.old d → DeviceRests device.new (resting d) }
-{
-    while let Some(_uplink) = device.take_uplink() {}
-}

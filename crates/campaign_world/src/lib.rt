@@ -13,7 +13,6 @@
 
 mod causes;
 mod deliveries;
-mod faults;
 mod hearing;
 mod numbered;
 mod recovery;
@@ -22,8 +21,5 @@ mod section;
 mod summary;
 mod world;
 
-pub use deliveries::throw_away;
-pub use faults::{LineError, LineFault, LineWhy};
 pub use recovery::NoFile;
-pub use report::{counts_line, session_text, sessions_text, verdict_text};
-pub use world::{MAX_LINE, MAX_LINES, World};
+pub use world::World;

@@ -19,7 +19,6 @@ use crate::causes::{
     fits_payload, fits_script, has_come, has_ended, is_event_or_end, is_to_come, may_come,
     names_device,
 };
-use crate::faults::{LineError, LineFault, LineWhy};
 use crate::numbered::{MadeUplink, SentPayload, numbered};
 use crate::recovery::{NoFile, recovered_by};
 use crate::report::report;
@@ -27,15 +26,10 @@ use crate::section::Section;
 use crate::summary::summary;
 use campaign_server::{Plan, Server};
 use device_core::Device;
+use report_lines::{LineError, LineWhy, MAX_LINE, MAX_LINES, refused_behind};
 use script_lines::{Form, form, in_range};
 use std::alloc::{AllocError, Global};
 use std::marker::Model;
-
-/// The most lines of a script.
-pub const MAX_LINES: u32 = 20_000;
-
-/// The most bytes of a line.
-pub const MAX_LINE: usize = 600;
 
 /// A campaign so far. It stands for the histories of all its devices.
 #[derive(Drop)]
@@ -76,10 +70,10 @@ impl Model for World {
 }
 
 impl World {
-    ghost use Rattle.campaign_world.specs.declared.faults.LineError.{LineError};
+    ghost use Rattle.report_lines.specs.declared.faults.LineError.{LineError};
     ghost use Rattle.campaign_world.specs.HeldWorld.{WorldStands, WorldBecomes, KeepsEnds, IsLineAnswer, IsReport, IsSummary, IsEnded, IsFine, IsCauseOf, HasBegun, world_of};
     ghost use Rattle.campaign_world.specs.WorldInside.{IsToJoin, IsToBegin};
-    ghost use Rattle.campaign_world.specs.Texts.{seen_text};
+    ghost use Rattle.report_lines.specs.Texts.{seen_text};
 
     /// A world in which nothing happened yet, around an image file.
     pub fn new(alloc: Global, image: &[u8]) -> Result<Self, AllocError>
@@ -251,10 +245,7 @@ impl World {
     fn fault(&self, why: LineWhy) -> LineError
         ensures { result ≡ LineError.Line (record { line = self.now.lines + 1; why = why }) }
     {
-        LineError::Line(LineFault {
-            line: self.lines + 1,
-            why,
-        })
+        refused_behind(self.lines, why)
     }
 
     /// Carries out a form that is not refused.

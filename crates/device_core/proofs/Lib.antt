@@ -1,3 +1,4 @@
+pub mod Outboxes
 pub mod Deliveries
 pub mod WholeFiles
 pub mod WorkedSteps

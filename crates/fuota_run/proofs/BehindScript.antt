@@ -1,9 +1,9 @@
 -- What is told behind a script's lines.
 use Rattle.std.proofs.Common.{◌≡◌, inl, inr, ℕ, List, Some, None, Result, Ok, Err, sym, subst}
 use Rattle.script_lines.specs.Lines.{lines_of}
-use Rattle.campaign_world.specs.declared.faults.LineFault.{LineFault}
-use Rattle.campaign_world.specs.declared.faults.LineError.{LineError}
-use Rattle.campaign_world.specs.declared.faults.LineError.TheVariants as error
+use Rattle.report_lines.specs.declared.faults.LineFault.{LineFault}
+use Rattle.report_lines.specs.declared.faults.LineError.{LineError}
+use Rattle.report_lines.specs.declared.faults.LineError.TheVariants as error
 use Rattle.campaign_world.specs.World.{WorldState, first_world}
 use Rattle.campaign_world.specs.Script.{read_lines, end_result, campaign_of}
 use Rattle.campaign_world.specs.HeldWorld.{HeldWorld, WorldStands, IsReport}

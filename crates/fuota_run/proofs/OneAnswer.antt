@@ -1,11 +1,11 @@
 -- The words have an answer over the files that are held, and no other.
 use Rattle.std.proofs.Common.{◌≡◌, ℕ, Bool, true, false, nat_lt, List, length, Option, Some, None, Result, refl, sym, ap, ◌∙◌}
-use Rattle.campaign_world.specs.declared.faults.LineFault.{LineFault}
+use Rattle.report_lines.specs.declared.faults.LineFault.{LineFault}
 use Rattle.fuota_run.specs.Limits.{script_limit}
 use Rattle.fuota_run.specs.declared.words.FileForm.{FileForm}
 use Rattle.fuota_run.specs.declared.words.FileForm.TheVariants.{Replay, Decode}
 use Rattle.fuota_run.specs.Outside.{Held}
-use Rattle.payload_replay.specs.PayloadLines.{Telling, TellsOnce, TellsAlways}
+use Rattle.report_lines.specs.Lines.{Telling, TellsOnce, TellsAlways}
 use Rattle.fuota_run.specs.Words.{Asked, plays, payloads, generates, asked}
 use Rattle.fuota_run.specs.Answer.{Answer, usage, read_fault, too_long, campaign_answer, generate_answer, tells, told, IsReadAnswer, IsFileAnswer, IsAnswerTo, IsAnswer, HasOneReply, HasAReply}
 use Rattle.payload_replay.proofs.Payloads.{decode_one, decode_always}

@@ -2,8 +2,8 @@
 use Rattle.std.proofs.Common.{◌≡◌, ℕ, ◌≤◌, Bool, false, nat_lt, List, length, Option, Some, Result, Ok, le-ltb, ap, ◌∙◌, subst}
 use Rattle.device_core.specs.Device.{DeviceState}
 use Rattle.script_lines.specs.Lines.{lines_of}
-use Rattle.campaign_world.specs.declared.faults.LineFault.{LineFault}
-use Rattle.payload_replay.specs.PayloadLines.{told_by}
+use Rattle.report_lines.specs.declared.faults.LineFault.{LineFault}
+use Rattle.report_lines.specs.Lines.{told_by}
 use Rattle.payload_replay.specs.Replay.{Reaches, Replays, replay_text}
 use Rattle.payload_replay.proofs.ReplayLines.{reaches_once}
 use Rattle.fuota_run.specs.declared.words.FileForm.TheVariants.{Replay}

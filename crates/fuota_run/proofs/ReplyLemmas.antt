@@ -1,5 +1,5 @@
 -- What a source that was read, or was not, makes the program say.
-use Rattle.std.proofs.Common.{◌≡◌, ◌≢◌, ◌⊎◌, inl, inr, ℕ, ◌+◌, ◌<◌, ◌≤◌, true, false, nat_lt, List, [], length, replicate, Option, None, Some, IsSome, IfSome, Result, Ok, Err, IfOk, refl, sym, ap, subst, ◌∙◌, arith}
+use Rattle.std.proofs.Common.{◌≡◌, ◌≢◌, ◌⊎◌, inl, inr, ℕ, ◌+◌, ◌<◌, ◌≤◌, Bool, true, false, nat_lt, List, [], length, replicate, Option, None, Some, IsSome, IfSome, Result, Ok, Err, IfOk, refl, sym, ap, subst, ◌∙◌, arith}
 use Rattle.std.proofs.lemmas.Bool.{lt-ltb, le-ltb}
 use Rattle.std.proofs.lemmas.List.{length-replicate}
 use Rattle.std.specs.Io.KnownBytes.{IsAtEnd, Appends}
@@ -8,13 +8,13 @@ use Rattle.fuota_run.specs.declared.source.SourceError.TheVariants as error
 use Rattle.fuota_run.specs.declared.status.Status.{Status}
 use Rattle.fuota_run.specs.declared.status.Status.TheVariants as status
 use Rattle.fuota_run.specs.Outside.{Held, HoldsName, HasRisen, AppendsFront}
-use Rattle.fuota_run.specs.Source.{IsSource, IsTooLong}
+use Rattle.fuota_run.specs.Source.{IsSource, IsTooLong, IsTakenOf}
 use Rattle.image_slots.specs.Image.{is_image}
 use Rattle.fuota_run.specs.Limits.{image_limit}
 use Rattle.campaign_world.specs.Script.{campaign_of}
-use Rattle.campaign_world.specs.declared.faults.LineFault.{LineFault}
-use Rattle.campaign_world.specs.declared.faults.LineError.{LineError}
-use Rattle.campaign_world.specs.declared.faults.LineError.TheVariants as world
+use Rattle.report_lines.specs.declared.faults.LineFault.{LineFault}
+use Rattle.report_lines.specs.declared.faults.LineError.{LineError}
+use Rattle.report_lines.specs.declared.faults.LineError.TheVariants as world
 use Rattle.campaign_world.specs.World.{WorldState}
 use Rattle.campaign_world.specs.declared.recovery.NoFile.{NoFile}
 use Rattle.campaign_world.specs.Recovery.{recovery}
@@ -22,9 +22,9 @@ use Rattle.fuota_run.specs.declared.words.ScriptForm.{ScriptForm}
 use Rattle.fuota_run.specs.declared.words.ScriptForm.TheVariants.{Campaign, Recover}
 use Rattle.fuota_run.specs.declared.words.FileForm.{FileForm}
 use Rattle.fuota_run.specs.Words.{Asked, plays, payloads, generates, asked, asks_files}
-use Rattle.payload_replay.specs.PayloadLines.{Telling, IsTold}
+use Rattle.report_lines.specs.Lines.{Telling, IsTold}
 use Rattle.fuota_run.specs.Answer.{Answer, answer, read_fault, usage, image_refused, too_long, taken_text, recovered, told_of, summed_up, played, tells, told, script_answer, campaign_answer, generate_answer, IsFileAnswer, IsAnswer}
-use Rattle.fuota_run.specs.Reply.{HoldsAsked, HoldsForm, Gives, Effects, Ends, AppendsAnswer, AppendsAnswerFront, GivesBy, GivesScript, GivesCampaign, GivesFile, IsPlayed, IsReplied, IsReply, IsCaused, Says, ends_source}
+use Rattle.fuota_run.specs.Reply.{OutsideFiles, HoldsAsked, HoldsForm, Gives, Effects, Ends, AppendsAnswer, AppendsAnswerFront, IsPlayed, IsReplied, IsCaused, IsReadUp, IsImageRead, Replies, ends_source}
 use Rattle.fuota_run.specs.Replies.{IsUnread, IsMadeOf, IsSaid}
 
 -- where nothing is told of the files, nothing is asked of their names
@@ -37,52 +37,6 @@ none_asked (Some (generates seed)) = tt
 pub holds_asked : (held : Option Held) (words : List (List ℕ)) → HoldsForm held words → HoldsAsked held (asked words)
 holds_asked None words holds = none_asked (asked words)
 holds_asked (Some h) words holds = holds
-
--- a rise since later is a rise since earlier
-risen_before : (before between now : ℕ) → before ≤ between → HasRisen between now → HasRisen before now
-risen_before before between now kept risen = omega arith
-
--- a source that is too long gives the answer that says so
-too_long_given : (held : Option Held) (name : List ℕ) (IsFor : Held → Option (List ℕ) → Answer → Type 0) (limit : ℕ) → ((h : Held) (bytes : List ℕ) → limit < length bytes → IsFor h (Some bytes) (too_long limit))
-    → HoldsName held name → IsTooLong held name limit → GivesBy held name IsFor (too_long limit)
-too_long_given None name IsFor limit says holds long =
-    let more : limit < length (replicate {A = ℕ} (limit + 1) 0) = omega (arith, length-replicate {A = ℕ} (limit + 1) 0) in
-    ((λ _. []), replicate (limit + 1) 0, says (λ _. Some []) (replicate (limit + 1) 0) more)
-too_long_given (Some h) name IsFor limit says holds long = by_file (h name) refl holds long
-  where
-    by_file : (file : Option (List ℕ)) → h name ≡ file → IsSome file → IfSome file (λ bytes. limit < length bytes) → IsFor h (h name) (too_long limit)
-    by_file None is some long = absurd cc
-    by_file (Some bytes) is some long = subst (λ (f : Option (List ℕ)). IsFor h f (too_long limit)) (sym is) (says h bytes long)
-
--- what is said where a source was not read
-pub says_unread : (held : Option Held) (name : List ℕ) (IsFor : Held → Option (List ℕ) → Answer → Type 0) (limit before now : ℕ) (left : Option (List ℕ)) (e : SourceError) (a : Answer)
-    → ((h : Held) (bytes : List ℕ) → limit < length bytes → IsFor h (Some bytes) (too_long limit)) → HoldsName held name
-    → ((taken : ℕ) → e ≡ error.TooLong taken → IsTooLong held name limit) → ((taken : ℕ) → e ≡ error.TooLong taken → taken ≡ limit + 1) → (e ≡ error.Failed → HasRisen before now)
-    → IsUnread e a → Says true (GivesBy held name IsFor a) before now left a × (a.status ≢ status.Usage)
-says_unread held name IsFor limit before now left error.Memory a says holds long taken failed is = absurd is
-says_unread held name IsFor limit before now left error.Failed a says holds long taken failed is = (
-  record { reply = inr (is, failed refl); replied = subst (λ (x : Answer). IsReplied x.status) (sym is) tt; caused = λ _. (failed refl, is); read_up = λ ends. absurd (let s = ap ends_source (ap (λ (x : Answer). x.status) is) in cc) },
-  λ usage. let s = ap (λ (x : Answer). x.status) is in cc,
-)
-says_unread held name IsFor limit before now left (error.TooLong n) a says holds long taken failed is =
-    let count : n ≡ limit + 1 = taken n refl in
-    let here : a ≡ too_long limit = is ∙ ap (λ m. answer (status.TooLong m) (taken_text m)) count in
-    let s : a.status ≡ status.TooLong (limit + 1) = ap (λ (x : Answer). x.status) here in (
-      record {
-        reply = inl (subst (λ (x : Answer). GivesBy held name IsFor x) (sym here) (too_long_given held name IsFor limit says holds (long n refl)));
-        replied = subst (λ (x : Answer). IsReplied x.status) (sym here) tt;
-        caused = λ fault. absurd cc;
-        read_up = λ ends. absurd (let t = ap ends_source s in cc);
-      },
-      λ usage. cc,
-    )
-
--- what is said where a source was read to its end
-pub says_source : (held : Option Held) (name : List ℕ) (IsFor : Held → Option (List ℕ) → Answer → Type 0) (limit before now : ℕ) (left : Option (List ℕ)) (bytes : List ℕ) (a : Answer)
-    → IsSource held name limit bytes → ((h : Held) → IsFor h (Some bytes) a) → IsReplied a.status → a.status ≢ status.ReadFault → IsAtEnd left → Says true (GivesBy held name IsFor a) before now left a
-says_source None name IsFor limit before now left bytes a source is text fine ends = record { reply = inl ((λ _. []), bytes, is (λ _. Some [])); replied = text; caused = λ fault. absurd (fine fault); read_up = λ _. ends }
-says_source (Some h) name IsFor limit before now left bytes a source is text fine ends =
-    record { reply = inl (subst (λ (f : Option (List ℕ)). IsFor h f a) (sym source) (is h)); replied = text; caused = λ fault. absurd (fine fault); read_up = λ _. ends }
 
 -- a script that is too long
 pub script_long : (what : ScriptForm) (image script : List ℕ) → 1048576 < length script → too_long 1048576 ≡ script_answer what image (Some script)
@@ -114,71 +68,12 @@ pub if_ok_map : {T E : Type 0} {P Q : T → Type 0} (r : Result T E) → ((x : T
 if_ok_map (Ok x) turns holds = turns x holds
 if_ok_map (Err e) turns holds = tt
 
--- the reply behind an image file is the campaign's
-pub says_behind : (held middle : Option Held) (what : ScriptForm) (image_name script_name : List ℕ) (before between now : ℕ) (left : Option (List ℕ)) (image : List ℕ) (a : Answer) → middle ≡ held → before ≤ between
-    → IsSource held image_name image_limit image → length image ≤ image_limit → is_image image ≡ true → Says true (GivesScript middle what image script_name a) between now left a → Says true (GivesCampaign held what image_name script_name a) before now left a
-says_behind held middle what image_name script_name before between now left image a same kept source within good says =
-    let here = subst (λ (m : Option Held). Says true (GivesScript m what image script_name a) between now left a) same says in
-    record {
-      reply = replies held source here.reply;
-      replied = here.replied;
-      caused = λ fault. (risen_before before between now kept (here.caused fault).0, (here.caused fault).1);
-      read_up = here.read_up;
-    }
-  where
-    replies : (h : Option Held) → IsSource h image_name image_limit image → IsReply (GivesScript h what image script_name a) between now a → IsReply (GivesCampaign h what image_name script_name a) before now a
-    replies None source (inl given) = inl ((λ _. given.1), image, given.2 ∙ image_given what image (Some given.1) within good)
-    replies (Some h) source (inl is) = inl (is ∙ image_given what image (h script_name) within good ∙ ap (λ (i : Option (List ℕ)). campaign_answer what i (h script_name)) (sym source))
-    replies h source (inr fault) = inr (fault.0, risen_before before between now kept fault.1)
-
 -- an answer that whole files made, or a seed
 pub record IsMade (a : Answer) : Type 0 where
   pub replied : IsReplied a.status
   pub sound : a.status ≢ status.ReadFault
   pub used : a.status ≢ status.Usage
   pub short : (taken : ℕ) → a.status ≢ status.TooLong taken
-
--- what is said where nothing is asked for
-pub says_usage : (held : Option Held) (before : ℕ) (left : Option (List ℕ)) (a : Answer) → a ≡ usage → Says false (Gives held None a) before before left a
-says_usage held before left a is =
-    let s : a.status ≡ status.Usage = ap (λ (x : Answer). x.status) is in
-    let text = subst (λ (x : Answer). IsReplied x.status) (sym is) tt in
-    record { reply = inl (given held); replied = text; caused = λ fault. absurd cc; read_up = tt }
-  where
-    given : (h : Option Held) → Gives h None a
-    given None = is
-    given (Some h) = is
-
--- what is said of a seed is said of the form
-pub says_generated : (held : Option Held) (seed before : ℕ) (left : Option (List ℕ)) (a : Answer)
-    → (a ≡ generate_answer seed) × IsMade a → Says false (Gives held (Some (generates seed)) a) before before left a
-says_generated held seed before left a made =
-    record { reply = inl (given held); replied = made.1.replied; caused = λ fault. absurd (made.1.sound fault); read_up = tt }
-  where
-    given : (h : Option Held) → Gives h (Some (generates seed)) a
-    given None = made.0
-    given (Some h) = made.0
-
--- what is said of a form's files is said of the form
-pub says_campaign : (held : Option Held) (what : ScriptForm) (image script : List ℕ) (before now : ℕ) (left : Option (List ℕ)) (a : Answer)
-    → Says true (GivesCampaign held what image script a) before now left a → Says true (Gives held (Some (plays what image script)) a) before now left a
-says_campaign None what image script before now left a says = record {
-  reply = elim says.reply [ inl given ↦ inl (given.1, given.0 script, given.2) | inr fault ↦ inr fault ];
-  replied = says.replied;
-  caused = says.caused;
-  read_up = says.read_up;
-}
-says_campaign (Some h) what image script before now left a says = record { reply = says.reply; replied = says.replied; caused = says.caused; read_up = says.read_up }
-
-pub says_file : (held : Option Held) (what : FileForm) (file : List ℕ) (before now : ℕ) (left : Option (List ℕ)) (a : Answer)
-    → Says true (GivesFile held (tells what) file a) before now left a → Says true (Gives held (Some (payloads what file)) a) before now left a
-says_file None what file before now left a says = record {
-  reply = elim says.reply [ inl given ↦ inl (given.1, given.2) | inr fault ↦ inr fault ];
-  replied = says.replied;
-  caused = says.caused;
-  read_up = says.read_up;
-}
-says_file (Some h) what file before now left a says = record { reply = says.reply; replied = says.replied; caused = says.caused; read_up = says.read_up }
 
 -- the answer with what a script made
 recovered_made : (device : ℕ) (r : Result (List ℕ) NoFile) → IsMade (recovered device r)
@@ -229,21 +124,181 @@ pub file_given : (Tells : Telling) (file : List ℕ) (a : Answer) → length fil
 unfolding IsFileAnswer
 file_given Tells file a within said = let t : nat_lt 1048576 (length file) ≡ false = le-ltb _ _ within in rw t said
 
--- what is said behind the lines of a file of payloads
-pub says_heard : (Tells : Telling) (held : Option Held) (name : List ℕ) (before now : ℕ) (left : Option (List ℕ)) (file : List ℕ) (r : Result (List ℕ) LineError) (a : Answer)
-    → IsSource held name 1048576 file → length file ≤ 1048576 → IsAtEnd left → IsTold Tells file r → IsSaid r a → Says true (GivesFile held Tells name a) before now left a × IsMade a
-says_heard Tells held name before now left file r a source within ends made said =
-    let told = says_told Tells file r a made said in (
-      says_source held name (λ h bytes x. IsFileAnswer Tells bytes x) 1048576 before now left file a source (λ h. file_given Tells file a within told.0) told.1.replied told.1.sound ends,
-      told.1,
-    )
+pub refused_made : IsMade image_refused
+refused_made = record { replied = tt; sound = λ e. cc; used = λ e. cc; short = λ taken e. cc }
 
--- and of one that was not read
-pub says_unheard : (Tells : Telling) (held : Option Held) (name : List ℕ) (before now : ℕ) (left : Option (List ℕ)) (e : SourceError) (a : Answer) → HoldsName held name
-    → ((taken : ℕ) → e ≡ error.TooLong taken → IsTooLong held name 1048576) → ((taken : ℕ) → e ≡ error.TooLong taken → taken ≡ 1048577) → (e ≡ error.Failed → HasRisen before now)
-    → IsUnread e a → Says true (GivesFile held Tells name a) before now left a × (a.status ≢ status.Usage)
-says_unheard Tells held name before now left e a holds long taken failed is =
-    says_unread held name (λ h bytes x. IsFileAnswer Tells bytes x) 1048576 before now left e a (λ h bytes more. file_long Tells bytes more) holds long taken failed is
+-- ---- replies to a form
+
+-- a form with files is one
+no_files : (what : Option Asked) → asks_files what ≡ true → what ≢ None
+no_files None asks none = absurd cc
+no_files (Some what) asks none = absurd cc
+
+-- what is said where a source was not read
+pub replies_unread : (what : Option Asked) (files : OutsideFiles) (limit : ℕ) (e : SourceError) (a : Answer) → asks_files what ≡ true
+    → ((n : ℕ) → e ≡ error.TooLong n → Gives files.held what (too_long limit)) → ((n : ℕ) → e ≡ error.TooLong n → n ≡ limit + 1)
+    → ((n : ℕ) → e ≡ error.TooLong n → IsTakenOf files.held what n files.left)
+    → (e ≡ error.Failed → HasRisen files.before files.after) → (e ≢ error.Failed → files.after ≡ files.before)
+    → IsUnread e a → Replies what files a
+replies_unread what files limit error.Memory a asks gives count took failed quiet is = absurd is
+replies_unread what files limit error.Failed a asks gives count took failed quiet is =
+    let s : a.status ≡ status.ReadFault = ap (λ (x : Answer). x.status) is in
+    record {
+      reply = inr (is, failed refl);
+      replied = subst (λ (x : Answer). IsReplied x.status) (sym is) tt;
+      caused = λ _. (failed refl, is);
+      quiet = λ other. absurd (other s);
+      read_up = subst (λ (b : Bool). IsReadUp b a.status files.left) (sym asks) (λ ends. absurd (let t = ap ends_source s in cc));
+      usage = (λ used. absurd cc, λ none. absurd (no_files what asks none));
+      taken = λ n long. absurd cc;
+    }
+replies_unread what files limit (error.TooLong n) a asks gives count took failed quiet is =
+    let here : a ≡ too_long limit = is ∙ ap (λ m. answer (status.TooLong m) (taken_text m)) (count n refl) in
+    let s : a.status ≡ status.TooLong (limit + 1) = ap (λ (x : Answer). x.status) here in
+    record {
+      reply = inl (subst (λ (x : Answer). Gives files.held what x) (sym here) (gives n refl));
+      replied = subst (λ (x : Answer). IsReplied x.status) (sym here) tt;
+      caused = λ fault. absurd cc;
+      quiet = λ other. quiet (λ e. cc);
+      read_up = subst (λ (b : Bool). IsReadUp b a.status files.left) (sym asks) (λ ends. absurd (let t = ap ends_source s in cc));
+      usage = (λ used. absurd cc, λ none. absurd (no_files what asks none));
+      taken = λ m long.
+          let t : a.status ≡ status.TooLong n = ap (λ (x : Answer). x.status) is in
+          let same : n ≡ m = cc in
+          subst (λ k. IsTakenOf files.held what k files.left) same (took n refl);
+    }
+
+-- and where all were read to their end
+pub replies_read : (what : Option Asked) (files : OutsideFiles) (a : Answer) → asks_files what ≡ true → Gives files.held what a → IsMade a
+    → IsAtEnd files.left → files.after ≡ files.before → Replies what files a
+replies_read what files a asks gives made ends quiet = record {
+  reply = inl gives;
+  replied = made.replied;
+  caused = λ fault. absurd (made.sound fault);
+  quiet = λ other. quiet;
+  read_up = subst (λ (b : Bool). IsReadUp b a.status files.left) (sym asks) (λ _. ends);
+  usage = (λ used. absurd (made.used used), λ none. absurd (no_files what asks none));
+  taken = λ n long. absurd (made.short n long);
+}
+
+-- where nothing is asked for
+pub replies_usage : (files : OutsideFiles) (a : Answer) → files.after ≡ files.before → a ≡ usage → Replies None files a
+replies_usage files a quiet is =
+    let s : a.status ≡ status.Usage = ap (λ (x : Answer). x.status) is in
+    record {
+      reply = inl (given files.held);
+      replied = subst (λ (x : Answer). IsReplied x.status) (sym is) tt;
+      caused = λ fault. absurd cc;
+      quiet = λ other. quiet;
+      read_up = tt;
+      usage = (λ used. refl, λ none. s);
+      taken = λ n long. absurd cc;
+    }
+  where
+    given : (h : Option Held) → Gives h None a
+    given None = is
+    given (Some h) = is
+
+-- and for a seed
+pub replies_generated : (seed : ℕ) (files : OutsideFiles) (a : Answer) → files.after ≡ files.before
+    → (a ≡ generate_answer seed) × IsMade a → Replies (Some (generates seed)) files a
+replies_generated seed files a quiet made = record {
+  reply = inl (given files.held);
+  replied = made.1.replied;
+  caused = λ fault. absurd (made.1.sound fault);
+  quiet = λ other. quiet;
+  read_up = tt;
+  usage = (λ used. absurd (made.1.used used), λ none. absurd cc);
+  taken = λ n long. absurd (made.1.short n long);
+}
+  where
+    given : (h : Option Held) → Gives h (Some (generates seed)) a
+    given None = made.0
+    given (Some h) = made.0
+
+-- ---- the answers that they give
+
+-- a source that is too long holds so many bytes, or nothing is told of it
+long_source : (held : Option Held) (name : List ℕ) (limit : ℕ) → HoldsName held name → IsTooLong held name limit
+    → (bytes : List ℕ) × (limit < length bytes) × IsSource held name limit bytes
+long_source None name limit holds long =
+    let more : limit < length (replicate {A = ℕ} (limit + 1) 0) = omega (arith, length-replicate {A = ℕ} (limit + 1) 0) in
+    (replicate (limit + 1) 0, more, tt)
+long_source (Some h) name limit holds long = by_file (h name) refl holds long
+  where
+    by_file : (file : Option (List ℕ)) → h name ≡ file → IsSome file → IfSome file (λ bytes. limit < length bytes)
+        → (bytes : List ℕ) × (limit < length bytes) × (h name ≡ Some bytes)
+    by_file None is some long = absurd cc
+    by_file (Some bytes) is some long = (bytes, long, is)
+
+-- of an image, whatever the script
+by_image : (held : Option Held) (what : ScriptForm) (image_name script_name image : List ℕ) (limit : ℕ) (a : Answer)
+    → IsSource held image_name limit image → ((script : Option (List ℕ)) → a ≡ campaign_answer what (Some image) script)
+    → Gives held (Some (plays what image_name script_name)) a
+by_image None what image_name script_name image limit a source is = (image, [], is (Some []))
+by_image (Some h) what image_name script_name image limit a source is =
+    is (h script_name) ∙ ap (λ (i : Option (List ℕ)). campaign_answer what i (h script_name)) (sym source)
+
+-- of both
+by_both : (held : Option Held) (what : ScriptForm) (image_name script_name image script : List ℕ) (limit : ℕ) (a : Answer)
+    → IsSource held image_name image_limit image → IsSource held script_name limit script
+    → a ≡ campaign_answer what (Some image) (Some script) → Gives held (Some (plays what image_name script_name)) a
+by_both None what image_name script_name image script limit a image_is script_is is = (image, script, is)
+by_both (Some h) what image_name script_name image script limit a image_is script_is is =
+    is ∙ ap (λ (i : Option (List ℕ)). campaign_answer what i (Some script)) (sym image_is)
+    ∙ ap (λ (s : Option (List ℕ)). campaign_answer what (h image_name) s) (sym script_is)
+
+-- an image that is too long, and one that is no image file
+pub gives_image_long : (held : Option Held) (what : ScriptForm) (image_name script_name : List ℕ) → HoldsName held image_name
+    → IsTooLong held image_name image_limit → Gives held (Some (plays what image_name script_name)) (too_long image_limit)
+gives_image_long held what image_name script_name holds long =
+    let is = long_source held image_name image_limit holds long in
+    by_image held what image_name script_name is.0 image_limit (too_long image_limit) is.2 (λ script. image_long what is.0 script is.1)
+
+pub gives_image_refused : (held : Option Held) (what : ScriptForm) (image_name script_name image : List ℕ) (a : Answer)
+    → IsSource held image_name image_limit image → length image ≤ image_limit → is_image image ≡ false → a ≡ image_refused
+    → Gives held (Some (plays what image_name script_name)) a
+gives_image_refused held what image_name script_name image a source within bad is =
+    by_image held what image_name script_name image image_limit a source (λ script. is ∙ image_given_refused what image script within bad)
+
+-- behind an image file: a script that is too long, and one that was read
+pub gives_script_long : (held : Option Held) (what : ScriptForm) (image_name script_name image : List ℕ) → IsImageRead held image_name image
+    → HoldsName held script_name → IsTooLong held script_name 1048576
+    → Gives held (Some (plays what image_name script_name)) (too_long 1048576)
+gives_script_long held what image_name script_name image read holds long =
+    let is = long_source held script_name 1048576 holds long in
+    by_both held what image_name script_name image is.0 1048576 (too_long 1048576) read.source is.2
+    (script_long what image is.0 is.1 ∙ image_given what image (Some is.0) read.within read.file)
+
+pub gives_script : (held : Option Held) (what : ScriptForm) (image_name script_name image script : List ℕ) (a : Answer)
+    → IsImageRead held image_name image → IsSource held script_name 1048576 script → length script ≤ 1048576
+    → a ≡ played (told_of what) (campaign_of image script) → Gives held (Some (plays what image_name script_name)) a
+gives_script held what image_name script_name image script a read source within is =
+    by_both held what image_name script_name image script 1048576 a read.source source
+    (script_given what image script a within is ∙ image_given what image (Some script) read.within read.file)
+
+-- a file of payloads that is too long, and one that was read
+gives_file : (held : Option Held) (form : FileForm) (name file : List ℕ) (a : Answer) → IsSource held name 1048576 file
+    → IsFileAnswer (tells form) (Some file) a → Gives held (Some (payloads form name)) a
+gives_file None form name file a source is = (file, is)
+gives_file (Some h) form name file a source is = subst (λ (f : Option (List ℕ)). IsFileAnswer (tells form) f a) (sym source) is
+
+pub gives_file_long : (held : Option Held) (form : FileForm) (name : List ℕ) → HoldsName held name → IsTooLong held name 1048576
+    → Gives held (Some (payloads form name)) (too_long 1048576)
+gives_file_long held form name holds long =
+    let is = long_source held name 1048576 holds long in
+    gives_file held form name is.0 (too_long 1048576) is.2 (file_long (tells form) is.0 is.1)
+
+-- what is said behind the lines of a file of payloads
+pub replies_told : (form : FileForm) (files : OutsideFiles) (name file : List ℕ) (r : Result (List ℕ) LineError) (a : Answer)
+    → IsSource files.held name 1048576 file → length file ≤ 1048576 → IsAtEnd files.left → files.after ≡ files.before
+    → IsTold (tells form) file r → IsSaid r a → Replies (Some (payloads form name)) files a
+replies_told form files name file r a source within ends quiet made said =
+    let told = says_told (tells form) file r a made said in
+    replies_read (Some (payloads form name)) files a refl
+    (gives_file files.held form name file a source (file_given (tells form) file a within told.0)) told.1 ends quiet
+
+-- ---- a run that says it
 
 -- what is written of a reply
 appends_answer : (held : Option Held) (words : List (List ℕ)) (s : Status) (text : List ℕ) (old new : Option (List ℕ)) → Gives held (asked words) (answer s text) → IsReplied s → Appends old new text → AppendsAnswer held words s old new
@@ -265,7 +320,7 @@ ends_by held words e status.WriteFault text gives told caused appends = absurd t
 ends_by held words e status.Memory text gives told caused appends = absurd told
 
 -- how a run ends whose text was written
-pub ends_written : (held : Option Held) (words : List (List ℕ)) (e : Effects) (left : Option (List ℕ)) (a : Answer) → Says (asks_files (asked words)) (Gives held (asked words) a) e.files_before e.files_after left a → Appends e.old e.new a.text → Ends held words e a.status
+pub ends_written : (held : Option Held) (words : List (List ℕ)) (e : Effects) (left : Option (List ℕ)) (a : Answer) → Replies (asked words) (record { held = held; before = e.files_before; after = e.files_after; left = left }) a → Appends e.old e.new a.text → Ends held words e a.status
 ends_written held words e left a says appends =
     elim says.reply [
       | inl gives ↦ ends_by held words e a.status a.text gives says.replied says.caused appends
@@ -273,7 +328,7 @@ ends_written held words e left a says appends =
     ]
 
 -- where no call failed and memory sufficed, what was written is an answer
-pub exact_of : (X Y : Type 0) (held : Option Held) (words : List (List ℕ)) (before now : ℕ) (left : Option (List ℕ)) (a : Answer) (old new : Option (List ℕ)) → Says (asks_files (asked words)) (Gives held (asked words) a) before now left a → Appends old new a.text
+pub exact_of : (X Y : Type 0) (held : Option Held) (words : List (List ℕ)) (before now : ℕ) (left : Option (List ℕ)) (a : Answer) (old new : Option (List ℕ)) → Replies (asked words) (record { held = held; before = before; after = now; left = left }) a → Appends old new a.text
     → IfSome held (λ h. ¬ HasRisen before now → X → Y → AppendsAnswer (Some h) words a.status old new)
 unfolding IsAnswer
 exact_of X Y None words before now left a old new says appends = tt
@@ -284,7 +339,7 @@ exact_of X Y (Some h) words before now left a old new says appends = λ quiet so
     ]
 
 -- where writing failed, a front of it was
-pub front_of : (held : Option Held) (words : List (List ℕ)) (before now : ℕ) (left : Option (List ℕ)) (a : Answer) (old new : Option (List ℕ)) → Says (asks_files (asked words)) (Gives held (asked words) a) before now left a → AppendsFront old new a.text
+pub front_of : (held : Option Held) (words : List (List ℕ)) (before now : ℕ) (left : Option (List ℕ)) (a : Answer) (old new : Option (List ℕ)) → Replies (asked words) (record { held = held; before = before; after = now; left = left }) a → AppendsFront old new a.text
     → AppendsAnswerFront held words old new ⊎ (HasRisen before now × AppendsFront old new read_fault.text)
 unfolding IsAnswer
 front_of None words before now left a old new says front =

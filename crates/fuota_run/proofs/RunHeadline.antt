@@ -42,7 +42,7 @@ campaign_run words held s old new given image script world handed bytes accepted
       verdicts = λ id device index s is. record {
         heard = verdicts.heard image script world id device index s is;
         decided = verdicts.decided image script world id device index s is;
-        told = verdicts.told image script world id device index s is;
+        told = λ stage stage_is. verdicts.told image script world id stage device index s is stage_is;
       };
     }
 

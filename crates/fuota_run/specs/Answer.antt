@@ -8,12 +8,11 @@ use Rattle.fuota_run.specs.declared.words.FileForm.{FileForm}
 use Rattle.fuota_run.specs.declared.words.FileForm.TheVariants.{Replay, Decode}
 use Rattle.fuota_run.specs.declared.words.ScriptForm.{ScriptForm}
 use Rattle.fuota_run.specs.declared.words.ScriptForm.TheVariants.{Campaign, Recover}
-use Rattle.campaign_world.specs.declared.faults.LineWhy.{LineWhy}
-use Rattle.campaign_world.specs.declared.faults.LineWhy.TheVariants as why
-use Rattle.campaign_world.specs.declared.faults.LineFault.{LineFault}
+use Rattle.report_lines.specs.declared.faults.LineFault.{LineFault}
+use Rattle.report_lines.specs.Faults.{fault_line}
 use Rattle.fuota_run.specs.Outside.{Held}
 use Rattle.fuota_run.specs.Words.{Asked, plays, payloads, generates, asked}
-use Rattle.payload_replay.specs.PayloadLines.{Telling}
+use Rattle.report_lines.specs.Lines.{Telling}
 use Rattle.payload_replay.specs.Decode.{Decodes}
 use Rattle.payload_replay.specs.Replay.{Replays}
 use Rattle.image_slots.specs.Image.{is_image}
@@ -41,18 +40,9 @@ usage_text = codes "usage: fuota campaign IMAGE SCRIPT, recover IMAGE SCRIPT DEV
 abbrev pub usage : Answer
 usage = answer status.Usage usage_text
 
-abbrev pub why_word : LineWhy → List ℕ
-why_word why.Limit = codes "limit"
-why_word why.Syntax = codes "syntax"
-why_word why.Order = codes "order"
-why_word why.Range = codes "range"
-why_word why.Device = codes "device"
-why_word why.Unsent = codes "unsent"
-why_word why.Time = codes "time"
-
 -- a line is refused
 abbrev pub refused : LineFault → Answer
-refused fault = answer status.ScriptRefused (codes "line " ++ decimal fault.line ++ (codes " " ++ why_word fault.why ++ codes "\n"))
+refused fault = answer status.ScriptRefused (fault_line fault)
 
 -- so many bytes were taken of a source that is longer than its limit
 abbrev pub taken_text : ℕ → List ℕ

@@ -11,6 +11,7 @@ use Rattle.device_core.specs.Events.{CameInTurn}
 use Rattle.campaign_laws.specs.Verdicts.{Carries, IsToldOf, IsSessionOf}
 use Rattle.campaign_laws.specs.Accepted.{IsCampaignOf}
 use Rattle.campaign_server.specs.declared.stage.Stage.{Stage}
+use Rattle.campaign_server.specs.Server.{ledger}
 use Rattle.wire_base.specs.Numbered.{numbered}
 use Rattle.frag_session.specs.Session.{Session}
 use Rattle.frag_session.specs.FirstMoment.{IsDecidedAtFirst}
@@ -82,10 +83,10 @@ pub record IsHeadline (image script : List ℕ) (world : WorldState) (id : ℕ) 
   pub reported : IsReported image world id stage device session
 
 -- what is said of each session of a device, whoever sent what reached it
-pub record IsVerdict (image script : List ℕ) (world : WorldState) (id index : ℕ) (s : Session) : Type 0 where
+pub record IsVerdict (image script : List ℕ) (world : WorldState) (id : ℕ) (device : DeviceState) (index : ℕ) (s : Session) : Type 0 where
   pub heard : CameInTurn (Carries (lines_of script) world.sent id) index (length (lines_of script)) s.heard
   pub decided : IsDecidedAtFirst s
-  pub told : IsToldOf world.server.image index s
+  pub told : (stage : Stage) → ledger world.server id ≡ Some stage → IsToldOf world id stage device index s
 
 -- the whole report of that campaign was appended, and of each device that has a session it says what the headline says, where
 -- the script is honest
@@ -99,7 +100,7 @@ pub record IsReportWritten (image script : List ℕ) (world : WorldState) (s : S
       → IsCampaign image script world id stage device session → IsHeadline image script world id stage device session
   -- and of each session, honest or not, the verdict
   pub verdicts : (id : ℕ) (device : DeviceState) (index : ℕ) (s : Session) → IsSessionOf image script world id device index s
-      → IsVerdict image script world id index s
+      → IsVerdict image script world id device index s
 
 -- so it is of whatever image and accepted script the words ask for
 abbrev pub IsCampaignRun : List (List ℕ) → Held → Status → Option (List ℕ) → Option (List ℕ) → Type 0

@@ -4,9 +4,9 @@ use Rattle.fuota_run.specs.declared.reply.Reply.{Reply}
 use Rattle.fuota_run.specs.declared.source.SourceError.{SourceError}
 use Rattle.fuota_run.specs.declared.source.SourceError.TheVariants as error
 use Rattle.fuota_run.specs.declared.status.Status.TheVariants as status
-use Rattle.campaign_world.specs.declared.faults.LineError.{LineError}
-use Rattle.campaign_world.specs.declared.faults.LineError.TheVariants as world
-use Rattle.campaign_world.specs.declared.faults.LineFault.{LineFault}
+use Rattle.report_lines.specs.declared.faults.LineError.{LineError}
+use Rattle.report_lines.specs.declared.faults.LineError.TheVariants as world
+use Rattle.report_lines.specs.declared.faults.LineFault.{LineFault}
 use Rattle.campaign_world.specs.World.{WorldState}
 use Rattle.campaign_world.specs.HeldWorld.{HeldWorld, WorldStands}
 use Rattle.fuota_run.specs.Answer.{Answer, answer, read_fault, refused, taken_text}

@@ -1,17 +1,18 @@
 -- How a run of the program ends, and why: what each status says of the files and of the sink.
-use Rattle.std.specs.Prelude.{◌≡◌, ◌⊎◌, ℕ, Bool, true, false, List, ⊤, Option, None, Some, Result, Ok, Err}
+use Rattle.std.specs.Prelude.{◌≡◌, ◌≢◌, ◌↔◌, ◌⊎◌, ℕ, ◌≤◌, length, Bool, true, false, List, ⊤, Option, None, Some, Result, Ok, Err}
 use Rattle.std.specs.Io.KnownBytes.{Keeps, Appends, IsAtEnd}
 use Rattle.fuota_run.specs.declared.status.Status.{Status}
 use Rattle.fuota_run.specs.declared.status.Status.TheVariants as status
-use Rattle.campaign_world.specs.declared.faults.LineError.{LineError}
-use Rattle.campaign_world.specs.declared.faults.LineError.TheVariants as error
-use Rattle.campaign_world.specs.declared.faults.LineFault.{LineFault}
+use Rattle.report_lines.specs.declared.faults.LineError.{LineError}
+use Rattle.report_lines.specs.declared.faults.LineError.TheVariants as error
+use Rattle.report_lines.specs.declared.faults.LineFault.{LineFault}
 use Rattle.fuota_run.specs.Outside.{Held, HoldsName, HasRisen, AppendsFront}
 use Rattle.campaign_world.specs.World.{WorldState}
-use Rattle.fuota_run.specs.Words.{Asked, plays, payloads, generates, asked}
-use Rattle.payload_replay.specs.PayloadLines.{Telling}
-use Rattle.fuota_run.specs.declared.words.ScriptForm.{ScriptForm}
-use Rattle.fuota_run.specs.Answer.{Answer, answer, read_fault, usage, tells, script_answer, campaign_answer, generate_answer, IsFileAnswer, IsAnswerTo, IsAnswer}
+use Rattle.image_slots.specs.Image.{is_image}
+use Rattle.fuota_run.specs.Limits.{image_limit}
+use Rattle.fuota_run.specs.Source.{IsSource, IsTakenOf}
+use Rattle.fuota_run.specs.Words.{Asked, plays, payloads, generates, asked, asks_files}
+use Rattle.fuota_run.specs.Answer.{Answer, answer, read_fault, usage, tells, campaign_answer, generate_answer, IsFileAnswer, IsAnswerTo, IsAnswer}
 
 -- where it is told what is held, something is held under the names of the files that are asked for
 abbrev pub HoldsAsked : Option Held → Option Asked → Type 0
@@ -44,21 +45,6 @@ ends_source status.ScriptRefused = true
 ends_source status.NotComplete = true
 ends_source s = false
 
--- where it is told what is held, the answer is one for the file under the name; where not, it is one for some bytes
-abbrev pub GivesBy : Option Held → List ℕ → (Held → Option (List ℕ) → Answer → Type 0) → Answer → Type 0
-GivesBy None name IsFor a = (bytes_of : List ℕ → List ℕ) × (source : List ℕ) × IsFor (λ n. Some (bytes_of n)) (Some source) a
-GivesBy (Some held) name IsFor a = IsFor held (held name) a
-
--- the answer behind an image file
-abbrev pub GivesScript : Option Held → ScriptForm → List ℕ → List ℕ → Answer → Type 0
-GivesScript held what image script a = GivesBy held script (λ h source x. x ≡ script_answer what image source) a
-
-abbrev pub GivesCampaign : Option Held → ScriptForm → List ℕ → List ℕ → Answer → Type 0
-GivesCampaign held what image script a = GivesBy held image (λ h source x. x ≡ campaign_answer what source (h script)) a
-
-abbrev pub GivesFile : Option Held → Telling → List ℕ → Answer → Type 0
-GivesFile held Tells file a = GivesBy held file (λ h source x. IsFileAnswer Tells source x) a
-
 -- the answer to what is asked for, whatever bytes the files have
 abbrev pub IsAnswerToSome : Option Asked → Answer → Type 0
 IsAnswerToSome None a = a ≡ usage
@@ -84,12 +70,31 @@ abbrev pub IsReadUp : (has_files : Bool) → Status → Option (List ℕ) → Ty
 IsReadUp true s left = ends_source s ≡ true → IsAtEnd left
 IsReadUp false s left = ⊤
 
--- all that is said of a reply
-pub record Says (has_files : Bool) (gives : Type 0) (before now : ℕ) (left : Option (List ℕ)) (a : Answer) : Type 0 where
-  pub reply : IsReply gives before now a
+-- the files around a call: what they hold, their counts of faults before and after, and what is left of the file chosen last
+pub record OutsideFiles : Type 0 where
+  pub held : Option Held
+  pub before : ℕ
+  pub after : ℕ
+  pub left : Option (List ℕ)
+
+-- what is said of an answer to what is asked for, over the files
+pub record Replies (what : Option Asked) (files : OutsideFiles) (a : Answer) : Type 0 where
+  pub reply : IsReply (Gives files.held what a) files.before files.after a
   pub replied : IsReplied a.status
-  pub caused : IsCaused before now a
-  pub read_up : IsReadUp has_files a.status left
+  -- that reading failed is said exactly where a call failed
+  pub caused : IsCaused files.before files.after a
+  pub quiet : a.status ≢ status.ReadFault → files.after ≡ files.before
+  pub read_up : IsReadUp (asks_files what) a.status files.left
+  -- usage is said exactly where nothing is asked for
+  pub usage : (a.status ≡ status.Usage) ↔ (what ≡ None)
+  -- of a source that is too long so many bytes were taken
+  pub taken : (taken : ℕ) → a.status ≡ status.TooLong taken → IsTakenOf files.held what taken files.left
+
+-- an image file that was read under a name, within its limit
+pub record IsImageRead (held : Option Held) (name image : List ℕ) : Type 0 where
+  pub source : IsSource held name image_limit image
+  pub within : length image ≤ image_limit
+  pub file : is_image image ≡ true
 
 -- ---- the run as a whole
 
@@ -168,3 +173,12 @@ IsSure held words status.ImageRefused = IsAnswered held words status.ImageRefuse
 IsSure held words status.ScriptRefused = IsAnswered held words status.ScriptRefused
 IsSure held words status.NotComplete = IsAnswered held words status.NotComplete
 IsSure held words (status.TooLong taken) = IsAnswered held words (status.TooLong taken)
+
+-- ---- no fault is passed over
+
+-- a status that says nothing of a fault, nor of memory
+abbrev pub IsFaultless : Status → Type 0
+IsFaultless status.ReadFault = ⊥
+IsFaultless status.WriteFault = ⊥
+IsFaultless status.Memory = ⊥
+IsFaultless s = ⊤

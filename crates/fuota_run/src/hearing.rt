@@ -28,10 +28,10 @@ pub fn hear_source<F: Files, W: HearsLine>(
     ensures taken { (taken : ℕ) → IsErrOf result (SourceError.TooLong taken) → taken ≡ limit + 1 }
     ensures consumed { (taken : ℕ) → IsErrOf result (SourceError.TooLong taken) → IsTaken (F.held files.old) name.now taken (F.left files.new) }
     ensures failed { IsErrOf result SourceError.Failed → HasRisen (F.faults files.old) (F.faults files.new) }
+    ensures quiet { result ≢ Err SourceError.Failed → F.faults files.new ≡ F.faults files.old }
     ensures no_memory { result ≢ Err SourceError.Memory }
 
     ensures held { F.held files.new ≡ F.held files.old }
-    ensures kept { F.faults files.old ≤ F.faults files.new }
 {
     if files.choose(name).is_err() {
         return Err(SourceError::Failed);
@@ -67,9 +67,9 @@ fn hear_some<F: Files, W: HearsLine>(
     ensures within { IfOk result (λ n. n ≤ length piece.old) }
     ensures end { IfOk result (λ n. n ≡ 0 → IsAtEnd (F.left files.new)) }
     ensures failed { OnErr result (HasRisen (F.faults files.old) (F.faults files.new)) }
+    ensures quiet { OnOk result (F.faults files.new ≡ F.faults files.old) }
     ensures chosen { F.chosen files.new ≡ true }
     ensures held { F.held files.new ≡ F.held files.old }
-    ensures kept { F.faults files.old ≤ F.faults files.new }
 {
     match files.read(piece) {
         Err(failed) => Err(failed),

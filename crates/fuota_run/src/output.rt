@@ -12,7 +12,7 @@ pub fn write_text<O: Sink>(out: &mut O, text: &[u8]) -> Result<(), Failed>
     ensures finished { OnOk result (O.finished out.new ≡ true) }
     ensures front { OnErr result (AppendsFront (O.written out.old) (O.written out.new) text.now) }
     ensures failed { OnErr result (HasRisen (O.faults out.old) (O.faults out.new)) }
-    ensures kept { O.faults out.old ≤ O.faults out.new }
+    ensures quiet { OnOk result (O.faults out.new ≡ O.faults out.old) }
 {
     let mut rest = text;
     while !rest.is_empty() {

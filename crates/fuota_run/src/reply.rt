@@ -1,14 +1,13 @@
 //! What a run says: replies with a text, and what they say where a source or a line is refused.
 
-ghost use Rattle.std.specs.Prelude.{◌≡◌, ◌++◌, IfOk, codes, string_bytes};
-ghost use Rattle.std.specs.Fmt.{decimal};
-ghost use Rattle.fuota_run.specs.Answer.{answer, why_word, refused};
+ghost use Rattle.std.specs.Prelude.{◌≡◌, IfOk};
+ghost use Rattle.fuota_run.specs.Answer.{answer, refused};
 ghost use Rattle.fuota_run.specs.Replies.{answer_in, seen_reply, IsUnread, IsMadeOf, IsSaid};
-ghost use Rattle.campaign_world.specs.Texts.{seen_text};
+ghost use Rattle.report_lines.specs.Texts.{seen_text};
 
 use crate::source::SourceError;
 use crate::status::Status;
-use campaign_world::{LineError, LineFault, LineWhy};
+use report_lines::{LineError, LineFault, fault_line};
 use std::alloc::{AllocError, Global};
 
 /// What a run says: its status, and the text that is written with it.
@@ -73,26 +72,6 @@ fn refused(alloc: Global, fault: LineFault) -> Result<Reply, AllocError>
 {
     Ok(Reply {
         status: Status::ScriptRefused,
-        text: refused_text(alloc, fault.line, why_word(fault.why))?.into_bytes(),
+        text: fault_line(alloc, fault)?.into_bytes(),
     })
-}
-
-fn refused_text(alloc: Global, line: u32, why: &str) -> Result<String, AllocError>
-    ensures { IfOk result (λ text. string_bytes text ≡ codes "line " ++ decimal line ++ (codes " " ++ why.now ++ codes "\n")) }
-{
-    format!(in alloc; "line {line} {why}\n")
-}
-
-fn why_word(why: LineWhy) -> &'static str
-    ensures { result.now ≡ why_word why }
-{
-    match why {
-        LineWhy::Limit => "limit",
-        LineWhy::Syntax => "syntax",
-        LineWhy::Order => "order",
-        LineWhy::Range => "range",
-        LineWhy::Device => "device",
-        LineWhy::Unsent => "unsent",
-        LineWhy::Time => "time",
-    }
 }

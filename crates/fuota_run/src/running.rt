@@ -1,17 +1,15 @@
 // The whole program: words and files in, one text and a status out.
-ghost use Rattle.std.specs.Prelude.{◌≡◌, ◌≢◌, ◌↔◌, ◌⊎◌, ◌≤◌, ℕ, true, false, List, [], None, map, string_bytes, IfOk, IfSome};
+ghost use Rattle.std.specs.Prelude.{◌≡◌, ◌≢◌, ℕ, true, false, List, [], None, Some, map, string_bytes, IfOk, IfSome};
 ghost use Rattle.std.specs.Io.KnownBytes.{Appends};
 ghost use Rattle.fuota_run.specs.Outside.{HoldsName, HasRisen};
 ghost use Rattle.image_slots.specs.Image.{is_image};
-ghost use Rattle.fuota_run.specs.Words.{asked, seen_asked, asks_files};
-ghost use Rattle.payload_replay.specs.Decode.{Decodes};
-ghost use Rattle.payload_replay.specs.Replay.{Replays};
+ghost use Rattle.fuota_run.specs.declared.words.FileForm.TheVariants.{Replay, Decode};
+ghost use Rattle.fuota_run.specs.Words.{plays, payloads, generates, asked, seen_asked, asks_files};
 ghost use Rattle.payload_replay.specs.HeldDecoding.{DecodingStands};
 ghost use Rattle.payload_replay.specs.HeldReplaying.{ReplayingStands};
-ghost use Rattle.fuota_run.specs.Answer.{generate_answer, tells};
-ghost use Rattle.fuota_run.specs.Reply.{HoldsForm, HoldsAsked, IsReplied, GivesScript, GivesCampaign, GivesFile, Gives, Says, IsReadUp, Ends, AppendsAnswer, IsNoForm, IsFinished};
+ghost use Rattle.fuota_run.specs.Reply.{HoldsForm, HoldsAsked, OutsideFiles, Replies, IsImageRead, IsReadUp, Ends, AppendsAnswer, IsNoForm, IsFinished, IsFaultless};
 ghost use Rattle.fuota_run.specs.Headline.{IsCampaignRun, IsRecoveryRun};
-ghost use Rattle.fuota_run.specs.Source.{IsTaken, IsTakenOf};
+ghost use Rattle.fuota_run.specs.Source.{IsTakenOf};
 ghost use Rattle.fuota_run.specs.Replies.{answer_in};
 ghost use Rattle.campaign_world.specs.World.{first_world};
 ghost use Rattle.campaign_world.specs.HeldWorld.{WorldStands};
@@ -71,6 +69,8 @@ pub fn run<F: Files, O: Sink>(alloc: Global, words: &[String], files: &mut F, ou
       old = O.written out.old;
       new = O.written out.new;
     }) result }
+    // No fault is passed over: where a call failed, the status says so, or that memory was wanting.
+    ensures faultless { IsFaultless result → (F.faults files.new ≡ F.faults files.old) × (O.faults out.new ≡ O.faults out.old) }
     // Words that are no form are answered so, and no others.
     ensures usage { result ≡ Status.Usage → asked (map string_bytes words.now) ≡ None }
     ensures no_form { asked (map string_bytes words.now) ≡ None → IsNoForm result }
@@ -94,10 +94,12 @@ pub fn run<F: Files, O: Sink>(alloc: Global, words: &[String], files: &mut F, ou
 #[tactic(auto, using(crate::proofs::ReplyLemmas::holds_asked))]
 fn reply_to<F: Files>(alloc: Global, words: &[String], files: &mut F) -> Result<Reply, AllocError>
     requires { HoldsForm (F.held files.old) (map string_bytes words.now) }
-    ensures reply { IfOk result (λ r. Says (asks_files (asked (map string_bytes words.now))) (Gives (F.held files.old) (asked (map string_bytes words.now)) (answer_in r)) (F.faults files.old) (F.faults files.new) (F.left files.new) (answer_in r)) }
-    ensures usage { IfOk result (λ r. (r.status ≡ Status.Usage) ↔ (asked (map string_bytes words.now) ≡ None)) }
-    ensures taken { IfOk result (λ r. (taken : ℕ) → r.status ≡ Status.TooLong taken → IsTakenOf (F.held files.old) (asked (map string_bytes words.now)) taken (F.left files.new)) }
-    ensures kept { F.faults files.old ≤ F.faults files.new }
+    ensures reply { IfOk result (λ r. Replies (asked (map string_bytes words.now)) (record {
+        held = F.held files.old;
+        before = F.faults files.old;
+        after = F.faults files.new;
+        left = F.left files.new;
+    }) (answer_in r)) }
     ensures untouched { asks_files (asked (map string_bytes words.now)) ≡ false → files.new ≡ files.old }
 {
     match read_words(alloc, words) {
@@ -113,10 +115,12 @@ fn reply_for<F: Files>(
     files: &mut F,
 ) -> Result<Reply, AllocError>
     requires { HoldsAsked (F.held files.old) (seen_asked what) }
-    ensures reply { IfOk result (λ r. Says (asks_files (seen_asked what.entry)) (Gives (F.held files.old) (seen_asked what.entry) (answer_in r)) (F.faults files.old) (F.faults files.new) (F.left files.new) (answer_in r)) }
-    ensures usage { IfOk result (λ r. (r.status ≡ Status.Usage) ↔ (seen_asked what.entry ≡ None)) }
-    ensures taken { IfOk result (λ r. (taken : ℕ) → r.status ≡ Status.TooLong taken → IsTakenOf (F.held files.old) (seen_asked what.entry) taken (F.left files.new)) }
-    ensures kept { F.faults files.old ≤ F.faults files.new }
+    ensures reply { IfOk result (λ r. Replies (seen_asked what.entry) (record {
+        held = F.held files.old;
+        before = F.faults files.old;
+        after = F.faults files.new;
+        left = F.left files.new;
+    }) (answer_in r)) }
     ensures untouched { asks_files (seen_asked what.entry) ≡ false → files.new ≡ files.old }
 {
     match what {
@@ -143,10 +147,12 @@ fn campaign<F: Files>(
 ) -> Result<Reply, AllocError>
     requires image { HoldsName (F.held files.old) image_name.now }
     requires script { HoldsName (F.held files.old) script_name.now }
-    ensures reply { IfOk result (λ r. Says true (GivesCampaign (F.held files.old) what image_name.now script_name.now (answer_in r)) (F.faults files.old) (F.faults files.new) (F.left files.new) (answer_in r)) }
-    ensures usage { IfOk result (λ r. r.status ≢ Status.Usage) }
-    ensures taken { IfOk result (λ r. (taken : ℕ) → r.status ≡ Status.TooLong taken → IsTaken (F.held files.old) image_name.now taken (F.left files.new) ⊎ IsTaken (F.held files.old) script_name.now taken (F.left files.new)) }
-    ensures kept { F.faults files.old ≤ F.faults files.new }
+    ensures { IfOk result (λ r. Replies (Some (plays what image_name.now script_name.now)) (record {
+        held = F.held files.old;
+        before = F.faults files.old;
+        after = F.faults files.new;
+        left = F.left files.new;
+    }) (answer_in r)) }
 {
     let image = match read_source(alloc, files, image_name, IMAGE_LIMIT) {
         Ok(image) => image,
@@ -158,7 +164,7 @@ fn campaign<F: Files>(
     script(alloc, files, what, &image, script_name)
 }
 
-/// The reply once the image is an image file.
+/// The reply once the image is an image file, whatever its name.
 fn script<F: Files>(
     alloc: Global,
     files: &mut F,
@@ -168,10 +174,13 @@ fn script<F: Files>(
 ) -> Result<Reply, AllocError>
     requires image { is_image image.now ≡ true }
     requires script { HoldsName (F.held files.old) name.now }
-    ensures reply { IfOk result (λ r. Says true (GivesScript (F.held files.old) what image.now name.now (answer_in r)) (F.faults files.old) (F.faults files.new) (F.left files.new) (answer_in r)) }
-    ensures usage { IfOk result (λ r. r.status ≢ Status.Usage) }
-    ensures taken { IfOk result (λ r. (taken : ℕ) → r.status ≡ Status.TooLong taken → IsTaken (F.held files.old) name.now taken (F.left files.new)) }
-    ensures kept { F.faults files.old ≤ F.faults files.new }
+    ensures { (image_name : List ℕ) → IsImageRead (F.held files.old) image_name image.now
+        → IfOk result (λ r. Replies (Some (plays what image_name name.now)) (record {
+        held = F.held files.old;
+        before = F.faults files.old;
+        after = F.faults files.new;
+        left = F.left files.new;
+    }) (answer_in r)) }
 {
     let mut heard = World::new(alloc, image)?;
     hear_script(alloc, files, what, &mut heard, name)
@@ -187,12 +196,14 @@ fn hear_script<F: Files>(
 ) -> Result<Reply, AllocError>
     requires script { HoldsName (F.held files.old) name.now }
     requires fresh { heard.old.kept ≡ None }
-    ensures reply { (image : List ℕ) → WorldStands heard.old (first_world image)
-        → IfOk result (λ r. Says true (GivesScript (F.held files.old) what image name.now (answer_in r)) (F.faults files.old) (F.faults files.new) (F.left files.new) (answer_in r)) }
-    ensures usage { (image : List ℕ) → WorldStands heard.old (first_world image) → IfOk result (λ r. r.status ≢ Status.Usage) }
-    ensures taken { (image : List ℕ) → WorldStands heard.old (first_world image)
-        → IfOk result (λ r. (taken : ℕ) → r.status ≡ Status.TooLong taken → IsTaken (F.held files.old) name.now taken (F.left files.new)) }
-    ensures kept { F.faults files.old ≤ F.faults files.new }
+    ensures { (image image_name : List ℕ) → WorldStands heard.old (first_world image)
+        → IsImageRead (F.held files.old) image_name image
+        → IfOk result (λ r. Replies (Some (plays what image_name name.now)) (record {
+        held = F.held files.old;
+        before = F.faults files.old;
+        after = F.faults files.new;
+        left = F.left files.new;
+    }) (answer_in r)) }
 {
     match hear_source(files, name, SCRIPT_LIMIT, heard) {
         Ok(()) => reply_of(alloc, tell_of(alloc, what, heard)),
@@ -208,10 +219,12 @@ fn payloads<F: Files>(
     name: &str,
 ) -> Result<Reply, AllocError>
     requires { HoldsName (F.held files.old) name.now }
-    ensures reply { IfOk result (λ r. Says true (GivesFile (F.held files.old) (tells what) name.now (answer_in r)) (F.faults files.old) (F.faults files.new) (F.left files.new) (answer_in r)) }
-    ensures usage { IfOk result (λ r. r.status ≢ Status.Usage) }
-    ensures taken { IfOk result (λ r. (taken : ℕ) → r.status ≡ Status.TooLong taken → IsTaken (F.held files.old) name.now taken (F.left files.new)) }
-    ensures kept { F.faults files.old ≤ F.faults files.new }
+    ensures { IfOk result (λ r. Replies (Some (payloads what name.now)) (record {
+        held = F.held files.old;
+        before = F.faults files.old;
+        after = F.faults files.new;
+        left = F.left files.new;
+    }) (answer_in r)) }
 {
     match what {
         FileForm::Replay => {
@@ -234,10 +247,12 @@ fn hear_replay<F: Files>(
 ) -> Result<Reply, AllocError>
     requires file { HoldsName (F.held files.old) name.now }
     requires fresh { ReplayingStands heard.old [] }
-    ensures reply { IfOk result (λ r. Says true (GivesFile (F.held files.old) Replays name.now (answer_in r)) (F.faults files.old) (F.faults files.new) (F.left files.new) (answer_in r)) }
-    ensures usage { IfOk result (λ r. r.status ≢ Status.Usage) }
-    ensures taken { IfOk result (λ r. (taken : ℕ) → r.status ≡ Status.TooLong taken → IsTaken (F.held files.old) name.now taken (F.left files.new)) }
-    ensures kept { F.faults files.old ≤ F.faults files.new }
+    ensures { IfOk result (λ r. Replies (Some (payloads Replay name.now)) (record {
+        held = F.held files.old;
+        before = F.faults files.old;
+        after = F.faults files.new;
+        left = F.left files.new;
+    }) (answer_in r)) }
 {
     match hear_source(files, name, SCRIPT_LIMIT, heard) {
         Ok(()) => reply_with(alloc, heard.text()),
@@ -254,10 +269,12 @@ fn hear_decode<F: Files>(
 ) -> Result<Reply, AllocError>
     requires file { HoldsName (F.held files.old) name.now }
     requires fresh { DecodingStands heard.port heard.direction heard [] }
-    ensures reply { IfOk result (λ r. Says true (GivesFile (F.held files.old) (Decodes heard.port heard.direction) name.now (answer_in r)) (F.faults files.old) (F.faults files.new) (F.left files.new) (answer_in r)) }
-    ensures usage { IfOk result (λ r. r.status ≢ Status.Usage) }
-    ensures taken { IfOk result (λ r. (taken : ℕ) → r.status ≡ Status.TooLong taken → IsTaken (F.held files.old) name.now taken (F.left files.new)) }
-    ensures kept { F.faults files.old ≤ F.faults files.new }
+    ensures { IfOk result (λ r. Replies (Some (payloads (Decode heard.port heard.direction) name.now)) (record {
+        held = F.held files.old;
+        before = F.faults files.old;
+        after = F.faults files.new;
+        left = F.left files.new;
+    }) (answer_in r)) }
 {
     match hear_source(files, name, SCRIPT_LIMIT, &mut heard) {
         Ok(()) => reply_with(alloc, heard.text()),
@@ -265,13 +282,10 @@ fn hear_decode<F: Files>(
     }
 }
 
-/// The reply to a seed.
+/// The reply to a seed, whatever the files.
 fn generated(alloc: Global, seed: u32) -> Result<Reply, AllocError>
-    ensures reply { IfOk result (λ r. answer_in r ≡ generate_answer seed) }
-    ensures replied { IfOk result (λ r. IsReplied r.status) }
-    ensures read { IfOk result (λ r. r.status ≢ Status.ReadFault) }
-    ensures usage { IfOk result (λ r. r.status ≢ Status.Usage) }
-    ensures taken { IfOk result (λ r. (taken : ℕ) → r.status ≢ Status.TooLong taken) }
+    ensures { (files : OutsideFiles) → files.after ≡ files.before
+        → IfOk result (λ r. Replies (Some (generates seed)) files (answer_in r)) }
 {
     let made = generate(alloc, seed)?;
     reply_of(alloc, sum_up(alloc, seed, &made.image, &made.script))

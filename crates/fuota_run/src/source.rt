@@ -41,8 +41,9 @@ pub fn read_source<F: Files>(
     ensures consumed { (taken : ℕ) → IsErrOf result (SourceError.TooLong taken) → IsTaken (F.held files.old) name.now taken (F.left files.new) }
     ensures failed { IsErrOf result SourceError.Failed → HasRisen (F.faults files.old) (F.faults files.new) }
 
+    ensures quiet { result ≢ Err SourceError.Failed → F.faults files.new ≡ F.faults files.old }
+
     ensures held { F.held files.new ≡ F.held files.old }
-    ensures kept { F.faults files.old ≤ F.faults files.new }
 {
     if files.choose(name).is_err() {
         return Err(SourceError::Failed);
@@ -75,11 +76,11 @@ fn read_piece<F: Files>(
     ensures end { IfOk result (λ n. n ≡ 0 → IsAtEnd (F.left files.new)) }
 
     ensures failed { IsErrOf result SourceError.Failed → HasRisen (F.faults files.old) (F.faults files.new) }
+    ensures quiet { result ≢ Err SourceError.Failed → F.faults files.new ≡ F.faults files.old }
     ensures not_long { (taken : ℕ) → result ≢ Err (SourceError.TooLong taken) }
 
     ensures chosen { F.chosen files.new ≡ true }
     ensures held { F.held files.new ≡ F.held files.old }
-    ensures kept { F.faults files.old ≤ F.faults files.new }
 {
     let mut piece = [0; PIECE];
     let room = PIECE.min(most - bytes.len());

@@ -4,7 +4,7 @@ ghost use Rattle.std.specs.Prelude.{◌≡◌, ◌++◌, true, None, Result, Ok,
 ghost use Rattle.std.specs.Fmt.{decimal};
 ghost use Rattle.image_slots.specs.Image.{is_image};
 ghost use Rattle.script_lines.specs.Lines.{lines_of};
-ghost use Rattle.campaign_world.specs.declared.faults.LineFault.{LineFault};
+ghost use Rattle.report_lines.specs.declared.faults.LineFault.{LineFault};
 ghost use Rattle.campaign_world.specs.Recovery.{recovery};
 ghost use Rattle.campaign_world.specs.World.{WorldState, first_world};
 ghost use Rattle.campaign_world.specs.HeldWorld.{WorldStands};
@@ -17,7 +17,8 @@ ghost use Rattle.fuota_run.specs.Replies.{seen_reply, IsBehind, IsRecovery};
 use crate::reply::Reply;
 use crate::status::Status;
 use crate::words::ScriptForm;
-use campaign_world::{LineError, NoFile, World};
+use campaign_world::{NoFile, World};
+use report_lines::LineError;
 use script_lines::first_line;
 use std::alloc::{AllocError, Global};
 

@@ -1,5 +1,4 @@
 pub mod PayloadLines
-pub mod Behind
 pub mod Payloads
 pub mod ReplayLines
 pub mod ReplaySessions

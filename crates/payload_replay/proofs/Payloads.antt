@@ -5,15 +5,17 @@ use Rattle.std.specs.Global.{Global}
 use Rattle.std.specs.declared.vec.Vec.{Vec}
 use Rattle.wire_base.specs.declared.refusal.Direction.{Direction}
 use Rattle.package_grammar.specs.Reading.{reading_of}
-use Rattle.campaign_world.specs.declared.faults.LineFault.{LineFault}
-use Rattle.campaign_world.specs.declared.faults.LineError.{LineError}
-use Rattle.campaign_world.specs.declared.faults.LineError.TheVariants as error
-use Rattle.campaign_world.specs.Texts.{seen_text}
+use Rattle.report_lines.specs.declared.faults.LineFault.{LineFault}
+use Rattle.report_lines.specs.declared.faults.LineError.{LineError}
+use Rattle.report_lines.specs.declared.faults.LineError.TheVariants as error
+use Rattle.report_lines.specs.Texts.{seen_text}
 use Rattle.script_lines.specs.Lines.{lines_of}
-use Rattle.payload_replay.specs.PayloadLines.{payload_of, TakesLines, told_by, IsLineRefused, IsTold}
+use Rattle.payload_replay.specs.PayloadLines.{payload_of}
+use Rattle.report_lines.specs.Lines.{TakesLines, told_by, IsLineRefused, IsTold}
 use Rattle.payload_replay.specs.Decode.{payload_text, numbered_text, Writes, Decodes, HasOneAnswer, HasAnAnswer}
 use Rattle.payload_replay.specs.HeldDecoding.{HeldDecoding, IsDecodedBy, DecodingStands, HearsDecoded}
-use Rattle.payload_replay.proofs.PayloadLines.{line_behind, refused_behind, lines_stop, payload_cut, lines_once, lines_lead}
+use Rattle.payload_replay.proofs.PayloadLines.{payload_cut}
+use Rattle.report_lines.proofs.Lines.{line_behind, refused_behind, lines_stop, lines_once, lines_lead}
 
 -- texts that were written one behind another
 pub three_on : (text one two rest : List ℕ) → ((text ++ one) ++ two) ++ rest ≡ text ++ (one ++ (two ++ rest))
@@ -47,12 +49,12 @@ decoded_taken old text line payload none is writes port direction lines whole sa
       direction_is = stands.direction_is;
       behind = subst (λ (k : Option LineError). IsDecodedBy new (lines ++ whole ∷ []) k) (sym none) (
         omega (arith, length-append lines (whole ∷ []), so_far.0),
-        line_behind (Writes old.port old.direction) 0 old.lines [] old.text text lines whole payload (omega (arith, so_far.0)) so_far.1 its writes,
+        line_behind payload_of (Writes old.port old.direction) 0 old.lines [] old.text text lines whole payload (omega (arith, so_far.0)) so_far.1 its writes,
       );
     }
 
 -- that is refused, or there is no memory
-pub decoded_refused : (old : HeldDecoding) (text line : List ℕ) (e : LineError) → old.kept ≡ None → IsLineRefused old.lines line e
+pub decoded_refused : (old : HeldDecoding) (text line : List ℕ) (e : LineError) → old.kept ≡ None → IsLineRefused payload_of old.lines line e
     → HearsDecoded old line (record old { text = text; kept = Some e })
 decoded_refused old text line (error.Line fault) none refused port direction lines whole same stands =
     let so_far = subst (λ (k : Option LineError). IsDecodedBy old lines k) none stands.behind in
@@ -60,7 +62,7 @@ decoded_refused old text line (error.Line fault) none refused port direction lin
     record {
       port_is = stands.port_is;
       direction_is = stands.direction_is;
-      behind = refused_behind (Writes old.port old.direction) 0 old.lines [] old.text lines whole fault (omega (arith, so_far.0)) so_far.1 its refused.1;
+      behind = refused_behind payload_of (Writes old.port old.direction) 0 old.lines [] old.text lines whole fault (omega (arith, so_far.0)) so_far.1 its refused.1;
     }
 decoded_refused old text line error.Memory none refused port direction lines whole same stands =
     record { port_is = stands.port_is; direction_is = stands.direction_is; behind = tt }
@@ -76,7 +78,7 @@ decoded_kept old line e kept port direction lines whole same stands =
     }
   where
     stays : (e : LineError) → IsDecodedBy old lines (Some e) → IsDecodedBy old (lines ++ whole ∷ []) (Some e)
-    stays (error.Line fault) refused = lines_stop (Writes old.port old.direction) (whole ∷ []) fault 0 [] lines refused
+    stays (error.Line fault) refused = lines_stop payload_of (Writes old.port old.direction) (whole ∷ []) fault 0 [] lines refused
     stays error.Memory refused = tt
 
 -- ---- what it tells behind all lines
@@ -87,9 +89,9 @@ pub decoded_told : (held : HeldDecoding) (port : ℕ) (direction : Direction) (f
 unfolding Decodes
 decoded_told held port direction file text (Ok all) none text_is is memory stands =
     let taken = subst (λ (k : Option LineError). IsDecodedBy held (lines_of file) k) none stands.behind in
-    let here = subst (λ (p : ℕ). TakesLines (Writes p held.direction) 0 [] (lines_of file) (Ok held.text)) stands.port_is taken.1 in (
+    let here = subst (λ (p : ℕ). TakesLines payload_of (Writes p held.direction) 0 [] (lines_of file) (Ok held.text)) stands.port_is taken.1 in (
       Ok held.text,
-      subst (λ (d : Direction). TakesLines (Writes port d) 0 [] (lines_of file) (Ok held.text)) stands.direction_is here,
+      subst (λ (d : Direction). TakesLines payload_of (Writes port d) 0 [] (lines_of file) (Ok held.text)) stands.direction_is here,
       ap (λ (t : List ℕ). let r : Result (List ℕ) LineFault = Ok t in r) (is ∙ ap (λ (t : List ℕ). t ++ codes "end\n") text_is),
     )
 decoded_told held port direction file text (Err e) none text_is is memory stands =
@@ -100,8 +102,8 @@ pub decoded_error : (held : HeldDecoding) (port : ℕ) (direction : Direction) (
 unfolding Decodes
 decoded_error held port direction file (error.Line fault) kept stands =
     let refused = subst (λ (k : Option LineError). IsDecodedBy held (lines_of file) k) kept stands.behind in
-    let here = subst (λ (p : ℕ). TakesLines (Writes p held.direction) 0 [] (lines_of file) (Err fault)) stands.port_is refused in
-    (Err fault, subst (λ (d : Direction). TakesLines (Writes port d) 0 [] (lines_of file) (Err fault)) stands.direction_is here, refl)
+    let here = subst (λ (p : ℕ). TakesLines payload_of (Writes p held.direction) 0 [] (lines_of file) (Err fault)) stands.port_is refused in
+    (Err fault, subst (λ (d : Direction). TakesLines payload_of (Writes port d) 0 [] (lines_of file) (Err fault)) stands.direction_is here, refl)
 decoded_error held port direction file error.Memory kept stands = tt
 
 -- ---- answers
@@ -111,7 +113,7 @@ pub decode_one : HasOneAnswer
 unfolding Decodes
 decode_one port dir file one other first second =
     first.2
-    ∙ ap (told_by (λ text. text ++ codes "end\n")) (lines_once (Writes port dir) 0 [] (lines_of file) first.0 second.0
+    ∙ ap (told_by (λ text. text ++ codes "end\n")) (lines_once payload_of (Writes port dir) 0 [] (lines_of file) first.0 second.0
     (λ n payload text one other written again. written ∙ sym again) first.1 second.1)
     ∙ sym second.2
 
@@ -119,6 +121,6 @@ decode_one port dir file one other first second =
 pub decode_always : HasAnAnswer
 unfolding Decodes
 decode_always port dir file =
-    let t = lines_lead (Writes port dir) 0 [] (lines_of file)
+    let t = lines_lead payload_of (Writes port dir) 0 [] (lines_of file)
     (λ n payload text. (text ++ numbered_text n (payload_text (reading_of port dir payload)), refl)) in
     (told_by (λ text. text ++ codes "end\n") t.0, (t.0, t.1, refl))

@@ -29,10 +29,11 @@ use Rattle.device_core.specs.Firmware.{version_step, upgrade_step, delete_image_
 use Rattle.device_core.specs.Fragments.{setup_of, setup_step, delete_step, status_step, heard_step, fragment_step}
 use Rattle.device_core.specs.Step.{command_step, step, after_commands, weights}
 use Rattle.device_core.specs.Deliver.{Outcome, message_delivery, read_delivery, heard_delivery, delivery}
-use Rattle.campaign_world.specs.declared.faults.LineWhy.{LineWhy}
-use Rattle.campaign_world.specs.declared.faults.LineFault.{LineFault}
+use Rattle.report_lines.specs.declared.faults.LineWhy.{LineWhy}
+use Rattle.report_lines.specs.declared.faults.LineFault.{LineFault}
 use Rattle.device_core.proofs.HeardSessions.{OfEach}
-use Rattle.payload_replay.specs.PayloadLines.{payload_of, BehindLine, TakesLines}
+use Rattle.payload_replay.specs.PayloadLines.{payload_of}
+use Rattle.report_lines.specs.Lines.{BehindLine, TakesLines}
 use Rattle.payload_replay.specs.Replay.{replay_device, captured, after_payload, Hears}
 use Rattle.payload_replay.specs.Carried.{CarriedCommand, carried, carried_by, carried_in, carried_after, after_command, session_behind}
 
@@ -258,9 +259,9 @@ behind_more config index s (c ∷ cs) more = behind_more config index (after_com
 
 line_holds : (config : DeviceConfig) (told : Told) (lines : ℕ) (d t : DeviceState) (rest : List (List ℕ))
     (r : Result (List ℕ) LineWhy) → config.class ≡ class.C → d.outbox ≡ [] → Holds config told d
-    → ((next : DeviceState) (other : Told) → next.outbox ≡ [] → Holds config other next → TakesLines Hears (lines + 1) next rest (Ok t)
+    → ((next : DeviceState) (other : Told) → next.outbox ≡ [] → Holds config other next → TakesLines payload_of Hears (lines + 1) next rest (Ok t)
     → Holds config (λ index. session_behind config index (other index) (carried_after (lines + 1) rest)) t)
-    → BehindLine Hears lines d r (λ next. TakesLines Hears (lines + 1) next rest) (Ok t)
+    → BehindLine Hears lines d r (λ next. TakesLines payload_of Hears (lines + 1) next rest) (Ok t)
     → Holds config (λ index. session_behind config index (told index) (carried_in (lines + 1) r ++ carried_after (lines + 1) rest)) t
 unfolding after_payload
 line_holds config told lines d t rest (Err cause) c empty h more behind = absurd cc
@@ -273,7 +274,7 @@ line_holds config told lines d t rest (Ok payload) c empty h more behind =
     (all.0, as_well _ _ t.sessions (λ index. behind_more config index (told index) some (carried_after (lines + 1) rest)) all.1)
 
 lines_hold : (config : DeviceConfig) (told : Told) (lines : ℕ) (d t : DeviceState) (rest : List (List ℕ))
-    → config.class ≡ class.C → d.outbox ≡ [] → Holds config told d → TakesLines Hears lines d rest (Ok t)
+    → config.class ≡ class.C → d.outbox ≡ [] → Holds config told d → TakesLines payload_of Hears lines d rest (Ok t)
     → Holds config (λ index. session_behind config index (told index) (carried_after lines rest)) t
 unfolding TakesLines carried_after session_behind
 lines_hold config told lines d t [] c empty h taken = let same : d ≡ t = cc in subst (Holds config told) same h
@@ -282,7 +283,7 @@ lines_hold config told lines d t (line ∷ rest) c empty h taken =
     (λ next other none holds behind. lines_hold config other (lines + 1) next t rest c none holds behind) taken
 
 -- the sessions of a replay
-pub replay_holds : (rows : ℕ) (t : DeviceState) (rest : List (List ℕ)) → TakesLines Hears 1 (replay_device rows) rest (Ok t)
+pub replay_holds : (rows : ℕ) (t : DeviceState) (rest : List (List ℕ)) → TakesLines payload_of Hears 1 (replay_device rows) rest (Ok t)
     → OfEach (λ index s. s ≡ session_behind (replay_device rows).config index None (carried_after 1 rest)) t.sessions
 replay_holds rows t rest taken =
     (lines_hold (replay_device rows).config (λ index. None) 1 (replay_device rows) t rest refl refl

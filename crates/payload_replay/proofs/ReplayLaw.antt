@@ -1,25 +1,26 @@
 -- What `replay` says of each session, whoever made the payloads.
-use Rattle.std.proofs.Common.{◌≡◌, ℕ, ◌<◌, min, List, [], ◌∷◌, ◌++◌, length, Option, None, Some, IfSome, Result, Ok, sym, ap, ◌∙◌, subst, append-nil, codes, arith}
+use Rattle.std.proofs.Common.{◌≡◌, ℕ, ◌<◌, min, List, [], ◌∷◌, ◌++◌, length, Option, None, Some, IfSome, Result, Ok, sym, ap, ◌∙◌, subst, append_assoc, append-nil, codes, arith}
 use Rattle.std.specs.Fmt.{decimal}
 use Rattle.frag_model.specs.Fragments.{Fragment}
 use Rattle.frag_session.specs.declared.answers.Verdict.{Verdict}
 use Rattle.frag_session.specs.declared.answers.Verdict.TheVariants as verdict
 use Rattle.frag_model.specs.Members.{In}
 use Rattle.frag_session.specs.declared.answers.Via.TheVariants.{Unicast}
-use Rattle.frag_session.specs.Session.{Session, Seen, cause_of, shape_of, seen_of}
+use Rattle.frag_session.specs.Session.{Session, Seen, cause_of, shape_of, seen_of, view_of}
 use Rattle.frag_session.specs.Stands.{IsSetUp}
 use Rattle.script_lines.specs.Lines.{lines_of}
 use Rattle.device_core.specs.declared.config.DeviceConfig.{DeviceConfig}
 use Rattle.device_core.specs.SessionTable.{session_at}
 use Rattle.device_core.specs.Device.{DeviceState}
-use Rattle.campaign_world.specs.declared.faults.LineWhy.{LineWhy}
-use Rattle.campaign_world.specs.Report.{verdict_text, session_text}
-use Rattle.payload_replay.specs.Replay.{header_rows, replay_device, ReachesBehind, Reaches, file_line, told_session}
+use Rattle.report_lines.specs.declared.faults.LineWhy.{LineWhy}
+use Rattle.report_lines.specs.Devices.{counts_line}
+use Rattle.report_lines.specs.Sessions.{whole, verdict_text, session_text, session_line, saying, file_line, lines_below, lines_above}
+use Rattle.report_lines.proofs.Places.{line_by_index}
+use Rattle.payload_replay.specs.Replay.{header_rows, replay_device, ReachesBehind, Reaches, replay_text}
 use Rattle.payload_replay.specs.Carried.{CarriedCommand, carried_after, session_behind}
 use Rattle.frag_session.specs.FirstMoment.{MakesFile, IsDecidedAtFirst}
 use Rattle.device_core.specs.Events.{CameInTurn}
-use Rattle.campaign_world.specs.Report.{saying}
-use Rattle.payload_replay.specs.ReplayHeadline.{IsReplayed, Carries, IsFileOf, IsSince, IsToldOf, ReplayHeadline}
+use Rattle.payload_replay.specs.ReplayHeadline.{IsReplayed, Carries, IsFileOf, IsSince, text_saying, IsToldOf, ReplayHeadline}
 use Rattle.frag_session.proofs.FirstMoments.{decided_at_first}
 use Rattle.campaign_server.proofs.LineItems.{within}
 use Rattle.device_core.proofs.HeardSessions.{IsFine, of_one}
@@ -83,25 +84,43 @@ all file header rows payloads device index s f before behind r its since none =
 -- ---- what the text says
 
 -- the text by its verdict
-by_verdict : (index : ℕ) (seen : Seen) (v : Verdict) → seen.verdict ≡ v
-    → told_session index (Some seen) ≡ session_text index seen.received seen.missing
-    (verdict_text v []) ++ file_line v seen.file
-by_verdict index seen v is =
-    ap (λ (x : Verdict). session_text index seen.received seen.missing (verdict_text x []) ++ file_line x seen.file) is
-
-told_of : (index : ℕ) (s : Session) → IsDecidedAtFirst s → IsToldOf index s
-told_of index s d =
+by_verdict : (device : DeviceState) (index : ℕ) (s : Session) (v : Verdict) → index < 4 → session_at device.sessions index ≡ Some s
+    → (seen_of s).verdict ≡ v
+    → replay_text device ≡ text_saying device index (saying index s (verdict_text v []) ++ file_line v (seen_of s).file)
+unfolding replay_text view_of
+by_verdict device index s v small here is =
     let seen : Seen = seen_of s in
+    let line : session_line whole index (view_of (session_at device.sessions index))
+    ≡ session_text index seen.received seen.missing (verdict_text v []) ++ file_line v seen.file =
+    ap (λ (o : Option Session). session_line whole index (view_of o)) here
+    ∙ ap (λ (x : Verdict). session_text index seen.received seen.missing (verdict_text x []) ++ file_line x seen.file) is in
+    let below = lines_below whole device.sessions index in
+    let above = lines_above whole device.sessions index in
+    ap (λ (t : List ℕ). codes "fuota replay 1\n" ++ (counts_line device.counts ++ (t ++ codes "end\n")))
+    (line_by_index index whole device.sessions small
+    ∙ ap (λ (l : List ℕ). below ++ (l ++ above)) line)
+    ∙ ap (λ (t : List ℕ). codes "fuota replay 1\n" ++ (counts_line device.counts ++ t))
+    (append_assoc below (saying index s (verdict_text v []) ++ file_line v seen.file ++ above) (codes "end\n")
+    ∙ ap (λ (t : List ℕ). below ++ t) (append_assoc (saying index s (verdict_text v []) ++ file_line v seen.file) above (codes "end\n")))
+
+told_of : (device : DeviceState) (index : ℕ) (s : Session) → index < 4 → session_at device.sessions index ≡ Some s
+    → IsDecidedAtFirst s → IsToldOf device index s
+told_of device index s small here d =
+    let seen : Seen = seen_of s in
+    let says = λ (t : List ℕ). text_saying device index t in
     record {
       complete = λ line file at.
-          by_verdict index seen (verdict.Complete line) ((d.complete line).1 (file, at))
-          ∙ ap (λ (words : List ℕ). saying index s words ++ file_line (verdict.Complete line) seen.file)
+          by_verdict device index s (verdict.Complete line) small here ((d.complete line).1 (file, at))
+          ∙ ap (λ (words : List ℕ). says (saying index s words ++ file_line (verdict.Complete line) seen.file))
           (append-nil (codes "complete at " ++ decimal line))
-          ∙ ap (λ (f : List ℕ). saying index s (codes "complete at " ++ decimal line) ++ file_line
-          (verdict.Complete line) f) (d.file line file at);
-      no_rows = λ line at. by_verdict index seen (verdict.NoRows line) ((d.no_rows line).1 at) ∙ append-nil _;
-      conflict = λ line at. by_verdict index seen (verdict.Conflict line) ((d.conflict line).1 at) ∙ append-nil _;
-      receiving = λ stays. by_verdict index seen verdict.Receiving (d.receiving.1 stays) ∙ append-nil _;
+          ∙ ap (λ (f : List ℕ). says (saying index s (codes "complete at " ++ decimal line) ++ file_line
+          (verdict.Complete line) f)) (d.file line file at);
+      no_rows = λ line at. by_verdict device index s (verdict.NoRows line) small here ((d.no_rows line).1 at)
+          ∙ ap says (append-nil (saying index s (verdict_text (verdict.NoRows line) [])));
+      conflict = λ line at. by_verdict device index s (verdict.Conflict line) small here ((d.conflict line).1 at)
+          ∙ ap says (append-nil (saying index s (verdict_text (verdict.Conflict line) [])));
+      receiving = λ stays. by_verdict device index s verdict.Receiving small here (d.receiving.1 stays)
+          ∙ ap says (append-nil (saying index s (verdict_text verdict.Receiving [])));
     }
 
 pub replay_headline : ReplayHeadline
@@ -111,5 +130,5 @@ replay_headline = record {
   exact = exact;
   all = all;
   decided = decided;
-  told = λ file device index s r. told_of index s (decided file device index s r);
+  told = λ file device index s r. told_of device index s r.index_is r.session_is (decided file device index s r);
 }

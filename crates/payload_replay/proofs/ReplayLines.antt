@@ -8,16 +8,18 @@ use Rattle.device_core.specs.Device.{DeviceState}
 use Rattle.device_core.specs.HeldDevice.{HeldDevice, DeviceStands, Becomes}
 use Rattle.script_lines.specs.Lines.{lines_of}
 use Rattle.script_lines.specs.Pieces.{cut}
-use Rattle.campaign_world.specs.declared.faults.LineWhy.{LineWhy}
-use Rattle.campaign_world.specs.declared.faults.LineWhy.TheVariants as why
-use Rattle.campaign_world.specs.declared.faults.LineFault.{LineFault}
-use Rattle.campaign_world.specs.declared.faults.LineError.{LineError}
-use Rattle.campaign_world.specs.declared.faults.LineError.TheVariants as error
-use Rattle.campaign_world.specs.Texts.{seen_text}
-use Rattle.payload_replay.specs.PayloadLines.{payload_of, TakesLines, told_by, IsLineRefused, IsTold}
+use Rattle.report_lines.specs.declared.faults.LineWhy.{LineWhy}
+use Rattle.report_lines.specs.declared.faults.LineWhy.TheVariants as why
+use Rattle.report_lines.specs.declared.faults.LineFault.{LineFault}
+use Rattle.report_lines.specs.declared.faults.LineError.{LineError}
+use Rattle.report_lines.specs.declared.faults.LineError.TheVariants as error
+use Rattle.report_lines.specs.Texts.{seen_text}
+use Rattle.payload_replay.specs.PayloadLines.{payload_of}
+use Rattle.report_lines.specs.Lines.{TakesLines, told_by, IsLineRefused, IsTold}
 use Rattle.payload_replay.specs.Replay.{header_rows, replay_device, Hears, ReachesBehind, Reaches, replay_text, after_payload, Replays, ReplaysOnce, ReplaysAlways}
 use Rattle.payload_replay.specs.HeldReplaying.{HeldReplaying, HoldsReached, IsReplayedBy, ReplayingStands, HearsReplayed, IsBegun}
-use Rattle.payload_replay.proofs.PayloadLines.{line_behind, refused_behind, lines_stop, payload_cut, lines_once, lines_lead}
+use Rattle.payload_replay.proofs.PayloadLines.{payload_cut}
+use Rattle.report_lines.proofs.Lines.{line_behind, refused_behind, lines_stop, lines_once, lines_lead}
 
 -- a file has one outcome, since each payload leads to one device
 
@@ -25,7 +27,7 @@ behind_once : (rows : Result ℕ LineWhy) (lines : List (List ℕ)) (one other :
     → ReachesBehind rows lines one → ReachesBehind rows lines other → one ≡ other
 behind_once (Err cause) lines one other first second = first ∙ sym second
 behind_once (Ok rows) lines one other first second =
-    lines_once Hears 1 (replay_device rows) lines one other
+    lines_once payload_of Hears 1 (replay_device rows) lines one other
     (λ n payload device one other heard again. heard ∙ sym again) first second
 
 pub reaches_once : (lines : List (List ℕ)) (one other : Result DeviceState LineFault) → Reaches lines one
@@ -44,7 +46,7 @@ replay_one file one other first second =
 
 behind_there : (rows : Result ℕ LineWhy) (lines : List (List ℕ)) → (outcome : Result DeviceState LineFault) × ReachesBehind rows lines outcome
 behind_there (Err cause) lines = (Err (record { line = 1; why = cause }), refl)
-behind_there (Ok rows) lines = lines_lead Hears 1 (replay_device rows) lines (λ n payload device. (after_payload n payload device, refl))
+behind_there (Ok rows) lines = lines_lead payload_of Hears 1 (replay_device rows) lines (λ n payload device. (after_payload n payload device, refl))
 
 reaches_there : (lines : List (List ℕ)) → (outcome : Result DeviceState LineFault) × Reaches lines outcome
 unfolding Reaches
@@ -60,14 +62,14 @@ replay_always file =
 -- ---- lines behind others
 
 behind_then : (rows : Result ℕ LineWhy) (lines rest : List (List ℕ)) (device : DeviceState) (outcome : Result DeviceState LineFault)
-    → ((first : DeviceState) → TakesLines Hears 1 first lines (Ok device) → TakesLines Hears 1 first (lines ++ rest) outcome)
+    → ((first : DeviceState) → TakesLines payload_of Hears 1 first lines (Ok device) → TakesLines payload_of Hears 1 first (lines ++ rest) outcome)
     → ReachesBehind rows lines (Ok device) → ReachesBehind rows (lines ++ rest) outcome
 behind_then (Err cause) lines rest device outcome on behind = absurd cc
 behind_then (Ok rows) lines rest device outcome on behind = on (replay_device rows) behind
 
 reaches_then : (lines rest : List (List ℕ)) (count : ℕ) (device : DeviceState) (outcome : Result DeviceState LineFault)
     → count ≡ length lines → ((first : DeviceState) (behind : List (List ℕ)) → count ≡ 1 + length behind
-    → TakesLines Hears 1 first behind (Ok device) → TakesLines Hears 1 first (behind ++ rest) outcome)
+    → TakesLines payload_of Hears 1 first behind (Ok device) → TakesLines payload_of Hears 1 first (behind ++ rest) outcome)
     → Reaches lines (Ok device) → Reaches (lines ++ rest) outcome
 unfolding Reaches
 reaches_then [] rest count device outcome are on reaches = absurd cc
@@ -80,7 +82,7 @@ reaches_more : (lines : List (List ℕ)) (count : ℕ) (device : DeviceState) (l
     → Reaches (lines ++ line ∷ []) (Ok (after_payload (count + 1) payload device))
 reaches_more lines count device line payload are reaches is =
     reaches_then lines (line ∷ []) count device (Ok (after_payload (count + 1) payload device)) are
-    (λ first behind here taken. line_behind Hears 1 count first device (after_payload (count + 1) payload device) behind line payload here taken is refl) reaches
+    (λ first behind here taken. line_behind payload_of Hears 1 count first device (after_payload (count + 1) payload device) behind line payload here taken is refl) reaches
 
 -- one that is refused
 reaches_fault : (lines : List (List ℕ)) (count : ℕ) (device : DeviceState) (line : List ℕ) (fault : LineFault) → count ≡ length lines
@@ -88,12 +90,12 @@ reaches_fault : (lines : List (List ℕ)) (count : ℕ) (device : DeviceState) (
     → Reaches (lines ++ line ∷ []) (Err fault)
 reaches_fault lines count device line fault are reaches is place =
     reaches_then lines (line ∷ []) count device (Err fault) are
-    (λ first behind here taken. refused_behind Hears 1 count first device behind line fault here taken is place) reaches
+    (λ first behind here taken. refused_behind payload_of Hears 1 count first device behind line fault here taken is place) reaches
 
 behind_stop : (rows : Result ℕ LineWhy) (lines rest : List (List ℕ)) (fault : LineFault) → ReachesBehind rows lines (Err fault)
     → ReachesBehind rows (lines ++ rest) (Err fault)
 behind_stop (Err cause) lines rest fault behind = behind
-behind_stop (Ok rows) lines rest fault behind = lines_stop Hears rest fault 1 (replay_device rows) lines behind
+behind_stop (Ok rows) lines rest fault behind = lines_stop payload_of Hears rest fault 1 (replay_device rows) lines behind
 
 -- behind the first refused line nothing more comes of any
 reaches_stop : (lines rest : List (List ℕ)) (fault : LineFault) → 0 < length lines → Reaches lines (Err fault)
@@ -176,7 +178,7 @@ replayed_heard old before after line payload none some is becomes lines whole sa
 
 -- one that is refused, or there is no memory
 pub replayed_refused : (old : HeldReplaying) (before : HeldDevice) (after : Option HeldDevice) (line : List ℕ) (e : LineError)
-    → old.kept ≡ None → old.device ≡ Some before → IsLineRefused old.lines line e
+    → old.kept ≡ None → old.device ≡ Some before → IsLineRefused payload_of old.lines line e
     → HearsReplayed old line (record old { device = after; kept = Some e })
 replayed_refused old before after line (error.Line fault) none some refused lines whole same stands =
     let so_far = subst (λ (k : Option LineError). IsReplayedBy old lines k) none stands in

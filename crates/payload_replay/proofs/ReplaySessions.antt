@@ -3,9 +3,10 @@
 use Rattle.std.proofs.Common.{◌≡◌, ℕ, ◌+◌, List, [], ◌∷◌, drop, Some, Result, Ok, Err, refl, sym, subst, arith}
 use Rattle.device_core.specs.Device.{DeviceState}
 use Rattle.wire_base.specs.Numbered.{numbered}
-use Rattle.campaign_world.specs.declared.faults.LineWhy.{LineWhy}
-use Rattle.campaign_world.specs.declared.faults.LineFault.{LineFault}
-use Rattle.payload_replay.specs.PayloadLines.{payload_of, BehindLine, TakesLines}
+use Rattle.report_lines.specs.declared.faults.LineWhy.{LineWhy}
+use Rattle.report_lines.specs.declared.faults.LineFault.{LineFault}
+use Rattle.payload_replay.specs.PayloadLines.{payload_of}
+use Rattle.report_lines.specs.Lines.{BehindLine, TakesLines}
 use Rattle.payload_replay.specs.Replay.{header_rows, replay_device, captured, after_payload, Hears, ReachesBehind, Reaches}
 use Rattle.payload_replay.specs.ReplayHeadline.{Carries}
 use Rattle.device_core.proofs.HeardSessions.{AreFine, AreCarried, delivery_fine}
@@ -53,7 +54,7 @@ line_keeps all lines line d t (Ok payload) goes_on payload_is line_is h more beh
     more behind.0 (subst (AreFine (Carries all) (lines + 1)) (sym behind.1) fine) behind.2
 
 lines_keep : (all : List (List ℕ)) (lines : ℕ) (d t : DeviceState) (rest : List (List ℕ)) → drop lines all ≡ rest
-    → TakesLines Hears lines d rest (Ok t) → AreFine (Carries all) lines d
+    → TakesLines payload_of Hears lines d rest (Ok t) → AreFine (Carries all) lines d
     → (last : ℕ) × AreFine (Carries all) last t
 unfolding TakesLines
 lines_keep all lines d t [] is taken h = let same : d ≡ t = cc in (lines, subst (AreFine (Carries all) lines) same h)

@@ -12,7 +12,7 @@ use Rattle.device_core.specs.declared.config.DeviceConfig.{DeviceConfig}
 use Rattle.device_core.specs.Device.{outbox_size, limits_of, room_of}
 use Rattle.device_core.specs.Fragments.{setup_of}
 use Rattle.device_core.specs.Step.{weights}
-use Rattle.campaign_world.specs.declared.faults.LineWhy.{LineWhy}
+use Rattle.report_lines.specs.declared.faults.LineWhy.{LineWhy}
 use Rattle.payload_replay.specs.PayloadLines.{payload_of}
 
 -- ---- what the lines carry

@@ -8,9 +8,10 @@ use Rattle.wire_base.specs.declared.refusal.Why.TheVariants as stop
 use Rattle.package_grammar.specs.declared.command.Command.{Command}
 use Rattle.package_grammar.specs.Reading.{Reading, reading_of}
 use Rattle.package_grammar.specs.Texts.{text_of}
-use Rattle.campaign_world.specs.declared.faults.LineFault.{LineFault}
+use Rattle.report_lines.specs.declared.faults.LineFault.{LineFault}
 use Rattle.script_lines.specs.Lines.{lines_of}
-use Rattle.payload_replay.specs.PayloadLines.{TakesLines, told_by, TellsOnce, TellsAlways}
+use Rattle.payload_replay.specs.PayloadLines.{payload_of}
+use Rattle.report_lines.specs.Lines.{TakesLines, told_by, TellsOnce, TellsAlways}
 
 -- ---- the text of a payload
 
@@ -47,7 +48,7 @@ Writes port direction n payload text next = next ≡ text ++ numbered_text n (pa
 -- what is told of a file: the whole text, or the first refused line
 unfoldable pub Decodes : ℕ → Direction → List ℕ → Result (List ℕ) LineFault → Type 0
 Decodes port direction file answer =
-    (outcome : Result (List ℕ) LineFault) × TakesLines (Writes port direction) 0 [] (lines_of file) outcome
+    (outcome : Result (List ℕ) LineFault) × TakesLines payload_of (Writes port direction) 0 [] (lines_of file) outcome
     × (answer ≡ told_by (λ text. text ++ codes "end\n") outcome)
 
 -- no file is decoded in two ways

@@ -1,10 +1,11 @@
 -- What a decoding holds, and behind which lines it stands.
 use Rattle.std.specs.Prelude.{◌≡◌, ℕ, List, [], length, Option, Some, None, Ok, Err}
 use Rattle.wire_base.specs.declared.refusal.Direction.{Direction}
-use Rattle.campaign_world.specs.declared.faults.LineError.{LineError}
-use Rattle.campaign_world.specs.declared.faults.LineError.TheVariants as error
-use Rattle.payload_replay.specs.Behind.{GoesBehind}
-use Rattle.payload_replay.specs.PayloadLines.{TakesLines}
+use Rattle.report_lines.specs.declared.faults.LineError.{LineError}
+use Rattle.report_lines.specs.declared.faults.LineError.TheVariants as error
+use Rattle.report_lines.specs.Behind.{GoesBehind}
+use Rattle.payload_replay.specs.PayloadLines.{payload_of}
+use Rattle.report_lines.specs.Lines.{TakesLines}
 use Rattle.payload_replay.specs.Decode.{Writes}
 
 -- the text so far, of so many lines; and what keeps it from going on, if anything does
@@ -17,8 +18,8 @@ pub record HeldDecoding : Type 0 where
 
 -- the lines made the text, or one of them is the first that is refused, or memory was wanting
 abbrev pub IsDecodedBy : HeldDecoding → List (List ℕ) → Option LineError → Type 0
-IsDecodedBy held lines None = (held.lines ≡ length lines) × TakesLines (Writes held.port held.direction) 0 [] lines (Ok held.text)
-IsDecodedBy held lines (Some (error.Line fault)) = TakesLines (Writes held.port held.direction) 0 [] lines (Err fault)
+IsDecodedBy held lines None = (held.lines ≡ length lines) × TakesLines payload_of (Writes held.port held.direction) 0 [] lines (Ok held.text)
+IsDecodedBy held lines (Some (error.Line fault)) = TakesLines payload_of (Writes held.port held.direction) 0 [] lines (Err fault)
 IsDecodedBy held lines (Some error.Memory) = Unit {0}
 
 -- a decoding of payloads on a port and in a direction stands behind these lines

@@ -2,9 +2,9 @@
 use Rattle.std.specs.Prelude.{◌≡◌, ℕ, ◌<◌, List, [], length, Option, Some, None, Result, Ok, Err}
 use Rattle.device_core.specs.Device.{DeviceState}
 use Rattle.device_core.specs.HeldDevice.{HeldDevice, DeviceStands}
-use Rattle.campaign_world.specs.declared.faults.LineError.{LineError}
-use Rattle.campaign_world.specs.declared.faults.LineError.TheVariants as error
-use Rattle.payload_replay.specs.Behind.{GoesBehind}
+use Rattle.report_lines.specs.declared.faults.LineError.{LineError}
+use Rattle.report_lines.specs.declared.faults.LineError.TheVariants as error
+use Rattle.report_lines.specs.Behind.{GoesBehind}
 use Rattle.payload_replay.specs.Replay.{header_rows, replay_device, Reaches}
 
 -- the device behind so many lines, once the header has asked for it; and what keeps it from hearing on, if anything does

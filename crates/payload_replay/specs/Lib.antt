@@ -1,7 +1,6 @@
 pub mod PayloadLines
 pub mod Decode
 pub mod Replay
-pub mod Behind
 pub mod HeldDecoding
 pub mod HeldReplaying
 pub mod Carried

@@ -1,26 +1,23 @@
 -- What `replay` tells of a file of captured payloads: a device hears them, and then says where its sessions stand.
 -- (TS004-1.0.0 on port 201, down, by unicast; the rest is this project's profile.)
 use Rattle.std.specs.Prelude.{◌≡◌, ℕ, ◌&&◌, ◌==◌, nat_lt, nat_le, if◌then◌else◌, List, [], ◌∷◌, ◌++◌, length, replicate, codes, Option, Some, None, Result, Ok, Err}
-use Rattle.hex.specs.Hex.{encode_lower}
 use Rattle.cast_wire.specs.Limits.{max_groups}
 use Rattle.package_grammar.specs.declared.downlink.Downlink.{Downlink}
 use Rattle.package_grammar.specs.declared.downlink.To.TheVariants.{Unicast}
-use Rattle.frag_session.specs.declared.answers.Verdict.{Verdict}
-use Rattle.frag_session.specs.declared.answers.Verdict.TheVariants as verdict
-use Rattle.frag_session.specs.Session.{Seen}
 use Rattle.device_core.specs.declared.config.Class.TheVariants as class
-use Rattle.device_core.specs.SessionTable.{SessionTable}
 use Rattle.device_core.specs.Device.{DeviceState, first_device, max_formats, max_sessions, max_area, max_rows}
 use Rattle.device_core.specs.Deliver.{delivery}
 use Rattle.script_lines.specs.Limits.{max_line}
 use Rattle.script_lines.specs.Lines.{lines_of, word, is_word}
 use Rattle.script_lines.specs.Numbers.{decimal_of}
 use Rattle.script_lines.specs.Forms.{count_of}
-use Rattle.campaign_world.specs.declared.faults.LineWhy.{LineWhy}
-use Rattle.campaign_world.specs.declared.faults.LineWhy.TheVariants as why
-use Rattle.campaign_world.specs.declared.faults.LineFault.{LineFault}
-use Rattle.campaign_world.specs.Report.{counts_line, session_text, verdict_text, text_of_each}
-use Rattle.payload_replay.specs.PayloadLines.{TakesLines, told_by, TellsOnce, TellsAlways}
+use Rattle.report_lines.specs.declared.faults.LineWhy.{LineWhy}
+use Rattle.report_lines.specs.declared.faults.LineWhy.TheVariants as why
+use Rattle.report_lines.specs.declared.faults.LineFault.{LineFault}
+use Rattle.report_lines.specs.Devices.{counts_line}
+use Rattle.report_lines.specs.Sessions.{whole, session_lines}
+use Rattle.payload_replay.specs.PayloadLines.{payload_of}
+use Rattle.report_lines.specs.Lines.{TakesLines, told_by, TellsOnce, TellsAlways}
 
 -- ---- the header
 
@@ -65,7 +62,7 @@ Hears n payload device next = next ≡ after_payload n payload device
 
 abbrev pub ReachesBehind : Result ℕ LineWhy → List (List ℕ) → Result DeviceState LineFault → Type 0
 ReachesBehind (Err cause) lines outcome = outcome ≡ Err (record { line = 1; why = cause })
-ReachesBehind (Ok rows) lines outcome = TakesLines Hears 1 (replay_device rows) lines outcome
+ReachesBehind (Ok rows) lines outcome = TakesLines payload_of Hears 1 (replay_device rows) lines outcome
 
 -- the device behind all lines, or the first refused line
 unfoldable pub Reaches : List (List ℕ) → Result DeviceState LineFault → Type 0
@@ -74,24 +71,9 @@ Reaches (header ∷ lines) outcome = ReachesBehind (header_rows header) lines ou
 
 -- ---- what is told of it
 
--- the file in hex, on a line of its own, where it is whole
-abbrev pub file_line : Verdict → List ℕ → List ℕ
-file_line verdict.Receiving file = []
-file_line (verdict.Complete line) file = codes "file " ++ (encode_lower file ++ codes "\n")
-file_line (verdict.NoRows line) file = []
-file_line (verdict.Conflict line) file = []
-
--- nothing of a session that is not there
-abbrev pub told_session : ℕ → Option Seen → List ℕ
-told_session index None = []
-told_session index (Some seen) = session_text index seen.received seen.missing (verdict_text seen.verdict []) ++ file_line seen.verdict seen.file
-
-abbrev pub told_sessions : SessionTable → List ℕ
-told_sessions all = text_of_each (λ index seen. told_session index seen) all
-
 -- the text over the device
 unfoldable pub replay_text : DeviceState → List ℕ
-replay_text device = codes "fuota replay 1\n" ++ (counts_line device.counts ++ (told_sessions device.sessions ++ codes "end\n"))
+replay_text device = codes "fuota replay 1\n" ++ (counts_line device.counts ++ (session_lines whole device.sessions ++ codes "end\n"))
 
 -- what is told of a file: the text, or the first refused line
 unfoldable pub Replays : List ℕ → Result (List ℕ) LineFault → Type 0

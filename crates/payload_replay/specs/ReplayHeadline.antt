@@ -18,9 +18,10 @@ use Rattle.wire_base.specs.Numbered.{numbered}
 use Rattle.device_core.specs.SessionTable.{session_at}
 use Rattle.device_core.specs.Device.{DeviceState}
 use Rattle.device_core.specs.Events.{CameInTurn}
-use Rattle.campaign_world.specs.Report.{saying}
+use Rattle.report_lines.specs.Devices.{◌⧺◌, counts_line}
+use Rattle.report_lines.specs.Sessions.{whole, saying, lines_below, lines_above}
 use Rattle.payload_replay.specs.PayloadLines.{payload_of}
-use Rattle.payload_replay.specs.Replay.{header_rows, replay_device, Reaches, told_session}
+use Rattle.payload_replay.specs.Replay.{header_rows, replay_device, Reaches, replay_text}
 use Rattle.payload_replay.specs.Carried.{CarriedCommand, carried, carried_after, session_behind, leaves}
 use Rattle.frag_session.specs.FirstMoment.{AfterEach, IsOpen, IsWhole, Overflows, NoFileFits, FirstAt, IsDecidedAtFirst}
 
@@ -51,19 +52,31 @@ pub record IsSince (payloads : List (List ℕ)) (index : ℕ) (f : Fragment) (be
   pub there : carried_after 1 payloads ≡ before ++ carried f.mark (Cast (DataFragment index f.number f.part)) ∷ behind
   pub left : AllByRecursion (λ c. leaves index c.command ≡ true) behind
 
+-- the text in which this is said of the session of an index, with what stands before it and behind
+abbrev pub text_saying : DeviceState → (index : ℕ) → (lines : List ℕ) → List ℕ
+text_saying device index lines =
+    codes "fuota replay 1\n" ⧺ counts_line device.counts ⧺ lines_below whole device.sessions index ⧺ lines
+    ⧺ lines_above whole device.sessions index ⧺ codes "end\n"
+
+-- what is said of a session that is complete from a line on, and its file
+abbrev pub complete_lines : (index : ℕ) → Session → (line : ℕ) → (file : List ℕ) → List ℕ
+complete_lines index s line file =
+    saying index s (codes "complete at " ++ decimal line) ++ (codes "file " ++ (encode_lower file ++ codes "\n"))
+
 -- what the text says of the session
-pub record IsToldOf (index : ℕ) (s : Session) : Type 0 where
+pub record IsToldOf (device : DeviceState) (index : ℕ) (s : Session) : Type 0 where
   -- where some fragment is the first after which one file alone fits: its line, and that file
   pub complete : (line : ℕ) (file : List ℕ) → FirstAt (shape_of s) s.setup.padding (IsWhole (shape_of s) s.setup.padding file) s.heard line
-      → told_session index (Some (seen_of s)) ≡ saying index s (codes "complete at " ++ decimal line) ++ (codes "file " ++ (encode_lower file ++ codes "\n"))
+      → replay_text device ≡ text_saying device index (complete_lines index s line file)
   -- where one is the first after which independent coded fragments exceed the rows: its line
   pub no_rows : (line : ℕ) → FirstAt (shape_of s) s.setup.padding (Overflows (shape_of s) s.setup.padding) s.heard line
-      → told_session index (Some (seen_of s)) ≡ saying index s (codes "norows at " ++ decimal line)
+      → replay_text device ≡ text_saying device index (saying index s (codes "norows at " ++ decimal line))
   -- where one is the first after which no file fits: its line
   pub conflict : (line : ℕ) → FirstAt (shape_of s) s.setup.padding (NoFileFits (shape_of s) s.setup.padding) s.heard line
-      → told_session index (Some (seen_of s)) ≡ saying index s (codes "conflict at " ++ decimal line)
+      → replay_text device ≡ text_saying device index (saying index s (codes "conflict at " ++ decimal line))
   -- and until then that it is open
-  pub receiving : AfterEach (IsOpen (shape_of s) s.setup.padding) s.heard → told_session index (Some (seen_of s)) ≡ saying index s (codes "receiving")
+  pub receiving : AfterEach (IsOpen (shape_of s) s.setup.padding) s.heard
+      → replay_text device ≡ text_saying device index (saying index s (codes "receiving"))
 
 -- whatever payloads are handed in
 pub record ReplayHeadline : Type 0 where
@@ -80,5 +93,5 @@ pub record ReplayHeadline : Type 0 where
       → IsSince payloads index f before behind → cause_of s.setup Unicast f.number f.part ≡ None → In f s.heard
   -- it is decided at the first fragment after which its file is no longer open
   pub decided : (file : List ℕ) (device : DeviceState) (index : ℕ) (s : Session) → IsReplayed file device index s → IsDecidedAtFirst s
-  -- the text says so
-  pub told : (file : List ℕ) (device : DeviceState) (index : ℕ) (s : Session) → IsReplayed file device index s → IsToldOf index s
+  -- the text says so, in its place
+  pub told : (file : List ℕ) (device : DeviceState) (index : ℕ) (s : Session) → IsReplayed file device index s → IsToldOf device index s

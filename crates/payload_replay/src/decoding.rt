@@ -4,14 +4,15 @@ ghost use Rattle.std.specs.Prelude.{◌≡◌, ℕ, ◌+◌, ◌<◌, ◌≤◌,
 ghost use Rattle.std.specs.Fmt.{decimal};
 ghost use Rattle.package_grammar.specs.Reading.{reading_of};
 ghost use Rattle.script_lines.specs.Lines.{lines_of};
-ghost use Rattle.campaign_world.specs.Texts.{seen_text};
-ghost use Rattle.payload_replay.specs.PayloadLines.{payload_of, IsLineRefused, IsTold};
+ghost use Rattle.report_lines.specs.Texts.{seen_text};
+ghost use Rattle.payload_replay.specs.PayloadLines.{payload_of};
+ghost use Rattle.report_lines.specs.Lines.{IsLineRefused, IsTold};
 ghost use Rattle.payload_replay.specs.Decode.{commands_text, stop_word, stop_text, payload_text, numbered_text, Writes, Decodes};
 ghost use Rattle.payload_replay.specs.HeldDecoding.{DecodingStands, HearsDecoded};
 
 use crate::payload_lines::read_payload;
-use campaign_world::LineError;
 use package_grammar::Message;
+use report_lines::LineError;
 use script_lines::HearsLine;
 use std::alloc::{AllocError, Global};
 use std::marker::Model;
@@ -137,7 +138,7 @@ fn decode_line(
     ensures shown { OnOk result ((payload : List ℕ) × (payload_of lines line.now ≡ Ok payload)
         × Writes port dir (lines + 1) payload text.old.items text.new.items) }
     ensures few { OnOk result (lines < 20000) }
-    ensures refused { IfErr result (IsLineRefused lines line.now) }
+    ensures refused { IfErr result (IsLineRefused payload_of lines line.now) }
 {
     let payload = match read_payload(alloc, lines, line) {
         Ok(payload) => payload,

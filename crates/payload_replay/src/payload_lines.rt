@@ -1,10 +1,11 @@
 // The lines of a file of captured payloads, each in hex.
 ghost use Rattle.std.specs.Prelude.{◌≡◌, ◌+◌, ◌<◌, ◌≤◌, length, Ok, IfOk, IfErr, OnOk};
 ghost use Rattle.wire_base.specs.Payload.{max_payload};
-ghost use Rattle.payload_replay.specs.PayloadLines.{payload_of, IsLineRefused};
+ghost use Rattle.payload_replay.specs.PayloadLines.{payload_of};
+ghost use Rattle.report_lines.specs.Lines.{IsLineRefused};
 
-use campaign_world::{LineError, LineFault, LineWhy, MAX_LINE, MAX_LINES};
 use hex::FromHexError;
+use report_lines::{LineError, LineWhy, MAX_LINE, MAX_LINES, refused_behind};
 use std::alloc::Global;
 use wire_base::MAX_PAYLOAD;
 
@@ -15,26 +16,15 @@ pub fn read_payload(alloc: Global, lines: u32, line: &[u8]) -> Result<Vec<u8>, L
     ensures payload { IfOk result (λ payload. payload_of lines line.now ≡ Ok payload.items) }
     ensures short { IfOk result (λ payload. length payload.items ≤ max_payload) }
     ensures few { OnOk result (lines < 20000) }
-    ensures refused { IfErr result (IsLineRefused lines line.now) }
+    ensures refused { IfErr result (IsLineRefused payload_of lines line.now) }
 {
     if lines >= MAX_LINES || line.len() > MAX_LINE {
-        return Err(refused(lines, LineWhy::Limit));
+        return Err(refused_behind(lines, LineWhy::Limit));
     }
     match hex::decode(alloc, line) {
-        Ok(payload) if payload.len() > MAX_PAYLOAD => Err(refused(lines, LineWhy::Limit)),
+        Ok(payload) if payload.len() > MAX_PAYLOAD => Err(refused_behind(lines, LineWhy::Limit)),
         Ok(payload) => Ok(payload),
         Err(FromHexError::OutOfMemory) => Err(LineError::Memory),
-        Err(_) => Err(refused(lines, LineWhy::Syntax)),
+        Err(_) => Err(refused_behind(lines, LineWhy::Syntax)),
     }
-}
-
-/// The refusal of a line that comes after so many.
-pub fn refused(lines: u32, why: LineWhy) -> LineError
-    requires { lines ≤ 20000 }
-    ensures { result ≡ LineError.Line (record { line = lines + 1; why = why }) }
-{
-    LineError::Line(LineFault {
-        line: lines + 1,
-        why,
-    })
 }

@@ -1,26 +1,22 @@
 //! What `replay` tells of a file of captured payloads: where a device stands that hears them.
 ghost use Rattle.std.specs.Prelude.{◌≡◌, ◌+◌, ◌<◌, ◌≤◌, [], ◌++◌, List, ℕ, Some, length, Ok, IfOk, IfErr, OnOk, codes, string_bytes};
-ghost use Rattle.frag_session.specs.Session.{view_of};
-ghost use Rattle.frag_session.specs.Shows.{seen};
 ghost use Rattle.script_lines.specs.Lines.{lines_of};
 ghost use Rattle.wire_base.specs.Payload.{max_payload};
-ghost use Rattle.device_core.specs.SessionTable.{session_at};
 ghost use Rattle.device_core.specs.Device.{DeviceState};
 ghost use Rattle.device_core.specs.HeldDevice.{DeviceStands, Becomes};
-ghost use Rattle.payload_replay.specs.PayloadLines.{payload_of, IsLineRefused, IsTold};
-ghost use Rattle.payload_replay.specs.Replay.{rows_by, header_rows, replay_device, after_payload, file_line, told_session, told_sessions, replay_text, Replays};
+ghost use Rattle.payload_replay.specs.PayloadLines.{payload_of};
+ghost use Rattle.report_lines.specs.Lines.{IsLineRefused, IsTold};
+ghost use Rattle.payload_replay.specs.Replay.{rows_by, header_rows, replay_device, after_payload, replay_text, Replays};
 ghost use Rattle.payload_replay.specs.HeldReplaying.{ReplayingStands, HearsReplayed, IsBegun};
-ghost use Rattle.campaign_world.specs.Texts.{seen_text};
+ghost use Rattle.report_lines.specs.Texts.{seen_text};
 
-use crate::payload_lines::{read_payload, refused};
-use campaign_world::{
-    LineError, LineWhy, MAX_LINE, counts_line, session_text, sessions_text, throw_away,
-    verdict_text,
-};
+use crate::payload_lines::read_payload;
 use cast_wire::FRAGMENT_PORT;
 use device_core::{Class, Device, DeviceConfig, MAX_AREA, MAX_ROWS};
-use frag_session::{Verdict, View};
 use package_grammar::{Downlink, To};
+use report_lines::{
+    LineError, LineWhy, MAX_LINE, Tail, counts_line, refused_behind, session_lines,
+};
 use script_lines::{HearsLine, count_words, decimal, is_word, word};
 use std::alloc::{AllocError, Global};
 use std::marker::Model;
@@ -120,7 +116,7 @@ impl Replaying {
             Some(error) => Err(error),
             None => match &self.device {
                 Some(device) => told(self.alloc, device),
-                None => Err(refused(0, LineWhy::Syntax)),
+                None => Err(refused_behind(0, LineWhy::Syntax)),
             },
         }
     }
@@ -132,7 +128,7 @@ fn begin(alloc: Global, header: &[u8]) -> Result<Device, LineError>
 {
     let rows = match read_header(header) {
         Ok(rows) => rows,
-        Err(why) => return Err(refused(0, why)),
+        Err(why) => return Err(refused_behind(0, why)),
     };
     match Device::reserve(alloc, config(rows)) {
         Ok(device) => Ok(device),
@@ -188,7 +184,7 @@ fn hear_line(alloc: Global, device: &mut Device, lines: u32, line: &[u8]) -> Res
     ensures heard { OnOk result ((payload : List ℕ) × (payload_of lines line.now ≡ Ok payload)
         × Becomes device.old device.new (λ before. after_payload (lines + 1) payload before)) }
     ensures few { OnOk result (lines < 20000) }
-    ensures refused { IfErr result (IsLineRefused lines line.now) }
+    ensures refused { IfErr result (IsLineRefused payload_of lines line.now) }
 {
     match read_payload(alloc, lines, line) {
         Ok(payload) => {
@@ -213,6 +209,13 @@ fn hear(device: &mut Device, payload: &[u8], mark: u64)
     throw_away(device);
 }
 
+/// Takes all uplinks of the device, which go nowhere.
+fn throw_away(device: &mut Device)
+    ensures { Becomes device.old device.new (λ before. record before { outbox = [] }) }
+{
+    while let Some(_uplink) = device.take_uplink() {}
+}
+
 /// The text over the device.
 fn told(alloc: Global, device: &Device) -> Result<Vec<u8>, LineError>
     ensures text { (d : DeviceState) → DeviceStands device.now d → IfOk result (λ text. text.items ≡ replay_text d) }
@@ -228,7 +231,7 @@ fn text_of(alloc: Global, device: &Device) -> Result<String, AllocError>
     ensures { (d : DeviceState) → DeviceStands device.now d → IfOk result (λ text. string_bytes text ≡ replay_text d) }
 {
     let counts = counts_line(alloc, device.counts())?;
-    let sessions = sessions_part(alloc, device)?;
+    let sessions = session_lines(alloc, device, Tail::File)?;
     whole_text(alloc, counts.as_str(), sessions.as_str())
 }
 
@@ -237,69 +240,4 @@ fn whole_text(alloc: Global, counts: &str, sessions: &str) -> Result<String, All
     ensures { IfOk result (λ text. string_bytes text ≡ codes "fuota replay 1\n" ++ (counts.now ++ (sessions.now ++ codes "end\n"))) }
 {
     format!(in alloc; "fuota replay 1\n{counts}{sessions}end\n")
-}
-
-/// The lines of the sessions that there are.
-fn sessions_part(alloc: Global, device: &Device) -> Result<String, AllocError>
-    ensures { (d : DeviceState) → DeviceStands device.now d
-        → IfOk result (λ text. string_bytes text ≡ told_sessions d.sessions) }
-{
-    let first = session_part(alloc, device, 0)?;
-    let second = session_part(alloc, device, 1)?;
-    let third = session_part(alloc, device, 2)?;
-    let fourth = session_part(alloc, device, 3)?;
-    sessions_text(
-        alloc,
-        first.as_str(),
-        second.as_str(),
-        third.as_str(),
-        fourth.as_str(),
-    )
-}
-
-/// The lines of a session, if there is one.
-fn session_part(alloc: Global, device: &Device, index: u8) -> Result<String, AllocError>
-    requires { index < 4 }
-    ensures { (d : DeviceState) → DeviceStands device.now d
-        → IfOk result (λ text. string_bytes text ≡ told_session index (view_of (session_at d.sessions index))) }
-{
-    match device.session(index) {
-        Some(view) => session_lines(alloc, index, view),
-        None => Ok(String::new(alloc)),
-    }
-}
-
-#[tactic(auto, unfolding(frag_session::specs::Shows::seen))]
-fn session_lines(alloc: Global, index: u8, view: View) -> Result<String, AllocError>
-    ensures { IfOk result (λ text. string_bytes text ≡ told_session index (Some (seen view.entry))) }
-{
-    let verdict = verdict_text(alloc, view.verdict, "")?;
-    let session = session_text(alloc, index, view.received, view.missing, verdict.as_str())?;
-    let file = file_line(alloc, view.verdict, view.file)?;
-    two_texts(alloc, session.as_str(), file.as_str())
-}
-
-fn two_texts(alloc: Global, one: &str, more: &str) -> Result<String, AllocError>
-    ensures { IfOk result (λ text. string_bytes text ≡ one.now ++ more.now) }
-{
-    format!(in alloc; "{one}{more}")
-}
-
-/// The file in hex, on a line of its own, where it is whole.
-fn file_line(alloc: Global, verdict: Verdict, file: &[u8]) -> Result<String, AllocError>
-    ensures { IfOk result (λ text. string_bytes text ≡ file_line verdict file.now) }
-{
-    match verdict {
-        Verdict::Complete(_) => {
-            let hex = hex::encode(alloc, file)?;
-            hex_line(alloc, hex.as_str())
-        }
-        _ => Ok(String::new(alloc)),
-    }
-}
-
-fn hex_line(alloc: Global, hex: &str) -> Result<String, AllocError>
-    ensures { IfOk result (λ text. string_bytes text ≡ codes "file " ++ (hex.now ++ codes "\n")) }
-{
-    format!(in alloc; "file {hex}\n")
 }

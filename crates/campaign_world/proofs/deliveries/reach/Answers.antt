@@ -1,5 +1,5 @@
 use Rattle.std.proofs.Common.{◌∙◌}
-use Rattle.campaign_world.proofs.Outboxes.{outbox_is}
+use Rattle.device_core.proofs.Outboxes.{outbox_is}
 use Rattle.campaign_world.proofs.OutboxRoom.{delivered_few, numbered_few}
 use Rattle.campaign_world.proofs.deliveries.reach.Goals as goal
 

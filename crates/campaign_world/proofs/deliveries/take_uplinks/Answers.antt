@@ -1,7 +1,8 @@
 use Rattle.std.proofs.Common.{arith, ap, length}
 use Rattle.campaign_world.specs.WorldInside.{IsMadeBy}
 use Rattle.campaign_world.proofs.Zips.{all_more}
-use Rattle.campaign_world.proofs.Outboxes.{one_taken, one_moved, rests_now}
+use Rattle.device_core.proofs.Outboxes.{one_taken}
+use Rattle.campaign_world.proofs.Outboxes.{one_moved, rests_now}
 use Rattle.campaign_world.proofs.deliveries.take_uplinks.Goals as goal
 
 pub loop-device-preserved : goal.loop-device-preserved

@@ -9,7 +9,7 @@ invariant-loop-taken g l = record {
   within : l.taken ≤ l.most;
   chosen : g.F.Files.chosen l.files ≡ true;
   held : g.F.Files.held l.files ≡ g.F.Files.held l.fn.files;
-  kept : g.F.Files.faults l.fn.files ≤ g.F.Files.faults l.files;
+  quiet : g.F.Files.faults l.files ≡ g.F.Files.faults l.fn.files;
   bytes : List ℕ;
   taken : length bytes ≡ l.taken;
   so_far : IsReadSoFar (g.F.Files.held l.fn.files) l.name bytes (g.F.Files.left l.files);

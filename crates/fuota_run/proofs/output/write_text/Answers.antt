@@ -11,4 +11,4 @@ loop-rest-preserved g c =
     let text = c.args.text.now in
     let rest = c.loop-rest.invariant.1 in
     let behind = subst (λ (r : List ℕ). Appends (g.O.Sink.written c.loop-rest.out) (g.O.Sink.written c.write.new.self) (take k r)) rest c.in-Ok.ensures.bytes in
-    (n + k, c.split_at.ensures.back ∙ ap (λ (r : List ℕ). drop k r) rest ∙ drop-drop k n text, appends_on _ _ _ n k text c.loop-rest.invariant.2 behind, omega arith)
+    (n + k, c.split_at.ensures.back ∙ ap (λ (r : List ℕ). drop k r) rest ∙ drop-drop k n text, appends_on _ _ _ n k text c.loop-rest.invariant.2 behind, c.in-Ok.ensures.cause.2 ∙ c.loop-rest.invariant.3)

@@ -1,43 +1,50 @@
-use Rattle.std.proofs.Common.{rules, ◌≡◌, inl, inr, true, false, ℕ, List, Option, sym, ap, subst, ◌∙◌}
+use Rattle.std.proofs.Common.{rules, ◌≡◌, inl, true, false, ℕ, List, Option, Some, refl, sym, ap, subst, ◌∙◌}
 use Rattle.image_slots.specs.Image.{is_image}
 use Rattle.fuota_run.specs.Limits.{image_limit}
-use Rattle.fuota_run.specs.Answer.{Answer, campaign_answer}
+use Rattle.fuota_run.specs.Answer.{Answer}
 use Rattle.fuota_run.specs.Outside.{Held}
-use Rattle.fuota_run.specs.Source.{IsTaken}
-use Rattle.fuota_run.specs.Reply.{IsReplied, Says, GivesScript}
+use Rattle.fuota_run.specs.Words.{plays}
+use Rattle.fuota_run.specs.Reply.{Replies, IsImageRead}
 use Rattle.fuota_run.specs.Replies.{answer_in}
-use Rattle.fuota_run.proofs.Taken.{unread_taken}
-use Rattle.fuota_run.proofs.ReplyLemmas.{says_unread, says_source, says_behind, image_long, image_given_refused, if_ok_map}
+use Rattle.fuota_run.proofs.ReplyLemmas.{IsMade, replies_read, replies_unread, gives_image_long, gives_image_refused, refused_made, if_ok_map}
 use Rattle.fuota_run.proofs.running.campaign.Goals as goal
 
-pub returns-in-Err-clause-reply : goal.returns-in-Err-clause-reply
-returns-in-Err-clause-reply g c = if_ok_map c.unread.result (λ r is. (says_unread (g.F.Files.held c.args.files.now) c.args.image_name.now (λ h source a. a ≡ campaign_answer c.args.what source (h c.args.script_name.now)) image_limit _ _ _ c.in-Err.error (answer_in r)
-    (λ h bytes long. image_long c.args.what bytes (h c.args.script_name.now) long) c.requires.image (λ taken e. c.in-Err.ensures.long taken cc) (λ taken e. c.in-Err.ensures.taken taken cc) (λ e. c.in-Err.ensures.failed cc) is).0) c.unread.ensures
+pub returns-in-Err : goal.returns-in-Err
+returns-in-Err g c = if_ok_map c.unread.result (λ r is.
+    replies_unread (Some (plays c.args.what c.args.image_name.now c.args.script_name.now)) (record { held = g.F.Files.held c.args.files.now; before = g.F.Files.faults c.args.files.now; after = g.F.Files.faults c.read_source.new.files; left = g.F.Files.left c.read_source.new.files }) image_limit c.in-Err.error (answer_in r) refl
+    (λ n e. gives_image_long (g.F.Files.held c.args.files.now) c.args.what c.args.image_name.now c.args.script_name.now c.requires.image (c.in-Err.ensures.long n cc)) (λ n e. c.in-Err.ensures.taken n cc)
+    (λ n e. inl (c.in-Err.ensures.consumed n cc)) (λ e. c.in-Err.ensures.failed cc)
+    (λ other. c.in-Err.ensures.quiet (λ e. other cc)) is) c.unread.ensures
 
-pub returns-in-Err-clause-usage : goal.returns-in-Err-clause-usage
-returns-in-Err-clause-usage g c = if_ok_map c.unread.result (λ r is. (says_unread (g.F.Files.held c.args.files.now) c.args.image_name.now (λ h source a. a ≡ campaign_answer c.args.what source (h c.args.script_name.now)) image_limit (g.F.Files.faults c.args.files.now) (g.F.Files.faults c.read_source.new.files) (g.F.Files.left c.read_source.new.files) c.in-Err.error (answer_in r)
-    (λ h bytes long. image_long c.args.what bytes (h c.args.script_name.now) long) c.requires.image (λ taken e. c.in-Err.ensures.long taken cc) (λ taken e. c.in-Err.ensures.taken taken cc) (λ e. c.in-Err.ensures.failed cc) is).1) c.unread.ensures
-
-pub returns-then-not-is_image-clause-reply : goal.returns-then-not-is_image-clause-reply
-returns-then-not-is_image-clause-reply g c = if_ok_map c.say.result (λ r is.
+pub returns-then-not-is_image : goal.returns-then-not-is_image
+returns-then-not-is_image g c = if_ok_map c.say.result (λ r is.
     let image = c.in-Ok.image.items in
     let bad : is_image image ≡ false = ap is_image (sym c.deref.ensures.value) ∙ sym c.is_image.ensures.value ∙ search rules in
-    says_source (g.F.Files.held c.args.files.now) c.args.image_name.now (λ h source a. a ≡ campaign_answer c.args.what source (h c.args.script_name.now)) image_limit _ _ _ image (answer_in r)
-    c.in-Ok.ensures.source (λ h. is ∙ image_given_refused c.args.what image (h c.args.script_name.now) c.in-Ok.ensures.within bad)
-    (subst (λ (a : Answer). IsReplied a.status) (sym is) tt) (λ fault. let s = ap (λ (a : Answer). a.status) is in cc) c.in-Ok.ensures.end) c.say.ensures
+    replies_read (Some (plays c.args.what c.args.image_name.now c.args.script_name.now)) (record { held = g.F.Files.held c.args.files.now; before = g.F.Files.faults c.args.files.now; after = g.F.Files.faults c.read_source.new.files; left = g.F.Files.left c.read_source.new.files }) (answer_in r) refl
+    (gives_image_refused (g.F.Files.held c.args.files.now) c.args.what c.args.image_name.now c.args.script_name.now image (answer_in r)
+    c.in-Ok.ensures.source c.in-Ok.ensures.within bad is)
+    (subst IsMade (sym is) refused_made) c.in-Ok.ensures.end (c.in-Ok.ensures.quiet (λ e. cc))) c.say.ensures
 
-pub returns-clause-reply : goal.returns-clause-reply
-returns-clause-reply g c = if_ok_map c.script.result (λ r says.
+pub returns : goal.returns
+returns g c =
     let image = c.in-Ok.image.items in
+    let what = Some (plays c.args.what c.args.image_name.now c.args.script_name.now) in
     let good : is_image image ≡ true = ap is_image (sym c.deref.ensures.value) ∙ sym c.is_image.ensures.value ∙ search rules in
-    says_behind (g.F.Files.held c.args.files.now) (g.F.Files.held c.read_source.new.files) c.args.what c.args.image_name.now c.args.script_name.now _ _ _ _ image (answer_in r)
-    c.in-Ok.ensures.held c.in-Ok.ensures.kept c.in-Ok.ensures.source c.in-Ok.ensures.within good
-    (subst (λ (i : List ℕ). Says true (GivesScript (g.F.Files.held c.read_source.new.files) c.args.what i c.args.script_name.now (answer_in r)) (g.F.Files.faults c.read_source.new.files) (g.F.Files.faults c.script.new.files) (g.F.Files.left c.script.new.files) (answer_in r)) c.deref-2.ensures.value says)) c.script.ensures.reply
-
-pub returns-in-Err-clause-taken : goal.returns-in-Err-clause-taken
-returns-in-Err-clause-taken g c = if_ok_map c.unread.result (λ r is taken long. inl (unread_taken c.in-Err.error (answer_in r)
-    (λ n. IsTaken (g.F.Files.held c.args.files.now) c.args.image_name.now n (g.F.Files.left c.read_source.new.files)) is (λ n e. c.in-Err.ensures.consumed n cc) taken long)) c.unread.ensures
-
-pub returns-clause-taken : goal.returns-clause-taken
-returns-clause-taken g c = if_ok_map c.script.result (λ r took taken long.
-    inr (subst (λ (held : Option Held). IsTaken held c.args.script_name.now taken (g.F.Files.left c.script.new.files)) c.in-Ok.ensures.held (took taken long))) c.script.ensures.taken
+    let read : IsImageRead (g.F.Files.held c.read_source.new.files) c.args.image_name.now image =
+    subst (λ (h : Option Held). IsImageRead h c.args.image_name.now image) (sym c.in-Ok.ensures.held)
+    (record { source = c.in-Ok.ensures.source; within = c.in-Ok.ensures.within; file = good }) in
+    if_ok_map c.script.result (λ r replies.
+    subst (λ (h : Option Held). Replies what (record {
+      held = h;
+      before = g.F.Files.faults c.args.files.now;
+      after = g.F.Files.faults c.script.new.files;
+      left = g.F.Files.left c.script.new.files;
+    }) (answer_in r)) c.in-Ok.ensures.held
+    (subst (λ (n : ℕ). Replies what (record {
+      held = g.F.Files.held c.read_source.new.files;
+      before = n;
+      after = g.F.Files.faults c.script.new.files;
+      left = g.F.Files.left c.script.new.files;
+    }) (answer_in r)) (c.in-Ok.ensures.quiet (λ e. cc)) replies))
+    (c.script.ensures c.args.image_name.now
+    (subst (λ (i : List ℕ). IsImageRead (g.F.Files.held c.read_source.new.files) c.args.image_name.now i) (sym c.deref-2.ensures.value) read))

@@ -6,7 +6,7 @@ abbrev pub invariant-loop-files : goal.invariant-loop-files
 invariant-loop-files g l = record {
   chosen : g.F.Files.chosen l.files ≡ true;
   held : g.F.Files.held l.files ≡ g.F.Files.held l.fn.files;
-  kept : g.F.Files.faults l.fn.files ≤ g.F.Files.faults l.files;
+  quiet : g.F.Files.faults l.files ≡ g.F.Files.faults l.fn.files;
   so_far : IsReadSoFar (g.F.Files.held l.fn.files) l.name l.bytes.items (g.F.Files.left l.files);
   within : vec_len l.bytes ≤ l.most;
 }

@@ -1,7 +1,7 @@
 use Rattle.std.proofs.Common.{List, ℕ, ◌++◌, ap, ◌∙◌}
 use Rattle.package_grammar.specs.Reading.{reading_of}
 use Rattle.payload_replay.specs.Decode.{payload_text}
-use Rattle.campaign_world.proofs.Outcomes.{on_ok, on_ok_then}
+use Rattle.report_lines.proofs.Outcomes.{on_ok, on_ok_then}
 use Rattle.payload_replay.proofs.Payloads.{numbered_on}
 use Rattle.payload_replay.proofs.decoding.show_numbered.Goals as goal
 

@@ -7,4 +7,4 @@ pub returns : goal.returns
 unfolding after_payload
 returns c = λ before stands.
     subst (λ (p : List ℕ). DeviceStands c.throw_away.new.device (after_payload c.args.mark p before)) c.from_slice.ensures
-    (c.throw_away.ensures _ (c.deliver-delivered.ensures.stands before stands)).stands
+    (c.throw_away.ensures _ (c.deliver-delivered.ensures.stands before stands))

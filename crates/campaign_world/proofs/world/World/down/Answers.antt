@@ -3,7 +3,7 @@ use Rattle.campaign_server.specs.Server.{ServerState}
 use Rattle.wire_base.specs.Numbered.{numbered}
 use Rattle.campaign_world.specs.declared.numbered.SentPayload.{SentPayload}
 use Rattle.campaign_world.specs.HeldWorld.{HeldWorld}
-use Rattle.campaign_world.proofs.Outcomes.{on_ok, on_ok_then}
+use Rattle.report_lines.proofs.Outcomes.{on_ok, on_ok_then}
 use Rattle.campaign_world.proofs.Steps.{built_alike, down_step, some_now}
 use Rattle.campaign_world.proofs.world.World.down.Goals as goal
 

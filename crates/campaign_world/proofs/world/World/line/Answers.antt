@@ -1,6 +1,6 @@
 use Rattle.std.proofs.Common.{◌∙◌, sym, subst}
 use Rattle.campaign_world.specs.HeldWorld.{HeldWorld, WorldStands}
-use Rattle.campaign_world.proofs.Outcomes.{on_ok, on_ok_then}
+use Rattle.report_lines.proofs.Outcomes.{on_ok, on_ok_then}
 use Rattle.campaign_world.proofs.Lines.{cause_stands, lines_stand, line_taken, line_answer}
 use Rattle.campaign_world.proofs.world.World.line.Goals as goal
 

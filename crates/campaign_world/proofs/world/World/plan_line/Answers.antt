@@ -1,4 +1,4 @@
-use Rattle.std.proofs.Common.{◌≡◌, ◌∙◌, length, true, sym, refl, subst, arith}
+use Rattle.std.proofs.Common.{◌≡◌, length, true, sym, refl, subst, arith}
 use Rattle.std.proofs.lemmas.Bool.{le-leb}
 use Rattle.device_core.specs.Device.{max_rows}
 use Rattle.campaign_world.specs.HeldWorld.{HeldWorld}

@@ -1,4 +1,4 @@
-use Rattle.campaign_world.proofs.Outcomes.{on_ok, on_ok_then, on_err}
+use Rattle.report_lines.proofs.Outcomes.{on_ok, on_ok_then, on_err}
 use Rattle.campaign_world.proofs.Steps.{event_alike, ends_begun}
 use Rattle.campaign_world.proofs.world.World.play.Goals as goal
 

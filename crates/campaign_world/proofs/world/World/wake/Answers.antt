@@ -1,7 +1,7 @@
 use Rattle.std.proofs.Common.{◌≡◌, ◌≤◌, length, Some, sym, subst}
 use Rattle.campaign_server.specs.Server.{ServerState}
 use Rattle.campaign_world.specs.HeldWorld.{HeldWorld}
-use Rattle.campaign_world.proofs.Outcomes.{on_ok, on_ok_then}
+use Rattle.report_lines.proofs.Outcomes.{on_ok, on_ok_then}
 use Rattle.campaign_world.proofs.Steps.{built_alike, wake_step}
 use Rattle.campaign_world.proofs.world.World.wake.Goals as goal
 

@@ -1,6 +1,6 @@
 use Rattle.std.proofs.Common.{◌≡◌, ◌+◌, ◌∙◌, Some, sym, ap, subst}
 use Rattle.payload_replay.specs.HeldReplaying.{HeldReplaying, HearsReplayed}
-use Rattle.payload_replay.proofs.ReplayLines.{replayed_begun, replayed_unbegun, replayed_heard, replayed_refused, replayed_kept}
+use Rattle.payload_replay.proofs.ReplayLines.{replayed_heard, replayed_refused, replayed_kept}
 use Rattle.payload_replay.proofs.replaying.Replaying.hear.Goals as goal
 
 pub returns-in-Some : goal.returns-in-Some

@@ -18,4 +18,4 @@ pub returns-in-None-device : goal.returns-in-None-device
 returns-in-None-device c = λ file stands.
     let none : c.args.self.now.kept ≡ None = ap (λ (h : HeldReplaying). h.kept) (sym c.self.view_is) ∙ c.in-None.is in
     let no_device : c.args.self.now.device ≡ None = ap (λ (h : HeldReplaying). h.device) (sym c.self.view_is) ∙ c.in-None-device.is in
-    rw c.refused.ensures (replayed_nothing c.args.self.now file none no_device stands)
+    rw c.refused_behind.ensures (replayed_nothing c.args.self.now file none no_device stands)

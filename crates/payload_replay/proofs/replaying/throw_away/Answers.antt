@@ -1,5 +1,5 @@
-use Rattle.campaign_world.proofs.Outboxes.{none_taken, one_taken, fewer, rests_now}
-use Rattle.campaign_world.proofs.deliveries.throw_away.Goals as goal
+use Rattle.device_core.proofs.Outboxes.{none_taken, one_taken, fewer, all_taken}
+use Rattle.payload_replay.proofs.replaying.throw_away.Goals as goal
 
 pub loop-uplink-init : goal.loop-uplink-init
 loop-uplink-init c = λ d stands. none_taken _ d stands
@@ -11,4 +11,4 @@ pub loop-uplink-smaller : goal.loop-uplink-smaller
 loop-uplink-smaller c = fewer _ _ _ c.in-Some.ensures.oldest
 
 pub returns : goal.returns
-returns c = λ d stands. rests_now d _ _ c.take_uplink.ensures.makes.stands c.in_default.ensures.oldest (c.loop-uplink.invariant d stands)
+returns c = λ d stands. all_taken d _ _ c.take_uplink.ensures.makes.stands c.in_default.ensures.oldest (c.loop-uplink.invariant d stands)

@@ -3,7 +3,7 @@ use Rattle.std.proofs.Common.{ℕ, List, [], ◌∷◌, ◌++◌, refl, sym, sub
 use Rattle.script_lines.specs.Lines.{lines_of}
 use Rattle.script_lines.specs.Pieces.{cut, cut_lines}
 use Rattle.script_lines.specs.Hearing.{HearsAll, HearsLines}
-use Rattle.payload_replay.specs.Behind.{GoesBehind}
+use Rattle.report_lines.specs.Behind.{GoesBehind}
 
 goes_behind : {W : Type 0} (Step : W → List ℕ → W → Type 0) (Stands : W → List (List ℕ) → Type 0) (lines so_far : List (List ℕ)) (old new : W)
     → ((before : W) (line : List ℕ) (now : W) → Step before line now → GoesBehind Stands before line now)

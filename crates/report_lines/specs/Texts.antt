@@ -2,7 +2,7 @@
 use Rattle.std.specs.Prelude.{ℕ, List, Result, Ok, Err}
 use Rattle.std.specs.Global.{Global}
 use Rattle.std.specs.declared.vec.Vec.{Vec}
-use Rattle.campaign_world.specs.declared.faults.LineError.{LineError}
+use Rattle.report_lines.specs.declared.faults.LineError.{LineError}
 
 -- the bytes of what a campaign gave
 abbrev pub seen_text : Result (Vec ℕ Global) LineError → Result (List ℕ) LineError

@@ -1,0 +1,5 @@
+pub mod Outcomes
+pub mod Lines
+pub mod Behind
+pub mod WorkedLines
+pub mod Places

@@ -1,0 +1,57 @@
+-- The lines of a device: where it stands, and what it counted (this project's profile).
+use Rattle.std.specs.Prelude.{ℕ, List, ◌++◌, codes}
+use Rattle.std.specs.Fmt.{decimal}
+use Rattle.image_slots.specs.declared.view.ImageState.{ImageState}
+use Rattle.image_slots.specs.declared.view.ImageState.TheVariants as image
+use Rattle.device_core.specs.declared.counts.Counts.{Counts}
+use Rattle.device_core.specs.Device.{DeviceState}
+use Rattle.campaign_server.specs.declared.stage.Stage.{Stage}
+use Rattle.campaign_server.specs.declared.stage.Stage.TheVariants.{At, Updated, Refused}
+use Rattle.campaign_server.specs.declared.stage.Request.{Request}
+use Rattle.campaign_server.specs.declared.stage.Request.TheVariants.{Version, Group, Fragments, Window, Status, Image, Reboot, Check}
+
+-- texts joined to the right
+infixr 5 ◌⧺◌
+abbrev pub ◌⧺◌ : List ℕ → List ℕ → List ℕ
+a ⧺ b = a ++ b
+
+-- ---- words
+
+abbrev pub request_word : Request → List ℕ
+request_word Version = codes "version"
+request_word Group = codes "group"
+request_word Fragments = codes "fragments"
+request_word Window = codes "window"
+request_word Status = codes "status"
+request_word Image = codes "image"
+request_word Reboot = codes "reboot"
+request_word Check = codes "check"
+
+abbrev pub stage_text : Stage → List ℕ
+stage_text (At request) = request_word request
+stage_text Updated = codes "updated"
+stage_text (Refused request bits) = codes "refused " ⧺ request_word request ⧺ codes " " ⧺ decimal bits
+
+abbrev pub next_text : ImageState → List ℕ
+next_text image.None = codes "none"
+next_text image.Corrupt = codes "corrupt"
+next_text image.Incompatible = codes "incompatible"
+next_text (image.Valid version) = codes "valid " ⧺ decimal version
+
+-- ---- lines
+
+-- device NAME STAGE clock OFFSET token T running V next NEXT
+abbrev pub device_text : (name stage : List ℕ) → (offset token running : ℕ) → (next : List ℕ) → List ℕ
+device_text name stage offset token running next =
+    codes "device " ⧺ name ⧺ codes " " ⧺ stage ⧺ codes " clock " ⧺ decimal offset ⧺ codes " token " ⧺ decimal token
+    ⧺ codes " running " ⧺ decimal running ⧺ codes " next " ⧺ next ⧺ codes "\n"
+
+abbrev pub device_line : (name : List ℕ) → Stage → DeviceState → List ℕ
+device_line name stage device =
+    device_text name (stage_text stage) device.clock.offset device.clock.token device.slots.version (next_text device.slots.next)
+
+-- counts deaf A refused B full C dropped D
+abbrev pub counts_line : Counts → List ℕ
+counts_line counts =
+    codes "counts deaf " ⧺ decimal counts.deaf ⧺ codes " refused " ⧺ decimal counts.refused ⧺ codes " full " ⧺ decimal counts.full
+    ⧺ codes " dropped " ⧺ decimal counts.dropped ⧺ codes "\n"

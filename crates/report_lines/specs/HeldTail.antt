@@ -1,0 +1,8 @@
+-- What is told of a whole file, as it is handed in.
+use Rattle.report_lines.specs.declared.sessions.Tail.{Tail}
+use Rattle.report_lines.specs.declared.sessions.Tail.TheVariants as tail
+use Rattle.report_lines.specs.Sessions.{ToldFile, same, whole}
+
+abbrev pub tail_of : Tail → ToldFile
+tail_of (tail.Same image) = same image.now
+tail_of tail.File = whole

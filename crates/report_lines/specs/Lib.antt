@@ -1,0 +1,8 @@
+pub mod Faults
+pub mod Texts
+pub mod Devices
+pub mod Sessions
+pub mod HeldTail
+pub mod Lines
+pub mod Behind
+pub mod WorkedLines

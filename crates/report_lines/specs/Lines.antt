@@ -1,0 +1,59 @@
+-- How the lines of a file are read and taken, one after another, and what is told of it (this project's profile).
+use Rattle.std.specs.Prelude.{◌≡◌, ℕ, ◌+◌, List, [], ◌∷◌, Result, Ok, Err}
+use Rattle.report_lines.specs.declared.faults.LineWhy.{LineWhy}
+use Rattle.report_lines.specs.declared.faults.LineFault.{LineFault}
+use Rattle.report_lines.specs.declared.faults.LineError.{LineError}
+use Rattle.report_lines.specs.declared.faults.LineError.TheVariants as error
+
+-- ---- line by line
+
+-- what a line says that comes after so many, or the first cause for which it is refused
+abbrev pub LineReading : Type 0 → Type 0
+LineReading P = ℕ → (line : List ℕ) → Result P LineWhy
+
+-- what the line with a number says takes one state to a next
+abbrev pub Step : (P S : Type 0) → Type 1
+Step P S = ℕ → P → S → S → Type 0
+
+-- what a line says takes the state to a next, and so on; or the line is refused
+abbrev pub BehindLine : {P S : Type 0} → Step P S → ℕ → S → Result P LineWhy → (S → Result S LineFault → Type 0) → Result S LineFault → Type 0
+BehindLine Takes lines state (Err cause) goes_on outcome = outcome ≡ Err (record { line = lines + 1; why = cause })
+BehindLine {P} {S} Takes lines state (Ok said) goes_on outcome = (next : S) × Takes (lines + 1) said state next × goes_on next outcome
+
+-- behind so many lines the state is this one: what comes of those that are left, the last state or the first refused line
+unfoldable pub TakesLines : {P S : Type 0} → LineReading P → Step P S → ℕ → S → List (List ℕ) → Result S LineFault → Type 0
+TakesLines reading Takes lines state [] outcome = outcome ≡ Ok state
+TakesLines reading Takes lines state (line ∷ rest) outcome =
+    BehindLine Takes lines state (reading lines line) (λ next. TakesLines reading Takes (lines + 1) next rest) outcome
+
+-- ---- what is told of a file
+
+-- a file's text, or its first refused line
+abbrev pub Telling : Type 1
+Telling = (file : List ℕ) → Result (List ℕ) LineFault → Type 0
+
+-- the text of the last state, or the first refused line
+abbrev pub told_by : {S : Type 0} → (S → List ℕ) → Result S LineFault → Result (List ℕ) LineFault
+told_by text (Ok state) = Ok (text state)
+told_by text (Err fault) = Err fault
+
+-- no file is told in two ways
+abbrev pub TellsOnce : Telling → Type 0
+TellsOnce Tells = (file : List ℕ) (one other : Result (List ℕ) LineFault) → Tells file one → Tells file other → one ≡ other
+
+-- and each file is told in some way
+abbrev pub TellsAlways : Telling → Type 0
+TellsAlways Tells = (file : List ℕ) → (said : Result (List ℕ) LineFault) × Tells file said
+
+-- what was computed is what is told, or memory was wanting
+abbrev pub IsTold : Telling → (file : List ℕ) → Result (List ℕ) LineError → Type 0
+IsTold Tells file (Ok text) = Tells file (Ok text)
+IsTold Tells file (Err (error.Line fault)) = Tells file (Err fault)
+IsTold Tells file (Err error.Memory) = Unit {0}
+
+-- ---- as it is computed
+
+-- a line that comes after so many is refused, or memory was wanting
+abbrev pub IsLineRefused : {P : Type 0} → LineReading P → ℕ → (line : List ℕ) → LineError → Type 0
+IsLineRefused reading lines line (error.Line fault) = (reading lines line ≡ Err fault.why) × (fault.line ≡ lines + 1)
+IsLineRefused reading lines line error.Memory = Unit {0}

@@ -1,0 +1,97 @@
+//! Refused lines, and why a call over lines answers nothing else.
+
+ghost use Rattle.std.specs.Prelude.{◌≡◌, ◌≤◌, ◌+◌, ◌++◌, IfOk, codes, string_bytes};
+ghost use Rattle.std.specs.Fmt.{decimal};
+ghost use Rattle.script_lines.specs.Limits.{max_lines};
+ghost use Rattle.report_lines.specs.Faults.{why_word, fault_line};
+
+use std::alloc::{AllocError, Global};
+
+/// The most lines of a script or of a file of payloads.
+pub const MAX_LINES: u32 = 20_000;
+
+/// The most bytes of a line.
+pub const MAX_LINE: usize = 600;
+
+/// Why a line is refused; the causes are tried in this order, and whether something is left to send last of all.
+#[derive(Clone, Copy, Debug, PartialEq, Eq)]
+pub enum LineWhy {
+    /// The line's number is above 20,000, it has more than 600 bytes, or nothing is left to send.
+    Limit,
+    /// It spells no form, or the script ended without `end`.
+    Syntax,
+    /// Its form is not allowed at this place.
+    Order,
+    /// A number is outside its range.
+    Range,
+    /// The device is none.
+    Device,
+    /// The payload was not sent to that device, or the uplink was not made or is due later.
+    Unsent,
+    /// The time that it tells is over.
+    Time,
+}
+
+/// The first refused line, counted from 1, and its first cause.
+#[derive(Clone, Copy, Debug, PartialEq, Eq)]
+pub struct LineFault {
+    pub line: u32,
+    pub why: LineWhy,
+}
+
+/// Why a call over lines answers nothing else.
+#[derive(Clone, Copy, Debug, PartialEq, Eq)]
+pub enum LineError {
+    Memory,
+    Line(LineFault),
+}
+
+impl From<AllocError> for LineError {
+    ghost use Rattle.report_lines.specs.declared.faults.LineError.TheVariants.{Memory};
+    ghost use Rattle.std.specs.Prelude.{◌≡◌};
+
+    ghost from_gives = { λ _ e. e ≡ Memory };
+
+    fn from(_: AllocError) -> Self {
+        LineError::Memory
+    }
+}
+
+/// The refusal of the line that comes behind so many.
+pub fn refused_behind(lines: u32, why: LineWhy) -> LineError
+    requires { lines ≤ max_lines }
+    ensures { result ≡ LineError.Line (record { line = lines + 1; why = why }) }
+{
+    LineError::Line(LineFault {
+        line: lines + 1,
+        why,
+    })
+}
+
+/// What is said of a refused line: `line K WHY`.
+pub fn fault_line(alloc: Global, fault: LineFault) -> Result<String, AllocError>
+    ensures { IfOk result (λ text. string_bytes text ≡ fault_line fault) }
+{
+    let why = why_word(fault.why);
+    said_of(alloc, fault.line, why)
+}
+
+fn said_of(alloc: Global, line: u32, why: &str) -> Result<String, AllocError>
+    ensures { IfOk result (λ text. string_bytes text ≡ codes "line " ++ decimal line ++ (codes " " ++ why.now ++ codes "\n")) }
+{
+    format!(in alloc; "line {line} {why}\n")
+}
+
+fn why_word(why: LineWhy) -> &'static str
+    ensures { result.now ≡ why_word why }
+{
+    match why {
+        LineWhy::Limit => "limit",
+        LineWhy::Syntax => "syntax",
+        LineWhy::Order => "order",
+        LineWhy::Range => "range",
+        LineWhy::Device => "device",
+        LineWhy::Unsent => "unsent",
+        LineWhy::Time => "time",
+    }
+}
