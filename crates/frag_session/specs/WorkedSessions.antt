@@ -67,6 +67,13 @@ session_of req rows heard = record { setup = req; rows = rows; heard = heard }
 abbrev pub worked_session : Session
 worked_session = session_of worked_setup 4 (one_heard ∷ [])
 
+-- one for groups 0 and 1
+abbrev pub setup_of_two : SetupReq
+setup_of_two = record worked_setup { mask = 3 }
+
+abbrev pub session_of_two : Session
+session_of_two = session_of setup_of_two 4 (one_heard ∷ [])
+
 -- what another setup makes of the session
 abbrev pub renewed_by : SetupReq → Option Session
 renewed_by req = after_setup worked_limits worked_room (Some worked_session) req
@@ -93,6 +100,10 @@ pub record WorkedFragments : Type 0 where
   pub unicast : drop_cause (Some worked_session) Unicast 1 (replicate 13 9) ≡ None
   pub own_group : drop_cause (Some worked_session) (Group 0) 1 (replicate 13 9) ≡ None
   pub other_group : drop_cause (Some worked_session) (Group 1) 1 (replicate 13 9) ≡ Some cause.Group
+  -- a mask of two groups lets in both, and no third
+  pub first_of_two : drop_cause (Some session_of_two) (Group 0) 1 (replicate 13 9) ≡ None
+  pub second_of_two : drop_cause (Some session_of_two) (Group 1) 1 (replicate 13 9) ≡ None
+  pub third_group : drop_cause (Some session_of_two) (Group 2) 1 (replicate 13 9) ≡ Some cause.Group
   -- from 1 to the last that is coded
   pub no_number : drop_cause (Some worked_session) Unicast 0 (replicate 13 9) ≡ Some cause.Index
   pub last : drop_cause (Some worked_session) Unicast 8384 (replicate 13 9) ≡ None
@@ -129,6 +140,16 @@ pub record WorkedStatus : Type 0 where
   pub missing : status_in worked_setup (seen_with 3 1 Receiving) Unicast false ≡ Some (record { received = 3; missing = 1; norows = false; delay = 2 })
   pub own_group : status_in worked_setup (seen_with 3 1 Receiving) (Group 0) false ≡ Some (record { received = 3; missing = 1; norows = false; delay = 2 })
   pub other_group : status_in worked_setup (seen_with 3 1 Receiving) (Group 1) true ≡ None
+  -- by a group, as by unicast, a whole file is told where all are asked
+  pub own_group_all : status_in worked_setup (seen_with 4 0 (Complete 9)) (Group 0) true
+      ≡ Some (record { received = 4; missing = 0; norows = false; delay = 2 })
+  pub own_group_whole : status_in worked_setup (seen_with 4 0 (Complete 9)) (Group 0) false ≡ None
+  -- by both groups of a mask, and by no third
+  pub first_of_two : status_in setup_of_two (seen_with 3 1 Receiving) (Group 0) false
+      ≡ Some (record { received = 3; missing = 1; norows = false; delay = 2 })
+  pub second_of_two : status_in setup_of_two (seen_with 3 1 Receiving) (Group 1) false
+      ≡ Some (record { received = 3; missing = 1; norows = false; delay = 2 })
+  pub third_group : status_in setup_of_two (seen_with 3 1 Receiving) (Group 2) true ≡ None
   pub no_session : status_of None Unicast true ≡ None
   -- 8 bits of missing fragments, and whether the rows did not suffice
   pub many : status_in worked_setup (seen_with 3 300 Receiving) Unicast true ≡ Some (record { received = 3; missing = 255; norows = false; delay = 2 })
