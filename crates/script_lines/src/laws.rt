@@ -1,9 +1,16 @@
-//! A law about the definitions, as the contract of a function that does nothing.
+//! Laws about the definitions, each the contract of a function that does nothing.
 
 ghost use Rattle.script_lines.specs.WorkedLines.{AreForms, AreNone};
+ghost use Rattle.script_lines.specs.WorkedRanges.{AreRanges, AreLimits};
 
 /// Each form is spelled by its worked line, and lines beside them spell none.
 pub fn worked_lines()
     ensures forms { AreForms }
     ensures none { AreNone }
+{}
+
+/// The last number within the range of each form, the first outside, and the limits of a line.
+pub fn worked_ranges()
+    ensures ranges { AreRanges }
+    ensures limits { AreLimits }
 {}
