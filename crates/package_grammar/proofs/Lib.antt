@@ -8,3 +8,4 @@ pub mod ReadResults
 pub mod Examples
 pub mod OneByte
 pub mod Appended
+pub mod WorkedTexts

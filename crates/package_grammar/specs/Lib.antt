@@ -4,3 +4,4 @@ pub mod Texts
 pub mod HeldMessage
 pub mod MessageInside
 pub mod Words
+pub mod WorkedTexts
