@@ -47,6 +47,9 @@ slots = record {
   b_last = refl;
   b_behind_the_slot = refl;
   b_behind = refl;
+  b_rare = refl;
+  b_rarely = refl;
+  b_rare_again = refl;
   b_short = refl;
   b_long = refl;
 }

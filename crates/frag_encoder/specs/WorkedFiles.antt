@@ -1,6 +1,6 @@
 -- Files cut into pieces, and their fragments, worked out. (TS004-1.0.0: the last fragment is filled up with zeros.)
 use Rattle.std.specs.Prelude.{◌≡◌, ℕ, List, [], ◌∷◌}
-use Rattle.frag_encoder.specs.Encoding.{nb_frag_of, padding_of, filled, block_of, data_of}
+use Rattle.frag_encoder.specs.Encoding.{IsBadSize, nb_frag_of, padding_of, filled, block_of, data_of}
 
 -- five bytes
 abbrev pub five : List ℕ
@@ -22,3 +22,13 @@ pub record WorkedFiles : Type 0 where
   -- a coded one is the sum of the pieces of its line: of three pieces the second, of two the second
   pub coded : data_of five 2 4 ≡ 0x33 ∷ 0x44 ∷ []
   pub coded_with_padding : data_of five 3 3 ≡ 0x44 ∷ 0x55 ∷ 0 ∷ []
+
+-- the files and sizes that are not encoded, and those beside them
+pub record WorkedSizes : Type 0 where
+  pub no_file : IsBadSize 0 13
+  pub no_bytes : IsBadSize 7 0
+  pub too_long : IsBadSize 7 240
+  pub too_many : IsBadSize 4097 1
+  pub longest : ¬ IsBadSize 7 239
+  pub most : ¬ IsBadSize 4096 1
+  pub last_of_most : ¬ IsBadSize 8191 2
