@@ -5,3 +5,4 @@ pub mod HeldMessage
 pub mod MessageInside
 pub mod Words
 pub mod WorkedTexts
+pub mod WorkedPayloads

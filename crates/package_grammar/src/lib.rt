@@ -29,7 +29,8 @@ pub use checking::check;
 pub use command::{Command, valid};
 pub use downlink::{Downlink, To};
 pub use laws::{
-    reading_has_one_answer, reading_is_exact, worked_texts, written_is_message, written_is_read,
+    reading_has_one_answer, reading_is_exact, worked_payloads, worked_texts, written_is_message,
+    written_is_read,
 };
 pub use message::Message;
 pub use reading::read_one;

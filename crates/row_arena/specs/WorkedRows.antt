@@ -1,5 +1,5 @@
 -- Rows, their sums and their room, worked out.
-use Rattle.std.specs.Prelude.{◌≡◌, ℕ, ◌+◌, ◌^◌, true, false, List, [], ◌∷◌}
+use Rattle.std.specs.Prelude.{◌≡◌, ℕ, ◌+◌, ◌^◌, true, false, [], ◌∷◌}
 use Rattle.row_arena.specs.Limits.{max_words, max_bytes, max_width}
 use Rattle.row_arena.specs.Rows.{Row, Arena, zero_row, row_at, with_row, row_sum, words_for, has_room, line_in}
 use Rattle.row_arena.specs.Sums.{after_pieces, after_flips}
