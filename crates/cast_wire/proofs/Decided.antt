@@ -1,5 +1,5 @@
 -- Each test is true exactly where its fact holds, and the samples have every identifier of the table.
-use Rattle.std.proofs.Common.{◌≡◌, ℕ, true, List, refl, inl, inr}
+use Rattle.std.proofs.Common.{◌≡◌, ℕ, true, refl, inl, inr}
 use Rattle.std.specs.Bool.{Decides}
 use Rattle.std.specs.Cmp.{booleans_Decides}
 use Rattle.std.proofs.lemmas.Bool.Decides.{Decides-eqb, Decides-and}

@@ -5,3 +5,4 @@ pub mod Spellings
 pub mod Writes
 pub mod SetupBits
 pub mod Decided
+pub mod WorkedSpellings

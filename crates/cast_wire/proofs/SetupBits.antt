@@ -1,5 +1,5 @@
 -- The four refusal bits of a FragSessionSetupAns, and the number that they make.
-use Rattle.std.proofs.Common.{◌≡◌, ℕ, zero, suc, ◌+◌, ◌*◌, ◌<◌, Bool, true, false, cond, eqb, refl, ◌∙◌, sym, ap, ◌%◌, ◌/◌, arith}
+use Rattle.std.proofs.Common.{◌≡◌, ℕ, zero, suc, ◌*◌, ◌<◌, Bool, true, false, eqb, refl, ◌∙◌, sym, ap, ◌%◌, ◌/◌, arith}
 use Rattle.wire_base.specs.Numbers.{has_bit, flag_value}
 use Rattle.cast_wire.specs.declared.cmd.Cmd.{Cmd}
 use Rattle.cast_wire.specs.declared.cmd.Cmd.TheVariants.{FragSessionSetupAns}

@@ -4,3 +4,4 @@ pub mod SetupRefusal
 pub mod Reading
 pub mod Tests
 pub mod Fragment
+pub mod WorkedSpellings

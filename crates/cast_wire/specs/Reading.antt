@@ -1,6 +1,6 @@
 -- Between the table and the code: for each port and direction the command that a place's identifier names, and its end.
 -- What commands are is said by the table alone; the reading of a payload computes with these, and is held to it by law.
-use Rattle.std.specs.Prelude.{ℕ, zero, suc, ◌+◌, ◌*◌, ◌||◌, Bool, ◌==◌, nat_le, if◌then◌else◌, List, [], ◌∷◌, length, drop, slice_range, count_ones, Option, Some, None}
+use Rattle.std.specs.Prelude.{ℕ, zero, suc, ◌+◌, ◌*◌, ◌||◌, ◌==◌, nat_le, if◌then◌else◌, List, [], ◌∷◌, length, drop, slice_range, count_ones, Option, Some, None}
 use Rattle.wire_base.specs.declared.refusal.Direction.{Direction}
 use Rattle.wire_base.specs.declared.refusal.Direction.TheVariants.{Down, Up}
 use Rattle.wire_base.specs.Numbers.{number_at}

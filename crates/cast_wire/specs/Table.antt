@@ -1,5 +1,5 @@
 -- The commands of TS004-1.0.0 (port 201) and TS005-1.0.0 (port 200), a row for each as in the standard's tables.
-use Rattle.std.specs.Prelude.{◌≡◌, ℕ, ◌<◌, ◌≤◌, ◌⊎◌, ◌||◌, List, [], ◌∷◌, length, Option, Some, None, is_none, count_ones}
+use Rattle.std.specs.Prelude.{◌≡◌, ℕ, ◌≤◌, ◌⊎◌, ◌||◌, List, [], ◌∷◌, length, Option, Some, None, is_none, count_ones}
 use Rattle.wire_base.specs.declared.refusal.Direction.{Direction}
 use Rattle.wire_base.specs.declared.refusal.Refusal.{Refusal}
 use Rattle.wire_base.specs.Rows.{Row, Part, down, up, bits, flag, number, packed, block, rest, spelling}

@@ -7,6 +7,7 @@ ghost use Rattle.cast_wire.specs.declared.cmd.Cmd.{Cmd};
 ghost use Rattle.cast_wire.specs.declared.cmd.Cmd.TheVariants.{FragSessionSetupAns};
 ghost use Rattle.cast_wire.specs.Table.{row, Spells, IsValid, canonical};
 ghost use Rattle.cast_wire.specs.SetupRefusal.{refusal_bits, setup_answer};
+ghost use Rattle.cast_wire.specs.WorkedSpellings.{WorkedSpellings};
 
 /// What is written is read again, whatever stands before it and follows; nothing may follow one that takes the rest.
 pub fn written_is_read()
@@ -40,4 +41,9 @@ pub fn refusal_bits_are_kept()
         ≡ FragSessionSetupAns index descriptor unsupported memory encoding }
     ensures one { (index m n : ℕ) → m < 16 → n < 16
         → setup_answer index m ≡ setup_answer index n → m ≡ n }
+{}
+
+/// Where each command is sent and the bytes that are written for it, worked out.
+pub fn worked_spellings()
+    ensures { WorkedSpellings }
 {}

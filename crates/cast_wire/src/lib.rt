@@ -35,12 +35,13 @@ pub use fragment_bytes::{FragmentBytes, MAX_FRAGMENT};
 pub use group_list::{GroupAddress, GroupList, MAX_GROUPS};
 pub use ids::{FRAGMENT_PORT, MULTICAST_PORT};
 pub use laws::{
-    no_spelling_begins_another, place_has_one_spelling, refusal_bits_are_kept, written_is_read,
+    no_spelling_begins_another, place_has_one_spelling, refusal_bits_are_kept, worked_spellings,
+    written_is_read,
 };
 pub use reading::read_one;
 pub use setup_refusal::{refusal_bits, setup_answer};
 pub use validity::valid;
-pub use writing::write_one;
+pub use writing::{write_fragment, write_one};
 
 #[cfg(test)]
 mod tests;

@@ -2,6 +2,7 @@ ghost use Rattle.cast_wire.specs.Table.{IsValid, canonical};
 ghost use Rattle.wire_base.specs.Payload.{Appends};
 
 use crate::cmd::Cmd;
+use crate::fragment::Fragment;
 use crate::writing_fragments::{
     put_data_fragment, put_delete_answer, put_delete_request, put_setup_answer, put_setup_request,
     put_status_answer, put_status_request, put_version_answer, put_version_request,
@@ -59,7 +60,12 @@ pub fn write_one(cmd: &Cmd, out: &mut Payload) -> Result<(), Full>
         ),
         &Cmd::FragSessionDeleteReq { index } => put_delete_request(index, out),
         &Cmd::FragSessionDeleteAns { index, missing } => put_delete_answer(index, missing, out),
-        Cmd::DataFragment { index, n, bytes } => put_data_fragment(*index, *n, bytes, out),
+        Cmd::DataFragment { index, n, bytes } => put_data_fragment(
+            *index,
+            *n,
+            bytes.as_slice(),
+            out,
+        ),
         &Cmd::McGroupStatusReq { mask } => put_group_status_request(mask, out),
         Cmd::McGroupStatusAns {
             total,
@@ -106,4 +112,14 @@ pub fn write_one(cmd: &Cmd, out: &mut Payload) -> Result<(), Full>
             start,
         } => put_class_b_answer(id, undefined, freq_error, dr_error, start, out),
     }
+}
+
+/// Puts the canonical spelling of a DataFragment at the end, whole or not at all. Its bytes are taken from where they lie.
+pub fn write_fragment(fragment: &Fragment<'_>, out: &mut Payload) -> Result<(), Full>
+    requires { IsValid (Cmd.DataFragment fragment.now.index fragment.now.n fragment.now.bytes.now) }
+    ensures { Appends out.old out.new
+        (canonical (Cmd.DataFragment fragment.now.index fragment.now.n fragment.now.bytes.now))
+        result }
+{
+    put_data_fragment(fragment.index, fragment.n, fragment.bytes, out)
 }

@@ -5,7 +5,6 @@ ghost use Rattle.cast_wire.specs.Table.{IsValid, canonical};
 ghost use Rattle.wire_base.specs.Payload.{Appends};
 
 use crate::cmd::Cmd;
-use crate::fragment_bytes::FragmentBytes;
 use crate::ids::{
     DATA_FRAGMENT, FRAGMENT_HEAD_LEN, NO_BODY_LEN, ONE_BYTE_LEN, PACKAGE_VERSION, SESSION_DELETE,
     SESSION_SETUP, SESSION_STATUS, SETUP_REQUEST_LEN, STATUS_ANSWER_LEN, VERSION_ANSWER_LEN,
@@ -155,21 +154,15 @@ pub fn put_delete_answer(index: u8, missing: bool, out: &mut Payload) -> Result<
     Ok(())
 }
 
-pub fn put_data_fragment(
-    index: u8,
-    n: u16,
-    bytes: &FragmentBytes,
-    out: &mut Payload,
-) -> Result<(), Full>
+pub fn put_data_fragment(index: u8, n: u16, bytes: &[u8], out: &mut Payload) -> Result<(), Full>
     requires { IsValid (Cmd.DataFragment index n bytes.now) }
     ensures { Appends out.old out.new (canonical (Cmd.DataFragment index n bytes.now)) result }
 {
-    let fragment = bytes.as_slice();
-    if out.room() < FRAGMENT_HEAD_LEN as usize + fragment.len() {
+    if out.room() < FRAGMENT_HEAD_LEN as usize + bytes.len() {
         return Err(Full);
     }
     put_u8(out, DATA_FRAGMENT)?;
     put_u16(out, (u16::from(index) << 14) + n)?;
-    put_bytes(out, fragment)?;
+    put_bytes(out, bytes)?;
     Ok(())
 }

@@ -40,9 +40,18 @@ pub slots : WorkedSlots
 unfolding is_running is_in_slot is_ping_slot xtime sum_of_products times inverse affine_bit sub_byte sub_bytes shift_rows mixed mix_columns add_round_key next_words words_from after_round cipher
 slots = record {
   offset = refl;
+  next_offset = refl;
   rare = refl;
   b_open = refl;
   b_before = refl;
+  b_last = refl;
+  b_behind_the_slot = refl;
+  b_behind = refl;
+  b_rare = refl;
+  b_rarely = refl;
+  b_rare_again = refl;
+  b_short = refl;
+  b_long = refl;
 }
 
 pub answers : WorkedAnswers

@@ -38,10 +38,22 @@ pub record WorkedWindows : Type 0 where
 -- with another AES
 pub record WorkedSlots : Type 0 where
   pub offset : ping_offset 1024 0x11223344 0 ≡ 23
+  pub next_offset : ping_offset 1152 0x11223344 0 ≡ 19
   pub rare : ping_offset 4294967168 0xdeadbeef 7 ≡ 3372
   -- a session of 1,030 s runs from the beacon at 1,024 s on
   pub b_open : is_open_b 1030 0 1 (1024000 + 2120 + 30 * 23) 0x11223344 ≡ true
   pub b_before : is_open_b 1030 0 1 (896000 + 2120 + 30 * 18) 0x11223344 ≡ false
+  -- with TimeOut 1 it lasts 256 s, so that the last slot of the second beacon is its last; the third beacon's first is behind it
+  pub b_last : is_open_b 1030 0 1 (1152000 + 2120 + 30 * 4083 + 29) 0x11223344 ≡ true
+  pub b_behind_the_slot : is_open_b 1030 0 1 (1152000 + 2120 + 30 * 4083 + 30) 0x11223344 ≡ false
+  pub b_behind : is_open_b 1030 0 1 (1280000 + 2120 + 30 * 11) 0x11223344 ≡ false
+  -- with Periodicity 5 every 1,024th slot
+  pub b_rare : is_open_b 1030 5 1 (1024000 + 2120 + 30 * 343) 0x11223344 ≡ true
+  pub b_rarely : is_open_b 1030 5 1 (1024000 + 2120 + 30 * (343 + 512)) 0x11223344 ≡ false
+  pub b_rare_again : is_open_b 1030 5 1 (1024000 + 2120 + 30 * (343 + 1024)) 0x11223344 ≡ true
+  -- with TimeOut 0 it has the slots of one beacon, with TimeOut 2 those of the third and the fourth too
+  pub b_short : is_open_b 1030 0 0 (1152000 + 2120 + 30 * 19) 0x11223344 ≡ false
+  pub b_long : is_open_b 1030 0 2 (1280000 + 2120 + 30 * 11) 0x11223344 ≡ true
 
 pub record WorkedAnswers : Type 0 where
   -- the error bits: no group, a frequency outside 863 to 870 MHz, a data rate above 5

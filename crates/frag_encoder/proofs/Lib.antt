@@ -2,3 +2,4 @@ pub mod Pieces
 pub mod Summing
 pub mod Filling
 pub mod Blocks
+pub mod WorkedFiles

@@ -1,9 +1,16 @@
-//! A law about the definitions, the contract of a function that does nothing.
+//! Laws about the definitions, each the contract of a function that does nothing.
 
 ghost use Rattle.frag_encoder.specs.Laws.{FragmentsAreTheFiles};
+ghost use Rattle.frag_encoder.specs.WorkedFiles.{WorkedFiles, WorkedSizes};
 
 /// The fragments of a file are those of one block, so that the block fits whatever is heard of them, and what is recovered
 /// from the block is the file.
 pub fn fragments_are_the_files()
     ensures { FragmentsAreTheFiles }
+{}
+
+/// Files cut into pieces, their fragments, and the sizes that are refused, worked out.
+pub fn worked_files()
+    ensures files { WorkedFiles }
+    ensures sizes { WorkedSizes }
 {}

@@ -2,9 +2,9 @@
 use Rattle.std.proofs.Common.{refl}
 use Rattle.row_elimination.specs.Room.{has_room, words_for}
 use Rattle.frag_model.specs.Verdict.{verdict, missing}
-use Rattle.frag_session.specs.Setup.{setup_bits, wrong_coding, too_large, other_descriptor, same_setup}
-use Rattle.frag_session.specs.Session.{new_session, renewed, after_setup, excludes, cause_of, drop_cause, followed, after_fragment, shape_of, shown_verdict, shown_file, seen_of, status_by, status_in, status_of}
-use Rattle.frag_session.specs.WorkedSessions.{WorkedSetups, WorkedSessions, WorkedFragments, WorkedStatus}
+use Rattle.frag_session.specs.Setup.{setup_bits, wrong_coding, too_large, other_descriptor, same_setup, lives}
+use Rattle.frag_session.specs.Session.{new_session, renewed, after_setup, excludes, cause_of, drop_cause, news_in, answer_of, followed, after_fragment, shape_of, shown_verdict, shown_file, seen_of, status_by, status_in, status_of}
+use Rattle.frag_session.specs.WorkedSessions.{WorkedSetups, WorkedSessions, WorkedFragments, WorkedNews, WorkedStatus}
 
 pub setups : WorkedSetups
 unfolding setup_bits wrong_coding too_large other_descriptor has_room words_for
@@ -24,6 +24,8 @@ setups = record {
   bytes = refl;
   area = refl;
   pieces = refl;
+  flash = refl;
+  less_flash = refl;
   last_index = refl;
   index = refl;
   descriptor = refl;
@@ -32,7 +34,7 @@ setups = record {
 }
 
 pub sessions : WorkedSessions
-unfolding setup_bits wrong_coding too_large other_descriptor has_room words_for new_session renewed after_setup same_setup
+unfolding setup_bits wrong_coding too_large other_descriptor has_room words_for new_session renewed after_setup same_setup lives
 sessions = record {
   new = refl;
   rows = refl;
@@ -45,6 +47,9 @@ sessions = record {
   padding = refl;
   descriptor = refl;
   refused = refl;
+  kept = refl;
+  not_kept = refl;
+  none_lives = refl;
 }
 
 pub fragments : WorkedFragments
@@ -53,6 +58,9 @@ fragments = record {
   unicast = refl;
   own_group = refl;
   other_group = refl;
+  first_of_two = refl;
+  second_of_two = refl;
+  third_group = refl;
   no_number = refl;
   last = refl;
   behind = refl;
@@ -63,6 +71,17 @@ fragments = record {
   second = refl;
   heard = refl;
   repeated = refl;
+  dropped = refl;
+}
+
+pub news : WorkedNews
+unfolding news_in answer_of
+news = record {
+  new = λ s n part mark is. rw is refl;
+  old = λ s n part mark is. rw is refl;
+  no_session = refl;
+  fed = refl;
+  fed_old = refl;
   dropped = refl;
 }
 
@@ -78,6 +97,11 @@ status = record {
   missing = refl;
   own_group = refl;
   other_group = refl;
+  own_group_all = refl;
+  own_group_whole = refl;
+  first_of_two = refl;
+  second_of_two = refl;
+  third_group = refl;
   no_session = refl;
   many = refl;
   no_rows = refl;

@@ -1,15 +1,18 @@
 -- Setups, fragments and answers of a session that are worked out (TS004-1.0.0).
 use Rattle.std.specs.Prelude.{◌≡◌, ℕ, true, false, List, [], ◌∷◌, replicate, Option, Some, None}
 use Rattle.frag_model.specs.Fragments.{Fragment}
+use Rattle.frag_model.specs.News.{is_new}
 use Rattle.frag_session.specs.declared.setups.SetupReq.{SetupReq}
 use Rattle.frag_session.specs.declared.setups.Limits.{Limits}
 use Rattle.frag_session.specs.declared.answers.Via.TheVariants.{Unicast, Group}
 use Rattle.frag_session.specs.declared.answers.Cause.TheVariants as cause
 use Rattle.frag_session.specs.declared.answers.Verdict.{Verdict}
+use Rattle.frag_session.specs.declared.answers.News.TheVariants.{Old, New}
+use Rattle.frag_session.specs.declared.answers.Heard.TheVariants.{Fed, Dropped}
 use Rattle.frag_session.specs.declared.answers.Verdict.TheVariants.{Receiving, Complete, NoRows, Conflict}
 use Rattle.row_elimination.specs.Room.{Extent, extent_for}
-use Rattle.frag_session.specs.Setup.{Room, memory_room, setup_bits}
-use Rattle.frag_session.specs.Session.{Session, Seen, after_setup, drop_cause, after_fragment, received_count, seen_of, status_in, status_of}
+use Rattle.frag_session.specs.Setup.{Room, memory_room, setup_bits, lives}
+use Rattle.frag_session.specs.Session.{Session, Seen, after_setup, drop_cause, fragment, shape_of, news_in, answer_of, after_fragment, received_count, seen_of, status_in, status_of}
 
 -- ---- setups
 
@@ -49,6 +52,9 @@ pub record WorkedSetups : Type 0 where
   pub bytes : setup_bits worked_limits (memory_room 4 51 (small 52 4)) worked_setup ≡ 2
   pub area : setup_bits worked_limits (memory_room 4 52 (small 51 4)) worked_setup ≡ 2
   pub pieces : setup_bits worked_limits (memory_room 4 52 (small 52 3)) worked_setup ≡ 2
+  -- or for this flash: 24,640 bytes, and 23 for each of 2 * 4 + 1 fragments
+  pub flash : setup_bits worked_limits (record worked_room { span = Some 24847 }) worked_setup ≡ 0
+  pub less_flash : setup_bits worked_limits (record worked_room { span = Some 24846 }) worked_setup ≡ 2
   -- 4: no such index; 8: another descriptor than the one that is taken; and all together
   pub last_index : bits (record worked_setup { index = 3 }) ≡ 0
   pub index : bits (record worked_setup { index = 4 }) ≡ 4
@@ -66,6 +72,13 @@ session_of req rows heard = record { setup = req; rows = rows; heard = heard }
 
 abbrev pub worked_session : Session
 worked_session = session_of worked_setup 4 (one_heard ∷ [])
+
+-- one for groups 0 and 1
+abbrev pub setup_of_two : SetupReq
+setup_of_two = record worked_setup { mask = 3 }
+
+abbrev pub session_of_two : Session
+session_of_two = session_of setup_of_two 4 (one_heard ∷ [])
 
 -- what another setup makes of the session
 abbrev pub renewed_by : SetupReq → Option Session
@@ -85,6 +98,10 @@ pub record WorkedSessions : Type 0 where
   pub padding : renewed_by (record worked_setup { padding = 6 }) ≡ Some (session_of (record worked_setup { padding = 6 }) 4 [])
   pub descriptor : renewed_by (record worked_setup { descriptor = 8 }) ≡ Some (session_of (record worked_setup { descriptor = 8 }) 4 [])
   pub refused : renewed_by (record worked_setup { algo = 1 }) ≡ Some worked_session
+  -- a request that is equal keeps it, and another or none that lives does not
+  pub kept : lives (Some worked_setup) worked_setup ≡ true
+  pub not_kept : lives (Some worked_setup) (record worked_setup { delay = 3 }) ≡ false
+  pub none_lives : lives None worked_setup ≡ false
 
 -- ---- fragments
 
@@ -93,6 +110,10 @@ pub record WorkedFragments : Type 0 where
   pub unicast : drop_cause (Some worked_session) Unicast 1 (replicate 13 9) ≡ None
   pub own_group : drop_cause (Some worked_session) (Group 0) 1 (replicate 13 9) ≡ None
   pub other_group : drop_cause (Some worked_session) (Group 1) 1 (replicate 13 9) ≡ Some cause.Group
+  -- a mask of two groups lets in both, and no third
+  pub first_of_two : drop_cause (Some session_of_two) (Group 0) 1 (replicate 13 9) ≡ None
+  pub second_of_two : drop_cause (Some session_of_two) (Group 1) 1 (replicate 13 9) ≡ None
+  pub third_group : drop_cause (Some session_of_two) (Group 2) 1 (replicate 13 9) ≡ Some cause.Group
   -- from 1 to the last that is coded
   pub no_number : drop_cause (Some worked_session) Unicast 0 (replicate 13 9) ≡ Some cause.Index
   pub last : drop_cause (Some worked_session) Unicast 8384 (replicate 13 9) ≡ None
@@ -110,6 +131,17 @@ pub record WorkedFragments : Type 0 where
   pub repeated : after_fragment (Some worked_session) Unicast 2 (replicate 13 9) 5
       ≡ Some (session_of worked_setup 4 (record { number = 2; part = replicate 13 9; mark = 5 } ∷ one_heard ∷ []))
   pub dropped : after_fragment (Some worked_session) Unicast 0 (replicate 13 8) 5 ≡ Some worked_session
+
+-- a fragment that is heard is told as new exactly where it is new after those before it; and what is answered
+pub record WorkedNews : Type 0 where
+  pub new : (s : Session) (n : ℕ) (part : List ℕ) (mark : ℕ)
+      → is_new (shape_of s) (fragment n part mark) s.heard ≡ true → news_in (Some s) n part mark ≡ New
+  pub old : (s : Session) (n : ℕ) (part : List ℕ) (mark : ℕ)
+      → is_new (shape_of s) (fragment n part mark) s.heard ≡ false → news_in (Some s) n part mark ≡ Old
+  pub no_session : news_in None 1 (7 ∷ []) 1 ≡ Old
+  pub fed : answer_of None New ≡ Fed New
+  pub fed_old : answer_of None Old ≡ Fed Old
+  pub dropped : answer_of (Some cause.Index) New ≡ Dropped cause.Index
 
 -- ---- FragSessionStatusReq
 
@@ -129,6 +161,16 @@ pub record WorkedStatus : Type 0 where
   pub missing : status_in worked_setup (seen_with 3 1 Receiving) Unicast false ≡ Some (record { received = 3; missing = 1; norows = false; delay = 2 })
   pub own_group : status_in worked_setup (seen_with 3 1 Receiving) (Group 0) false ≡ Some (record { received = 3; missing = 1; norows = false; delay = 2 })
   pub other_group : status_in worked_setup (seen_with 3 1 Receiving) (Group 1) true ≡ None
+  -- by a group, as by unicast, a whole file is told where all are asked
+  pub own_group_all : status_in worked_setup (seen_with 4 0 (Complete 9)) (Group 0) true
+      ≡ Some (record { received = 4; missing = 0; norows = false; delay = 2 })
+  pub own_group_whole : status_in worked_setup (seen_with 4 0 (Complete 9)) (Group 0) false ≡ None
+  -- by both groups of a mask, and by no third
+  pub first_of_two : status_in setup_of_two (seen_with 3 1 Receiving) (Group 0) false
+      ≡ Some (record { received = 3; missing = 1; norows = false; delay = 2 })
+  pub second_of_two : status_in setup_of_two (seen_with 3 1 Receiving) (Group 1) false
+      ≡ Some (record { received = 3; missing = 1; norows = false; delay = 2 })
+  pub third_group : status_in setup_of_two (seen_with 3 1 Receiving) (Group 2) true ≡ None
   pub no_session : status_of None Unicast true ≡ None
   -- 8 bits of missing fragments, and whether the rows did not suffice
   pub many : status_in worked_setup (seen_with 3 300 Receiving) Unicast true ≡ Some (record { received = 3; missing = 255; norows = false; delay = 2 })

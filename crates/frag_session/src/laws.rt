@@ -2,7 +2,7 @@
 
 ghost use Rattle.frag_session.specs.FirstMoment.{FirstMoment};
 ghost use Rattle.frag_session.specs.Missing.{MissingPieces};
-ghost use Rattle.frag_session.specs.WorkedSessions.{WorkedSetups, WorkedSessions, WorkedFragments, WorkedStatus};
+ghost use Rattle.frag_session.specs.WorkedSessions.{WorkedSetups, WorkedSessions, WorkedFragments, WorkedNews, WorkedStatus};
 
 /// A session is decided by the first heard fragment after which its file is no longer open: it is whole
 /// from the first one on after which one file alone fits, and shows that file.
@@ -21,5 +21,6 @@ pub fn worked_sessions()
     ensures setups { WorkedSetups }
     ensures sessions { WorkedSessions }
     ensures fragments { WorkedFragments }
+    ensures news { WorkedNews }
     ensures status { WorkedStatus }
 {}

@@ -5,6 +5,7 @@ pub mod Answers
 pub mod ReadingLaw
 pub mod Cursor
 pub mod ReadResults
-pub mod Examples
 pub mod OneByte
 pub mod Appended
+pub mod WorkedTexts
+pub mod WorkedPayloads

@@ -4,3 +4,5 @@ pub mod Texts
 pub mod HeldMessage
 pub mod MessageInside
 pub mod Words
+pub mod WorkedTexts
+pub mod WorkedPayloads

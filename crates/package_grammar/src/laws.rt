@@ -6,6 +6,8 @@ ghost use Rattle.wire_base.specs.Rows.{IsListed};
 ghost use Rattle.package_grammar.specs.declared.command.Command.{Command};
 ghost use Rattle.package_grammar.specs.Grammar.{row, IsValid, IsMessage, IsStop, canonical, IsReading};
 ghost use Rattle.package_grammar.specs.Reading.{reading_of};
+ghost use Rattle.package_grammar.specs.WorkedPayloads.{ReservedBits, WorkedMessages};
+ghost use Rattle.package_grammar.specs.WorkedTexts.{SyncTexts, FragmentTexts, GroupTexts};
 
 /// A payload is read as these commands exactly where it is a message of them, and as this refusal exactly where reading
 /// it stops so.
@@ -33,4 +35,17 @@ pub fn reading_has_one_answer()
     ensures { (port : ℕ) (dir : Direction) (bytes : List ℕ)
         (one other : Result (List Command) Refusal)
         → IsReading port dir bytes one → IsReading port dir bytes other → one ≡ other }
+{}
+
+/// The text of each command, worked out.
+pub fn worked_texts()
+    ensures sync { SyncTexts }
+    ensures fragments { FragmentTexts }
+    ensures groups { GroupTexts }
+{}
+
+/// Payloads worked out: reserved bits, payloads of several commands, and where reading stops.
+pub fn worked_payloads()
+    ensures reserved { ReservedBits }
+    ensures messages { WorkedMessages }
 {}

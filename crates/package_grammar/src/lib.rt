@@ -28,11 +28,14 @@ mod writing;
 pub use checking::check;
 pub use command::{Command, valid};
 pub use downlink::{Downlink, To};
-pub use laws::{reading_has_one_answer, reading_is_exact, written_is_message, written_is_read};
+pub use laws::{
+    reading_has_one_answer, reading_is_exact, worked_payloads, worked_texts, written_is_message,
+    written_is_read,
+};
 pub use message::Message;
 pub use reading::read_one;
 pub use showing::show;
-pub use writing::{spelled, write_one};
+pub use writing::{spelled, spelled_fragment, write_one};
 
 #[cfg(test)]
 mod tests;

@@ -3,3 +3,4 @@ pub mod Rows
 pub mod Sums
 pub mod ArenaInside
 pub mod Steps
+pub mod WorkedRows

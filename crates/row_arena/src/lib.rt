@@ -12,6 +12,7 @@
 
 mod arena;
 mod lanes;
+mod laws;
 mod lines;
 mod picks;
 mod pieces;
@@ -19,6 +20,7 @@ mod stretches;
 
 pub use arena::{NoRoom, RowArena, words_for};
 pub use lanes::{xor_bytes, xor_words};
+pub use laws::worked_rows;
 pub use lines::{clear_bits, first_bit, flip_bit};
 pub use picks::pick;
 pub use pieces::sum_pieces;

@@ -1,7 +1,7 @@
 //! The sum of a part and some of the pieces in an area.
 
 ghost use Rattle.std.specs.Prelude.{◌≡◌, ℕ, ◌+◌, ◌*◌, ◌<◌, ◌≤◌, ◌⊎◌, length, slice_index};
-ghost use Rattle.row_arena.specs.Sums.{after_pieces};
+ghost use Rattle.row_arena.specs.Sums.{AreInside, IsSum, SumsFrom};
 
 use crate::lanes::xor_bytes;
 use std::simd::prelude::*;
@@ -9,8 +9,8 @@ use std::simd::prelude::*;
 /// Writes over `rest`, which is as long, the sum of `part` and the picked pieces.
 pub fn sum_pieces(area: &[u8], picks: &[u16], part: &[u8], rest: &mut [u8])
     requires sized { length rest.old ≡ length part.now }
-    requires picks { (n : ℕ) → n < length picks.now → slice_index picks.now n * length part.now + length part.now ≤ length area.now }
-    ensures { (i : ℕ) → i < length part.now → slice_index rest.new i ≡ after_pieces (length part.now) area.now i (slice_index part.now i) picks.now }
+    requires picks { AreInside picks.now (length part.now) area.now }
+    ensures { IsSum area.now picks.now part.now rest.new }
 {
     if part.len() >= 64 {
         sum_long(area, picks, part, rest);
@@ -24,8 +24,8 @@ pub fn sum_pieces(area: &[u8], picks: &[u16], part: &[u8], rest: &mut [u8])
 /// The same, piece by piece.
 fn sum_short(area: &[u8], picks: &[u16], part: &[u8], rest: &mut [u8])
     requires sized { length rest.old ≡ length part.now }
-    requires picks { (n : ℕ) → n < length picks.now → slice_index picks.now n * length part.now + length part.now ≤ length area.now }
-    ensures { (i : ℕ) → i < length part.now → slice_index rest.new i ≡ after_pieces (length part.now) area.now i (slice_index part.now i) picks.now }
+    requires picks { AreInside picks.now (length part.now) area.now }
+    ensures { IsSum area.now picks.now part.now rest.new }
 {
     let size = part.len();
     rest.copy_from_slice(part);
@@ -41,8 +41,8 @@ fn sum_middle(area: &[u8], picks: &[u16], part: &[u8], rest: &mut [u8])
     requires sized { length rest.old ≡ length part.now }
     requires some { 16 ≤ length part.now }
     requires few { length part.now < 64 }
-    requires picks { (n : ℕ) → n < length picks.now → slice_index picks.now n * length part.now + length part.now ≤ length area.now }
-    ensures { (i : ℕ) → i < length part.now → slice_index rest.new i ≡ after_pieces (length part.now) area.now i (slice_index part.now i) picks.now }
+    requires picks { AreInside picks.now (length part.now) area.now }
+    ensures { IsSum area.now picks.now part.now rest.new }
 {
     let end = part.len();
     if end > 32 {
@@ -58,10 +58,11 @@ fn two_stripes(area: &[u8], picks: &[u16], part: &[u8], rest: &mut [u8], at: usi
     requires sized { length rest.old ≡ length part.now }
     requires inside { at + 16 ≤ length part.now }
     requires other_inside { other + 16 ≤ length part.now }
-    requires picks { (n : ℕ) → n < length picks.now → slice_index picks.now n * length part.now + length part.now ≤ length area.now }
-    ensures here { (i : ℕ) → at ≤ i → i < at + 16 → slice_index rest.new i ≡ after_pieces (length part.now) area.now i (slice_index part.now i) picks.now }
-    ensures there { (i : ℕ) → other ≤ i → i < other + 16 → slice_index rest.new i ≡ after_pieces (length part.now) area.now i (slice_index part.now i) picks.now }
-    ensures others { (i : ℕ) → (i < at) ⊎ (at + 16 ≤ i) → (i < other) ⊎ (other + 16 ≤ i) → slice_index rest.new i ≡ slice_index rest.old i }
+    requires picks { AreInside picks.now (length part.now) area.now }
+    ensures here { SumsFrom at 16 area.now picks.now part.now rest.new }
+    ensures there { SumsFrom other 16 area.now picks.now part.now rest.new }
+    ensures others { (i : ℕ) → (i < at) ⊎ (at + 16 ≤ i) → (i < other) ⊎ (other + 16 ≤ i)
+        → slice_index rest.new i ≡ slice_index rest.old i }
 {
     let size = part.len();
     let mut sum = u8x16::from_slice(&part[at..]);
@@ -79,8 +80,8 @@ fn two_stripes(area: &[u8], picks: &[u16], part: &[u8], rest: &mut [u8], at: usi
 fn sum_long(area: &[u8], picks: &[u16], part: &[u8], rest: &mut [u8])
     requires sized { length rest.old ≡ length part.now }
     requires long { 64 ≤ length part.now }
-    requires picks { (n : ℕ) → n < length picks.now → slice_index picks.now n * length part.now + length part.now ≤ length area.now }
-    ensures { (i : ℕ) → i < length part.now → slice_index rest.new i ≡ after_pieces (length part.now) area.now i (slice_index part.now i) picks.now }
+    requires picks { AreInside picks.now (length part.now) area.now }
+    ensures { IsSum area.now picks.now part.now rest.new }
 {
     for s in 0..part.len() / 64 {
         stripe(area, picks, part, rest, s * 64);
@@ -94,8 +95,8 @@ fn sum_long(area: &[u8], picks: &[u16], part: &[u8], rest: &mut [u8])
 fn stripe(area: &[u8], picks: &[u16], part: &[u8], rest: &mut [u8], at: usize)
     requires sized { length rest.old ≡ length part.now }
     requires inside { at + 64 ≤ length part.now }
-    requires picks { (n : ℕ) → n < length picks.now → slice_index picks.now n * length part.now + length part.now ≤ length area.now }
-    ensures here { (i : ℕ) → at ≤ i → i < at + 64 → slice_index rest.new i ≡ after_pieces (length part.now) area.now i (slice_index part.now i) picks.now }
+    requires picks { AreInside picks.now (length part.now) area.now }
+    ensures here { SumsFrom at 64 area.now picks.now part.now rest.new }
     ensures others { (i : ℕ) → (i < at) ⊎ (at + 64 ≤ i) → slice_index rest.new i ≡ slice_index rest.old i }
 {
     let size = part.len();

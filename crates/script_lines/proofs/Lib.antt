@@ -5,3 +5,4 @@ pub mod Heard
 pub mod CutWords
 pub mod OftenForms
 pub mod WorkedLines
+pub mod WorkedRanges

@@ -1,10 +1,10 @@
 -- The worked lines spell their forms.
 use Rattle.std.proofs.Common.{refl}
 use Rattle.hex.specs.Hex.{decode_pairs}
-use Rattle.script_lines.specs.Lines.{words_of, word}
+use Rattle.script_lines.specs.Lines.{lines_of, words_of, word}
 use Rattle.script_lines.specs.Numbers.{decimal_of, key_of, hex_number_of, hex_bytes_of}
 use Rattle.script_lines.specs.Forms.{form_of}
-use Rattle.script_lines.specs.WorkedLines.{AreForms, AreNone}
+use Rattle.script_lines.specs.WorkedLines.{AreForms, AreNone, AreCut, AreNumbers}
 
 pub forms : AreForms
 unfolding form_of words_of word decimal_of key_of hex_number_of hex_bytes_of decode_pairs
@@ -57,4 +57,28 @@ none = record {
   empty_hex = refl;
   empty_hex_before_word = refl;
   two_dashes = refl;
+}
+
+pub lines : AreCut
+unfolding lines_of words_of
+lines = record {
+  no_line = refl;
+  one_empty = refl;
+  feeds = refl;
+  no_feed_at_the_end = refl;
+  another_control = refl;
+  spaces = refl;
+  tab = refl;
+}
+
+pub numbers : AreNumbers
+unfolding decimal_of hex_number_of decode_pairs
+numbers = record {
+  zero = refl;
+  two_zeros = refl;
+  no_digit = refl;
+  largest = refl;
+  above = refl;
+  hex = refl;
+  seven_digits = refl;
 }

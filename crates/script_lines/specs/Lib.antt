@@ -7,3 +7,4 @@ pub mod Numbers
 pub mod Forms
 pub mod Ranges
 pub mod WorkedLines
+pub mod WorkedRanges

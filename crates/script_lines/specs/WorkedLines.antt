@@ -1,7 +1,9 @@
 -- Lines of a script, each with the form that it spells, or with none.
-use Rattle.std.specs.Prelude.{◌≡◌, true, false, [], ◌∷◌, codes, Some, None}
+use Rattle.std.specs.Prelude.{◌≡◌, ◌-◌, ◌^◌, true, false, [], ◌∷◌, codes, Some, None}
 use Rattle.script_lines.specs.declared.forms.Class.TheVariants as class
 use Rattle.script_lines.specs.declared.forms.Form.TheVariants.{Header, Image, Group, WindowC, WindowB, Device, At, Wake, Migrate, Ask, Frag, Status, Down, Raw, Up, End}
+use Rattle.script_lines.specs.Lines.{lines_of, words_of}
+use Rattle.script_lines.specs.Numbers.{decimal_of, hex_number_of}
 use Rattle.script_lines.specs.Forms.{form_of}
 
 pub record AreForms : Type 0 where
@@ -56,3 +58,23 @@ pub record AreNone : Type 0 where
   pub empty_hex : form_of (codes "raw 7 201 ") ≡ None
   pub empty_hex_before_word : form_of (codes "raw 7 201  12") ≡ None
   pub two_dashes : form_of (codes "raw 7 201 --") ≡ None
+
+-- lines between line feeds, and words between spaces
+pub record AreCut : Type 0 where
+  pub no_line : lines_of [] ≡ []
+  pub one_empty : lines_of (10 ∷ []) ≡ [] ∷ []
+  pub feeds : lines_of (97 ∷ 10 ∷ 10 ∷ 98 ∷ 10 ∷ []) ≡ codes "a" ∷ [] ∷ codes "b" ∷ []
+  pub no_feed_at_the_end : lines_of (97 ∷ 10 ∷ 98 ∷ []) ≡ codes "a" ∷ codes "b" ∷ []
+  pub another_control : lines_of (97 ∷ 13 ∷ 98 ∷ []) ≡ (97 ∷ 13 ∷ 98 ∷ []) ∷ []
+  pub spaces : words_of (codes "a  b") ≡ codes "a" ∷ [] ∷ codes "b" ∷ []
+  pub tab : words_of (97 ∷ 9 ∷ 98 ∷ []) ≡ (97 ∷ 9 ∷ 98 ∷ []) ∷ []
+
+-- decimals and hex numbers
+pub record AreNumbers : Type 0 where
+  pub zero : decimal_of (codes "0") ≡ Some 0
+  pub two_zeros : decimal_of (codes "00") ≡ None
+  pub no_digit : decimal_of [] ≡ None
+  pub largest : decimal_of (codes "18446744073709551615") ≡ Some (2 ^ 64 - 1)
+  pub above : decimal_of (codes "18446744073709551616") ≡ Some (2 ^ 64 - 1)
+  pub hex : hex_number_of (codes "1a2B3c4D") ≡ Some 0x1a2b3c4d
+  pub seven_digits : hex_number_of (codes "1a2B3c4") ≡ None

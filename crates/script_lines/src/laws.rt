@@ -1,9 +1,18 @@
-//! A law about the definitions, as the contract of a function that does nothing.
+//! Laws about the definitions, each the contract of a function that does nothing.
 
-ghost use Rattle.script_lines.specs.WorkedLines.{AreForms, AreNone};
+ghost use Rattle.script_lines.specs.WorkedLines.{AreForms, AreNone, AreCut, AreNumbers};
+ghost use Rattle.script_lines.specs.WorkedRanges.{AreRanges, AreLimits};
 
-/// Each form is spelled by its worked line, and lines beside them spell none.
+/// Each form is spelled by its worked line, and lines beside them spell none; lines, words and numbers worked out.
 pub fn worked_lines()
     ensures forms { AreForms }
     ensures none { AreNone }
+    ensures lines { AreCut }
+    ensures numbers { AreNumbers }
+{}
+
+/// The last number within the range of each form, the first outside, and the limits of a line.
+pub fn worked_ranges()
+    ensures ranges { AreRanges }
+    ensures limits { AreLimits }
 {}

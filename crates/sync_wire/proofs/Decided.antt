@@ -1,5 +1,5 @@
 -- Each test is true exactly where its fact holds, and the samples have every identifier of the table.
-use Rattle.std.proofs.Common.{◌≡◌, ℕ, ℤ, true, List, refl, subst, inl, inr}
+use Rattle.std.proofs.Common.{◌≡◌, ℕ, ℤ, true, refl, subst, inl, inr}
 use Rattle.std.specs.Bool.{Decides}
 use Rattle.std.specs.Cmp.{booleans_Decides}
 use Rattle.std.specs.Int.{w32}

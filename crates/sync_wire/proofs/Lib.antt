@@ -2,3 +2,4 @@ pub mod Known
 pub mod Only
 pub mod Spellings
 pub mod Decided
+pub mod WorkedSpellings

@@ -1,6 +1,6 @@
 -- Between the table and the code: for each port and direction the command that a place's identifier names, and its end.
 -- What commands are is said by the table alone; the reading of a payload computes with these, and is held to it by law.
-use Rattle.std.specs.Prelude.{ℕ, ◌+◌, Bool, ◌==◌, nat_le, if◌then◌else◌, List, length, Option, Some, None}
+use Rattle.std.specs.Prelude.{ℕ, ◌+◌, ◌==◌, if◌then◌else◌, List, Some, None}
 use Rattle.std.specs.Int.{w32, cast_signed}
 use Rattle.wire_base.specs.declared.refusal.Direction.{Direction}
 use Rattle.wire_base.specs.declared.refusal.Direction.TheVariants.{Down, Up}

@@ -1,6 +1,6 @@
 -- The commands of TS003-1.0.0 (port 202) and TS006-1.0.0 (port 203): one row for each, as the standard's tables have
 -- them.
-use Rattle.std.specs.Prelude.{◌≡◌, ℕ, ◌<◌, ◌≤◌, ◌⊎◌, ◌==◌, List, [], ◌∷◌, length, Option, Some, None, is_some, FitsSigned}
+use Rattle.std.specs.Prelude.{◌≡◌, ℕ, ◌⊎◌, ◌==◌, List, [], ◌∷◌, Option, Some, None, is_some, FitsSigned}
 use Rattle.std.specs.Int.{w32, cast_unsigned}
 use Rattle.wire_base.specs.declared.refusal.Direction.{Direction}
 use Rattle.wire_base.specs.declared.refusal.Refusal.{Refusal}

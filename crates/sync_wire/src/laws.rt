@@ -5,6 +5,7 @@ ghost use Rattle.wire_base.specs.declared.refusal.Direction.{Direction};
 ghost use Rattle.wire_base.specs.Rows.{IsListed};
 ghost use Rattle.sync_wire.specs.declared.cmd.Cmd.{Cmd};
 ghost use Rattle.sync_wire.specs.Table.{row, Spells, IsValid, canonical};
+ghost use Rattle.sync_wire.specs.WorkedSpellings.{WorkedSpellings};
 
 /// What is written is read again, whatever stands before it and follows.
 pub fn written_is_read()
@@ -26,4 +27,9 @@ pub fn no_spelling_begins_another()
     ensures { (c d : Cmd) (port : ℕ) (dir : Direction) (bytes more : List ℕ)
         → Spells c port dir bytes 0 (length bytes)
         → Spells d port dir (bytes ++ more) 0 (length (bytes ++ more)) → more ≡ [] }
+{}
+
+/// Where each command is sent and the bytes that are written for it, worked out.
+pub fn worked_spellings()
+    ensures { WorkedSpellings }
 {}

@@ -22,7 +22,9 @@ mod writing_firmware;
 
 pub use cmd::Cmd;
 pub use ids::{CLOCK_PORT, DEV_VERSION, FIRMWARE_PORT, PACKAGE_VERSION, UPGRADE_IMAGE};
-pub use laws::{no_spelling_begins_another, place_has_one_spelling, written_is_read};
+pub use laws::{
+    no_spelling_begins_another, place_has_one_spelling, worked_spellings, written_is_read,
+};
 pub use reading::read_one;
 pub use validity::valid;
 pub use writing::write_one;

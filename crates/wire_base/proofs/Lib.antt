@@ -2,3 +2,4 @@ pub mod NumberLaws
 pub mod Putting
 pub mod RowLaws
 pub mod Decided
+pub mod WorkedNumbers

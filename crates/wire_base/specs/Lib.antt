@@ -5,3 +5,4 @@ pub mod Rows
 pub mod Tables
 pub mod Found
 pub mod Tests
+pub mod WorkedNumbers

@@ -3,6 +3,7 @@
 ghost use Rattle.std.specs.Prelude.{◌≡◌, ℕ, ◌+◌, ◌*◌, ◌^◌, ◌<◌, List, [], ◌++◌, length, IsTrue, false};
 ghost use Rattle.wire_base.specs.Numbers.{number_at, number_bytes};
 ghost use Rattle.wire_base.specs.Rows.{Row, Lies, PartsFit, spelling, is_well_formed, takes_rest};
+ghost use Rattle.wire_base.specs.WorkedNumbers.{WorkedNumbers};
 
 /// The number that was put at a place is the number that is read there.
 pub fn number_put_is_number_read()
@@ -23,4 +24,9 @@ pub fn row_written_lies()
 pub fn row_lies_before_more()
     ensures { (row : Row) (bytes more : List ℕ) (at next : ℕ) → takes_rest row.parts ≡ false
         → Lies row bytes at next → Lies row (bytes ++ more) at next }
+{}
+
+/// Numbers, fields, a row and numbered items, worked out.
+pub fn worked_numbers()
+    ensures { WorkedNumbers }
 {}

@@ -14,7 +14,7 @@ mod numbers;
 mod payload;
 mod refusal;
 
-pub use laws::number_put_is_number_read;
+pub use laws::{number_put_is_number_read, worked_numbers};
 pub use numbers::{
     flag_value, put_bytes, put_u8, put_u16, put_u24, put_u32, u8_at, u16_at, u24_at, u32_at,
 };

@@ -1,4 +1,4 @@
-use Rattle.frag_session.proofs.WorkedSessions.{setups, sessions, fragments, status}
+use Rattle.frag_session.proofs.WorkedSessions.{setups, sessions, fragments, news, status}
 use Rattle.frag_session.proofs.laws.worked_sessions.Goals as goal
 
 pub returns-clause-setups : goal.returns-clause-setups
@@ -12,3 +12,6 @@ returns-clause-fragments c = fragments
 
 pub returns-clause-status : goal.returns-clause-status
 returns-clause-status c = status
+
+pub returns-clause-news : goal.returns-clause-news
+returns-clause-news c = news

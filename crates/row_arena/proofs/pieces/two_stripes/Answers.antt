@@ -2,7 +2,7 @@ use Rattle.std.proofs.Common.{◌+◌, ◌*◌, ◌<◌, ◌≤◌, length, get_
 use Rattle.std.proofs.lemmas.Bool.{cases_lt}
 use Rattle.std.proofs.lemmas.Simd.{length-put_chunk}
 use lib.Lanes.{put_chunk}
-use Rattle.row_arena.proofs.Picking.{Stripe, stripe_none, stripe_more, stripe_here, stripe_beside}
+use Rattle.row_arena.proofs.Picking.{stripe_none, stripe_more, stripe_here, stripe_beside}
 use Rattle.row_arena.proofs.pieces.two_stripes.Goals as goal
 
 pub loop-n-init : goal.loop-n-init

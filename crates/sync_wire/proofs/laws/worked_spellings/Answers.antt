@@ -1,0 +1,5 @@
+use Rattle.sync_wire.proofs.WorkedSpellings.{spellings}
+use Rattle.sync_wire.proofs.laws.worked_spellings.Goals as goal
+
+pub returns : goal.returns
+returns c = spellings
