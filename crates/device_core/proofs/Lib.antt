@@ -7,3 +7,5 @@ pub mod Acting
 pub mod Stays
 pub mod SessionSteps
 pub mod HeardSessions
+pub mod Multicast
+pub mod Running
