@@ -1,5 +1,5 @@
 -- A server of a campaign: what it is at a moment, and at its start (this project's profile).
-use Rattle.std.specs.Prelude.{ℕ, List, length, replicate, slice_index_or, Option, None}
+use Rattle.std.specs.Prelude.{ℕ, List, length, replicate, slice_index_or, Option, Some, None}
 use Rattle.wire_base.specs.Numbered.{numbered}
 use Rattle.package_grammar.specs.declared.command.Command.{Command}
 use Rattle.package_grammar.specs.declared.downlink.To.{To}
