@@ -75,6 +75,8 @@ answers = record {
   missing = refl;
   other_session = refl;
   no_rows = refl;
+  whole_without_rows = refl;
+  others_rows = refl;
   valid = refl;
   other_version = refl;
   corrupt = refl;
@@ -104,6 +106,7 @@ unfolding next_fragment after_fragment status_to_all after_status_to_all data_of
 sending = record {
   first = refl;
   eighth = refl;
+  coded = refl;
   spent = refl;
   moves = refl;
   last_count = refl;

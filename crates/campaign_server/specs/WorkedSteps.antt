@@ -3,6 +3,8 @@ use Rattle.std.specs.Prelude.{◌≡◌, ℕ, ◌-◌, ◌^◌, true, List, [], 
 use Rattle.wire_base.specs.declared.refusal.Refusal.{Refusal}
 use Rattle.wire_base.specs.declared.refusal.Why.TheVariants as why
 use Rattle.package_grammar.specs.declared.command.Command.TheVariants.{Cast}
+use Rattle.cast_wire.specs.declared.cmd.Cmd.TheVariants.{DataFragment}
+use Rattle.frag_encoder.specs.Encoding.{data_of}
 use Rattle.package_grammar.specs.declared.downlink.Downlink.{Downlink}
 use Rattle.package_grammar.specs.declared.downlink.To.TheVariants as to
 use Rattle.campaign_server.specs.declared.plan.Kind.TheVariants as kind
@@ -137,6 +139,9 @@ pub record AnswerSteps : Type 0 where
   pub missing : leads alone (At Status) 201 (0x01 ∷ 0x04 ∷ 0x00 ∷ 0x01 ∷ 0x00 ∷ []) ≡ Some (At Status)
   pub other_session : leads alone (At Status) 201 (0x01 ∷ 0x04 ∷ 0x40 ∷ 0x00 ∷ 0x00 ∷ []) ≡ Some (At Status)
   pub no_rows : leads alone (At Status) 201 (0x01 ∷ 0x04 ∷ 0x00 ∷ 0x01 ∷ 0x01 ∷ []) ≡ Some (Refused Status 1)
+  -- a refusal is tried before what moves on, and both for the session that was asked of alone
+  pub whole_without_rows : leads alone (At Status) 201 (0x01 ∷ 0x04 ∷ 0x00 ∷ 0x00 ∷ 0x01 ∷ []) ≡ Some (Refused Status 1)
+  pub others_rows : leads alone (At Status) 201 (0x01 ∷ 0x04 ∷ 0x40 ∷ 0x01 ∷ 0x01 ∷ []) ≡ Some (At Status)
   pub valid : leads alone (At Image) 203 (0x04 ∷ 0x03 ∷ 0x02 ∷ 0x00 ∷ 0x00 ∷ 0x00 ∷ []) ≡ Some (At Reboot)
   pub other_version : leads alone (At Image) 203 (0x04 ∷ 0x03 ∷ 0x03 ∷ 0x00 ∷ 0x00 ∷ 0x00 ∷ []) ≡ Some (Refused Image 3)
   pub corrupt : leads alone (At Image) 203 (0x04 ∷ 0x01 ∷ []) ≡ Some (Refused Image 1)
@@ -178,6 +183,8 @@ pub record SendSteps : Type 0 where
   })
   -- 4 fragments, and 4 that are coded
   pub eighth : is_ok (next_fragment (record (first_server image alone) { next = 8 })) ≡ true
+  pub coded : next_fragment (record (first_server image alone) { next = 8 })
+      ≡ Ok (record { to = to.Unicast; command = Cast (DataFragment 0 8 (data_of image 13 8)) })
   pub spent : next_fragment (record (first_server image alone) { next = 9 }) ≡ Err AllSent
   -- to the group with its next count, which ends before its MAX
   pub moves : after_fragment (first_server image grouped) ≡ record (first_server image grouped) { next = 2; count = 6 }

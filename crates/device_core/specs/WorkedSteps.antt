@@ -17,7 +17,10 @@ use Rattle.device_core.specs.declared.uplink.Uplink.{Uplink}
 use Rattle.device_core.specs.declared.delivered.Delivered.{Delivered}
 use Rattle.device_core.specs.declared.delivered.Delivered.TheVariants.{Deaf, Refused, OutboxFull, Done}
 use Rattle.device_core.specs.Device.{DeviceState, first_device, is_config, counter_after}
-use Rattle.device_core.specs.Answers.{uplink_of}
+use Rattle.device_core.specs.declared.uplink.UplinkCommand.{UplinkCommand}
+use Rattle.sync_wire.specs.declared.cmd.Cmd.TheVariants.{PackageVersionAns}
+use Rattle.package_grammar.specs.declared.command.Command.TheVariants.{Sync}
+use Rattle.device_core.specs.Answers.{uplink_of, after_answers}
 use Rattle.device_core.specs.Fragments.{answer_delay, status_answers}
 use Rattle.class_windows.specs.Open.{is_open_b}
 use Rattle.device_core.specs.ClassSessions.{is_open}
@@ -75,6 +78,10 @@ sends t port payload device = payloads (after t port payload (taken device))
 abbrev pub eight_held : DeviceState
 eight_held = after 0 202 (0x00 ∷ 0x03 ∷ 0x07 ∷ []) fresh
 
+-- an answer that is due at a moment
+abbrev pub version_due : (due : ℕ) → UplinkCommand
+version_due due = record { due = due; port = 202; command = Sync (PackageVersionAns 1 1) }
+
 pub record UplinkSteps : Type 0 where
   -- each package names itself, with version 1
   pub groups : sends 0 200 (0x00 ∷ []) fresh ≡ (0x00 ∷ 0x02 ∷ 0x01 ∷ []) ∷ []
@@ -84,10 +91,16 @@ pub record UplinkSteps : Type 0 where
   -- an answer is due at once, on the port of the request
   pub at_once : (after 7 203 (0x00 ∷ []) fresh).outbox ≡ record { due = 7; port = 203; payload = 0x00 ∷ 0x04 ∷ 0x01 ∷ [] } ∷ []
   pub last_due : (after 7 202 (0x00 ∷ []) fresh).last_due ≡ Some 7
+  -- of several the moment of the one that was made last counts, also where another is due later
+  pub made_last : (after_answers (record { device = fresh; answers = version_due 9 ∷ version_due 5 ∷ [] })).last_due
+      ≡ Some 5
   -- eight uplinks are held, oldest first; a ninth refuses its whole payload
   pub eight : answer 0 202 (0x03 ∷ 0x07 ∷ 0x00 ∷ []) fresh ≡ Done
   pub oldest : (taking eight_held).answer ≡ Some (record { due = 0; port = 202; payload = 0x00 ∷ 0x01 ∷ 0x01 ∷ [] })
   pub seven_left : length (taking eight_held).device.outbox ≡ 7
+  -- taking one changes nothing else
+  pub taken_alone : (taking eight_held).device
+      ≡ record eight_held { outbox = (taking eight_held).device.outbox }
   pub nine : answer 0 202 (0x03 ∷ 0x07 ∷ 0x00 ∷ 0x00 ∷ []) fresh ≡ OutboxFull 9
   pub nothing_acted : payloads (after 0 202 (0x03 ∷ 0x07 ∷ 0x00 ∷ 0x00 ∷ []) fresh) ≡ []
   -- those that are held count, and what makes no answer acts still
@@ -123,6 +136,9 @@ pub record ClockSteps : Type 0 where
   pub none : after 0 202 (0x03 ∷ 0x00 ∷ []) fresh ≡ fresh
   pub mends : mended.clock ≡ record { offset = 0; token = 1 }
   pub other_token : after 10000 202 (0x01 ∷ 0xfb ∷ 0xff ∷ 0xff ∷ 0xff ∷ 0x00 ∷ []) mended ≡ mended
+  -- the next request has the next token
+  pub next_token : sends 10000 202 (0x03 ∷ 0x01 ∷ []) mended
+      ≡ (0x01 ∷ 0x0a ∷ 0x00 ∷ 0x00 ∷ 0x00 ∷ 0x01 ∷ []) ∷ []
   -- a period is not supported
   pub periodicity : sends 10000 202 (0x02 ∷ 0x05 ∷ []) ahead ≡ (0x02 ∷ 0x01 ∷ 0x0f ∷ 0x00 ∷ 0x00 ∷ 0x00 ∷ []) ∷ []
 
@@ -283,6 +299,9 @@ pub record GroupSteps : Type 0 where
   -- a class B session begins at the beacon before: 1,010 s are rounded down to 896 s, which is past
   pub beacon : sends 1000000 200 (0x05 ∷ 0x00 ∷ 0xf2 ∷ 0x03 ∷ 0x00 ∷ 0x00 ∷ 0x00 ∷ 0x28 ∷ 0x76 ∷ 0x84 ∷ 0x00 ∷ []) grouped
       ≡ (0x05 ∷ 0x00 ∷ 0x00 ∷ 0x00 ∷ 0x00 ∷ []) ∷ []
+  -- 1,030 s are rounded down to 1,024 s
+  pub next_beacon : sends 1000000 200 (0x05 ∷ 0x00 ∷ 0x06 ∷ 0x04 ∷ 0x00 ∷ 0x00 ∷ 0x00 ∷ 0x28 ∷ 0x76 ∷ 0x84 ∷ 0x00 ∷ []) grouped
+      ≡ (0x05 ∷ 0x00 ∷ 0x18 ∷ 0x00 ∷ 0x00 ∷ []) ∷ []
   -- it ends with its group alone
   pub ends : (after 0 200 (0x03 ∷ 0x00 ∷ []) with_session).class_session ≡ None
   pub stays : (after 0 200 (0x03 ∷ 0x02 ∷ []) with_session).class_session ≡ with_session.class_session
@@ -329,6 +348,10 @@ pub record HearingSteps : Type 0 where
   pub no_reboot : by_group 203 (0x03 ∷ 0x00 ∷ 0x00 ∷ 0x00 ∷ []) ≡ with_session
   pub no_resync : by_group 202 (0x03 ∷ 0x01 ∷ []) ≡ with_session
   pub no_delete : by_group 200 (0x03 ∷ 0x00 ∷ []) ≡ with_session
+  -- what is skipped has its weight too
+  pub skipped_weight : (delivery 1010000 0 1
+      (record { to = Group 0x11223344 0; port = 202; payload = 0x03 ∷ 0x07 ∷ 0x00 ∷ 0x00 ∷ [] }) with_session).answer
+      ≡ OutboxFull 9
   -- what comes by a group is of the class session's: it feeds the sessions whose mask has that one
   pub of_group_2 : dropped_by_2 0x14 ≡ 0
   pub of_no_other : dropped_by_2 0x1b ≡ 1
@@ -410,4 +433,7 @@ pub record ConfigSteps : Type 0 where
   pub sessions : is_config (record (worked_config C 0) { sessions = 5 }) ≡ false
   pub no_session : is_config (record (worked_config C 0) { sessions = 0 }) ≡ false
   pub groups : is_config (record (worked_config C 0) { groups = 5 }) ≡ false
+  pub no_group : is_config (record (worked_config C 0) { groups = 0 }) ≡ false
+  pub no_area : is_config (record (worked_config C 0) { area = 0 }) ≡ false
+  pub least : is_config (record (worked_config A 0) { formats = 1; rows = 0; sessions = 1; groups = 1; area = 1 }) ≡ true
   pub area : is_config (record (worked_config C 0) { area = 262383 }) ≡ false
