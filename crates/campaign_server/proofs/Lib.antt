@@ -3,3 +3,4 @@ pub mod WorkedSteps
 pub mod Plans
 pub mod Times
 pub mod LineItems
+pub mod Counts

@@ -4,6 +4,8 @@ use Rattle.std.specs.Prelude.{ℕ, ◌+◌, Bool, true, false, ◌==◌, if◌th
 use Rattle.image_slots.specs.Image.{is_for, firmware_of}
 use Rattle.cast_wire.specs.declared.cmd.Cmd.TheVariants.{McGroupSetupAns, FragSessionSetupAns, McClassCSessionAns, McClassBSessionAns, FragSessionStatusAns}
 use Rattle.sync_wire.specs.declared.cmd.Cmd.TheVariants.{DevVersionAns, DevUpgradeImageAns, DevRebootCountdownAns}
+use Rattle.wire_base.specs.Numbers.{flag_value}
+use Rattle.cast_wire.specs.SetupRefusal.{refusal_bits}
 use Rattle.package_grammar.specs.declared.command.Command.{Command}
 use Rattle.package_grammar.specs.declared.command.Command.TheVariants.{Sync, Cast}
 use Rattle.campaign_server.specs.declared.plan.PlanWindow.{PlanWindow}
@@ -13,11 +15,7 @@ use Rattle.campaign_server.specs.declared.stage.Stage.{Stage}
 use Rattle.campaign_server.specs.declared.stage.Stage.TheVariants.{At, Updated, Refused}
 use Rattle.campaign_server.specs.declared.stage.Request.{Request}
 use Rattle.campaign_server.specs.declared.stage.Request.TheVariants.{Version, Group, Fragments, Window, Status, Image, Reboot, Check}
-use Rattle.campaign_server.specs.Plan.{Plan, session_index, group_id}
-
--- a bit of a number, by its worth
-abbrev pub worth : Bool → ℕ → ℕ
-worth set n = if set then n else 0
+use Rattle.campaign_server.specs.Plan.{Plan, session_index, own_id}
 
 -- refused with bits, unless there is none
 abbrev pub unless_refused : Request → (bits : ℕ) → Stage → Stage
@@ -35,21 +33,29 @@ after_version plan image hardware =
     unless_refused Version (if is_for image hardware then 0 else 1) (At (if is_some plan.group then Group else Fragments))
 
 -- 4 is IDerror
-abbrev pub after_group : (id : ℕ) → (error : Bool) → Stage
-after_group id error = where_own group_id id Group (unless_refused Group (worth error 4) (At Fragments))
+abbrev pub after_group : Plan → (id : ℕ) → (error : Bool) → Stage
+after_group plan id error =
+    where_own (own_id plan.group) id Group (unless_refused Group (flag_value error 4) (At Fragments))
 
 abbrev pub after_setup : Plan → (index bits : ℕ) → Stage
 after_setup plan index bits =
-    where_own session_index index Fragments (unless_refused Fragments bits (At (if is_some plan.group then Window else Status)))
+    let next = if is_some plan.group then Window else Status in
+    where_own (session_index plan) index Fragments (unless_refused Fragments bits (At next))
+
+-- the group (16), the frequency (8) and the data rate (4) of a class session
+abbrev pub window_bits : (undefined freq dr : Bool) → ℕ
+window_bits undefined freq dr = flag_value undefined 16 + flag_value freq 8 + flag_value dr 4
 
 -- the answer of the plan's own class alone
-abbrev pub after_window : (own : Bool) → (id bits : ℕ) → Stage
-after_window own id bits = if own then where_own group_id id Window (unless_refused Window bits (At Status)) else At Window
+abbrev pub after_window : Plan → (own : Bool) → (id bits : ℕ) → Stage
+after_window plan own id bits =
+    if own then where_own (own_id plan.group) id Window (unless_refused Window bits (At Status)) else At Window
 
 -- 1 is too little memory for the matrix; with fragments missing it stays
-abbrev pub after_status : (index missing : ℕ) → (norows : Bool) → Stage
-after_status index missing norows =
-    where_own session_index index Status (unless_refused Status (worth norows 1) (At (if missing == 0 then Image else Status)))
+abbrev pub after_status : Plan → (index missing : ℕ) → (norows : Bool) → Stage
+after_status plan index missing norows =
+    let next = if missing == 0 then Image else Status in
+    where_own (session_index plan) index Status (unless_refused Status (flag_value norows 1) (At next))
 
 -- 1 corrupt, 2 incompatible, 3 another version; 0 stays
 abbrev pub after_upgrade : (image : List ℕ) → (status : ℕ) → (next : Option ℕ) → Stage
@@ -80,14 +86,15 @@ is_class_b (Some window) = kind_is_b window.kind
 -- the stage behind a command of an uplink: an answer moves its own stage alone
 unfoldable pub stage_after : Plan → (image : List ℕ) → Stage → Command → Stage
 stage_after plan image (At Version) (Sync (DevVersionAns firmware hardware)) = after_version plan image hardware
-stage_after plan image (At Group) (Cast (McGroupSetupAns id error)) = after_group id error
+stage_after plan image (At Group) (Cast (McGroupSetupAns id error)) = after_group plan id error
 stage_after plan image (At Fragments) (Cast (FragSessionSetupAns index descriptor unsupported memory encoding)) =
-    after_setup plan index (worth descriptor 8 + worth unsupported 4 + worth memory 2 + worth encoding 1)
+    after_setup plan index (refusal_bits descriptor unsupported memory encoding)
 stage_after plan image (At Window) (Cast (McClassCSessionAns id undefined freq dr start)) =
-    after_window (is_class_c plan.window) id (worth undefined 16 + worth freq 8 + worth dr 4)
+    after_window plan (is_class_c plan.window) id (window_bits undefined freq dr)
 stage_after plan image (At Window) (Cast (McClassBSessionAns id undefined freq dr start)) =
-    after_window (is_class_b plan.window) id (worth undefined 16 + worth freq 8 + worth dr 4)
-stage_after plan image (At Status) (Cast (FragSessionStatusAns index received missing norows)) = after_status index missing norows
+    after_window plan (is_class_b plan.window) id (window_bits undefined freq dr)
+stage_after plan image (At Status) (Cast (FragSessionStatusAns index received missing norows)) =
+    after_status plan index missing norows
 stage_after plan image (At Image) (Sync (DevUpgradeImageAns status next)) = after_upgrade image status next
 stage_after plan image (At Reboot) (Sync (DevRebootCountdownAns count)) = At Check
 stage_after plan image (At Check) (Sync (DevVersionAns firmware hardware)) = after_check image firmware

@@ -17,7 +17,7 @@ use Rattle.campaign_server.specs.declared.plan.Kind.TheVariants as kind
 use Rattle.campaign_server.specs.declared.stage.Stage.{Stage}
 use Rattle.campaign_server.specs.declared.stage.Stage.TheVariants.{At, Updated, Refused}
 use Rattle.campaign_server.specs.declared.stage.Request.TheVariants.{Version, Group, Fragments, Window, Status, Image, Reboot, Check}
-use Rattle.campaign_server.specs.Plan.{Plan, session_index, group_id}
+use Rattle.campaign_server.specs.Plan.{Plan, session_index, group_id, own_id}
 use Rattle.campaign_server.specs.Wrapping.{wrapped_key}
 use Rattle.campaign_server.specs.Server.{ServerState, DownlinkCommand, ledger}
 use Rattle.wire_base.specs.Numbered.{numbered}
@@ -27,12 +27,13 @@ use Rattle.wire_base.specs.Numbered.{numbered}
 -- the group, its key wrapped under the device's GenAppKey
 abbrev pub group_request : (gen_app_key : List ℕ) → PlanGroup → Cmd
 group_request gen_app_key group =
-    McGroupSetupReq group_id group.addr (wrapped_key (mc_ke_key (mc_root_key gen_app_key)) group.key) group.min group.max
+    let key = wrapped_key (mc_ke_key (mc_root_key gen_app_key)) group.key in
+    McGroupSetupReq (group_id group) group.addr key group.min group.max
 
--- group 0 may feed the session where there is one
+-- the group may feed the session where there is one
 abbrev pub mask_of : Option PlanGroup → ℕ
 mask_of None = 0
-mask_of (Some group) = 2 ^ group_id
+mask_of (Some group) = 2 ^ group_id group
 
 -- the session: BlockAckDelay 0, and the firmware version as what the file is
 abbrev pub fragments_request : Plan → (image : List ℕ) → Cmd
@@ -40,14 +41,16 @@ fragments_request plan image =
     let size = plan.frag_size in
     let nb_frag = nb_frag_of (length image) size in
     let padding = padding_of (length image) size in
-    FragSessionSetupReq session_index (mask_of plan.group) nb_frag size 0 0 padding (firmware_of image)
+    FragSessionSetupReq (session_index plan) (mask_of plan.group) nb_frag size 0 0 padding (firmware_of image)
 
-abbrev pub window_request_of : PlanWindow → Kind → Cmd
-window_request_of window kind.C = McClassCSessionReq group_id window.start window.timeout window.freq window.dr
-window_request_of window (kind.B periodicity) = McClassBSessionReq group_id window.start periodicity window.timeout window.freq window.dr
+-- the class session of the group with an id
+abbrev pub window_request_of : (id : ℕ) → PlanWindow → Kind → Cmd
+window_request_of id window kind.C = McClassCSessionReq id window.start window.timeout window.freq window.dr
+window_request_of id window (kind.B periodicity) =
+    McClassBSessionReq id window.start periodicity window.timeout window.freq window.dr
 
-abbrev pub window_request : PlanWindow → Cmd
-window_request window = window_request_of window window.kind
+abbrev pub window_request : (id : ℕ) → PlanWindow → Cmd
+window_request id window = window_request_of id window window.kind
 
 -- ---- the table
 
@@ -60,8 +63,9 @@ unfoldable pub request_at : Plan → (image gen_app_key : List ℕ) → Stage �
 request_at plan image gen_app_key (At Version) = Some (Sync DevVersionReq)
 request_at plan image gen_app_key (At Group) = cast_of (λ group. group_request gen_app_key group) plan.group
 request_at plan image gen_app_key (At Fragments) = Some (Cast (fragments_request plan image))
-request_at plan image gen_app_key (At Window) = cast_of (λ window. window_request window) plan.window
-request_at plan image gen_app_key (At Status) = Some (Cast (FragSessionStatusReq session_index true))
+request_at plan image gen_app_key (At Window) =
+    cast_of (λ window. window_request (own_id plan.group) window) plan.window
+request_at plan image gen_app_key (At Status) = Some (Cast (FragSessionStatusReq (session_index plan) true))
 request_at plan image gen_app_key (At Image) = Some (Sync DevUpgradeImageReq)
 request_at plan image gen_app_key (At Reboot) = Some (Sync (DevRebootCountdownReq 0))
 request_at plan image gen_app_key (At Check) = Some (Sync DevVersionReq)

@@ -43,7 +43,8 @@ next_fragment server =
     else if has_no_count server.plan.group server.count then Err Counts
     else Ok (record {
       to = receivers server.plan.group server.count;
-      command = Cast (DataFragment session_index server.next (data_of server.image server.plan.frag_size server.next));
+      command = Cast (DataFragment (session_index server.plan) server.next
+          (data_of server.image server.plan.frag_size server.next));
     })
 
 unfoldable pub after_fragment : ServerState → ServerState
@@ -54,7 +55,10 @@ after_fragment server = if is_ok (next_fragment server) then after_count (record
 unfoldable pub status_to_all : ServerState → Option DownlinkCommand
 status_to_all server =
     if has_no_count server.plan.group server.count then None
-    else Some (record { to = receivers server.plan.group server.count; command = Cast (FragSessionStatusReq session_index false) })
+    else Some (record {
+      to = receivers server.plan.group server.count;
+      command = Cast (FragSessionStatusReq (session_index server.plan) false);
+    })
 
 unfoldable pub after_status_to_all : ServerState → ServerState
 after_status_to_all server = if is_some (status_to_all server) then after_count server else server

@@ -7,5 +7,6 @@ pub mod Fragments
 pub mod Time
 pub mod Uplinks
 pub mod Sent
+pub mod Counts
 pub mod WorkedSteps
 pub mod ServerInside

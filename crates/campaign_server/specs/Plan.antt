@@ -18,12 +18,17 @@ pub record Plan : Type 0 where
   pub window : Option PlanWindow
   pub devices : List PlanDevice
 
--- the session's index and the group's id, the same on every device
-abbrev pub session_index : ℕ
-session_index = 0
+-- the index of a plan's session, and the id of its group, the same on every device (this project's profile)
+abbrev pub session_index : Plan → ℕ
+session_index plan = 0
 
-abbrev pub group_id : ℕ
-group_id = 0
+abbrev pub group_id : PlanGroup → ℕ
+group_id group = 0
+
+-- the id of the group that there is; without one no command that has an id is sent, and none is taken
+abbrev pub own_id : Option PlanGroup → ℕ
+own_id None = 0
+own_id (Some group) = group_id group
 
 -- the most coded fragments, and the most devices
 abbrev pub max_parity : ℕ

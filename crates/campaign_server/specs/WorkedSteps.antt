@@ -1,8 +1,10 @@
 -- Steps of a server that are worked out: what it asks and sends, in bytes, and where answers lead.
-use Rattle.std.specs.Prelude.{◌≡◌, ℕ, ◌^◌, true, List, [], ◌∷◌, replicate, Option, Some, None, Result, Ok, Err, is_ok}
+use Rattle.std.specs.Prelude.{◌≡◌, ℕ, ◌-◌, ◌^◌, true, List, [], ◌∷◌, replicate, Option, Some, None, Result, Ok, Err, is_ok}
 use Rattle.wire_base.specs.declared.refusal.Refusal.{Refusal}
 use Rattle.wire_base.specs.declared.refusal.Why.TheVariants as why
 use Rattle.package_grammar.specs.declared.command.Command.TheVariants.{Cast}
+use Rattle.cast_wire.specs.declared.cmd.Cmd.TheVariants.{DataFragment}
+use Rattle.frag_encoder.specs.Encoding.{data_of}
 use Rattle.package_grammar.specs.declared.downlink.Downlink.{Downlink}
 use Rattle.package_grammar.specs.declared.downlink.To.TheVariants as to
 use Rattle.campaign_server.specs.declared.plan.Kind.TheVariants as kind
@@ -43,6 +45,10 @@ worked_window = record { kind = kind.C; start = 1000; timeout = 0; freq = 869525
 abbrev pub grouped : Plan
 grouped = record alone { group = Some worked_group; window = Some worked_window }
 
+-- the same with a class B session
+abbrev pub of_class_b : Plan
+of_class_b = record grouped { window = Some (record worked_window { kind = kind.B 3 }) }
+
 abbrev pub two_devices : Plan
 two_devices = record alone { devices = record { key = replicate 16 0 } ∷ record { key = replicate 16 1 } ∷ [] }
 
@@ -73,8 +79,10 @@ pub record AskSteps : Type 0 where
       ≡ by_unicast 201 (0x02 ∷ 0x00 ∷ 0x05 ∷ 0x00 ∷ 0x0d ∷ 0x00 ∷ 0x09 ∷ 0x02 ∷ 0x00 ∷ 0x00 ∷ 0x00 ∷ [])
   pub fed : asks grouped (At Fragments) ≡ by_unicast 201 (0x02 ∷ 0x01 ∷ 0x04 ∷ 0x00 ∷ 0x0d ∷ 0x00 ∷ 0x00 ∷ 0x02 ∷ 0x00 ∷ 0x00 ∷ 0x00 ∷ [])
   pub window : asks grouped (At Window) ≡ by_unicast 200 (0x04 ∷ 0x00 ∷ 0xe8 ∷ 0x03 ∷ 0x00 ∷ 0x00 ∷ 0x00 ∷ 0xd2 ∷ 0xad ∷ 0x84 ∷ 0x00 ∷ [])
-  pub window_b : asks (record grouped { window = Some (record worked_window { kind = kind.B 3; timeout = 1 }) }) (At Window)
-      ≡ by_unicast 200 (0x05 ∷ 0x00 ∷ 0xe8 ∷ 0x03 ∷ 0x00 ∷ 0x00 ∷ 0x31 ∷ 0xd2 ∷ 0xad ∷ 0x84 ∷ 0x00 ∷ [])
+  pub window_b : asks (record grouped { window = Some (record worked_window { kind = kind.B 3; timeout = 1; dr = 4 }) }) (At Window)
+      ≡ by_unicast 200 (0x05 ∷ 0x00 ∷ 0xe8 ∷ 0x03 ∷ 0x00 ∷ 0x00 ∷ 0x31 ∷ 0xd2 ∷ 0xad ∷ 0x84 ∷ 0x04 ∷ [])
+  pub long_window : asks (record grouped { window = Some (record worked_window { timeout = 2; dr = 5 }) }) (At Window)
+      ≡ by_unicast 200 (0x04 ∷ 0x00 ∷ 0xe8 ∷ 0x03 ∷ 0x00 ∷ 0x00 ∷ 0x02 ∷ 0xd2 ∷ 0xad ∷ 0x84 ∷ 0x05 ∷ [])
   pub status : asks alone (At Status) ≡ by_unicast 201 (0x01 ∷ 0x01 ∷ [])
   pub image_ : asks alone (At Image) ≡ by_unicast 203 (0x04 ∷ [])
   pub reboot : asks alone (At Reboot) ≡ by_unicast 203 (0x03 ∷ 0x00 ∷ 0x00 ∷ 0x00 ∷ [])
@@ -109,16 +117,35 @@ pub record AnswerSteps : Type 0 where
   pub set_up : leads alone (At Fragments) 201 (0x02 ∷ 0x00 ∷ []) ≡ Some (At Status)
   pub to_window : leads grouped (At Fragments) 201 (0x02 ∷ 0x00 ∷ []) ≡ Some (At Window)
   pub setup_bits : leads alone (At Fragments) 201 (0x02 ∷ 0x0a ∷ []) ≡ Some (Refused Fragments 10)
+  -- each bit alone: encoding, memory, index, descriptor
+  pub encoding : leads alone (At Fragments) 201 (0x02 ∷ 0x01 ∷ []) ≡ Some (Refused Fragments 1)
+  pub memory : leads alone (At Fragments) 201 (0x02 ∷ 0x02 ∷ []) ≡ Some (Refused Fragments 2)
+  pub index : leads alone (At Fragments) 201 (0x02 ∷ 0x04 ∷ []) ≡ Some (Refused Fragments 4)
+  pub descriptor : leads alone (At Fragments) 201 (0x02 ∷ 0x08 ∷ []) ≡ Some (Refused Fragments 8)
   pub other_index : leads alone (At Fragments) 201 (0x02 ∷ 0x42 ∷ []) ≡ Some (At Fragments)
   pub window : leads grouped (At Window) 200 (0x04 ∷ 0x00 ∷ 0x0a ∷ 0x00 ∷ 0x00 ∷ []) ≡ Some (At Status)
   pub window_bits : leads grouped (At Window) 200 (0x04 ∷ 0x1c ∷ []) ≡ Some (Refused Window 28)
+  pub data_rate : leads grouped (At Window) 200 (0x04 ∷ 0x04 ∷ []) ≡ Some (Refused Window 4)
+  pub frequency : leads grouped (At Window) 200 (0x04 ∷ 0x08 ∷ []) ≡ Some (Refused Window 8)
+  pub undefined : leads grouped (At Window) 200 (0x04 ∷ 0x10 ∷ []) ≡ Some (Refused Window 16)
+  pub window_b : leads of_class_b (At Window) 200 (0x05 ∷ 0x00 ∷ 0x0a ∷ 0x00 ∷ 0x00 ∷ []) ≡ Some (At Status)
+  pub window_b_bits : leads of_class_b (At Window) 200 (0x05 ∷ 0x14 ∷ []) ≡ Some (Refused Window 20)
+  pub frequency_b : leads of_class_b (At Window) 200 (0x05 ∷ 0x08 ∷ []) ≡ Some (Refused Window 8)
+  pub other_group : leads grouped (At Window) 200 (0x04 ∷ 0x01 ∷ 0x0a ∷ 0x00 ∷ 0x00 ∷ []) ≡ Some (At Window)
+  pub other_group_b : leads of_class_b (At Window) 200 (0x05 ∷ 0x1d ∷ []) ≡ Some (At Window)
+  pub other_class_b : leads of_class_b (At Window) 200 (0x04 ∷ 0x1c ∷ []) ≡ Some (At Window)
   pub other_class : leads grouped (At Window) 200 (0x05 ∷ 0x00 ∷ 0x0a ∷ 0x00 ∷ 0x00 ∷ []) ≡ Some (At Window)
   pub whole : leads alone (At Status) 201 (0x01 ∷ 0x04 ∷ 0x00 ∷ 0x00 ∷ 0x00 ∷ []) ≡ Some (At Image)
   pub missing : leads alone (At Status) 201 (0x01 ∷ 0x04 ∷ 0x00 ∷ 0x01 ∷ 0x00 ∷ []) ≡ Some (At Status)
+  pub other_session : leads alone (At Status) 201 (0x01 ∷ 0x04 ∷ 0x40 ∷ 0x00 ∷ 0x00 ∷ []) ≡ Some (At Status)
   pub no_rows : leads alone (At Status) 201 (0x01 ∷ 0x04 ∷ 0x00 ∷ 0x01 ∷ 0x01 ∷ []) ≡ Some (Refused Status 1)
+  -- a refusal is tried before what moves on, and both for the session that was asked of alone
+  pub whole_without_rows : leads alone (At Status) 201 (0x01 ∷ 0x04 ∷ 0x00 ∷ 0x00 ∷ 0x01 ∷ []) ≡ Some (Refused Status 1)
+  pub others_rows : leads alone (At Status) 201 (0x01 ∷ 0x04 ∷ 0x40 ∷ 0x01 ∷ 0x01 ∷ []) ≡ Some (At Status)
   pub valid : leads alone (At Image) 203 (0x04 ∷ 0x03 ∷ 0x02 ∷ 0x00 ∷ 0x00 ∷ 0x00 ∷ []) ≡ Some (At Reboot)
   pub other_version : leads alone (At Image) 203 (0x04 ∷ 0x03 ∷ 0x03 ∷ 0x00 ∷ 0x00 ∷ 0x00 ∷ []) ≡ Some (Refused Image 3)
   pub corrupt : leads alone (At Image) 203 (0x04 ∷ 0x01 ∷ []) ≡ Some (Refused Image 1)
+  pub incompatible : leads alone (At Image) 203 (0x04 ∷ 0x02 ∷ []) ≡ Some (Refused Image 2)
   pub none : leads alone (At Image) 203 (0x04 ∷ 0x00 ∷ []) ≡ Some (At Image)
   pub reboot : leads alone (At Reboot) 203 (0x03 ∷ 0x07 ∷ 0x00 ∷ 0x00 ∷ []) ≡ Some (At Check)
   pub updated : leads alone (At Check) 203 (versions 2 1) ≡ Some Updated
@@ -156,6 +183,8 @@ pub record SendSteps : Type 0 where
   })
   -- 4 fragments, and 4 that are coded
   pub eighth : is_ok (next_fragment (record (first_server image alone) { next = 8 })) ≡ true
+  pub coded : next_fragment (record (first_server image alone) { next = 8 })
+      ≡ Ok (record { to = to.Unicast; command = Cast (DataFragment 0 8 (data_of image 13 8)) })
   pub spent : next_fragment (record (first_server image alone) { next = 9 }) ≡ Err AllSent
   -- to the group with its next count, which ends before its MAX
   pub moves : after_fragment (first_server image grouped) ≡ record (first_server image grouped) { next = 2; count = 6 }
@@ -165,6 +194,9 @@ pub record SendSteps : Type 0 where
   pub stays : after_fragment (record (first_server image grouped) { count = 7 }) ≡ record (first_server image grouped) { count = 7 }
   pub status : down_of (status_to_all (first_server image grouped))
       ≡ Some (record { to = to.Group 0x11223344 5; port = 201; payload = 0x01 ∷ 0x00 ∷ [] })
+  -- without a group by unicast
+  pub to_any : down_of (status_to_all (first_server image alone)) ≡ by_unicast 201 (0x01 ∷ 0x00 ∷ [])
+  pub uncounted : after_status_to_all (first_server image alone) ≡ first_server image alone
   pub counted : after_status_to_all (first_server image grouped) ≡ record (first_server image grouped) { count = 6 }
   pub no_status : status_to_all (record (first_server image grouped) { count = 7 }) ≡ None
 
@@ -173,6 +205,21 @@ pub record SendSteps : Type 0 where
 pub record PlanSteps : Type 0 where
   pub fine : bad_field 52 grouped ≡ None
   pub frag_size : bad_field 52 (record alone { frag_size = 0 }) ≡ Some field.FragSize
+  pub widest : bad_field 52 (record grouped {
+    window = Some (record {
+      kind = kind.B 7;
+      start = 2 ^ 32 - 1;
+      timeout = 15;
+      freq = 2 ^ 24 - 1;
+      dr = 255;
+    });
+  }) ≡ None
+  pub one_count : bad_field 52 (record grouped { group = Some (record worked_group { min = 6 }) }) ≡ None
+  -- the group before its window, and the window before the devices
+  pub group_first : bad_field 52 (record grouped { group = Some (record worked_group { min = 7 }); window = None })
+      ≡ Some field.Group
+  pub window_first : bad_field 52 (record grouped { window = None; devices = [] }) ≡ Some field.Window
+  pub parity_first : bad_field 52 (record alone { parity = 513; window = Some worked_window }) ≡ Some field.Parity
   pub large : bad_field 52 (record alone { frag_size = 240; parity = 513 }) ≡ Some field.FragSize
   pub largest : bad_field 52 (record alone { frag_size = 239 }) ≡ None
   pub pieces : bad_field 4096 (record alone { frag_size = 1 }) ≡ None

@@ -3,19 +3,15 @@
 ghost use Rattle.std.specs.Prelude.{◌≡◌, ◌≤◌, ◌+◌, length};
 ghost use Rattle.package_grammar.specs.declared.command.Command.TheVariants.{Sync, Cast};
 ghost use Rattle.image_slots.specs.Image.{further};
-ghost use Rattle.campaign_server.specs.Answers.{stage_after, stage_after_all, unless_refused, where_own, worth, after_version, after_group, after_setup, after_window, after_status, after_upgrade, after_check, is_class_c, is_class_b};
+ghost use Rattle.campaign_server.specs.Answers.{stage_after, stage_after_all, unless_refused, where_own, window_bits, after_version, after_group, after_setup, after_window, after_status, after_upgrade, after_check, is_class_c, is_class_b};
 ghost use Rattle.campaign_server.specs.declared.stage.Stage.TheVariants.{At};
 
-use crate::plan::{Kind, Plan, PlanWindow};
+use crate::plan::{Kind, Plan, PlanWindow, own_id};
 use crate::stage::{Request, Stage};
-use cast_wire::Cmd;
+use cast_wire::{Cmd, refusal_bits};
 use image_slots::{firmware, is_for};
 use package_grammar::{Command, Message};
-
-/// The session's index and the group's id that are asked of.
-const SESSION_INDEX: u8 = 0;
-
-const GROUP_ID: u8 = 0;
+use wire_base::flag_value;
 
 /// The stage behind the commands of an uplink, one after another.
 pub fn stage_after_all(plan: &Plan, image: &[u8], stage: Stage, mut message: Message) -> Stage
@@ -73,7 +69,7 @@ fn after_cast(plan: &Plan, image: &[u8], request: Request, cmd: &Cmd) -> Stage
     ensures { result ≡ stage_after plan.now image.now (At request) (Cast cmd.now) }
 {
     match (request, cmd) {
-        (Request::Group, Cmd::McGroupSetupAns { id, error }) => after_group(*id, *error),
+        (Request::Group, Cmd::McGroupSetupAns { id, error }) => after_group(plan, *id, *error),
         (
             Request::Fragments,
             Cmd::FragSessionSetupAns {
@@ -84,10 +80,12 @@ fn after_cast(plan: &Plan, image: &[u8], request: Request, cmd: &Cmd) -> Stage
                 encoding_unsupported,
             },
         ) => {
-            let bits = worth(*wrong_descriptor, 8)
-                + worth(*index_unsupported, 4)
-                + worth(*no_memory, 2)
-                + worth(*encoding_unsupported, 1);
+            let bits = refusal_bits(
+                *wrong_descriptor,
+                *index_unsupported,
+                *no_memory,
+                *encoding_unsupported,
+            );
             after_setup(plan, *index, bits)
         }
         (
@@ -101,7 +99,12 @@ fn after_cast(plan: &Plan, image: &[u8], request: Request, cmd: &Cmd) -> Stage
             },
         ) => {
             let own = is_class_c(plan.window);
-            after_window(own, *id, window_bits(*undefined, *freq_error, *dr_error))
+            after_window(
+                plan,
+                own,
+                *id,
+                window_bits(*undefined, *freq_error, *dr_error),
+            )
         }
         (
             Request::Window,
@@ -114,7 +117,12 @@ fn after_cast(plan: &Plan, image: &[u8], request: Request, cmd: &Cmd) -> Stage
             },
         ) => {
             let own = is_class_b(plan.window);
-            after_window(own, *id, window_bits(*undefined, *freq_error, *dr_error))
+            after_window(
+                plan,
+                own,
+                *id,
+                window_bits(*undefined, *freq_error, *dr_error),
+            )
         }
         (
             Request::Status,
@@ -124,7 +132,7 @@ fn after_cast(plan: &Plan, image: &[u8], request: Request, cmd: &Cmd) -> Stage
                 norows,
                 ..
             },
-        ) => after_status(*index, *missing, *norows),
+        ) => after_status(plan, *index, *missing, *norows),
         _ => Stage::At(request),
     }
 }
@@ -145,15 +153,15 @@ fn after_version(plan: &Plan, image: &[u8], hardware_told: u32) -> Stage
 }
 
 /// 4 is IDerror.
-fn after_group(id: u8, error: bool) -> Stage
-    ensures { result ≡ after_group id error }
+fn after_group(plan: &Plan, id: u8, error: bool) -> Stage
+    ensures { result ≡ after_group plan.now id error }
 {
     let moved = unless_refused(
         Request::Group,
-        worth(error, 4),
+        flag_value(error, 4),
         Stage::At(Request::Fragments),
     );
-    where_own(GROUP_ID, id, Request::Group, moved)
+    where_own(own_id(plan.group), id, Request::Group, moved)
 }
 
 fn after_setup(plan: &Plan, index: u8, bits: u8) -> Stage
@@ -164,31 +172,31 @@ fn after_setup(plan: &Plan, index: u8, bits: u8) -> Stage
         None => Stage::At(Request::Status),
     };
     let moved = unless_refused(Request::Fragments, bits, next);
-    where_own(SESSION_INDEX, index, Request::Fragments, moved)
+    where_own(plan.session_index(), index, Request::Fragments, moved)
 }
 
 /// The answer of the plan's own class alone.
-fn after_window(own: bool, id: u8, bits: u8) -> Stage
-    ensures { result ≡ after_window own id bits }
+fn after_window(plan: &Plan, own: bool, id: u8, bits: u8) -> Stage
+    ensures { result ≡ after_window plan.now own id bits }
 {
     if !own {
         return Stage::At(Request::Window);
     }
     let moved = unless_refused(Request::Window, bits, Stage::At(Request::Status));
-    where_own(GROUP_ID, id, Request::Window, moved)
+    where_own(own_id(plan.group), id, Request::Window, moved)
 }
 
 /// 1 is too little memory for the matrix; with fragments missing it stays.
-fn after_status(index: u8, missing: u8, norows: bool) -> Stage
-    ensures { result ≡ after_status index missing norows }
+fn after_status(plan: &Plan, index: u8, missing: u8, norows: bool) -> Stage
+    ensures { result ≡ after_status plan.now index missing norows }
 {
     let next = if missing == 0 {
         Stage::At(Request::Image)
     } else {
         Stage::At(Request::Status)
     };
-    let moved = unless_refused(Request::Status, worth(norows, 1), next);
-    where_own(SESSION_INDEX, index, Request::Status, moved)
+    let moved = unless_refused(Request::Status, flag_value(norows, 1), next);
+    where_own(plan.session_index(), index, Request::Status, moved)
 }
 
 /// 1 corrupt, 2 incompatible, 3 another version; 0 stays.
@@ -224,18 +232,11 @@ fn after_check(image: &[u8], firmware_told: u32) -> Stage
 
 // ---- parts
 
-/// A bit of a number, by its worth.
-fn worth(set: bool, n: u8) -> u8
-    ensures { result ≡ worth set n }
-{
-    if set { n } else { 0 }
-}
-
 /// The three error bits of a class session's answer.
 fn window_bits(undefined: bool, freq: bool, dr: bool) -> u8
-    ensures { result ≡ worth undefined 16 + worth freq 8 + worth dr 4 }
+    ensures { result ≡ window_bits undefined freq dr }
 {
-    worth(undefined, 16) + worth(freq, 8) + worth(dr, 4)
+    flag_value(undefined, 16) + flag_value(freq, 8) + flag_value(dr, 4)
 }
 
 /// Refused with bits, unless there is none.

@@ -1,10 +1,10 @@
 //! What the server asks of a device at each stage.
 
-ghost use Rattle.std.specs.Prelude.{◌≡◌, ◌≤◌, Some, true, length};
+ghost use Rattle.std.specs.Prelude.{◌≡◌, ◌<◌, ◌≤◌, Some, true, length};
 ghost use Rattle.package_grammar.specs.declared.command.Command.TheVariants.{Sync, Cast};
 ghost use Rattle.sync_wire.specs.declared.cmd.Cmd.TheVariants.{DevVersionReq, DevUpgradeImageReq, DevRebootCountdownReq};
 ghost use Rattle.cast_wire.specs.declared.cmd.Cmd.TheVariants.{FragSessionStatusReq};
-ghost use Rattle.campaign_server.specs.Plan.{session_index};
+ghost use Rattle.campaign_server.specs.Plan.{session_index, own_id};
 ghost use Rattle.aes_block.specs.Cipher.{IsBlock};
 ghost use Rattle.mc_keys.specs.Keys.{mc_root_key, mc_ke_key};
 ghost use Rattle.campaign_server.specs.Asking.{request_at, by_unicast, group_request, mask_of, fragments_request, window_request};
@@ -12,7 +12,7 @@ ghost use Rattle.campaign_server.specs.Wrapping.{wrapped_key};
 ghost use Rattle.campaign_server.specs.ServerInside.{IsCut, WindowFits};
 ghost use Rattle.campaign_server.specs.Sent.{down_of, unicast_of};
 
-use crate::plan::{Kind, Plan, PlanGroup, PlanWindow};
+use crate::plan::{Kind, Plan, PlanGroup, PlanWindow, own_id};
 use crate::spelling::unicast;
 use crate::stage::{Request, Stage};
 use cast_wire::{Cmd, FRAGMENT_PORT, MULTICAST_PORT};
@@ -21,11 +21,6 @@ use image_slots::firmware;
 use mc_keys::{Key, kek, root_1_0, wrap_key};
 use package_grammar::{Command, Downlink};
 use sync_wire::FIRMWARE_PORT;
-
-/// The session's index and the group's id, the same on every device.
-const SESSION_INDEX: u8 = 0;
-
-const GROUP_ID: u8 = 0;
 
 /// The request of a stage, to a device with this GenAppKey; None at updated and refused.
 #[tactic(auto, unfolding(crate::specs::Asking::request_at))]
@@ -41,10 +36,10 @@ pub fn request(plan: &Plan, encoder: &Encoder, key: &Key, stage: Stage) -> Optio
         },
         Stage::At(Request::Fragments) => Some(fragments_request(plan, encoder)),
         Stage::At(Request::Window) => match plan.window {
-            Some(window) => Some(window_request(&window)),
+            Some(window) => Some(window_request(own_id(plan.group), &window)),
             None => None,
         },
-        Stage::At(Request::Status) => Some(status_request()),
+        Stage::At(Request::Status) => Some(status_request(plan)),
         Stage::At(Request::Image) => Some(image_request()),
         Stage::At(Request::Reboot) => Some(reboot_request()),
         Stage::At(Request::Check) => Some(version_request()),
@@ -77,13 +72,13 @@ fn reboot_request() -> Downlink
     )
 }
 
-fn status_request() -> Downlink
-    ensures { result ≡ unicast_of (Cast (FragSessionStatusReq session_index true)) }
+fn status_request(plan: &Plan) -> Downlink
+    ensures { result ≡ unicast_of (Cast (FragSessionStatusReq (session_index plan.now) true)) }
 {
     unicast(
         FRAGMENT_PORT,
         Command::Cast(Cmd::FragSessionStatusReq {
-            index: SESSION_INDEX,
+            index: plan.session_index(),
             all: true,
         }),
     )
@@ -93,13 +88,14 @@ fn status_request() -> Downlink
 fn group_request(gen_app_key: &Key, group: &PlanGroup) -> Downlink
     ensures { result ≡ unicast_of (Cast (group_request gen_app_key.now group.now)) }
 {
+    // each read here, so that the command is known to have numbers of four bytes
     let _addr = group.addr;
     let _min = group.min;
     let _max = group.max;
     unicast(
         MULTICAST_PORT,
         Command::Cast(Cmd::McGroupSetupReq {
-            id: GROUP_ID,
+            id: group.group_id(),
             addr: group.addr,
             key: wrapped(gen_app_key, &group.key),
             min: group.min,
@@ -118,7 +114,7 @@ fn wrapped(gen_app_key: &Key, key: &Key) -> Key
     block
 }
 
-/// A key is a block of the cipher.
+/// A key is a block of the cipher: that its bytes are bytes is known once one is read.
 fn told_block(block: &Key)
     ensures { IsBlock block.now }
 {
@@ -138,7 +134,7 @@ fn fragments_request(plan: &Plan, encoder: &Encoder) -> Downlink
     unicast(
         FRAGMENT_PORT,
         Command::Cast(Cmd::FragSessionSetupReq {
-            index: SESSION_INDEX,
+            index: plan.session_index(),
             mask: mask(plan.group),
             nb_frag: encoder.nb_frag(),
             frag_size: plan.frag_size,
@@ -150,34 +146,36 @@ fn fragments_request(plan: &Plan, encoder: &Encoder) -> Downlink
     )
 }
 
-/// Group 0 may feed the session where there is one.
+/// The group may feed the session where there is one.
 fn mask(group: Option<PlanGroup>) -> u8
     ensures value { result ≡ mask_of group }
-    ensures few { result ≤ 1 }
+    ensures few { result ≤ 8 }
 {
     match group {
-        Some(_) => 1,
+        Some(group) => 1 << group.group_id(),
         None => 0,
     }
 }
 
-/// McClassCSessionReq or McClassBSessionReq.
-fn window_request(window: &PlanWindow) -> Downlink
-    requires { WindowFits (Some window.now) }
-    ensures { result ≡ unicast_of (Cast (window_request window.now)) }
+/// McClassCSessionReq or McClassBSessionReq for the group with an id.
+fn window_request(id: u8, window: &PlanWindow) -> Downlink
+    requires id { id < 4 }
+    requires window { WindowFits (Some window.now) }
+    ensures { result ≡ unicast_of (Cast (window_request id window.now)) }
 {
+    // each read here, so that the command is known to have numbers of its widths
     let _start = window.start;
     let _dr = window.dr;
     let cmd = match window.kind {
         Kind::C => Cmd::McClassCSessionReq {
-            id: GROUP_ID,
+            id,
             time: window.start,
             timeout: window.timeout,
             freq: window.freq,
             dr: window.dr,
         },
         Kind::B { periodicity } => Cmd::McClassBSessionReq {
-            id: GROUP_ID,
+            id,
             time: window.start,
             periodicity,
             timeout: window.timeout,

@@ -93,6 +93,7 @@ fn is_kind(kind: Kind) -> bool
 fn fits_bits(window: &PlanWindow) -> bool
     ensures { result ≡ fits_bits window.now }
 {
+    // both read here: their types alone keep them within their bits
     let _start = window.start;
     let _dr = window.dr;
     is_kind(window.kind) && window.timeout <= 15 && window.freq < 1 << 24

@@ -16,9 +16,6 @@ use cast_wire::{Cmd, FRAGMENT_PORT, FragmentBytes};
 use frag_encoder::{Beyond, Encoder};
 use package_grammar::{Command, Downlink, To};
 
-/// The session's index, the same on every device.
-const SESSION_INDEX: u8 = 0;
-
 /// Why no fragment is sent.
 #[derive(Clone, Copy, Debug, PartialEq, Eq)]
 pub enum Spent {
@@ -71,7 +68,8 @@ pub fn data_fragment(plan: &Plan, encoder: &Encoder, to: To, n: u16) -> Downlink
     requires last { n ≤ nb_frag_of (length encoder.now.file) plan.now.frag_size + plan.now.parity }
     ensures { result ≡ downlink_of (record {
       to = to;
-      command = Cast (DataFragment session_index n (data_of encoder.now.file plan.now.frag_size n));
+      command = Cast (DataFragment (session_index plan.now) n
+          (data_of encoder.now.file plan.now.frag_size n));
     }) }
 {
     let bytes = encoded(plan, encoder, n);
@@ -79,7 +77,7 @@ pub fn data_fragment(plan: &Plan, encoder: &Encoder, to: To, n: u16) -> Downlink
         to,
         FRAGMENT_PORT,
         &Command::Cast(Cmd::DataFragment {
-            index: SESSION_INDEX,
+            index: plan.session_index(),
             n,
             bytes,
         }),
@@ -102,14 +100,15 @@ fn encoded(plan: &Plan, encoder: &Encoder, n: u16) -> FragmentBytes
 }
 
 /// FragSessionStatusReq to all, answered by devices that miss a fragment.
-pub fn status_of_all(to: To) -> Downlink
-    ensures { result ≡ downlink_of (record { to = to; command = Cast (FragSessionStatusReq session_index false) }) }
+pub fn status_of_all(plan: &Plan, to: To) -> Downlink
+    ensures { let command = Cast (FragSessionStatusReq (session_index plan.now) false) in
+        result ≡ downlink_of (record { to = to; command = command }) }
 {
     sent(
         to,
         FRAGMENT_PORT,
         &Command::Cast(Cmd::FragSessionStatusReq {
-            index: SESSION_INDEX,
+            index: plan.session_index(),
             all: false,
         }),
     )

@@ -7,13 +7,16 @@ ghost use Rattle.wire_base.specs.declared.refusal.Refusal.{Refusal};
 ghost use Rattle.package_grammar.specs.declared.command.Command.{Command};
 ghost use Rattle.cast_wire.specs.declared.cmd.Cmd.TheVariants.{McGroupSetupReq};
 ghost use Rattle.campaign_server.specs.declared.plan.PlanGroup.{PlanGroup};
+ghost use Rattle.campaign_server.specs.declared.stage.Request.{Request};
 ghost use Rattle.campaign_server.specs.declared.stage.Stage.{Stage};
+ghost use Rattle.campaign_server.specs.declared.stage.Stage.TheVariants.{Updated, Refused};
 ghost use Rattle.campaign_server.specs.Plan.{Plan};
 ghost use Rattle.campaign_server.specs.Server.{ServerState};
 ghost use Rattle.campaign_server.specs.Answers.{stage_after};
 ghost use Rattle.campaign_server.specs.Asking.{group_request};
 ghost use Rattle.campaign_server.specs.Uplinks.{uplink_step};
 ghost use Rattle.campaign_server.specs.Wrapping.{wrapped_key};
+ghost use Rattle.campaign_server.specs.Counts.{CountsOnce};
 ghost use Rattle.campaign_server.specs.WorkedSteps.{AskSteps, AnswerSteps, TimeSteps, SendSteps, PlanSteps};
 
 /// The wrapped key that the server sends is the one block that is unwrapped to the group's key: what `wrap_key` answers.
@@ -39,12 +42,27 @@ pub fn an_answer_moves_once()
         stage_after plan image moved command ≡ moved }
 {}
 
+/// No answer moves a device that is updated or refused.
+#[tactic(auto, unfolding(crate::specs::Answers::stage_after))]
+pub fn an_end_is_final()
+    ensures updated { (plan : Plan) (image : List ℕ) (command : Command)
+        → stage_after plan image Updated command ≡ Updated }
+    ensures refused { (plan : Plan) (image : List ℕ) (request : Request) (bits : ℕ) (command : Command)
+        → stage_after plan image (Refused request bits) command ≡ Refused request bits }
+{}
+
 /// An uplink that is refused changes nothing.
 #[tactic(auto, unfolding(crate::specs::Uplinks::uplink_step, crate::specs::Uplinks::read_uplink))]
 pub fn a_refused_uplink_changes_nothing()
     ensures { (server : ServerState) (dev port t : ℕ) (payload : List ℕ) (refusal : Refusal)
         → let made = uplink_step server dev port payload t in
         made.answer ≡ Err refusal → made.server ≡ server }
+{}
+
+/// Over any run of calls of a new server the group's frame counts are MIN, MIN + 1 and so on, below MAX: none is sent twice.
+#[tactic(auto, using(crate::proofs::Counts::counts_once))]
+pub fn a_count_is_sent_once()
+    ensures { CountsOnce }
 {}
 
 /// What a server asks and sends, and where answers lead, worked out in bytes.

@@ -23,8 +23,8 @@ mod time;
 
 pub use fragments::Spent;
 pub use laws::{
-    a_device_unwraps_the_key, a_refused_uplink_changes_nothing, an_answer_moves_once, worked_steps,
-    wrapped_key_is_the_one,
+    a_count_is_sent_once, a_device_unwraps_the_key, a_refused_uplink_changes_nothing,
+    an_answer_moves_once, an_end_is_final, worked_steps, wrapped_key_is_the_one,
 };
 pub use plan::{Field, Kind, Plan, PlanDevice, PlanGroup, PlanWindow};
 pub use server::{Server, ServerError};

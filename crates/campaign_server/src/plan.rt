@@ -1,5 +1,8 @@
 //! What a server is to do.
 
+ghost use Rattle.std.specs.Prelude.{◌≡◌, ◌<◌};
+ghost use Rattle.campaign_server.specs.Plan.{own_id};
+
 use std::marker::Model;
 
 /// A multicast group of a campaign.
@@ -66,6 +69,43 @@ impl Model for Plan {
     ghost Value = { Plan };
 
     ghost view = { λ p. record { frag_size = p.frag_size; parity = p.parity; group = p.group; window = p.window; devices = p.devices.items } };
+}
+
+impl Plan {
+    ghost use Rattle.std.specs.Prelude.{◌≡◌, ◌<◌};
+    ghost use Rattle.campaign_server.specs.Plan.{session_index};
+
+    /// The index of its session, the same on every device.
+    pub(crate) fn session_index(&self) -> u8
+        ensures index { result ≡ session_index self.now }
+        ensures few { result < 4 }
+    {
+        0
+    }
+}
+
+impl PlanGroup {
+    ghost use Rattle.std.specs.Prelude.{◌≡◌, ◌<◌};
+    ghost use Rattle.campaign_server.specs.Plan.{group_id};
+
+    /// Its id, the same on every device.
+    pub(crate) fn group_id(&self) -> u8
+        ensures id { result ≡ group_id self.now }
+        ensures few { result < 4 }
+    {
+        0
+    }
+}
+
+/// The id of the group that there is.
+pub(crate) fn own_id(group: Option<PlanGroup>) -> u8
+    ensures id { result ≡ own_id group }
+    ensures few { result < 4 }
+{
+    match group {
+        Some(group) => group.group_id(),
+        None => 0,
+    }
 }
 
 /// A field of a plan that is wrong.

@@ -161,7 +161,7 @@ impl Server {
         if has_no_count(group, self.count) {
             return None;
         }
-        let down = status_of_all(receivers(group, self.count));
+        let down = status_of_all(&self.plan, receivers(group, self.count));
         self.count = next_count(group, self.count);
         Some(down)
     }

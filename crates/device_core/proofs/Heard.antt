@@ -36,8 +36,8 @@ pub heard_steps : (here : Arrival) (old : HeldDevice) (sessions : HeldSessions) 
     → ((table : SessionTable) → SessionsStand old.sessions table → was_whole ≡ is_whole (view_of (session_at table index)))
     → ((table : SessionTable) → SessionsStand old.sessions table
     → answer.Fed its_news ≡ answer_of (drop_cause (session_at table index) here.via n part)
-    (news_in (session_at table index) n part here.mark))
-    → TableBecomes old.sessions sessions (table_after_fragment index here.via n part here.mark)
+    (news_in (session_at table index) n part here.moment.mark))
+    → TableBecomes old.sessions sessions (table_after_fragment index here.via n part here.moment.mark)
     → ((table : SessionTable) → SessionsStand sessions table
     → slots ≡ slots_after hw was_whole (whole_file (view_of (session_at table index))) old.slots)
     → Steps old (record old { sessions = sessions; slots = slots }) 0 (λ device. fragment_step here device index n part)
@@ -45,7 +45,7 @@ unfolding after_answers fragment_step heard_step
 heard_steps here old sessions slots hw index n part was_whole its_news hw_is was fed stand offers = record {
   stands = λ device stands.
       let table = device.sessions in
-      let behind = table_after_fragment index here.via n part here.mark table in
+      let behind = table_after_fragment index here.via n part here.moment.mark table in
       let file = whole_file (view_of (session_at behind index)) in
       let heard = stand table stands.sessions in
       let slots_are : slots ≡ slots_after old.config.hw (is_whole (view_of (session_at table index))) file old.slots =
@@ -64,7 +64,7 @@ pub dropped_steps : (here : Arrival) (old new : HeldDevice) (index n : ℕ) (par
     → new ≡ record old { counts = after_dropped old.counts }
     → ((table : SessionTable) → SessionsStand old.sessions table
     → answer.Dropped cause ≡ answer_of (drop_cause (session_at table index) here.via n part)
-    (news_in (session_at table index) n part here.mark))
+    (news_in (session_at table index) n part here.moment.mark))
     → Steps old new 0 (λ device. fragment_step here device index n part)
 unfolding after_answers fragment_step
 dropped_steps here old new index n part cause is dropped = rw is (record {

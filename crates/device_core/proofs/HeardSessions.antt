@@ -31,7 +31,7 @@ use Rattle.device_core.specs.ClassSessions.{class_session_step}
 use Rattle.device_core.specs.Firmware.{version_step, upgrade_step, delete_image_step, reboot_time_step, countdown_step, after_due_reboot, after_migration}
 use Rattle.device_core.specs.Fragments.{setup_of, setup_step, delete_step, status_step, heard_step, fragment_step}
 use Rattle.device_core.specs.Step.{command_step, acts, step, after_commands}
-use Rattle.device_core.specs.Deliver.{Outcome, message_delivery, read_delivery, via_of, heard_delivery, delivery, waking}
+use Rattle.device_core.specs.Deliver.{Outcome, message_delivery, read_delivery, arrival, heard_delivery, delivery, waking}
 use Rattle.device_core.specs.Events.{CameInTurn}
 use Rattle.device_core.specs.Events.{Event, Wakes, Receives, Migrates, after_event}
 use Rattle.device_core.proofs.SessionSteps.{setup_keeps, fragment_keeps}
@@ -153,7 +153,7 @@ device_by carries last false one other h k = k
 
 -- a payload arrives with this mark
 abbrev marked : Arrival → ℕ → Arrival
-marked here last = record here { mark = last }
+marked here last = record here { moment = record here.moment { mark = last } }
 
 data_fine : (carries : ℕ → Command → Type 0) (last : ℕ) (here : Arrival) (d : DeviceState) (index n : ℕ) (part : List ℕ) → index < 4
     → carries last (Cast (DataFragment index n part)) → AreFine carries last d
@@ -264,7 +264,7 @@ heard_fine : (carries : ℕ → Command → Type 0) (last t word : ℕ) (down : 
 unfolding heard_delivery
 heard_fine carries last t word down d its h =
     outcome_by carries last _ _ _
-    (read_fine carries last (record { t = t; via = via_of d.class_session down.to; port = down.port; word = word; mark = last })
+    (read_fine carries last (arrival t word last down d)
     down d (reading_of down.port Down down.payload) its (reads down.port Down down.payload) h) h
 
 reboot_fine : (carries : ℕ → Command → Type 0) (last t : ℕ) (d : DeviceState) → AreFine carries last d

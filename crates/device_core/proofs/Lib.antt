@@ -8,3 +8,5 @@ pub mod Acting
 pub mod Stays
 pub mod SessionSteps
 pub mod HeardSessions
+pub mod Multicast
+pub mod Running

@@ -8,7 +8,9 @@ use Rattle.sync_wire.specs.Reading.{clock_down, firmware_down}
 use Rattle.cast_wire.specs.Reading.{group_down, fragment_down}
 use Rattle.package_grammar.specs.Reading.{named_at, command_at, is_known, stop_at, read_from, reading_of}
 use Rattle.row_elimination.specs.Room.{has_room, words_for}
-use Rattle.frag_model.specs.Verdict.{verdict, missing}
+use Rattle.frag_model.specs.Fragments.{line_of, equation_of, pieces_at, xor_bytes, xor_all, fits}
+use Rattle.frag_model.specs.Gain.{sums, is_sum, gain_of_lines, gain_of, direct_of, numbers_of, gain, direct, excess}
+use Rattle.frag_model.specs.Verdict.{all_lists, all_blocks, fitting_blocks, verdict_from, verdict_now, first_verdict, verdict, lacking, missing_now, missing_next, missing}
 use Rattle.frag_session.specs.Setup.{setup_bits, wrong_coding, too_large, other_descriptor, same_setup}
 use Rattle.frag_session.specs.Session.{new_session, renewed, after_setup, excludes, cause_of, drop_cause, followed, after_fragment, shape_of, shown_verdict, seen_of, status_by, status_in, status_of}
 use Rattle.image_slots.specs.Image.{format_of, further, is_image, is_unknown, image_state}
@@ -25,7 +27,7 @@ use Rattle.device_core.specs.ClassSessions.{hears, class_session_step}
 use Rattle.device_core.specs.Firmware.{version_step, upgrade_step, delete_image_step, reboot_time_step, countdown_step, after_due_reboot, after_migration}
 use Rattle.device_core.specs.Step.{command_step, step, after_commands}
 use Rattle.device_core.specs.Deliver.{message_delivery, read_delivery, heard_delivery, delivery, time_asking, waking}
-use Rattle.device_core.specs.WorkedSteps.{UplinkSteps, ClockSteps, SessionSteps, KeySteps, GroupSteps, HearingSteps, FirmwareSteps, ConfigSteps}
+use Rattle.device_core.specs.WorkedSteps.{UplinkSteps, WeightSteps, ClockSteps, StatusSteps, SessionSteps, KeySteps, GroupSteps, HearingSteps, FirmwareSteps, ConfigSteps}
 
 pub uplinks : UplinkSteps
 unfolding int_wrap delivery heard_delivery read_delivery message_delivery after_due_reboot after_swap after_delete hears is_after_uplink is_running reading_of read_from command_at named_at is_known stop_at sync.is_known sync.samples cast.is_known cast.samples number_at clock_down firmware_down group_down fragment_down after_commands step command_step after_answers answer_step periodicity_step resync_step waking time_asking groups_step group_setup_step group_delete_step class_session_step version_step upgrade_step delete_image_step reboot_time_step countdown_step setup_step delete_step status_step fragment_step heard_step setup_bits wrong_coding too_large other_descriptor has_room words_for new_session after_setup renewed same_setup excludes cause_of drop_cause followed after_fragment shape_of shown_verdict seen_of status_by status_in status_of verdict missing
@@ -36,9 +38,11 @@ uplinks = record {
   firmware = refl;
   at_once = refl;
   last_due = refl;
+  made_last = refl;
   eight = refl;
   oldest = refl;
   seven_left = refl;
+  taken_alone = refl;
   nine = refl;
   nothing_acted = refl;
   held = refl;
@@ -57,11 +61,29 @@ pub clock : ClockSteps
 unfolding int_wrap delivery heard_delivery read_delivery message_delivery after_due_reboot after_swap after_delete hears is_after_uplink is_running reading_of read_from command_at named_at is_known stop_at sync.is_known sync.samples cast.is_known cast.samples number_at clock_down firmware_down group_down fragment_down after_commands step command_step after_answers answer_step periodicity_step resync_step waking time_asking groups_step group_setup_step group_delete_step class_session_step version_step upgrade_step delete_image_step reboot_time_step countdown_step setup_step delete_step status_step fragment_step heard_step setup_bits wrong_coding too_large other_descriptor has_room words_for new_session after_setup renewed same_setup excludes cause_of drop_cause followed after_fragment shape_of shown_verdict seen_of status_by status_in status_of verdict missing
 clock = record {
   wakes = refl;
+  woken = refl;
   resyncs = refl;
   none = refl;
   mends = refl;
   other_token = refl;
+  next_token = refl;
   periodicity = refl;
+}
+
+pub statuses : StatusSteps
+unfolding int_wrap delivery heard_delivery read_delivery message_delivery after_due_reboot after_swap after_delete hears is_after_uplink is_running reading_of read_from command_at named_at is_known stop_at sync.is_known sync.samples cast.is_known cast.samples number_at clock_down firmware_down group_down fragment_down after_commands step command_step after_answers answer_step periodicity_step resync_step waking time_asking groups_step group_setup_step group_delete_step class_session_step version_step upgrade_step delete_image_step reboot_time_step countdown_step setup_step delete_step status_step fragment_step heard_step setup_bits wrong_coding too_large other_descriptor has_room words_for new_session after_setup renewed same_setup excludes cause_of drop_cause followed after_fragment shape_of shown_verdict seen_of status_by status_in status_of verdict missing verdict_now verdict_from first_verdict fitting_blocks all_blocks all_lists lacking missing_now missing_next gain excess direct gain_of direct_of numbers_of gain_of_lines is_sum sums fits equation_of line_of pieces_at xor_all xor_bytes
+statuses = record {
+  three = refl;
+  nothing_missing = refl;
+}
+
+pub weights : WeightSteps
+unfolding int_wrap delivery heard_delivery read_delivery message_delivery after_due_reboot after_swap after_delete hears is_after_uplink is_running reading_of read_from command_at named_at is_known stop_at sync.is_known sync.samples cast.is_known cast.samples number_at clock_down firmware_down group_down fragment_down after_commands step command_step after_answers answer_step periodicity_step resync_step waking time_asking groups_step group_setup_step group_delete_step class_session_step version_step upgrade_step delete_image_step reboot_time_step countdown_step setup_step delete_step status_step fragment_step heard_step setup_bits wrong_coding too_large other_descriptor has_room words_for new_session after_setup renewed same_setup excludes cause_of drop_cause followed after_fragment shape_of shown_verdict seen_of status_by status_in status_of verdict missing
+weights = record {
+  firmware = refl;
+  clocks = refl;
+  fragments = refl;
+  groups = refl;
 }
 
 pub sessions : SessionSteps
@@ -71,11 +93,13 @@ sessions = record {
   status = refl;
   missing = refl;
   other_index = refl;
+  many = refl;
+  at_3 = refl;
   undelayed = refl;
   deleted = refl;
   no_fragments = refl;
   all_padding = refl;
-  many = refl;
+  over_area = refl;
   too_many = refl;
   largest = refl;
   too_large = refl;
@@ -98,14 +122,22 @@ groups = record {
   asked_for = refl;
   no_group = refl;
   deleted = refl;
+  anew = refl;
   id_error = refl;
   start = refl;
   errors = refl;
+  undefined = refl;
+  freq_error = refl;
+  dr_error = refl;
+  requested = refl;
+  requested_b = refl;
   replaced = refl;
   refused = refl;
   beacon = refl;
+  next_beacon = refl;
   ends = refl;
   stays = refl;
+  set_up_anew = refl;
 }
 
 pub hearing : HearingSteps
@@ -115,18 +147,28 @@ hearing = record {
   first = refl;
   last = refl;
   behind = refl;
+  fourth_second = refl;
+  fifth_second = refl;
   max_count = refl;
   other_group = refl;
   own_clock = refl;
   no_session = refl;
   skipped = refl;
+  no_reboot = refl;
+  no_resync = refl;
+  no_delete = refl;
+  skipped_weight = refl;
+  of_group_2 = refl;
+  of_no_other = refl;
   answered = refl;
   slot = rw ping_slot refl;
+  own_slots = λ session periodicity device_ms addr. refl;
   no_slot = rw no_ping_slot refl;
   a_none = refl;
   a_5999 = refl;
   a_6000 = refl;
   a_6100 = refl;
+  a_woken = refl;
   a_7000 = refl;
 }
 
@@ -142,16 +184,23 @@ firmware = record {
   deleted = refl;
   gone = refl;
   time = refl;
+  same = refl;
+  now = refl;
   countdown = refl;
+  same_count = refl;
   round = refl;
   cancelled = refl;
   uncounted = refl;
   at_once = refl;
   old_version = refl;
   new_version = refl;
+  first_formats = refl;
   migrated = refl;
   none_migrated = refl;
   due = refl;
+  own_clock = refl;
+  cleared = refl;
+  cleared_of_none = refl;
   early = refl;
   behind = refl;
   too_far = refl;
@@ -167,5 +216,8 @@ configs = record {
   sessions = refl;
   no_session = refl;
   groups = refl;
+  no_group = refl;
+  no_area = refl;
+  least = refl;
   area = refl;
 }

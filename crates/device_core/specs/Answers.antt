@@ -18,7 +18,7 @@ no_answer device = record { device = device; answers = [] }
 
 -- the answer to a command: at once, on the port that it came on
 abbrev pub answer_at_once : Arrival → Command → UplinkCommand
-answer_at_once here command = record { due = here.t; port = here.port; command = command }
+answer_at_once here command = record { due = here.moment.t; port = here.port; command = command }
 
 -- it goes with one answer, at once
 abbrev pub one_answer : Arrival → DeviceState → Command → DeviceStep

@@ -1,7 +1,7 @@
 -- Class C and class B sessions of the device (TS005-1.0.0, McClassCSessionReq and McClassBSessionReq), and what it
 -- hears (LoRaWAN 1.0, classes A, B and C).
 use Rattle.std.specs.Prelude.{ℕ, Bool, true, false, ◌&&◌, ◌==◌, if◌then◌else◌, Option, Some, None, is_some}
-use Rattle.std.specs.Int.{bit_at}
+use Rattle.wire_base.specs.Numbers.{has_bit}
 use Rattle.package_grammar.specs.declared.command.Command.{Command}
 use Rattle.package_grammar.specs.declared.command.Command.TheVariants.{Cast}
 use Rattle.package_grammar.specs.declared.downlink.To.{To}
@@ -33,19 +33,17 @@ abbrev pub class_session_after : (bits : ℕ) → ClassSession → Option ClassS
 class_session_after bits session old = if bits == 0 then Some session else old
 
 -- the answer: the group (bit 4), the frequency (bit 3) or the data rate (bit 2) is not possible, and TimeToStart
-abbrev pub bit : ℕ → ℕ → Bool
-bit bits k = bit_at bits k == 1
-
 abbrev pub session_answer : Kind → (id bits : ℕ) → (start : Option ℕ) → Command
-session_answer ClassC id bits start = Cast (McClassCSessionAns id (bit bits 4) (bit bits 3) (bit bits 2) start)
+session_answer ClassC id bits start =
+    Cast (McClassCSessionAns id (has_bit bits 4) (has_bit bits 3) (has_bit bits 2) start)
 session_answer (ClassB periodicity) id bits start =
-    Cast (McClassBSessionAns id (bit bits 4) (bit bits 3) (bit bits 2) start)
+    Cast (McClassBSessionAns id (has_bit bits 4) (has_bit bits 3) (has_bit bits 2) start)
 
 -- McClassCSessionReq and McClassBSessionReq
 unfoldable pub class_session_step : Arrival → DeviceState → ClassSession → (freq dr : ℕ) → DeviceStep
 class_session_step here device session freq dr =
     let bits = error_bits (is_some (group_at device.groups session.id)) freq dr in
-    let start = start_answer bits (device_time device.clock here.t) (start_of session.kind session.time) in
+    let start = start_answer bits (device_time device.clock here.moment.t) (start_of session.kind session.time) in
     one_answer here (record device { class_session = class_session_after bits session device.class_session })
     (session_answer session.kind session.id bits start)
 

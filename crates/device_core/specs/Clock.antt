@@ -19,10 +19,10 @@ answer_step device correction token = no_answer (record device { clock = after_a
 -- DeviceAppTimePeriodicityReq: NotSupported and the device's time (this project's profile)
 unfoldable pub periodicity_step : Arrival → DeviceState → DeviceStep
 periodicity_step here device =
-    one_answer here device (Sync (DeviceAppTimePeriodicityAns true (device_time device.clock here.t)))
+    one_answer here device (Sync (DeviceAppTimePeriodicityAns true (device_time device.clock here.moment.t)))
 
 -- ForceDeviceResyncReq: so many AppTimeReq at once, all alike (this project's profile)
 unfoldable pub resync_step : Arrival → DeviceState → (count : ℕ) → DeviceStep
 resync_step here device count =
-    let request = answer_at_once here (time_request device.clock here.t false) in
+    let request = answer_at_once here (time_request device.clock here.moment.t false) in
     record { device = device; answers = replicate count request }

@@ -50,11 +50,9 @@ via_of (Some session) (to.Group addr count) = via.Group session.id
 
 abbrev pub arrival : (t word mark : ℕ) → Downlink → DeviceState → Arrival
 arrival t word mark down device = record {
-  t = t;
+  moment = record { t = t; word = word; mark = mark };
   via = via_of device.class_session down.to;
   port = down.port;
-  word = word;
-  mark = mark;
 }
 
 -- a payload that is heard is read, and one that is not is counted

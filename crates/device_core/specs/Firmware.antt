@@ -42,13 +42,13 @@ chosen_moment number ones now moment = if number == 0 then Some now else if numb
 -- DevRebootTimeReq: at a time; answered with the same, and a later command replaces the moment
 unfoldable pub reboot_time_step : Arrival → DeviceState → (time : ℕ) → DeviceStep
 reboot_time_step here device time =
-    let now = device_time device.clock here.t in
+    let now = device_time device.clock here.moment.t in
     one_answer here (record device { reboot = chosen_moment time (2 ^ 32 - 1) now time }) (Sync (DevRebootTimeAns time))
 
 -- DevRebootCountdownReq: so many seconds from now
 unfoldable pub countdown_step : Arrival → DeviceState → (count : ℕ) → DeviceStep
 countdown_step here device count =
-    let now = device_time device.clock here.t in
+    let now = device_time device.clock here.moment.t in
     one_answer here (record device { reboot = chosen_moment count (2 ^ 24 - 1) now ((now + count) % 2 ^ 32) })
     (Sync (DevRebootCountdownAns count))
 

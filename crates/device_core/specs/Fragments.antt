@@ -1,9 +1,9 @@
 -- Fragmented data blocks on the device (TS004-1.0.0). What a session is, hears and shows is frag_session's.
 use Rattle.std.specs.Prelude.{ℕ, ◌+◌, ◌*◌, ◌%◌, ◌^◌, Bool, true, false, ◌==◌, if◌then◌else◌, List, [], ◌∷◌, Option, Some, None, is_none}
-use Rattle.std.specs.Int.{bit_at}
+use Rattle.cast_wire.specs.SetupRefusal.{setup_answer}
 use Rattle.package_grammar.specs.declared.command.Command.{Command}
 use Rattle.package_grammar.specs.declared.command.Command.TheVariants.{Cast}
-use Rattle.cast_wire.specs.declared.cmd.Cmd.TheVariants.{FragSessionStatusAns, FragSessionSetupAns, FragSessionDeleteAns}
+use Rattle.cast_wire.specs.declared.cmd.Cmd.TheVariants.{FragSessionStatusAns, FragSessionDeleteAns}
 use Rattle.frag_session.specs.declared.setups.SetupReq.{SetupReq}
 use Rattle.frag_session.specs.declared.answers.Via.{Via}
 use Rattle.frag_session.specs.declared.answers.Via.TheVariants as via
@@ -21,14 +21,6 @@ use Rattle.device_core.specs.Answers.{DeviceStep, no_answer, one_answer}
 
 -- ---- FragSessionSetupReq
 
-abbrev pub has_bit : ℕ → ℕ → Bool
-has_bit bits k = bit_at bits k == 1
-
--- all refusal bits that apply together
-abbrev pub setup_answer : (index bits : ℕ) → Command
-setup_answer index bits =
-    Cast (FragSessionSetupAns index (has_bit bits 3) (has_bit bits 2) (has_bit bits 1) (has_bit bits 0))
-
 -- the fields of the request
 abbrev pub setup_of : (index mask nb_frag frag_size algo delay padding descriptor : ℕ) → SetupReq
 setup_of index mask nb_frag frag_size algo delay padding descriptor = record {
@@ -42,13 +34,14 @@ setup_of index mask nb_frag frag_size algo delay padding descriptor = record {
   descriptor = descriptor;
 }
 
--- without a bit the session at that index is kept or replaced, with one nothing changes
+-- answered with all refusal bits that apply; without one the session at that index is kept or replaced, with one nothing
+-- changes
 unfoldable pub setup_step : Arrival → DeviceState → SetupReq → DeviceStep
 setup_step here device req =
     let limits = limits_of device.config in
     let room = room_of device.config in
     one_answer here (record device { sessions = table_after_setup limits room req device.sessions })
-    (setup_answer req.index (setup_bits limits room req))
+    (Cast (setup_answer req.index (setup_bits limits room req)))
 
 -- ---- FragSessionDeleteReq
 
@@ -69,7 +62,7 @@ answer_delay (via.Group g) word delay = 1000 * (word % 2 ^ (delay + 4))
 abbrev pub status_answers : Arrival → (index : ℕ) → Option StatusAns → List UplinkCommand
 status_answers here index None = []
 status_answers here index (Some status) = record {
-  due = here.t + answer_delay here.via here.word status.delay;
+  due = here.moment.t + answer_delay here.via here.moment.word status.delay;
   port = here.port;
   command = Cast (FragSessionStatusAns index status.received status.missing status.norows);
 } ∷ []
@@ -103,7 +96,7 @@ slots_after hw was_whole file slots = slots
 -- a session hears a fragment; the one that makes its file whole brings it to the next slot
 unfoldable pub heard_step : Arrival → DeviceState → (index n : ℕ) → List ℕ → DeviceState
 heard_step here device index n part =
-    let sessions = table_after_fragment index here.via n part here.mark device.sessions in
+    let sessions = table_after_fragment index here.via n part here.moment.mark device.sessions in
     let before = view_of (session_at device.sessions index) in
     let behind = view_of (session_at sessions index) in
     record device {

@@ -16,3 +16,5 @@ pub mod HeldDevice
 pub mod OutboxInside
 pub mod DeviceInside
 pub mod Events
+pub mod Multicast
+pub mod Running

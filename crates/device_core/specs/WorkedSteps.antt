@@ -1,11 +1,13 @@
 -- Steps of a device that are worked out: what comes to it, in bytes, and what it then sends and holds.
-use Rattle.std.specs.Prelude.{◌≡◌, ℕ, ◌-◌, ◌^◌, true, false, List, [], ◌∷◌, ◌++◌, length, map, Some, None, replicate}
+use Rattle.std.specs.Prelude.{◌≡◌, ℕ, ◌-◌, ◌^◌, true, false, List, [], ◌∷◌, ◌++◌, length, map, Option, Some, None, replicate}
 use Rattle.wire_base.specs.declared.refusal.Why.TheVariants as why
 use Rattle.package_grammar.specs.declared.downlink.To.TheVariants.{Unicast, Group}
 use Rattle.mc_keys.specs.WorkedKeys.{worked_gen_app_key, worked_wrapped, worked_key}
 use Rattle.frag_session.specs.declared.answers.Via.TheVariants as via
+use Rattle.frag_session.specs.declared.answers.StatusAns.{StatusAns}
 use Rattle.image_slots.specs.declared.view.ImageState.{ImageState}
 use Rattle.image_slots.specs.declared.view.ImageState.TheVariants as image
+use Rattle.device_core.specs.declared.arrival.Arrival.{Arrival}
 use Rattle.device_core.specs.declared.class_session.ClassSession.{ClassSession}
 use Rattle.device_core.specs.declared.class_session.Kind.TheVariants.{ClassC, ClassB}
 use Rattle.device_core.specs.declared.config.Class.{Class}
@@ -15,7 +17,13 @@ use Rattle.device_core.specs.declared.uplink.Uplink.{Uplink}
 use Rattle.device_core.specs.declared.delivered.Delivered.{Delivered}
 use Rattle.device_core.specs.declared.delivered.Delivered.TheVariants.{Deaf, Refused, OutboxFull, Done}
 use Rattle.device_core.specs.Device.{DeviceState, first_device, is_config, counter_after}
-use Rattle.device_core.specs.Fragments.{answer_delay}
+use Rattle.device_core.specs.declared.uplink.UplinkCommand.{UplinkCommand}
+use Rattle.sync_wire.specs.declared.cmd.Cmd.TheVariants.{PackageVersionAns}
+use Rattle.package_grammar.specs.declared.command.Command.TheVariants.{Sync}
+use Rattle.device_core.specs.Answers.{uplink_of, after_answers}
+use Rattle.device_core.specs.Fragments.{answer_delay, status_answers}
+use Rattle.class_windows.specs.Open.{is_open_b}
+use Rattle.device_core.specs.ClassSessions.{is_open}
 use Rattle.device_core.specs.Firmware.{is_reached, after_migration}
 use Rattle.device_core.specs.Deliver.{Outcome, delivery, waking, taking}
 
@@ -70,6 +78,10 @@ sends t port payload device = payloads (after t port payload (taken device))
 abbrev pub eight_held : DeviceState
 eight_held = after 0 202 (0x00 ∷ 0x03 ∷ 0x07 ∷ []) fresh
 
+-- an answer that is due at a moment
+abbrev pub version_due : (due : ℕ) → UplinkCommand
+version_due due = record { due = due; port = 202; command = Sync (PackageVersionAns 1 1) }
+
 pub record UplinkSteps : Type 0 where
   -- each package names itself, with version 1
   pub groups : sends 0 200 (0x00 ∷ []) fresh ≡ (0x00 ∷ 0x02 ∷ 0x01 ∷ []) ∷ []
@@ -79,10 +91,16 @@ pub record UplinkSteps : Type 0 where
   -- an answer is due at once, on the port of the request
   pub at_once : (after 7 203 (0x00 ∷ []) fresh).outbox ≡ record { due = 7; port = 203; payload = 0x00 ∷ 0x04 ∷ 0x01 ∷ [] } ∷ []
   pub last_due : (after 7 202 (0x00 ∷ []) fresh).last_due ≡ Some 7
+  -- of several the moment of the one that was made last counts, also where another is due later
+  pub made_last : (after_answers (record { device = fresh; answers = version_due 9 ∷ version_due 5 ∷ [] })).last_due
+      ≡ Some 5
   -- eight uplinks are held, oldest first; a ninth refuses its whole payload
   pub eight : answer 0 202 (0x03 ∷ 0x07 ∷ 0x00 ∷ []) fresh ≡ Done
   pub oldest : (taking eight_held).answer ≡ Some (record { due = 0; port = 202; payload = 0x00 ∷ 0x01 ∷ 0x01 ∷ [] })
   pub seven_left : length (taking eight_held).device.outbox ≡ 7
+  -- taking one changes nothing else
+  pub taken_alone : (taking eight_held).device
+      ≡ record eight_held { outbox = (taking eight_held).device.outbox }
   pub nine : answer 0 202 (0x03 ∷ 0x07 ∷ 0x00 ∷ 0x00 ∷ []) fresh ≡ OutboxFull 9
   pub nothing_acted : payloads (after 0 202 (0x03 ∷ 0x07 ∷ 0x00 ∷ 0x00 ∷ []) fresh) ≡ []
   -- those that are held count, and what makes no answer acts still
@@ -111,11 +129,16 @@ pub record ClockSteps : Type 0 where
   -- it asks for the time on waking, with AnsRequired, and by ForceDeviceResyncReq without
   pub wakes : (waking 10000 ahead).device.outbox
       ≡ record { due = 10000; port = 202; payload = 0x01 ∷ 0x0f ∷ 0x00 ∷ 0x00 ∷ 0x00 ∷ 0x10 ∷ [] } ∷ []
+  -- that request is the uplink that it made last
+  pub woken : (waking 7 fresh).device.last_due ≡ Some 7
   pub resyncs : sends 10000 202 (0x03 ∷ 0x02 ∷ []) ahead
       ≡ (0x01 ∷ 0x0f ∷ 0x00 ∷ 0x00 ∷ 0x00 ∷ 0x00 ∷ []) ∷ (0x01 ∷ 0x0f ∷ 0x00 ∷ 0x00 ∷ 0x00 ∷ 0x00 ∷ []) ∷ []
   pub none : after 0 202 (0x03 ∷ 0x00 ∷ []) fresh ≡ fresh
   pub mends : mended.clock ≡ record { offset = 0; token = 1 }
   pub other_token : after 10000 202 (0x01 ∷ 0xfb ∷ 0xff ∷ 0xff ∷ 0xff ∷ 0x00 ∷ []) mended ≡ mended
+  -- the next request has the next token
+  pub next_token : sends 10000 202 (0x03 ∷ 0x01 ∷ []) mended
+      ≡ (0x01 ∷ 0x0a ∷ 0x00 ∷ 0x00 ∷ 0x00 ∷ 0x01 ∷ []) ∷ []
   -- a period is not supported
   pub periodicity : sends 10000 202 (0x02 ∷ 0x05 ∷ []) ahead ≡ (0x02 ∷ 0x01 ∷ 0x0f ∷ 0x00 ∷ 0x00 ∷ 0x00 ∷ []) ∷ []
 
@@ -128,12 +151,46 @@ setup_request = 0x02 ∷ 0x11 ∷ 0x04 ∷ 0x00 ∷ 0x0d ∷ 0x02 ∷ 0x00 ∷ 0
 abbrev pub set_up : DeviceState
 set_up = taken (after 0 201 setup_request fresh)
 
+-- a payload comes by unicast on the port of fragments, at once
+abbrev pub here_201 : Arrival
+here_201 = record { moment = record { t = 0; word = 0; mark = 1 }; via = via.Unicast; port = 201 }
+
+-- how the status of the session of index 1 is told, as bytes, where it is
+abbrev pub told_status : Option StatusAns → List (List ℕ)
+told_status status =
+    map payload_of (map uplink_of (status_answers here_201 1 status))
+
+-- a session of index 1 without a group, for one fragment of one byte
+abbrev pub small : DeviceState
+small =
+    taken (after 0 201 (0x02 ∷ 0x10 ∷ 0x01 ∷ 0x00 ∷ 0x01 ∷ 0x00 ∷ 0x00 ∷ 0x00 ∷ 0x00 ∷ 0x00 ∷ 0x00 ∷ []) fresh)
+
+-- that fragment
+abbrev pub hears_small : DeviceState → DeviceState
+hears_small device = after 0 201 (0x08 ∷ 0x01 ∷ 0x40 ∷ 0x07 ∷ []) device
+
+-- a device with a session of index 2 alone
+abbrev pub at_2 : DeviceState
+at_2 = after 0 201 (0x02 ∷ 0x20 ∷ 0x01 ∷ 0x00 ∷ 0x01 ∷ 0x00 ∷ 0x00 ∷ 0x00 ∷ 0x00 ∷ 0x00 ∷ 0x00 ∷ []) fresh
+
+-- what a session tells that heard fragments: here the one that there is, three times
+pub record StatusSteps : Type 0 where
+  pub three : sends 0 201 (0x01 ∷ 0x03 ∷ []) (hears_small (hears_small (hears_small small)))
+      ≡ (0x01 ∷ 0x03 ∷ 0x40 ∷ 0x00 ∷ 0x00 ∷ []) ∷ []
+  -- where nothing is missing only a request of all is answered
+  pub nothing_missing : sends 0 201 (0x01 ∷ 0x02 ∷ []) (hears_small small) ≡ []
+
 pub record SessionSteps : Type 0 where
   pub setup : sends 0 201 setup_request fresh ≡ (0x02 ∷ 0x40 ∷ []) ∷ []
   -- it is asked for its state: all, or where a fragment is missing; at another index there is no answer
   pub status : sends 0 201 (0x01 ∷ 0x03 ∷ []) set_up ≡ (0x01 ∷ 0x00 ∷ 0x40 ∷ 0x04 ∷ 0x00 ∷ []) ∷ []
   pub missing : sends 0 201 (0x01 ∷ 0x02 ∷ []) set_up ≡ (0x01 ∷ 0x00 ∷ 0x40 ∷ 0x04 ∷ 0x00 ∷ []) ∷ []
   pub other_index : sends 0 201 (0x01 ∷ 0x01 ∷ []) set_up ≡ []
+  -- it tells the fragments that it received, those that are missing, and whether its rows sufficed
+  pub many : told_status (Some (record { received = 259; missing = 7; norows = true; delay = 2 }))
+      ≡ (0x01 ∷ 0x03 ∷ 0x41 ∷ 0x07 ∷ 0x01 ∷ []) ∷ []
+  -- sessions of different indices are different
+  pub at_3 : sends 0 201 (0x03 ∷ 0x03 ∷ 0x03 ∷ 0x02 ∷ []) at_2 ≡ (0x03 ∷ 0x07 ∷ []) ∷ (0x03 ∷ 0x02 ∷ []) ∷ []
   -- by unicast the answer is due at once
   pub undelayed : answer_delay via.Unicast 109 2 ≡ 0
   -- it is deleted once
@@ -141,7 +198,7 @@ pub record SessionSteps : Type 0 where
   -- setups that are refused: no fragments, all padding, too many, a coding of their own, an index or a descriptor that is not taken
   pub no_fragments : sends 0 201 (0x02 ∷ 0x00 ∷ 0x00 ∷ 0x00 ∷ 0x01 ∷ 0x00 ∷ 0x00 ∷ 0x00 ∷ 0x00 ∷ 0x00 ∷ 0x00 ∷ []) fresh ≡ (0x02 ∷ 0x01 ∷ []) ∷ []
   pub all_padding : sends 0 201 (0x02 ∷ 0x00 ∷ 0x04 ∷ 0x00 ∷ 0x01 ∷ 0x00 ∷ 0x01 ∷ 0x00 ∷ 0x00 ∷ 0x00 ∷ 0x00 ∷ []) fresh ≡ (0x02 ∷ 0x01 ∷ []) ∷ []
-  pub many : sends 0 201 (0x02 ∷ 0x00 ∷ 0x01 ∷ 0x04 ∷ 0x01 ∷ 0x00 ∷ 0x00 ∷ 0x00 ∷ 0x00 ∷ 0x00 ∷ 0x00 ∷ []) fresh ≡ (0x02 ∷ 0x00 ∷ []) ∷ []
+  pub over_area : sends 0 201 (0x02 ∷ 0x00 ∷ 0x01 ∷ 0x04 ∷ 0x01 ∷ 0x00 ∷ 0x00 ∷ 0x00 ∷ 0x00 ∷ 0x00 ∷ 0x00 ∷ []) fresh ≡ (0x02 ∷ 0x00 ∷ []) ∷ []
   pub too_many : sends 0 201 (0x02 ∷ 0x00 ∷ 0x01 ∷ 0x10 ∷ 0x01 ∷ 0x00 ∷ 0x00 ∷ 0x00 ∷ 0x00 ∷ 0x00 ∷ 0x00 ∷ []) fresh ≡ (0x02 ∷ 0x02 ∷ []) ∷ []
   pub largest : sends 0 201 (0x02 ∷ 0x00 ∷ 0x00 ∷ 0x10 ∷ 0x40 ∷ 0x00 ∷ 0x00 ∷ 0x00 ∷ 0x00 ∷ 0x00 ∷ 0x00 ∷ []) fresh ≡ (0x02 ∷ 0x00 ∷ []) ∷ []
   pub too_large : sends 0 201 (0x02 ∷ 0x00 ∷ 0x01 ∷ 0x10 ∷ 0x40 ∷ 0x00 ∷ 0x00 ∷ 0x00 ∷ 0x00 ∷ 0x00 ∷ 0x00 ∷ []) fresh ≡ (0x02 ∷ 0x02 ∷ []) ∷ []
@@ -181,6 +238,32 @@ session_request = 0x04 ∷ 0x00 ∷ 0xf2 ∷ 0x03 ∷ 0x00 ∷ 0x00 ∷ 0x00 ∷
 abbrev pub with_session : DeviceState
 with_session = taken (after 1000000 200 session_request grouped)
 
+-- and one of group 2, for four seconds, with the highest data rate
+abbrev pub with_session_2 : DeviceState
+with_session_2 =
+    taken (after 1000000 200 (0x04 ∷ 0x02 ∷ 0xf2 ∷ 0x03 ∷ 0x00 ∷ 0x00 ∷ 0x02 ∷ 0x28 ∷ 0x76 ∷ 0x84 ∷ 0x05 ∷ []) grouped)
+
+-- a class B session of group 2, with periodicity 3 and TimeOut 1
+abbrev pub class_b_request : List ℕ
+class_b_request = 0x05 ∷ 0x02 ∷ 0xf2 ∷ 0x03 ∷ 0x00 ∷ 0x00 ∷ 0x31 ∷ 0x28 ∷ 0x76 ∷ 0x84 ∷ 0x05 ∷ []
+
+-- a class C session of a group, with a frequency (its bytes) and a data rate
+abbrev pub request_with : (id f g h dr : ℕ) → List ℕ
+request_with id f g h dr = 0x04 ∷ id ∷ 0xf2 ∷ 0x03 ∷ 0x00 ∷ 0x00 ∷ 0x00 ∷ f ∷ g ∷ h ∷ dr ∷ []
+
+-- each request of the four packages makes one uplink: eight have room
+pub record WeightSteps : Type 0 where
+  pub firmware : answer 0 203
+      (0x00 ∷ 0x00 ∷ 0x01 ∷ 0x02 ∷ 0x0f ∷ 0x00 ∷ 0x00 ∷ 0x00 ∷ 0x03 ∷ 0x0a ∷ 0x00 ∷ 0x00 ∷ 0x04 ∷ 0x04
+      ∷ 0x05 ∷ 0x00 ∷ 0x00 ∷ 0x00 ∷ 0x00 ∷ []) fresh ≡ Done
+  pub clocks : answer 0 202
+      (0x00 ∷ 0x02 ∷ 0x00 ∷ 0x02 ∷ 0x00 ∷ 0x02 ∷ 0x00 ∷ 0x03 ∷ 0x04 ∷ []) fresh ≡ Done
+  pub fragments : answer 0 201
+      (0x00 ∷ 0x00 ∷ 0x00 ∷ 0x01 ∷ 0x01 ∷ 0x01 ∷ 0x01 ∷ 0x03 ∷ 0x00 ∷ 0x03 ∷ 0x01 ∷ setup_request) fresh ≡ Done
+  pub groups : answer 0 200
+      (0x00 ∷ 0x00 ∷ 0x01 ∷ 0x0f ∷ 0x03 ∷ 0x00 ∷ group_setup 0 0x44 0x33 0x22 0x11 ++ 0x03 ∷ 0x01
+      ∷ session_request ++ class_b_request) fresh ≡ Done
+
 -- a payload to the group with address 11223344, with the random word 109
 abbrev pub from_group : (t count : ℕ) → List ℕ → DeviceState → Outcome Delivered
 from_group t count payload device = delivery t 109 1 (record { to = Group 0x11223344 count; port = 201; payload = payload }) device
@@ -192,10 +275,22 @@ pub record GroupSteps : Type 0 where
   pub asked_for : sends 0 200 (0x01 ∷ 0x0e ∷ []) grouped ≡ (0x01 ∷ 0x24 ∷ 0x02 ∷ 0x88 ∷ 0x77 ∷ 0x66 ∷ 0x55 ∷ []) ∷ []
   pub no_group : sends 0 200 (0x03 ∷ 0x01 ∷ []) fresh ≡ (0x03 ∷ 0x05 ∷ []) ∷ []
   pub deleted : sends 0 200 (0x03 ∷ 0x00 ∷ 0x03 ∷ 0x00 ∷ []) grouped ≡ (0x03 ∷ 0x00 ∷ []) ∷ (0x03 ∷ 0x04 ∷ []) ∷ []
+  -- a group that is set up anew takes the place of what its id had
+  pub anew : sends 0 200 (group_setup 2 0x0d 0x0c 0x0b 0x0a ++ 0x01 ∷ 0x04 ∷ []) grouped
+      ≡ (0x02 ∷ 0x02 ∷ []) ∷ (0x01 ∷ 0x24 ∷ 0x02 ∷ 0x0d ∷ 0x0c ∷ 0x0b ∷ 0x0a ∷ []) ∷ []
   pub id_error : sends 0 200 (group_setup 3 0 0 0 0) (first_device (record (worked_config C 0) { groups = 2 })) ≡ (0x02 ∷ 0x07 ∷ []) ∷ []
   -- a class session starts in 10 s, or is refused with all its bits
   pub start : sends 1000000 200 session_request grouped ≡ (0x04 ∷ 0x00 ∷ 0x0a ∷ 0x00 ∷ 0x00 ∷ []) ∷ []
   pub errors : sends 1000000 200 (0x04 ∷ 0x00 ∷ 0xf2 ∷ 0x03 ∷ 0x00 ∷ 0x00 ∷ 0x00 ∷ 0x00 ∷ 0x00 ∷ 0x00 ∷ 0x06 ∷ []) fresh ≡ (0x04 ∷ 0x1c ∷ []) ∷ []
+  -- one bit alone: no such group, the frequency, the data rate
+  pub undefined : sends 1000000 200 (request_with 1 0x28 0x76 0x84 5) grouped ≡ (0x04 ∷ 0x11 ∷ []) ∷ []
+  pub freq_error : sends 1000000 200 (request_with 2 0x00 0x00 0x00 5) grouped ≡ (0x04 ∷ 0x0a ∷ []) ∷ []
+  pub dr_error : sends 1000000 200 (request_with 2 0x28 0x76 0x84 6) grouped ≡ (0x04 ∷ 0x06 ∷ []) ∷ []
+  -- it is held as it was asked for
+  pub requested : with_session_2.class_session
+      ≡ Some (record { id = 2; kind = ClassC; time = 1010; timeout = 2 })
+  pub requested_b : (after 1000000 200 class_b_request grouped).class_session
+      ≡ Some (record { id = 2; kind = ClassB 3; time = 1010; timeout = 1 })
   -- it replaces the one that there was, and one that is refused does not
   pub replaced : (after 1000000 200 (0x04 ∷ 0x00 ∷ 0xf3 ∷ 0x03 ∷ 0x00 ∷ 0x00 ∷ 0x00 ∷ 0x28 ∷ 0x76 ∷ 0x84 ∷ 0x00 ∷ []) with_session).class_session
       ≡ Some (record { id = 0; kind = ClassC; time = 1011; timeout = 0 })
@@ -204,13 +299,35 @@ pub record GroupSteps : Type 0 where
   -- a class B session begins at the beacon before: 1,010 s are rounded down to 896 s, which is past
   pub beacon : sends 1000000 200 (0x05 ∷ 0x00 ∷ 0xf2 ∷ 0x03 ∷ 0x00 ∷ 0x00 ∷ 0x00 ∷ 0x28 ∷ 0x76 ∷ 0x84 ∷ 0x00 ∷ []) grouped
       ≡ (0x05 ∷ 0x00 ∷ 0x00 ∷ 0x00 ∷ 0x00 ∷ []) ∷ []
+  -- 1,030 s are rounded down to 1,024 s
+  pub next_beacon : sends 1000000 200 (0x05 ∷ 0x00 ∷ 0x06 ∷ 0x04 ∷ 0x00 ∷ 0x00 ∷ 0x00 ∷ 0x28 ∷ 0x76 ∷ 0x84 ∷ 0x00 ∷ []) grouped
+      ≡ (0x05 ∷ 0x00 ∷ 0x18 ∷ 0x00 ∷ 0x00 ∷ []) ∷ []
   -- it ends with its group alone
   pub ends : (after 0 200 (0x03 ∷ 0x00 ∷ []) with_session).class_session ≡ None
   pub stays : (after 0 200 (0x03 ∷ 0x02 ∷ []) with_session).class_session ≡ with_session.class_session
+  -- and stays where its group is set up anew
+  pub set_up_anew : (after 0 200 (group_setup 0 0x44 0x33 0x22 0x11) with_session).class_session
+      ≡ with_session.class_session
 
 -- a class B session of group 0: from the beacon at 1,024 s on, for 256 s
 abbrev pub class_b : ClassSession
 class_b = record { id = 0; kind = ClassB 0; time = 1030; timeout = 1 }
+
+-- a device behind a payload on a port by the group of its class session
+abbrev pub by_group : (port : ℕ) → List ℕ → DeviceState
+by_group port payload =
+    (delivery 1010000 109 1 (record { to = Group 0x11223344 0; port = port; payload = payload }) with_session).device
+
+-- a payload to the group with address 55667788
+abbrev pub from_group_2 : (t port : ℕ) → List ℕ → DeviceState → Outcome Delivered
+from_group_2 t port payload device =
+    delivery t 0 1 (record { to = Group 0x55667788 0; port = port; payload = payload }) device
+
+-- the fragments that are dropped where one comes by group 2 for the session of index 1, whose mask is in this byte
+abbrev pub dropped_by_2 : (index_and_mask : ℕ) → ℕ
+dropped_by_2 index_and_mask =
+    (from_group_2 1010000 201 (0x08 ∷ 0x03 ∷ 0x40 ∷ replicate 13 7)
+    (after 1000000 201 (0x02 ∷ index_and_mask ∷ 0x04 ∷ 0x00 ∷ 0x0d ∷ 0x02 ∷ replicate 5 0x00) with_session_2)).device.counts.dropped
 
 -- what is heard
 pub record HearingSteps : Type 0 where
@@ -219,22 +336,39 @@ pub record HearingSteps : Type 0 where
   pub first : (from_group 1010000 0 [] with_session).answer ≡ Done
   pub last : (from_group 1010999 9 [] with_session).answer ≡ Done
   pub behind : (from_group 1011000 0 [] with_session).answer ≡ Deaf
+  -- a session with TimeOut 2 is heard for four seconds
+  pub fourth_second : (from_group_2 1013999 201 [] with_session_2).answer ≡ Done
+  pub fifth_second : (from_group_2 1014000 201 [] with_session_2).answer ≡ Deaf
   pub max_count : (from_group 1010000 10 [] with_session).answer ≡ Deaf
   pub other_group : (delivery 1010000 0 1 (record { to = Group 0x55667788 0; port = 201; payload = [] }) with_session).answer ≡ Deaf
   pub own_clock : (from_group 1005000 0 [] (record with_session { clock = record { offset = 5; token = 0 } })).answer ≡ Done
   pub no_session : (from_group 1010000 0 [] grouped).answer ≡ Deaf
   -- by the group only fragments and status requests act, and the answer is due 109 modulo 2^(2 + 4) s later
   pub skipped : payloads (from_group 1010000 0 (0x00 ∷ 0x03 ∷ 0x01 ∷ []) with_session).device ≡ []
+  pub no_reboot : by_group 203 (0x03 ∷ 0x00 ∷ 0x00 ∷ 0x00 ∷ []) ≡ with_session
+  pub no_resync : by_group 202 (0x03 ∷ 0x01 ∷ []) ≡ with_session
+  pub no_delete : by_group 200 (0x03 ∷ 0x00 ∷ []) ≡ with_session
+  -- what is skipped has its weight too
+  pub skipped_weight : (delivery 1010000 0 1
+      (record { to = Group 0x11223344 0; port = 202; payload = 0x03 ∷ 0x07 ∷ 0x00 ∷ 0x00 ∷ [] }) with_session).answer
+      ≡ OutboxFull 9
+  -- what comes by a group is of the class session's: it feeds the sessions whose mask has that one
+  pub of_group_2 : dropped_by_2 0x14 ≡ 0
+  pub of_no_other : dropped_by_2 0x1b ≡ 1
   pub answered : (from_group 1010000 0 (0x01 ∷ 0x03 ∷ []) (record with_session { sessions = set_up.sessions })).device.outbox
       ≡ record { due = 1055000; port = 201; payload = 0x01 ∷ 0x00 ∷ 0x40 ∷ 0x04 ∷ 0x00 ∷ [] } ∷ []
   -- of a class B session, in its ping slots
   pub slot : (from_group 1026810 0 [] (record grouped { class_session = Some class_b })).answer ≡ Done
+  pub own_slots : (session : ClassSession) (periodicity device_ms addr : ℕ)
+      → is_open session (ClassB periodicity) device_ms addr
+      ≡ is_open_b session.time periodicity session.timeout device_ms addr
   pub no_slot : (from_group 1026840 0 [] (record grouped { class_session = Some class_b })).answer ≡ Deaf
   -- by unicast: class A behind its own uplinks alone
   pub a_none : answer 6000 201 [] (first_device (worked_config A 0)) ≡ Deaf
   pub a_5999 : answer 5999 201 [] (record (first_device (worked_config A 0)) { last_due = Some 5000 }) ≡ Deaf
   pub a_6000 : answer 6000 201 [] (record (first_device (worked_config A 0)) { last_due = Some 5000 }) ≡ Done
   pub a_6100 : answer 6100 201 [] (record (first_device (worked_config A 0)) { last_due = Some 5000 }) ≡ Deaf
+  pub a_woken : answer 1007 201 [] (waking 7 (first_device (worked_config A 0))).device ≡ Done
   pub a_7000 : answer 7000 201 [] (record (first_device (worked_config A 0)) { last_due = Some 5000 }) ≡ Done
 
 -- ---- firmware
@@ -258,7 +392,11 @@ pub record FirmwareSteps : Type 0 where
   pub gone : (after 0 203 (0x05 ∷ 0x02 ∷ 0x00 ∷ 0x00 ∷ 0x00 ∷ []) ready).slots ≡ fresh.slots
   -- a reboot at a time, or in so many seconds; all ones cancel it, and 0 is now
   pub time : (after 5000 203 (0x02 ∷ 0x0f ∷ 0x00 ∷ 0x00 ∷ 0x00 ∷ []) ready).reboot ≡ Some 15
+  pub same : sends 5000 203 (0x02 ∷ 0x0f ∷ 0x00 ∷ 0x00 ∷ 0x00 ∷ []) ready
+      ≡ (0x02 ∷ 0x0f ∷ 0x00 ∷ 0x00 ∷ 0x00 ∷ []) ∷ []
+  pub now : (after 2147483648000 203 (0x02 ∷ 0x00 ∷ 0x00 ∷ 0x00 ∷ 0x00 ∷ []) ready).slots.version ≡ 2
   pub countdown : (after 5000 203 (0x03 ∷ 0x0a ∷ 0x00 ∷ 0x00 ∷ []) ready).reboot ≡ Some 15
+  pub same_count : sends 5000 203 (0x03 ∷ 0x0a ∷ 0x00 ∷ 0x00 ∷ []) ready ≡ (0x03 ∷ 0x0a ∷ 0x00 ∷ 0x00 ∷ []) ∷ []
   pub round : (after 5000 203 (0x03 ∷ 0x0a ∷ 0x00 ∷ 0x00 ∷ []) (record ready { clock = record { offset = 2 ^ 32 - 6; token = 0 } })).reboot ≡ Some 9
   pub cancelled : (after 5000 203 (0x02 ∷ 0xff ∷ 0xff ∷ 0xff ∷ 0xff ∷ []) (record ready { reboot = Some 15 })).reboot ≡ None
   pub uncounted : (after 5000 203 (0x03 ∷ 0xff ∷ 0xff ∷ 0xff ∷ []) (record ready { reboot = Some 15 })).reboot ≡ None
@@ -268,11 +406,17 @@ pub record FirmwareSteps : Type 0 where
       ≡ (0x03 ∷ 0x00 ∷ 0x00 ∷ 0x00 ∷ []) ∷ (0x01 ∷ 0x00 ∷ 0x00 ∷ 0x00 ∷ 0x00 ∷ 0x01 ∷ 0x00 ∷ 0x00 ∷ 0x00 ∷ []) ∷ []
   -- and one that is due before the payload: the version behind it is the new one
   pub new_version : sends 15000 203 (0x01 ∷ []) (record ready { reboot = Some 15 }) ≡ (0x01 ∷ 0x02 ∷ 0x00 ∷ 0x00 ∷ 0x00 ∷ 0x01 ∷ 0x00 ∷ 0x00 ∷ 0x00 ∷ []) ∷ []
+  -- at first the formats of the configuration are known
+  pub first_formats : (first_device (record (worked_config C 0) { formats = 1 })).slots.formats ≡ 1
   -- both formats are known from now on; next is read again, but not where it is none, and no reboot is carried out
   pub migrated : (after_migration (record ready { slots = record ready.slots { formats = 1 }; reboot = Some 0 })).slots
       ≡ record { formats = 2; version = 0; running = []; next = image.Corrupt; next_file = 0x07 ∷ [] }
   pub none_migrated : (after_migration fresh).slots ≡ fresh.slots
   pub due : (waking 15000 (record ready { reboot = Some 15 })).device.slots.version ≡ 2
+  -- its moment is one of the device's clock, and is cleared, whatever next is
+  pub own_clock : (waking 10000 (record ready { reboot = Some 15; clock = record { offset = 5; token = 0 } })).device.slots.version ≡ 2
+  pub cleared : (waking 15000 (record ready { reboot = Some 15 })).device.reboot ≡ None
+  pub cleared_of_none : (waking 15000 (record fresh { reboot = Some 15 })).device.reboot ≡ None
   pub early : (waking 14999 (record ready { reboot = Some 15 })).device.slots.version ≡ 0
   -- a moment is reached at itself and less than 2^31 s behind it, modulo 2^32
   pub behind : is_reached (2 ^ 31 - 2) (2 ^ 32 - 1) ≡ true
@@ -289,4 +433,7 @@ pub record ConfigSteps : Type 0 where
   pub sessions : is_config (record (worked_config C 0) { sessions = 5 }) ≡ false
   pub no_session : is_config (record (worked_config C 0) { sessions = 0 }) ≡ false
   pub groups : is_config (record (worked_config C 0) { groups = 5 }) ≡ false
+  pub no_group : is_config (record (worked_config C 0) { groups = 0 }) ≡ false
+  pub no_area : is_config (record (worked_config C 0) { area = 0 }) ≡ false
+  pub least : is_config (record (worked_config A 0) { formats = 1; rows = 0; sessions = 1; groups = 1; area = 1 }) ≡ true
   pub area : is_config (record (worked_config C 0) { area = 262383 }) ≡ false

@@ -25,6 +25,7 @@ use crate::class_session::ClassSession;
 use crate::config::{DeviceConfig, ReserveError, is_config};
 use crate::counts::Counts;
 use crate::delivered::{Delivered, OutboxFull};
+use crate::moment::Moment;
 use crate::outbox::{OUTBOX, Outbox};
 use crate::session_slots::SessionSlots;
 use crate::uplink::{Uplink, UplinkCommand};
@@ -208,11 +209,9 @@ impl Device {
             return Delivered::Deaf;
         }
         let here = Arrival {
-            t,
+            moment: Moment { t, word, mark },
             via: via_of(self.class_session, down.to),
             port: down.port,
-            word,
-            mark,
         };
         self.read(here, &down.payload)
     }
@@ -220,7 +219,7 @@ impl Device {
     /// What is read of a payload acts, and one that is refused is counted.
     #[tactic(auto, unfolding(crate::specs::Deliver::read_delivery))]
     fn read(&mut self, here: Arrival, payload: &Payload) -> Delivered
-        requires { here.t ≤ max_moment }
+        requires { here.moment.t ≤ max_moment }
         ensures { let reading = reading_of here.port Direction.Down payload.now in
             Makes Delivered self.old self.new result (λ device. read_delivery here device reading) }
     {
@@ -236,7 +235,7 @@ impl Device {
     /// A message acts where the outbox has room for its weights.
     #[tactic(auto, unfolding(crate::specs::Deliver::message_delivery))]
     fn take(&mut self, here: Arrival, message: Message<'_>) -> Delivered
-        requires moment { here.t ≤ max_moment }
+        requires moment { here.moment.t ≤ max_moment }
         requires port { message.port ≡ here.port }
         requires direction { message.direction ≡ Direction.Down }
         requires few { length message.commands ≤ 242 }
@@ -268,7 +267,7 @@ impl Device {
 
     /// Acts on the commands of a message, one after another.
     fn act_on(&mut self, here: Arrival, mut message: Message<'_>)
-        requires moment { here.t ≤ max_moment }
+        requires moment { here.moment.t ≤ max_moment }
         requires port { message.port ≡ here.port }
         requires direction { message.direction ≡ Direction.Down }
         requires room { length self.old.outbox + weights message.commands ≤ 8 }

@@ -7,8 +7,10 @@ ghost use Rattle.device_core.specs.declared.delivered.Delivered.TheVariants.{Dea
 ghost use Rattle.device_core.specs.Device.{DeviceState, outbox_size, after_deaf, after_refused, after_full, with_counts};
 ghost use Rattle.device_core.specs.Firmware.{after_due_reboot};
 ghost use Rattle.device_core.specs.Deliver.{delivery, waking};
+ghost use Rattle.device_core.specs.Multicast.{MulticastActs};
+ghost use Rattle.device_core.specs.Running.{RunsImagesAlone};
 ghost use Rattle.device_core.specs.WholeFiles.{WholeFiles};
-ghost use Rattle.device_core.specs.WorkedSteps.{UplinkSteps, ClockSteps, SessionSteps, KeySteps, GroupSteps, HearingSteps, FirmwareSteps, ConfigSteps};
+ghost use Rattle.device_core.specs.WorkedSteps.{UplinkSteps, WeightSteps, ClockSteps, StatusSteps, SessionSteps, KeySteps, GroupSteps, HearingSteps, FirmwareSteps, ConfigSteps};
 
 /// A reboot that is due is carried out once.
 pub fn due_reboot_is_once()
@@ -43,10 +45,25 @@ pub fn a_whole_file_comes_once()
     ensures { WholeFiles }
 {}
 
+/// By multicast exactly DataFragment and FragSessionStatusReq act; any other command is skipped without an answer.
+#[tactic(auto, using(crate::proofs::Multicast::multicast_acts))]
+pub fn two_commands_act_by_multicast()
+    ensures { MulticastActs }
+{}
+
+/// Whatever calls and payloads come, a device runs nothing, which is version 0, or an image file for its hardware, of a
+/// format that it knows, with that image's version.
+#[tactic(auto, using(crate::proofs::Running::runs_images))]
+pub fn runs_images_alone()
+    ensures { RunsImagesAlone }
+{}
+
 /// What a device sends, holds and hears, worked out in bytes.
 pub fn worked_steps()
     ensures uplinks { UplinkSteps }
+    ensures weights { WeightSteps }
     ensures clock { ClockSteps }
+    ensures statuses { StatusSteps }
     ensures sessions { SessionSteps }
     ensures keys { KeySteps }
     ensures groups { GroupSteps }

@@ -17,6 +17,7 @@ mod counts;
 mod delivered;
 mod device;
 mod laws;
+mod moment;
 mod outbox;
 mod session_slots;
 mod uplink;
@@ -29,6 +30,7 @@ pub use delivered::{Delivered, OutboxFull};
 pub use device::Device;
 pub use laws::{
     a_full_device_wakes_for_its_reboot_alone, a_whole_file_comes_once, due_reboot_is_once,
-    what_does_not_act_is_counted, worked_steps,
+    runs_images_alone, two_commands_act_by_multicast, what_does_not_act_is_counted, worked_steps,
 };
+pub use moment::Moment;
 pub use uplink::{Uplink, UplinkCommand};

@@ -22,7 +22,7 @@ impl Device {
     /// Acts on one command; by multicast only DataFragment and FragSessionStatusReq act (this project's profile).
     #[tactic(auto, unfolding(crate::specs::Step::step, crate::specs::Answers::after_answers))]
     pub(super) fn act(&mut self, here: Arrival, command: &Command)
-        requires moment { here.t ≤ max_moment }
+        requires moment { here.moment.t ≤ max_moment }
         requires command { IsReceivable here.port command.now }
         requires room { length self.old.outbox + weight command.now ≤ 8 }
         ensures { Steps self.old self.new (weight command.now)
@@ -35,7 +35,7 @@ impl Device {
 
     /// Acts on one command that came by unicast, or acts by multicast too.
     fn act_on_one(&mut self, here: Arrival, command: &Command)
-        requires moment { here.t ≤ max_moment }
+        requires moment { here.moment.t ≤ max_moment }
         requires command { IsReceivable here.port command.now }
         requires room { length self.old.outbox + weight command.now ≤ 8 }
         ensures { Steps self.old self.new (weight command.now)
@@ -73,7 +73,7 @@ impl Device {
     /// TS004 and TS005.
     #[tactic(auto, unfolding(crate::specs::Step::command_step, crate::specs::Answers::after_answers))]
     fn act_on_cast(&mut self, here: Arrival, cmd: &cast_wire::Cmd)
-        requires moment { here.t ≤ max_moment }
+        requires moment { here.moment.t ≤ max_moment }
         requires command { IsReceivable here.port (Command.Cast cmd.now) }
         requires room { length self.old.outbox + weight (Command.Cast cmd.now) ≤ 8 }
         ensures { Steps self.old self.new (weight (Command.Cast cmd.now))
@@ -169,7 +169,7 @@ impl Device {
             (Command.Sync (PackageVersionAns (identifier_of here.port) 1))) }
     {
         self.send(
-            here.t,
+            here.moment.t,
             here.port,
             Command::Sync(sync_wire::Cmd::PackageVersionAns {
                 identifier: identifier_of(here.port),
@@ -188,7 +188,7 @@ impl Device {
             (Command.Cast (cast.PackageVersionAns (identifier_of here.port) 1))) }
     {
         self.send(
-            here.t,
+            here.moment.t,
             here.port,
             Command::Cast(cast_wire::Cmd::PackageVersionAns {
                 identifier: identifier_of(here.port),

@@ -48,8 +48,8 @@ impl Device {
         requires room { length self.old.outbox < 8 }
         ensures { Steps self.old self.new 1 (λ device. periodicity_step here device) }
     {
-        let answer = periodicity_answer(self.clock.now(here.t));
-        self.send(here.t, here.port, answer);
+        let answer = periodicity_answer(self.clock.now(here.moment.t));
+        self.send(here.moment.t, here.port, answer);
     }
 
     /// ForceDeviceResyncReq.
@@ -59,9 +59,9 @@ impl Device {
         requires room { length self.old.outbox + count ≤ 8 }
         ensures { Steps self.old self.new count (λ device. resync_step here device count) }
     {
-        let request = self.clock.request(here.t, false);
+        let request = self.clock.request(here.moment.t, false);
         'requests: for _ in 0..count {
-            self.send(here.t, here.port, Command::Sync(request));
+            self.send(here.moment.t, here.port, Command::Sync(request));
         }
     }
 }

@@ -22,7 +22,7 @@ impl Device {
         ensures { Steps self.old self.new 1 (λ device. version_step here device) }
     {
         let answer = version_answer(self.slots.running().0, self.config.hw);
-        self.send(here.t, here.port, answer);
+        self.send(here.moment.t, here.port, answer);
     }
 
     /// DevUpgradeImageReq.
@@ -32,7 +32,7 @@ impl Device {
         ensures { Steps self.old self.new 1 (λ device. upgrade_step here device) }
     {
         let answer = upgrade_answer(self.slots.next());
-        self.send(here.t, here.port, answer);
+        self.send(here.moment.t, here.port, answer);
     }
 
     /// DevDeleteImageReq.
@@ -42,7 +42,7 @@ impl Device {
         ensures { Steps self.old self.new 1 (λ device. delete_image_step here device version) }
     {
         let bits = self.slots.delete(version);
-        self.send(here.t, here.port, delete_answer(bits));
+        self.send(here.moment.t, here.port, delete_answer(bits));
     }
 
     /// DevRebootTimeReq.
@@ -51,8 +51,8 @@ impl Device {
         requires room { length self.old.outbox < 8 }
         ensures { Steps self.old self.new 1 (λ device. reboot_time_step here device time) }
     {
-        self.reboot = chosen_moment(time, u32::MAX, self.clock.now(here.t), time);
-        self.send(here.t, here.port, time_answer(time));
+        self.reboot = chosen_moment(time, u32::MAX, self.clock.now(here.moment.t), time);
+        self.send(here.moment.t, here.port, time_answer(time));
     }
 
     /// DevRebootCountdownReq.
@@ -62,9 +62,9 @@ impl Device {
         requires room { length self.old.outbox < 8 }
         ensures { Steps self.old self.new 1 (λ device. countdown_step here device count) }
     {
-        let now = self.clock.now(here.t);
+        let now = self.clock.now(here.moment.t);
         self.reboot = chosen_moment(count, (1 << 24) - 1, now, now.wrapping_add(count));
-        self.send(here.t, here.port, countdown_answer(count));
+        self.send(here.moment.t, here.port, countdown_answer(count));
     }
 
     /// Carries out a reboot that is due.

@@ -3,19 +3,20 @@
 ghost use Rattle.std.specs.Prelude.{◌≡◌, ◌+◌, ◌%◌, ◌^◌, ◌<◌, ◌≤◌, length};
 ghost use Rattle.package_grammar.specs.declared.command.Command.{Command};
 ghost use Rattle.cast_wire.specs.declared.cmd.Cmd.TheVariants.{FragSessionStatusAns, FragSessionDeleteAns};
+ghost use Rattle.cast_wire.specs.SetupRefusal.{setup_answer};
 ghost use Rattle.frag_session.specs.declared.setups.SetupReq.{SetupReq};
 ghost use Rattle.frag_session.specs.Session.{view_of};
 ghost use Rattle.device_core.specs.SessionTable.{SessionTable, session_at};
 ghost use Rattle.device_core.specs.Device.{max_moment, limits_of};
 ghost use Rattle.device_core.specs.HeldSessions.{SessionsStand};
-ghost use Rattle.device_core.specs.Fragments.{has_bit, setup_answer, setup_step, delete_step, answer_delay, status_step, is_complete, is_whole, whole_file, slots_after, fragment_step};
+ghost use Rattle.device_core.specs.Fragments.{setup_step, delete_step, answer_delay, status_step, is_complete, is_whole, whole_file, slots_after, fragment_step};
 ghost use Rattle.device_core.specs.Sendable.{IsSendable};
 
 use super::Device;
 use crate::arrival::Arrival;
 use crate::config::DeviceConfig;
 use crate::session_slots::SessionSlots;
-use cast_wire::Cmd;
+use cast_wire::{Cmd, setup_answer};
 use frag_session::{Heard, Limits, SetupReq, StatusAns, Verdict, Via};
 use image_slots::Slots;
 use package_grammar::Command;
@@ -32,7 +33,7 @@ impl Device {
         ensures { Steps self.old self.new 1 (λ device. setup_step here device req) }
     {
         let bits = self.sessions.setup(req, limits_of(&self.config));
-        self.send(here.t, here.port, setup_answer(req.index, bits));
+        self.send(here.moment.t, here.port, setup_refusal(req.index, bits));
     }
 
     /// FragSessionDeleteReq.
@@ -44,20 +45,20 @@ impl Device {
         ensures { Steps self.old self.new 1 (λ device. delete_step here device index) }
     {
         let lived = self.sessions.delete(index);
-        self.send(here.t, here.port, delete_answer(index, !lived));
+        self.send(here.moment.t, here.port, delete_answer(index, !lived));
     }
 
     /// FragSessionStatusReq.
     #[tactic(auto, unfolding(crate::specs::Fragments::status_step, crate::specs::Answers::after_answers))]
     pub(super) fn status(&mut self, here: Arrival, index: u8, all: bool)
         requires port { here.port ≡ 201 }
-        requires moment { here.t ≤ max_moment }
+        requires moment { here.moment.t ≤ max_moment }
         requires index { index < 4 }
         requires room { length self.old.outbox < 8 }
         ensures { Steps self.old self.new 1 (λ device. status_step here device index all) }
     {
         if let Some(status) = self.sessions.status(index, here.via, all) {
-            let due = here.t + answer_delay(here.via, here.word, status.delay);
+            let due = here.moment.t + answer_delay(here.via, here.moment.word, status.delay);
             self.send(due, here.port, status_answer(index, status));
         }
     }
@@ -68,7 +69,10 @@ impl Device {
         ensures { Steps self.old self.new 0 (λ device. fragment_step here device index n part.now) }
     {
         let was_whole = is_whole(&self.sessions, index);
-        match self.sessions.fragment(index, here.via, n, part, here.mark) {
+        match self
+            .sessions
+            .fragment(index, here.via, n, part, here.moment.mark)
+        {
             Heard::Fed(_) => offer(&mut self.slots, &self.sessions, index, was_whole),
             Heard::Dropped(_) => self.count_dropped(),
         }
@@ -127,18 +131,12 @@ fn limits_of(config: &DeviceConfig) -> Limits
 }
 
 /// FragSessionSetupAns with all its refusal bits.
-fn setup_answer(index: u8, bits: u8) -> Command
+fn setup_refusal(index: u8, bits: u8) -> Command
     requires { index < 4 }
-    ensures value { result ≡ setup_answer index bits }
+    ensures value { result ≡ Command.Cast (setup_answer index bits) }
     ensures sendable { IsSendable 201 result }
 {
-    Command::Cast(Cmd::FragSessionSetupAns {
-        index,
-        wrong_descriptor: has_bit(bits, 3),
-        index_unsupported: has_bit(bits, 2),
-        no_memory: has_bit(bits, 1),
-        encoding_unsupported: has_bit(bits, 0),
-    })
+    Command::Cast(setup_answer(index, bits))
 }
 
 /// FragSessionDeleteAns.
@@ -186,11 +184,4 @@ fn low_bits(word: u32, delay: u8) -> u32
     } else {
         word
     }
-}
-
-fn has_bit(bits: u8, place: u32) -> bool
-    requires { place < 8 }
-    ensures { result ≡ has_bit bits place }
-{
-    bits >> place & 1 == 1
 }

@@ -25,7 +25,7 @@ impl Device {
         ensures { Steps self.old self.new 1 (λ device. groups_step here device mask) }
     {
         let answer = self.groups.status(mask);
-        self.send(here.t, here.port, Command::Cast(answer));
+        self.send(here.moment.t, here.port, Command::Cast(answer));
     }
 
     /// McGroupSetupReq.
@@ -48,8 +48,8 @@ impl Device {
             .groups
             .setup(&self.config.key, id, addr, wrapped, min, max)
         {
-            GroupAnswer::IdError => self.send(here.t, here.port, setup_answer(id, true)),
-            GroupAnswer::Ok => self.send(here.t, here.port, setup_answer(id, false)),
+            GroupAnswer::IdError => self.send(here.moment.t, here.port, setup_answer(id, true)),
+            GroupAnswer::Ok => self.send(here.moment.t, here.port, setup_answer(id, false)),
         }
     }
 
@@ -61,10 +61,10 @@ impl Device {
         ensures { Steps self.old self.new 1 (λ device. group_delete_step here device id) }
     {
         match self.groups.delete(id) {
-            GroupEnd::Undefined => self.send(here.t, here.port, delete_answer(id, true)),
+            GroupEnd::Undefined => self.send(here.moment.t, here.port, delete_answer(id, true)),
             GroupEnd::Ok => {
                 self.class_session = without_group(id, self.class_session);
-                self.send(here.t, here.port, delete_answer(id, false));
+                self.send(here.moment.t, here.port, delete_answer(id, false));
             }
         }
     }

@@ -1,9 +1,10 @@
 //! Class sessions of the device (TS005-1.0.0), and what it hears.
 
 ghost use Rattle.std.specs.Prelude.{◌≡◌, ◌||◌, ◌*◌, ◌^◌, ◌<◌, ◌≤◌, length, is_none, IfSome};
+ghost use Rattle.wire_base.specs.Numbers.{has_bit};
 ghost use Rattle.package_grammar.specs.declared.command.Command.{Command};
 ghost use Rattle.device_core.specs.SessionTable.{SessionTable};
-ghost use Rattle.device_core.specs.ClassSessions.{start_of, class_session_after, bit, session_answer, class_session_step, hears_unicast, is_open, hears};
+ghost use Rattle.device_core.specs.ClassSessions.{start_of, class_session_after, session_answer, class_session_step, hears_unicast, is_open, hears};
 ghost use Rattle.device_core.specs.Deliver.{via_of};
 ghost use Rattle.device_core.specs.DeviceInside.{KindFits, SessionFits};
 ghost use Rattle.device_core.specs.Sendable.{IsSendable};
@@ -48,12 +49,12 @@ impl Device {
             (λ device. class_session_step here device session freq dr) }
     {
         let there = self.groups.get(session.id).is_some();
-        let now = self.clock.now(here.t);
+        let now = self.clock.now(here.moment.t);
         let start = start_of(session.kind, session.time);
         let (bits, start) = session_answer(there, now, start, freq, dr);
         self.class_session = class_session_after(bits, session, self.class_session);
         self.send(
-            here.t,
+            here.moment.t,
             here.port,
             request_answer(session.kind, session.id, bits, start),
         );
@@ -89,13 +90,13 @@ fn class_session_after(
 fn request_answer(kind: Kind, id: u8, bits: u8, start: Option<u32>) -> Command
     requires id { id < 4 }
     requires start { IfSome start (λ s. s < 2 ^ 24) }
-    requires errors { is_none start ≡ (bit bits 4 || bit bits 3 || bit bits 2) }
+    requires errors { is_none start ≡ (has_bit bits 4 || has_bit bits 3 || has_bit bits 2) }
     ensures value { result ≡ session_answer kind id bits start }
     ensures sendable { IsSendable 200 result }
 {
-    let undefined = bit(bits, 4);
-    let freq_error = bit(bits, 3);
-    let dr_error = bit(bits, 2);
+    let undefined = bits >> 4 & 1 == 1;
+    let freq_error = bits >> 3 & 1 == 1;
+    let dr_error = bits >> 2 & 1 == 1;
     match kind {
         Kind::ClassC => Command::Cast(Cmd::McClassCSessionAns {
             id,
@@ -112,13 +113,6 @@ fn request_answer(kind: Kind, id: u8, bits: u8, start: Option<u32>) -> Command
             start,
         }),
     }
-}
-
-fn bit(bits: u8, place: u32) -> bool
-    requires { place < 8 }
-    ensures { result ≡ bit bits place }
-{
-    bits >> place & 1 == 1
 }
 
 /// Whether a payload by unicast is heard.

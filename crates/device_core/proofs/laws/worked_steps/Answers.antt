@@ -1,4 +1,4 @@
-use Rattle.device_core.proofs.WorkedSteps.{uplinks, clock, sessions, keys, groups, hearing, firmware, configs}
+use Rattle.device_core.proofs.WorkedSteps.{uplinks, weights, clock, statuses, sessions, keys, groups, hearing, firmware, configs}
 use Rattle.device_core.proofs.laws.worked_steps.Goals as goal
 
 pub returns-clause-uplinks : goal.returns-clause-uplinks
@@ -24,3 +24,9 @@ returns-clause-firmware c = firmware
 
 pub returns-clause-configs : goal.returns-clause-configs
 returns-clause-configs c = configs
+
+pub returns-clause-statuses : goal.returns-clause-statuses
+returns-clause-statuses c = statuses
+
+pub returns-clause-weights : goal.returns-clause-weights
+returns-clause-weights c = weights

@@ -1,0 +1,283 @@
+-- A device runs nothing or an image for its hardware: what next says is kept true, and only a valid next comes to run.
+use Rattle.std.proofs.Common.{◌≡◌, ◌⊎◌, inl, inr, ⊎_elim, ℕ, Bool, true, false, cond, ◌==◌, List, [], ◌∷◌, Option, Some, None, Result, Ok, Err, refl, sym, ◌∙◌, subst, ap}
+use Rattle.std.specs.Prelude.{◌&&◌, not}
+use Rattle.image_slots.specs.declared.view.ImageState.{ImageState}
+use Rattle.image_slots.specs.declared.view.ImageState.TheVariants as image
+use Rattle.image_slots.specs.Image.{format_of, is_image, is_for, is_unknown, firmware_of, image_state}
+use Rattle.image_slots.specs.Slots.{Slots, IsRead, after_offer, after_swap, delete_bits, after_delete, after_raise}
+use Rattle.sync_wire.specs.declared.cmd.Cmd.{Cmd as SyncCmd}
+use Rattle.sync_wire.specs.declared.cmd.Cmd.TheVariants as s
+use Rattle.cast_wire.specs.declared.cmd.Cmd.{Cmd as CastCmd}
+use Rattle.cast_wire.specs.declared.cmd.Cmd.TheVariants as c
+use Rattle.wire_base.specs.declared.refusal.Direction.TheVariants.{Down}
+use Rattle.package_grammar.specs.declared.command.Command.{Command}
+use Rattle.package_grammar.specs.declared.command.Command.TheVariants.{Sync, Cast}
+use Rattle.package_grammar.specs.declared.downlink.Downlink.{Downlink}
+use Rattle.package_grammar.specs.Reading.{Reading, reading_of}
+use Rattle.frag_session.specs.Session.{Seen, view_of}
+use Rattle.device_core.specs.declared.arrival.Arrival.{Arrival}
+use Rattle.device_core.specs.declared.config.DeviceConfig.{DeviceConfig}
+use Rattle.device_core.specs.declared.delivered.Delivered.{Delivered}
+use Rattle.device_core.specs.declared.delivered.Delivered.TheVariants.{OutboxFull, Done, Deaf}
+use Rattle.device_core.specs.declared.delivered.OutboxFull as outbox
+use Rattle.device_core.specs.declared.uplink.Uplink.{Uplink}
+use Rattle.device_core.specs.Device.{DeviceState, first_device, after_deaf, after_full, with_counts}
+use Rattle.device_core.specs.Answers.{DeviceStep, after_answers}
+use Rattle.device_core.specs.Clock.{answer_step, periodicity_step, resync_step}
+use Rattle.device_core.specs.Fragments.{setup_step, delete_step, status_step, is_whole, whole_file, slots_after, heard_step, fragment_step}
+use Rattle.device_core.specs.Groups.{groups_step, group_setup_step, group_delete_step}
+use Rattle.device_core.specs.ClassSessions.{hears, class_session_step}
+use Rattle.device_core.specs.Firmware.{version_step, upgrade_step, delete_image_step, reboot_time_step, countdown_step, after_due_reboot, after_migration}
+use Rattle.device_core.specs.Step.{acts, command_step, step, after_commands}
+use Rattle.device_core.specs.Deliver.{Outcome, arrival, message_delivery, read_delivery, heard_delivery, delivery, time_asking, waking, with_due_reboot, taking}
+use Rattle.device_core.specs.Events.{Event, after_event, Wakes, Receives, Migrates}
+use Rattle.device_core.specs.Running.{Call, Delivers, Wakes as Awakes, Takes, Raises, after_call, after_calls, after_events, RunsNone, RunsImage, RunsImagesAlone}
+
+-- ---- the two slots
+
+-- what runs is an image, and what next says of its bytes is true
+record IsSound (hw : ℕ) (slots : Slots) : Type 0 where
+  runs : RunsImage hw slots
+  read : IsRead hw slots
+
+offered : (hw : ℕ) (file : List ℕ) (slots : Slots) → IsSound hw slots → IsSound hw (after_offer hw file slots)
+unfolding after_offer
+offered hw file slots k = record { runs = k.runs; read = inr refl }
+
+-- a valid next that is read comes to run
+swap_of : (hw formats version : ℕ) (running : List ℕ) (next : ImageState) (next_file : List ℕ)
+    → let slots : Slots = record {
+      formats = formats;
+      version = version;
+      running = running;
+      next = next;
+      next_file = next_file;
+    } in
+    IsSound hw slots → IsSound hw (after_swap slots)
+unfolding after_swap
+swap_of hw formats version running (image.Valid held) next_file k = record { runs = inr (is_valid k.read); read = inl refl }
+  where
+    is_valid : (image.Valid held ≡ image.None) ⊎ (image.Valid held ≡ image_state next_file hw formats)
+        → image_state next_file hw formats ≡ image.Valid held
+    is_valid (inl none) = absurd cc
+    is_valid (inr read) = sym read
+swap_of hw formats version running image.None next_file k = k
+swap_of hw formats version running image.Corrupt next_file k = k
+swap_of hw formats version running image.Incompatible next_file k = k
+
+swapped : (hw : ℕ) (slots : Slots) → IsSound hw slots → IsSound hw (after_swap slots)
+swapped hw slots k = swap_of hw slots.formats slots.version slots.running slots.next slots.next_file k
+
+delete_by : (hw : ℕ) (slots : Slots) (b : Bool) → IsSound hw slots
+    → IsSound hw (cond b (record slots { next = image.None; next_file = [] }) slots)
+delete_by hw slots true k = record { runs = k.runs; read = inl refl }
+delete_by hw slots false k = k
+
+deleted : (hw version : ℕ) (slots : Slots) → IsSound hw slots → IsSound hw (after_delete version slots)
+unfolding after_delete
+deleted hw version slots k = delete_by hw slots (delete_bits slots.next version == 0) k
+
+-- what is valid to a device stays so where it knows both formats
+still_by : (file : List ℕ) (hw v : ℕ) (two one known : Bool)
+    → cond {A = ImageState} (known && not (two && one)) (cond {A = ImageState} (is_for file hw) (image.Valid (firmware_of file)) image.Incompatible) image.Corrupt ≡ image.Valid v
+    → cond {A = ImageState} (known && not (two && false)) (cond {A = ImageState} (is_for file hw) (image.Valid (firmware_of file)) image.Incompatible) image.Corrupt ≡ image.Valid v
+still_by file hw v true true true is = absurd cc
+still_by file hw v true false true is = is
+still_by file hw v false one true is = is
+still_by file hw v two one false is = absurd cc
+
+still_valid : (file : List ℕ) (hw formats v : ℕ) → image_state file hw formats ≡ image.Valid v
+    → image_state file hw 2 ≡ image.Valid v
+unfolding image_state is_unknown
+still_valid file hw formats v is = still_by file hw v (format_of file == 2) (formats == 1) (is_image file) is
+
+raise_by : (hw : ℕ) (slots : Slots) (next : ImageState) → slots.next ≡ next → IsSound hw slots
+    → IsRead hw (after_raise hw slots)
+unfolding after_raise
+raise_by hw slots image.None is k = rw is (inl refl)
+raise_by hw slots image.Corrupt is k = rw is (inr refl)
+raise_by hw slots image.Incompatible is k = rw is (inr refl)
+raise_by hw slots (image.Valid version) is k = rw is (inr refl)
+
+raised : (hw : ℕ) (slots : Slots) → IsSound hw slots → IsSound hw (after_raise hw slots)
+unfolding after_raise
+raised hw slots k = record {
+  runs = runs_still k.runs;
+  read = raise_by hw slots slots.next refl k;
+}
+  where
+    runs_still : RunsImage hw slots → RunsImage hw (after_raise hw slots)
+    runs_still (inl none) = inl none
+    runs_still (inr valid) = inr (still_valid slots.running hw slots.formats slots.version valid)
+
+-- ---- a device
+
+-- its configuration stays, and its slots stay sound
+record Keeps (d e : DeviceState) : Type 0 where
+  config : e.config ≡ d.config
+  slots : IsSound d.config.hw d.slots → IsSound d.config.hw e.slots
+
+same : (d e : DeviceState) → e.config ≡ d.config → e.slots ≡ d.slots → Keeps d e
+same d e config slots = record {
+  config = config;
+  slots = λ k. subst (IsSound d.config.hw) (sym slots) k;
+}
+
+keeps_on : (d e f : DeviceState) → Keeps d e → Keeps e f → Keeps d f
+keeps_on d e f one more = record {
+  config = more.config ∙ one.config;
+  slots = λ k. subst (λ (x : DeviceConfig). IsSound x.hw f.slots) one.config
+      (more.slots (subst (λ (x : DeviceConfig). IsSound x.hw e.slots) (sym one.config) (one.slots k)));
+}
+
+device_by : (d e f : DeviceState) (b : Bool) → Keeps d e → Keeps d f → Keeps d (cond b e f)
+device_by d e f true k l = k
+device_by d e f false k l = l
+
+step_by : (d : DeviceState) (b : Bool) (one other : DeviceStep) → Keeps d one.device → Keeps d other.device
+    → Keeps d (cond {A = DeviceStep} b one other).device
+step_by d true one other k l = k
+step_by d false one other k l = l
+
+outcome_by : {A : Type 0} (d : DeviceState) (b : Bool) (one other : Outcome A) → Keeps d one.device → Keeps d other.device
+    → Keeps d (cond {A = Outcome A} b one other).device
+outcome_by d true one other k l = k
+outcome_by d false one other k l = l
+
+-- ---- commands
+
+sync_keeps : (at : Arrival) (d : DeviceState) (cmd : SyncCmd) → Keeps d (command_step at d (Sync cmd)).device
+unfolding command_step answer_step periodicity_step resync_step version_step upgrade_step delete_image_step
+    reboot_time_step countdown_step
+sync_keeps at d s.PackageVersionReq = same d _ refl refl
+sync_keeps at d (s.DevDeleteImageReq version) = record {
+  config = refl;
+  slots = λ k. deleted d.config.hw version d.slots k;
+}
+sync_keeps at d cmd = same d _ refl refl
+
+offers_keep : (hw : ℕ) (b : Bool) (file : Option (List ℕ)) (slots : Slots) → IsSound hw slots
+    → IsSound hw (slots_after hw b file slots)
+offers_keep hw false (Some file) slots k = offered hw file slots k
+offers_keep hw false None slots k = k
+offers_keep hw true file slots k = k
+
+fragment_keeps : (at : Arrival) (d : DeviceState) (index n : ℕ) (part : List ℕ)
+    → Keeps d (fragment_step at d index n part).device
+unfolding fragment_step heard_step
+fragment_keeps at d index n part = device_by d _ _ _
+    (record { config = refl; slots = λ k. offers_keep d.config.hw _ _ d.slots k })
+    (same d _ refl refl)
+
+cast_keeps : (at : Arrival) (d : DeviceState) (cmd : CastCmd) → Keeps d (command_step at d (Cast cmd)).device
+unfolding command_step setup_step delete_step status_step groups_step group_setup_step group_delete_step class_session_step
+cast_keeps at d c.PackageVersionReq = same d _ refl refl
+cast_keeps at d (c.DataFragment index n part) = fragment_keeps at d index n part
+cast_keeps at d (c.McGroupSetupReq id addr key min max) =
+    step_by d _ _ _ (same d _ refl refl) (same d _ refl refl)
+cast_keeps at d (c.McGroupDeleteReq id) = step_by d _ _ _ (same d _ refl refl) (same d _ refl refl)
+cast_keeps at d cmd = same d _ refl refl
+
+command_keeps : (at : Arrival) (d : DeviceState) (x : Command) → Keeps d (command_step at d x).device
+command_keeps at d (Sync cmd) = sync_keeps at d cmd
+command_keeps at d (Cast cmd) = cast_keeps at d cmd
+
+acted_keeps : (at : Arrival) (d : DeviceState) (x : Command) → Keeps d (after_answers (step at d x))
+unfolding after_answers step
+acted_keeps at d x =
+    let k = step_by d (acts at.via x) (command_step at d x) (record { device = d; answers = [] }) (command_keeps at d x)
+    (same d d refl refl) in
+    record { config = k.config; slots = k.slots }
+
+commands_keep : (at : Arrival) (cs : List Command) (d : DeviceState) → Keeps d (after_commands at d cs)
+unfolding after_commands
+commands_keep at [] d = same d d refl refl
+commands_keep at (x ∷ cs) d =
+    keeps_on d _ _ (acted_keeps at d x) (commands_keep at cs (after_answers (step at d x)))
+
+-- ---- calls
+
+reboot_keeps : (t : ℕ) (d : DeviceState) → Keeps d (after_due_reboot t d)
+unfolding after_due_reboot
+reboot_keeps t d = device_by d _ _ _
+    (record { config = refl; slots = λ k. swapped d.config.hw d.slots k })
+    (same d d refl refl)
+
+message_keeps : (at : Arrival) (d : DeviceState) (cs : List Command) → Keeps d (message_delivery at d cs).device
+unfolding message_delivery
+message_keeps at d cs = outcome_by {A = Delivered} d _ _ _ (same d _ refl refl) (commands_keep at cs d)
+
+read_keeps : (at : Arrival) (d : DeviceState) (r : Reading) → Keeps d (read_delivery at d r).device
+unfolding read_delivery
+read_keeps at d (Ok cs) = message_keeps at d cs
+read_keeps at d (Err refusal) = same d _ refl refl
+
+heard_keeps : (t word mark : ℕ) (down : Downlink) (d : DeviceState) → Keeps d (heard_delivery t word mark down d).device
+unfolding heard_delivery
+heard_keeps t word mark down d = outcome_by {A = Delivered} d _ _ _
+    (read_keeps (arrival t word mark down d) d (reading_of down.port Down down.payload))
+    (same d _ refl refl)
+
+between : {A : Type 0} (t : ℕ) (d : DeviceState) (o : Outcome A) → Keeps (after_due_reboot t d) o.device
+    → Keeps d (with_due_reboot t o).device
+between t d o k = keeps_on d _ _ (keeps_on d _ _ (reboot_keeps t d) k) (reboot_keeps t o.device)
+
+delivery_keeps : (t word mark : ℕ) (down : Downlink) (d : DeviceState) → Keeps d (delivery t word mark down d).device
+unfolding delivery
+delivery_keeps t word mark down d =
+    let start = after_due_reboot t d in
+    between t d (heard_delivery t word mark down start) (heard_keeps t word mark down start)
+
+asking_keeps : (t : ℕ) (d : DeviceState) → Keeps d (time_asking t d).device
+unfolding time_asking after_answers
+asking_keeps t d =
+    outcome_by {A = Result (Unit {0}) outbox.OutboxFull} d _ _ _ (same d _ refl refl) (same d _ refl refl)
+
+waking_keeps : (t : ℕ) (d : DeviceState) → Keeps d (waking t d).device
+unfolding waking
+waking_keeps t d =
+    let start = after_due_reboot t d in
+    between t d (time_asking t start) (asking_keeps t start)
+
+take_by : (d : DeviceState) (held : List Uplink) → Keeps d (taking (record d { outbox = held })).device
+take_by d [] = same d _ refl refl
+take_by d (oldest ∷ others) = same d _ refl refl
+
+migration_keeps : (d : DeviceState) → Keeps d (after_migration d)
+unfolding after_migration
+migration_keeps d = record { config = refl; slots = λ k. raised d.config.hw d.slots k }
+
+call_keeps : (d : DeviceState) (call : Call) → Keeps d (after_call d call)
+call_keeps d (Delivers t word mark down) = delivery_keeps t word mark down d
+call_keeps d (Awakes t) = waking_keeps t d
+call_keeps d Takes = take_by d d.outbox
+call_keeps d Raises = migration_keeps d
+
+calls_keep : (d : DeviceState) (calls : List Call) → Keeps d (after_calls d calls)
+calls_keep d [] = same d d refl refl
+calls_keep d (call ∷ calls) = keeps_on d _ _ (call_keeps d call) (calls_keep (after_call d call) calls)
+
+-- ---- events
+
+emptied : (d e : DeviceState) → Keeps d e → Keeps d (record e { outbox = [] })
+emptied d e k = record { config = k.config; slots = k.slots }
+
+event_keeps : (d : DeviceState) (event : Event) → Keeps d (after_event d event)
+event_keeps d Migrates = emptied d _ (migration_keeps d)
+event_keeps d (Wakes time) = emptied d _ (waking_keeps time d)
+event_keeps d (Receives time word line down) = emptied d _ (delivery_keeps time word line down d)
+
+events_keep : (d : DeviceState) (events : List Event) → Keeps d (after_events d events)
+events_keep d [] = same d d refl refl
+events_keep d (event ∷ events) = keeps_on d _ _ (event_keeps d event) (events_keep (after_event d event) events)
+
+-- ---- from the start
+
+first_sound : (config : DeviceConfig) → IsSound config.hw (first_device config).slots
+first_sound config = record { runs = inl (refl, refl); read = inl refl }
+
+pub runs_images : RunsImagesAlone
+runs_images = record {
+  calls = λ config calls. ((calls_keep (first_device config) calls).slots (first_sound config)).runs;
+  events = λ config events. ((events_keep (first_device config) events).slots (first_sound config)).runs;
+}

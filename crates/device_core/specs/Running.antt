@@ -1,0 +1,52 @@
+-- What a device runs, whatever comes to it (this project's profile).
+use Rattle.std.specs.Prelude.{◌≡◌, ◌⊎◌, ℕ, List, [], ◌∷◌}
+use Rattle.package_grammar.specs.declared.downlink.Downlink.{Downlink}
+use Rattle.image_slots.specs.declared.view.ImageState.TheVariants.{Valid}
+use Rattle.image_slots.specs.Image.{image_state}
+use Rattle.image_slots.specs.Slots.{Slots}
+use Rattle.device_core.specs.declared.config.DeviceConfig.{DeviceConfig}
+use Rattle.device_core.specs.Device.{DeviceState, first_device}
+use Rattle.device_core.specs.Firmware.{after_migration}
+use Rattle.device_core.specs.Deliver.{delivery, waking, taking}
+use Rattle.device_core.specs.Events.{Event, after_event}
+
+-- ---- calls
+
+-- a payload comes, the device wakes, its oldest uplink is taken, or it learns both image formats
+pub data Call : Type 0 where
+  Delivers : (t word mark : ℕ) → Downlink → Call
+  Wakes : (t : ℕ) → Call
+  Takes : Call
+  Raises : Call
+
+abbrev pub after_call : DeviceState → Call → DeviceState
+after_call device (Delivers t word mark down) = (delivery t word mark down device).device
+after_call device (Wakes t) = (waking t device).device
+after_call device Takes = (taking device).device
+after_call device Raises = after_migration device
+
+-- behind one call after another, and behind one event after another
+abbrev pub after_calls : DeviceState → List Call → DeviceState
+after_calls device [] = device
+after_calls device (call ∷ calls) = after_calls (after_call device call) calls
+
+abbrev pub after_events : DeviceState → List Event → DeviceState
+after_events device [] = device
+after_events device (event ∷ events) = after_events (after_event device event) events
+
+-- ---- what runs
+
+-- nothing yet, which is version 0
+abbrev pub RunsNone : Slots → Type 0
+RunsNone slots = (slots.version ≡ 0) × (slots.running ≡ [])
+
+-- nothing, or an image file for this hardware, of a format that is known, with its version
+abbrev pub RunsImage : (hw : ℕ) → Slots → Type 0
+RunsImage hw slots = RunsNone slots ⊎ (image_state slots.running hw slots.formats ≡ Valid slots.version)
+
+-- whatever calls, payloads and moments come to a device of any configuration
+pub record RunsImagesAlone : Type 0 where
+  pub calls : (config : DeviceConfig) (calls : List Call)
+      → RunsImage config.hw (after_calls (first_device config) calls).slots
+  pub events : (config : DeviceConfig) (events : List Event)
+      → RunsImage config.hw (after_events (first_device config) events).slots
