@@ -26,8 +26,9 @@ use Rattle.campaign_server.specs.declared.stage.Stage.TheVariants as stage
 use Rattle.campaign_server.specs.declared.stage.Stage.TheVariants.{Updated, Refused}
 use Rattle.campaign_server.specs.declared.stage.Request.{Request}
 use Rattle.campaign_server.specs.declared.stage.Request.TheVariants as request
-use Rattle.campaign_server.specs.Plan.{Plan, session_index, group_id}
+use Rattle.campaign_server.specs.Plan.{Plan, session_index, own_id}
 use Rattle.campaign_server.specs.Server.{ServerState, DownlinkCommand, port_of, ledger}
+use Rattle.wire_base.specs.Numbers.{flag_value}
 use Rattle.wire_base.specs.Numbered.{numbered}
 use Rattle.clock_sync.specs.Clock.{correction_of, is_answer_needed}
 use Rattle.package_grammar.specs.declared.downlink.To.{To}
@@ -36,7 +37,7 @@ use Rattle.campaign_server.specs.declared.fragments.Spent.TheVariants.{Fragments
 use Rattle.campaign_server.specs.Asking.{group_request, window_request_of, window_request, cast_of, request_at, command_for, by_unicast, request_of}
 use Rattle.campaign_server.specs.Fragments.{receivers, has_no_count, next_fragment, status_to_all}
 use Rattle.campaign_server.specs.Time.{time_answer_to, first_answer, time_answer}
-use Rattle.campaign_server.specs.Answers.{worth, unless_refused, where_own, after_window, is_class_c, is_class_b, stage_after, stage_after_all}
+use Rattle.campaign_server.specs.Answers.{unless_refused, where_own, after_window, is_class_c, is_class_b, stage_after, stage_after_all}
 use Rattle.campaign_laws.proofs.HeadlineCommands.{Cut, IsSentOf, IsCut, IsGood, setup_good, fragment_good, status_good, good_read, sync_high}
 use Rattle.campaign_laws.proofs.LedgerDevices.{IsCalmCast, IsCalm, IsOneOf, IsAskedOfFirmware, ComesOn, ReadsAs}
 use Rattle.campaign_laws.proofs.LedgerSlots.{Tells}
@@ -64,9 +65,9 @@ asked_not : (own told bits : ℕ) (r next : Request)
 asked_not own told bits r next is =
     own_not own told r (unless_refused r bits (stage.At next)) (unless_not r bits (stage.At next) (not_at next)) is
 
-window_not : (own : Bool) (id bits : ℕ) → after_window own id bits ≡ Updated → ⊥
-window_not true id bits is = asked_not group_id id bits request.Window request.Status is
-window_not false id bits is = not_at request.Window is
+window_not : (plan : Plan) (own : Bool) (id bits : ℕ) → after_window plan own id bits ≡ Updated → ⊥
+window_not plan true id bits is = asked_not (own_id plan.group) id bits request.Window request.Status is
+window_not plan false id bits is = not_at request.Window is
 
 -- the answer that tells the image's version
 abbrev IsVersionOf : List ℕ → Command → Type 0
@@ -92,7 +93,7 @@ group_moves : (plan : Plan) (image : List ℕ) (x : Command)
     → stage_after plan image (stage.At request.Group) x ≡ Updated → ⊥
 unfolding stage_after
 group_moves plan image (Cast (c.McGroupSetupAns id error)) is =
-    asked_not group_id id (worth error 4) request.Group request.Fragments is
+    asked_not (own_id plan.group) id (flag_value error 4) request.Group request.Fragments is
 group_moves plan image (Sync cmd) is = not_at request.Group is
 group_moves plan image (Cast cmd) is = not_at request.Group is
 
@@ -100,7 +101,7 @@ fragments_moves : (plan : Plan) (image : List ℕ) (x : Command)
     → stage_after plan image (stage.At request.Fragments) x ≡ Updated → ⊥
 unfolding stage_after
 fragments_moves plan image (Cast (c.FragSessionSetupAns index descriptor unsupported memory encoding)) is =
-    asked_not session_index index (worth descriptor 8 + worth unsupported 4 + worth memory 2 + worth encoding 1)
+    asked_not (session_index plan) index (flag_value descriptor 8 + flag_value unsupported 4 + flag_value memory 2 + flag_value encoding 1)
     request.Fragments (cond (is_some plan.group) request.Window request.Status) is
 fragments_moves plan image (Sync cmd) is = not_at request.Fragments is
 fragments_moves plan image (Cast cmd) is = not_at request.Fragments is
@@ -109,9 +110,9 @@ window_moves : (plan : Plan) (image : List ℕ) (x : Command)
     → stage_after plan image (stage.At request.Window) x ≡ Updated → ⊥
 unfolding stage_after
 window_moves plan image (Cast (c.McClassCSessionAns id undefined freq dr start)) is =
-    window_not (is_class_c plan.window) id (worth undefined 16 + worth freq 8 + worth dr 4) is
+    window_not plan (is_class_c plan.window) id (flag_value undefined 16 + flag_value freq 8 + flag_value dr 4) is
 window_moves plan image (Cast (c.McClassBSessionAns id undefined freq dr start)) is =
-    window_not (is_class_b plan.window) id (worth undefined 16 + worth freq 8 + worth dr 4) is
+    window_not plan (is_class_b plan.window) id (flag_value undefined 16 + flag_value freq 8 + flag_value dr 4) is
 window_moves plan image (Sync cmd) is = not_at request.Window is
 window_moves plan image (Cast cmd) is = not_at request.Window is
 
@@ -119,7 +120,7 @@ status_moves : (plan : Plan) (image : List ℕ) (x : Command)
     → stage_after plan image (stage.At request.Status) x ≡ Updated → ⊥
 unfolding stage_after
 status_moves plan image (Cast (c.FragSessionStatusAns index received missing norows)) is =
-    asked_not session_index index (worth norows 1) request.Status
+    asked_not (session_index plan) index (flag_value norows 1) request.Status
     (cond (missing == 0) request.Image request.Status) is
 status_moves plan image (Sync cmd) is = not_at request.Status is
 status_moves plan image (Cast cmd) is = not_at request.Status is

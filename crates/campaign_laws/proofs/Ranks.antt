@@ -8,8 +8,9 @@ use Rattle.package_grammar.specs.declared.command.Command.TheVariants.{Sync, Cas
 use Rattle.campaign_server.specs.declared.stage.Stage.{Stage}
 use Rattle.campaign_server.specs.declared.stage.Stage.TheVariants.{At, Updated, Refused}
 use Rattle.campaign_server.specs.declared.stage.Request.TheVariants.{Version, Group, Fragments, Window, Status, Image, Reboot, Check}
-use Rattle.campaign_server.specs.Plan.{Plan}
-use Rattle.campaign_server.specs.Answers.{worth, is_class_b, is_class_c, stage_after, stage_after_all}
+use Rattle.campaign_server.specs.Plan.{Plan, own_id}
+use Rattle.wire_base.specs.Numbers.{flag_value}
+use Rattle.campaign_server.specs.Answers.{is_class_b, is_class_c, stage_after, stage_after_all}
 use Rattle.campaign_laws.specs.Once.{rank, last_moved, PastMovesNone}
 
 -- the first answer of all: it may come again where the version is checked
@@ -49,8 +50,8 @@ group_leads : (plan : Plan) (image : List ℕ) (id : ℕ) (error : Bool) → Lea
 unfolding stage_after
 group_leads plan image id error =
     let x : Command = Cast (c.McGroupSetupAns id error) in
-    either (At Group) x (id == 0) _ (At Group)
-    (either (At Group) x (worth error 4 == 0) (At Fragments) (Refused Group (worth error 4)) (on (At Group) x (At Fragments) (lit< tt) (lit≤ tt) (lit< tt)) (on (At Group) x (Refused Group (worth error 4)) (lit< tt) (lit≤ tt) (lit< tt)))
+    either (At Group) x (id == own_id plan.group) _ (At Group)
+    (either (At Group) x (flag_value error 4 == 0) (At Fragments) (Refused Group (flag_value error 4)) (on (At Group) x (At Fragments) (lit< tt) (lit≤ tt) (lit< tt)) (on (At Group) x (Refused Group (flag_value error 4)) (lit< tt) (lit≤ tt) (lit< tt)))
     (inl refl)
 
 setup_leads : (plan : Plan) (image : List ℕ) (index : ℕ) (d u m e : Bool)
@@ -58,7 +59,7 @@ setup_leads : (plan : Plan) (image : List ℕ) (index : ℕ) (d u m e : Bool)
 unfolding stage_after
 setup_leads plan image index d u m e =
     let x : Command = Cast (c.FragSessionSetupAns index d u m e) in
-    let bits : ℕ = worth d 8 + worth u 4 + worth m 2 + worth e 1 in
+    let bits : ℕ = flag_value d 8 + flag_value u 4 + flag_value m 2 + flag_value e 1 in
     either (At Fragments) x (index == 0) _ (At Fragments)
     (either (At Fragments) x (bits == 0) (At (cond (is_some plan.group) Window Status)) (Refused Fragments bits) (next (is_some plan.group)) (on (At Fragments) x (Refused Fragments bits) (lit< tt) (lit≤ tt) (lit< tt)))
     (inl refl)
@@ -68,11 +69,11 @@ setup_leads plan image index d u m e =
     next false = on (At Fragments) (Cast (c.FragSessionSetupAns index d u m e)) (At Status) (lit< tt) (lit≤ tt) (lit< tt)
 
 -- both classes alike
-window_leads : (x : Command) (own : Bool) (id bits : ℕ) → last_moved x ≡ 3
-    → Leads (At Window) x (cond own (cond (id == 0) (cond (bits == 0) (At Status) (Refused Window bits)) (At Window)) (At Window))
-window_leads x own id bits is =
+window_leads : (x : Command) (own : Bool) (ours id bits : ℕ) → last_moved x ≡ 3
+    → Leads (At Window) x (cond own (cond (id == ours) (cond (bits == 0) (At Status) (Refused Window bits)) (At Window)) (At Window))
+window_leads x own ours id bits is =
     either (At Window) x own _ (At Window)
-    (either (At Window) x (id == 0) _ (At Window)
+    (either (At Window) x (id == ours) _ (At Window)
     (either (At Window) x (bits == 0) (At Status) (Refused Window bits) (on (At Window) x (At Status) (lit< tt) (omega (arith, is)) (omega (arith, is))) (on (At Window) x (Refused Window bits) (lit< tt) (omega (arith, is)) (omega (arith, is))))
     (inl refl))
     (inl refl)
@@ -83,7 +84,7 @@ unfolding stage_after
 status_leads plan image index received missing norows =
     let x : Command = Cast (c.FragSessionStatusAns index received missing norows) in
     either (At Status) x (index == 0) _ (At Status)
-    (either (At Status) x (worth norows 1 == 0) (At (cond (missing == 0) Image Status)) (Refused Status (worth norows 1)) (next (missing == 0)) (on (At Status) x (Refused Status (worth norows 1)) (lit< tt) (lit≤ tt) (lit< tt)))
+    (either (At Status) x (flag_value norows 1 == 0) (At (cond (missing == 0) Image Status)) (Refused Status (flag_value norows 1)) (next (missing == 0)) (on (At Status) x (Refused Status (flag_value norows 1)) (lit< tt) (lit≤ tt) (lit< tt)))
     (inl refl)
   where
     next : (b : Bool) → Leads (At Status) (Cast (c.FragSessionStatusAns index received missing norows)) (At (cond b Image Status))
@@ -129,9 +130,9 @@ at_fragments plan image (Cast cmd) = inl refl
 at_window : (plan : Plan) (image : List ℕ) (x : Command) → Leads (At Window) x (stage_after plan image (At Window) x)
 unfolding stage_after
 at_window plan image (Cast (c.McClassCSessionAns id undefined freq dr start)) =
-    window_leads (Cast (c.McClassCSessionAns id undefined freq dr start)) (is_class_c plan.window) id (worth undefined 16 + worth freq 8 + worth dr 4) refl
+    window_leads (Cast (c.McClassCSessionAns id undefined freq dr start)) (is_class_c plan.window) (own_id plan.group) id (flag_value undefined 16 + flag_value freq 8 + flag_value dr 4) refl
 at_window plan image (Cast (c.McClassBSessionAns id undefined freq dr start)) =
-    window_leads (Cast (c.McClassBSessionAns id undefined freq dr start)) (is_class_b plan.window) id (worth undefined 16 + worth freq 8 + worth dr 4) refl
+    window_leads (Cast (c.McClassBSessionAns id undefined freq dr start)) (is_class_b plan.window) (own_id plan.group) id (flag_value undefined 16 + flag_value freq 8 + flag_value dr 4) refl
 at_window plan image (Sync cmd) = inl refl
 at_window plan image (Cast cmd) = inl refl
 

@@ -28,7 +28,6 @@ use Rattle.device_core.specs.Deliver.{via_of}
 use Rattle.campaign_server.specs.declared.stage.Stage.{Stage}
 use Rattle.campaign_server.specs.Server.{ServerState, DownlinkCommand, ledger, downlink_of}
 use Rattle.wire_base.specs.Numbered.{numbered}
-use Rattle.campaign_server.specs.Plan.{session_index}
 use Rattle.campaign_server.specs.Asking.{mask_of, fragments_request}
 use Rattle.script_lines.specs.declared.forms.Class.{Class}
 use Rattle.script_lines.specs.declared.forms.Class.TheVariants as class
@@ -121,9 +120,9 @@ abbrev pub Brings : (image : List ℕ) → List (List ℕ) → List SentPayload 
 Brings image lines sent id n command = (to : To) × (world : WorldState) × (device : DeviceState)
     × Delivers lines sent id n (record { to = to; command = command }) × Listens image lines id n to world device
 
--- the line whose number is the fragment's mark brings it
+-- the line whose number is the fragment's mark brings it: the session of a campaign has index 0
 abbrev pub WasBrought : (image : List ℕ) → List (List ℕ) → List SentPayload → (id : ℕ) → Fragment → Type 0
-WasBrought image lines sent id f = Brings image lines sent id f.mark (Cast (DataFragment session_index f.number f.part))
+WasBrought image lines sent id f = Brings image lines sent id f.mark (Cast (DataFragment 0 f.number f.part))
 
 -- each fragment was brought up to this line, those heard before it at lines before its own, and the setup before them all
 abbrev pub CameInOrder : (image : List ℕ) → List (List ℕ) → List SentPayload → (id : ℕ) → Command → ℕ → List Fragment → Type 0
@@ -161,7 +160,7 @@ pub record IsRecovered (image : List ℕ) (s : Session) : Type 0 where
 -- the report in which this is said of the verdict of the one session of device id
 abbrev pub report_saying : WorldState → (id : ℕ) → Stage → DeviceState → Seen → List ℕ → List ℕ
 report_saying world id stage device seen words =
-    report_over world id stage device (session_text session_index seen.received seen.missing words)
+    report_over world id stage device (session_text 0 seen.received seen.missing words)
 
 -- what is said of a session that is complete from a line on, with the server's image as its file
 abbrev pub complete_words : ℕ → List ℕ

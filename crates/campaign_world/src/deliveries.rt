@@ -9,18 +9,9 @@ ghost use Rattle.campaign_world.specs.WorldInside.{StayMade};
 ghost use Rattle.device_core.specs.HeldDevice.{DeviceStands};
 
 use crate::numbered::MadeUplink;
-use device_core::Device;
+use device_core::{Device, Moment};
 use package_grammar::Downlink;
 use std::alloc::AllocError;
-
-/// A payload comes to a device: when, and with which random word and mark.
-#[derive(Clone, Copy, Debug, PartialEq, Eq)]
-pub struct Coming {
-    /// ms of true time.
-    pub t: u64,
-    pub word: u32,
-    pub mark: u64,
-}
 
 /// Uplinks that a device holds at most, and so those that one event can make.
 const OUTBOX: usize = 8;
@@ -40,7 +31,7 @@ pub fn deliver(
     uplinks: &mut Vec<MadeUplink>,
     id: u8,
     down: &Downlink,
-    coming: Coming,
+    coming: Moment,
 ) -> Result<(), AllocError>
     requires first { 1 ≤ id }
     requires last { id ≤ length devices.old.items }
@@ -105,7 +96,7 @@ fn reach(
     uplinks: &mut Vec<MadeUplink>,
     id: u8,
     down: &Downlink,
-    coming: Coming,
+    coming: Moment,
 )
     requires first { 1 ≤ id }
     requires moment { coming.t ≤ max_moment }

@@ -17,10 +17,11 @@ ghost use Rattle.campaign_world.specs.declared.numbered.SentPayload.{SentPayload
 ghost use Rattle.campaign_world.specs.declared.numbered.MadeUplink.{MadeUplink};
 
 use super::World;
-use crate::deliveries::{Coming, deliver, migrate, wake};
+use crate::deliveries::{deliver, migrate, wake};
 use crate::numbered::{MadeUplink, SentPayload, numbered};
 use crate::section::Section;
 use campaign_server::{Plan, Server, ServerError};
+use device_core::Moment;
 use package_grammar::{Downlink, To};
 use script_lines::{Form, HexBytes, MAX_HEX_BYTES};
 use std::alloc::{AllocError, Global};
@@ -242,7 +243,7 @@ impl World {
     {
         self.section = Section::Events;
         let mark = mark_behind(self.lines);
-        let coming = Coming {
+        let coming = Moment {
             t: self.time,
             word,
             mark,
@@ -274,7 +275,7 @@ impl World {
     {
         self.section = Section::Events;
         let mark = mark_behind(self.lines);
-        let coming = Coming {
+        let coming = Moment {
             t: self.time,
             word,
             mark,
