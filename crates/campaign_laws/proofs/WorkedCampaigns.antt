@@ -32,7 +32,13 @@ use Rattle.campaign_world.specs.Causes.{form_cause, cause_of}
 use Rattle.campaign_world.specs.Making.{with_device, after_form}
 use Rattle.campaign_world.specs.Script.{after_line, read_line, read_lines, campaign_of}
 use Rattle.campaign_world.specs.Report.{device_parts, report_of}
-use Rattle.campaign_laws.specs.WorkedCampaigns.{AreReported, AreRefused}
+use Rattle.row_elimination.specs.Room.{has_room, words_for}
+use Rattle.frag_model.specs.Verdict.{verdict, missing}
+use Rattle.frag_session.specs.Setup.{setup_bits, wrong_coding, too_large, other_descriptor, same_setup, lives}
+use Rattle.frag_session.specs.Session.{new_session, renewed, after_setup, excludes, cause_of as session_cause, drop_cause, followed, after_fragment as session_after_fragment, shape_of, shown_verdict, shown_file, seen_of}
+use Rattle.device_core.specs.Fragments.{setup_step, fragment_step, heard_step}
+use Rattle.campaign_world.specs.Summary.{with_device as with_counted, totals_from}
+use Rattle.campaign_laws.specs.WorkedCampaigns.{AreReported, AreRefused, AreCauses, AreSessions, AreCounted}
 
 pub refused_so : AreRefused
 unfolding campaign_of read_lines read_line after_line cause_of form_cause in_range after_form with_device lines_of words_of word decimal_of key_of hex_number_of hex_bytes_of decode_pairs form_of next_fragment after_fragment status_to_all after_status_to_all request_of request_at
@@ -79,3 +85,23 @@ reported_so = record {
   group = refl;
   strangers = refl;
 }
+
+pub causes_so : AreCauses
+unfolding campaign_of read_lines read_line after_line cause_of form_cause in_range after_form with_device lines_of words_of word decimal_of key_of hex_number_of hex_bytes_of decode_pairs form_of next_fragment after_fragment status_to_all after_status_to_all request_of request_at
+causes_so = record {
+  order_before_range = refl;
+  range_before_device = refl;
+  device_before_unsent = refl;
+  longest_line = refl;
+  long_line = refl;
+  last_line = refl;
+  many_lines = refl;
+}
+
+pub sessions_so : AreSessions
+unfolding digits int_wrap campaign_of read_lines read_line after_line cause_of form_cause in_range after_form with_device report_of device_parts view_of lines_of words_of word decimal_of key_of hex_number_of hex_bytes_of decode_pairs form_of next_fragment after_fragment status_to_all after_status_to_all request_of request_at is_for lowest_of highest_of further format_of firmware_of number_at uplink_step read_uplink reading_of read_from command_at named_at stop_at is_known sync.is_known sync.samples cast.is_known cast.samples clock_up clock_down firmware_up firmware_down fragment_up fragment_down group_up group_down stage_after_all stage_after time_answer delivery heard_delivery read_delivery message_delivery after_due_reboot after_migration after_raise after_swap hears is_after_uplink after_commands step command_step after_answers answer_step version_step waking time_asking verdict missing shape_of shown_verdict shown_file seen_of setup_bits wrong_coding too_large other_descriptor has_room words_for new_session renewed after_setup same_setup lives excludes session_cause drop_cause followed session_after_fragment setup_step fragment_step heard_step
+sessions_so = record { two = refl }
+
+pub counted_so : AreCounted
+unfolding digits totals_from with_counted verdict missing shape_of shown_verdict shown_file seen_of view_of
+counted_so = record { counts = refl }

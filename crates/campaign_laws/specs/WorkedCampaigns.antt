@@ -1,12 +1,21 @@
 -- Campaigns worked out: their reports, and the first refused lines of scripts.
-use Rattle.std.specs.Prelude.{◌≡◌, ℕ, true, false, List, [], ◌∷◌, ◌++◌, map, replicate, codes, Some, Result, Ok, Err}
+use Rattle.std.specs.Prelude.{◌≡◌, ℕ, true, false, List, [], ◌∷◌, ◌++◌, map, replicate, codes, None, Some, Result, Ok, Err}
+use Rattle.frag_model.specs.Fragments.{Fragment}
+use Rattle.frag_session.specs.Session.{Session}
+use Rattle.device_core.specs.Device.{DeviceState}
+use Rattle.campaign_server.specs.declared.stage.Stage.TheVariants.{At, Updated}
+use Rattle.campaign_server.specs.declared.stage.Request.TheVariants as request
+use Rattle.campaign_server.specs.Server.{ServerState, first_server}
+use Rattle.script_lines.specs.declared.forms.Class.TheVariants as class
 use Rattle.image_slots.specs.WorkedImages.{worked_image, ranged_image}
 use Rattle.report_lines.specs.declared.faults.LineFault.{LineFault}
 use Rattle.report_lines.specs.declared.faults.LineWhy.{LineWhy}
 use Rattle.report_lines.specs.declared.faults.LineWhy.TheVariants as why
-use Rattle.campaign_world.specs.World.{WorldState}
-use Rattle.campaign_world.specs.Causes.{is_due_by}
+use Rattle.campaign_world.specs.World.{WorldState, first_plan, first_world}
+use Rattle.campaign_world.specs.Causes.{is_due_by, cause_of}
 use Rattle.campaign_world.specs.Script.{campaign_of}
+use Rattle.campaign_world.specs.Summary.{summary_with}
+use Rattle.campaign_world.specs.Making.{device_of}
 use Rattle.campaign_world.specs.Report.{report_of}
 
 abbrev pub report_or_fault : Result WorldState LineFault → Result (List ℕ) LineFault
@@ -111,3 +120,50 @@ pub record AreRefused : Type 0 where
   -- an uplink comes when it is due, and not before
   pub due : is_due_by 6 (Some (record { device = 1; uplink = record { due = 6; port = 202; payload = [] } })) ≡ true
   pub not_due : is_due_by 5 (Some (record { device = 1; uplink = record { due = 6; port = 202; payload = [] } })) ≡ false
+
+-- ---- the causes in their order, and the limits of a line
+
+pub record AreCauses : Type 0 where
+  -- order before range
+  pub order_before_range : told (one_device (codes "image 240 0\n")) ≡ refused 4 why.Order
+  -- range before device, device before unsent, and unsent before time and limit
+  pub range_before_device : told (one_device (codes "down 1 2 4294967296\n")) ≡ refused 4 why.Range
+  pub device_before_unsent : told (one_device (codes "down 9 2\n")) ≡ refused 4 why.Device
+  -- a line of 601 bytes and line 20,001 are refused for that, whatever they say
+  pub longest_line : cause_of (first_world worked_image) (replicate 600 48) ≡ Some why.Syntax
+  pub long_line : cause_of (first_world worked_image) (replicate 601 48) ≡ Some why.Limit
+  pub last_line : cause_of (record (first_world worked_image) { lines = 19999 }) (codes "fuota 1") ≡ None
+  pub many_lines : cause_of (record (first_world worked_image) { lines = 20000 }) (codes "fuota 1") ≡ Some why.Limit
+
+-- ---- two sessions of a stranger's, and what a summary counts
+
+-- device 2 of three is set up by anybody, with a session of index 1 that completes and one of index 3 that does not
+abbrev pub strangers_sessions : List ℕ
+strangers_sessions = codes
+    "fuota 1\nimage 13 0\ndevice 1 c 1 0 0 00000000000000000000000000000000\ndevice 2 c 1 0 0 00000000000000000000000000000000\ndevice 3 c 1 0 0 00000000000000000000000000000000\nraw 2 201 0210010001000000000000\nraw 2 201 0801405a\nraw 2 201 0230010001000000000000\nraw 2 201 08014000\nend\n"
+
+pub record AreSessions : Type 0 where
+  pub two : told strangers_sessions ≡ reported (codes
+      "fuota report 1\nimage 52 fragments 4 size 13 padding 0 parity 0\ndevice 1 version clock 0 token 0 running 0 next none\ncounts deaf 0 refused 0 full 0 dropped 0\ndevice 2 version clock 0 token 0 running 0 next corrupt\ncounts deaf 0 refused 0 full 0 dropped 0\nsession 1 received 2 missing 0 complete at 7 other\nsession 3 received 0 missing 1 receiving\ndevice 3 version clock 0 token 0 running 0 next none\ncounts deaf 0 refused 0 full 0 dropped 0\nend\n")
+
+-- a session 0 that heard its one piece, at a device that runs the image, as the server knows, and one that heard nothing
+abbrev pub whole_session : Session
+whole_session = record {
+  setup = record { index = 0; mask = 0; nb_frag = 1; frag_size = 1; algo = 0; delay = 0; padding = 0; descriptor = 0 };
+  rows = 0;
+  heard = record { number = 1; part = 0x5a ∷ []; mark = 9 } ∷ record { number = 1; part = 0x5a ∷ []; mark = 8 } ∷ [];
+}
+
+abbrev pub counted_device : List Fragment → DeviceState
+counted_device heard =
+    let device = device_of class.C 1 0 0 [] None false in
+    record device { sessions = record device.sessions { first = Some (record whole_session { heard = heard }) } }
+
+abbrev pub counted_server : ServerState
+counted_server = record (first_server worked_image (record first_plan { frag_size = 13 })) {
+  stages = Updated ∷ At request.Status ∷ At request.Status ∷ [];
+}
+
+pub record AreCounted : Type 0 where
+  pub counts : summary_with counted_server 7 (counted_device whole_session.heard ∷ counted_device [] ∷ counted_device whole_session.heard ∷ [])
+      ≡ codes "image 52 fragments 4\nsent 7 heard 4\ncomplete 2 updated 1\nend\n"

@@ -6,7 +6,7 @@ ghost use Rattle.campaign_laws.specs.Independence.{DevicesAreIndependent};
 ghost use Rattle.campaign_laws.specs.Ledger.{TheLedgerIsTrue};
 ghost use Rattle.campaign_laws.specs.Recovers.{RecoversTheImage, RecoversItsOwn};
 ghost use Rattle.campaign_laws.specs.Verdicts.{Verdicts};
-ghost use Rattle.campaign_laws.specs.WorkedCampaigns.{AreRefused, AreReported};
+ghost use Rattle.campaign_laws.specs.WorkedCampaigns.{AreCauses, AreCounted, AreRefused, AreReported, AreSessions};
 ghost use Rattle.campaign_laws.specs.Accepted.{AllSeedsHaveCampaigns};
 ghost use Rattle.campaign_laws.specs.Once.{MovesOnce, PastMovesNone};
 
@@ -41,10 +41,14 @@ pub fn sessions_live()
     ensures { SessionsLive }
 {}
 
-/// Campaigns that are worked out have these reports, and these first refused lines.
+/// Campaigns that are worked out have these reports, with two sessions of one device among them, and these first refused lines,
+/// each by its first cause; and what a summary counts.
 pub fn worked_campaigns()
     ensures reported { AreReported }
     ensures refused { AreRefused }
+    ensures causes { AreCauses }
+    ensures sessions { AreSessions }
+    ensures counted { AreCounted }
 {}
 
 /// Whatever image and accepted script there are: the record of each device is its own first one, behind the events of the

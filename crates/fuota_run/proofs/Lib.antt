@@ -14,3 +14,4 @@ pub mod ReplayAnswered
 pub mod BehindScript
 pub mod ReadOn
 pub mod NeverFailing
+pub mod WorkedAnswers

@@ -12,3 +12,4 @@ pub mod Hearing
 pub mod Replies
 pub mod Exit
 pub mod Headline
+pub mod WorkedAnswers

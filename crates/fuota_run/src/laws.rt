@@ -2,6 +2,7 @@
 
 ghost use Rattle.fuota_run.specs.Answer.{HasAReply, HasOneReply};
 ghost use Rattle.fuota_run.specs.Forms.{NamesAreWords, OtherCountsAreNone, WordsAreForms};
+ghost use Rattle.fuota_run.specs.WorkedAnswers.{AreAnswers};
 ghost use Rattle.fuota_run.specs.Headline.{IsRecoveryAnswered, IsReplayAnswered, IsReportAnswered, IsSeedAnswered};
 
 /// Whatever image and accepted script are handed in, the answer is the report of that campaign, of which the headline of
@@ -47,4 +48,9 @@ pub fn other_counts_are_no_forms()
 /// The names of the files that are asked for are among the words, and a run needs no others to be held.
 pub fn names_are_words()
     ensures { NamesAreWords }
+{}
+
+/// Answers that are worked out are these: the number of each status, and what is written with it.
+pub fn worked_answers()
+    ensures { AreAnswers }
 {}

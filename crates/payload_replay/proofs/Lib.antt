@@ -5,3 +5,4 @@ pub mod ReplaySessions
 pub mod ReplayExact
 pub mod ReplayAll
 pub mod ReplayLaw
+pub mod WorkedTexts

@@ -5,3 +5,4 @@ pub mod HeldDecoding
 pub mod HeldReplaying
 pub mod Carried
 pub mod ReplayHeadline
+pub mod WorkedTexts

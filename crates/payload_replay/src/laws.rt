@@ -3,6 +3,7 @@
 ghost use Rattle.payload_replay.specs.Decode.{HasAnAnswer, HasOneAnswer};
 ghost use Rattle.payload_replay.specs.Replay.{ReplaysAlways, ReplaysOnce};
 ghost use Rattle.payload_replay.specs.ReplayHeadline.{ReplayHeadline};
+ghost use Rattle.payload_replay.specs.WorkedTexts.{AreTexts};
 
 /// Whatever payloads are replayed: each session is what the commands that the lines carry make of it, so it hears nothing
 /// but what they carry, and each fragment since its setup that it has no cause to drop. It is complete from the first
@@ -22,4 +23,9 @@ pub fn replay_has_one_answer()
 pub fn decode_has_one_answer()
     ensures once { HasOneAnswer }
     ensures always { HasAnAnswer }
+{}
+
+/// Texts that are worked out read so: commands and stops of a payload, lines and headers, and a replay with two sessions.
+pub fn worked_texts()
+    ensures { AreTexts }
 {}

@@ -18,5 +18,7 @@ mod replaying;
 mod tests;
 
 pub use decoding::Decoding;
-pub use laws::{decode_has_one_answer, replay_has_one_answer, replay_is_decided_at_first};
+pub use laws::{
+    decode_has_one_answer, replay_has_one_answer, replay_is_decided_at_first, worked_texts,
+};
 pub use replaying::Replaying;

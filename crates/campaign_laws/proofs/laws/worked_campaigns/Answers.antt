@@ -1,4 +1,4 @@
-use Rattle.campaign_laws.proofs.WorkedCampaigns.{reported_so, refused_so}
+use Rattle.campaign_laws.proofs.WorkedCampaigns.{reported_so, refused_so, causes_so, sessions_so, counted_so}
 use Rattle.campaign_laws.proofs.laws.worked_campaigns.Goals as goal
 
 pub returns-clause-reported : goal.returns-clause-reported
@@ -6,3 +6,12 @@ returns-clause-reported c = reported_so
 
 pub returns-clause-refused : goal.returns-clause-refused
 returns-clause-refused c = refused_so
+
+pub returns-clause-causes : goal.returns-clause-causes
+returns-clause-causes c = causes_so
+
+pub returns-clause-sessions : goal.returns-clause-sessions
+returns-clause-sessions c = sessions_so
+
+pub returns-clause-counted : goal.returns-clause-counted
+returns-clause-counted c = counted_so

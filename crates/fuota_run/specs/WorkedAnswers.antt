@@ -1,0 +1,32 @@
+-- Answers worked out: the status that the program ends with, and what is written with it.
+use Rattle.std.specs.Prelude.{◌≡◌, ℕ, codes}
+use Rattle.fuota_run.specs.declared.status.Status.TheVariants as status
+use Rattle.campaign_world.specs.declared.recovery.NoFile.TheVariants as no_file
+use Rattle.report_lines.specs.declared.faults.LineWhy.TheVariants as why
+use Rattle.fuota_run.specs.Limits.{image_limit, script_limit}
+use Rattle.fuota_run.specs.Exit.{exit_code}
+use Rattle.fuota_run.specs.Answer.{answer, usage, image_refused, read_fault, too_long, refused, not_complete}
+
+pub record AreAnswers : Type 0 where
+  -- the numbers of the statuses
+  pub done : exit_code status.Done ≡ 0
+  pub usage_code : exit_code status.Usage ≡ 2
+  pub image_code : exit_code status.ImageRefused ≡ 3
+  pub script_code : exit_code status.ScriptRefused ≡ 4
+  pub read_code : exit_code status.ReadFault ≡ 5
+  pub write_code : exit_code status.WriteFault ≡ 6
+  pub memory_code : exit_code status.Memory ≡ 7
+  pub long_code : exit_code (status.TooLong 65537) ≡ 8
+  pub no_file_code : exit_code status.NotComplete ≡ 9
+  -- what is written
+  pub usage_said : usage ≡ answer status.Usage (codes
+      "usage: fuota campaign IMAGE SCRIPT, recover IMAGE SCRIPT DEVICE, replay FILE, decode PORT DIR FILE, generate SEED\n")
+  pub image_said : image_refused ≡ answer status.ImageRefused (codes "image refused\n")
+  pub fault_said : read_fault ≡ answer status.ReadFault (codes "read fault\n")
+  pub long_image : too_long image_limit ≡ answer (status.TooLong 262145) (codes "too long 262145\n")
+  pub long_script : too_long script_limit ≡ answer (status.TooLong 1048577) (codes "too long 1048577\n")
+  pub line_said : refused (record { line = 5; why = why.Unsent }) ≡ answer status.ScriptRefused (codes "line 5 unsent\n")
+  pub none_said : not_complete 64 no_file.None ≡ answer status.NotComplete (codes "device 64 none\n")
+  pub receiving_said : not_complete 1 no_file.Receiving ≡ answer status.NotComplete (codes "device 1 receiving\n")
+  pub no_rows_said : not_complete 1 no_file.NoRows ≡ answer status.NotComplete (codes "device 1 norows\n")
+  pub conflict_said : not_complete 1 no_file.Conflict ≡ answer status.NotComplete (codes "device 1 conflict\n")

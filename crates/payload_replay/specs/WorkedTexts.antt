@@ -1,0 +1,85 @@
+-- Texts worked out: what is decoded of a payload, and what a replay tells of two sessions.
+use Rattle.std.specs.Prelude.{◌≡◌, ℕ, List, [], ◌∷◌, codes, None, Some, Ok, Err}
+use Rattle.wire_base.specs.declared.refusal.Why.TheVariants as stop
+use Rattle.sync_wire.specs.declared.cmd.Cmd.TheVariants.{AppTimeAns, DevVersionReq}
+use Rattle.cast_wire.specs.declared.cmd.Cmd.TheVariants.{DataFragment}
+use Rattle.package_grammar.specs.declared.command.Command.TheVariants.{Sync, Cast}
+use Rattle.frag_model.specs.Fragments.{Fragment}
+use Rattle.frag_session.specs.declared.setups.SetupReq.{SetupReq}
+use Rattle.frag_session.specs.Session.{Session}
+use Rattle.device_core.specs.Device.{DeviceState}
+use Rattle.report_lines.specs.declared.faults.LineWhy.TheVariants as why
+use Rattle.payload_replay.specs.PayloadLines.{payload_of}
+use Rattle.payload_replay.specs.Decode.{payload_text, numbered_text}
+use Rattle.payload_replay.specs.Replay.{header_rows, replay_device, replay_text}
+
+-- a session for one piece of a byte, with one row
+abbrev pub worked_setup : (index : ℕ) → SetupReq
+worked_setup index = record {
+  index = index;
+  mask = 0;
+  nb_frag = 1;
+  frag_size = 1;
+  algo = 0;
+  delay = 0;
+  padding = 0;
+  descriptor = 0;
+}
+
+abbrev pub worked_session : (index : ℕ) → List Fragment → Session
+worked_session index heard = record { setup = worked_setup index; rows = 1; heard = heard }
+
+-- the piece came at line 4, and a coded fragment over it at line 6
+abbrev pub worked_piece : Fragment
+worked_piece = record { number = 1; part = 0x5a ∷ []; mark = 4 }
+
+abbrev pub worked_repeat : Fragment
+worked_repeat = record { number = 1; part = 0x5a ∷ []; mark = 6 }
+
+-- the piece, and then another
+abbrev pub worked_other : Fragment
+worked_other = record { number = 1; part = 0x5b ∷ []; mark = 7 }
+
+abbrev pub worked_device : DeviceState
+worked_device = record (replay_device 1) {
+  sessions = record {
+    first = Some (worked_session 0 (worked_repeat ∷ worked_piece ∷ []));
+    second = None;
+    third = Some (worked_session 2 []);
+    fourth = None;
+  };
+  counts = record { deaf = 0; refused = 1; full = 2; dropped = 3 };
+}
+
+pub record AreTexts : Type 0 where
+  -- where and why reading stops
+  pub port : payload_text (Err (record { at = 0; why = stop.Port })) ≡ codes "refused 0 port\n"
+  pub unknown : payload_text (Err (record { at = 1; why = stop.UnknownCommand })) ≡ codes "refused 1 unknown\n"
+  pub short : payload_text (Err (record { at = 3; why = stop.Short })) ≡ codes "refused 3 short\n"
+  pub long : payload_text (Err (record { at = 242; why = stop.TooLong })) ≡ codes "refused 242 long\n"
+  -- commands, each on a line; and the number of the line before them
+  pub none : payload_text (Ok []) ≡ []
+  pub commands : payload_text (Ok (Sync (AppTimeAns 5 3) ∷ Sync DevVersionReq ∷ Cast (DataFragment 0 1 (0x5a ∷ [])) ∷ []))
+      ≡ codes "AppTimeAns correction=5 token=3\nDevVersionReq\nDataFragment index=0 n=1 bytes=5a\n"
+  pub numbered : numbered_text 12 (codes "DevVersionReq\n") ≡ codes "line 12\nDevVersionReq\n"
+  -- a line's payload, and the causes of a refused line
+  pub payload : payload_of 3 (codes "08010011") ≡ Ok (0x08 ∷ 0x01 ∷ 0x00 ∷ 0x11 ∷ [])
+  pub empty : payload_of 3 [] ≡ Ok []
+  pub either_case : payload_of 3 (codes "aB") ≡ Ok (0xab ∷ [])
+  pub odd : payload_of 3 (codes "080") ≡ Err why.Syntax
+  pub no_digit : payload_of 3 (codes "0g") ≡ Err why.Syntax
+  pub last_line : payload_of 19999 (codes "08") ≡ Ok (0x08 ∷ [])
+  pub many_lines : payload_of 20000 (codes "0g") ≡ Err why.Limit
+  -- the rows that a header gives
+  pub rows : header_rows (codes "replay 1 256") ≡ Ok 256
+  pub many_rows : header_rows (codes "replay 1 257") ≡ Err why.Range
+  pub other_header : header_rows (codes "replay 2 0") ≡ Err why.Syntax
+  pub no_decimal : header_rows (codes "replay 1 01") ≡ Err why.Syntax
+  -- two sessions, the counts before them
+  pub replay : replay_text worked_device ≡ codes
+      "fuota replay 1\ncounts deaf 0 refused 1 full 2 dropped 3\nsession 0 received 2 missing 0 complete at 4\nfile 5a\nsession 2 received 0 missing 1 receiving\nend\n"
+  pub conflict : replay_text (record worked_device { sessions = record worked_device.sessions {
+      first = None;
+      fourth = Some (record { setup = record (worked_setup 3) { nb_frag = 2 }; rows = 1; heard = worked_other ∷ worked_piece ∷ [] });
+    } }) ≡ codes
+      "fuota replay 1\ncounts deaf 0 refused 1 full 2 dropped 3\nsession 2 received 0 missing 1 receiving\nsession 3 received 2 missing 1 conflict at 7\nend\n"
