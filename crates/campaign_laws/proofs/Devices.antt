@@ -44,7 +44,7 @@ pub record IsPlain (d : DeviceState) : Type 0 where
 -- ---- a payload comes
 
 abbrev pub at_of : (mark : ℕ) → Command → Arrival
-at_of mark c = record { t = 0; via = via.Unicast; port = port_of c; word = 0; mark = mark }
+at_of mark c = record { moment = record { t = 0; word = 0; mark = mark }; via = via.Unicast; port = port_of c }
 
 -- no reboot is due where none is set
 still : (d : DeviceState) → d.reboot ≡ None → after_due_reboot 0 d ≡ d

@@ -115,17 +115,17 @@ dropped_same session way n part mark is =
 
 fragment_by : (at : Arrival) (n : ℕ) (part : List ℕ) (m : DeviceState) (b : Bool)
     → is_none (drop_cause m.sessions.first at.via n part) ≡ b
-    → Moves (fed at.via n part at.mark) m (cond b (heard_step at m 0 n part) (with_counts after_dropped m))
+    → Moves (fed at.via n part at.moment.mark) m (cond b (heard_step at m 0 n part) (with_counts after_dropped m))
 unfolding heard_step
 fragment_by at n part m true is = record { config = refl; sessions = refl }
 fragment_by at n part m false is = record {
   config = refl;
   sessions = ap (λ (session : Option Session). with_session m.sessions 0 session)
-      (sym (dropped_same m.sessions.first at.via n part at.mark is));
+      (sym (dropped_same m.sessions.first at.via n part at.moment.mark is));
 }
 
 fragment_moves : (at : Arrival) (n : ℕ) (part : List ℕ) (m : DeviceState)
-    → Moves (fed at.via n part at.mark) m (command_step at m (Cast (DataFragment 0 n part))).device
+    → Moves (fed at.via n part at.moment.mark) m (command_step at m (Cast (DataFragment 0 n part))).device
 unfolding command_step fragment_step
 fragment_moves at n part m = fragment_by at n part m _ refl
 

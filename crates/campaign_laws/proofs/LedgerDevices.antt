@@ -204,15 +204,15 @@ heard_makes : (image : List ℕ) (cut : Cut) (at : Arrival) (m : DeviceState) (n
 unfolding heard_step
 heard_makes image cut at m n bytes number k =
     let part : List ℕ = data_of image cut.size n in
-    let set : IfSome (after_fragment m.sessions.first at.via n part at.mark) (IsSetFor image cut) =
-    fragment_keeps (IsSetFor image cut) m.sessions.first at.via n part at.mark
-    (followed_set image cut n at.mark number) k.session in
+    let set : IfSome (after_fragment m.sessions.first at.via n part at.moment.mark) (IsSetFor image cut) =
+    fragment_keeps (IsSetFor image cut) m.sessions.first at.via n part at.moment.mark
+    (followed_set image cut n at.moment.mark number) k.session in
     record {
       config = refl;
       session = set;
       slots = offered_slots image m.config.hw _ _ m.slots
           (λ file is. whole_is image cut
-          (after_fragment m.sessions.first at.via n part at.mark) file bytes set is) k.slots;
+          (after_fragment m.sessions.first at.via n part at.moment.mark) file bytes set is) k.slots;
       outbox = refl;
     }
 
@@ -353,7 +353,7 @@ version_told : (image : List ℕ) (cut : Cut) (at : Arrival) (m : DeviceState) �
     (map uplink_of (command_step at m (Sync s.DevVersionReq)).answers)
 unfolding command_step version_step
 version_told image cut at m bytes is port k = rw (port) (
-  one_told image (IsRunning image m.slots) at.t (Sync (s.DevVersionAns m.slots.version m.config.hw))
+  one_told image (IsRunning image m.slots) at.moment.t (Sync (s.DevVersionAns m.slots.version m.config.hw))
       (record { fields = (version_small image m.slots bytes k.slots, (k.hardware, tt)); whole = tt })
       (record { port_is = refl; direction_is = refl })
       (λ hardware same. version_is image m.slots m.config.hw hardware is k.slots same),
@@ -389,7 +389,7 @@ upgrade_told : (image : List ℕ) (cut : Cut) (at : Arrival) (m : DeviceState) �
     (map uplink_of (command_step at m (Sync s.DevUpgradeImageReq)).answers)
 unfolding command_step upgrade_step
 upgrade_told image cut at m bytes port k = rw (port) (
-  one_told image (IsRunning image m.slots) at.t (Sync (upgrade_answer m.slots.next))
+  one_told image (IsRunning image m.slots) at.moment.t (Sync (upgrade_answer m.slots.next))
       (upgrade_valid m.slots.next
       (next_small image m.slots bytes k.slots))
       (upgrade_listed m.slots.next)
@@ -402,7 +402,7 @@ countdown_told : (image : List ℕ) (at : Arrival) (m : DeviceState) → at.port
     (map uplink_of (command_step at m (Sync (s.DevRebootCountdownReq 0))).answers)
 unfolding command_step countdown_step
 countdown_told image at m port = rw (port) (
-  one_told image (IsRunning image m.slots) at.t (Sync (s.DevRebootCountdownAns 0))
+  one_told image (IsRunning image m.slots) at.moment.t (Sync (s.DevRebootCountdownAns 0))
       (record { fields = (omega arith, tt); whole = tt }) (record { port_is = refl; direction_is = refl })
       (λ hardware same. absurd cc),
   tt,

@@ -103,5 +103,20 @@ unfolding digits int_wrap campaign_of read_lines read_line after_line cause_of f
 sessions_so = record { two = refl }
 
 pub counted_so : AreCounted
-unfolding digits totals_from with_counted verdict missing shape_of shown_verdict shown_file seen_of view_of
-counted_so = record { counts = refl }
+unfolding digits totals_from with_counted seen_of view_of
+counted_so = record {
+  heard = refl;
+  nothing = refl;
+  complete = refl;
+  receiving = refl;
+  no_rows = refl;
+  conflict = refl;
+  no_session = refl;
+  heard_more = refl;
+  complete_more = refl;
+  one_more = refl;
+  no_more = refl;
+  updated_more = refl;
+  refused_no_more = refl;
+  all = refl;
+}

@@ -1,9 +1,10 @@
 -- Campaigns worked out: their reports, and the first refused lines of scripts.
-use Rattle.std.specs.Prelude.{◌≡◌, ℕ, true, false, List, [], ◌∷◌, ◌++◌, map, replicate, codes, None, Some, Result, Ok, Err}
-use Rattle.frag_model.specs.Fragments.{Fragment}
-use Rattle.frag_session.specs.Session.{Session}
+use Rattle.std.specs.Prelude.{◌≡◌, ℕ, ◌+◌, true, false, List, [], ◌∷◌, ◌++◌, map, replicate, codes, Option, None, Some, Result, Ok, Err}
+use Rattle.frag_session.specs.declared.answers.Verdict.{Verdict}
+use Rattle.frag_session.specs.declared.answers.Verdict.TheVariants as verdict
+use Rattle.frag_session.specs.Session.{Session, Seen, view_of}
 use Rattle.device_core.specs.Device.{DeviceState}
-use Rattle.campaign_server.specs.declared.stage.Stage.TheVariants.{At, Updated}
+use Rattle.campaign_server.specs.declared.stage.Stage.TheVariants.{At, Updated, Refused}
 use Rattle.campaign_server.specs.declared.stage.Request.TheVariants as request
 use Rattle.campaign_server.specs.Server.{ServerState, first_server}
 use Rattle.script_lines.specs.declared.forms.Class.TheVariants as class
@@ -14,7 +15,8 @@ use Rattle.report_lines.specs.declared.faults.LineWhy.TheVariants as why
 use Rattle.campaign_world.specs.World.{WorldState, first_plan, first_world}
 use Rattle.campaign_world.specs.Causes.{is_due_by, cause_of}
 use Rattle.campaign_world.specs.Script.{campaign_of}
-use Rattle.campaign_world.specs.Summary.{summary_with}
+use Rattle.campaign_world.specs.declared.summary.Totals.{Totals}
+use Rattle.campaign_world.specs.Summary.{heard_by, has_file, one_if, with_device, summary_with}
 use Rattle.campaign_world.specs.Making.{device_of}
 use Rattle.campaign_world.specs.Report.{report_of}
 
@@ -137,33 +139,57 @@ pub record AreCauses : Type 0 where
 
 -- ---- two sessions of a stranger's, and what a summary counts
 
--- device 2 of three is set up by anybody, with a session of index 1 that completes and one of index 3 that does not
+-- device 2 of three is set up by anybody, with sessions of index 1 and 3
 abbrev pub strangers_sessions : List ℕ
 strangers_sessions = codes
-    "fuota 1\nimage 13 0\ndevice 1 c 1 0 0 00000000000000000000000000000000\ndevice 2 c 1 0 0 00000000000000000000000000000000\ndevice 3 c 1 0 0 00000000000000000000000000000000\nraw 2 201 0210010001000000000000\nraw 2 201 0801405a\nraw 2 201 0230010001000000000000\nraw 2 201 08014000\nend\n"
+    "fuota 1\nimage 13 0\ndevice 1 c 1 0 0 00000000000000000000000000000000\ndevice 2 c 1 0 0 00000000000000000000000000000000\ndevice 3 c 1 0 0 00000000000000000000000000000000\nraw 2 201 0210020001000000000000\nraw 2 201 0230010001000000000000\nend\n"
 
 pub record AreSessions : Type 0 where
   pub two : told strangers_sessions ≡ reported (codes
-      "fuota report 1\nimage 52 fragments 4 size 13 padding 0 parity 0\ndevice 1 version clock 0 token 0 running 0 next none\ncounts deaf 0 refused 0 full 0 dropped 0\ndevice 2 version clock 0 token 0 running 0 next corrupt\ncounts deaf 0 refused 0 full 0 dropped 0\nsession 1 received 2 missing 0 complete at 7 other\nsession 3 received 0 missing 1 receiving\ndevice 3 version clock 0 token 0 running 0 next none\ncounts deaf 0 refused 0 full 0 dropped 0\nend\n")
+      "fuota report 1\nimage 52 fragments 4 size 13 padding 0 parity 0\ndevice 1 version clock 0 token 0 running 0 next none\ncounts deaf 0 refused 0 full 0 dropped 0\ndevice 2 version clock 0 token 0 running 0 next none\ncounts deaf 0 refused 0 full 0 dropped 0\nsession 1 received 0 missing 2 receiving\nsession 3 received 0 missing 1 receiving\ndevice 3 version clock 0 token 0 running 0 next none\ncounts deaf 0 refused 0 full 0 dropped 0\nend\n")
 
--- a session 0 that heard its one piece, at a device that runs the image, as the server knows, and one that heard nothing
-abbrev pub whole_session : Session
-whole_session = record {
+-- a session 0 that heard two fragments
+abbrev pub heard_session : Session
+heard_session = record {
   setup = record { index = 0; mask = 0; nb_frag = 1; frag_size = 1; algo = 0; delay = 0; padding = 0; descriptor = 0 };
   rows = 0;
   heard = record { number = 1; part = 0x5a ∷ []; mark = 9 } ∷ record { number = 1; part = 0x5a ∷ []; mark = 8 } ∷ [];
 }
 
-abbrev pub counted_device : List Fragment → DeviceState
-counted_device heard =
+abbrev pub counted_device : Option Session → DeviceState
+counted_device session =
     let device = device_of class.C 1 0 0 [] None false in
-    record device { sessions = record device.sessions { first = Some (record whole_session { heard = heard }) } }
+    record device { sessions = record device.sessions { first = session } }
+
+-- what a session shows, with this verdict
+abbrev pub shown_with : Verdict → Option Seen
+shown_with v = Some (record { received = 4; missing = 0; verdict = v; file = [] })
 
 abbrev pub counted_server : ServerState
 counted_server = record (first_server worked_image (record first_plan { frag_size = 13 })) {
-  stages = Updated ∷ At request.Status ∷ At request.Status ∷ [];
+  stages = Updated ∷ Refused request.Image 1 ∷ At request.Check ∷ Updated ∷ [];
 }
 
+abbrev pub some_counted : Totals
+some_counted = record { heard = 10; complete = 20; updated = 30 }
+
 pub record AreCounted : Type 0 where
-  pub counts : summary_with counted_server 7 (counted_device whole_session.heard ∷ counted_device [] ∷ counted_device whole_session.heard ∷ [])
-      ≡ codes "image 52 fragments 4\nsent 7 heard 4\ncomplete 2 updated 1\nend\n"
+  -- of session 0, what it heard, and whether it is complete
+  pub heard : heard_by (shown_with verdict.Receiving) ≡ 4
+  pub nothing : heard_by None ≡ 0
+  pub complete : has_file (shown_with (verdict.Complete 8)) ≡ true
+  pub receiving : has_file (shown_with verdict.Receiving) ≡ false
+  pub no_rows : has_file (shown_with (verdict.NoRows 8)) ≡ false
+  pub conflict : has_file (shown_with (verdict.Conflict 8)) ≡ false
+  pub no_session : has_file None ≡ false
+  -- one device more
+  pub heard_more : (with_device some_counted (At request.Check) (counted_device (Some heard_session))).heard ≡ 12
+  pub complete_more : (with_device some_counted Updated (counted_device (Some heard_session))).complete
+      ≡ 20 + one_if (has_file (view_of (Some heard_session)))
+  pub one_more : one_if true ≡ 1
+  pub no_more : one_if false ≡ 0
+  pub updated_more : (with_device some_counted Updated (counted_device None)) ≡ record some_counted { updated = 31 }
+  pub refused_no_more : (with_device some_counted (Refused request.Check 1) (counted_device None)) ≡ some_counted
+  -- all devices
+  pub all : summary_with counted_server 7 (counted_device None ∷ counted_device None ∷ counted_device None ∷ counted_device None ∷ [])
+      ≡ codes "image 52 fragments 4\nsent 7 heard 0\ncomplete 0 updated 2\nend\n"

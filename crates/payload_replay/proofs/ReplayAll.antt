@@ -1,5 +1,5 @@
 -- What the commands that lines carry make of a session: since it was set up it hears each fragment that it does not drop.
-use Rattle.std.proofs.Common.{◌≡◌, ℕ, Bool, true, false, cond, not, ◌==◌, List, [], ◌∷◌, ◌++◌, Option, None, Some, is_none, option_map, refl, sym, ap, ◌∙◌, subst, inl, inr, eq-eqb, true≢false}
+use Rattle.std.proofs.Common.{◌≡◌, ℕ, Bool, true, false, cond, not, ◌==◌, List, [], ◌∷◌, ◌++◌, Option, None, Some, is_none, refl, sym, ap, ◌∙◌, subst, inl, inr, eq-eqb, true≢false}
 use Rattle.std.specs.List.{AllByRecursion}
 use Rattle.frag_model.specs.Fragments.{Fragment}
 use Rattle.frag_model.specs.Members.{In}

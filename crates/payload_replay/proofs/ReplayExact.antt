@@ -1,5 +1,5 @@
 -- A session of a replay is what the commands that its lines carry make of it, one after another.
-use Rattle.std.proofs.Common.{◌≡◌, ℕ, zero, suc, ◌+◌, ◌<◌, Bool, true, false, cond, ◌==◌, nat_lt, List, [], ◌∷◌, ◌++◌, map, length, Option, None, Some, is_none, Result, Ok, Err, refl, sym, ap, ◌∙◌, subst, arith}
+use Rattle.std.proofs.Common.{◌≡◌, ℕ, zero, suc, ◌+◌, ◌<◌, Bool, true, false, cond, ◌==◌, nat_lt, List, [], ◌∷◌, ◌++◌, map, length, Option, None, is_none, Result, Ok, Err, refl, sym, ap, ◌∙◌, subst, arith}
 use Rattle.wire_base.specs.declared.refusal.Direction.TheVariants.{Down}
 use Rattle.wire_base.specs.Numbers.{bits_of}
 use Rattle.cast_wire.specs.declared.cmd.Cmd.TheVariants.{FragSessionSetupReq, FragSessionDeleteReq, DataFragment, McGroupSetupReq, McGroupDeleteReq}
@@ -30,7 +30,6 @@ use Rattle.device_core.specs.Fragments.{setup_of, setup_step, delete_step, statu
 use Rattle.device_core.specs.Step.{command_step, step, after_commands, weights}
 use Rattle.device_core.specs.Deliver.{Outcome, message_delivery, read_delivery, heard_delivery, delivery}
 use Rattle.report_lines.specs.declared.faults.LineWhy.{LineWhy}
-use Rattle.report_lines.specs.declared.faults.LineFault.{LineFault}
 use Rattle.device_core.proofs.HeardSessions.{OfEach}
 use Rattle.payload_replay.specs.PayloadLines.{payload_of}
 use Rattle.report_lines.specs.Lines.{BehindLine, TakesLines}
@@ -104,7 +103,7 @@ Holds config told d = (d.config ≡ config) × Are told d.sessions
 
 -- a payload on port 201 arrives at a line
 abbrev at_line : ℕ → Arrival
-at_line n = record { t = 0; via = Unicast; port = 201; word = 0; mark = n }
+at_line n = record { moment = record { t = 0; word = 0; mark = n }; via = Unicast; port = 201 }
 
 either : (config : DeviceConfig) (told : Told) (b : Bool) (one other : DeviceState) → Holds config told one
     → Holds config told other → Holds config told (cond b one other)

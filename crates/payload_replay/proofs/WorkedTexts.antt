@@ -4,7 +4,6 @@ use Rattle.std.specs.Fmt.{digits}
 use Rattle.hex.specs.Hex.{encode_with, decode_pairs}
 use Rattle.frag_model.specs.Verdict.{verdict, missing}
 use Rattle.frag_session.specs.Session.{shape_of, shown_verdict, shown_file, seen_of, view_of}
-use Rattle.package_grammar.specs.Texts.{text_of}
 use Rattle.script_lines.specs.Lines.{words_of, word}
 use Rattle.script_lines.specs.Numbers.{decimal_of}
 use Rattle.payload_replay.specs.PayloadLines.{payload_of, payload_by}
@@ -13,7 +12,7 @@ use Rattle.payload_replay.specs.Replay.{header_rows, replay_text}
 use Rattle.payload_replay.specs.WorkedTexts.{AreTexts}
 
 pub texts_are : AreTexts
-unfolding digits encode_with decode_pairs verdict missing shape_of shown_verdict shown_file seen_of view_of text_of words_of word decimal_of payload_of payload_by commands_text header_rows replay_text
+unfolding digits encode_with decode_pairs verdict missing shape_of shown_verdict shown_file seen_of view_of words_of word decimal_of payload_of payload_by commands_text header_rows replay_text
 texts_are = record {
   port = refl;
   unknown = refl;
@@ -34,5 +33,5 @@ texts_are = record {
   other_header = refl;
   no_decimal = refl;
   replay = refl;
-  conflict = refl;
+  other_replay = refl;
 }

@@ -1,6 +1,6 @@
 -- What the commands that captured lines carry make of a session, one after another. (TS004-1.0.0, FragSessionSetupReq,
 -- FragSessionDeleteReq and DataFragment.)
-use Rattle.std.specs.Prelude.{ℕ, ◌+◌, Bool, true, false, not, ◌==◌, nat_lt, if◌then◌else◌, List, [], ◌∷◌, ◌++◌, map, Option, None, Result, Ok, Err}
+use Rattle.std.specs.Prelude.{ℕ, ◌+◌, Bool, true, not, ◌==◌, nat_lt, if◌then◌else◌, List, [], ◌∷◌, ◌++◌, map, Option, None, Result, Ok, Err}
 use Rattle.wire_base.specs.declared.refusal.Direction.TheVariants.{Down}
 use Rattle.frag_session.specs.declared.answers.Via.TheVariants.{Unicast}
 use Rattle.frag_session.specs.Session.{Session, after_setup, after_fragment}

@@ -1,6 +1,6 @@
 -- What `replay` says of each session: the verdicts of a campaign, whoever made the payloads, a conflict among them.
 -- (TS004-1.0.0 leaves recovery to the device; when it ends, and how, is this project's profile.)
-use Rattle.std.specs.Prelude.{◌≡◌, ℕ, ◌-◌, ◌<◌, ◌≤◌, true, List, [], ◌∷◌, ◌++◌, length, codes, None, Some, Ok}
+use Rattle.std.specs.Prelude.{◌≡◌, ℕ, ◌-◌, ◌<◌, true, List, ◌∷◌, ◌++◌, length, codes, None, Some, Ok}
 use Rattle.std.specs.List.{AllByRecursion}
 use Rattle.std.specs.Fmt.{decimal}
 use Rattle.hex.specs.Hex.{encode_lower}
@@ -8,7 +8,7 @@ use Rattle.wire_base.specs.declared.refusal.Direction.TheVariants.{Down}
 use Rattle.frag_model.specs.Fragments.{Fragment}
 use Rattle.frag_model.specs.Members.{In}
 use Rattle.frag_session.specs.declared.answers.Via.TheVariants.{Unicast}
-use Rattle.frag_session.specs.Session.{Session, cause_of, shape_of, seen_of}
+use Rattle.frag_session.specs.Session.{Session, cause_of, shape_of}
 use Rattle.cast_wire.specs.declared.cmd.Cmd.TheVariants.{DataFragment}
 use Rattle.package_grammar.specs.declared.command.Command.{Command}
 use Rattle.package_grammar.specs.declared.command.Command.TheVariants.{Cast}

@@ -1,11 +1,9 @@
 -- Texts worked out: what is decoded of a payload, and what a replay tells of two sessions.
-use Rattle.std.specs.Prelude.{◌≡◌, ℕ, List, [], ◌∷◌, codes, None, Some, Ok, Err}
+use Rattle.std.specs.Prelude.{◌≡◌, ℕ, pos, [], ◌∷◌, codes, None, Some, Ok, Err}
 use Rattle.wire_base.specs.declared.refusal.Why.TheVariants as stop
 use Rattle.sync_wire.specs.declared.cmd.Cmd.TheVariants.{AppTimeAns, DevVersionReq}
 use Rattle.cast_wire.specs.declared.cmd.Cmd.TheVariants.{DataFragment}
 use Rattle.package_grammar.specs.declared.command.Command.TheVariants.{Sync, Cast}
-use Rattle.frag_model.specs.Fragments.{Fragment}
-use Rattle.frag_session.specs.declared.setups.SetupReq.{SetupReq}
 use Rattle.frag_session.specs.Session.{Session}
 use Rattle.device_core.specs.Device.{DeviceState}
 use Rattle.report_lines.specs.declared.faults.LineWhy.TheVariants as why
@@ -13,39 +11,20 @@ use Rattle.payload_replay.specs.PayloadLines.{payload_of}
 use Rattle.payload_replay.specs.Decode.{payload_text, numbered_text}
 use Rattle.payload_replay.specs.Replay.{header_rows, replay_device, replay_text}
 
--- a session for one piece of a byte, with one row
-abbrev pub worked_setup : (index : ℕ) → SetupReq
-worked_setup index = record {
-  index = index;
-  mask = 0;
-  nb_frag = 1;
-  frag_size = 1;
-  algo = 0;
-  delay = 0;
-  padding = 0;
-  descriptor = 0;
+-- a session for so many pieces of a byte, that heard none yet
+abbrev pub worked_session : (index nb_frag : ℕ) → Session
+worked_session index nb_frag = record {
+  setup = record { index = index; mask = 0; nb_frag = nb_frag; frag_size = 1; algo = 0; delay = 0; padding = 0; descriptor = 0 };
+  rows = 1;
+  heard = [];
 }
-
-abbrev pub worked_session : (index : ℕ) → List Fragment → Session
-worked_session index heard = record { setup = worked_setup index; rows = 1; heard = heard }
-
--- the piece came at line 4, and a coded fragment over it at line 6
-abbrev pub worked_piece : Fragment
-worked_piece = record { number = 1; part = 0x5a ∷ []; mark = 4 }
-
-abbrev pub worked_repeat : Fragment
-worked_repeat = record { number = 1; part = 0x5a ∷ []; mark = 6 }
-
--- the piece, and then another
-abbrev pub worked_other : Fragment
-worked_other = record { number = 1; part = 0x5b ∷ []; mark = 7 }
 
 abbrev pub worked_device : DeviceState
 worked_device = record (replay_device 1) {
   sessions = record {
-    first = Some (worked_session 0 (worked_repeat ∷ worked_piece ∷ []));
+    first = Some (worked_session 0 2);
     second = None;
-    third = Some (worked_session 2 []);
+    third = Some (worked_session 2 1);
     fourth = None;
   };
   counts = record { deaf = 0; refused = 1; full = 2; dropped = 3 };
@@ -59,7 +38,7 @@ pub record AreTexts : Type 0 where
   pub long : payload_text (Err (record { at = 242; why = stop.TooLong })) ≡ codes "refused 242 long\n"
   -- commands, each on a line; and the number of the line before them
   pub none : payload_text (Ok []) ≡ []
-  pub commands : payload_text (Ok (Sync (AppTimeAns 5 3) ∷ Sync DevVersionReq ∷ Cast (DataFragment 0 1 (0x5a ∷ [])) ∷ []))
+  pub commands : payload_text (Ok (Sync (AppTimeAns (pos 5) 3) ∷ Sync DevVersionReq ∷ Cast (DataFragment 0 1 (0x5a ∷ [])) ∷ []))
       ≡ codes "AppTimeAns correction=5 token=3\nDevVersionReq\nDataFragment index=0 n=1 bytes=5a\n"
   pub numbered : numbered_text 12 (codes "DevVersionReq\n") ≡ codes "line 12\nDevVersionReq\n"
   -- a line's payload, and the causes of a refused line
@@ -77,9 +56,8 @@ pub record AreTexts : Type 0 where
   pub no_decimal : header_rows (codes "replay 1 01") ≡ Err why.Syntax
   -- two sessions, the counts before them
   pub replay : replay_text worked_device ≡ codes
-      "fuota replay 1\ncounts deaf 0 refused 1 full 2 dropped 3\nsession 0 received 2 missing 0 complete at 4\nfile 5a\nsession 2 received 0 missing 1 receiving\nend\n"
-  pub conflict : replay_text (record worked_device { sessions = record worked_device.sessions {
-      first = None;
-      fourth = Some (record { setup = record (worked_setup 3) { nb_frag = 2 }; rows = 1; heard = worked_other ∷ worked_piece ∷ [] });
-    } }) ≡ codes
-      "fuota replay 1\ncounts deaf 0 refused 1 full 2 dropped 3\nsession 2 received 0 missing 1 receiving\nsession 3 received 2 missing 1 conflict at 7\nend\n"
+      "fuota replay 1\ncounts deaf 0 refused 1 full 2 dropped 3\nsession 0 received 0 missing 2 receiving\nsession 2 received 0 missing 1 receiving\nend\n"
+  pub other_replay : replay_text (record worked_device {
+      sessions = record worked_device.sessions { first = None; second = Some (worked_session 1 4); fourth = Some (worked_session 3 3) };
+    }) ≡ codes
+      "fuota replay 1\ncounts deaf 0 refused 1 full 2 dropped 3\nsession 1 received 0 missing 4 receiving\nsession 2 received 0 missing 1 receiving\nsession 3 received 0 missing 3 receiving\nend\n"
