@@ -10,7 +10,7 @@ ghost use Rattle.campaign_server.specs.declared.plan.PlanGroup.{PlanGroup};
 ghost use Rattle.campaign_server.specs.declared.stage.Request.{Request};
 ghost use Rattle.campaign_server.specs.declared.stage.Stage.{Stage};
 ghost use Rattle.campaign_server.specs.declared.stage.Stage.TheVariants.{Updated, Refused};
-ghost use Rattle.campaign_server.specs.Plan.{Plan};
+ghost use Rattle.campaign_server.specs.Plan.{Plan, group_id};
 ghost use Rattle.campaign_server.specs.Server.{ServerState};
 ghost use Rattle.campaign_server.specs.Answers.{stage_after};
 ghost use Rattle.campaign_server.specs.Asking.{group_request};
@@ -31,7 +31,8 @@ pub fn a_device_unwraps_the_key()
         → let kek = mc_ke_key (mc_root_key gen_app_key) in
         IsBlock block → mc_key kek block ≡ group.key
         → ((x : List ℕ) → IsBlock x → mc_key kek x ≡ group.key → x ≡ block)
-        → group_request gen_app_key group ≡ McGroupSetupReq 0 group.addr block group.min group.max }
+        → group_request gen_app_key group
+        ≡ McGroupSetupReq (group_id group) group.addr block group.min group.max }
 {}
 
 /// An answer that comes again does nothing more.
