@@ -8,6 +8,7 @@ pub keys : WorkedKeys
 unfolding xtime sum_of_products times inverse affine_bit sub_byte sub_bytes shift_rows mixed mix_columns add_round_key next_words words_from after_round cipher
 keys = record {
   root = refl;
+  root_1_1 = refl;
   kek = refl;
   unwrapped = refl;
 }

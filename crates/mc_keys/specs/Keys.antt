@@ -1,11 +1,15 @@
--- The keys of a multicast group (TS005-1.0.0, Multicast security, for LoRaWAN 1.0 devices).
+-- The keys of a multicast group (TS005-1.0.0, Multicast security, for devices of LoRaWAN 1.0 and 1.1).
 use Rattle.std.specs.Prelude.{ℕ, List, ◌∷◌, ◌++◌, replicate}
 use Rattle.std.specs.Int.{w32, to_le_bytes}
 use Rattle.aes_block.specs.Cipher.{cipher}
 
--- McRootKey = aes128_encrypt(GenAppKey, 16 zero bytes)
+-- McRootKey = aes128_encrypt(GenAppKey, 16 zero bytes), of LoRaWAN 1.0
 abbrev pub mc_root_key : List ℕ → List ℕ
 mc_root_key gen_app_key = cipher gen_app_key (replicate 16 0)
+
+-- McRootKey = aes128_encrypt(AppKey, 0x20 | zeros), of LoRaWAN 1.1
+abbrev pub mc_root_key_1_1 : List ℕ → List ℕ
+mc_root_key_1_1 app_key = cipher app_key (0x20 ∷ replicate 15 0)
 
 -- McKEKey = aes128_encrypt(McRootKey, 16 zero bytes)
 abbrev pub mc_ke_key : List ℕ → List ℕ

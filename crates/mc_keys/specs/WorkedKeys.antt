@@ -1,12 +1,16 @@
 -- The keys of one device and one group, worked out with another AES.
 use Rattle.std.specs.Prelude.{◌≡◌, List, ℕ, [], ◌∷◌}
-use Rattle.mc_keys.specs.Keys.{mc_root_key, mc_ke_key, mc_key, mc_app_s_key, mc_net_s_key}
+use Rattle.mc_keys.specs.Keys.{mc_root_key, mc_root_key_1_1, mc_ke_key, mc_key, mc_app_s_key, mc_net_s_key}
 
 abbrev pub worked_gen_app_key : List ℕ
 worked_gen_app_key = 0x00 ∷ 0x01 ∷ 0x02 ∷ 0x03 ∷ 0x04 ∷ 0x05 ∷ 0x06 ∷ 0x07 ∷ 0x08 ∷ 0x09 ∷ 0x0a ∷ 0x0b ∷ 0x0c ∷ 0x0d ∷ 0x0e ∷ 0x0f ∷ []
 
 abbrev pub worked_root : List ℕ
 worked_root = 0xc6 ∷ 0xa1 ∷ 0x3b ∷ 0x37 ∷ 0x87 ∷ 0x8f ∷ 0x5b ∷ 0x82 ∷ 0x6f ∷ 0x4f ∷ 0x81 ∷ 0x62 ∷ 0xa1 ∷ 0xc8 ∷ 0xd8 ∷ 0x79 ∷ []
+
+-- of the same 16 bytes as an AppKey
+abbrev pub worked_root_1_1 : List ℕ
+worked_root_1_1 = 0x43 ∷ 0x0b ∷ 0xff ∷ 0x9b ∷ 0x04 ∷ 0x9f ∷ 0x19 ∷ 0x27 ∷ 0x94 ∷ 0x55 ∷ 0xbd ∷ 0x56 ∷ 0x41 ∷ 0x33 ∷ 0xc7 ∷ 0x3b ∷ []
 
 abbrev pub worked_kek : List ℕ
 worked_kek = 0x2c ∷ 0x57 ∷ 0x8f ∷ 0x79 ∷ 0x27 ∷ 0xa9 ∷ 0x49 ∷ 0xd3 ∷ 0xb5 ∷ 0x11 ∷ 0xae ∷ 0x8f ∷ 0xb6 ∷ 0x91 ∷ 0x45 ∷ 0xc6 ∷ []
@@ -20,6 +24,7 @@ worked_wrapped = 0xb0 ∷ 0xe6 ∷ 0x27 ∷ 0x7d ∷ 0x71 ∷ 0x4c ∷ 0x73 ∷ 
 
 pub record WorkedKeys : Type 0 where
   pub root : mc_root_key worked_gen_app_key ≡ worked_root
+  pub root_1_1 : mc_root_key_1_1 worked_gen_app_key ≡ worked_root_1_1
   pub kek : mc_ke_key worked_root ≡ worked_kek
   pub unwrapped : mc_key worked_kek worked_wrapped ≡ worked_key
 

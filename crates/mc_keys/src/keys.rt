@@ -1,17 +1,39 @@
 ghost use Rattle.std.specs.Prelude.{◌≡◌, List, ℕ};
 ghost use Rattle.aes_block.specs.Cipher.{IsBlock};
-ghost use Rattle.mc_keys.specs.Keys.{mc_root_key, mc_ke_key, mc_key, session_block, mc_app_s_key, mc_net_s_key};
+ghost use Rattle.mc_keys.specs.Keys.{mc_root_key, mc_root_key_1_1, mc_ke_key, mc_key, session_block, mc_app_s_key, mc_net_s_key};
+ghost use Rattle.mc_keys.specs.Roots.{root_of};
 
+use crate::root_kind::RootKind;
 use aes_block::Aes128;
 
 /// The 16 bytes of a key, in the order in which they are sent.
 pub type Key = [u8; 16];
+
+/// What an AppKey encrypts to make the root key of a LoRaWAN 1.1 device.
+const ROOT_BLOCK: [u8; 16] = [0x20, 0, 0, 0, 0, 0, 0, 0, 0, 0, 0, 0, 0, 0, 0, 0];
+
+/// McRootKey of a device, from the key that it was made with: GenAppKey or AppKey, by its kind.
+pub fn root(kind: RootKind, key: &Key) -> Key
+    ensures { result ≡ root_of kind key.now }
+{
+    match kind {
+        RootKind::V10 => root_1_0(key),
+        RootKind::V11 => root_1_1(key),
+    }
+}
 
 /// McRootKey of a LoRaWAN 1.0 device, from its GenAppKey.
 pub fn root_1_0(gen_app_key: &Key) -> Key
     ensures { result ≡ mc_root_key gen_app_key.now }
 {
     Aes128::new(gen_app_key).encrypt(&[0; 16])
+}
+
+/// McRootKey of a LoRaWAN 1.1 device, from its AppKey.
+pub fn root_1_1(app_key: &Key) -> Key
+    ensures { result ≡ mc_root_key_1_1 app_key.now }
+{
+    Aes128::new(app_key).encrypt(&ROOT_BLOCK)
 }
 
 /// McKEKey, under which group keys are wrapped, from McRootKey.

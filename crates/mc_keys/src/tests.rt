@@ -6,6 +6,9 @@ const GEN_APP_KEY: u128 = 0x000102030405060708090a0b0c0d0e0f;
 
 const ROOT: u128 = 0xc6a13b37878f5b826f4f8162a1c8d879;
 
+/// Of the same key as an AppKey.
+const ROOT_1_1: u128 = 0x430bff9b049f19279455bd564133c73b;
+
 const KEK: u128 = 0x2c578f7927a949d3b511ae8fb69145c6;
 
 const MC_KEY: u128 = 0x00112233445566778899aabbccddeeff;
@@ -22,6 +25,10 @@ const NET_S_KEY: u128 = 0x9f0420feddea37d9f057e1a21f2cd4ca;
 fn keys_are_those_of_another_aes(rt: HostRuntime) {
     let root = root_1_0(&GEN_APP_KEY.to_be_bytes());
     assert!(rt; root == ROOT.to_be_bytes());
+    assert!(rt; crate::root(RootKind::V10, &GEN_APP_KEY.to_be_bytes()) == root);
+    let root_1_1 = root_1_1(&GEN_APP_KEY.to_be_bytes());
+    assert!(rt; root_1_1 == ROOT_1_1.to_be_bytes());
+    assert!(rt; crate::root(RootKind::V11, &GEN_APP_KEY.to_be_bytes()) == root_1_1);
     let kek = kek(&root);
     assert!(rt; kek == KEK.to_be_bytes());
     let mc_key = MC_KEY.to_be_bytes();
