@@ -16,9 +16,9 @@ abbrev pub Step : (P S : Type 0) → Type 1
 Step P S = ℕ → P → S → S → Type 0
 
 -- what a line says takes the state to a next, and so on; or the line is refused
-abbrev pub BehindLine : {P S : Type 0} → Step P S → ℕ → S → Result P LineWhy → (S → Result S LineFault → Type 0) → Result S LineFault → Type 0
+abbrev pub BehindLine : {S P : Type 0} → Step P S → ℕ → S → Result P LineWhy → (S → Result S LineFault → Type 0) → Result S LineFault → Type 0
 BehindLine Takes lines state (Err cause) goes_on outcome = outcome ≡ Err (record { line = lines + 1; why = cause })
-BehindLine {P} {S} Takes lines state (Ok said) goes_on outcome = (next : S) × Takes (lines + 1) said state next × goes_on next outcome
+BehindLine {S} Takes lines state (Ok said) goes_on outcome = (next : S) × Takes (lines + 1) said state next × goes_on next outcome
 
 -- behind so many lines the state is this one: what comes of those that are left, the last state or the first refused line
 unfoldable pub TakesLines : {P S : Type 0} → LineReading P → Step P S → ℕ → S → List (List ℕ) → Result S LineFault → Type 0
