@@ -27,7 +27,7 @@ use Rattle.campaign_server.specs.declared.stage.Stage.TheVariants.{At, Updated, 
 use Rattle.campaign_server.specs.declared.stage.Request.TheVariants as request
 use Rattle.campaign_server.specs.declared.fragments.Spent.{Spent}
 use Rattle.campaign_server.specs.declared.fragments.Spent.TheVariants.{Fragments, Counts}
-use Rattle.campaign_server.specs.Plan.{Plan}
+use Rattle.campaign_server.specs.Plan.{Plan, own_id}
 use Rattle.campaign_server.specs.Server.{ServerState, DownlinkCommand, port_of, ledger}
 use Rattle.wire_base.specs.Numbered.{numbered}
 use Rattle.campaign_server.specs.Asking.{window_request_of, window_request, group_request, cast_of, request_at, command_for, by_unicast, request_of}
@@ -168,14 +168,14 @@ group_sent : (image : List ℕ) (cut : Cut) (key : List ℕ) (group : Option Pla
 group_sent image cut key None = tt
 group_sent image cut key (Some group) = inr (inr (inr (inl refl)))
 
-window_port : (window : PlanWindow) (k : Kind) → port_of (Cast (window_request_of window k)) ≡ 200
-window_port window kind.C = refl
-window_port window (kind.B periodicity) = refl
+window_port : (id : ℕ) (window : PlanWindow) (k : Kind) → port_of (Cast (window_request_of id window k)) ≡ 200
+window_port id window kind.C = refl
+window_port id window (kind.B periodicity) = refl
 
-window_sent : (image : List ℕ) (cut : Cut) (window : Option PlanWindow)
-    → IfSome (cast_of (λ w. window_request w) window) (IsAsked image cut)
-window_sent image cut None = tt
-window_sent image cut (Some window) = inr (inr (inr (inl (window_port window window.kind))))
+window_sent : (image : List ℕ) (cut : Cut) (id : ℕ) (window : Option PlanWindow)
+    → IfSome (cast_of (λ w. window_request id w) window) (IsAsked image cut)
+window_sent image cut id None = tt
+window_sent image cut id (Some window) = inr (inr (inr (inl (window_port id window window.kind))))
 
 request_sent : (plan : Plan) (image key : List ℕ) (stage : Stage)
     → IfSome (request_at plan image key stage) (IsAsked image (cut_of plan))
@@ -183,7 +183,7 @@ unfolding request_at
 request_sent plan image key (At request.Version) = inr (inr (inr (inr (DevVersionReq, refl))))
 request_sent plan image key (At request.Group) = group_sent image (cut_of plan) key plan.group
 request_sent plan image key (At request.Fragments) = inl (refl, refl)
-request_sent plan image key (At request.Window) = window_sent image (cut_of plan) plan.window
+request_sent plan image key (At request.Window) = window_sent image (cut_of plan) (own_id plan.group) plan.window
 request_sent plan image key (At request.Status) = inr (inr (inl (true, refl)))
 request_sent plan image key (At request.Image) = inr (inr (inr (inr (_, refl))))
 request_sent plan image key (At request.Reboot) = inr (inr (inr (inr (_, refl))))

@@ -1,5 +1,5 @@
 -- The headline: what is seen of the session in each campaign, and what the report says of it.
-use Rattle.std.proofs.Common.{◌≡◌, ◌≢◌, ◌⊎◌, inl, inr, ℕ, zero, suc, ◌+◌, ◌-◌, ◌<◌, ◌≤◌, ◌^◌, Bool, true, false, cond, ◌==◌, List, [], ◌∷◌, ◌++◌, length, min, take, drop, slice_get, codes, All, None, Some, Option, Ok, arith, refl, sym, ap, ◌∙◌, subst, append-nil, append_assoc, bytes_eq}
+use Rattle.std.proofs.Common.{◌≡◌, ◌≢◌, ◌⊎◌, inl, inr, ℕ, ◌<◌, ◌^◌, true, List, ◌∷◌, ◌++◌, length, min, All, None, Some, Option, Ok, refl, sym, ap, ◌∙◌, subst, append-nil, bytes_eq}
 use Rattle.std.specs.List.{AllByRecursion}
 use Rattle.std.proofs.lemmas.Slice.Eq.{bytes_eq-Decides}
 use Rattle.frag_model.specs.Fragments.{Fragment, Shape}

@@ -1,5 +1,5 @@
 -- What a payload of the server makes of a device's sessions.
-use Rattle.std.proofs.Common.{◌≡◌, ◌⊎◌, inl, inr, ℕ, ◌+◌, ◌^◌, ◌<◌, ◌≤◌, Bool, true, false, cond, nat_lt, List, [], ◌∷◌, length, All, Option, is_none, option_map, Result, Ok, Err, refl, sym, ap, ◌∙◌, subst, arith, le-ltb}
+use Rattle.std.proofs.Common.{◌≡◌, ◌⊎◌, inl, inr, ℕ, ◌+◌, ◌^◌, ◌<◌, ◌≤◌, Bool, true, false, cond, nat_lt, List, [], ◌∷◌, length, All, Option, is_none, option_map, Ok, Err, refl, sym, ap, ◌∙◌, subst, arith, le-ltb}
 use Rattle.std.specs.List.{AllByRecursion}
 use Rattle.wire_base.specs.declared.refusal.Direction.TheVariants.{Down}
 use Rattle.wire_base.specs.Rows.{IsListed}
@@ -25,8 +25,7 @@ use Rattle.device_core.specs.declared.config.DeviceConfig.{DeviceConfig}
 use Rattle.device_core.specs.declared.arrival.Arrival.{Arrival}
 use Rattle.device_core.specs.declared.delivered.Delivered.{Delivered}
 use Rattle.device_core.specs.declared.delivered.Delivered.TheVariants.{Deaf, OutboxFull, Done}
-use Rattle.device_core.specs.declared.delivered.OutboxFull as outbox
-use Rattle.device_core.specs.SessionTable.{SessionTable, with_session}
+use Rattle.device_core.specs.SessionTable.{with_session}
 use Rattle.device_core.specs.Device.{DeviceState, room_of, limits_of, with_counts, after_deaf, after_full, after_dropped}
 use Rattle.device_core.specs.Answers.{DeviceStep, after_answers}
 use Rattle.device_core.specs.Clock.{answer_step, periodicity_step, resync_step}
@@ -36,7 +35,7 @@ use Rattle.device_core.specs.Firmware.{version_step, upgrade_step, delete_image_
 use Rattle.device_core.specs.Fragments.{setup_step, status_step, heard_step, fragment_step}
 use Rattle.device_core.specs.Step.{command_step, acts, step, after_commands, weight, weights}
 use Rattle.device_core.proofs.Stays.{Moves, stays, Stays, stays_on, reboot_keeps, between}
-use Rattle.device_core.specs.Deliver.{Outcome, message_delivery, read_delivery, via_of, arrival, heard_delivery, time_asking, with_due_reboot, waking, delivery}
+use Rattle.device_core.specs.Deliver.{Outcome, message_delivery, read_delivery, via_of, arrival, heard_delivery, delivery}
 use Rattle.campaign_server.specs.Server.{DownlinkCommand, port_of, downlink_of}
 use Rattle.campaign_laws.proofs.HeadlineCommands.{Cut, setup_req, setup_request, fragment_command, IsElsewhere, IsOther, IsNumber, IsSentOf, IsCut, IsGood, setup_good, fragment_good, status_good, sync_high, good_read}
 

@@ -1,5 +1,5 @@
 -- What makes a stage updated, and what a device reads of what the server sends.
-use Rattle.std.proofs.Common.{◌≡◌, ◌⊎◌, inl, inr, ⊎_elim, ℕ, ◌+◌, ◌/◌, ◌^◌, ◌<◌, Bool, true, false, cond, ◌==◌, List, [], ◌∷◌, length, All, Option, None, Some, IfSome, is_some, Result, Ok, Err, refl, sym, ap, ◌∙◌, subst, arith, eqb-true}
+use Rattle.std.proofs.Common.{◌≡◌, ◌⊎◌, inl, inr, ⊎_elim, ℕ, ◌/◌, ◌^◌, ◌<◌, Bool, true, false, cond, ◌==◌, List, [], ◌∷◌, length, All, Option, None, Some, IfSome, is_some, Result, Ok, Err, refl, sym, ap, ◌∙◌, subst, arith, eqb-true}
 use Rattle.std.specs.List.{AllByRecursion}
 use Rattle.std.specs.Result.{result_ok}
 use Rattle.wire_base.specs.declared.refusal.Direction.TheVariants.{Down as Downward}
@@ -29,6 +29,7 @@ use Rattle.campaign_server.specs.declared.stage.Request.TheVariants as request
 use Rattle.campaign_server.specs.Plan.{Plan, session_index, own_id}
 use Rattle.campaign_server.specs.Server.{ServerState, DownlinkCommand, port_of, ledger}
 use Rattle.wire_base.specs.Numbers.{flag_value}
+use Rattle.cast_wire.specs.SetupRefusal.{refusal_bits}
 use Rattle.wire_base.specs.Numbered.{numbered}
 use Rattle.clock_sync.specs.Clock.{correction_of, is_answer_needed}
 use Rattle.package_grammar.specs.declared.downlink.To.{To}
@@ -37,7 +38,7 @@ use Rattle.campaign_server.specs.declared.fragments.Spent.TheVariants.{Fragments
 use Rattle.campaign_server.specs.Asking.{group_request, window_request_of, window_request, cast_of, request_at, command_for, by_unicast, request_of}
 use Rattle.campaign_server.specs.Fragments.{receivers, has_no_count, next_fragment, status_to_all}
 use Rattle.campaign_server.specs.Time.{time_answer_to, first_answer, time_answer}
-use Rattle.campaign_server.specs.Answers.{unless_refused, where_own, after_window, is_class_c, is_class_b, stage_after, stage_after_all}
+use Rattle.campaign_server.specs.Answers.{unless_refused, where_own, window_bits, after_window, is_class_c, is_class_b, stage_after, stage_after_all}
 use Rattle.campaign_laws.proofs.HeadlineCommands.{Cut, IsSentOf, IsCut, IsGood, setup_good, fragment_good, status_good, good_read, sync_high}
 use Rattle.campaign_laws.proofs.LedgerDevices.{IsCalmCast, IsCalm, IsOneOf, IsAskedOfFirmware, ComesOn, ReadsAs}
 use Rattle.campaign_laws.proofs.LedgerSlots.{Tells}
@@ -101,7 +102,7 @@ fragments_moves : (plan : Plan) (image : List ℕ) (x : Command)
     → stage_after plan image (stage.At request.Fragments) x ≡ Updated → ⊥
 unfolding stage_after
 fragments_moves plan image (Cast (c.FragSessionSetupAns index descriptor unsupported memory encoding)) is =
-    asked_not (session_index plan) index (flag_value descriptor 8 + flag_value unsupported 4 + flag_value memory 2 + flag_value encoding 1)
+    asked_not (session_index plan) index (refusal_bits descriptor unsupported memory encoding)
     request.Fragments (cond (is_some plan.group) request.Window request.Status) is
 fragments_moves plan image (Sync cmd) is = not_at request.Fragments is
 fragments_moves plan image (Cast cmd) is = not_at request.Fragments is
@@ -110,9 +111,9 @@ window_moves : (plan : Plan) (image : List ℕ) (x : Command)
     → stage_after plan image (stage.At request.Window) x ≡ Updated → ⊥
 unfolding stage_after
 window_moves plan image (Cast (c.McClassCSessionAns id undefined freq dr start)) is =
-    window_not plan (is_class_c plan.window) id (flag_value undefined 16 + flag_value freq 8 + flag_value dr 4) is
+    window_not plan (is_class_c plan.window) id (window_bits undefined freq dr) is
 window_moves plan image (Cast (c.McClassBSessionAns id undefined freq dr start)) is =
-    window_not plan (is_class_b plan.window) id (flag_value undefined 16 + flag_value freq 8 + flag_value dr 4) is
+    window_not plan (is_class_b plan.window) id (window_bits undefined freq dr) is
 window_moves plan image (Sync cmd) is = not_at request.Window is
 window_moves plan image (Cast cmd) is = not_at request.Window is
 
@@ -189,13 +190,14 @@ group_own : (key : List ℕ) (group : Option PlanGroup)
 group_own key None = tt
 group_own key (Some group) = λ port. absurd (omega (arith, port))
 
-window_of_own : (window : PlanWindow) (k : Kind) → port_of (Cast (window_request_of window k)) ≡ 203 → ⊥
-window_of_own window kind.C port = omega (arith, port)
-window_of_own window (kind.B periodicity) port = omega (arith, port)
+window_of_own : (id : ℕ) (window : PlanWindow) (k : Kind) → port_of (Cast (window_request_of id window k)) ≡ 203 → ⊥
+window_of_own id window kind.C port = omega (arith, port)
+window_of_own id window (kind.B periodicity) port = omega (arith, port)
 
-window_own : (window : Option PlanWindow) → IfSome (by_unicast (cast_of (λ w. window_request w) window)) IsOwn
-window_own None = tt
-window_own (Some window) = λ port. absurd (window_of_own window window.kind port)
+window_own : (id : ℕ) (window : Option PlanWindow)
+    → IfSome (by_unicast (cast_of (λ w. window_request id w) window)) IsOwn
+window_own id None = tt
+window_own id (Some window) = λ port. absurd (window_of_own id window window.kind port)
 
 request_own : (plan : Plan) (image key : List ℕ) (old : Stage)
     → IfSome (by_unicast (request_at plan image key old)) IsOwn
@@ -203,7 +205,7 @@ unfolding request_at
 request_own plan image key (stage.At request.Version) = λ port. inl refl
 request_own plan image key (stage.At request.Group) = group_own key plan.group
 request_own plan image key (stage.At request.Fragments) = λ port. absurd (omega (arith, port))
-request_own plan image key (stage.At request.Window) = window_own plan.window
+request_own plan image key (stage.At request.Window) = window_own (own_id plan.group) plan.window
 request_own plan image key (stage.At request.Status) = λ port. absurd (omega (arith, port))
 request_own plan image key (stage.At request.Image) = λ port. inr (inl refl)
 request_own plan image key (stage.At request.Reboot) = λ port. inr (inr refl)

@@ -1,5 +1,5 @@
 -- The report, parted at the lines of one device's sessions.
-use Rattle.std.proofs.Common.{◌≡◌, ℕ, zero, suc, ◌+◌, ◌-◌, ◌≤◌, ◌<◌, Bool, true, false, cond, ◌==◌, List, [], ◌∷◌, ◌++◌, take, drop, slice_get, codes, None, Some, Option, arith, refl, sym, ap, ◌∙◌, append_assoc}
+use Rattle.std.proofs.Common.{◌≡◌, ℕ, zero, suc, ◌+◌, ◌-◌, ◌≤◌, ◌<◌, Bool, true, false, cond, ◌==◌, List, [], ◌∷◌, ◌++◌, take, drop, slice_get, codes, None, Some, arith, refl, sym, ap, ◌∙◌, append_assoc}
 use Rattle.std.specs.Fmt.{decimal}
 use Rattle.device_core.specs.Device.{DeviceState}
 use Rattle.device_core.specs.SessionTable.{session_at}
@@ -7,7 +7,7 @@ use Rattle.frag_session.specs.Session.{Session, view_of}
 use Rattle.campaign_server.specs.declared.stage.Stage.{Stage}
 use Rattle.campaign_server.specs.Server.{ledger}
 use Rattle.wire_base.specs.Numbered.{numbered}
-use Rattle.report_lines.specs.Devices.{◌⧺◌, device_line, counts_line}
+use Rattle.report_lines.specs.Devices.{device_line, counts_line}
 use Rattle.report_lines.specs.Sessions.{same, session_line, session_lines, lines_below, lines_above}
 use Rattle.report_lines.proofs.Places.{line_by_index}
 use Rattle.campaign_world.specs.World.{WorldState}

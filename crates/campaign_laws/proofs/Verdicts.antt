@@ -1,5 +1,5 @@
 -- What a campaign says of each session, whoever sent what reached its device.
-use Rattle.std.proofs.Common.{◌≡◌, ℕ, zero, suc, ◌+◌, ◌-◌, map, slice_get, Bool, true, false, cond, ◌==◌, min, List, [], ◌∷◌, ◌++◌, length, fold, drop, codes, Option, None, Some, IfSome, Ok, refl, sym, ap, ◌∙◌, subst, arith, bytes_eq}
+use Rattle.std.proofs.Common.{◌≡◌, ◌<◌, ℕ, zero, suc, ◌+◌, ◌-◌, map, slice_get, Bool, true, false, cond, ◌==◌, min, List, [], ◌∷◌, ◌++◌, length, fold, drop, codes, Option, None, Some, IfSome, Ok, refl, sym, ap, ◌∙◌, subst, arith, bytes_eq}
 use Rattle.std.specs.Prelude.{filter_map, option_to_list}
 use Rattle.std.specs.Fmt.{decimal}
 use Rattle.frag_model.specs.Fragments.{Fragment}
@@ -23,7 +23,12 @@ use Rattle.campaign_world.specs.declared.numbered.SentPayload.{SentPayload}
 use Rattle.campaign_world.specs.World.{WorldState}
 use Rattle.campaign_world.specs.Making.{raw_down, device_of}
 use Rattle.campaign_world.specs.Script.{campaign_of}
-use Rattle.report_lines.specs.Sessions.{same_word, verdict_text, session_text, session_line}
+use Rattle.campaign_server.specs.declared.stage.Stage.{Stage}
+use Rattle.campaign_server.specs.Server.{ledger}
+use Rattle.report_lines.specs.Sessions.{same, same_word, verdict_text, session_text, session_line}
+use Rattle.campaign_world.specs.Report.{report_of}
+use Rattle.campaign_laws.specs.Told.{report_with_line}
+use Rattle.campaign_laws.proofs.Told.{line_parted}
 use Rattle.campaign_world.specs.Recovery.{file_by, file_of, recovery_by, recovery}
 use Rattle.device_core.specs.Events.{Event, Wakes, Receives, Migrates, after_event}
 use Rattle.campaign_laws.specs.Independence.{device_in, first_devices, time_after, reception, event_in, history_of}

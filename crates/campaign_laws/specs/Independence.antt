@@ -2,7 +2,6 @@
 -- what its script tells of it. No campaign stands in what is folded: only the forms of the lines, and the payloads that
 -- were sent in all.
 use Rattle.std.specs.Prelude.{◌≡◌, ℕ, ◌+◌, ◌==◌, if◌then◌else◌, List, [], ◌∷◌, ◌++◌, map, fold, filter_map, Option, Some, None, option_map, option_to_list, Ok}
-use Rattle.package_grammar.specs.declared.downlink.Downlink.{Downlink}
 use Rattle.device_core.specs.Device.{DeviceState}
 use Rattle.device_core.specs.Events.{Event, Wakes, Receives, Migrates, after_event}
 use Rattle.wire_base.specs.Numbered.{numbered}

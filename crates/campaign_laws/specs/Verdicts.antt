@@ -1,16 +1,13 @@
 -- What a campaign says of each session, whoever sent what reached its device: each is decided at its first moment, over what
 -- its lines brought. (TS004-1.0.0 leaves recovery to the device; when it ends, and how, is this project's profile.)
-use Rattle.std.specs.Prelude.{◌≡◌, ℕ, ◌<◌, ◌≤◌, List, [], ◌∷◌, ◌++◌, length, codes, Some, Ok}
+use Rattle.std.specs.Prelude.{◌≡◌, ℕ, ◌<◌, List, ◌++◌, length, codes, Some, Ok}
 use Rattle.std.specs.Str.{bytes_eq}
 use Rattle.std.specs.Fmt.{decimal}
 use Rattle.wire_base.specs.declared.refusal.Direction.TheVariants.{Down as Downwards}
-use Rattle.frag_model.specs.Fragments.{Fragment}
 use Rattle.frag_model.specs.Members.{In}
-use Rattle.frag_session.specs.Session.{Session, shape_of, seen_of}
+use Rattle.frag_session.specs.Session.{Session, shape_of}
 use Rattle.frag_session.specs.FirstMoment.{AfterEach, IsOpen, IsWhole, Overflows, NoFileFits, FirstAt, IsDecidedAtFirst}
-use Rattle.cast_wire.specs.declared.cmd.Cmd.TheVariants.{DataFragment}
 use Rattle.package_grammar.specs.declared.command.Command.{Command}
-use Rattle.package_grammar.specs.declared.command.Command.TheVariants.{Cast}
 use Rattle.package_grammar.specs.declared.downlink.Downlink.{Downlink}
 use Rattle.package_grammar.specs.Grammar.{IsMessage}
 use Rattle.device_core.specs.SessionTable.{session_at}

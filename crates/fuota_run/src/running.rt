@@ -95,10 +95,10 @@ pub fn run<F: Files, O: Sink>(alloc: Global, words: &[String], files: &mut F, ou
 fn reply_to<F: Files>(alloc: Global, words: &[String], files: &mut F) -> Result<Reply, AllocError>
     requires { HoldsForm (F.held files.old) (map string_bytes words.now) }
     ensures reply { IfOk result (λ r. Replies (asked (map string_bytes words.now)) (record {
-        held = F.held files.old;
-        before = F.faults files.old;
-        after = F.faults files.new;
-        left = F.left files.new;
+      held = F.held files.old;
+      before = F.faults files.old;
+      after = F.faults files.new;
+      left = F.left files.new;
     }) (answer_in r)) }
     ensures untouched { asks_files (asked (map string_bytes words.now)) ≡ false → files.new ≡ files.old }
 {
@@ -116,10 +116,10 @@ fn reply_for<F: Files>(
 ) -> Result<Reply, AllocError>
     requires { HoldsAsked (F.held files.old) (seen_asked what) }
     ensures reply { IfOk result (λ r. Replies (seen_asked what.entry) (record {
-        held = F.held files.old;
-        before = F.faults files.old;
-        after = F.faults files.new;
-        left = F.left files.new;
+      held = F.held files.old;
+      before = F.faults files.old;
+      after = F.faults files.new;
+      left = F.left files.new;
     }) (answer_in r)) }
     ensures untouched { asks_files (seen_asked what.entry) ≡ false → files.new ≡ files.old }
 {
@@ -148,10 +148,10 @@ fn campaign<F: Files>(
     requires image { HoldsName (F.held files.old) image_name.now }
     requires script { HoldsName (F.held files.old) script_name.now }
     ensures { IfOk result (λ r. Replies (Some (plays what image_name.now script_name.now)) (record {
-        held = F.held files.old;
-        before = F.faults files.old;
-        after = F.faults files.new;
-        left = F.left files.new;
+      held = F.held files.old;
+      before = F.faults files.old;
+      after = F.faults files.new;
+      left = F.left files.new;
     }) (answer_in r)) }
 {
     let image = match read_source(alloc, files, image_name, IMAGE_LIMIT) {
@@ -176,11 +176,11 @@ fn script<F: Files>(
     requires script { HoldsName (F.held files.old) name.now }
     ensures { (image_name : List ℕ) → IsImageRead (F.held files.old) image_name image.now
         → IfOk result (λ r. Replies (Some (plays what image_name name.now)) (record {
-        held = F.held files.old;
-        before = F.faults files.old;
-        after = F.faults files.new;
-        left = F.left files.new;
-    }) (answer_in r)) }
+          held = F.held files.old;
+          before = F.faults files.old;
+          after = F.faults files.new;
+          left = F.left files.new;
+        }) (answer_in r)) }
 {
     let mut heard = World::new(alloc, image)?;
     hear_script(alloc, files, what, &mut heard, name)
@@ -199,11 +199,11 @@ fn hear_script<F: Files>(
     ensures { (image image_name : List ℕ) → WorldStands heard.old (first_world image)
         → IsImageRead (F.held files.old) image_name image
         → IfOk result (λ r. Replies (Some (plays what image_name name.now)) (record {
-        held = F.held files.old;
-        before = F.faults files.old;
-        after = F.faults files.new;
-        left = F.left files.new;
-    }) (answer_in r)) }
+          held = F.held files.old;
+          before = F.faults files.old;
+          after = F.faults files.new;
+          left = F.left files.new;
+        }) (answer_in r)) }
 {
     match hear_source(files, name, SCRIPT_LIMIT, heard) {
         Ok(()) => reply_of(alloc, tell_of(alloc, what, heard)),
@@ -220,10 +220,10 @@ fn payloads<F: Files>(
 ) -> Result<Reply, AllocError>
     requires { HoldsName (F.held files.old) name.now }
     ensures { IfOk result (λ r. Replies (Some (payloads what name.now)) (record {
-        held = F.held files.old;
-        before = F.faults files.old;
-        after = F.faults files.new;
-        left = F.left files.new;
+      held = F.held files.old;
+      before = F.faults files.old;
+      after = F.faults files.new;
+      left = F.left files.new;
     }) (answer_in r)) }
 {
     match what {
@@ -248,10 +248,10 @@ fn hear_replay<F: Files>(
     requires file { HoldsName (F.held files.old) name.now }
     requires fresh { ReplayingStands heard.old [] }
     ensures { IfOk result (λ r. Replies (Some (payloads Replay name.now)) (record {
-        held = F.held files.old;
-        before = F.faults files.old;
-        after = F.faults files.new;
-        left = F.left files.new;
+      held = F.held files.old;
+      before = F.faults files.old;
+      after = F.faults files.new;
+      left = F.left files.new;
     }) (answer_in r)) }
 {
     match hear_source(files, name, SCRIPT_LIMIT, heard) {
@@ -270,10 +270,10 @@ fn hear_decode<F: Files>(
     requires file { HoldsName (F.held files.old) name.now }
     requires fresh { DecodingStands heard.port heard.direction heard [] }
     ensures { IfOk result (λ r. Replies (Some (payloads (Decode heard.port heard.direction) name.now)) (record {
-        held = F.held files.old;
-        before = F.faults files.old;
-        after = F.faults files.new;
-        left = F.left files.new;
+      held = F.held files.old;
+      before = F.faults files.old;
+      after = F.faults files.new;
+      left = F.left files.new;
     }) (answer_in r)) }
 {
     match hear_source(files, name, SCRIPT_LIMIT, &mut heard) {

@@ -58,6 +58,6 @@ pub record AreTexts : Type 0 where
   pub replay : replay_text worked_device ≡ codes
       "fuota replay 1\ncounts deaf 0 refused 1 full 2 dropped 3\nsession 0 received 0 missing 2 receiving\nsession 2 received 0 missing 1 receiving\nend\n"
   pub other_replay : replay_text (record worked_device {
-      sessions = record worked_device.sessions { first = None; second = Some (worked_session 1 4); fourth = Some (worked_session 3 3) };
-    }) ≡ codes
+    sessions = record worked_device.sessions { first = None; second = Some (worked_session 1 4); fourth = Some (worked_session 3 3) };
+  }) ≡ codes
       "fuota replay 1\ncounts deaf 0 refused 1 full 2 dropped 3\nsession 1 received 0 missing 4 receiving\nsession 2 received 0 missing 1 receiving\nsession 3 received 0 missing 3 receiving\nend\n"
