@@ -1,5 +1,5 @@
 -- How a run ends where no count of faults can rise.
-use Rattle.std.proofs.Common.{◌≡◌, ℕ, List, Option, Some, arith}
+use Rattle.std.proofs.Common.{ℕ, List, Option, Some, arith}
 use Rattle.fuota_run.specs.Outside.{Held}
 use Rattle.fuota_run.specs.declared.status.Status.{Status}
 use Rattle.fuota_run.specs.declared.status.Status.TheVariants as status

@@ -1,5 +1,5 @@
 -- Answers worked out: the status that the program ends with, and what is written with it.
-use Rattle.std.specs.Prelude.{◌≡◌, ℕ, codes}
+use Rattle.std.specs.Prelude.{◌≡◌, codes}
 use Rattle.fuota_run.specs.declared.status.Status.TheVariants as status
 use Rattle.campaign_world.specs.declared.recovery.NoFile.TheVariants as no_file
 use Rattle.report_lines.specs.declared.faults.LineWhy.TheVariants as why

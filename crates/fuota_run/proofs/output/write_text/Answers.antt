@@ -1,4 +1,4 @@
-use Rattle.std.proofs.Common.{◌+◌, ◌∙◌, ap, drop, List, ℕ, subst, take, arith}
+use Rattle.std.proofs.Common.{◌+◌, ◌∙◌, ap, drop, List, ℕ, subst, take}
 use Rattle.std.proofs.lemmas.List.{drop-drop}
 use Rattle.std.specs.Io.KnownBytes.{Appends}
 use Rattle.fuota_run.proofs.Writing.{appends_on}

@@ -1,4 +1,4 @@
-use Rattle.std.proofs.Common.{◌≡◌, ℕ, ◌≤◌, take, drop, length}
+use Rattle.std.proofs.Common.{◌≡◌, ℕ, take, drop, length}
 use Rattle.std.specs.Io.KnownBytes.{Appends}
 use Rattle.fuota_run.proofs.output.write_text.Given as goal
 

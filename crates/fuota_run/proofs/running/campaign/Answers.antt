@@ -1,7 +1,6 @@
 use Rattle.std.proofs.Common.{rules, ◌≡◌, inl, true, false, ℕ, List, Option, Some, refl, sym, ap, subst, ◌∙◌}
 use Rattle.image_slots.specs.Image.{is_image}
 use Rattle.fuota_run.specs.Limits.{image_limit}
-use Rattle.fuota_run.specs.Answer.{Answer}
 use Rattle.fuota_run.specs.Outside.{Held}
 use Rattle.fuota_run.specs.Words.{plays}
 use Rattle.fuota_run.specs.Reply.{Replies, IsImageRead}

@@ -1,4 +1,4 @@
-use Rattle.std.proofs.Common.{◌≡◌, inr, Some, Ok, refl}
+use Rattle.std.proofs.Common.{inr, Some, Ok, refl}
 use Rattle.script_lines.specs.Lines.{lines_of}
 use Rattle.campaign_world.specs.World.{first_world}
 use Rattle.campaign_world.specs.Script.{read_lines, campaign_of}
