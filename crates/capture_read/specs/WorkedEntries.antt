@@ -37,7 +37,7 @@ pub record WorkedEntries : Type 0 where
 pub record WorkedRefusals : Type 0 where
   pub array : entry_of (codes "[]") ≡ Err fault.Syntax
   pub nothing : entry_of [] ≡ Err fault.Syntax
-  pub bad_text : entry_of (0xff ∷ []) ≡ Err fault.Syntax
+  pub bad_text : entry_of (line_with (codes "1") (codes "\"up\",\"x\":\"" ++ 0xff ∷ codes "\"") (codes "\"\"")) ≡ Err fault.Syntax
   pub without_port : entry_of (codes "{\"dir\":\"up\",\"hex\":\"5a\"}") ≡ Err fault.Syntax
   pub other_direction : entry_of (line_with (codes "1") (codes "\"Up\"") (codes "\"5a\"")) ≡ Err fault.Syntax
   pub odd : entry_of (line_of_hex (codes "\"5\"")) ≡ Err fault.Syntax
