@@ -9,6 +9,8 @@ unfolding xtime sum_of_products times inverse affine_bit sub_byte sub_bytes shif
 keys = record {
   root = refl;
   root_1_1 = refl;
+  of_1_0 = refl;
+  of_1_1 = refl;
   kek = refl;
   unwrapped = refl;
 }

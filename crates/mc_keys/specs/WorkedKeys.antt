@@ -1,6 +1,8 @@
 -- The keys of one device and one group, worked out with another AES.
 use Rattle.std.specs.Prelude.{◌≡◌, List, ℕ, [], ◌∷◌}
 use Rattle.mc_keys.specs.Keys.{mc_root_key, mc_root_key_1_1, mc_ke_key, mc_key, mc_app_s_key, mc_net_s_key}
+use Rattle.mc_keys.specs.declared.root_kind.RootKind.TheVariants.{V10, V11}
+use Rattle.mc_keys.specs.Roots.{root_of}
 
 abbrev pub worked_gen_app_key : List ℕ
 worked_gen_app_key = 0x00 ∷ 0x01 ∷ 0x02 ∷ 0x03 ∷ 0x04 ∷ 0x05 ∷ 0x06 ∷ 0x07 ∷ 0x08 ∷ 0x09 ∷ 0x0a ∷ 0x0b ∷ 0x0c ∷ 0x0d ∷ 0x0e ∷ 0x0f ∷ []
@@ -25,6 +27,8 @@ worked_wrapped = 0xb0 ∷ 0xe6 ∷ 0x27 ∷ 0x7d ∷ 0x71 ∷ 0x4c ∷ 0x73 ∷ 
 pub record WorkedKeys : Type 0 where
   pub root : mc_root_key worked_gen_app_key ≡ worked_root
   pub root_1_1 : mc_root_key_1_1 worked_gen_app_key ≡ worked_root_1_1
+  pub of_1_0 : root_of V10 worked_gen_app_key ≡ worked_root
+  pub of_1_1 : root_of V11 worked_gen_app_key ≡ worked_root_1_1
   pub kek : mc_ke_key worked_root ≡ worked_kek
   pub unwrapped : mc_key worked_kek worked_wrapped ≡ worked_key
 

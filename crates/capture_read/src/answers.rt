@@ -1,0 +1,31 @@
+//! Entries, and why a line is none.
+
+use wire_base::{Direction, Payload};
+
+/// What a line of a capture tells: a payload, the port that it came on and its direction.
+#[derive(Debug, Drop, PartialEq)]
+pub struct Entry {
+    pub port: u8,
+    pub dir: Direction,
+    pub payload: Payload,
+}
+
+/// Why a line is no entry: the first of these that holds.
+#[derive(Clone, Copy, Debug, PartialEq, Eq)]
+pub enum EntryFault {
+    /// No JSON object, or a member is missing or of another kind.
+    Syntax,
+    /// The port is not from 0 to 255.
+    Range,
+    /// The payload is longer than a frame can carry.
+    Limit,
+}
+
+/// Why no entry was read.
+#[derive(Clone, Copy, Debug, PartialEq, Eq)]
+pub enum EntryError {
+    /// The line is refused.
+    Refused(EntryFault),
+    /// Memory was wanting.
+    Memory,
+}

@@ -1,0 +1,24 @@
+//! One line of a capture: a JSON object (RFC 8259) with a payload in hex, its port and its direction. (This project's
+//! profile.)
+//! Whatever bytes are handed in, they are an entry exactly where the definition says so, over the value that `serde_json`
+//! reads; and a refusal names the first cause that holds.
+//! Lines, their numbers, and what becomes of an entry are left to the crates above.
+//!
+//!     match entry(alloc, br#"{"port":201,"dir":"down","hex":"0801005a"}"#) {
+//!         Ok(entry) => hear(entry.port, entry.dir, &entry.payload),
+//!         Err(EntryError::Refused(fault)) => refuse(fault),  // the first that holds
+//!         Err(EntryError::Memory) => give_up(),
+//!     }
+#![tactic(auto)]
+
+mod answers;
+mod laws;
+mod members;
+mod reading;
+
+pub use answers::{Entry, EntryError, EntryFault};
+pub use laws::{entries_fit_frames, worked_entries};
+pub use reading::entry;
+
+#[cfg(test)]
+mod tests;

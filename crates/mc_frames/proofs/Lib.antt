@@ -1,0 +1,5 @@
+pub mod Apart
+pub mod Faults
+pub mod Filled
+pub mod Lengths
+pub mod WorkedFrames

@@ -1,0 +1,59 @@
+-- The worked codes, frames and faults, by computing.
+use Rattle.std.proofs.Common.{◌≡◌, [], ◌∷◌, refl}
+use Rattle.aes_block.specs.Field.{xtime, sum_of_products, times, inverse, affine_bit, sub_byte}
+use Rattle.aes_block.specs.Cipher.{sub_bytes, shift_rows, mixed, mix_columns, add_round_key, next_words, words_from, after_round, cipher}
+use Rattle.wire_base.specs.Numbers.{number_at}
+use Rattle.mc_frames.specs.Cmac.{xor_blocks, shifted, subkey, last_block, chained, cmac}
+use Rattle.mc_frames.specs.Frames.{stream_byte, ciphered, message_of, mic, frame_of}
+use Rattle.mc_frames.specs.Opening.{fault_of}
+use Rattle.mc_frames.specs.WorkedFrames.{worked_keys, worked_frame, pending_frame, WorkedCodes, WorkedFrames, WorkedFaults, WorkedOrder}
+
+pub codes : WorkedCodes
+unfolding xtime sum_of_products times inverse affine_bit sub_byte sub_bytes shift_rows mixed mix_columns add_round_key next_words words_from after_round cipher xor_blocks shifted subkey last_block chained cmac
+codes = record {
+  empty = refl;
+  block = refl;
+}
+
+frame : frame_of worked_keys 0x11223344 0x00 65537 201 (0xab ∷ 0xcd ∷ []) ≡ worked_frame 0xec
+unfolding xtime sum_of_products times inverse affine_bit sub_byte sub_bytes shift_rows mixed mix_columns add_round_key next_words words_from after_round cipher xor_blocks shifted subkey last_block chained cmac ciphered message_of mic frame_of
+frame = refl
+
+pending : frame_of worked_keys 0x11223344 0x10 65537 201 (0xab ∷ 0xcd ∷ []) ≡ pending_frame
+unfolding xtime sum_of_products times inverse affine_bit sub_byte sub_bytes shift_rows mixed mix_columns add_round_key next_words words_from after_round cipher xor_blocks shifted subkey last_block chained cmac ciphered message_of mic frame_of
+pending = refl
+
+second_block : stream_byte worked_keys.app_s 0x11223344 0x01020304 16 ≡ 0xd3
+unfolding xtime sum_of_products times inverse affine_bit sub_byte sub_bytes shift_rows mixed mix_columns add_round_key next_words words_from after_round cipher
+second_block = refl
+
+pub frames : WorkedFrames
+frames = record {
+  frame = frame;
+  pending = pending;
+  second_block = second_block;
+}
+
+pub faults : WorkedFaults
+unfolding xtime sum_of_products times inverse affine_bit sub_byte sub_bytes shift_rows mixed mix_columns add_round_key next_words words_from after_round cipher xor_blocks shifted subkey last_block chained cmac ciphered message_of mic frame_of number_at fault_of
+faults = record {
+  none = refl;
+  pending = refl;
+  bit_turned = refl;
+  at_max = refl;
+  next_round = refl;
+  next_round_is_due = refl;
+}
+
+pub order : WorkedOrder
+unfolding number_at fault_of
+order = record {
+  short = refl;
+  shortest = refl;
+  long = refl;
+  longest = refl;
+  header = refl;
+  address = refl;
+  port = refl;
+  count = refl;
+}

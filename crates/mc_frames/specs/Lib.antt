@@ -1,0 +1,5 @@
+pub mod Cmac
+pub mod Frames
+pub mod Limits
+pub mod Opening
+pub mod WorkedFrames

@@ -1,0 +1,66 @@
+-- Codes, a frame and its faults, worked out with another AES and CMAC.
+use Rattle.std.specs.Prelude.{◌≡◌, ℕ, List, [], ◌∷◌, ◌++◌, take, drop, replicate, Some, None}
+use Rattle.mc_frames.specs.declared.session.Keys.{Keys}
+use Rattle.mc_frames.specs.declared.fault.FrameFault.TheVariants.{Short, Long, Header, Address, Port, Count, Mic}
+use Rattle.mc_frames.specs.Cmac.{cmac}
+use Rattle.mc_frames.specs.Frames.{stream_byte, frame_of}
+use Rattle.mc_frames.specs.Opening.{fault_of}
+
+-- the key of the examples of RFC 4493
+abbrev pub example_key : List ℕ
+example_key = 0x2b ∷ 0x7e ∷ 0x15 ∷ 0x16 ∷ 0x28 ∷ 0xae ∷ 0xd2 ∷ 0xa6 ∷ 0xab ∷ 0xf7 ∷ 0x15 ∷ 0x88 ∷ 0x09 ∷ 0xcf ∷ 0x4f ∷ 0x3c ∷ []
+
+-- the first block of the messages of these examples
+abbrev pub example_block : List ℕ
+example_block = 0x6b ∷ 0xc1 ∷ 0xbe ∷ 0xe2 ∷ 0x2e ∷ 0x40 ∷ 0x9f ∷ 0x96 ∷ 0xe9 ∷ 0x3d ∷ 0x7e ∷ 0x11 ∷ 0x73 ∷ 0x93 ∷ 0x17 ∷ 0x2a ∷ []
+
+-- of an empty message, and of a whole block (4, examples 1 and 2)
+pub record WorkedCodes : Type 0 where
+  pub empty : cmac example_key [] ≡ 0xbb ∷ 0x1d ∷ 0x69 ∷ 0x29 ∷ 0xe9 ∷ 0x59 ∷ 0x37 ∷ 0x28 ∷ 0x7f ∷ 0xa3 ∷ 0x7d ∷ 0x12 ∷ 0x9b ∷ 0x75 ∷ 0x67 ∷ 0x46 ∷ []
+  pub block : cmac example_key example_block ≡ 0x07 ∷ 0x0a ∷ 0x16 ∷ 0xb4 ∷ 0x6b ∷ 0x4d ∷ 0x41 ∷ 0x44 ∷ 0xf7 ∷ 0x9b ∷ 0xdd ∷ 0x9d ∷ 0xd0 ∷ 0x4a ∷ 0x28 ∷ 0x7c ∷ []
+
+-- two session keys
+abbrev pub worked_keys : Keys
+worked_keys = record {
+  app_s = 0x00 ∷ 0x01 ∷ 0x02 ∷ 0x03 ∷ 0x04 ∷ 0x05 ∷ 0x06 ∷ 0x07 ∷ 0x08 ∷ 0x09 ∷ 0x0a ∷ 0x0b ∷ 0x0c ∷ 0x0d ∷ 0x0e ∷ 0x0f ∷ [];
+  net_s = 0x10 ∷ 0x11 ∷ 0x12 ∷ 0x13 ∷ 0x14 ∷ 0x15 ∷ 0x16 ∷ 0x17 ∷ 0x18 ∷ 0x19 ∷ 0x1a ∷ 0x1b ∷ 0x1c ∷ 0x1d ∷ 0x1e ∷ 0x1f ∷ [];
+}
+
+-- a frame whose last byte, that of its MIC, is as given
+abbrev pub worked_frame : (last : ℕ) → List ℕ
+worked_frame last = 0x60 ∷ 0x44 ∷ 0x33 ∷ 0x22 ∷ 0x11 ∷ 0x00 ∷ 0x01 ∷ 0x00 ∷ 0xc9 ∷ 0x06 ∷ 0x5a ∷ 0xa8 ∷ 0xb9 ∷ 0x4b ∷ last ∷ []
+
+-- the same with FCtrl 10
+abbrev pub pending_frame : List ℕ
+pending_frame = 0x60 ∷ 0x44 ∷ 0x33 ∷ 0x22 ∷ 0x11 ∷ 0x10 ∷ 0x01 ∷ 0x00 ∷ 0xc9 ∷ 0x06 ∷ 0x5a ∷ 0xf8 ∷ 0xaf ∷ 0xbc ∷ 0x81 ∷ []
+
+-- the first of these frames without its port
+abbrev pub portless_frame : List ℕ
+portless_frame = take 8 (worked_frame 0xec) ++ 0 ∷ drop 9 (worked_frame 0xec)
+
+-- address 11223344, count 65,537, port 201, payload abcd; the same with FCtrl 10; and of count 01020304 the byte with
+-- which the 17th of a payload is encrypted
+pub record WorkedFrames : Type 0 where
+  pub frame : frame_of worked_keys 0x11223344 0x00 65537 201 (0xab ∷ 0xcd ∷ []) ≡ worked_frame 0xec
+  pub pending : frame_of worked_keys 0x11223344 0x10 65537 201 (0xab ∷ 0xcd ∷ []) ≡ pending_frame
+  pub second_block : stream_byte worked_keys.app_s 0x11223344 0x01020304 16 ≡ 0xd3
+
+-- heard with counts from 2 to below 70,000, or others
+pub record WorkedFaults : Type 0 where
+  pub none : fault_of worked_keys 0x11223344 2 70000 (worked_frame 0xec) ≡ None
+  pub pending : fault_of worked_keys 0x11223344 2 70000 pending_frame ≡ None
+  pub bit_turned : fault_of worked_keys 0x11223344 2 70000 (worked_frame 0xed) ≡ Some Mic
+  pub at_max : fault_of worked_keys 0x11223344 2 65537 (worked_frame 0xec) ≡ Some Count
+  pub next_round : fault_of worked_keys 0x11223344 65538 131073 (worked_frame 0xec) ≡ Some Count
+  pub next_round_is_due : fault_of worked_keys 0x11223344 65538 131074 (worked_frame 0xec) ≡ Some Mic
+
+-- where several faults hold, the first
+pub record WorkedOrder : Type 0 where
+  pub short : fault_of worked_keys 0x11223344 2 70000 (take 12 (worked_frame 0xec)) ≡ Some Short
+  pub shortest : fault_of worked_keys 0x11223344 2 70000 (replicate 13 0) ≡ Some Header
+  pub long : fault_of worked_keys 0x11223344 2 70000 (replicate 256 0) ≡ Some Long
+  pub longest : fault_of worked_keys 0x11223344 2 70000 (replicate 255 0) ≡ Some Header
+  pub header : fault_of worked_keys 0x11223344 2 70000 (0x40 ∷ drop 1 (worked_frame 0xec)) ≡ Some Header
+  pub address : fault_of worked_keys 0x11223345 2 70000 portless_frame ≡ Some Address
+  pub port : fault_of worked_keys 0x11223344 2 65537 portless_frame ≡ Some Port
+  pub count : fault_of worked_keys 0x11223344 2 65537 (worked_frame 0xed) ≡ Some Count
