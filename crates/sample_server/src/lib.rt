@@ -1,0 +1,103 @@
+//! A sample: a campaign as a network server drives it, from the plan to the ledger (TS004, TS005 and TS006, 1.0.0). What goes
+//! into a queue, and what an uplink makes of it. When anything is sent, duty cycles and FPending are left to the operator.
+#![tactic(auto)]
+
+ghost use Rattle.std.specs.Prelude.{◌≡◌, ◌≤◌, ◌<◌, ◌↔◌, true, false, length, Some, Ok, Err, IfOk};
+ghost use Rattle.std.specs.Result.{result_ok};
+ghost use Rattle.image_slots.specs.Image.{is_image};
+ghost use Rattle.campaign_server.specs.declared.plan.Field.{Field};
+ghost use Rattle.campaign_server.specs.Plan.{bad_field};
+ghost use Rattle.campaign_server.specs.Server.{first_server, ledger};
+ghost use Rattle.campaign_server.specs.Sent.{down_of, answer_of};
+ghost use Rattle.campaign_server.specs.Asking.{request_of};
+ghost use Rattle.campaign_server.specs.Fragments.{next_fragment, after_fragment};
+ghost use Rattle.campaign_server.specs.Uplinks.{uplink_step};
+ghost use Rattle.sample_server.specs.Campaign.{plan_for};
+ghost use Rattle.campaign_server.specs.declared.stage.Stage.TheVariants.{Updated};
+
+use campaign_server::{Kind, Plan, PlanDevice, PlanGroup, PlanWindow, Server, ServerError, Stage};
+use package_grammar::Downlink;
+use std::alloc::Global;
+use wire_base::Refusal;
+
+// sample
+/// A campaign of an image file, by a group of class C: pieces of 48 bytes, 16 coded fragments, and a window of 2^10 s from
+/// `start` on, in s of GPS time, on 869.525 MHz at data rate 0. Its devices, 1 to 64, are numbered in order from 1.
+pub fn campaign(
+    alloc: Global,
+    image: &[u8],
+    group: PlanGroup,
+    start: u32,
+    devices: Vec<PlanDevice>,
+) -> Result<Server, ServerError>
+    requires { is_image image.now ≡ true }
+    ensures fresh { IfOk result (λ s. s ≡ first_server image.now (plan_for group start devices.items)) }
+    ensures bad_plan { (field : Field) → (result ≡ Err (ServerError.BadPlan field))
+        ↔ (bad_field (length image.now) (plan_for group start devices.items) ≡ Some field) }
+{
+    let plan = Plan {
+        frag_size: 48,
+        parity: 16,
+        group: Some(group),
+        window: Some(PlanWindow {
+            kind: Kind::C,
+            start,
+            timeout: 10,
+            freq: 8_695_250,
+            dr: 0,
+        }),
+        devices,
+    };
+    Server::new(alloc, plan, image)
+}
+
+/// What goes into the queue of a device: the request of its stage, as port and bytes, unconfirmed. It is sent again when no
+/// answer comes; with None the device is updated, or refused.
+pub fn queue_of(server: &Server, device: u8) -> Option<Downlink>
+    requires first { 1 ≤ device }
+    requires last { device ≤ length server.now.plan.devices }
+    ensures { result ≡ down_of (request_of server.now device) }
+{
+    server.ask(device)
+}
+
+/// What goes into the queue of the group, with the frame count that stands in it: the next fragment, once all devices have
+/// their window; None behind the last of them, or where the group's counts are spent.
+pub fn queue_of_group(server: &mut Server) -> Option<Downlink>
+    ensures fragment { result ≡ down_of (result_ok (next_fragment server.old)) }
+    ensures moved { server.new ≡ after_fragment server.old }
+{
+    match server.next_fragment() {
+        Ok(fragment) => Some(fragment),
+        Err(_) => None,
+    }
+}
+
+/// An uplink of a device came at `t` ms of GPS time: its stage moves, and an answer goes into its queue where one is due.
+pub fn came(
+    server: &mut Server,
+    device: u8,
+    port: u8,
+    payload: &[u8],
+    t: u64,
+) -> Result<Option<Downlink>, Refusal>
+    requires first { 1 ≤ device }
+    requires last { device ≤ length server.old.plan.devices }
+    ensures moved { server.new ≡ (uplink_step server.old device port payload.now t).server }
+    ensures answer { result ≡ answer_of (uplink_step server.old device port payload.now t).answer }
+{
+    server.uplink(device, port, payload, t)
+}
+
+/// Whether a device runs the image, as far as its answers tell.
+pub fn is_updated(server: &Server, device: u8) -> bool
+    requires first { 1 ≤ device }
+    requires last { device ≤ length server.now.plan.devices }
+    ensures { (result ≡ true) ↔ (ledger server.now device ≡ Some Updated) }
+{
+    server.ledger(device) == Stage::Updated
+}
+// end of sample
+
+#[cfg(test)]
+mod tests;
