@@ -1,7 +1,7 @@
 //! What is told of captured payloads, line by line.
 
 use super::*;
-use campaign_world::{LineError, LineFault, LineWhy};
+use report_lines::{LineError, LineFault, LineWhy};
 use script_lines::{Lines, hear_last, hear_piece};
 use std::alloc::Global;
 use std::process::Abort;

@@ -1,7 +1,8 @@
-use campaign_world::{LineError, LineFault, LineWhy, NoFile, World};
+use campaign_world::{NoFile, World};
 use device_core::{Class, Delivered, Device, DeviceConfig, MAX_AREA};
 use image_slots::{ImageState, is_image};
 use package_grammar::{Downlink, To};
+use report_lines::{LineError, LineFault, LineWhy};
 use std::process::Abort;
 use std::test::*;
 use wire_base::{Payload, Refusal, Why};
