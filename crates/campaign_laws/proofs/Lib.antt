@@ -35,3 +35,4 @@ pub mod Ranks
 pub mod Calm
 pub mod Untouched
 pub mod Once
+pub mod OnceHeld

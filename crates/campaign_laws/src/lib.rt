@@ -1,12 +1,12 @@
 //! What holds of whole campaigns, whichever lines they have and whichever seed they come from: the headline, the verdicts of
-//! sessions, the independence of devices, the ledger. There is no code here: the laws are said of what `campaign_world` takes,
-//! and of what `campaign_generator` makes.
+//! sessions, the independence of devices, the ledger. There is no code here: the laws are said of what `campaign_world` takes
+//! and holds, and of what `campaign_generator` makes.
 #![tactic(auto)]
 
 mod laws;
 
 pub use laws::{
     a_past_answer_moves_none, a_script_has_its_devices, an_uplink_moves_once,
-    devices_are_independent, generated_campaigns_are_accepted, headline, recovers_the_image,
+    devices_are_independent, each_uplink_moves_once, generated_campaigns_are_accepted, headline, recovers_the_image,
     sessions_are_decided_at_first, sessions_live, the_ledger_is_true, worked_campaigns,
 };

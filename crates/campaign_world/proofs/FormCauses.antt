@@ -8,7 +8,6 @@ use Rattle.frag_encoder.specs.Encoding.{nb_frag_of}
 use Rattle.image_slots.specs.Image.{is_image}
 use Rattle.image_slots.proofs.ImageLemmas.{image_long}
 use Rattle.device_core.specs.Device.{DeviceState, max_formats}
-use Rattle.device_core.specs.HeldDevice.{HeldDevice}
 use Rattle.campaign_server.specs.declared.plan.PlanGroup.{PlanGroup}
 use Rattle.campaign_server.specs.Plan.{Plan, is_frag_size, is_group, bad_field}
 use Rattle.campaign_server.specs.declared.plan.Field.{Field}
@@ -28,6 +27,7 @@ use Rattle.campaign_world.specs.Causes.{is_device, is_event_or_end, may_come, fi
 use Rattle.script_lines.specs.Forms.{form_of}
 use Rattle.script_lines.specs.Limits.{max_lines, max_line, max_time, max_rows, max_devices}
 use Rattle.frag_model.specs.Limits.{max_pieces}
+use Rattle.campaign_world.specs.Late.{Late}
 use Rattle.campaign_world.specs.HeldWorld.{HeldWorld, server_of, world_of, IsFine}
 use Rattle.campaign_world.specs.Making.{device_of, formats_of}
 use Rattle.script_lines.specs.declared.forms.Class.{Class}
@@ -117,7 +117,7 @@ unfolding status_to_all
 first_status image plan grouped = rw (counts_left plan.group grouped) refl
 
 -- before the first event something is left to send for each form that may come
-pub unmade_sends : (image : List ℕ) (section : Section) (plan : Plan) (devices : List HeldDevice) (form : Form) → is_image image ≡ true
+pub unmade_sends : (image : List ℕ) (section : Section) (plan : Plan) (devices : List Late) (form : Form) → is_image image ≡ true
     → IsPlanned image section plan devices None → may_come section form ≡ true → has_more (first_server image plan) form ≡ true
 unmade_sends image section plan devices form.Frag fine planned comes = by_section section planned comes
   where
@@ -161,12 +161,12 @@ unmade_sends image section plan devices form.End fine planned comes = refl
 
 -- ---- the image is the one that is held
 
-pub image_held : (image : List ℕ) (plan : Plan) (devices : List HeldDevice) (server : Option ServerState) → ServerIs image devices server
+pub image_held : (image : List ℕ) (plan : Plan) (devices : List Late) (server : Option ServerState) → ServerIs image devices server
     → (server_of image plan server).image ≡ image
 image_held image plan devices None built = refl
 image_held image plan devices (Some server) built = built.image_is
 
-pub numbered_alike : (image : List ℕ) (devices : List HeldDevice) (server : ServerState) (count : ℕ) → ServerIs image devices (Some server) → count ≡ length devices → length server.plan.devices ≡ count
+pub numbered_alike : (image : List ℕ) (devices : List Late) (server : ServerState) (count : ℕ) → ServerIs image devices (Some server) → count ≡ length devices → length server.plan.devices ≡ count
 numbered_alike image devices server count built is = built.numbers ∙ sym is
 
 -- an image line that is in range has a fragment size from 1 to 239
@@ -179,12 +179,12 @@ size_in_range f ranges frag_size parity is =
 
 -- ---- what the tests of the code say, of the campaign that is stood for
 
-pub fits_from : (image : List ℕ) (plan : Plan) (held : List HeldDevice) (server : Option ServerState) (devices : List DeviceState) (f : Form) (test : Bool) (img : List ℕ) (hd : List HeldDevice)
+pub fits_from : (image : List ℕ) (plan : Plan) (held : List Late) (server : Option ServerState) (devices : List DeviceState) (f : Form) (test : Bool) (img : List ℕ) (hd : List Late)
     → ServerIs image held server → length devices ≡ length held → img ≡ image → hd ≡ held → test ≡ fits_script (length img) (length hd) f
     → fits_script (length (server_of image plan server).image) (length devices) f ≡ test
 fits_from image plan held server devices f test img hd built count img_is hd_is is = rw (image_held image plan held server built, count, ← img_is, ← hd_is) (sym is)
 
-pub names_from : (held : List HeldDevice) (devices : List DeviceState) (f : Form) (test : Bool) (hd : List HeldDevice)
+pub names_from : (held : List Late) (devices : List DeviceState) (f : Form) (test : Bool) (hd : List Late)
     → length devices ≡ length held → hd ≡ held → test ≡ names_device (length hd) f → names_device (length devices) f ≡ test
 names_from held devices f test hd count hd_is is = rw (count, ← hd_is) (sym is)
 
@@ -196,7 +196,7 @@ pub more_from : (image : List ℕ) (plan : Plan) (server : Option ServerState) (
     → server ≡ Some s → test ≡ has_more s f → has_more (server_of image plan server) f ≡ test
 more_from image plan server s f test there is = rw (there) (sym is)
 
-pub unmade_from : (image : List ℕ) (section : Section) (plan : Plan) (devices : List HeldDevice) (server : Option ServerState) (f : Form) → is_image image ≡ true
+pub unmade_from : (image : List ℕ) (section : Section) (plan : Plan) (devices : List Late) (server : Option ServerState) (f : Form) → is_image image ≡ true
     → server ≡ None → IsPlanned image section plan devices server → may_come section f ≡ true → has_more (server_of image plan server) f ≡ true
 unmade_from image section plan devices server f fine none planned comes =
     rw (none) (unmade_sends image section plan devices f fine (rw none at planned) comes)
@@ -401,7 +401,7 @@ header_at s f is comes = by_section s (rw is at comes)
 alone : (plan : Plan) → plan.group ≡ None → plan.window ≡ None → IsWindowed plan
 alone plan no_group no_window = rw (no_group, no_window) refl
 
-pub joins_at : (image : List ℕ) (s : Section) (plan : Plan) (devices : List HeldDevice) (server : Option ServerState) (f : Form) (id hw rows offset : ℕ) (k : Class) (key : List ℕ) (descriptor : Option ℕ) (v1 : Bool)
+pub joins_at : (image : List ℕ) (s : Section) (plan : Plan) (devices : List Late) (server : Option ServerState) (f : Form) (id hw rows offset : ℕ) (k : Class) (key : List ℕ) (descriptor : Option ℕ) (v1 : Bool)
     → f ≡ form.Device id k hw rows offset key descriptor v1 → may_come s f ≡ true → IsPlanned image s plan devices server → IsSized image plan devices × IsWindowed plan × (server ≡ None)
 joins_at image s plan devices server f id hw rows offset k key descriptor v1 is comes planned = by_section s (rw is at comes) planned
   where
@@ -539,7 +539,7 @@ fits_held held f built fine = subst (λ (i : List ℕ). fits_script (length i) (
 
 -- ---- the plan behind the devices has no wrong field
 
-pub plans_well : (image : List ℕ) (plan : Plan) (devices : List HeldDevice) → IsSized image plan devices → IsWindowed plan → 1 ≤ length devices → bad_field (length image) plan ≡ None
+pub plans_well : (image : List ℕ) (plan : Plan) (devices : List Late) → IsSized image plan devices → IsWindowed plan → 1 ≤ length devices → bad_field (length image) plan ≡ None
 unfolding bad_field
 plans_well image plan devices sized windowed some =
     let first : 1 ≤ length plan.devices = rw (sized.numbers) some in

@@ -5,10 +5,8 @@ use Rattle.std.specs.Option.{option_map}
 use Rattle.device_core.specs.Device.{DeviceState, first_device}
 use Rattle.device_core.specs.Deliver.{delivery, waking}
 use Rattle.device_core.specs.Firmware.{after_migration}
-use Rattle.device_core.specs.HeldDevice.{HeldDevice, DeviceStands}
 use Rattle.device_core.specs.declared.config.DeviceConfig.{DeviceConfig}
 use Rattle.campaign_server.specs.Plan.{Plan}
-use Rattle.device_core.proofs.Outboxes.{outbox_is}
 use Rattle.package_grammar.specs.declared.downlink.Downlink.{Downlink}
 use Rattle.campaign_server.specs.Server.{ServerState, DownlinkCommand, ledger}
 use Rattle.wire_base.specs.Numbered.{numbered}
@@ -29,12 +27,14 @@ use Rattle.script_lines.specs.declared.forms.Form.TheVariants as form
 use Rattle.campaign_world.specs.Causes.{is_event_or_end}
 use Rattle.campaign_world.specs.World.{WorldState}
 use Rattle.campaign_world.specs.Making.{with_plan, with_sent, with_device, after_answer, after_up, after_form, after_wake, after_migrate, after_down, raw_down, after_raw, at_events}
-use Rattle.campaign_world.specs.HeldWorld.{HeldWorld, WorldStands, KeepsEnds, DeviceRests, DevicesRest, OneComesToRest, OnesAreNumbered, world_of, server_of}
+use Rattle.campaign_world.specs.HeldWorld.{HeldWorld, WorldStands, KeepsEnds, DevicesRest, OneComesToRest, OnesAreNumbered, world_of, server_of}
+use Rattle.campaign_world.specs.Late.{Late, DeviceRests}
 use Rattle.campaign_world.specs.WorldInside.{ServerIs, IsBuilt}
+use Rattle.campaign_world.proofs.Lateness.{rests_empty}
 use Rattle.campaign_world.proofs.Zips.{zip_some, zip_more, zip_back}
 
 -- only the number of devices counts for a server
-pub built_alike : (image : List ℕ) (old new : List HeldDevice) (server : Option ServerState) → length new ≡ length old → ServerIs image old server → ServerIs image new server
+pub built_alike : (image : List ℕ) (old new : List Late) (server : Option ServerState) → length new ≡ length old → ServerIs image old server → ServerIs image new server
 built_alike image old new None long built = tt
 built_alike image old new (Some server) long built = record { image_is = built.image_is; numbers = built.numbers ∙ sym long }
 
@@ -53,15 +53,15 @@ numbered_at items n x first there = rw (not_none n first) there
     not_none n first = grind (arith, nat_tests)
 
 -- what an event at a device is to do to devices and uplinks that are held
-pub record Reaches (held : HeldWorld) (new_devices : List HeldDevice) (new_uplinks : List MadeUplink) (device : ℕ) (event : DeviceState → DeviceState) : Type 0 where
+pub record Reaches (held : HeldWorld) (new_devices : List Late) (new_uplinks : List MadeUplink) (device : ℕ) (event : DeviceState → DeviceState) : Type 0 where
   pub devices : OneComesToRest event device held.devices new_devices
   pub uplinks : OnesAreNumbered event held.devices device held.uplinks new_uplinks
 
 -- the world behind the event
-abbrev Behind : HeldWorld → List HeldDevice → List MadeUplink → HeldWorld
+abbrev Behind : HeldWorld → List Late → List MadeUplink → HeldWorld
 Behind held new_devices new_uplinks = record held { section = section.Events; devices = new_devices; uplinks = new_uplinks }
 
-event_of_held : (held : HeldWorld) (ds : List DeviceState) (new_devices : List HeldDevice) (new_uplinks : List MadeUplink) (device : ℕ)
+event_of_held : (held : HeldWorld) (ds : List DeviceState) (new_devices : List Late) (new_uplinks : List MadeUplink) (device : ℕ)
     (event : DeviceState → DeviceState) (d : DeviceState) → DevicesRest held.devices ds → slice_get ds (device - 1) ≡ Some d
     → Reaches held new_devices new_uplinks device event
     → WorldStands (Behind held new_devices new_uplinks) (at_events (with_device (world_of held ds) device (event d)))
@@ -69,7 +69,7 @@ unfolding with_device
 event_of_held held ds new_devices new_uplinks device event d all there reaches =
     record { devices = reaches.devices ds d all there; rest = rw (reaches.uplinks ds d all there) refl }
 
-down_of_held : (held : HeldWorld) (ds : List DeviceState) (new_devices : List HeldDevice) (new_uplinks : List MadeUplink) (number device word : ℕ) (sent : SentPayload)
+down_of_held : (held : HeldWorld) (ds : List DeviceState) (new_devices : List Late) (new_uplinks : List MadeUplink) (number device word : ℕ) (sent : SentPayload)
     → DevicesRest held.devices ds → 1 ≤ device → device ≤ length held.devices → numbered held.sent number ≡ Some sent
     → Reaches held new_devices new_uplinks device (λ d. (delivery held.time word (held.lines + 1) sent.down d).device)
     → WorldStands (Behind held new_devices new_uplinks)
@@ -79,7 +79,7 @@ down_of_held held ds new_devices new_uplinks number device word sent all first l
     rw (numbered_at ds device one.0 first one.1, was_sent)
     (event_of_held held ds new_devices new_uplinks device _ one.0 all one.1 reaches)
 
-woken_of_held : (held : HeldWorld) (ds : List DeviceState) (new_devices : List HeldDevice) (new_uplinks : List MadeUplink) (device : ℕ)
+woken_of_held : (held : HeldWorld) (ds : List DeviceState) (new_devices : List Late) (new_uplinks : List MadeUplink) (device : ℕ)
     → DevicesRest held.devices ds → 1 ≤ device → device ≤ length held.devices
     → Reaches held new_devices new_uplinks device (λ d. (waking held.time d).device)
     → WorldStands (Behind held new_devices new_uplinks) (at_events (after_wake (world_of held ds) device (numbered ds device)))
@@ -87,7 +87,7 @@ woken_of_held held ds new_devices new_uplinks device all first last reaches =
     let one = zip_some DeviceRests held.devices ds (device - 1) all (omega (arith, first, last)) in
     rw (numbered_at ds device one.0 first one.1) (event_of_held held ds new_devices new_uplinks device _ one.0 all one.1 reaches)
 
-migrated_of_held : (held : HeldWorld) (ds : List DeviceState) (new_devices : List HeldDevice) (device : ℕ)
+migrated_of_held : (held : HeldWorld) (ds : List DeviceState) (new_devices : List Late) (device : ℕ)
     → DevicesRest held.devices ds → 1 ≤ device → device ≤ length held.devices → OneComesToRest after_migration device held.devices new_devices
     → WorldStands (Behind held new_devices held.uplinks) (at_events (after_migrate (world_of held ds) device (numbered ds device)))
 unfolding after_migration
@@ -97,12 +97,12 @@ migrated_of_held held ds new_devices device all first last raised =
       devices = raised;
       uplinks = λ es d stand there.
           let rests = zip_back DeviceRests held.devices es (device - 1) d stand there in
-          let none : d.outbox ≡ [] = outbox_is rests.0 d rests.1.stands ∙ rests.1.empty in
+          let none : d.outbox ≡ [] = rests_empty rests.0 d rests.1 in
           rw (none) (sym (append-nil held.uplinks));
     } in
     rw (numbered_at ds device one.0 first one.1) (event_of_held held ds new_devices held.uplinks device after_migration one.0 all one.1 reaches)
 
-struck_of_held : (held : HeldWorld) (ds : List DeviceState) (new_devices : List HeldDevice) (new_uplinks : List MadeUplink) (device word : ℕ) (down : Downlink)
+struck_of_held : (held : HeldWorld) (ds : List DeviceState) (new_devices : List Late) (new_uplinks : List MadeUplink) (device word : ℕ) (down : Downlink)
     → DevicesRest held.devices ds → 1 ≤ device → device ≤ length held.devices
     → Reaches held new_devices new_uplinks device (λ d. (delivery held.time word (held.lines + 1) down d).device)
     → WorldStands (Behind held new_devices new_uplinks) (at_events (after_raw (world_of held ds) device word down (numbered ds device)))
@@ -110,7 +110,7 @@ struck_of_held held ds new_devices new_uplinks device word down all first last r
     let one = zip_some DeviceRests held.devices ds (device - 1) all (omega (arith, first, last)) in
     rw (numbered_at ds device one.0 first one.1) (event_of_held held ds new_devices new_uplinks device _ one.0 all one.1 reaches)
 
-pub raw_step : (held : HeldWorld) (world : WorldState) (new_devices : List HeldDevice) (new_uplinks : List MadeUplink) (device word : ℕ) (down : Downlink)
+pub raw_step : (held : HeldWorld) (world : WorldState) (new_devices : List Late) (new_uplinks : List MadeUplink) (device word : ℕ) (down : Downlink)
     → WorldStands held world → 1 ≤ device → device ≤ length held.devices
     → Reaches held new_devices new_uplinks device (λ d. (delivery held.time word (held.lines + 1) down d).device)
     → WorldStands (record held { section = section.Events; devices = new_devices; uplinks = new_uplinks })
@@ -120,7 +120,7 @@ raw_step held world new_devices new_uplinks device word down stands first last r
     (at_events (after_raw w device word down (numbered w.devices device)))) (sym stands.rest)
     (struck_of_held held world.devices new_devices new_uplinks device word down stands.devices first last reaches)
 
-pub wake_step : (held : HeldWorld) (world : WorldState) (new_devices : List HeldDevice) (new_uplinks : List MadeUplink) (device : ℕ)
+pub wake_step : (held : HeldWorld) (world : WorldState) (new_devices : List Late) (new_uplinks : List MadeUplink) (device : ℕ)
     → WorldStands held world → 1 ≤ device → device ≤ length held.devices
     → Reaches held new_devices new_uplinks device (λ d. (waking held.time d).device)
     → WorldStands (record held { section = section.Events; devices = new_devices; uplinks = new_uplinks })
@@ -130,7 +130,7 @@ wake_step held world new_devices new_uplinks device stands first last reaches =
     (at_events (after_wake w device (numbered w.devices device)))) (sym stands.rest)
     (woken_of_held held world.devices new_devices new_uplinks device stands.devices first last reaches)
 
-pub migrate_step : (held : HeldWorld) (world : WorldState) (new_devices : List HeldDevice) (device : ℕ)
+pub migrate_step : (held : HeldWorld) (world : WorldState) (new_devices : List Late) (device : ℕ)
     → WorldStands held world → 1 ≤ device → device ≤ length held.devices → OneComesToRest after_migration device held.devices new_devices
     → WorldStands (record held { section = section.Events; devices = new_devices })
     (at_events (after_migrate world device (numbered world.devices device)))
@@ -139,7 +139,7 @@ migrate_step held world new_devices device stands first last raised =
     (at_events (after_migrate w device (numbered w.devices device)))) (sym stands.rest)
     (migrated_of_held held world.devices new_devices device stands.devices first last raised)
 
-pub down_step : (held : HeldWorld) (world : WorldState) (new_devices : List HeldDevice) (new_uplinks : List MadeUplink) (number device word : ℕ) (sent : SentPayload)
+pub down_step : (held : HeldWorld) (world : WorldState) (new_devices : List Late) (new_uplinks : List MadeUplink) (number device word : ℕ) (sent : SentPayload)
     → WorldStands held world → 1 ≤ device → device ≤ length held.devices → numbered held.sent number ≡ Some sent
     → Reaches held new_devices new_uplinks device (λ d. (delivery held.time word (held.lines + 1) sent.down d).device)
     → WorldStands (record held { section = section.Events; devices = new_devices; uplinks = new_uplinks })
@@ -151,46 +151,46 @@ down_step held world new_devices new_uplinks number device word sent stands firs
 
 -- ---- what server and image keep
 
-kept_after_fragment : (image : List ℕ) (devices : List HeldDevice) (server : ServerState) (test : Bool) → IsBuilt image devices server
+kept_after_fragment : (image : List ℕ) (devices : List Late) (server : ServerState) (test : Bool) → IsBuilt image devices server
     → IsBuilt image devices (cond test (after_count (record server { next = server.next + 1 })) server)
 kept_after_fragment image devices server true built = record { image_is = built.image_is; numbers = built.numbers }
 kept_after_fragment image devices server false built = built
 
-pub built_after_fragment : (image : List ℕ) (devices : List HeldDevice) (server : ServerState) → IsBuilt image devices server → IsBuilt image devices (after_fragment server)
+pub built_after_fragment : (image : List ℕ) (devices : List Late) (server : ServerState) → IsBuilt image devices server → IsBuilt image devices (after_fragment server)
 unfolding after_fragment
 built_after_fragment image devices server built = kept_after_fragment image devices server (is_ok (next_fragment server)) built
 
-counted_by_test : (image : List ℕ) (devices : List HeldDevice) (server : ServerState) (test : Bool) → IsBuilt image devices server
+counted_by_test : (image : List ℕ) (devices : List Late) (server : ServerState) (test : Bool) → IsBuilt image devices server
     → IsBuilt image devices (cond test (after_count server) server)
 counted_by_test image devices server true built = record { image_is = built.image_is; numbers = built.numbers }
 counted_by_test image devices server false built = built
 
-pub built_after_status : (image : List ℕ) (devices : List HeldDevice) (server : ServerState) → IsBuilt image devices server → IsBuilt image devices (after_status_to_all server)
+pub built_after_status : (image : List ℕ) (devices : List Late) (server : ServerState) → IsBuilt image devices server → IsBuilt image devices (after_status_to_all server)
 unfolding after_status_to_all
 built_after_status image devices server built = counted_by_test image devices server (is_some (status_to_all server)) built
 
-kept_with_answers : (image : List ℕ) (devices : List HeldDevice) (server : ServerState) (dev : ℕ) (cs : List Command) (stage : Option Stage) → IsBuilt image devices server
+kept_with_answers : (image : List ℕ) (devices : List Late) (server : ServerState) (dev : ℕ) (cs : List Command) (stage : Option Stage) → IsBuilt image devices server
     → IsBuilt image devices (with_answers server dev cs stage)
 kept_with_answers image devices server dev cs None built = built
 kept_with_answers image devices server dev cs (Some stage) built = record { image_is = built.image_is; numbers = built.numbers }
 
-kept_by_reading : (image : List ℕ) (devices : List HeldDevice) (server : ServerState) (dev t : ℕ) (reading : Reading) → IsBuilt image devices server
+kept_by_reading : (image : List ℕ) (devices : List Late) (server : ServerState) (dev t : ℕ) (reading : Reading) → IsBuilt image devices server
     → IsBuilt image devices (read_uplink server dev t reading).server
 unfolding read_uplink
 kept_by_reading image devices server dev t (Ok cs) built = kept_with_answers image devices server dev cs (ledger server dev) built
 kept_by_reading image devices server dev t (Err refusal) built = built
 
-pub built_after_uplink : (image : List ℕ) (devices : List HeldDevice) (server : ServerState) (dev port : ℕ) (payload : List ℕ) (t : ℕ) → IsBuilt image devices server
+pub built_after_uplink : (image : List ℕ) (devices : List Late) (server : ServerState) (dev port : ℕ) (payload : List ℕ) (t : ℕ) → IsBuilt image devices server
     → IsBuilt image devices (uplink_step server dev port payload t).server
 unfolding uplink_step
 built_after_uplink image devices server dev port payload t built = kept_by_reading image devices server dev t (reading_of port Up payload) built
 
-pub built_of : (image : List ℕ) (devices : List HeldDevice) (server : Option ServerState) (s : ServerState) → server ≡ Some s → ServerIs image devices server → IsBuilt image devices s
+pub built_of : (image : List ℕ) (devices : List Late) (server : Option ServerState) (s : ServerState) → server ≡ Some s → ServerIs image devices server → IsBuilt image devices s
 built_of image devices server s is built = rw is at built
 
 -- ---- a device joins
 
-join_held : (held : HeldWorld) (ds : List DeviceState) (new_plan : Plan) (new_devices : List HeldDevice) (config : DeviceConfig) (device : HeldDevice)
+join_held : (held : HeldWorld) (ds : List DeviceState) (new_plan : Plan) (new_devices : List Late) (config : DeviceConfig) (device : Late)
     → DevicesRest held.devices ds → new_plan ≡ record held.plan { devices = held.plan.devices ++ record { key = config.key } ∷ [] }
     → new_devices ≡ held.devices ++ device ∷ [] → DeviceRests device (first_device config) → (server : Option ServerState) → server ≡ None
     → WorldStands (record held { section = section.Devices; plan = new_plan; devices = new_devices; server = server })
@@ -199,7 +199,7 @@ join_held : (held : HeldWorld) (ds : List DeviceState) (new_plan : Plan) (new_de
 join_held held ds new_plan new_devices config device all plan_is devices_are joins server none =
     rw (none, plan_is, devices_are) (record { devices = zip_more DeviceRests held.devices ds device (first_device config) all joins; rest = refl })
 
-pub join_step : (held : HeldWorld) (world : WorldState) (new_plan : Plan) (new_devices : List HeldDevice) (config : DeviceConfig) (device : HeldDevice)
+pub join_step : (held : HeldWorld) (world : WorldState) (new_plan : Plan) (new_devices : List Late) (config : DeviceConfig) (device : Late)
     → WorldStands held world → new_plan ≡ record held.plan { devices = held.plan.devices ++ record { key = config.key } ∷ [] }
     → new_devices ≡ held.devices ++ device ∷ [] → DeviceRests device (first_device config) → held.server ≡ None
     → WorldStands (record held { section = section.Devices; plan = new_plan; devices = new_devices })
@@ -210,10 +210,6 @@ join_step held world new_plan new_devices config device stands plan_is devices_a
     (with_plan (record w { devices = w.devices ++ first_device config ∷ [] })
     (record w.server.plan { devices = w.server.plan.devices ++ record { key = config.key } ∷ [] }) section.Devices)) (sym stands.rest)
     (join_held held world.devices new_plan new_devices config device stands.devices plan_is devices_are joins held.server none)
-
--- a device at its start rests
-pub starts_resting : (config : DeviceConfig) (device : HeldDevice) → DeviceStands device (first_device config) → DeviceRests device (first_device config)
-starts_resting config device stands = record { stands = stands; empty = sym (outbox_is device (first_device config) stands) }
 
 -- ---- an event is the same behind the plan
 

@@ -1,5 +1,5 @@
 -- Two lists that stand for one another, one by one.
-use Rattle.std.proofs.Common.{◌≡◌, ℕ, ◌<◌, length, List, [], ◌∷◌, ◌++◌, None, Some, Bool, true, false, cond, ◌==◌, ◌-◌, slice_get, zero, suc, refl, sym, subst, arith}
+use Rattle.std.proofs.Common.{◌≡◌, ℕ, ◌<◌, length, List, [], ◌∷◌, ◌++◌, None, Some, Bool, true, false, cond, ◌==◌, ◌-◌, slice_get, zero, suc, refl, sym, ap, ◌∙◌, subst, arith}
 use Rattle.std.specs.List.{AllByRecursion, AllZip, slice_set, slice_index_or}
 use Rattle.wire_base.specs.Numbered.{numbered}
 
@@ -94,3 +94,9 @@ pub long_set : {A : Type 0} (xs : List A) (i : ℕ) (x : A) → length (slice_se
 long_set [] i x = refl
 long_set (a ∷ xs) zero x = refl
 long_set (a ∷ xs) (suc i) x = let more = long_set xs i x in cc
+
+-- what is as it was, written back, changes nothing
+pub same_set : {A : Type 0} (xs : List A) (i : ℕ) (new old : A) → new ≡ old → old ≡ slice_index_or xs i old → slice_set xs i new ≡ xs
+same_set [] i new old same is = refl
+same_set (x ∷ xs) zero new old same is = let first : new ≡ x = same ∙ is in rw (first) refl
+same_set (x ∷ xs) (suc i) new old same is = ap (λ ys. x ∷ ys) (same_set xs i new old same is)

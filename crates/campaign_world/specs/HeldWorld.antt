@@ -2,7 +2,6 @@
 use Rattle.std.specs.Prelude.{◌≡◌, ℕ, ◌+◌, ◌-◌, List, [], ◌∷◌, ◌++◌, length, map, slice_get, slice_set, Option, Some, None, Result, Ok, Err}
 use Rattle.std.specs.List.{AllZip}
 use Rattle.device_core.specs.Device.{DeviceState}
-use Rattle.device_core.specs.HeldDevice.{HeldDevice, DeviceStands}
 use Rattle.device_core.specs.declared.uplink.Uplink.{Uplink}
 use Rattle.campaign_server.specs.Plan.{Plan}
 use Rattle.campaign_server.specs.Server.{ServerState, first_server}
@@ -12,6 +11,7 @@ use Rattle.campaign_world.specs.declared.numbered.SentPayload.{SentPayload}
 use Rattle.campaign_world.specs.declared.numbered.MadeUplink.{MadeUplink}
 use Rattle.campaign_world.specs.declared.section.Section.{Section}
 use Rattle.campaign_world.specs.World.{WorldState}
+use Rattle.campaign_world.specs.Late.{Late, DeviceRests}
 use Rattle.package_grammar.specs.declared.downlink.Downlink.{Downlink}
 use Rattle.script_lines.specs.declared.forms.Form.{Form}
 use Rattle.report_lines.specs.declared.faults.LineWhy.{LineWhy}
@@ -29,7 +29,7 @@ pub record HeldWorld : Type 0 where
   pub time : ℕ
   pub plan : Plan
   pub server : Option ServerState
-  pub devices : List HeldDevice
+  pub devices : List Late
   pub sent : List SentPayload
   pub uplinks : List MadeUplink
   pub kept : Option LineError
@@ -51,12 +51,7 @@ world_of held devices = record {
   uplinks = held.uplinks;
 }
 
--- a device between two events: it stands for its record, and its uplinks are taken
-pub record DeviceRests (held : HeldDevice) (device : DeviceState) : Type 0 where
-  pub stands : DeviceStands held device
-  pub empty : held.outbox ≡ []
-
-abbrev pub DevicesRest : List HeldDevice → List DeviceState → Type 0
+abbrev pub DevicesRest : List Late → List DeviceState → Type 0
 DevicesRest = AllZip DeviceRests
 
 -- ---- an event at a device, whose uplinks are then taken
@@ -65,25 +60,26 @@ DevicesRest = AllZip DeviceRests
 abbrev pub resting : DeviceState → DeviceState
 resting device = record device { outbox = [] }
 
--- whatever record it rested as, it rests as what the event makes of that
-abbrev pub ComesToRest : (event : DeviceState → DeviceState) → (old new : HeldDevice) → Type 0
-ComesToRest event old new = (device : DeviceState) → DeviceRests old device → DeviceRests new (resting (event device))
+-- whatever record it rested as, by this relation, it rests as what the event makes of that
+abbrev pub ComesToRest : {H : Type 0} (Rests : H → DeviceState → Type 0) (event : DeviceState → DeviceState) → (old new : H) → Type 0
+ComesToRest Rests event old new = (device : DeviceState) → Rests old device → Rests new (resting (event device))
 
 -- the uplinks that a device holds, numbered behind the others
 abbrev pub numbered_behind : List MadeUplink → (id : ℕ) → List Uplink → List MadeUplink
 numbered_behind uplinks id made = uplinks ++ map (λ uplink. made_by id uplink) made
 
 -- so are those that the event makes
-abbrev pub AreNumbered : (event : DeviceState → DeviceState) → HeldDevice → (id : ℕ) → (old new : List MadeUplink) → Type 0
-AreNumbered event held id old new =
-    (device : DeviceState) → DeviceRests held device → new ≡ numbered_behind old id (event device).outbox
+abbrev pub AreNumbered : {H : Type 0} (Rests : H → DeviceState → Type 0) (event : DeviceState → DeviceState) → H → (id : ℕ)
+    → (old new : List MadeUplink) → Type 0
+AreNumbered Rests event held id old new =
+    (device : DeviceState) → Rests held device → new ≡ numbered_behind old id (event device).outbox
 
 -- the same of the device with this number
-abbrev pub OneComesToRest : (event : DeviceState → DeviceState) → (id : ℕ) → (old new : List HeldDevice) → Type 0
+abbrev pub OneComesToRest : (event : DeviceState → DeviceState) → (id : ℕ) → (old new : List Late) → Type 0
 OneComesToRest event id old new = (all : List DeviceState) (device : DeviceState) → DevicesRest old all
     → slice_get all (id - 1) ≡ Some device → DevicesRest new (slice_set all (id - 1) (resting (event device)))
 
-abbrev pub OnesAreNumbered : (event : DeviceState → DeviceState) → List HeldDevice → (id : ℕ) → (old new : List MadeUplink) → Type 0
+abbrev pub OnesAreNumbered : (event : DeviceState → DeviceState) → List Late → (id : ℕ) → (old new : List MadeUplink) → Type 0
 OnesAreNumbered event held id old new = (all : List DeviceState) (device : DeviceState) → DevicesRest held all
     → slice_get all (id - 1) ≡ Some device → new ≡ numbered_behind old id (event device).outbox
 

@@ -5,7 +5,7 @@ use Rattle.frag_encoder.specs.Encoding.{nb_frag_of, padding_of}
 use Rattle.device_core.specs.Device.{DeviceState}
 use Rattle.campaign_server.specs.declared.stage.Stage.{Stage}
 use Rattle.campaign_server.specs.Server.{ServerState}
-use Rattle.report_lines.specs.Devices.{◌⧺◌, device_line, counts_line}
+use Rattle.report_lines.specs.Devices.{◌⧺◌, stage_text, device_line, counts_line}
 use Rattle.report_lines.specs.Sessions.{same, session_lines}
 use Rattle.campaign_world.specs.World.{WorldState}
 
@@ -28,6 +28,15 @@ image_line server =
 abbrev pub device_part : (image : List ℕ) → (id : ℕ) → Stage → DeviceState → List ℕ
 device_part image id stage device =
     device_line (decimal id) stage device ⧺ counts_line device.counts ⧺ session_lines (same image) device.sessions
+
+-- those of one to which nothing happened yet
+abbrev pub first_text : (id : ℕ) → (stage : List ℕ) → (offset : ℕ) → List ℕ
+first_text id stage offset =
+    codes "device " ⧺ decimal id ⧺ codes " " ⧺ stage ⧺ codes " clock " ⧺ decimal offset
+    ⧺ codes " token 0 running 0 next none\ncounts deaf 0 refused 0 full 0 dropped 0\n"
+
+abbrev pub first_part : (id : ℕ) → Stage → (offset : ℕ) → List ℕ
+first_part id stage offset = first_text id (stage_text stage) offset
 
 -- the lines of each device, in order, from a number on
 unfoldable pub device_parts : (image : List ℕ) → (id : ℕ) → List Stage → List DeviceState → List ℕ

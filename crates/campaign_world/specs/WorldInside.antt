@@ -2,17 +2,18 @@
 use Rattle.std.specs.Prelude.{◌≡◌, ℕ, ◌≤◌, ◌<◌, true, ◌⊎◌, List, [], length, Option, Some, None, is_some}
 use Rattle.std.specs.List.{AllByRecursion}
 use Rattle.image_slots.specs.Image.{is_image}
-use Rattle.device_core.specs.HeldDevice.{HeldDevice}
+use Rattle.device_core.specs.Sendable.{IsUplink}
 use Rattle.campaign_server.specs.Plan.{Plan, is_frag_size, is_group, is_window, max_parity, max_devices}
 use Rattle.campaign_server.specs.Server.{ServerState}
 use Rattle.script_lines.specs.Limits.{max_lines, max_time}
+use Rattle.campaign_world.specs.Late.{Late}
 use Rattle.campaign_world.specs.HeldWorld.{HeldWorld}
 use Rattle.campaign_world.specs.declared.numbered.MadeUplink.{MadeUplink}
 use Rattle.campaign_world.specs.declared.section.Section.{Section}
 use Rattle.campaign_world.specs.declared.section.Section.TheVariants as section
 
 -- the plan behind the image's line: it cuts the image, and its group, if there is one, has frame counts
-pub record IsSized (image : List ℕ) (plan : Plan) (devices : List HeldDevice) : Type 0 where
+pub record IsSized (image : List ℕ) (plan : Plan) (devices : List Late) : Type 0 where
   pub size : is_frag_size (length image) plan.frag_size ≡ true
   pub few : plan.parity ≤ max_parity
   pub grouped : is_group plan.group ≡ true
@@ -20,11 +21,11 @@ pub record IsSized (image : List ℕ) (plan : Plan) (devices : List HeldDevice) 
   pub count : length devices ≤ max_devices
 
 -- the server sends the image to the devices
-pub record IsBuilt (image : List ℕ) (devices : List HeldDevice) (server : ServerState) : Type 0 where
+pub record IsBuilt (image : List ℕ) (devices : List Late) (server : ServerState) : Type 0 where
   pub image_is : server.image ≡ image
   pub numbers : length server.plan.devices ≡ length devices
 
-abbrev pub ServerIs : List ℕ → List HeldDevice → Option ServerState → Type 0
+abbrev pub ServerIs : List ℕ → List Late → Option ServerState → Type 0
 ServerIs image devices None = Unit {0}
 ServerIs image devices (Some server) = IsBuilt image devices server
 
@@ -33,7 +34,7 @@ abbrev pub IsWindowed : Plan → Type 0
 IsWindowed plan = is_window plan.group plan.window ≡ true
 
 -- nothing is planned before the image's line
-abbrev pub IsPlanned : (image : List ℕ) → Section → Plan → List HeldDevice → Option ServerState → Type 0
+abbrev pub IsPlanned : (image : List ℕ) → Section → Plan → List Late → Option ServerState → Type 0
 IsPlanned image section.Header plan devices server = (plan.group ≡ None) × (plan.window ≡ None) × (plan.devices ≡ []) × (devices ≡ []) × (server ≡ None)
 IsPlanned image section.Image plan devices server = (plan.group ≡ None) × (plan.window ≡ None) × (plan.devices ≡ []) × (devices ≡ []) × (server ≡ None)
 IsPlanned image section.Group plan devices server = IsSized image plan devices × (plan.group ≡ None) × (plan.window ≡ None) × (server ≡ None)
@@ -45,10 +46,11 @@ IsPlanned image section.Events plan devices server = (s : ServerState) × (serve
 -- behind the end, and behind want of memory
 IsPlanned image section.Ended plan devices server = Unit {0}
 
--- an uplink is one of a device that there is
+-- an uplink is one of a device that there is, and one command in its canonical spelling
 pub record IsMadeBy (count : ℕ) (made : MadeUplink) : Type 0 where
   pub first : 1 ≤ made.device
   pub last : made.device ≤ count
+  pub single : IsUplink made.uplink
 
 -- and all are
 abbrev pub AreMadeBy : (count : ℕ) → List MadeUplink → Type 0
@@ -58,7 +60,7 @@ AreMadeBy count uplinks = AllByRecursion (IsMadeBy count) uplinks
 abbrev pub StayMade : (id : ℕ) → (old new : List MadeUplink) → Type 0
 StayMade id old new = (count : ℕ) → id ≤ count → AreMadeBy count old → AreMadeBy count new
 
-pub record IsWorld (image : List ℕ) (lines : ℕ) (section : Section) (time : ℕ) (plan : Plan) (server : Option ServerState) (devices : List HeldDevice) (uplinks : List MadeUplink) : Type 0 where
+pub record IsWorld (image : List ℕ) (lines : ℕ) (section : Section) (time : ℕ) (plan : Plan) (server : Option ServerState) (devices : List Late) (uplinks : List MadeUplink) : Type 0 where
   pub image_is : is_image image ≡ true
   pub counted : lines ≤ max_lines
   pub timed : time ≤ max_time

@@ -1,20 +1,18 @@
 //! Events at devices: a payload that reaches one, and one that wakes. Its uplinks are then taken.
 
 ghost use Rattle.std.specs.Prelude.{◌≡◌, ◌≤◌, ◌+◌, length, OnOk, OnErr, vec_len, vec_capacity};
-ghost use Rattle.device_core.specs.Device.{DeviceState, max_moment, outbox_size};
+ghost use Rattle.device_core.specs.Device.{max_moment, outbox_size};
 ghost use Rattle.device_core.specs.Deliver.{delivery, waking};
 ghost use Rattle.device_core.specs.Firmware.{after_migration};
-ghost use Rattle.campaign_world.specs.HeldWorld.{DeviceRests, resting, numbered_behind, ComesToRest, AreNumbered, OneComesToRest, OnesAreNumbered};
+ghost use Rattle.campaign_world.specs.HeldWorld.{OneComesToRest, OnesAreNumbered};
 ghost use Rattle.campaign_world.specs.WorldInside.{StayMade};
-ghost use Rattle.device_core.specs.HeldDevice.{DeviceStands};
 
+use crate::calls::OUTBOX;
+use crate::late::{LateDevice, raise, reach, rouse};
 use crate::numbered::MadeUplink;
-use device_core::{Device, Moment};
+use device_core::Moment;
 use package_grammar::Downlink;
-use std::alloc::AllocError;
-
-/// Uplinks that a device holds at most, and so those that one event can make.
-const OUTBOX: usize = 8;
+use std::alloc::{AllocError, Global};
 
 /// Room for the uplinks of one event.
 fn make_room(uplinks: &mut Vec<MadeUplink>) -> Result<(), AllocError>
@@ -27,7 +25,8 @@ fn make_room(uplinks: &mut Vec<MadeUplink>) -> Result<(), AllocError>
 /// A payload reaches the device with a number, whose uplinks are taken, oldest first. Where there is no memory for them
 /// the device is not called.
 pub fn deliver(
-    devices: &mut Vec<Device>,
+    devices: &mut Vec<LateDevice>,
+    alloc: Global,
     uplinks: &mut Vec<MadeUplink>,
     id: u8,
     down: &Downlink,
@@ -49,14 +48,14 @@ pub fn deliver(
         Err(error) => return Err(error),
     }
     let device = &mut devices[id as usize - 1];
-    reach(device, uplinks, id, down, coming);
-    Ok(())
+    reach(device, alloc, uplinks, id, down, coming)
 }
 
 /// The device with a number wakes, and its uplinks are taken, oldest first. Where there is no memory for them the device
 /// is not called.
 pub fn wake(
-    devices: &mut Vec<Device>,
+    devices: &mut Vec<LateDevice>,
+    alloc: Global,
     uplinks: &mut Vec<MadeUplink>,
     id: u8,
     t: u64,
@@ -75,69 +74,18 @@ pub fn wake(
         Err(error) => return Err(error),
     }
     let device = &mut devices[id as usize - 1];
-    rouse(device, uplinks, id, t);
-    Ok(())
+    rouse(device, alloc, uplinks, id, t)
 }
 
 /// The device with a number knows both image formats from now on. It makes no uplink.
-pub fn migrate(devices: &mut Vec<Device>, id: u8)
+pub fn migrate(devices: &mut Vec<LateDevice>, alloc: Global, id: u8) -> Result<(), AllocError>
     requires first { 1 ≤ id }
     requires last { id ≤ length devices.old.items }
     ensures count { length devices.new.items ≡ length devices.old.items }
-    ensures devices { OneComesToRest after_migration id devices.old.items devices.new.items }
+    ensures devices { OnOk result (OneComesToRest after_migration id devices.old.items devices.new.items) }
+    ensures same { OnErr result (devices.new.items ≡ devices.old.items) }
 {
     let device = &mut devices[id as usize - 1];
-    device.raise();
+    raise(device, alloc)
 }
 
-/// A payload reaches a device, whose uplinks are taken.
-fn reach(
-    device: &mut Device,
-    uplinks: &mut Vec<MadeUplink>,
-    id: u8,
-    down: &Downlink,
-    coming: Moment,
-)
-    requires first { 1 ≤ id }
-    requires moment { coming.t ≤ max_moment }
-    requires room { vec_len uplinks.old + outbox_size ≤ vec_capacity uplinks.old }
-    ensures made { StayMade id uplinks.old.items uplinks.new.items }
-    ensures rests { ComesToRest (λ d. (delivery coming.t coming.word coming.mark down.now d).device) device.old device.new }
-    ensures uplinks { AreNumbered (λ d. (delivery coming.t coming.word coming.mark down.now d).device)
-        device.old id uplinks.old.items uplinks.new.items }
-{
-    let _delivered = device.deliver(coming.t, down, coming.word, coming.mark);
-    take_uplinks(id, device, uplinks);
-}
-
-/// A device wakes, and its uplinks are taken.
-fn rouse(device: &mut Device, uplinks: &mut Vec<MadeUplink>, id: u8, t: u64)
-    requires first { 1 ≤ id }
-    requires moment { t ≤ max_moment }
-    requires room { vec_len uplinks.old + outbox_size ≤ vec_capacity uplinks.old }
-    ensures made { StayMade id uplinks.old.items uplinks.new.items }
-    ensures rests { ComesToRest (λ d. (waking t d).device) device.old device.new }
-    ensures uplinks { AreNumbered (λ d. (waking t d).device) device.old id uplinks.old.items uplinks.new.items }
-{
-    let _asked = device.wake(t);
-    take_uplinks(id, device, uplinks);
-}
-
-/// Takes all uplinks of a device, oldest first. It has no more of them than there is room for.
-fn take_uplinks(id: u8, device: &mut Device, uplinks: &mut Vec<MadeUplink>)
-    requires first { 1 ≤ id }
-    requires room { vec_len uplinks.old + outbox_size ≤ vec_capacity uplinks.old }
-    ensures made { StayMade id uplinks.old.items uplinks.new.items }
-    ensures rests { (d : DeviceState) → DeviceStands device.old d → length d.outbox ≤ outbox_size
-        → DeviceRests device.new (resting d) }
-    ensures uplinks { length device.old.outbox ≤ outbox_size
-        → uplinks.new.items ≡ numbered_behind uplinks.old.items id device.old.outbox }
-{
-    let full = uplinks.len() + OUTBOX;
-    while uplinks.len() < full {
-        let Some(uplink) = device.take_uplink() else {
-            return;
-        };
-        uplinks.push_reserved(MadeUplink { device: id, uplink });
-    }
-}

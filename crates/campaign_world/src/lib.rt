@@ -11,9 +11,11 @@
 //!     let file = world.recovered(1);
 #![tactic(auto)]
 
+mod calls;
 mod causes;
 mod deliveries;
 mod hearing;
+mod late;
 mod numbered;
 mod recovery;
 mod report;

@@ -4,8 +4,10 @@ ghost use Rattle.std.specs.Prelude.{◌≡◌, Some, Ok, Err, IfOk, IfErr};
 ghost use Rattle.frag_session.specs.Shows.{seen};
 ghost use Rattle.device_core.specs.Device.{DeviceState};
 ghost use Rattle.device_core.specs.HeldDevice.{DeviceStands};
+ghost use Rattle.campaign_world.specs.Late.{DeviceRests};
 ghost use Rattle.campaign_world.specs.Recovery.{file_of, recovery_by};
 
+use crate::late::LateDevice;
 use device_core::Device;
 use frag_session::{Verdict, View};
 
@@ -22,8 +24,19 @@ pub enum NoFile {
     Conflict,
 }
 
-/// The file that a device recovered.
-pub fn recovered_by(device: &Device) -> Result<&[u8], NoFile>
+/// The file that a device recovered; one to which nothing happened has none.
+pub fn recovered_by(late: &LateDevice) -> Result<&[u8], NoFile>
+    ensures file { (d : DeviceState) → DeviceRests late.now d → IfOk result (λ file. recovery_by (Some d) ≡ Ok file.now) }
+    ensures why { (d : DeviceState) → DeviceRests late.now d → IfErr result (λ why. recovery_by (Some d) ≡ Err why) }
+{
+    match late.device() {
+        Some(device) => first_file(device),
+        None => Err(NoFile::None),
+    }
+}
+
+/// That of its first session.
+fn first_file(device: &Device) -> Result<&[u8], NoFile>
     ensures file { (d : DeviceState) → DeviceStands device.now d → IfOk result (λ file. recovery_by (Some d) ≡ Ok file.now) }
     ensures why { (d : DeviceState) → DeviceStands device.now d → IfErr result (λ why. recovery_by (Some d) ≡ Err why) }
 {

@@ -5,15 +5,17 @@ ghost use Rattle.std.specs.Fmt.{decimal};
 ghost use Rattle.device_core.specs.Device.{DeviceState};
 ghost use Rattle.device_core.specs.HeldDevice.{DeviceStands};
 ghost use Rattle.campaign_world.specs.HeldWorld.{DevicesRest};
-ghost use Rattle.campaign_world.specs.Report.{image_text, image_line, device_part, device_parts, report_with};
+ghost use Rattle.campaign_world.specs.Late.{DeviceRests};
+ghost use Rattle.campaign_world.specs.Report.{image_text, image_line, first_text, first_part, device_part, device_parts, report_with};
 
+use crate::late::LateDevice;
 use campaign_server::{Server, Stage};
 use device_core::Device;
-use report_lines::{Tail, counts_line, device_line, session_lines};
+use report_lines::{Tail, counts_line, device_line, session_lines, stage_text};
 use std::alloc::{AllocError, Global};
 
 /// The report: what is sent, where each device stands, and what its sessions show.
-pub fn report(alloc: Global, server: &Server, devices: &Vec<Device>) -> Result<Vec<u8>, AllocError>
+pub fn report(alloc: Global, server: &Server, devices: &Vec<LateDevice>) -> Result<Vec<u8>, AllocError>
     requires numbers { length devices.now.items ≡ length server.now.plan.devices }
     requires few { length devices.now.items ≤ 64 }
     ensures { (ds : List DeviceState) → DevicesRest devices.now.items ds
@@ -37,7 +39,7 @@ fn first_lines(alloc: Global, image: &str) -> Result<String, AllocError>
 fn device_parts(
     alloc: Global,
     server: &Server,
-    devices: &Vec<Device>,
+    devices: &Vec<LateDevice>,
 ) -> Result<Vec<u8>, AllocError>
     requires numbers { length devices.now.items ≡ length server.now.plan.devices }
     requires few { length devices.now.items ≤ 64 }
@@ -56,6 +58,38 @@ fn device_parts(
 
 /// The lines of one device.
 fn device_part(
+    alloc: Global,
+    image: &[u8],
+    id: u8,
+    stage: Stage,
+    late: &LateDevice,
+) -> Result<String, AllocError>
+    ensures { (d : DeviceState) → DeviceRests late.now d → IfOk result (λ text. string_bytes text ≡ device_part image.now id stage d) }
+{
+    match late.device() {
+        Some(device) => came_part(alloc, image, id, stage, device),
+        None => first_part(alloc, id, stage, late.config().offset),
+    }
+}
+
+/// Those of one to which nothing happened yet.
+fn first_part(alloc: Global, id: u8, stage: Stage, offset: u32) -> Result<String, AllocError>
+    ensures { IfOk result (λ text. string_bytes text ≡ first_part id stage offset) }
+{
+    let stage = stage_text(alloc, stage)?;
+    first_text(alloc, id, stage.as_str(), offset)
+}
+
+fn first_text(alloc: Global, id: u8, stage: &str, offset: u32) -> Result<String, AllocError>
+    ensures { IfOk result (λ text. string_bytes text ≡ first_text id stage.now offset) }
+{
+    format!(in alloc;
+        "device {id} {stage} clock {offset} token 0 running 0 next none\ncounts deaf 0 refused 0 full 0 dropped 0\n"
+    )
+}
+
+/// Those of one that something happened to.
+fn came_part(
     alloc: Global,
     image: &[u8],
     id: u8,

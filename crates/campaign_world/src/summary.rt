@@ -6,8 +6,10 @@ ghost use Rattle.frag_session.specs.Shows.{seen};
 ghost use Rattle.device_core.specs.Device.{DeviceState};
 ghost use Rattle.device_core.specs.HeldDevice.{DeviceStands};
 ghost use Rattle.campaign_world.specs.HeldWorld.{DevicesRest};
+ghost use Rattle.campaign_world.specs.Late.{DeviceRests};
 ghost use Rattle.campaign_world.specs.Summary.{heard_by, has_file, is_complete, is_updated, one_if, with_device, totals_from, nothing_counted, size_line, totals_lines, summary_with};
 
+use crate::late::LateDevice;
 use campaign_server::{Server, Stage};
 use device_core::Device;
 use frag_session::{Verdict, View};
@@ -29,7 +31,7 @@ pub fn summary(
     alloc: Global,
     server: &Server,
     sent: usize,
-    devices: &Vec<Device>,
+    devices: &Vec<LateDevice>,
 ) -> Result<Vec<u8>, AllocError>
     requires numbers { length devices.now.items ≡ length server.now.plan.devices }
     requires few { length devices.now.items ≤ 64 }
@@ -66,7 +68,7 @@ fn all_lines(alloc: Global, size: &str, totals: &str) -> Result<String, AllocErr
 }
 
 /// What is counted of all devices.
-fn count_devices(server: &Server, devices: &Vec<Device>) -> Totals
+fn count_devices(server: &Server, devices: &Vec<LateDevice>) -> Totals
     requires numbers { length devices.now.items ≡ length server.now.plan.devices }
     requires few { length devices.now.items ≤ 64 }
     ensures { (ds : List DeviceState) → DevicesRest devices.now.items ds
@@ -86,16 +88,16 @@ fn count_devices(server: &Server, devices: &Vec<Device>) -> Totals
 }
 
 /// One device more.
-fn with_device(totals: Totals, stage: Stage, device: &Device) -> Totals
+fn with_device(totals: Totals, stage: Stage, late: &LateDevice) -> Totals
     requires heard { totals.heard + 65535 < 2 ^ 32 }
     requires complete { totals.complete < 255 }
     requires updated { totals.updated < 255 }
-    ensures counted { (d : DeviceState) → DeviceStands device.now d → result ≡ with_device totals stage d }
+    ensures counted { (d : DeviceState) → DeviceRests late.now d → result ≡ with_device totals stage d }
     ensures heard { result.heard ≤ totals.heard + 65535 }
     ensures complete { result.complete ≤ totals.complete + 1 }
     ensures updated { result.updated ≤ totals.updated + 1 }
 {
-    let (heard, complete) = first_session(device);
+    let (heard, complete) = first_session(late);
     Totals {
         heard: totals.heard + u32::from(heard),
         complete: totals.complete + one_if(complete),
@@ -110,7 +112,17 @@ fn one_if(holds: bool) -> u8
 }
 
 /// The fragments that session 0 heard, and whether it has its file.
-fn first_session(device: &Device) -> (u16, bool)
+fn first_session(late: &LateDevice) -> (u16, bool)
+    ensures heard { (d : DeviceState) → DeviceRests late.now d → result.0 ≡ heard_by (view_of d.sessions.first) }
+    ensures file { (d : DeviceState) → DeviceRests late.now d → result.1 ≡ has_file (view_of d.sessions.first) }
+{
+    match late.device() {
+        Some(device) => first_of(device),
+        None => (0, false),
+    }
+}
+
+fn first_of(device: &Device) -> (u16, bool)
     ensures heard { (d : DeviceState) → DeviceStands device.now d → result.0 ≡ heard_by (view_of d.sessions.first) }
     ensures file { (d : DeviceState) → DeviceStands device.now d → result.1 ≡ has_file (view_of d.sessions.first) }
 {

@@ -1,8 +1,10 @@
 //! A campaign as its script tells it, line by line: what was sent, what was heard, and where each end stands.
 
-ghost use Rattle.std.specs.Prelude.{◌≡◌, ◌<◌, ◌+◌, ◌-◌, true, List, length, None, Some, Ok, Err, IfOk, IfErr, OnOk, OnErr};
+ghost use Rattle.std.specs.Prelude.{◌≡◌, ◌<◌, ◌+◌, ◌-◌, true, List, length, None, Some, Ok, Err, IfOk, IfErr, IfSome, OnOk, OnErr, option_map};
 ghost use Rattle.image_slots.specs.Image.{is_image};
 ghost use Rattle.device_core.specs.Device.{DeviceState};
+ghost use Rattle.device_core.specs.Sendable.{IsUplink};
+ghost use Rattle.wire_base.specs.Numbered.{numbered};
 ghost use Rattle.script_lines.specs.Limits.{max_lines};
 ghost use Rattle.script_lines.specs.Forms.{form_of};
 ghost use Rattle.script_lines.specs.Ranges.{in_range};
@@ -19,13 +21,14 @@ use crate::causes::{
     fits_payload, fits_script, has_come, has_ended, is_event_or_end, is_to_come, may_come,
     names_device,
 };
+use crate::late::LateDevice;
 use crate::numbered::{MadeUplink, SentPayload, numbered};
 use crate::recovery::{NoFile, recovered_by};
 use crate::report::report;
 use crate::section::Section;
 use crate::summary::summary;
 use campaign_server::{Plan, Server};
-use device_core::Device;
+use device_core::Uplink;
 use report_lines::{LineError, LineWhy, MAX_LINE, MAX_LINES, refused_behind};
 use script_lines::{Form, form, in_range};
 use std::alloc::{AllocError, Global};
@@ -41,7 +44,7 @@ pub struct World {
     time: u64,
     plan: Plan,
     server: Option<Server>,
-    devices: Vec<Device>,
+    devices: Vec<LateDevice>,
     sent: Vec<SentPayload>,
     uplinks: Vec<MadeUplink>,
     kept: Option<LineError>,
@@ -184,6 +187,18 @@ impl World {
         }
     }
 
+    /// The uplink with a number, counted from 1; None where none has it. It is one command in its canonical spelling.
+    pub fn uplink(&self, number: u64) -> Option<&Uplink>
+        ensures found { option_map (λ uplink. uplink.now) result
+            ≡ option_map (λ made. made.uplink) (numbered self.now.uplinks number) }
+        ensures single { IfSome result (λ uplink. IsUplink uplink.now) }
+    {
+        match numbered(&self.uplinks, number) {
+            Some(made) => Some(&made.uplink),
+            None => None,
+        }
+    }
+
     /// The form of the next line, or the first cause for which it is refused.
     fn accept<'a>(&self, line: &'a [u8]) -> Result<Form<'a>, LineWhy>
         ensures form { IfOk result (λ form. (form_of line.now ≡ Some form) × (self.now.lines < max_lines)
@@ -218,7 +233,7 @@ impl World {
             return Some(LineWhy::Range);
         }
         let image: &[u8] = &self.image;
-        let devices: &[Device] = &self.devices;
+        let devices: &[LateDevice] = &self.devices;
         let count = devices.len();
         if !fits_script(image.len(), count, form) {
             return Some(LineWhy::Range);

@@ -50,7 +50,8 @@ fn device_text(alloc: Global, stands: &str, running: u32, next: &str) -> Result<
     format!(in alloc; "{stands} running {running} next {next}\n")
 }
 
-fn stage_text(alloc: Global, stage: Stage) -> Result<String, AllocError>
+/// Where a device stands in the campaign, as its line says it.
+pub fn stage_text(alloc: Global, stage: Stage) -> Result<String, AllocError>
     ensures { IfOk result (λ text. string_bytes text ≡ stage_text stage) }
 {
     match stage {

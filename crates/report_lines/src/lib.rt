@@ -14,7 +14,7 @@ mod faults;
 mod laws;
 mod sessions;
 
-pub use devices::{counts_line, device_line};
+pub use devices::{counts_line, device_line, stage_text};
 pub use faults::{LineError, LineFault, LineWhy, MAX_LINE, MAX_LINES, fault_line, refused_behind};
 pub use laws::lines_read_so;
 pub use sessions::{Tail, session_lines};

@@ -104,10 +104,7 @@ impl World {
                 Ok(())
             }
             Form::Wake { device } => self.wake(*device as u8),
-            Form::Migrate { device } => {
-                self.migrate(*device as u8);
-                Ok(())
-            }
+            Form::Migrate { device } => self.migrate(*device as u8),
             Form::Ask { device } => self.ask(*device as u8),
             Form::Frag => self.frag(),
             Form::Status => self.status(),
@@ -211,21 +208,28 @@ impl World {
         ensures ends { OnErr result (KeepsEnds self.old self.new) }
     {
         self.section = Section::Events;
-        wake(&mut self.devices, &mut self.uplinks, device, self.time)
+        wake(
+            &mut self.devices,
+            self.alloc,
+            &mut self.uplinks,
+            device,
+            self.time,
+        )
     }
 
     /// A device knows both image formats from now on.
-    fn migrate(&mut self, device: u8)
+    fn migrate(&mut self, device: u8) -> Result<(), AllocError>
         requires first { 1 ≤ device }
         requires last { device ≤ length self.old.devices }
         requires begun { (s : ServerState) × (self.old.server ≡ Some s) }
-        ensures taken { WorldBecomes self.old self.new
-            (λ world. at_events (after_migrate world device (numbered world.devices device))) }
+        ensures taken { OnOk result (WorldBecomes self.old self.new
+            (λ world. at_events (after_migrate world device (numbered world.devices device)))) }
         ensures kept { self.new.kept ≡ self.old.kept }
         ensures lines { self.new.lines ≡ self.old.lines }
+        ensures ends { OnErr result (KeepsEnds self.old self.new) }
     {
         self.section = Section::Events;
-        migrate(&mut self.devices, device);
+        migrate(&mut self.devices, self.alloc, device)
     }
 
     /// Payload S reaches a device, whose uplinks are then numbered, oldest first.
@@ -253,6 +257,7 @@ impl World {
         };
         deliver(
             &mut self.devices,
+            self.alloc,
             &mut self.uplinks,
             device,
             &sent.down,
@@ -280,7 +285,14 @@ impl World {
             word,
             mark,
         };
-        deliver(&mut self.devices, &mut self.uplinks, device, down, coming)
+        deliver(
+            &mut self.devices,
+            self.alloc,
+            &mut self.uplinks,
+            device,
+            down,
+            coming,
+        )
     }
 
     /// Uplink U reaches the server, which may answer.

@@ -8,9 +8,10 @@ ghost use Rattle.campaign_world.specs.Making.{with_plan, class_of, formats_of, a
 ghost use Rattle.campaign_world.specs.declared.section.Section.TheVariants as section;
 
 use super::World;
+use crate::late::LateDevice;
 use crate::section::Section;
 use campaign_server::{Kind, Plan, PlanDevice, PlanGroup, PlanWindow};
-use device_core::{Class, Device, DeviceConfig, MAX_AREA, ReserveError};
+use device_core::{Class, DeviceConfig, MAX_AREA};
 use script_lines::Form;
 use std::alloc::AllocError;
 
@@ -172,14 +173,14 @@ impl World {
         ensures lines { self.new.lines ≡ self.old.lines }
         ensures ends { OnErr result (KeepsEnds self.old self.new) }
     {
-        let device = match Device::reserve(self.alloc, config) {
-            Ok(device) => device,
-            Err(ReserveError::Memory) => return Err(AllocError),
-            Err(ReserveError::BadConfig) => unreachable!(),
-        };
         let key = config.key;
         let planned = PlanDevice { key };
-        match join(&mut self.plan, &mut self.devices, planned, device) {
+        match join(
+            &mut self.plan,
+            &mut self.devices,
+            planned,
+            LateDevice::new(config),
+        ) {
             Ok(()) => {
                 self.section = Section::Devices;
                 Ok(())
@@ -192,9 +193,9 @@ impl World {
 /// A device joins the plan and the campaign; neither, where there is no room for both.
 fn join(
     plan: &mut Plan,
-    devices: &mut Vec<Device>,
+    devices: &mut Vec<LateDevice>,
     key: PlanDevice,
-    device: Device,
+    device: LateDevice,
 ) -> Result<(), AllocError>
     ensures plan { OnOk result (plan.new ≡ record plan.old { devices = plan.old.devices ++ key ∷ [] }) }
     ensures devices { OnOk result (devices.new.items ≡ devices.old.items ++ device ∷ []) }

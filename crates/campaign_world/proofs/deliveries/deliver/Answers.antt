@@ -1,16 +1,22 @@
 use Rattle.std.proofs.Common.{arith}
-use Rattle.campaign_world.specs.HeldWorld.{DeviceRests}
-use Rattle.campaign_world.proofs.Zips.{zip_set, zip_at}
+use Rattle.campaign_world.specs.Late.{DeviceRests}
+use Rattle.report_lines.proofs.Outcomes.{on_ok, on_ok_then, on_err}
+use Rattle.campaign_world.proofs.Zips.{zip_set, zip_at, same_set}
 use Rattle.campaign_world.proofs.deliveries.deliver.Goals as goal
 
 pub returns-clause-made : goal.returns-clause-made
 returns-clause-made c = λ count last all. c.reach.ensures.made count last (rw (c.make_room.ensures.same) all)
 
 pub returns-clause-devices : goal.returns-clause-devices
-returns-clause-devices c = λ all d stand there.
+returns-clause-devices c = on_ok c.reach.result (λ ok. λ all d stand there.
     zip_set DeviceRests c.args.devices.now.items all _ c.reach.new.device _ stand
-    (c.reach.ensures.rests d (zip_at DeviceRests c.args.devices.now.items all _ c.index_mut-device.result.now d stand c.index_mut-device.ensures.value (omega arith) there))
+    (on_ok_then c.reach.result ok c.reach.ensures.rests d
+    (zip_at DeviceRests c.args.devices.now.items all _ c.index_mut-device.result.now d stand c.index_mut-device.ensures.value (omega arith) there)))
 
 pub returns-clause-uplinks : goal.returns-clause-uplinks
-returns-clause-uplinks c = λ all d stand there. rw (← c.make_room.ensures.same)
-    (c.reach.ensures.uplinks d (zip_at DeviceRests c.args.devices.now.items all _ c.index_mut-device.result.now d stand c.index_mut-device.ensures.value (omega arith) there))
+returns-clause-uplinks c = on_ok c.reach.result (λ ok. λ all d stand there. rw (← c.make_room.ensures.same)
+    (on_ok_then c.reach.result ok c.reach.ensures.uplinks d
+    (zip_at DeviceRests c.args.devices.now.items all _ c.index_mut-device.result.now d stand c.index_mut-device.ensures.value (omega arith) there)))
+
+pub returns-clause-same : goal.returns-clause-same
+returns-clause-same c = on_err c.reach.result (λ same. same_set c.args.devices.now.items _ _ _ same c.index_mut-device.ensures.value) c.reach.ensures.same

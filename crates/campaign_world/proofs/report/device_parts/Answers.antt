@@ -1,5 +1,5 @@
 use Rattle.std.proofs.Common.{◌∙◌, sym, arith}
-use Rattle.campaign_world.specs.HeldWorld.{DeviceRests}
+use Rattle.campaign_world.specs.Late.{DeviceRests}
 use Rattle.campaign_world.proofs.Zips.{zip_get, zip_long}
 use Rattle.campaign_world.proofs.Lines.{part_told, all_told}
 use Rattle.campaign_world.proofs.report.device_parts.Goals as goal
@@ -12,7 +12,7 @@ loop-device-preserved c = record {
   id_is = let is = c.loop-device.invariant.id_is in omega (arith, is);
   told = λ ds all. let one = zip_get DeviceRests c.args.devices.now.items ds c.loop-device.device-index c.device-item.result all (rw c.deref-device-items.ensures.value at c.loop-device-test.true) (rw c.deref-device-items.ensures.value at c.device-item.is) in
       part_told c.args.server.now.image c.loop-device.text.items c.as_bytes.result.now c.extend_from_slice.new.self.items _ c.loop-device.id c.loop-device.device-index c.args.server.now.stages ds c.ledger.result one.0
-      c.loop-device.invariant.id_is (sym c.ledger.ensures) one.1 c.in_ok-extend_from_slice.ensures.items (rw (← c.image.ensures) (c.as_bytes.ensures.value ∙ c.in_ok-part.ensures one.0 one.2.stands)) (c.loop-device.invariant.told ds all);
+      c.loop-device.invariant.id_is (sym c.ledger.ensures) one.1 c.in_ok-extend_from_slice.ensures.items (rw (← c.image.ensures) (c.as_bytes.ensures.value ∙ c.in_ok-part.ensures one.0 one.2)) (c.loop-device.invariant.told ds all);
 }
 
 pub returns : goal.returns

@@ -1,5 +1,5 @@
 use Rattle.std.proofs.Common.{sym, arith}
-use Rattle.campaign_world.specs.HeldWorld.{DeviceRests}
+use Rattle.campaign_world.specs.Late.{DeviceRests}
 use Rattle.campaign_world.specs.Summary.{totals_from, nothing_counted}
 use Rattle.campaign_world.proofs.Zips.{zip_get, zip_long}
 use Rattle.campaign_world.proofs.Counting.{all_counted, one_counted}
@@ -13,7 +13,7 @@ loop-device-preserved c = record {
   updated = let was = c.loop-device.invariant.updated in let more = c.with_device-totals.ensures.updated in omega (arith, was, more);
   counted = λ ds all. let one = zip_get DeviceRests c.args.devices.now.items ds c.loop-device.device-index c.device-item.result all (rw c.deref-device-items.ensures.value at c.loop-device-test.true) (rw c.deref-device-items.ensures.value at c.device-item.is) in
       one_counted c.loop-device.totals c.with_device-totals.result (totals_from nothing_counted c.args.server.now.stages ds) c.loop-device.id c.loop-device.device-index c.args.server.now.stages ds c.ledger.result one.0
-      c.loop-device.invariant.id_is (sym c.ledger.ensures) one.1 (c.with_device-totals.ensures.counted one.0 one.2.stands) (c.loop-device.invariant.counted ds all);
+      c.loop-device.invariant.id_is (sym c.ledger.ensures) one.1 (c.with_device-totals.ensures.counted one.0 one.2) (c.loop-device.invariant.counted ds all);
 }
 
 pub returns : goal.returns

@@ -1,6 +1,7 @@
 use Rattle.std.proofs.Common.{◌≡◌, ◌≤◌, length, Some, sym, subst}
 use Rattle.campaign_server.specs.Server.{ServerState}
 use Rattle.campaign_world.specs.HeldWorld.{HeldWorld}
+use Rattle.report_lines.proofs.Outcomes.{on_ok, on_ok_then}
 use Rattle.campaign_world.proofs.Steps.{built_alike, migrate_step}
 use Rattle.campaign_world.proofs.world.World.migrate.Goals as goal
 
@@ -16,6 +17,6 @@ invariant_of-self c = record {
 }
 
 pub returns-clause-taken : goal.returns-clause-taken
-returns-clause-taken c = rw (← c.self.view_is) (λ world stands. migrate_step _ world _ c.args.device stands c.requires.first
+returns-clause-taken c = on_ok c.migrate.result (λ ok. rw (← c.self.view_is) (λ world stands. migrate_step _ world _ c.args.device stands c.requires.first
     (subst (λ (h : HeldWorld). c.args.device ≤ length h.devices) (sym c.self.view_is) c.requires.last)
-    c.migrate.ensures.devices)
+    (on_ok_then c.migrate.result ok c.migrate.ensures.devices)))

@@ -3,13 +3,13 @@ use Rattle.campaign_world.specs.WorldInside.{IsMadeBy}
 use Rattle.campaign_world.proofs.Zips.{all_more}
 use Rattle.device_core.proofs.Outboxes.{one_taken}
 use Rattle.campaign_world.proofs.Outboxes.{one_moved, rests_now}
-use Rattle.campaign_world.proofs.deliveries.take_uplinks.Goals as goal
+use Rattle.campaign_world.proofs.calls.take_uplinks.Goals as goal
 
 pub loop-device-preserved : goal.loop-device-preserved
 loop-device-preserved c = record {
   stands = λ d stands. one_taken d _ _ _ c.take_uplink.ensures.makes.stands c.in-Some.ensures.oldest (c.loop-device.invariant.stands d stands);
   taken = one_moved c.args.id _ _ _ _ _ c.in-Some.uplink c.in-Some.ensures.oldest c.push_reserved.ensures.items c.loop-device.invariant.taken;
-  made = λ count last all. rw (c.push_reserved.ensures.items) (all_more (IsMadeBy count) _ _ (c.loop-device.invariant.made count last all) (record { first = c.requires.first; last = last }));
+  made = λ count last all. rw (c.push_reserved.ensures.items) (all_more (IsMadeBy count) _ _ (c.loop-device.invariant.made count last all) (record { first = c.requires.first; last = last; single = c.in-Some.ensures.uplink }));
   count = omega (arith, c.loop-device.invariant.count, c.push_reserved.ensures.len, ap length c.in-Some.ensures.oldest);
   spare = omega (arith, c.loop-device.invariant.spare, c.push_reserved.ensures.capacity);
 }

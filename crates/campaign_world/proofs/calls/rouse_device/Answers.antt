@@ -1,7 +1,7 @@
 use Rattle.std.proofs.Common.{◌∙◌}
 use Rattle.device_core.proofs.Outboxes.{outbox_is}
 use Rattle.campaign_world.proofs.OutboxRoom.{woken_few, numbered_few}
-use Rattle.campaign_world.proofs.deliveries.rouse.Goals as goal
+use Rattle.campaign_world.proofs.calls.rouse_device.Goals as goal
 
 pub returns-clause-rests : goal.returns-clause-rests
 returns-clause-rests c = λ d rests. c.take_uplinks.ensures.rests _ (c.wake-asked.ensures.stands d rests.stands)

@@ -1,7 +1,7 @@
 use Rattle.std.proofs.Common.{◌∙◌}
 use Rattle.device_core.proofs.Outboxes.{outbox_is}
 use Rattle.campaign_world.proofs.OutboxRoom.{delivered_few, numbered_few}
-use Rattle.campaign_world.proofs.deliveries.reach.Goals as goal
+use Rattle.campaign_world.proofs.calls.reach_device.Goals as goal
 
 pub returns-clause-rests : goal.returns-clause-rests
 returns-clause-rests c = λ d rests. c.take_uplinks.ensures.rests _ (c.deliver-delivered.ensures.stands d rests.stands)

@@ -1,0 +1,68 @@
+//! What reaches a device, and the uplinks that are then taken of it.
+
+ghost use Rattle.std.specs.Prelude.{◌≡◌, ◌≤◌, ◌+◌, length, vec_len, vec_capacity};
+ghost use Rattle.device_core.specs.Device.{DeviceState, max_moment, outbox_size};
+ghost use Rattle.device_core.specs.Deliver.{delivery, waking};
+ghost use Rattle.device_core.specs.HeldDevice.{DeviceStands};
+ghost use Rattle.campaign_world.specs.HeldWorld.{resting, numbered_behind, ComesToRest, AreNumbered};
+ghost use Rattle.campaign_world.specs.Late.{HeldRests};
+ghost use Rattle.campaign_world.specs.WorldInside.{StayMade};
+
+use crate::numbered::MadeUplink;
+use device_core::{Device, Moment};
+use package_grammar::Downlink;
+
+/// Uplinks that a device holds at most, and so those that one event can make.
+pub const OUTBOX: usize = 8;
+
+/// A payload reaches a device, whose uplinks are taken.
+pub fn reach_device(
+    device: &mut Device,
+    uplinks: &mut Vec<MadeUplink>,
+    id: u8,
+    down: &Downlink,
+    coming: Moment,
+)
+    requires first { 1 ≤ id }
+    requires moment { coming.t ≤ max_moment }
+    requires room { vec_len uplinks.old + outbox_size ≤ vec_capacity uplinks.old }
+    ensures made { StayMade id uplinks.old.items uplinks.new.items }
+    ensures rests { ComesToRest HeldRests (λ d. (delivery coming.t coming.word coming.mark down.now d).device) device.old device.new }
+    ensures uplinks { AreNumbered HeldRests (λ d. (delivery coming.t coming.word coming.mark down.now d).device)
+        device.old id uplinks.old.items uplinks.new.items }
+{
+    let _delivered = device.deliver(coming.t, down, coming.word, coming.mark);
+    take_uplinks(id, device, uplinks);
+}
+
+/// A device wakes, and its uplinks are taken.
+pub fn rouse_device(device: &mut Device, uplinks: &mut Vec<MadeUplink>, id: u8, t: u64)
+    requires first { 1 ≤ id }
+    requires moment { t ≤ max_moment }
+    requires room { vec_len uplinks.old + outbox_size ≤ vec_capacity uplinks.old }
+    ensures made { StayMade id uplinks.old.items uplinks.new.items }
+    ensures rests { ComesToRest HeldRests (λ d. (waking t d).device) device.old device.new }
+    ensures uplinks { AreNumbered HeldRests (λ d. (waking t d).device) device.old id uplinks.old.items uplinks.new.items }
+{
+    let _asked = device.wake(t);
+    take_uplinks(id, device, uplinks);
+}
+
+/// Takes all uplinks of a device, oldest first. It has no more of them than there is room for.
+fn take_uplinks(id: u8, device: &mut Device, uplinks: &mut Vec<MadeUplink>)
+    requires first { 1 ≤ id }
+    requires room { vec_len uplinks.old + outbox_size ≤ vec_capacity uplinks.old }
+    ensures made { StayMade id uplinks.old.items uplinks.new.items }
+    ensures rests { (d : DeviceState) → DeviceStands device.old d → length d.outbox ≤ outbox_size
+        → HeldRests device.new (resting d) }
+    ensures uplinks { length device.old.outbox ≤ outbox_size
+        → uplinks.new.items ≡ numbered_behind uplinks.old.items id device.old.outbox }
+{
+    let full = uplinks.len() + OUTBOX;
+    while uplinks.len() < full {
+        let Some(uplink) = device.take_uplink() else {
+            return;
+        };
+        uplinks.push_reserved(MadeUplink { device: id, uplink });
+    }
+}

@@ -1,0 +1,173 @@
+//! A device of a campaign, whose memory is taken when its first event comes.
+
+ghost use Rattle.std.specs.Prelude.{◌≡◌, ◌≤◌, ◌+◌, true, None, OnOk, OnErr, IfOk, option_map, vec_len, vec_capacity};
+ghost use Rattle.device_core.specs.Device.{DeviceState, first_device, is_config, max_moment, outbox_size};
+ghost use Rattle.device_core.specs.HeldDevice.{DeviceStands};
+ghost use Rattle.device_core.specs.Deliver.{delivery, waking};
+ghost use Rattle.device_core.specs.Firmware.{after_migration};
+ghost use Rattle.campaign_world.specs.HeldWorld.{ComesToRest, AreNumbered};
+ghost use Rattle.campaign_world.specs.Late.{IsHere, DeviceRests};
+ghost use Rattle.campaign_world.specs.WorldInside.{StayMade};
+
+use crate::calls::{reach_device, rouse_device};
+use crate::numbered::MadeUplink;
+use device_core::{Device, DeviceConfig, Moment, ReserveError};
+use package_grammar::Downlink;
+use std::alloc::{AllocError, Global};
+use std::marker::Model;
+
+/// A device to which nothing happened yet costs no more than its configuration.
+#[derive(Drop)]
+pub struct LateDevice {
+    config: DeviceConfig,
+    /// None before its first event.
+    came: Option<Box<Device>>,
+}
+
+impl Model for LateDevice {
+    ghost use Rattle.std.specs.Prelude.{◌≡◌, true};
+    ghost use Rattle.device_core.specs.Device.{is_config};
+    ghost use Rattle.std.specs.Prelude.{option_map};
+    ghost use Rattle.campaign_world.specs.Late.{Late};
+
+    ghost Value = { Late };
+
+    ghost view = { λ d. record { config = d.config; came = option_map (λ device. device.value) d.came } };
+
+    ghost invariant = { λ d. is_config d.config ≡ true };
+}
+
+impl LateDevice {
+    /// A device to which nothing happened yet.
+    pub fn new(config: DeviceConfig) -> Self
+        requires { is_config config ≡ true }
+        ensures { result ≡ record { config = config; came = None } }
+    {
+        LateDevice { config, came: None }
+    }
+
+    /// The device that came; None where nothing happened to it yet.
+    pub fn device(&self) -> Option<&Device>
+        ensures { option_map (λ device. device.now) result ≡ self.now.came }
+    {
+        match &self.came {
+            Some(device) => Some(device),
+            None => None,
+        }
+    }
+
+    /// What it is configured with.
+    pub fn config(&self) -> DeviceConfig
+        ensures { result ≡ self.now.config }
+    {
+        self.config
+    }
+
+    /// Takes the memory of the device, where that was not done yet. Where there is none it is as it was.
+    fn come(&mut self, alloc: Global) -> Result<(), AllocError>
+        ensures here { OnOk result (IsHere self.new) }
+        ensures rests { (d : DeviceState) → DeviceRests self.old d → DeviceRests self.new d }
+        ensures same { OnErr result (self.new ≡ self.old) }
+    {
+        if self.came.is_some() {
+            return Ok(());
+        }
+        match reserved(alloc, self.config) {
+            Ok(device) => {
+                self.came = Some(device);
+                Ok(())
+            }
+            Err(error) => Err(error),
+        }
+    }
+}
+
+/// The device at its start, with all memory that it will ever need.
+fn reserved(alloc: Global, config: DeviceConfig) -> Result<Box<Device>, AllocError>
+    requires { is_config config ≡ true }
+    ensures { IfOk result (λ device. DeviceStands device.value (first_device config)) }
+{
+    let device = match Device::reserve(alloc, config) {
+        Ok(device) => device,
+        Err(ReserveError::Memory) => return Err(AllocError),
+        Err(ReserveError::BadConfig) => unreachable!(),
+    };
+    match Box::new(alloc, device) {
+        Ok(boxed) => Ok(boxed),
+        Err(_) => Err(AllocError),
+    }
+}
+
+/// A payload reaches a device, whose uplinks are taken. Where there is no memory for the device nothing happened.
+pub fn reach(
+    late: &mut LateDevice,
+    alloc: Global,
+    uplinks: &mut Vec<MadeUplink>,
+    id: u8,
+    down: &Downlink,
+    coming: Moment,
+) -> Result<(), AllocError>
+    requires first { 1 ≤ id }
+    requires moment { coming.t ≤ max_moment }
+    requires room { vec_len uplinks.old + outbox_size ≤ vec_capacity uplinks.old }
+    ensures made { StayMade id uplinks.old.items uplinks.new.items }
+    ensures rests { OnOk result (ComesToRest DeviceRests (λ d. (delivery coming.t coming.word coming.mark down.now d).device)
+        late.old late.new) }
+    ensures uplinks { OnOk result (AreNumbered DeviceRests
+        (λ d. (delivery coming.t coming.word coming.mark down.now d).device) late.old id uplinks.old.items uplinks.new.items) }
+    ensures same { OnErr result (late.new ≡ late.old) }
+{
+    match late.come(alloc) {
+        Ok(()) => {}
+        Err(error) => return Err(error),
+    }
+    let Some(device) = &mut late.came else {
+        unreachable!()
+    };
+    reach_device(device, uplinks, id, down, coming);
+    Ok(())
+}
+
+/// A device wakes, and its uplinks are taken. Where there is no memory for the device nothing happened.
+pub fn rouse(
+    late: &mut LateDevice,
+    alloc: Global,
+    uplinks: &mut Vec<MadeUplink>,
+    id: u8,
+    t: u64,
+) -> Result<(), AllocError>
+    requires first { 1 ≤ id }
+    requires moment { t ≤ max_moment }
+    requires room { vec_len uplinks.old + outbox_size ≤ vec_capacity uplinks.old }
+    ensures made { StayMade id uplinks.old.items uplinks.new.items }
+    ensures rests { OnOk result (ComesToRest DeviceRests (λ d. (waking t d).device) late.old late.new) }
+    ensures uplinks { OnOk result (AreNumbered DeviceRests (λ d. (waking t d).device)
+        late.old id uplinks.old.items uplinks.new.items) }
+    ensures same { OnErr result (late.new ≡ late.old) }
+{
+    match late.come(alloc) {
+        Ok(()) => {}
+        Err(error) => return Err(error),
+    }
+    let Some(device) = &mut late.came else {
+        unreachable!()
+    };
+    rouse_device(device, uplinks, id, t);
+    Ok(())
+}
+
+/// A device knows both image formats from now on. Where there is no memory for the device nothing happened.
+pub fn raise(late: &mut LateDevice, alloc: Global) -> Result<(), AllocError>
+    ensures rests { OnOk result (ComesToRest DeviceRests after_migration late.old late.new) }
+    ensures same { OnErr result (late.new ≡ late.old) }
+{
+    match late.come(alloc) {
+        Ok(()) => {}
+        Err(error) => return Err(error),
+    }
+    let Some(device) = &mut late.came else {
+        unreachable!()
+    };
+    device.raise();
+    Ok(())
+}
