@@ -1,6 +1,6 @@
 //! What `decode` says of a file of payloads, one a line.
 
-ghost use Rattle.std.specs.Prelude.{◌≡◌, ℕ, ◌+◌, ◌<◌, ◌≤◌, [], List, ◌++◌, codes, string_bytes, Ok, IfOk, IfErr, OnOk};
+ghost use Rattle.std.specs.Prelude.{◌≡◌, ℕ, ◌+◌, ◌<◌, ◌≤◌, [], List, ◌++◌, codes, string_bytes, IsTrue, Ok, IfOk, IfErr, OnOk};
 ghost use Rattle.std.specs.Fmt.{decimal};
 ghost use Rattle.package_grammar.specs.Reading.{reading_of};
 ghost use Rattle.script_lines.specs.Lines.{lines_of};
@@ -63,6 +63,10 @@ impl HearsLine for Decoding {
     fn line(&mut self, line: &[u8]) {
         self.hear(line);
     }
+
+    fn is_over(&self) -> bool {
+        self.is_kept()
+    }
 }
 
 impl Decoding {
@@ -98,6 +102,13 @@ impl Decoding {
                 Err(error) => self.kept = Some(error),
             },
         }
+    }
+
+    /// Whether a line was refused, or memory was wanting.
+    fn is_kept(&self) -> bool
+        ensures { IsTrue result → (line : List ℕ) → HearsDecoded self.now line self.now }
+    {
+        self.kept.is_some()
     }
 
     /// The whole text of a file, behind all its lines. `LineError::Line` names the first line that is refused, with

@@ -1,5 +1,5 @@
 //! What `replay` tells of a file of captured payloads: where a device stands that hears them.
-ghost use Rattle.std.specs.Prelude.{◌≡◌, ◌+◌, ◌<◌, ◌≤◌, [], ◌++◌, List, ℕ, Some, length, Ok, IfOk, IfErr, OnOk, codes, string_bytes};
+ghost use Rattle.std.specs.Prelude.{◌≡◌, ◌+◌, ◌<◌, ◌≤◌, [], ◌++◌, List, ℕ, IsTrue, Some, length, Ok, IfOk, IfErr, OnOk, codes, string_bytes};
 ghost use Rattle.script_lines.specs.Lines.{lines_of};
 ghost use Rattle.wire_base.specs.Payload.{max_payload};
 ghost use Rattle.device_core.specs.Device.{DeviceState};
@@ -56,6 +56,10 @@ impl HearsLine for Replaying {
     fn line(&mut self, line: &[u8]) {
         self.hear(line);
     }
+
+    fn is_over(&self) -> bool {
+        self.is_kept()
+    }
 }
 
 impl Replaying {
@@ -85,6 +89,13 @@ impl Replaying {
                 None => self.start(line),
             },
         }
+    }
+
+    /// Whether a line was refused, or memory was wanting.
+    fn is_kept(&self) -> bool
+        ensures { IsTrue result → (line : List ℕ) → HearsReplayed self.now line self.now }
+    {
+        self.kept.is_some()
     }
 
     /// Hears the header. It stands alone, so that no other line sees to the room for a whole device.

@@ -1,17 +1,17 @@
 -- What a piece makes of the lines that are held.
-use Rattle.std.proofs.Common.{◌≡◌, ◌≢◌, ℕ, zero, suc, ◌+◌, ◌-◌, ◌<◌, ◌≤◌, min, Bool, true, false, not, cond, ltb, eqb, List, [], ◌∷◌, ◌++◌, length, take, Option, None, Some, Result, Ok, Err, IsOk, OnOk, refl, sym, ap, subst, ◌∙◌, inl, inr, ◌⊎◌, arith}
+use Rattle.std.proofs.Common.{◌≡◌, ◌≢◌, ℕ, zero, suc, ◌+◌, ◌-◌, ◌<◌, ◌≤◌, min, Bool, true, false, not, cond, ltb, eqb, List, [], ◌∷◌, ◌++◌, append_assoc, length, take, drop, Option, None, Some, Result, Ok, Err, IsOk, OnOk, refl, sym, ap, subst, ◌∙◌, inl, inr, ◌⊎◌, arith}
 use Rattle.std.specs.List.{All, position, position_or_len}
 use Rattle.std.proofs.Math.Seq.{take-append-add}
 use Rattle.std.proofs.lemmas.Bool.{eqb-true, ltb-false}
-use Rattle.std.proofs.lemmas.List.{take_all, take_more, take_min, length-take, get_or-take}
+use Rattle.std.proofs.lemmas.List.{take_all, take_more, take_min, take-append-drop, length-take, get_or-take}
 use Rattle.std.proofs.lemmas.List.Elements.{All-from_get_or}
 use Rattle.std.proofs.lemmas.List.Quantifiers.{position-Some}
 use Rattle.std.proofs.lemmas.List.Sums.{fails_before_first}
 use Rattle.script_lines.specs.declared.pieces.Cut.TheVariants.{More, Line}
 use Rattle.script_lines.specs.Lines.{is_feed, lines_of}
 use Rattle.script_lines.specs.Pieces.{ended_of, open_of, cut}
-use Rattle.script_lines.specs.HeldLines.{HeldLines, LinesStand, open_in, held_as, GoesOn, Ends}
-use Rattle.script_lines.proofs.Stretches.{still_open, now_ended, last_open}
+use Rattle.script_lines.specs.HeldLines.{HeldLines, LinesStand, IsLastFeed, open_in, held_as, GoesOn, Ends}
+use Rattle.script_lines.proofs.Stretches.{still_open, now_ended, open_behind, last_open}
 
 -- ---- cutting
 
@@ -85,6 +85,25 @@ ends_line old items kept piece ended end is hold found stream stands =
         ap (λ (l : List ℕ). Some l) (hold ∙ ap (λ (l : List ℕ). cut (l ++ take end piece)) here ∙ cut_on (open_of stream) (take end piece)),
       );
     })
+
+-- a piece of which no line is wanted, without a line feed
+pub passes_on : (old : HeldLines) (items kept piece : List ℕ) (ended : Bool) → old ≡ held_as items ended → kept ≡ cut (open_in items ended ++ piece)
+    → All (λ b. is_feed b ≡ false) piece → (stream : List ℕ) → LinesStand old stream → kept ≡ cut (open_of (stream ++ piece))
+passes_on old items kept piece ended is hold none stream stands =
+    let here : open_in items ended ≡ cut (open_of stream) = ap (λ (h : HeldLines). h.open_line) (sym is) ∙ stands in
+    hold ∙ ap (λ (l : List ℕ). cut (l ++ piece)) here ∙ cut_on (open_of stream) piece ∙ ap cut (sym (still_open stream piece none).1)
+
+-- and with one
+parted : (piece : List ℕ) (end : ℕ) → IsLastFeed piece end → piece ≡ take end piece ++ (10 ∷ drop (end + 1) piece)
+parted piece end last =
+    let front = take_more piece end 0 last.inside ∙ ap (λ (b : ℕ). take end piece ++ b ∷ []) (eqb-true _ _ last.feed) in
+    sym (take-append-drop (end + 1) piece) ∙ ap (λ (l : List ℕ). l ++ drop (end + 1) piece) front ∙ append_assoc (take end piece) (10 ∷ []) (drop (end + 1) piece)
+
+pub passes_behind : (kept piece : List ℕ) (end : ℕ) → kept ≡ cut (drop (end + 1) piece) → IsLastFeed piece end → (stream : List ℕ)
+    → kept ≡ cut (open_of (stream ++ piece))
+passes_behind kept piece end hold last stream =
+    hold ∙ ap cut (sym (open_behind stream (take end piece) (drop (end + 1) piece) last.none))
+    ∙ ap (λ (l : List ℕ). cut (open_of (stream ++ l))) (sym (parted piece end last))
 
 -- the end
 pub ends : (old : HeldLines) (items kept : List ℕ) (ended result : Bool) → old ≡ held_as items ended → kept ≡ open_in items ended

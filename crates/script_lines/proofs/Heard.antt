@@ -3,8 +3,9 @@ use Rattle.std.proofs.Common.{◌≡◌, ℕ, List, [], ◌∷◌, ◌++◌, Opt
 use Rattle.script_lines.specs.declared.pieces.Cut.TheVariants.{More, Line}
 use Rattle.script_lines.specs.Lines.{lines_of}
 use Rattle.script_lines.specs.Pieces.{ended_of, cut, cut_lines}
-use Rattle.script_lines.specs.HeldLines.{HeldLines, GoesOn, Ends}
+use Rattle.script_lines.specs.HeldLines.{HeldLines, LinesStand, GoesOn, Ends}
 use Rattle.script_lines.specs.Hearing.{HearsAll, HasHeard, HearsLines, Hears}
+use Rattle.script_lines.proofs.Stretches.{ended_more}
 
 hears_more : {W : Type 0} (Step : W → List ℕ → W → Type 0) (lines : List (List ℕ)) (line : List ℕ) (old now new : W) → HearsAll Step old lines now → Step now line new → HearsAll Step old (lines ++ line ∷ []) new
 unfolding HearsAll
@@ -53,3 +54,31 @@ hears_on Step old mid new before between now xs ys one other first stream so_far
 
 pub hears_none : {W : Type 0} (Step : W → List ℕ → W → Type 0) (held : HeldLines) (now : W) → Hears Step held held now now []
 hears_none Step held now first stream so_far = subst (λ (s : List ℕ). HasHeard Step first held now s) (sym (append-nil stream)) so_far
+
+-- ---- a consumer that no line changes any more
+
+stays_still : {W : Type 0} (Step : W → List ℕ → W → Type 0) (now : W) (lines : List (List ℕ)) → ((line : List ℕ) → Step now line now) → HearsAll Step now lines now
+unfolding HearsAll
+stays_still Step now [] over = refl
+stays_still Step now (l ∷ ls) over = (now, over l, stays_still Step now ls over)
+
+hears_both : {W : Type 0} (Step : W → List ℕ → W → Type 0) (xs ys : List (List ℕ)) (old now new : W) → HearsAll Step old xs now → HearsAll Step now ys new → HearsAll Step old (xs ++ ys) new
+unfolding HearsAll
+hears_both {W} Step [] ys old now new heard more = subst (λ (w : W). HearsAll Step w ys new) heard more
+hears_both Step (x ∷ xs) ys old now new heard more = (heard.0, heard.1, hears_both Step xs ys heard.0 now new heard.2 more)
+
+cut_both : (xs ys : List (List ℕ)) → cut_lines (xs ++ ys) ≡ cut_lines xs ++ cut_lines ys
+cut_both [] ys = refl
+cut_both (x ∷ xs) ys = ap (λ (ls : List (List ℕ)). cut x ∷ ls) (cut_both xs ys)
+
+still_heard : {W : Type 0} (Step : W → List ℕ → W → Type 0) (first now : W) (before all : List (List ℕ)) (more : List (List ℕ)) → all ≡ before ++ more
+    → HearsAll Step first (cut_lines before) now → ((line : List ℕ) → Step now line now) → HearsAll Step first (cut_lines all) now
+still_heard Step first now before all more are heard over =
+    rw (are, cut_both before more) (hears_both Step (cut_lines before) (cut_lines more) first now now heard (stays_still Step now (cut_lines more) over))
+
+-- has heard whatever comes
+pub passes : {W : Type 0} (Step : W → List ℕ → W → Type 0) (old new : HeldLines) (now : W) (bytes : List ℕ)
+    → ((stream : List ℕ) → LinesStand old stream → LinesStand new (stream ++ bytes)) → ((line : List ℕ) → Step now line now) → Hears Step old new now now bytes
+passes Step old new now bytes stand over first stream so_far =
+    let on = ended_more stream bytes in
+    record { stands = stand stream so_far.stands; heard = still_heard Step first now (ended_of stream) (ended_of (stream ++ bytes)) on.0 on.1 so_far.heard over }

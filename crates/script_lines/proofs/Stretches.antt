@@ -1,6 +1,7 @@
 -- The stretches of a stream that goes on.
-use Rattle.std.proofs.Common.{◌≡◌, ℕ, ◌<◌, Bool, true, false, cond, List, [], ◌∷◌, ◌++◌, length, refl, ap, ◌∙◌, arith, ◌⊎◌, inl, inr}
+use Rattle.std.proofs.Common.{◌≡◌, ℕ, ◌<◌, Bool, true, false, cond, List, [], ◌∷◌, ◌++◌, length, refl, sym, ap, ◌∙◌, append_assoc, arith, ◌⊎◌, inl, inr}
 use Rattle.std.specs.List.{slice_split, onto_first, All}
+use Rattle.std.proofs.lemmas.List.Elements.{All-from_get_or}
 use Rattle.std.proofs.lemmas.List.Splits.{slice_split_none, slice_split_at}
 use Rattle.script_lines.specs.Lines.{is_feed, without_empty_last, lines_of}
 use Rattle.script_lines.specs.Pieces.{front, last, ended_of, open_of}
@@ -67,6 +68,40 @@ now_ended stream bytes none =
     let some = a_stretch stream in
     let ended_bytes = joined_ended some.0 some.1 bytes in
     rw (split_on stream (bytes ++ 10 ∷ []), slice_split_at is_feed bytes 10 [] none refl, some.2) ended_bytes
+
+-- whatever comes behind, the lines that ended stay
+stretch_on : (x : List ℕ) (xs : List (List ℕ)) (y : List ℕ) (ys : List (List ℕ)) → (a : List ℕ) × (others : List (List ℕ)) × (joined (x ∷ xs) (y ∷ ys) ≡ a ∷ others)
+stretch_on x [] y ys = (x ++ y, ys, refl)
+stretch_on x (z ∷ zs) y ys = (x, joined (z ∷ zs) (y ∷ ys), refl)
+
+front_on : (x : List ℕ) (zs : List (List ℕ)) (a : List ℕ) (others : List (List ℕ)) → zs ≡ a ∷ others → front (x ∷ zs) ≡ x ∷ front zs
+front_on x zs a others is = rw (is) refl
+
+joined_front : (x : List ℕ) (xs : List (List ℕ)) (y : List ℕ) (ys : List (List ℕ)) → (more : List (List ℕ)) × (front (joined (x ∷ xs) (y ∷ ys)) ≡ front (x ∷ xs) ++ more)
+joined_front x [] y ys = (front ((x ++ y) ∷ ys), refl)
+joined_front x (z ∷ zs) y ys =
+    let behind = joined_front z zs y ys in
+    let some = stretch_on z zs y ys in
+    (behind.0, front_on x (joined (z ∷ zs) (y ∷ ys)) some.0 some.1 some.2 ∙ ap (λ (l : List (List ℕ)). x ∷ l) behind.1)
+
+pub ended_more : (stream bytes : List ℕ) → (more : List (List ℕ)) × (ended_of (stream ++ bytes) ≡ ended_of stream ++ more)
+unfolding ended_of
+ended_more stream bytes =
+    let some = a_stretch stream in
+    let other = a_stretch bytes in
+    let on = joined_front some.0 some.1 other.0 other.1 in
+    (on.0, rw (split_on stream bytes, some.2, other.2) on.1)
+
+no_feed : All (λ b. is_feed b ≡ false) []
+no_feed = All-from_get_or (λ b. is_feed b ≡ false) [] 0 (λ i below. absurd (omega (arith, below)))
+
+-- behind the last line feed the open line begins anew
+pub open_behind : (stream before rest : List ℕ) → All (λ b. is_feed b ≡ false) rest → open_of (stream ++ (before ++ (10 ∷ rest))) ≡ rest
+open_behind stream before rest none =
+    let anew = (now_ended (stream ++ before) [] no_feed).1 in
+    let whole : stream ++ (before ++ (10 ∷ rest)) ≡ ((stream ++ before) ++ (10 ∷ [])) ++ rest =
+    sym (append_assoc stream before (10 ∷ rest)) ∙ sym (append_assoc (stream ++ before) (10 ∷ []) rest) in
+    rw (whole) ((still_open ((stream ++ before) ++ (10 ∷ [])) rest none).1 ∙ ap (λ (l : List ℕ). l ++ rest) anew)
 
 -- ---- the end of a stream
 

@@ -1,5 +1,5 @@
 -- What is kept of a stream between its pieces, and what a piece makes of it.
-use Rattle.std.specs.Prelude.{◌≡◌, ℕ, ◌+◌, Bool, true, false, List, [], ◌∷◌, ◌++◌, length, position, Option, Some, None}
+use Rattle.std.specs.Prelude.{◌≡◌, ◌<◌, ℕ, ◌+◌, Bool, true, false, List, [], ◌∷◌, ◌++◌, All, length, drop, get_or, position, Option, Some, None}
 use Rattle.script_lines.specs.declared.pieces.Cut.{Cut}
 use Rattle.script_lines.specs.declared.pieces.Cut.TheVariants.{More, Line}
 use Rattle.script_lines.specs.Lines.{is_feed, lines_of}
@@ -48,3 +48,9 @@ line_in bytes true = Some bytes
 
 abbrev pub held_as : List ℕ → Bool → HeldLines
 held_as bytes ended = record { open_line = open_in bytes ended; line = line_in bytes ended }
+
+-- the last line feed is at this place: there is one, and none behind it
+pub record IsLastFeed (piece : List ℕ) (end : ℕ) : Type 0 where
+  pub inside : end < length piece
+  pub feed : is_feed (get_or piece end 0) ≡ true
+  pub none : All (λ b. is_feed b ≡ false) (drop (end + 1) piece)

@@ -1,6 +1,6 @@
 //! A consumer that hears the lines of a stream in pieces.
 
-ghost use Rattle.std.specs.Prelude.{◌≡◌, ◌<◌, ◌≤◌, List, ℕ, length, take};
+ghost use Rattle.std.specs.Prelude.{◌≡◌, ◌<◌, ◌≤◌, List, ℕ, IsTrue, length, take};
 ghost use Rattle.script_lines.specs.Hearing.{HasHeard, Hears, HearsLines};
 
 use crate::pieces::{Cut, Lines};
@@ -13,14 +13,22 @@ pub trait HearsLine {
     /// Hears a line, without its line feed; of one of more than 600 bytes the first 601.
     fn line(&mut self, line: &[u8])
         ensures { hears self.old line.now self.new };
+
+    /// Whether it wants no more lines; then none changes it.
+    fn is_over(&self) -> bool
+        ensures { IsTrue result → (line : List ℕ) → hears self.now line self.now };
 }
 
-/// Hands out the lines that end in a piece.
+/// Hands out the lines that end in a piece; behind one after which no more are wanted, none.
 pub fn hear_piece<W: HearsLine>(lines: &mut Lines, piece: &[u8], hearer: &mut W)
     ensures { Hears W.hears lines.old lines.new hearer.old hearer.new piece.now }
 {
     let mut rest = piece;
     while !rest.is_empty() {
+        if hearer.is_over() {
+            lines.pass(rest);
+            return;
+        }
         let used = hear_next(lines, rest, hearer);
         rest = rest.split_at(used).1;
     }

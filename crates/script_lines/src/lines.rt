@@ -1,8 +1,9 @@
 //! The lines of a source.
 
-ghost use Rattle.std.specs.Prelude.{◌≡◌, ◌<◌, ◌∷◌, length};
+ghost use Rattle.std.specs.Prelude.{◌≡◌, ◌<◌, ◌∷◌, false, length, None, IfSome, All};
 ghost use Rattle.std.specs.List.{position};
 ghost use Rattle.script_lines.specs.Lines.{is_feed, lines_of};
+ghost use Rattle.script_lines.specs.HeldLines.{IsLastFeed};
 
 /// The first line of the bytes, without its line feed, and what stands behind it.
 pub fn first_line(bytes: &[u8]) -> (&[u8], &[u8])
@@ -21,4 +22,19 @@ pub(crate) fn line_feed(bytes: &[u8]) -> Option<usize>
     ensures { result ≡ position is_feed bytes.now }
 {
     bytes.iter().position(|b| *b == b'\n')
+}
+
+/// The place of the last line feed.
+pub(crate) fn last_feed(bytes: &[u8]) -> Option<usize>
+    ensures some { IfSome result (λ end. IsLastFeed bytes.now end) }
+    ensures none { result ≡ None → All (λ b. is_feed b ≡ false) bytes.now }
+{
+    let mut end = bytes.len();
+    while end > 0 {
+        end -= 1;
+        if bytes[end] == b'\n' {
+            return Some(end);
+        }
+    }
+    None
 }

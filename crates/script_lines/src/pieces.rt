@@ -4,7 +4,7 @@ ghost use Rattle.std.specs.Prelude.{◌≡◌, ◌≢◌, ◌<◌, ◌≤◌, �
 ghost use Rattle.script_lines.specs.Pieces.{cut};
 ghost use Rattle.script_lines.specs.HeldLines.{LinesStand, used_of, open_in, GoesOn, Ends};
 
-use crate::lines::line_feed;
+use crate::lines::{last_feed, line_feed};
 use arrayvec::ArrayVec;
 use std::marker::Model;
 
@@ -73,6 +73,21 @@ impl Lines {
                 (piece.len(), Cut::More)
             }
         }
+    }
+
+    /// Takes a piece of the stream of which no line is wanted.
+    pub fn pass(&mut self, piece: &[u8])
+        ensures { (stream : List ℕ) → LinesStand self.old stream → LinesStand self.new (stream ++ piece.now) }
+    {
+        open(&mut self.held, self.ended);
+        match last_feed(piece) {
+            Some(end) => {
+                self.held.clear();
+                hold(&mut self.held, &piece[end + 1..]);
+            }
+            None => hold(&mut self.held, piece),
+        }
+        self.ended = false;
     }
 
     /// The line that has just ended, without its line feed; of one of more than 600 bytes the first 601.
