@@ -53,6 +53,10 @@ hears old new line (Err (error.Line fault)) step kept same (Ok world) (inr stand
     inr (subst (λ (o : Outcome). WorldIs new o) (sym (read_by world line (Some fault.why) answer.0 ∙ made)) kept)
 hears old new line (Err error.Memory) step kept same (Ok world) (inr stands) = inl kept
 
+-- behind a refused line, or want of memory, none does more
+pub hears_no_more : (held : HeldWorld) (line : List ℕ) (e : LineError) → held.kept ≡ Some e → HearsScriptLine held line held
+hears_no_more held line e is = hears held held line (Err e) (λ world stands none. absurd cc) is (λ f there. (let same : e ≡ f = cc in ap (λ (x : LineError). let r : Result (Unit {0}) LineError = Err x in r) same, refl))
+
 -- ---- a line that is cut is refused for the same cause
 
 too_long : (world : WorldState) (line : List ℕ) → 600 < length line → cause_of world line ≡ Some why.Limit

@@ -1,9 +1,17 @@
 -- A device whose memory is taken when its first event comes.
-use Rattle.std.proofs.Common.{◌≡◌, ◌∙◌, [], Option, Some, None, refl, sym, ap, subst}
+use Rattle.std.proofs.Common.{◌≡◌, ◌∙◌, ◌++◌, ℕ, List, [], Option, Some, None, Err, refl, sym, ap, subst, append_assoc}
+use Rattle.std.specs.Prelude.{codes}
+use Rattle.std.specs.Fmt.{decimal, digits}
+use Rattle.report_lines.specs.Devices.{stage_text}
 use Rattle.device_core.specs.Device.{DeviceState, first_device}
 use Rattle.device_core.specs.HeldDevice.{HeldDevice, DeviceStands}
 use Rattle.device_core.specs.declared.config.DeviceConfig.{DeviceConfig}
 use Rattle.device_core.proofs.Outboxes.{outbox_is}
+use Rattle.frag_session.specs.Session.{view_of}
+use Rattle.campaign_server.specs.declared.stage.Stage.{Stage}
+use Rattle.campaign_world.specs.declared.recovery.NoFile.TheVariants as no_file
+use Rattle.campaign_world.specs.Recovery.{recovery_by}
+use Rattle.campaign_world.specs.Report.{first_part, device_part}
 use Rattle.campaign_world.specs.Late.{Late, HeldRests, RestsBy, DeviceRests}
 
 -- what is here rests as the device does
@@ -28,3 +36,40 @@ empty_by config (Some held) d rests = outbox_is held d rests.stands ∙ rests.em
 
 pub rests_empty : (late : Late) (d : DeviceState) → DeviceRests late d → d.outbox ≡ []
 rests_empty late d rests = empty_by late.config late.came d rests
+
+-- ---- what is told of one to which nothing happened yet
+
+pub first_file : (late : Late) (d : DeviceState) → late.came ≡ None → DeviceRests late d → recovery_by (Some d) ≡ Err no_file.None
+unfolding view_of
+first_file late d none rests = rw (first_rests late d none rests) refl
+
+pub first_view : (late : Late) (d : DeviceState) → late.came ≡ None → DeviceRests late d → view_of d.sessions.first ≡ None
+unfolding view_of
+first_view late d none rests = rw (first_rests late d none rests) refl
+
+nought : decimal 0 ≡ codes "0"
+unfolding digits
+nought = refl
+
+two_on : (a b c d : List ℕ) → (a ++ (b ++ c)) ++ d ≡ a ++ (b ++ (c ++ d))
+two_on a b c d = append_assoc a (b ++ c) d ∙ ap (λ (l : List ℕ). a ++ l) (append_assoc b c d)
+
+joined_on : (a b c d e f g h : List ℕ) → (a ++ (b ++ (c ++ (d ++ (e ++ (f ++ g)))))) ++ h ≡ a ++ (b ++ (c ++ (d ++ (e ++ (f ++ (g ++ h))))))
+joined_on a b c d e f g h =
+    two_on a b (c ++ (d ++ (e ++ (f ++ g)))) h
+    ∙ ap (λ (l : List ℕ). a ++ (b ++ l)) (two_on c d (e ++ (f ++ g)) h ∙ ap (λ (l : List ℕ). c ++ (d ++ l)) (two_on e f g h))
+
+first_told : (name stage offset zero : List ℕ) → zero ≡ codes "0"
+    → codes "device " ++ (name ++ (codes " " ++ (stage ++ (codes " clock " ++ (offset ++ codes " token 0 running 0 next none\ncounts deaf 0 refused 0 full 0 dropped 0\n")))))
+    ≡ (codes "device " ++ (name ++ (codes " " ++ (stage ++ (codes " clock " ++ (offset ++ (codes " token " ++ (zero
+    ++ (codes " running " ++ (zero ++ (codes " next " ++ (codes "none" ++ codes "\n"))))))))))))
+    ++ ((codes "counts deaf " ++ (zero ++ (codes " refused " ++ (zero ++ (codes " full " ++ (zero ++ (codes " dropped " ++ (zero ++ codes "\n")))))))) ++ [])
+first_told name stage offset zero is =
+    rw (is) (sym (joined_on (codes "device ") name (codes " ") stage (codes " clock ") offset (codes " token 0 running 0 next none\n")
+    (codes "counts deaf 0 refused 0 full 0 dropped 0\n")))
+
+pub first_lines : (image : List ℕ) (id : ℕ) (stage : Stage) (late : Late) (d : DeviceState) → late.came ≡ None → DeviceRests late d
+    → first_part id stage late.config.offset ≡ device_part image id stage d
+unfolding view_of
+first_lines image id stage late d none rests =
+    rw (first_rests late d none rests) (first_told (decimal id) (stage_text stage) (decimal late.config.offset) (decimal 0) nought)

@@ -3,6 +3,7 @@
 ghost use Rattle.std.specs.Prelude.{◌≡◌, ◌≤◌, ◌+◌, length, vec_len, vec_capacity};
 ghost use Rattle.device_core.specs.Device.{DeviceState, max_moment, outbox_size};
 ghost use Rattle.device_core.specs.Deliver.{delivery, waking};
+ghost use Rattle.device_core.specs.Firmware.{after_migration};
 ghost use Rattle.device_core.specs.HeldDevice.{DeviceStands};
 ghost use Rattle.campaign_world.specs.HeldWorld.{resting, numbered_behind, ComesToRest, AreNumbered};
 ghost use Rattle.campaign_world.specs.Late.{HeldRests};
@@ -46,6 +47,13 @@ pub fn rouse_device(device: &mut Device, uplinks: &mut Vec<MadeUplink>, id: u8, 
 {
     let _asked = device.wake(t);
     take_uplinks(id, device, uplinks);
+}
+
+/// A device knows both image formats from now on.
+pub fn raise_device(device: &mut Device)
+    ensures { ComesToRest HeldRests after_migration device.old device.new }
+{
+    device.raise();
 }
 
 /// Takes all uplinks of a device, oldest first. It has no more of them than there is room for.

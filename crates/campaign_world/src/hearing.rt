@@ -1,5 +1,6 @@
 //! A campaign hears its script line by line.
 
+ghost use Rattle.std.specs.Prelude.{List, ℕ, IsTrue};
 ghost use Rattle.campaign_world.specs.HeardWorld.{HearsScriptLine};
 
 use crate::world::World;
@@ -13,6 +14,10 @@ impl HearsLine for World {
     fn line(&mut self, line: &[u8]) {
         hear(self, line);
     }
+
+    fn is_over(&self) -> bool {
+        is_over(self)
+    }
 }
 
 /// Takes a line, and keeps what comes of it: behind a refused line no line does more.
@@ -20,4 +25,11 @@ fn hear(world: &mut World, line: &[u8])
     ensures { HearsScriptLine world.old line.now world.new }
 {
     let _kept = world.line(line);
+}
+
+/// Whether no line does more.
+fn is_over(world: &World) -> bool
+    ensures { IsTrue result → (line : List ℕ) → HearsScriptLine world.now line world.now }
+{
+    world.is_over()
 }

@@ -9,7 +9,7 @@ ghost use Rattle.campaign_world.specs.HeldWorld.{ComesToRest, AreNumbered};
 ghost use Rattle.campaign_world.specs.Late.{IsHere, DeviceRests};
 ghost use Rattle.campaign_world.specs.WorldInside.{StayMade};
 
-use crate::calls::{reach_device, rouse_device};
+use crate::calls::{raise_device, reach_device, rouse_device};
 use crate::numbered::MadeUplink;
 use device_core::{Device, DeviceConfig, Moment, ReserveError};
 use package_grammar::Downlink;
@@ -168,6 +168,6 @@ pub fn raise(late: &mut LateDevice, alloc: Global) -> Result<(), AllocError>
     let Some(device) = &mut late.came else {
         unreachable!()
     };
-    device.raise();
+    raise_device(device);
     Ok(())
 }

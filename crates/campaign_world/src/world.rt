@@ -1,6 +1,6 @@
 //! A campaign as its script tells it, line by line: what was sent, what was heard, and where each end stands.
 
-ghost use Rattle.std.specs.Prelude.{◌≡◌, ◌<◌, ◌+◌, ◌-◌, true, List, length, None, Some, Ok, Err, IfOk, IfErr, IfSome, OnOk, OnErr, option_map};
+ghost use Rattle.std.specs.Prelude.{◌≡◌, ◌<◌, ◌+◌, ◌-◌, true, List, length, None, Some, Ok, Err, IfOk, IfErr, IfSome, OnOk, OnErr, is_some, option_map};
 ghost use Rattle.image_slots.specs.Image.{is_image};
 ghost use Rattle.device_core.specs.Device.{DeviceState};
 ghost use Rattle.device_core.specs.Sendable.{IsUplink};
@@ -197,6 +197,13 @@ impl World {
             Some(made) => Some(&made.uplink),
             None => None,
         }
+    }
+
+    /// Whether a line was refused, or memory was wanting: then no line does more.
+    pub fn is_over(&self) -> bool
+        ensures { result ≡ is_some self.now.kept }
+    {
+        self.kept.is_some()
     }
 
     /// The form of the next line, or the first cause for which it is refused.

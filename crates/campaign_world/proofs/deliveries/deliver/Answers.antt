@@ -9,7 +9,7 @@ returns-clause-made c = λ count last all. c.reach.ensures.made count last (rw (
 
 pub returns-clause-devices : goal.returns-clause-devices
 returns-clause-devices c = on_ok c.reach.result (λ ok. λ all d stand there.
-    zip_set DeviceRests c.args.devices.now.items all _ c.reach.new.device _ stand
+    zip_set DeviceRests c.args.devices.now.items all _ c.reach.new.late _ stand
     (on_ok_then c.reach.result ok c.reach.ensures.rests d
     (zip_at DeviceRests c.args.devices.now.items all _ c.index_mut-device.result.now d stand c.index_mut-device.ensures.value (omega arith) there)))
 
