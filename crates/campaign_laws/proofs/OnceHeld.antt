@@ -12,7 +12,7 @@ use Rattle.campaign_world.specs.declared.numbered.MadeUplink.{MadeUplink}
 use Rattle.campaign_world.specs.World.{WorldState}
 use Rattle.campaign_world.specs.HeldWorld.{HeldWorld}
 use Rattle.campaign_world.specs.Making.{after_up}
-use Rattle.campaign_laws.specs.Once.{MovesOnceIn}
+use Rattle.campaign_laws.specs.OnceInWorld.{MovesOnceIn}
 use Rattle.campaign_laws.proofs.Once.{an_uplink_moves_once}
 
 -- what was found is of one command

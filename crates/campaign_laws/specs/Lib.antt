@@ -8,3 +8,4 @@ pub mod Ledger
 pub mod Recovers
 pub mod Accepted
 pub mod Once
+pub mod OnceInWorld

@@ -17,7 +17,6 @@ use Rattle.campaign_server.specs.Answers.{stage_after}
 use Rattle.script_lines.specs.declared.forms.Form.TheVariants.{Up}
 use Rattle.script_lines.specs.Forms.{form_of}
 use Rattle.campaign_world.specs.declared.numbered.MadeUplink.{MadeUplink}
-use Rattle.campaign_world.specs.HeldWorld.{HeldWorld, WorldStands}
 use Rattle.campaign_world.specs.World.{WorldState, first_world}
 use Rattle.campaign_world.specs.Honest.{AreHonest}
 use Rattle.campaign_world.specs.Making.{after_up}
@@ -64,14 +63,5 @@ MovesOnce = (image line : List ℕ) (before between : List (List ℕ)) (number :
     → AreHonest before → read_lines (Ok (first_world image)) before ≡ Ok world → form_of line ≡ Some (Up number)
     → read_lines (Ok world) (line ∷ between) ≡ Ok later → numbered world.uplinks number ≡ Some made
     → reading_of made.uplink.port Upwards made.uplink.payload ≡ Ok (command ∷ [])
-    → (after_up world (numbered world.uplinks number)).server.stages ≢ world.server.stages
-    → (after_up later (numbered later.uplinks number)).server.stages ≡ later.server.stages
-
--- the same of each uplink that a world holds, since all are of one command: once it has moved a stage it moves none
-abbrev pub MovesOnceIn : HeldWorld → (number : ℕ) → Type 0
-MovesOnceIn held number = (image line : List ℕ) (before between : List (List ℕ)) (world later : WorldState)
-    → WorldStands held world → All (λ b. b < 2 ^ 8) image → is_image image ≡ true
-    → AreHonest before → read_lines (Ok (first_world image)) before ≡ Ok world → form_of line ≡ Some (Up number)
-    → read_lines (Ok world) (line ∷ between) ≡ Ok later
     → (after_up world (numbered world.uplinks number)).server.stages ≢ world.server.stages
     → (after_up later (numbered later.uplinks number)).server.stages ≡ later.server.stages

@@ -8,9 +8,7 @@ ghost use Rattle.campaign_laws.specs.Recovers.{RecoversTheImage, RecoversItsOwn}
 ghost use Rattle.campaign_laws.specs.Verdicts.{Verdicts};
 ghost use Rattle.campaign_laws.specs.WorkedCampaigns.{AreCauses, AreCounted, AreRefused, AreReported, AreSessions};
 ghost use Rattle.campaign_laws.specs.Accepted.{AllSeedsHaveCampaigns};
-ghost use Rattle.campaign_laws.specs.Once.{MovesOnce, MovesOnceIn, PastMovesNone};
-
-use campaign_world::World;
+ghost use Rattle.campaign_laws.specs.Once.{MovesOnce, PastMovesNone};
 
 /// Whatever image and accepted honest script there are: the session of each device hears what the script brings, it is complete from
 /// the first heard fragment on after which one file alone fits, that file is the server's image, and the report says so.
@@ -80,10 +78,3 @@ pub fn a_past_answer_moves_none()
 pub fn an_uplink_moves_once()
     ensures { MovesOnce }
 {}
-
-/// The same of each uplink that a campaign made, whichever it is: all of them are of one command.
-pub fn each_uplink_moves_once(world: &World, number: u64)
-    ensures { MovesOnceIn world.now number }
-{
-    let _uplink = world.uplink(number);
-}

@@ -4,9 +4,11 @@
 #![tactic(auto)]
 
 mod laws;
+mod uplinks;
 
 pub use laws::{
     a_past_answer_moves_none, a_script_has_its_devices, an_uplink_moves_once,
-    devices_are_independent, each_uplink_moves_once, generated_campaigns_are_accepted, headline, recovers_the_image,
+    devices_are_independent, generated_campaigns_are_accepted, headline, recovers_the_image,
     sessions_are_decided_at_first, sessions_live, the_ledger_is_true, worked_campaigns,
 };
+pub use uplinks::each_uplink_moves_once;

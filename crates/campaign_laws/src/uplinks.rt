@@ -1,0 +1,13 @@
+//! What holds of the uplinks of any campaign that a world holds.
+
+ghost use Rattle.campaign_laws.specs.OnceInWorld.{MovesOnceIn};
+
+use campaign_world::World;
+
+/// Each uplink that a campaign made moves a stage once: the one with this number, whichever it is, is of one command, and
+/// once it has moved a stage it moves none.
+pub fn each_uplink_moves_once(world: &World, number: u64)
+    ensures { MovesOnceIn world.now number }
+{
+    let _uplink = world.uplink(number);
+}
