@@ -1,6 +1,9 @@
 pub mod PayloadLines
 pub mod Payloads
+pub mod HeadedLines
 pub mod ReplayLines
+pub mod CaptureLines
+pub mod CaptureLaw
 pub mod ReplaySessions
 pub mod ReplayExact
 pub mod ReplayAll

@@ -16,6 +16,7 @@ use Rattle.report_lines.specs.declared.faults.LineWhy.{LineWhy}
 use Rattle.report_lines.specs.Devices.{counts_line}
 use Rattle.report_lines.specs.Sessions.{whole, verdict_text, session_text, session_line, saying, file_line, lines_below, lines_above}
 use Rattle.report_lines.proofs.Places.{line_by_index}
+use Rattle.payload_replay.specs.Headed.{TakesFile}
 use Rattle.payload_replay.specs.Replay.{header_rows, replay_device, ReachesBehind, Reaches, replay_text}
 use Rattle.payload_replay.specs.Carried.{CarriedCommand, carried_after, session_behind}
 use Rattle.frag_session.specs.FirstMoment.{MakesFile, IsDecidedAtFirst}
@@ -59,7 +60,7 @@ decided file device index s r = decided_at_first s (makes_file s (session_fine f
 exact : (file header : List ℕ) (rows : ℕ) (payloads : List (List ℕ)) (device : DeviceState) (index : ℕ)
     → Reaches (lines_of file) (Ok device) → IsFileOf file header rows payloads → index < 4
     → session_at device.sessions index ≡ session_behind (replay_device rows).config index None (carried_after 1 payloads)
-unfolding Reaches
+unfolding TakesFile
 exact file header rows payloads device index reaches its small =
     let reached : ReachesBehind (header_rows header) payloads (Ok device) =
     subst (λ (lines : List (List ℕ)). Reaches lines (Ok device)) its.lines_are reaches in

@@ -7,6 +7,7 @@ use Rattle.report_lines.specs.declared.faults.LineWhy.{LineWhy}
 use Rattle.report_lines.specs.declared.faults.LineFault.{LineFault}
 use Rattle.payload_replay.specs.PayloadLines.{payload_of}
 use Rattle.report_lines.specs.Lines.{BehindLine, TakesLines}
+use Rattle.payload_replay.specs.Headed.{TakesFile}
 use Rattle.payload_replay.specs.Replay.{header_rows, replay_device, captured, after_payload, Hears, ReachesBehind, Reaches}
 use Rattle.payload_replay.specs.ReplayHeadline.{Carries}
 use Rattle.device_core.proofs.HeardSessions.{AreFine, AreCarried, delivery_fine}
@@ -70,6 +71,6 @@ behind_fine header rest (Ok rows) t reaches =
     lines_keep (header ∷ rest) 1 (replay_device rows) t rest refl reaches (tt, tt, tt, tt)
 
 pub reaches_fine : (lines : List (List ℕ)) (t : DeviceState) → Reaches lines (Ok t) → (last : ℕ) × AreFine (Carries lines) last t
-unfolding Reaches
+unfolding TakesFile
 reaches_fine [] t reaches = absurd cc
 reaches_fine (header ∷ rest) t reaches = behind_fine header rest (header_rows header) t reaches

@@ -1,6 +1,7 @@
 -- Texts worked out.
-use Rattle.std.proofs.Common.{refl}
+use Rattle.std.proofs.Common.{refl, ap}
 use Rattle.std.specs.Fmt.{digits}
+use Rattle.std.specs.Int.{int_wrap}
 use Rattle.hex.specs.Hex.{encode_with, decode_pairs}
 use Rattle.frag_model.specs.Verdict.{verdict, missing}
 use Rattle.frag_session.specs.Session.{shape_of, shown_verdict, shown_file, seen_of, view_of}
@@ -8,11 +9,18 @@ use Rattle.script_lines.specs.Lines.{words_of, word}
 use Rattle.script_lines.specs.Numbers.{decimal_of}
 use Rattle.payload_replay.specs.PayloadLines.{payload_of, payload_by}
 use Rattle.payload_replay.specs.Decode.{commands_text}
-use Rattle.payload_replay.specs.Replay.{header_rows, replay_text}
-use Rattle.payload_replay.specs.WorkedTexts.{AreTexts}
+use Rattle.payload_replay.specs.Headed.{rows_of}
+use Rattle.payload_replay.specs.Replay.{replay_text}
+use Rattle.wire_base.specs.Numbers.{number_at}
+use Rattle.sync_wire.specs.Tests as sync
+use Rattle.sync_wire.specs.Reading.{clock_down}
+use Rattle.package_grammar.specs.Reading.{reading_of, read_from, command_at, named_at, is_known, stop_at}
+use Rattle.capture_read.proofs.WorkedEntries as entries
+use Rattle.payload_replay.specs.Capture.{entry_by, line_entry, capture_text}
+use Rattle.payload_replay.specs.WorkedTexts.{AreTexts, AreCaptures}
 
 pub texts_are : AreTexts
-unfolding digits encode_with decode_pairs verdict missing shape_of shown_verdict shown_file seen_of view_of words_of word decimal_of payload_of payload_by commands_text header_rows replay_text
+unfolding digits encode_with decode_pairs verdict missing shape_of shown_verdict shown_file seen_of view_of words_of word decimal_of payload_of payload_by commands_text rows_of replay_text
 texts_are = record {
   port = refl;
   unknown = refl;
@@ -34,4 +42,23 @@ texts_are = record {
   no_decimal = refl;
   replay = refl;
   other_replay = refl;
+}
+
+pub captures_are : AreCaptures
+unfolding digits int_wrap encode_with verdict missing shape_of shown_verdict shown_file seen_of view_of words_of word decimal_of commands_text rows_of replay_text capture_text line_entry reading_of read_from command_at named_at is_known stop_at sync.is_known sync.samples clock_down number_at
+captures_are = record {
+  rows = refl;
+  replay_header = refl;
+  entry = ap entry_by entries.entries.down;
+  no_object = ap entry_by entries.refusals.array;
+  port_256 = ap entry_by entries.refusals.port_256;
+  long_payload = ap entry_by entries.limit.longer;
+  many_lines = refl;
+  long_line = refl;
+  shown = refl;
+  foreign = refl;
+  heard = refl;
+  upward = refl;
+  other_port = refl;
+  text = refl;
 }

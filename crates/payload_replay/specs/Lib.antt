@@ -1,8 +1,13 @@
 pub mod PayloadLines
+pub mod Headed
 pub mod Decode
 pub mod Replay
+pub mod Capture
 pub mod HeldDecoding
+pub mod HeldHeaded
 pub mod HeldReplaying
+pub mod HeldCapturing
 pub mod Carried
 pub mod ReplayHeadline
+pub mod CaptureReplay
 pub mod WorkedTexts

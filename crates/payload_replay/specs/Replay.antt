@@ -1,36 +1,26 @@
 -- What `replay` tells of a file of captured payloads: a device hears them, and then says where its sessions stand.
 -- (TS004-1.0.0 on port 201, down, by unicast; the rest is this project's profile.)
-use Rattle.std.specs.Prelude.{◌≡◌, ℕ, ◌&&◌, ◌==◌, nat_lt, nat_le, if◌then◌else◌, List, [], ◌∷◌, ◌++◌, length, replicate, codes, Option, Some, None, Result, Ok, Err}
+use Rattle.std.specs.Prelude.{◌≡◌, ℕ, List, [], ◌++◌, replicate, codes, None, Result}
 use Rattle.cast_wire.specs.Limits.{max_groups}
 use Rattle.package_grammar.specs.declared.downlink.Downlink.{Downlink}
 use Rattle.package_grammar.specs.declared.downlink.To.TheVariants.{Unicast}
 use Rattle.device_core.specs.declared.config.Class.TheVariants as class
-use Rattle.device_core.specs.Device.{DeviceState, first_device, max_formats, max_sessions, max_area, max_rows}
+use Rattle.device_core.specs.Device.{DeviceState, first_device, max_formats, max_sessions, max_area}
 use Rattle.device_core.specs.Deliver.{delivery}
-use Rattle.script_lines.specs.Limits.{max_line}
-use Rattle.script_lines.specs.Lines.{lines_of, word, is_word}
-use Rattle.script_lines.specs.Numbers.{decimal_of}
-use Rattle.script_lines.specs.Forms.{count_of}
+use Rattle.script_lines.specs.Lines.{lines_of}
 use Rattle.report_lines.specs.declared.faults.LineWhy.{LineWhy}
-use Rattle.report_lines.specs.declared.faults.LineWhy.TheVariants as why
 use Rattle.report_lines.specs.declared.faults.LineFault.{LineFault}
 use Rattle.report_lines.specs.Devices.{counts_line}
 use Rattle.report_lines.specs.Sessions.{whole, session_lines}
 use Rattle.payload_replay.specs.PayloadLines.{payload_of}
-use Rattle.report_lines.specs.Lines.{TakesLines, told_by, TellsOnce, TellsAlways}
+use Rattle.payload_replay.specs.Headed.{rows_of, TakesBehind, TakesFile}
+use Rattle.report_lines.specs.Lines.{told_by, TellsOnce, TellsAlways}
 
 -- ---- the header
 
-abbrev pub rows_by : Option ℕ → Result ℕ LineWhy
-rows_by None = Err why.Syntax
-rows_by (Some rows) = if nat_le rows max_rows then Ok rows else Err why.Range
-
 -- the rows that a header gives, or the first cause for which it is refused
-unfoldable pub header_rows : List ℕ → Result ℕ LineWhy
-header_rows line =
-    if nat_lt max_line (length line) then Err why.Limit
-    else if count_of line == 3 && is_word line 0 (codes "replay") && is_word line 1 (codes "1") then rows_by (decimal_of (word line 2))
-    else Err why.Syntax
+abbrev pub header_rows : List ℕ → Result ℕ LineWhy
+header_rows line = rows_of (codes "replay") line
 
 -- ---- what the device hears
 
@@ -61,19 +51,21 @@ abbrev pub Hears : ℕ → List ℕ → DeviceState → DeviceState → Type 0
 Hears n payload device next = next ≡ after_payload n payload device
 
 abbrev pub ReachesBehind : Result ℕ LineWhy → List (List ℕ) → Result DeviceState LineFault → Type 0
-ReachesBehind (Err cause) lines outcome = outcome ≡ Err (record { line = 1; why = cause })
-ReachesBehind (Ok rows) lines outcome = TakesLines payload_of Hears 1 (replay_device rows) lines outcome
+ReachesBehind rows lines outcome = TakesBehind payload_of Hears (λ rows. replay_device rows) rows lines outcome
 
 -- the device behind all lines, or the first refused line
-unfoldable pub Reaches : List (List ℕ) → Result DeviceState LineFault → Type 0
-Reaches [] outcome = outcome ≡ Err (record { line = 1; why = why.Syntax })
-Reaches (header ∷ lines) outcome = ReachesBehind (header_rows header) lines outcome
+abbrev pub Reaches : List (List ℕ) → Result DeviceState LineFault → Type 0
+Reaches lines outcome = TakesFile (codes "replay") payload_of Hears (λ rows. replay_device rows) lines outcome
 
 -- ---- what is told of it
 
+-- from the counts on: the counts, the sessions and the last line
+abbrev pub closing_text : DeviceState → List ℕ
+closing_text device = counts_line device.counts ++ (session_lines whole device.sessions ++ codes "end\n")
+
 -- the text over the device
 unfoldable pub replay_text : DeviceState → List ℕ
-replay_text device = codes "fuota replay 1\n" ++ (counts_line device.counts ++ (session_lines whole device.sessions ++ codes "end\n"))
+replay_text device = codes "fuota replay 1\n" ++ closing_text device
 
 -- what is told of a file: the text, or the first refused line
 unfoldable pub Replays : List ℕ → Result (List ℕ) LineFault → Type 0

@@ -1,6 +1,10 @@
--- Texts worked out: what is decoded of a payload, and what a replay tells of two sessions.
-use Rattle.std.specs.Prelude.{◌≡◌, ℕ, pos, [], ◌∷◌, codes, None, Some, Ok, Err}
+-- Texts worked out: what is decoded of a payload, what a replay tells of two sessions, and what a capture tells.
+use Rattle.std.specs.Prelude.{◌≡◌, ℕ, pos, true, false, [], ◌∷◌, ◌++◌, replicate, codes, None, Some, Ok, Err}
+use Rattle.wire_base.specs.declared.refusal.Direction.{Direction}
+use Rattle.wire_base.specs.declared.refusal.Direction.TheVariants.{Down, Up}
 use Rattle.wire_base.specs.declared.refusal.Why.TheVariants as stop
+use Rattle.capture_read.specs.declared.answers.Entry.{Entry}
+use Rattle.capture_read.specs.WorkedEntries.{line_with, line_of_hex, line_of_port}
 use Rattle.sync_wire.specs.declared.cmd.Cmd.TheVariants.{AppTimeAns, DevVersionReq}
 use Rattle.cast_wire.specs.declared.cmd.Cmd.TheVariants.{DataFragment}
 use Rattle.package_grammar.specs.declared.command.Command.TheVariants.{Sync, Cast}
@@ -9,7 +13,9 @@ use Rattle.device_core.specs.Device.{DeviceState}
 use Rattle.report_lines.specs.declared.faults.LineWhy.TheVariants as why
 use Rattle.payload_replay.specs.PayloadLines.{payload_of}
 use Rattle.payload_replay.specs.Decode.{payload_text, numbered_text}
+use Rattle.payload_replay.specs.Headed.{rows_of}
 use Rattle.payload_replay.specs.Replay.{header_rows, replay_device, replay_text}
+use Rattle.payload_replay.specs.Capture.{line_entry, entry_text, is_heard, capture_text}
 
 -- a session for so many pieces of a byte, that heard none yet
 abbrev pub worked_session : (index nb_frag : ℕ) → Session
@@ -61,3 +67,34 @@ pub record AreTexts : Type 0 where
     sessions = record worked_device.sessions { first = None; second = Some (worked_session 1 4); fourth = Some (worked_session 3 3) };
   }) ≡ codes
       "fuota replay 1\ncounts deaf 0 refused 1 full 2 dropped 3\nsession 1 received 0 missing 4 receiving\nsession 2 received 0 missing 1 receiving\nsession 3 received 0 missing 3 receiving\nend\n"
+
+-- ---- captures
+
+abbrev pub worked_entry : Entry
+worked_entry = record { port = 202; dir = Down; payload = 0x01 ∷ 0x05 ∷ 0x00 ∷ 0x00 ∷ 0x00 ∷ 0xf3 ∷ [] }
+
+-- an entry with no payload
+abbrev pub empty_entry : (port : ℕ) → Direction → Entry
+empty_entry port dir = record { port = port; dir = dir; payload = [] }
+
+pub record AreCaptures : Type 0 where
+  -- the rows that a header gives
+  pub rows : rows_of (codes "capture") (codes "capture 1 256") ≡ Ok 256
+  pub replay_header : rows_of (codes "capture") (codes "replay 1 0") ≡ Err why.Syntax
+  -- the entry of a line, and the causes of a refused one
+  pub entry : line_entry 19999 (line_with (codes "202") (codes "\"down\"") (codes "\"0105000000f3\"")) ≡ Ok worked_entry
+  pub no_object : line_entry 1 (codes "[]") ≡ Err why.Syntax
+  pub port_256 : line_entry 1 (line_of_port (codes "256")) ≡ Err why.Range
+  pub long_payload : line_entry 1 (line_of_hex (codes "\"" ++ replicate 486 48 ++ codes "\"")) ≡ Err why.Limit
+  pub many_lines : line_entry 20000 (codes "[]") ≡ Err why.Limit
+  pub long_line : line_entry 1 (replicate 601 32) ≡ Err why.Limit
+  -- what is written of an entry
+  pub shown : entry_text 12 worked_entry ≡ codes "line 12 202 down\nAppTimeAns correction=5 token=3\n"
+  pub foreign : entry_text 2 (empty_entry 7 Up) ≡ codes "line 2 7 up\nrefused 0 port\n"
+  -- which entries the device hears
+  pub heard : is_heard (empty_entry 201 Down) ≡ true
+  pub upward : is_heard (empty_entry 201 Up) ≡ false
+  pub other_port : is_heard (empty_entry 200 Down) ≡ false
+  -- the text over what was caught
+  pub text : capture_text (record { text = codes "line 2 7 up\nrefused 0 port\n"; device = worked_device }) ≡ codes
+      "fuota capture 1\nline 2 7 up\nrefused 0 port\ncounts deaf 0 refused 1 full 2 dropped 3\nsession 0 received 0 missing 2 receiving\nsession 2 received 0 missing 1 receiving\nend\n"

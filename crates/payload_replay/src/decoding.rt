@@ -187,7 +187,7 @@ fn line_head(alloc: Global, number: u32) -> Result<String, AllocError>
 }
 
 /// Writes what a payload says: its commands, or where and why reading stops.
-fn show_payload(
+pub fn show_payload(
     alloc: Global,
     port: u8,
     dir: Direction,

@@ -1,9 +1,11 @@
 //! Laws about the definitions, each the contract of a function that does nothing.
 
+ghost use Rattle.payload_replay.specs.Capture.{CapturesAlways, CapturesOnce};
+ghost use Rattle.payload_replay.specs.CaptureReplay.{EndsAsReplay};
 ghost use Rattle.payload_replay.specs.Decode.{HasAnAnswer, HasOneAnswer};
 ghost use Rattle.payload_replay.specs.Replay.{ReplaysAlways, ReplaysOnce};
 ghost use Rattle.payload_replay.specs.ReplayHeadline.{ReplayHeadline};
-ghost use Rattle.payload_replay.specs.WorkedTexts.{AreTexts};
+ghost use Rattle.payload_replay.specs.WorkedTexts.{AreCaptures, AreTexts};
 
 /// Whatever payloads are replayed: each session is what the commands that the lines carry make of it, so it hears nothing
 /// but what they carry, and each fragment since its setup that it has no cause to drop. It is complete from the first
@@ -25,7 +27,21 @@ pub fn decode_has_one_answer()
     ensures always { HasAnAnswer }
 {}
 
-/// Texts that are worked out read so: commands and stops of a payload, lines and headers, and a replay with two sessions.
+/// A capture is told in one way: one text, or one first refused line.
+pub fn capture_has_one_answer()
+    ensures once { CapturesOnce }
+    ensures always { CapturesAlways }
+{}
+
+/// A capture whose payloads all go down on port 201 is told as its entries, and from the counts on as the replay of
+/// the same payloads in hex, whichever way their digits are written.
+pub fn capture_ends_as_replay()
+    ensures { EndsAsReplay }
+{}
+
+/// Texts that are worked out read so: commands and stops of a payload, lines and headers, and a replay with two
+/// sessions; of captures their lines and headers, entries, which of them are heard, and a text.
 pub fn worked_texts()
-    ensures { AreTexts }
+    ensures texts { AreTexts }
+    ensures captures { AreCaptures }
 {}

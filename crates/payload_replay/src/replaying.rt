@@ -1,26 +1,22 @@
 //! What `replay` tells of a file of captured payloads: where a device stands that hears them.
-ghost use Rattle.std.specs.Prelude.{◌≡◌, ◌+◌, ◌<◌, ◌≤◌, [], ◌++◌, List, ℕ, IsTrue, Some, length, Ok, IfOk, IfErr, OnOk, codes, string_bytes};
+
+ghost use Rattle.std.specs.Prelude.{◌≡◌, ◌+◌, ◌<◌, ◌≤◌, [], ◌++◌, List, ℕ, IsTrue, Ok, IfOk, IfErr, OnOk, codes, string_bytes};
 ghost use Rattle.script_lines.specs.Lines.{lines_of};
-ghost use Rattle.wire_base.specs.Payload.{max_payload};
 ghost use Rattle.device_core.specs.Device.{DeviceState};
 ghost use Rattle.device_core.specs.HeldDevice.{DeviceStands, Becomes};
-ghost use Rattle.payload_replay.specs.PayloadLines.{payload_of};
-ghost use Rattle.report_lines.specs.Lines.{IsLineRefused, IsTold};
-ghost use Rattle.payload_replay.specs.Replay.{rows_by, header_rows, replay_device, after_payload, replay_text, Replays};
-ghost use Rattle.payload_replay.specs.HeldReplaying.{ReplayingStands, HearsReplayed, IsBegun};
 ghost use Rattle.report_lines.specs.Texts.{seen_text};
+ghost use Rattle.report_lines.specs.Lines.{IsLineRefused, IsTold};
+ghost use Rattle.payload_replay.specs.PayloadLines.{payload_of};
+ghost use Rattle.payload_replay.specs.Replay.{after_payload, replay_text, Replays};
+ghost use Rattle.payload_replay.specs.HeldReplaying.{ReplayingStands, HearsReplayed};
 
+use crate::hearer::{begin, closing_text, hear};
 use crate::payload_lines::read_payload;
-use cast_wire::FRAGMENT_PORT;
-use device_core::{Class, Device, DeviceConfig, MAX_AREA, MAX_ROWS};
-use package_grammar::{Downlink, To};
-use report_lines::{
-    LineError, LineWhy, MAX_LINE, Tail, counts_line, refused_behind, session_lines,
-};
-use script_lines::{HearsLine, count_words, decimal, is_word, word};
+use device_core::Device;
+use report_lines::{LineError, LineWhy, refused_behind};
+use script_lines::HearsLine;
 use std::alloc::{AllocError, Global};
 use std::marker::Model;
-use wire_base::Payload;
 
 /// A replay, as the lines of its file are heard: a class C device with 4 sessions of at most 262,382 bytes hears captured
 /// payloads by unicast on port 201, downwards, at moment 0 ms.
@@ -39,11 +35,12 @@ pub struct Replaying {
 
 impl Model for Replaying {
     ghost use Rattle.std.specs.Prelude.{◌≤◌};
-    ghost use Rattle.payload_replay.specs.HeldReplaying.{HeldReplaying};
+    ghost use Rattle.device_core.specs.HeldDevice.{HeldDevice};
+    ghost use Rattle.payload_replay.specs.HeldHeaded.{HeldHeaded};
 
-    ghost Value = { HeldReplaying };
+    ghost Value = { HeldHeaded HeldDevice };
 
-    ghost view = { λ r. record { lines = r.lines; device = r.device; kept = r.kept } };
+    ghost view = { λ r. record { lines = r.lines; state = r.device; kept = r.kept } };
 
     ghost invariant = { λ r. r.lines ≤ 20000 };
 }
@@ -102,10 +99,10 @@ impl Replaying {
     #[inline(never)]
     fn start(&mut self, header: &[u8])
         requires fine { self.old.kept ≡ None }
-        requires first { self.old.device ≡ None }
+        requires first { self.old.state ≡ None }
         ensures { HearsReplayed self.old header.now self.new }
     {
-        match begin(self.alloc, header) {
+        match begin(self.alloc, "replay", header) {
             Ok(device) => {
                 self.device = Some(device);
                 self.lines = 1;
@@ -133,62 +130,6 @@ impl Replaying {
     }
 }
 
-/// The device that a header asks for.
-fn begin(alloc: Global, header: &[u8]) -> Result<Device, LineError>
-    ensures { IsBegun header.now result }
-{
-    let rows = match read_header(header) {
-        Ok(rows) => rows,
-        Err(why) => return Err(refused_behind(0, why)),
-    };
-    match Device::reserve(alloc, config(rows)) {
-        Ok(device) => Ok(device),
-        Err(_) => Err(LineError::Memory),
-    }
-}
-
-/// The configuration of the device: class C, hardware version 0, a clock that is right, and so many rows.
-fn config(rows: u16) -> DeviceConfig
-    ensures { result ≡ (replay_device rows).config }
-{
-    DeviceConfig {
-        class: Class::C,
-        hw: 0,
-        formats: 2,
-        rows,
-        offset: 0,
-        key: [0; 16],
-        descriptor: None,
-        sessions: 4,
-        groups: 4,
-        area: MAX_AREA,
-    }
-}
-
-/// The rows that a header gives.
-#[tactic(auto, unfolding(crate::specs::Replay::header_rows))]
-fn read_header(line: &[u8]) -> Result<u16, LineWhy>
-    ensures { result ≡ header_rows line.now }
-{
-    if line.len() > MAX_LINE {
-        Err(LineWhy::Limit)
-    } else if count_words(line) == 3 && is_word(line, 0, "replay") && is_word(line, 1, "1") {
-        rows_by(decimal(word(line, 2)))
-    } else {
-        Err(LineWhy::Syntax)
-    }
-}
-
-fn rows_by(rows: Option<u64>) -> Result<u16, LineWhy>
-    ensures { result ≡ rows_by rows }
-{
-    match rows {
-        None => Err(LineWhy::Syntax),
-        Some(rows) if rows <= MAX_ROWS as u64 => Ok(rows as u16),
-        Some(_) => Err(LineWhy::Range),
-    }
-}
-
 /// The device hears the payload of a line that comes after so many; or the line is refused.
 fn hear_line(alloc: Global, device: &mut Device, lines: u32, line: &[u8]) -> Result<(), LineError>
     requires { lines ≤ 20000 }
@@ -206,27 +147,6 @@ fn hear_line(alloc: Global, device: &mut Device, lines: u32, line: &[u8]) -> Res
     }
 }
 
-/// The device hears a payload at moment 0, and its uplinks are thrown away.
-fn hear(device: &mut Device, payload: &[u8], mark: u64)
-    requires { length payload.now ≤ max_payload }
-    ensures { Becomes device.old device.new (λ before. after_payload mark payload.now before) }
-{
-    let down = Downlink {
-        to: To::Unicast,
-        port: FRAGMENT_PORT,
-        payload: Payload::from_slice(payload),
-    };
-    let _delivered = device.deliver(0, &down, 0, mark);
-    throw_away(device);
-}
-
-/// Takes all uplinks of the device, which go nowhere.
-fn throw_away(device: &mut Device)
-    ensures { Becomes device.old device.new (λ before. record before { outbox = [] }) }
-{
-    while let Some(_uplink) = device.take_uplink() {}
-}
-
 /// The text over the device.
 fn told(alloc: Global, device: &Device) -> Result<Vec<u8>, LineError>
     ensures text { (d : DeviceState) → DeviceStands device.now d → IfOk result (λ text. text.items ≡ replay_text d) }
@@ -241,14 +161,12 @@ fn told(alloc: Global, device: &Device) -> Result<Vec<u8>, LineError>
 fn text_of(alloc: Global, device: &Device) -> Result<String, AllocError>
     ensures { (d : DeviceState) → DeviceStands device.now d → IfOk result (λ text. string_bytes text ≡ replay_text d) }
 {
-    let counts = counts_line(alloc, device.counts())?;
-    let sessions = session_lines(alloc, device, Tail::File)?;
-    whole_text(alloc, counts.as_str(), sessions.as_str())
+    let closing = closing_text(alloc, device)?;
+    whole_text(alloc, closing.as_str())
 }
 
-/// The lines of a replay, between its first and its last.
-fn whole_text(alloc: Global, counts: &str, sessions: &str) -> Result<String, AllocError>
-    ensures { IfOk result (λ text. string_bytes text ≡ codes "fuota replay 1\n" ++ (counts.now ++ (sessions.now ++ codes "end\n"))) }
+fn whole_text(alloc: Global, closing: &str) -> Result<String, AllocError>
+    ensures { IfOk result (λ text. string_bytes text ≡ codes "fuota replay 1\n" ++ closing.now) }
 {
-    format!(in alloc; "fuota replay 1\n{counts}{sessions}end\n")
+    format!(in alloc; "fuota replay 1\n{closing}")
 }

@@ -25,6 +25,14 @@ fn replay(alloc: Global, file: &[u8]) -> Result<Vec<u8>, LineError> {
     replaying.text()
 }
 
+fn capture(alloc: Global, file: &[u8]) -> Result<Vec<u8>, LineError> {
+    let mut capturing = Capturing::new(alloc);
+    let mut lines = Lines::new();
+    hear_piece(&mut lines, file, &mut capturing);
+    hear_last(&mut lines, &mut capturing);
+    capturing.text()
+}
+
 /// A text is told, and it is this one.
 fn says(rt: &impl Abort, told: Result<Vec<u8>, LineError>, text: &str) {
     match told {
@@ -172,4 +180,88 @@ fn a_replay_counts_what_it_drops(rt: HostRuntime) {
     for (lines, text) in &rows {
         says(&rt, replay(rt.alloc(), lines.as_bytes()), text);
     }
+}
+
+/// The objects behind a header, what is said of them, and the counts and sessions.
+const CAPTURES: [(&str, &str, &str); 4] = [
+    (
+        "{\"port\":202,\"dir\":\"down\",\"hex\":\"0105000000f3\"}\n{\"port\":201,\"dir\":\"down\",\"hex\":\"0200010001000000000000\"}\n{\"port\":201,\"dir\":\"down\",\"hex\":\"0801005a\"}",
+        "line 2 202 down\nAppTimeAns correction=5 token=3\nline 3 201 down\nFragSessionSetupReq index=0 mask=0 nbfrag=1 fragsize=1 algo=0 delay=0 padding=0 descriptor=00000000\nline 4 201 down\nDataFragment index=0 n=1 bytes=5a\n",
+        "counts deaf 0 refused 0 full 0 dropped 0\nsession 0 received 1 missing 0 complete at 4\nfile 5a\n",
+    ),
+    (
+        "{\"port\":201,\"dir\":\"up\",\"hex\":\"00\"}\n{\"port\":200,\"dir\":\"down\",\"hex\":\"0801005a\"}\n{\"port\":7,\"dir\":\"up\",\"hex\":\"\"}\n",
+        "line 2 201 up\nrefused 1 short\nline 3 200 down\nrefused 0 unknown\nline 4 7 up\nrefused 0 port\n",
+        "counts deaf 0 refused 0 full 0 dropped 0\n",
+    ),
+    (
+        "{\"hex\":\"0801005a\",\"port\":7,\"dir\":\"down\",\"port\":201}\n{\"rssi\":-7.5,\"port\":201,\"dir\":\"down\",\"hex\":\"0A\"}\n",
+        "line 2 201 down\nDataFragment index=0 n=1 bytes=5a\nline 3 201 down\nrefused 0 unknown\n",
+        "counts deaf 0 refused 1 full 0 dropped 1\n",
+    ),
+    ("", "", "counts deaf 0 refused 0 full 0 dropped 0\n"),
+];
+
+#[test]
+fn objects_are_shown_and_those_for_the_device_heard(rt: HostRuntime) -> Result<(), Fail> {
+    for (objects, shown, closing) in &CAPTURES {
+        let lines = format!(in rt.alloc(); "capture 1 0\n{objects}")?;
+        let text = format!(in rt.alloc(); "fuota capture 1\n{shown}{closing}end\n")?;
+        says(&rt, capture(rt.alloc(), lines.as_bytes()), text.as_str());
+    }
+    Ok(())
+}
+
+/// A capture, its first refused line, and the cause.
+#[test]
+fn the_first_line_that_is_no_object_is_named(rt: HostRuntime) {
+    let rows = [
+        ("", 1, LineWhy::Syntax),
+        ("replay 1 0\n", 1, LineWhy::Syntax),
+        ("capture 1 257\n", 1, LineWhy::Range),
+        ("capture 1 0\n[]\n", 2, LineWhy::Syntax),
+        (
+            "capture 1 0\n{\"port\":200.0,\"dir\":\"up\",\"hex\":\"\"}\n",
+            2,
+            LineWhy::Syntax,
+        ),
+        (
+            "capture 1 0\n{\"port\":201,\"dir\":\"up\",\"hex\":\"\"}\n{\"port\":256,\"dir\":\"up\",\"hex\":\"\"}\n",
+            3,
+            LineWhy::Range,
+        ),
+        (
+            "capture 1 0\n{\"port\":201,\"dir\":\"up\",\"hex\":\"\"} {}\n",
+            2,
+            LineWhy::Syntax,
+        ),
+    ];
+    for (lines, line, why) in &rows {
+        refuses(&rt, capture(rt.alloc(), lines.as_bytes()), *line, *why);
+    }
+}
+
+/// The payloads of `REPLAYS` as objects: from the counts on it is the replay's text.
+#[test]
+fn a_capture_ends_as_the_replay_of_its_payloads(rt: HostRuntime) -> Result<(), Fail> {
+    for (rows, payloads, session) in &REPLAYS {
+        let mut objects = String::new(rt.alloc());
+        for payload in payloads.lines() {
+            write!(
+                objects,
+                "{{\"port\":201,\"dir\":\"down\",\"hex\":\"{payload}\"}}\n"
+            )?;
+        }
+        let objects = objects.as_str();
+        let setup = "{\"port\":201,\"dir\":\"down\",\"hex\":\"0200040001000000000000\"}\n";
+        let lines = format!(in rt.alloc(); "capture 1 {rows}\n{setup}{objects}")?;
+        let closing = format!(in rt.alloc();
+            "counts deaf 0 refused 0 full 0 dropped 0\nsession 0 {session}end\n"
+        )?;
+        match capture(rt.alloc(), lines.as_bytes()) {
+            Ok(text) => assert!(rt; text.ends_with(closing.as_bytes())),
+            Err(_) => assert!(rt; false),
+        }
+    }
+    Ok(())
 }

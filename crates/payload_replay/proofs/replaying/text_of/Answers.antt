@@ -1,20 +1,9 @@
-use Rattle.std.proofs.Common.{◌≡◌, List, ℕ, ◌++◌, IfOk, codes, string_bytes, sym, ap, ◌∙◌, subst}
-use Rattle.device_core.specs.declared.counts.Counts.{Counts}
-use Rattle.device_core.specs.Device.{DeviceState}
-use Rattle.report_lines.specs.Devices.{counts_line}
-use Rattle.report_lines.specs.Sessions.{whole, session_lines}
-use Rattle.payload_replay.specs.Replay.{replay_text}
+use Rattle.std.proofs.Common.{◌≡◌, List, ℕ, ◌++◌, IfOk, codes, string_bytes, ◌∙◌, subst}
+use Rattle.payload_replay.specs.Replay.{closing_text, replay_text}
 use Rattle.payload_replay.proofs.replaying.text_of.Goals as goal
 
 pub returns : goal.returns
 unfolding replay_text
 returns c = λ d stands.
-    let held : c.counts.result ≡ d.counts = c.counts.ensures ∙ sym (ap (λ (x : DeviceState). x.counts) stands.rest) in
-    let counts : c.as_str.result.now ≡ counts_line d.counts =
-    c.as_str.ensures.value ∙ c.in_ok-counts.ensures ∙ ap (λ (k : Counts). counts_line k) held in
-    let sessions : c.as_str-2.result.now ≡ session_lines whole d.sessions =
-    c.as_str-2.ensures.value ∙ c.in_ok-sessions.ensures d stands in
-    subst (λ (s : List ℕ). IfOk c.whole_text.result (λ text. string_bytes text
-    ≡ codes "fuota replay 1\n" ++ (counts_line d.counts ++ (s ++ codes "end\n")))) sessions
-    (subst (λ (k : List ℕ). IfOk c.whole_text.result (λ text. string_bytes text
-    ≡ codes "fuota replay 1\n" ++ (k ++ (c.as_str-2.result.now ++ codes "end\n")))) counts c.whole_text.ensures)
+    let closing : c.as_str.result.now ≡ closing_text d = c.as_str.ensures.value ∙ c.in_ok-closing.ensures d stands in
+    subst (λ (k : List ℕ). IfOk c.whole_text.result (λ text. string_bytes text ≡ codes "fuota replay 1\n" ++ k)) closing c.whole_text.ensures

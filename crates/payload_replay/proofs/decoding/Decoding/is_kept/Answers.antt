@@ -1,4 +1,4 @@
-use Rattle.std.proofs.Common.{◌≡◌, ◌∙◌, Some, sym, ap, subst, true}
+use Rattle.std.proofs.Common.{◌≡◌, ◌∙◌, Some, sym, ap}
 use Rattle.report_lines.proofs.Outcomes.{some_of}
 use Rattle.payload_replay.specs.HeldDecoding.{HeldDecoding}
 use Rattle.payload_replay.proofs.Payloads.{decoded_kept}

@@ -1,7 +1,7 @@
 use Rattle.std.proofs.Common.{List, ℕ, subst}
 use Rattle.device_core.specs.HeldDevice.{DeviceStands}
 use Rattle.payload_replay.specs.Replay.{after_payload}
-use Rattle.payload_replay.proofs.replaying.hear.Goals as goal
+use Rattle.payload_replay.proofs.hearer.hear.Goals as goal
 
 pub returns : goal.returns
 unfolding after_payload

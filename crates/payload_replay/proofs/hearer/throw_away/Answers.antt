@@ -1,5 +1,5 @@
 use Rattle.device_core.proofs.Outboxes.{none_taken, one_taken, fewer, all_taken}
-use Rattle.payload_replay.proofs.replaying.throw_away.Goals as goal
+use Rattle.payload_replay.proofs.hearer.throw_away.Goals as goal
 
 pub loop-uplink-init : goal.loop-uplink-init
 loop-uplink-init c = λ d stands. none_taken _ d stands
