@@ -18,7 +18,7 @@ use Rattle.campaign_generator.proofs.Decimals.{decimal_is_read}
 use Rattle.fuota_run.specs.Words.{Asked, plays, payloads, generates, asked, asked_by, device_by, device_of_word, direction_of_word, form, fuota, parsed, port_by, port_of_word, seed_by, seed_of_word, where_none}
 use Rattle.script_lines.specs.Numbers.{decimal_of, ◌>>=◌}
 use Rattle.wire_base.specs.declared.refusal.Direction.{Direction}
-use Rattle.fuota_run.specs.declared.words.FileForm.TheVariants.{Replay, Decode}
+use Rattle.fuota_run.specs.declared.words.FileForm.TheVariants.{Replay, Decode, Capture}
 use Rattle.fuota_run.specs.declared.words.ScriptForm.TheVariants.{Campaign, Recover}
 use Rattle.fuota_run.specs.Forms.{IsName, WordsAreForms, OtherCountsAreNone}
 
@@ -174,6 +174,9 @@ of_decode = leaf (codes "decode") (codes "PORT" ∷ codes "DIR" ∷ codes "FILE"
 abbrev of_generate : Shape
 of_generate = leaf (codes "generate") (codes "SEED" ∷ [])
 
+abbrev of_capture : Shape
+of_capture = leaf (codes "capture") (codes "FILE" ∷ [])
+
 reads_campaign : (program : Text) (words : List Text) → asked (program ∷ codes "campaign" ∷ words) ≡ asks (codes "campaign") of_campaign nothing_held 1 words
 unfolding fuota clap_on_literals
 reads_campaign program words = reads_form program (codes "campaign") of_campaign words refl refl
@@ -198,6 +201,11 @@ reads_generate : (program : Text) (words : List Text) → asked (program ∷ cod
 unfolding fuota clap_on_literals
 reads_generate program words = reads_form program (codes "generate") of_generate words refl refl
     (ap (λ (k : Kinds). then_asked (where_none k (Some (codes "generate", finished of_generate.rules (walk of_generate.rules [] nothing_held words).held)))) (or_else_none (level_fault of_generate [] nothing_held words false [])))
+
+reads_capture : (program : Text) (words : List Text) → asked (program ∷ codes "capture" ∷ words) ≡ asks (codes "capture") of_capture nothing_held 1 words
+unfolding fuota clap_on_literals
+reads_capture program words = reads_form program (codes "capture") of_capture words refl refl
+    (ap (λ (k : Kinds). then_asked (where_none k (Some (codes "capture", finished of_capture.rules (walk of_capture.rules [] nothing_held words).held)))) (or_else_none (level_fault of_capture [] nothing_held words false [])))
 
 -- what is held behind one name more
 abbrev behind : Shape → ℕ → Text → Held → Held
@@ -295,6 +303,12 @@ generate_form program word seed is =
     ∙ takes_name (codes "generate") of_generate nothing_held (behind of_generate 1 word nothing_held) 1 2 word [] (seed_name word seed is) refl refl
     ∙ ap generates_by is
 
+capture_form : (program file : Text) → IsName file → asked (program ∷ codes "capture" ∷ file ∷ []) ≡ Some (payloads Capture file)
+unfolding fuota asked_by clap_on_literals
+capture_form program file name =
+    reads_capture program (file ∷ [])
+    ∙ takes_name (codes "capture") of_capture nothing_held (behind of_capture 1 file nothing_held) 1 2 file [] name refl refl
+
 seed_word : (seed : ℕ) → seed < 2 ^ 32 → seed_of_word (decimal seed) ≡ Some seed
 seed_word seed low =
     let small : nat_lt seed (2 ^ 32) ≡ true = lt-ltb _ _ low in
@@ -342,6 +356,7 @@ words_are_forms = record {
   replay = replay_form;
   decode = decode_form;
   generate = generate_form;
+  capture = capture_form;
   device_word = device_word;
   port_word = port_word;
   seed_word = seed_word;
@@ -430,9 +445,19 @@ generate_counts program (a ∷ b ∷ more) are other =
     ∙ takes_name (codes "generate") of_generate nothing_held one 1 2 a (b ∷ more) are.0 refl refl
     ∙ takes_no_name (codes "generate") of_generate one 2 kind.UnknownArgument [] b more are.1.0 refl
 
+capture_counts : (program : Text) (names : List Text) → AllByRecursion IsName names → length names ≢ 1 → asked (program ∷ codes "capture" ∷ names) ≡ None
+unfolding fuota asked_by clap_on_literals
+capture_counts program [] are other = reads_capture program []
+capture_counts program (a ∷ []) are other = absurd (other refl)
+capture_counts program (a ∷ b ∷ more) are other =
+    let one = behind of_capture 1 a nothing_held in
+    reads_capture program (a ∷ b ∷ more)
+    ∙ takes_name (codes "capture") of_capture nothing_held one 1 2 a (b ∷ more) are.0 refl refl
+    ∙ takes_no_name (codes "capture") of_capture one 2 kind.UnknownArgument [] b more are.1.0 refl
+
 nothing_asked : (program : Text) → asked (program ∷ []) ≡ None
 unfolding asked parsed fuota clap_on_literals asked_by
 nothing_asked program = refl
 
 pub other_counts : OtherCountsAreNone
-other_counts = record { campaign = campaign_counts; recover = recover_counts; replay = replay_counts; decode = decode_counts; generate = generate_counts; nothing = nothing_asked }
+other_counts = record { campaign = campaign_counts; recover = recover_counts; replay = replay_counts; decode = decode_counts; generate = generate_counts; capture = capture_counts; nothing = nothing_asked }

@@ -15,3 +15,4 @@ pub mod BehindScript
 pub mod ReadOn
 pub mod NeverFailing
 pub mod WorkedAnswers
+pub mod CaptureAnswered

@@ -18,7 +18,7 @@ use Rattle.clap.specs.Faults.{fault_of}
 use Rattle.clap.proofs.WalkLemmas.{both}
 use Rattle.script_lines.specs.Numbers.{◌>>=◌}
 use Rattle.fuota_run.specs.Outside.{Held as Contents}
-use Rattle.fuota_run.specs.Words.{Asked, plays, payloads, generates, asked, asked_by, names_asked, campaign_asked, recover_asked, replay_asked, decode_asked, generate_asked, device_of_word, direction_of_word, fuota, parsed, port_of_word, seed_of_word, where_none}
+use Rattle.fuota_run.specs.Words.{Asked, plays, payloads, generates, asked, asked_by, names_asked, campaign_asked, recover_asked, replay_asked, decode_asked, generate_asked, capture_asked, device_of_word, direction_of_word, fuota, parsed, port_of_word, seed_of_word, where_none}
 use Rattle.fuota_run.specs.Reply.{HoldsAsked}
 use Rattle.fuota_run.specs.Forms.{NamesAreWords}
 
@@ -383,6 +383,9 @@ decode_kept Is rows all =
 generate_kept : (Is : Text → Type 0) (rows : List Row) → AreAsked Is (generate_asked rows)
 generate_kept Is rows = asked_then Is (first_of (codes "SEED") rows) _ (λ word w. asked_then Is (seed_of_word word) _ (λ seed s. tt))
 
+capture_kept : (Is : Text → Type 0) (rows : List Row) → AreRows Is rows → AreAsked Is (capture_asked rows)
+capture_kept Is rows all = asked_then Is (first_of (codes "FILE") rows) _ (λ file f. (first_kept Is _ rows file all f, tt))
+
 by_keyword_kept : (Is : Text → Type 0) (keyword : Text) (rows : List Row) → AreRows Is rows → AreAsked Is (asked_by keyword rows)
 unfolding asked_by
 by_keyword_kept Is keyword rows all =
@@ -390,7 +393,8 @@ by_keyword_kept Is keyword rows all =
     (asked_test Is (bytes_eq keyword (codes "recover")) _ _ (recover_kept Is rows all)
     (asked_test Is (bytes_eq keyword (codes "replay")) _ _ (replay_kept Is rows all)
     (asked_test Is (bytes_eq keyword (codes "decode")) _ _ (decode_kept Is rows all)
-    (asked_test Is (bytes_eq keyword (codes "generate")) _ None (generate_kept Is rows) tt))))
+    (asked_test Is (bytes_eq keyword (codes "generate")) _ _ (generate_kept Is rows)
+    (asked_test Is (bytes_eq keyword (codes "capture")) _ None (capture_kept Is rows all) tt)))))
 
 found_kept : (Is : Text → Type 0) (o : Option (Text × List Row)) → ((x : Text × List Row) → o ≡ Some x → AreRows Is x.1) → AreAsked Is (option_and_then (λ x. asked_by x.0 x.1) o)
 found_kept Is None all = tt

@@ -3,11 +3,12 @@ use Rattle.std.proofs.Common.{◌≡◌, ℕ, Bool, true, false, nat_lt, List, l
 use Rattle.report_lines.specs.declared.faults.LineFault.{LineFault}
 use Rattle.fuota_run.specs.Limits.{script_limit}
 use Rattle.fuota_run.specs.declared.words.FileForm.{FileForm}
-use Rattle.fuota_run.specs.declared.words.FileForm.TheVariants.{Replay, Decode}
+use Rattle.fuota_run.specs.declared.words.FileForm.TheVariants.{Replay, Decode, Capture}
 use Rattle.fuota_run.specs.Outside.{Held}
 use Rattle.report_lines.specs.Lines.{Telling, TellsOnce, TellsAlways}
 use Rattle.fuota_run.specs.Words.{Asked, plays, payloads, generates, asked}
 use Rattle.fuota_run.specs.Answer.{Answer, usage, read_fault, too_long, campaign_answer, generate_answer, tells, told, IsReadAnswer, IsFileAnswer, IsAnswerTo, IsAnswer, HasOneReply, HasAReply}
+use Rattle.payload_replay.proofs.CaptureLines.{capture_one, capture_always}
 use Rattle.payload_replay.proofs.Payloads.{decode_one, decode_always}
 use Rattle.payload_replay.proofs.ReplayLines.{replay_one, replay_always}
 
@@ -28,6 +29,7 @@ file_one Tells (Some file) one other once first second =
 tells_one : (what : FileForm) → TellsOnce (tells what)
 tells_one Replay = replay_one
 tells_one (Decode port dir) = decode_one port dir
+tells_one Capture = capture_one
 
 to_one : (what : Option Asked) (held : Held) (one other : Answer) → IsAnswerTo what held one
     → IsAnswerTo what held other → one ≡ other
@@ -55,6 +57,7 @@ file_always Tells (Some file) always = read_always Tells (nat_lt script_limit (l
 tells_always : (what : FileForm) → TellsAlways (tells what)
 tells_always Replay = replay_always
 tells_always (Decode port dir) = decode_always port dir
+tells_always Capture = capture_always
 
 to_always : (what : Option Asked) (held : Held) → (a : Answer) × IsAnswerTo what held a
 to_always None held = (usage, refl)

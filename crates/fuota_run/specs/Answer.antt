@@ -5,7 +5,7 @@ use Rattle.fuota_run.specs.Limits.{image_limit, script_limit}
 use Rattle.fuota_run.specs.declared.status.Status.{Status}
 use Rattle.fuota_run.specs.declared.status.Status.TheVariants as status
 use Rattle.fuota_run.specs.declared.words.FileForm.{FileForm}
-use Rattle.fuota_run.specs.declared.words.FileForm.TheVariants.{Replay, Decode}
+use Rattle.fuota_run.specs.declared.words.FileForm.TheVariants.{Replay, Decode, Capture}
 use Rattle.fuota_run.specs.declared.words.ScriptForm.{ScriptForm}
 use Rattle.fuota_run.specs.declared.words.ScriptForm.TheVariants.{Campaign, Recover}
 use Rattle.report_lines.specs.declared.faults.LineFault.{LineFault}
@@ -13,6 +13,7 @@ use Rattle.report_lines.specs.Faults.{fault_line}
 use Rattle.fuota_run.specs.Outside.{Held}
 use Rattle.fuota_run.specs.Words.{Asked, plays, payloads, generates, asked}
 use Rattle.report_lines.specs.Lines.{Telling}
+use Rattle.payload_replay.specs.Capture.{Captures}
 use Rattle.payload_replay.specs.Decode.{Decodes}
 use Rattle.payload_replay.specs.Replay.{Replays}
 use Rattle.image_slots.specs.Image.{is_image}
@@ -35,7 +36,7 @@ abbrev pub answer : Status → List ℕ → Answer
 answer status text = record { status = status; text = text }
 
 abbrev pub usage_text : List ℕ
-usage_text = codes "usage: fuota campaign IMAGE SCRIPT, recover IMAGE SCRIPT DEVICE, replay FILE, decode PORT DIR FILE, generate SEED\n"
+usage_text = codes "usage: fuota campaign IMAGE SCRIPT, recover IMAGE SCRIPT DEVICE, replay FILE, decode PORT DIR FILE, generate SEED, capture FILE\n"
 
 abbrev pub usage : Answer
 usage = answer status.Usage usage_text
@@ -107,6 +108,7 @@ campaign_answer what (Some image) script =
 abbrev pub tells : FileForm → Telling
 tells Replay = Replays
 tells (Decode port direction) = Decodes port direction
+tells Capture = Captures
 
 -- the answer with what is told of a file of payloads: its text, or its first refused line
 abbrev pub told : Result (List ℕ) LineFault → Answer

@@ -6,7 +6,7 @@ use Rattle.script_lines.specs.Limits.{max_devices}
 use Rattle.wire_base.specs.declared.refusal.Direction.{Direction}
 use Rattle.wire_base.specs.declared.refusal.Direction.TheVariants.{Down, Up}
 use Rattle.clap.specs.Words.{Text}
-use Rattle.fuota_run.specs.declared.words.FileForm.TheVariants.{Replay, Decode}
+use Rattle.fuota_run.specs.declared.words.FileForm.TheVariants.{Replay, Decode, Capture}
 use Rattle.fuota_run.specs.declared.words.ScriptForm.TheVariants.{Campaign, Recover}
 use Rattle.fuota_run.specs.Outside.{Held}
 use Rattle.fuota_run.specs.Reply.{HoldsForm}
@@ -32,6 +32,8 @@ pub record WordsAreForms : Type 0 where
       → asked (program ∷ codes "decode" ∷ port_word ∷ direction_word ∷ file ∷ []) ≡ Some (payloads (Decode port direction) file)
   pub generate : (program word : Text) (seed : ℕ) → seed_of_word word ≡ Some seed
       → asked (program ∷ codes "generate" ∷ word ∷ []) ≡ Some (generates seed)
+  pub capture : (program file : Text) → IsName file
+      → asked (program ∷ codes "capture" ∷ file ∷ []) ≡ Some (payloads Capture file)
   -- the decimal of each device, each port and each seed is its word
   pub device_word : (device : ℕ) → 1 ≤ device → device ≤ max_devices → device_of_word (decimal device) ≡ Some device
   pub port_word : (port : ℕ) → 200 ≤ port → port ≤ 203 → port_of_word (decimal port) ≡ Some port
@@ -46,6 +48,8 @@ pub record OtherCountsAreNone : Type 0 where
   pub replay : (program : Text) (names : List Text) → AllByRecursion IsName names → length names ≢ 1 → asked (program ∷ codes "replay" ∷ names) ≡ None
   pub decode : (program : Text) (names : List Text) → AllByRecursion IsName names → length names ≢ 3 → asked (program ∷ codes "decode" ∷ names) ≡ None
   pub generate : (program : Text) (names : List Text) → AllByRecursion IsName names → length names ≢ 1 → asked (program ∷ codes "generate" ∷ names) ≡ None
+  pub capture : (program : Text) (names : List Text) → AllByRecursion IsName names → length names ≢ 1
+      → asked (program ∷ codes "capture" ∷ names) ≡ None
   pub nothing : (program : Text) → asked (program ∷ []) ≡ None
 
 -- ---- the files that are asked for

@@ -1,5 +1,6 @@
--- The program answers a campaign with its report, of which the headline speaks, and a replay with its text.
-use Rattle.std.specs.Prelude.{◌≡◌, ℕ, ◌^◌, ◌<◌, ◌≤◌, List, length, All, true, Option, Some, Ok, Err}
+-- The program answers a campaign with its report, of which the headline speaks, and a replay and a capture with their
+-- texts.
+use Rattle.std.specs.Prelude.{◌≡◌, ℕ, ◌^◌, ◌<◌, ◌≤◌, List, ◌++◌, length, codes, All, true, Option, Some, Ok, Err}
 use Rattle.std.specs.Io.KnownBytes.{Appends}
 use Rattle.image_slots.specs.Image.{is_image}
 use Rattle.campaign_world.specs.World.{WorldState}
@@ -21,8 +22,12 @@ use Rattle.fuota_run.specs.Outside.{Held}
 use Rattle.fuota_run.specs.Limits.{image_limit, script_limit}
 use Rattle.device_core.specs.Device.{DeviceState}
 use Rattle.script_lines.specs.Lines.{lines_of}
-use Rattle.payload_replay.specs.Replay.{Reaches, replay_text}
-use Rattle.fuota_run.specs.declared.words.FileForm.TheVariants.{Replay}
+use Rattle.payload_replay.specs.Replay.{Reaches, closing_text, replay_text}
+use Rattle.payload_replay.specs.Capture.{Caught, CatchesAll, capture_text}
+use Rattle.payload_replay.specs.CaptureReplay.{IsReplayOf, entries_text}
+use Rattle.capture_read.specs.declared.answers.Entry.{Entry}
+use Rattle.fuota_run.specs.declared.words.FileForm.{FileForm}
+use Rattle.fuota_run.specs.declared.words.FileForm.TheVariants.{Replay, Capture}
 use Rattle.fuota_run.specs.declared.words.ScriptForm.{ScriptForm}
 use Rattle.fuota_run.specs.declared.words.ScriptForm.TheVariants.{Campaign, Recover}
 use Rattle.campaign_world.specs.declared.recovery.NoFile.{NoFile}
@@ -67,6 +72,28 @@ abbrev pub IsReplayAnswered : Type 0
 IsReplayAnswered = (words : List (List ℕ)) (held : Held) (name file : List ℕ) (device : DeviceState) → asked words ≡ Some (payloads Replay name)
     → held name ≡ Some file → length file ≤ script_limit → Reaches (lines_of file) (Ok device) → (a : Answer) → IsAnswer words held a
     → a ≡ answer status.Done (replay_text device)
+
+-- the words and the file of a form with one file, which is within its limit
+pub record IsFileHandedIn (words : List (List ℕ)) (held : Held) (what : FileForm) (file : List ℕ) : Type 0 where
+  pub name : List ℕ
+  pub form : asked words ≡ Some (payloads what name)
+  pub file_held : held name ≡ Some file
+  pub short : length file ≤ script_limit
+
+-- whatever capture is handed in whose lines are all accepted, the answer is the text of what was caught of them;
+-- where all its payloads go down on port 201, it has its entries and then, from the counts on, what a replay of them
+-- is answered
+pub record IsCaptureAnswered : Type 0 where
+  pub text_is : (words : List (List ℕ)) (held : Held) (file : List ℕ) (all : Caught)
+      → IsFileHandedIn words held Capture file → CatchesAll (lines_of file) (Ok all)
+      → (a : Answer) → IsAnswer words held a → a ≡ answer status.Done (capture_text all)
+  pub ends_as_replay : (words replay_words : List (List ℕ)) (held : Held) (file replay_file : List ℕ)
+      (items : List Entry) → IsFileHandedIn words held Capture file
+      → IsFileHandedIn replay_words held Replay replay_file → IsReplayOf file replay_file items
+      → (a replay : Answer) → IsAnswer words held a → a.status ≡ status.Done → IsAnswer replay_words held replay
+      → (device : DeviceState)
+      × (a ≡ answer status.Done (codes "fuota capture 1\n" ++ (entries_text 1 items ++ closing_text device)))
+      × (replay ≡ answer status.Done (codes "fuota replay 1\n" ++ closing_text device))
 
 -- whatever seed is asked for, no line of its campaign is refused, and the answer is what that comes to
 abbrev pub IsSeedAnswered : Type 0

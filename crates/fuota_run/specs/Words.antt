@@ -9,7 +9,7 @@ use Rattle.clap.specs.Words.{App, Kinds, Shape, Row, Rule, Text, app_of, fault_o
 use Rattle.fuota_run.specs.declared.words.Asked.{Asked as Read}
 use Rattle.fuota_run.specs.declared.words.Asked.TheVariants as read
 use Rattle.fuota_run.specs.declared.words.FileForm.{FileForm}
-use Rattle.fuota_run.specs.declared.words.FileForm.TheVariants.{Replay, Decode}
+use Rattle.fuota_run.specs.declared.words.FileForm.TheVariants.{Replay, Decode, Capture}
 use Rattle.fuota_run.specs.declared.words.ScriptForm.{ScriptForm}
 use Rattle.fuota_run.specs.declared.words.ScriptForm.TheVariants.{Campaign, Recover}
 use Rattle.script_lines.specs.Limits.{max_devices}
@@ -33,7 +33,7 @@ abbrev pub with_forms : App → List Shape → App
 with_forms app [] = app
 with_forms app (one ∷ more) = with_forms (with_subcommand app one) more
 
--- the program and its five forms, which take no options
+-- the program and its six forms, which take no options
 unfoldable pub fuota : App
 fuota = with_forms (new_app (codes "fuota")) (
     form (codes "campaign") (codes "IMAGE" ∷ codes "SCRIPT" ∷ [])
@@ -41,6 +41,7 @@ fuota = with_forms (new_app (codes "fuota")) (
     ∷ form (codes "replay") (codes "FILE" ∷ [])
     ∷ form (codes "decode") (codes "PORT" ∷ codes "DIR" ∷ codes "FILE" ∷ [])
     ∷ form (codes "generate") (codes "SEED" ∷ [])
+    ∷ form (codes "capture") (codes "FILE" ∷ [])
     ∷ [])
 
 -- what was found, where there is no fault
@@ -118,6 +119,11 @@ generate_asked rows = do
   seed ← seed_of_word seed_word
   Some (generates seed)
 
+abbrev pub capture_asked : List Row → Option Asked
+capture_asked rows = do
+  file ← first_of (codes "FILE") rows
+  Some (payloads Capture file)
+
 unfoldable pub asked_by : Text → List Row → Option Asked
 asked_by keyword rows =
     if bytes_eq keyword (codes "campaign") then campaign_asked rows
@@ -125,6 +131,7 @@ asked_by keyword rows =
     else if bytes_eq keyword (codes "replay") then replay_asked rows
     else if bytes_eq keyword (codes "decode") then decode_asked rows
     else if bytes_eq keyword (codes "generate") then generate_asked rows
+    else if bytes_eq keyword (codes "capture") then capture_asked rows
     else None
 
 -- what the words ask for; none where they are no form

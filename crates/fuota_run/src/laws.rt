@@ -3,7 +3,7 @@
 ghost use Rattle.fuota_run.specs.Answer.{HasAReply, HasOneReply};
 ghost use Rattle.fuota_run.specs.Forms.{NamesAreWords, OtherCountsAreNone, WordsAreForms};
 ghost use Rattle.fuota_run.specs.WorkedAnswers.{AreAnswers};
-ghost use Rattle.fuota_run.specs.Headline.{IsRecoveryAnswered, IsReplayAnswered, IsReportAnswered, IsSeedAnswered};
+ghost use Rattle.fuota_run.specs.Headline.{IsCaptureAnswered, IsRecoveryAnswered, IsReplayAnswered, IsReportAnswered, IsSeedAnswered};
 
 /// Whatever image and accepted script are handed in, the answer is the report of that campaign, of which the headline of
 /// `campaign_world` speaks.
@@ -21,6 +21,12 @@ pub fn recovery_is_answered()
 /// `replay_is_decided_at_first` of `payload_replay` speaks.
 pub fn replay_is_answered()
     ensures { IsReplayAnswered }
+{}
+
+/// Whatever capture is handed in whose lines are all accepted, the answer is its text, which has what each object
+/// says and, where all go down on port 201, ends as the answer to a replay of their payloads.
+pub fn capture_is_answered()
+    ensures { IsCaptureAnswered }
 {}
 
 /// Whatever seed is asked for, its campaign is accepted line by line, and the answer is its summary: as many devices are

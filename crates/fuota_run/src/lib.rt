@@ -26,8 +26,9 @@ mod words;
 
 pub use files::{Failed, Files};
 pub use laws::{
-    names_are_words, other_counts_are_no_forms, recovery_is_answered, replay_is_answered,
-    report_is_answered, run_has_one_answer, seeds_are_summed_up, words_are_forms, worked_answers,
+    capture_is_answered, names_are_words, other_counts_are_no_forms, recovery_is_answered,
+    replay_is_answered, report_is_answered, run_has_one_answer, seeds_are_summed_up,
+    words_are_forms, worked_answers,
 };
 pub use memory::{MemFiles, MemSink};
 pub use running::run;

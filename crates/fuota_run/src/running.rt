@@ -3,8 +3,9 @@ ghost use Rattle.std.specs.Prelude.{◌≡◌, ◌≢◌, ℕ, true, false, List
 ghost use Rattle.std.specs.Io.KnownBytes.{Appends};
 ghost use Rattle.fuota_run.specs.Outside.{HoldsName, HasRisen};
 ghost use Rattle.image_slots.specs.Image.{is_image};
-ghost use Rattle.fuota_run.specs.declared.words.FileForm.TheVariants.{Replay, Decode};
+ghost use Rattle.fuota_run.specs.declared.words.FileForm.TheVariants.{Replay, Decode, Capture};
 ghost use Rattle.fuota_run.specs.Words.{plays, payloads, generates, asked, seen_asked, asks_files};
+ghost use Rattle.payload_replay.specs.HeldCapturing.{CapturingStands};
 ghost use Rattle.payload_replay.specs.HeldDecoding.{DecodingStands};
 ghost use Rattle.payload_replay.specs.HeldReplaying.{ReplayingStands};
 ghost use Rattle.fuota_run.specs.Reply.{HoldsForm, HoldsAsked, OutsideFiles, Replies, IsImageRead, IsReadUp, Ends, AppendsAnswer, IsNoForm, IsFinished, IsFaultless};
@@ -26,7 +27,7 @@ use crate::words::{Asked, FileForm, ScriptForm, read_words};
 use campaign_generator::generate;
 use campaign_world::World;
 use image_slots::is_image;
-use payload_replay::{Decoding, Replaying};
+use payload_replay::{Capturing, Decoding, Replaying};
 use std::alloc::{AllocError, Global};
 
 /// The most bytes of an image source.
@@ -37,10 +38,10 @@ const SCRIPT_LIMIT: u32 = 1_048_576;
 
 /// What is written where the words are no form.
 const USAGE: &str =
-    "usage: fuota campaign IMAGE SCRIPT, recover IMAGE SCRIPT DEVICE, replay FILE, decode PORT DIR FILE, generate SEED\n";
+    "usage: fuota campaign IMAGE SCRIPT, recover IMAGE SCRIPT DEVICE, replay FILE, decode PORT DIR FILE, generate SEED, capture FILE\n";
 
 /// Runs the program: `words` begin with its name, and the forms are `campaign IMAGE SCRIPT`,
-/// `recover IMAGE SCRIPT DEVICE`, `replay FILE`, `decode PORT DIR FILE` and `generate SEED`.
+/// `recover IMAGE SCRIPT DEVICE`, `replay FILE`, `decode PORT DIR FILE`, `generate SEED` and `capture FILE`.
 /// The whole text stands in memory before its first byte is written.
 pub fn run<F: Files, O: Sink>(alloc: Global, words: &[String], files: &mut F, out: &mut O) -> Status
     requires { HoldsForm (F.held files.old) (map string_bytes words.now) }
@@ -235,6 +236,10 @@ fn payloads<F: Files>(
             let heard = Decoding::new(alloc, port, dir);
             hear_decode(alloc, files, heard, name)
         }
+        FileForm::Capture => {
+            let heard = Capturing::new(alloc);
+            hear_capture(alloc, files, heard, name)
+        }
     }
 }
 
@@ -270,6 +275,28 @@ fn hear_decode<F: Files>(
     requires file { HoldsName (F.held files.old) name.now }
     requires fresh { DecodingStands heard.port heard.direction heard [] }
     ensures { IfOk result (λ r. Replies (Some (payloads (Decode heard.port heard.direction) name.now)) (record {
+      held = F.held files.old;
+      before = F.faults files.old;
+      after = F.faults files.new;
+      left = F.left files.new;
+    }) (answer_in r)) }
+{
+    match hear_source(files, name, SCRIPT_LIMIT, &mut heard) {
+        Ok(()) => reply_with(alloc, heard.text()),
+        Err(error) => unread(alloc, error),
+    }
+}
+
+/// The reply behind the file of JSON lines that a new capture hears.
+fn hear_capture<F: Files>(
+    alloc: Global,
+    files: &mut F,
+    mut heard: Capturing,
+    name: &str,
+) -> Result<Reply, AllocError>
+    requires file { HoldsName (F.held files.old) name.now }
+    requires fresh { CapturingStands heard [] }
+    ensures { IfOk result (λ r. Replies (Some (payloads Capture name.now)) (record {
       held = F.held files.old;
       before = F.faults files.old;
       after = F.faults files.new;

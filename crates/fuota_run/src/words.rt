@@ -1,7 +1,7 @@
 // The words of the command line: what they ask for, as clap takes them.
 ghost use Rattle.std.specs.Prelude.{◌≡◌, ◌≤◌, List, [], ◌∷◌, ℕ, Option, option_map, option_and_then, map, string_bytes, IfOk, IfSome, codes};
 ghost use Rattle.clap.specs.Words.{App, Row, app_of, first_of, first_value, found_of, new_app, rows_of, subcommand_rows_of, with_rule, with_subcommand};
-ghost use Rattle.fuota_run.specs.Words.{IsCommand, positional, form, with_words, fuota, seen_asked, campaign_asked, recover_asked, replay_asked, decode_asked, generate_asked, asked_by, asked, port_of_word, device_of_word, seed_of_word, direction_of_word};
+ghost use Rattle.fuota_run.specs.Words.{IsCommand, positional, form, with_words, fuota, seen_asked, campaign_asked, recover_asked, replay_asked, decode_asked, generate_asked, capture_asked, asked_by, asked, port_of_word, device_of_word, seed_of_word, direction_of_word};
 
 use clap::error::ErrorKind;
 use clap::{Arg, ArgMatches, Command};
@@ -45,6 +45,8 @@ pub enum FileForm {
     Replay,
     /// `decode PORT DIR FILE`: their commands; the port is 200 to 203.
     Decode { port: u8, dir: Direction },
+    /// `capture FILE`: of JSON objects both, each with its port and direction.
+    Capture,
 }
 
 /// What the words ask for, the first of them being the program's name; None exactly where they are no form.
@@ -75,7 +77,8 @@ fn fuota<'a>(alloc: Global) -> Result<Command<'a>, AllocError>
     let program = offering(program, of_one(alloc, "replay", "FILE")?)?;
     let decode = of_three(alloc, "decode", "PORT", "DIR", "FILE")?;
     let program = offering(program, decode)?;
-    offering(program, of_one(alloc, "generate", "SEED")?)
+    let program = offering(program, of_one(alloc, "generate", "SEED")?)?;
+    offering(program, of_one(alloc, "capture", "FILE")?)
 }
 
 /// A form of one word.
@@ -148,6 +151,8 @@ fn asked_by<'a>(keyword: &str, found: &ArgMatches<'a>) -> Option<Asked<'a>>
         decode_asked(found)
     } else if keyword == "generate" {
         generate_asked(found)
+    } else if keyword == "capture" {
+        capture_asked(found)
     } else {
         None
     }
@@ -211,6 +216,16 @@ fn generate_asked<'a>(found: &ArgMatches<'a>) -> Option<Asked<'a>>
 {
     let seed = seed_of_word(word_of(found, "SEED")?)?;
     Some(Asked::Generate { seed })
+}
+
+fn capture_asked<'a>(found: &ArgMatches<'a>) -> Option<Asked<'a>>
+    ensures { seen_asked result ≡ capture_asked (rows_of (found_of found.now)) }
+{
+    let file = word_of(found, "FILE")?;
+    Some(Asked::Payloads {
+        what: FileForm::Capture,
+        file,
+    })
 }
 
 /// The port that a word spells, 200 to 203.

@@ -185,10 +185,11 @@ fn says(
 }
 
 #[test]
-fn payloads_are_decoded_and_replayed(rt: HostRuntime) -> Result<(), Fail> {
+fn payloads_are_decoded_replayed_and_captured(rt: HostRuntime) -> Result<(), Fail> {
     let time = ["fuota", "decode", "202", "down", "script"];
     let versions = ["fuota", "decode", "203", "down", "--", "script"];
     let replay = ["fuota", "replay", "script"];
+    let capture = ["fuota", "capture", "script"];
     let rows = [
         (
             &time[..],
@@ -219,6 +220,24 @@ fn payloads_are_decoded_and_replayed(rt: HostRuntime) -> Result<(), Fail> {
             "replay 1 257\n",
             Status::ScriptRefused,
             "line 1 range\n",
+        ),
+        (
+            &capture[..],
+            "capture 1 0\n{\"port\":202,\"dir\":\"down\",\"hex\":\"0105000000f3\"}\n",
+            Status::Done,
+            "fuota capture 1\nline 2 202 down\nAppTimeAns correction=5 token=3\ncounts deaf 0 refused 0 full 0 dropped 0\nend\n",
+        ),
+        (
+            &capture[..],
+            "capture 1 0\n[]",
+            Status::ScriptRefused,
+            "line 2 syntax\n",
+        ),
+        (
+            &capture[..],
+            "capture 1 0\n{\"port\":256,\"dir\":\"down\",\"hex\":\"\"}\n",
+            Status::ScriptRefused,
+            "line 2 range\n",
         ),
     ];
     for (words, lines, status, text) in &rows {
@@ -305,6 +324,8 @@ fn words_that_are_no_form_are_usage(rt: HostRuntime) -> Result<(), Fail> {
         &["fuota", "campaign", "--help"][..],
         &["fuota", "replay"][..],
         &["fuota", "replay", "script", "script"][..],
+        &["fuota", "capture"][..],
+        &["fuota", "capture", "script", "script"][..],
         &["fuota", "recover", "image", "script"][..],
         &["fuota", "recover", "image", "script", "0"][..],
         &["fuota", "recover", "image", "script", "65"][..],
@@ -694,6 +715,7 @@ fn pieces_make_the_report_of_the_whole(rt: HostRuntime) -> Result<(), Fail> {
 fn pieces_make_the_texts_of_the_whole(rt: HostRuntime) -> Result<(), Fail> {
     let decode = ["fuota", "decode", "201", "down", "capture"];
     let replay = ["fuota", "replay", "capture"];
+    let capture = ["fuota", "capture", "capture"];
     let mut long = Vec::new(rt.alloc());
     long.extend_from_slice(b"00\n")?;
     long.resize(605, b'0')?;
@@ -716,6 +738,12 @@ fn pieces_make_the_texts_of_the_whole(rt: HostRuntime) -> Result<(), Fail> {
             &b"replay 1 2\n0200040001000000000000\n08070066\n08080011\n08010011\n08030033\n"[..],
             Status::Done,
             "fuota replay 1\ncounts deaf 0 refused 0 full 0 dropped 0\nsession 0 received 4 missing 0 complete at 6\nfile 11223344\nend\n",
+        ),
+        (
+            &capture[..],
+            &b"capture 1 0\n{\"port\":201,\"dir\":\"down\",\"hex\":\"0200010001000000000000\"}\n{\"port\":201,\"dir\":\"down\",\"hex\":\"0801005a\"}"[..],
+            Status::Done,
+            "fuota capture 1\nline 2 201 down\nFragSessionSetupReq index=0 mask=0 nbfrag=1 fragsize=1 algo=0 delay=0 padding=0 descriptor=00000000\nline 3 201 down\nDataFragment index=0 n=1 bytes=5a\ncounts deaf 0 refused 0 full 0 dropped 0\nsession 0 received 1 missing 0 complete at 3\nfile 5a\nend\n",
         ),
         (
             &replay[..],

@@ -8,4 +8,5 @@ returns c =
     let two = c.in_ok-program-2.ensures _ _ one c.in_ok-recover.ensures in
     let three = c.in_ok-program-3.ensures _ _ two c.in_ok-of_one.ensures in
     let four = c.in_ok-program-4.ensures _ _ three c.in_ok-decode.ensures in
-    c.offering-5.ensures _ _ four c.in_ok-of_one-2.ensures
+    let five = c.in_ok-program-5.ensures _ _ four c.in_ok-of_one-2.ensures in
+    c.offering-6.ensures _ _ five c.in_ok-of_one-3.ensures
