@@ -1,7 +1,9 @@
 /* What the calls take on the machine that this runs on: of the stack, at most, and the longest `deliver`, by its time. A server sends
  * the longest image to a device in 4,096 pieces of 64 bytes; it hears 256 coded fragments first, or the pieces first but for 256,
- * or loses them at random. Build it with -Wl,-z,now, or what binds functions at their first call is measured too:
- * measure IMAGE [N], an image file of at most 262,144 bytes for hardware 1. With N, campaign N alone is played, from 0. */
+ * or loses one in twenty. A receiver hears 256 pieces of 48 bytes, and loses one in sixteen. Build it with -Wl,-z,now, or what
+ * binds functions at their first call is measured too: measure IMAGE SMALL [N [K]], image files for hardware 1 of at most 262,144
+ * and 12,288 bytes. With N, campaign N alone is played, from 0, and with K the device hears K payloads of it; so two runs under
+ * valgrind --tool=callgrind --toggle-collect=fuota_device_deliver, of K and of K - 1, tell the instructions of one. */
 #define _XOPEN_SOURCE 700
 #include "fuota.h"
 #include <stdio.h>
@@ -12,16 +14,16 @@
 
 enum { STACK = 1 << 18, PAINT = 0xA5 };
 
-static uint8_t stack[STACK], image[262144], file[262144];
-static size_t image_length;
+static uint8_t stack[STACK], image[262144], small[12288], file[262144];
+static size_t image_length, small_length;
 static ucontext_t here, there;
 
 static fuota_receiver receiver = FUOTA_RECEIVER_NONE;
 static fuota_device device = FUOTA_DEVICE_NONE;
 static fuota_server server = FUOTA_SERVER_NONE;
-static const fuota_setup setup = {.nb_frag = 256, .frag_size = 48};
+static fuota_setup setup = {.frag_size = 48};
 static const fuota_config config = {.hw = 1, .area = 262144, .rows = 256, .formats = 2, .sessions = 4, .groups = 4, .is_class_c = true};
-static const fuota_plan plan = {.frag_size = 64, .parity = 512};
+static const fuota_plan plan = {.frag_size = 64, .parity = 512}, small_plan = {.frag_size = 48, .parity = 64};
 static const uint8_t keys[16];
 static fuota_arrival arrival = {.t = 1000};
 static fuota_down down;
@@ -31,6 +33,7 @@ static fuota_view view;
 static fuota_decoded decoded;
 static uint8_t text[1000], answer, field;
 static uint32_t version;
+static int most = -1;
 
 /* ---- The calls, each over the values above ---- */
 
@@ -51,6 +54,7 @@ static void device_view(void) { answer = fuota_device_view(&device, 0, &view); }
 static void device_file(void) { fuota_device_file(&device, 0, 0, file, sizeof file); }
 static void device_running(void) { answer = fuota_device_running(&device, &version); }
 static void server_new(void) { answer = fuota_server_new(&server, &plan, keys, sizeof keys, image, image_length, &field); }
+static void small_server_new(void) { answer = fuota_server_new(&server, &small_plan, keys, sizeof keys, small, small_length, &field); }
 static void server_free(void) { fuota_server_free(&server); }
 static void server_next_fragment(void) { answer = fuota_server_next_fragment(&server, &down); }
 static void server_status_all(void) { answer = fuota_server_status_all(&server, &down); }
@@ -82,6 +86,10 @@ enum { CALLS = sizeof calls / sizeof calls[0] };
 static double made(void (*run)(void)) {
     struct timespec before, after;
     size_t untouched = 0, i;
+    if (most >= 0) {
+        run();
+        return 0;
+    }
     memset(stack, PAINT, sizeof stack);
     getcontext(&there);
     there.uc_stack.ss_sp = stack;
@@ -105,7 +113,10 @@ static double longest;
 static int longest_at, heard;
 
 static void radio(void) {
-    const double time = made(device_deliver);
+    double time;
+    if (heard == most)
+        return;
+    time = made(device_deliver);
     heard++;
     if (time > longest) {
         longest = time;
@@ -155,26 +166,38 @@ static void play(int campaign) {
 }
 
 static void receive(void) {
+    int n;
+    setup.nb_frag = (uint16_t)((small_length + 47) / 48);
+    setup.padding = (uint8_t)(setup.nb_frag * 48u - small_length);
     made(receiver_new);
     made(receiver_set_up);
-    made(server_new);
-    while (made(server_next_fragment), answer == FUOTA_DONE)
-        made(receiver_hear);
+    made(small_server_new);
+    for (n = 1; made(server_next_fragment), answer == FUOTA_DONE; n++)
+        if (n > setup.nb_frag || n % 16)
+            made(receiver_hear);
     made(receiver_view);
+    printf("receiver: verdict %d, %d pieces missing\n", view.verdict, view.missing);
     made(receiver_file);
     made(receiver_status);
     made(receiver_free);
     made(server_free);
 }
 
+static size_t read_file(const char *name, uint8_t *into, size_t room) {
+    FILE *source = fopen(name, "rb");
+    size_t length = source ? fread(into, 1, room, source) : 0;
+    if (source)
+        fclose(source);
+    return length;
+}
+
 int main(int argc, char **argv) {
-    FILE *source = argc > 1 ? fopen(argv[1], "rb") : NULL;
-    int campaign, only = argc > 2 ? atoi(argv[2]) : -1;
+    int campaign, only = argc > 3 ? atoi(argv[3]) : -1;
     size_t i;
-    if (!source)
+    most = argc > 4 ? atoi(argv[4]) : -1;
+    if (argc < 3 || !(image_length = read_file(argv[1], image, sizeof image)) ||
+        !(small_length = read_file(argv[2], small, sizeof small)))
         return 1;
-    image_length = fread(image, 1, sizeof image, source);
-    fclose(source);
     made(nothing);
     for (campaign = 0; campaign < 3; campaign++)
         if (only < 0 || campaign == only)

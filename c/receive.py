@@ -53,7 +53,8 @@ class Receiver:
         if self.view(byref(view)) != DONE or view.verdict != COMPLETE:
             return None
         into = ctypes.create_string_buffer(view.file_length + 1)
-        return into.raw[: self.copy(0, into, view.file_length)]
+        count = self.copy(0, into, view.file_length)
+        return into.raw[:count]
 
 
 with Receiver(sys.argv[1]) as receiver:

@@ -1,13 +1,12 @@
 -- What a decoded payload leaves in memory of C's.
-use Rattle.std.proofs.Common.{◌≡◌, ◌⊎◌, inl, inr, ℕ, List, length, ◌++◌, refl, sym, subst, ap, ◌∙◌}
-use Rattle.std.specs.Prelude.{◌<◌, Result, Ok, Err, IfOk, drop}
+use Rattle.std.proofs.Common.{◌≡◌, inr, ℕ, List, refl, sym, subst}
+use Rattle.std.specs.Prelude.{Result, Ok, Err, IfOk}
 use Rattle.wire_base.specs.declared.refusal.Refusal.{Refusal}
 use Rattle.package_grammar.specs.Reading.{Reading}
 use Rattle.sample_decoder.specs.Lines.{lines_of}
 use Rattle.sample_decoder.specs.declared.DecodeError.{DecodeError}
 use Rattle.sample_decoder.specs.declared.DecodeError.TheVariants as why
-use Rattle.c_base.specs.Answer.{done, no_room, no_memory, refused}
-use Rattle.c_base.specs.Bytes.{IsPut}
+use Rattle.c_base.specs.Answer.{no_memory, refused}
 use Rattle.fuota_c.specs.declared.decoding.DecodedFields.{DecodedFields}
 use Rattle.fuota_c.specs.Decoded.{IsDecoded, IsTextOut, why_number}
 

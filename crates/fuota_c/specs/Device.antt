@@ -1,5 +1,5 @@
 -- What the calls of a device do for C.
-use Rattle.std.specs.Prelude.{◌≡◌, ◌≢◌, ◌⊎◌, ◌≤◌, ◌<◌, ℕ, Bool, true, false, not, IsTrue, List, [], ◌∷◌, length, Option, Some, None, Result, Ok, Err, if◌then◌else◌}
+use Rattle.std.specs.Prelude.{◌≡◌, ◌⊎◌, ◌≤◌, ◌<◌, ℕ, Bool, true, false, List, [], ◌∷◌, length, Option, Some, None, Result, Ok, Err}
 use Rattle.wire_base.specs.Payload.{max_payload}
 use Rattle.package_grammar.specs.declared.downlink.To.{To}
 use Rattle.package_grammar.specs.declared.downlink.To.TheVariants.{Unicast, Group}
@@ -8,16 +8,15 @@ use Rattle.frag_session.specs.Session.{view_of}
 use Rattle.device_core.specs.declared.config.Class.{Class}
 use Rattle.device_core.specs.declared.config.Class.TheVariants.{A, C}
 use Rattle.device_core.specs.declared.config.DeviceConfig.{DeviceConfig}
-use Rattle.device_core.specs.declared.config.ReserveError.{ReserveError}
 use Rattle.device_core.specs.declared.config.ReserveError.TheVariants.{BadConfig, Memory}
 use Rattle.device_core.specs.declared.delivered.Delivered.{Delivered}
 use Rattle.device_core.specs.declared.delivered.Delivered.TheVariants as delivered
 use Rattle.device_core.specs.declared.delivered.OutboxFull.{OutboxFull}
 use Rattle.device_core.specs.declared.uplink.Uplink.{Uplink}
 use Rattle.device_core.specs.SessionTable.{session_at}
-use Rattle.device_core.specs.Device.{DeviceState, first_device, is_config, max_moment}
+use Rattle.device_core.specs.Device.{DeviceState, max_moment}
 use Rattle.device_core.specs.Deliver.{Outcome, delivery, waking, taking}
-use Rattle.device_core.specs.HeldDevice.{HeldDevice, DeviceStands, Becomes, Makes, IsReserved, TakesOldest}
+use Rattle.device_core.specs.HeldDevice.{HeldDevice, DeviceStands, Becomes, Makes, IsReserved}
 use Rattle.c_base.specs.Answer.{done, nothing, range, no_memory, refused, deaf, full}
 use Rattle.c_base.specs.Bytes.{IsPut, Copied}
 use Rattle.fuota_c.specs.declared.device.ConfigFields.{ConfigFields}

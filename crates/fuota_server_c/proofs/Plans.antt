@@ -1,5 +1,5 @@
 -- No call of a server changes its plan.
-use Rattle.std.proofs.Common.{◌≡◌, ℕ, Bool, true, false, cond, List, Option, Some, None, Ok, Err, is_some, is_ok, refl, sym, ap, ◌∙◌}
+use Rattle.std.proofs.Common.{◌≡◌, ℕ, Bool, true, false, List, Option, Some, None, Ok, Err, is_some, is_ok, refl, sym, ap, ◌∙◌}
 use Rattle.std.specs.Prelude.{length}
 use Rattle.wire_base.specs.declared.refusal.Direction.TheVariants.{Up}
 use Rattle.package_grammar.specs.declared.command.Command.{Command}

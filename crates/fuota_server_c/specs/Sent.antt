@@ -1,5 +1,5 @@
 -- What the calls of a server write for C.
-use Rattle.std.specs.Prelude.{◌≡◌, ◌≤◌, ◌&&◌, ℕ, Bool, true, false, nat_le, length, Option, Some, None, option_map, Result, Ok, Err}
+use Rattle.std.specs.Prelude.{◌≡◌, ◌&&◌, ℕ, Bool, true, false, nat_le, length, Option, Some, None, option_map, Result, Ok, Err}
 use Rattle.wire_base.specs.declared.refusal.Refusal.{Refusal}
 use Rattle.package_grammar.specs.declared.downlink.To.{To}
 use Rattle.package_grammar.specs.declared.downlink.To.TheVariants.{Unicast, Group}
@@ -13,7 +13,7 @@ use Rattle.campaign_server.specs.declared.stage.Stage.TheVariants.{At, Updated, 
 use Rattle.campaign_server.specs.Server.{ServerState, ledger}
 use Rattle.campaign_server.specs.Asking.{request_of}
 use Rattle.campaign_server.specs.Fragments.{next_fragment, after_fragment, status_to_all, after_status_to_all}
-use Rattle.campaign_server.specs.Uplinks.{UplinkStep, uplink_step}
+use Rattle.campaign_server.specs.Uplinks.{UplinkStep}
 use Rattle.campaign_server.specs.Sent.{down_of, result_of, answer_of}
 use Rattle.c_base.specs.Answer.{done, nothing, range, refused, spent}
 use Rattle.c_base.specs.Bytes.{IsPut}
