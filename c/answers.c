@@ -1,0 +1,216 @@
+/* Each call with and without an object, at the edges of its arguments, and what it then writes and leaves: nothing is printed but the
+ * first line that is not so. */
+#include "fuota.h"
+#include <stdio.h>
+#include <string.h>
+
+#define SO(fact)                                                                                                                 \
+    do {                                                                                                                         \
+        if (!(fact)) {                                                                                                           \
+            printf("answers.c:%d: %s\n", __LINE__, #fact);                                                                       \
+            return 1;                                                                                                            \
+        }                                                                                                                        \
+    } while (0)
+
+static const uint8_t FILE_BYTES[5] = {0x11, 0x22, 0x33, 0x44, 0x55};
+static uint8_t zeros[300];
+
+static int without_objects(void) {
+    fuota_receiver receiver = FUOTA_RECEIVER_NONE;
+    fuota_device device = FUOTA_DEVICE_NONE;
+    fuota_server server = FUOTA_SERVER_NONE;
+    fuota_setup setup = {0};
+    fuota_arrival arrival = {0};
+    fuota_view view = {.mark = 9};
+    fuota_uplink up = {.due = 9};
+    fuota_down down = {.addr = 9};
+    fuota_stage stage = {.bits = 9};
+    uint32_t version = 9;
+    uint8_t bytes[8] = {0xEE};
+    SO(fuota_receiver_set_up(&receiver, &setup) == 255);
+    SO(fuota_receiver_hear(&receiver, zeros, 5, 1) == FUOTA_NO_OBJECT);
+    SO(fuota_receiver_view(&receiver, &view) == FUOTA_NO_OBJECT && view.mark == 9);
+    SO(fuota_receiver_file(&receiver, 0, bytes, 8) == 0 && bytes[0] == 0xEE);
+    SO(fuota_receiver_status(&receiver, true, bytes, 8) == 0 && bytes[0] == 0xEE);
+    SO(fuota_device_deliver(&device, 201, zeros, 0, &arrival) == FUOTA_NO_OBJECT);
+    SO(fuota_device_wake(&device, 0) == FUOTA_NO_OBJECT);
+    SO(fuota_device_take_uplink(&device, &up) == FUOTA_NO_OBJECT && up.due == 9);
+    SO(fuota_device_view(&device, 0, &view) == FUOTA_NO_OBJECT && view.mark == 9);
+    SO(fuota_device_file(&device, 0, 0, bytes, 8) == 0 && bytes[0] == 0xEE);
+    SO(fuota_device_running(&device, &version) == FUOTA_NO_OBJECT && version == 9);
+    SO(fuota_server_next_fragment(&server, &down) == FUOTA_NO_OBJECT && down.addr == 9);
+    SO(fuota_server_status_all(&server, &down) == FUOTA_NO_OBJECT);
+    SO(fuota_server_ask(&server, 1, &down) == FUOTA_NO_OBJECT);
+    SO(fuota_server_uplink(&server, 1, 201, zeros, 1, 0, &down) == FUOTA_NO_OBJECT && down.addr == 9);
+    SO(fuota_server_ledger(&server, 1, &stage) == FUOTA_NO_OBJECT && stage.bits == 9);
+    fuota_receiver_free(&receiver);
+    fuota_device_free(&device);
+    fuota_server_free(&server);
+    return 0;
+}
+
+static int receiver_answers(void) {
+    static const uint8_t rows[4][6] = {{0x08, 0x01, 0x00, 0x11, 0x22},
+                                       {0x08, 0x03, 0x00, 0x55, 0x00},
+                                       {0x08, 0x02, 0x40, 0x33, 0x44},
+                                       {0x00, 0x08, 0x02, 0x00, 0x33, 0x44}};
+    static const uint8_t coded[5] = {0x08, 0x04, 0x00, 0x33, 0x44};
+    static const uint8_t status[5] = {0x01, 0x02, 0x00, 0x01, 0x00}; /* 2 of 3 pieces were heard, and one is missing */
+    fuota_receiver receiver = FUOTA_RECEIVER_NONE;
+    fuota_setup setup = {.descriptor = 7, .nb_frag = 3, .frag_size = 2, .padding = 1};
+    fuota_setup other = setup;
+    fuota_view view = {0};
+    uint8_t bytes[8];
+    int i;
+    SO(fuota_receiver_new(&receiver) == FUOTA_DONE && receiver.at != NULL);
+    SO(fuota_receiver_view(&receiver, &view) == FUOTA_NOTHING);
+    other.index = 1;
+    SO(fuota_receiver_set_up(&receiver, &other) == 4);
+    other = setup;
+    other.nb_frag = 257;
+    other.frag_size = 48;
+    SO(fuota_receiver_set_up(&receiver, &other) == 2);
+    SO(fuota_receiver_set_up(&receiver, &setup) == 0);
+    for (i = 0; i < 4; i++) { /* of these the third is of session 1, and the fourth no fragment */
+        SO(fuota_receiver_hear(&receiver, rows[i], i == 3 ? 6 : 5, (uint64_t)i) == FUOTA_DONE);
+        SO(fuota_receiver_view(&receiver, &view) == FUOTA_DONE && view.verdict == FUOTA_RECEIVING && view.file_length == 0);
+    }
+    SO(view.received == 2 && view.missing == 1 && view.mark == 0);
+    memset(bytes, 0xEE, sizeof bytes);
+    SO(fuota_receiver_status(&receiver, false, bytes, 4) == 0 && bytes[0] == 0xEE);
+    SO(fuota_receiver_status(&receiver, false, bytes, 8) == 5 && !memcmp(bytes, status, 5) && bytes[5] == 0xEE);
+    SO(fuota_receiver_hear(&receiver, zeros, 243, 4) == FUOTA_RANGE);
+    SO(fuota_receiver_hear(&receiver, zeros, 242, 4) == FUOTA_DONE);
+    SO(fuota_receiver_hear(&receiver, coded, 0, 4) == FUOTA_DONE);
+    SO(fuota_receiver_hear(&receiver, coded, 5, UINT64_MAX) == FUOTA_DONE);
+    SO(fuota_receiver_view(&receiver, &view) == FUOTA_DONE && view.verdict == FUOTA_COMPLETE);
+    SO(view.mark == UINT64_MAX && view.file_length == 5 && view.received == 3 && view.missing == 0);
+    memset(bytes, 0xEE, sizeof bytes);
+    SO(fuota_receiver_file(&receiver, 0, bytes, 8) == 5 && !memcmp(bytes, FILE_BYTES, 5) && bytes[5] == 0xEE);
+    SO(fuota_receiver_file(&receiver, 3, bytes, 1) == 1 && bytes[0] == 0x44 && bytes[1] == 0x22);
+    SO(fuota_receiver_file(&receiver, (size_t)-1, bytes, 8) == 0);
+    SO(fuota_receiver_new(&receiver) == FUOTA_DONE); /* frees the first */
+    SO(fuota_receiver_view(&receiver, &view) == FUOTA_NOTHING && view.file_length == 5);
+    fuota_receiver_free(&receiver);
+    SO(receiver.at == NULL);
+    fuota_receiver_free(&receiver);
+    return 0;
+}
+
+static int device_answers(void) {
+    static const uint8_t setup[11] = {0x02, 0x00, 0x03, 0x00, 0x02, 0x00, 0x01, 0x07, 0x00, 0x00, 0x00};
+    static const uint8_t rows[3][5] = {
+        {0x08, 0x01, 0x00, 0x11, 0x22}, {0x08, 0x03, 0x00, 0x55, 0x00}, {0x08, 0x04, 0x00, 0x33, 0x44}};
+    static const uint8_t answer[2] = {0x02, 0x00};
+    fuota_device device = FUOTA_DEVICE_NONE;
+    fuota_config config = {.hw = 1, .area = 12288, .rows = 16, .formats = 2, .sessions = 1, .groups = 1, .is_class_c = true};
+    fuota_arrival arrival = {.t = 1000, .mark = 5};
+    fuota_uplink up = {.port = 1};
+    fuota_view view = {0};
+    uint32_t version = 9;
+    uint8_t bytes[8];
+    int i;
+    config.sessions = 5;
+    SO(fuota_device_new(&device, &config) == FUOTA_RANGE && device.at == NULL);
+    config.sessions = 1;
+    SO(fuota_device_new(&device, &config) == FUOTA_DONE && device.at != NULL);
+    SO(fuota_device_take_uplink(&device, &up) == FUOTA_NOTHING && up.port == 1);
+    SO(fuota_device_view(&device, 0, &view) == FUOTA_NOTHING);
+    SO(fuota_device_view(&device, 4, &view) == FUOTA_RANGE);
+    SO(fuota_device_file(&device, 255, 0, bytes, 8) == 0);
+    SO(fuota_device_deliver(&device, 201, setup, sizeof setup, &arrival) == FUOTA_DONE);
+    SO(fuota_device_take_uplink(&device, &up) == FUOTA_DONE);
+    SO(up.port == 201 && up.due == 1000 && up.length == 2 && !memcmp(up.payload, answer, 2));
+    SO(fuota_device_deliver(&device, 201, setup, 10, &arrival) == FUOTA_REFUSED);
+    SO(fuota_device_deliver(&device, 201, zeros, 243, &arrival) == FUOTA_RANGE);
+    arrival.is_group = true;
+    SO(fuota_device_deliver(&device, 201, rows[0], 5, &arrival) == FUOTA_DEAF);
+    arrival.is_group = false;
+    arrival.t = UINT64_C(4294967296000);
+    SO(fuota_device_deliver(&device, 201, rows[0], 5, &arrival) == FUOTA_RANGE);
+    arrival.t--;
+    for (i = 0; i < 3; i++)
+        SO(fuota_device_deliver(&device, 201, rows[i], 5, &arrival) == FUOTA_DONE);
+    SO(fuota_device_view(&device, 0, &view) == FUOTA_DONE && view.verdict == FUOTA_COMPLETE && view.mark == 5);
+    SO(fuota_device_file(&device, 0, 1, bytes, 8) == 4 && !memcmp(bytes, FILE_BYTES + 1, 4));
+    for (i = 0; i < 8; i++)
+        SO(fuota_device_wake(&device, 2000) == FUOTA_DONE);
+    SO(fuota_device_wake(&device, 2000) == FUOTA_FULL);
+    SO(fuota_device_wake(&device, UINT64_C(4294967296000)) == FUOTA_RANGE);
+    SO(fuota_device_deliver(&device, 201, setup, sizeof setup, &arrival) == FUOTA_FULL);
+    SO(fuota_device_running(&device, &version) == FUOTA_DONE && version == 0);
+    fuota_device_free(&device);
+    SO(device.at == NULL);
+    return 0;
+}
+
+static int server_answers(const uint8_t *image, size_t length) {
+    fuota_server server = FUOTA_SERVER_NONE;
+    fuota_plan plan = {.frag_size = 13, .parity = 1};
+    fuota_down down = {.addr = 9};
+    fuota_stage stage = {0};
+    uint8_t field = 7;
+    int i;
+    SO(fuota_server_new(&server, &plan, zeros, 47, image, length - 1, &field) == FUOTA_REFUSED && field == 7);
+    plan.frag_size = 0;
+    SO(fuota_server_new(&server, &plan, zeros, 47, image, length, &field) == FUOTA_RANGE && field == FUOTA_FIELD_FRAG_SIZE);
+    plan.frag_size = 13;
+    plan.has_group = true;
+    SO(fuota_server_new(&server, &plan, zeros, 47, image, length, &field) == FUOTA_RANGE && field == FUOTA_FIELD_GROUP);
+    plan.max = 3;
+    SO(fuota_server_new(&server, &plan, zeros, 47, image, length, &field) == FUOTA_RANGE && field == FUOTA_FIELD_WINDOW);
+    plan.has_window = true;
+    SO(fuota_server_new(&server, &plan, zeros, 15, image, length, &field) == FUOTA_RANGE && field == FUOTA_FIELD_DEVICES);
+    SO(server.at == NULL);
+    SO(fuota_server_new(&server, &plan, zeros, 47, image, length, &field) == FUOTA_DONE && server.at != NULL);
+    SO(fuota_server_ask(&server, 0, &down) == FUOTA_RANGE && fuota_server_ask(&server, 3, &down) == FUOTA_RANGE);
+    SO(fuota_server_ask(&server, 2, &down) == FUOTA_DONE);
+    SO(!down.is_group && down.addr == 9 && down.port == 203 && down.length == 1 && down.payload[0] == 0x01);
+    SO(fuota_server_uplink(&server, 2, 203, zeros, 1, 0, &down) == FUOTA_REFUSED);
+    SO(fuota_server_uplink(&server, 3, 203, zeros, 1, 0, &down) == FUOTA_RANGE);
+    SO(fuota_server_ledger(&server, 2, &stage) == FUOTA_DONE && stage.stage == FUOTA_AT);
+    SO(stage.request == FUOTA_REQUEST_VERSION && stage.bits == 0);
+    SO(fuota_server_ledger(&server, 3, &stage) == FUOTA_RANGE);
+    for (i = 0; i < 2; i++) {
+        SO(fuota_server_next_fragment(&server, &down) == FUOTA_DONE);
+        SO(down.is_group && down.addr == 0 && (int)down.count == i && down.port == 201 && down.length == 16);
+        SO(down.payload[0] == 0x08 && down.payload[1] == i + 1 && !memcmp(down.payload + 3, image + 13 * i, 13));
+    }
+    SO(fuota_server_status_all(&server, &down) == FUOTA_DONE && down.count == 2 && down.length == 2);
+    SO(fuota_server_status_all(&server, &down) == FUOTA_SPENT);
+    SO(fuota_server_next_fragment(&server, &down) == FUOTA_SPENT);
+    plan.has_group = plan.has_window = false;
+    SO(fuota_server_new(&server, &plan, zeros, 16, image, length, &field) == FUOTA_DONE); /* frees the first */
+    for (i = 0; fuota_server_next_fragment(&server, &down) == FUOTA_DONE; i++)
+        SO(!down.is_group);
+    SO(i == 5 && fuota_server_next_fragment(&server, &down) == FUOTA_NOTHING);
+    fuota_server_free(&server);
+    SO(server.at == NULL);
+    return 0;
+}
+
+static int decode_answers(void) {
+    static const uint8_t status[5] = {0x01, 0x02, 0x00, 0x01, 0x00};
+    static const char line[] = "FragSessionStatusAns";
+    uint8_t text[100];
+    fuota_decoded out = {0};
+    memset(text, 0xEE, sizeof text);
+    SO(fuota_decode(201, true, status, 5, text, 3, &out) == FUOTA_NO_ROOM && out.length > 20 && text[0] == 0xEE);
+    SO(fuota_decode(201, true, status, 5, text, sizeof text, &out) == FUOTA_DONE && !memcmp(text, line, sizeof line - 1));
+    SO(text[out.length - 1] == '\n' && text[out.length] == 0xEE);
+    SO(fuota_decode(201, true, status, 4, text, sizeof text, &out) == FUOTA_REFUSED && out.at == 4 && out.why == FUOTA_WHY_SHORT);
+    SO(fuota_decode(9, true, status, 4, text, sizeof text, &out) == FUOTA_REFUSED && out.at == 0 && out.why == FUOTA_WHY_PORT);
+    SO(fuota_decode(201, true, zeros, 300, text, sizeof text, &out) == FUOTA_REFUSED && out.why == FUOTA_WHY_TOO_LONG);
+    return 0;
+}
+
+int main(int argc, char **argv) {
+    uint8_t image[100];
+    FILE *file = argc == 2 ? fopen(argv[1], "rb") : NULL;
+    size_t length = file ? fread(image, 1, sizeof image, file) : 0;
+    if (file)
+        fclose(file);
+    if (length != 52)
+        return 2;
+    return without_objects() || receiver_answers() || device_answers() || server_answers(image, length) || decode_answers();
+}

@@ -1,0 +1,40 @@
+-- What a call answers C, beside what it writes: the numbers of the header.
+use Rattle.std.specs.Prelude.{ℕ}
+
+abbrev pub done : ℕ
+done = 0
+
+-- there is nothing to tell, to take or to send
+abbrev pub nothing : ℕ
+nothing = 1
+
+-- the handle has no object
+abbrev pub no_object : ℕ
+no_object = 2
+
+-- an argument is out of its range
+abbrev pub range : ℕ
+range = 3
+
+-- bytes have no room
+abbrev pub no_room : ℕ
+no_room = 4
+
+abbrev pub no_memory : ℕ
+no_memory = 5
+
+-- a payload spells no commands
+abbrev pub refused : ℕ
+refused = 6
+
+-- a device did not hear it
+abbrev pub deaf : ℕ
+deaf = 7
+
+-- a device holds too many uplinks
+abbrev pub full : ℕ
+full = 8
+
+-- the frame counts of a group are spent
+abbrev pub spent : ℕ
+spent = 9

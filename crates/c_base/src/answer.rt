@@ -1,0 +1,22 @@
+//! What a call answers C, beside what it writes: `enum fuota_answer` of the header.
+
+/// It was done.
+pub const DONE: u8 = 0;
+/// There is nothing to tell, to take or to send.
+pub const NOTHING: u8 = 1;
+/// The handle has no object.
+pub const NO_OBJECT: u8 = 2;
+/// An argument is out of its range; nothing changed.
+pub const RANGE: u8 = 3;
+/// The bytes have no room; nothing changed.
+pub const NO_ROOM: u8 = 4;
+/// There was not enough memory.
+pub const NO_MEMORY: u8 = 5;
+/// The payload spells no commands; nothing acted.
+pub const REFUSED: u8 = 6;
+/// The device did not hear the payload.
+pub const DEAF: u8 = 7;
+/// The device holds too many uplinks; nothing acted.
+pub const FULL: u8 = 8;
+/// The frame counts of the group are spent; nothing changed.
+pub const SPENT: u8 = 9;

@@ -1,0 +1,3 @@
+pub mod ReceiverHandles
+pub mod DeviceHandles
+pub mod Decodings

@@ -1,0 +1,5 @@
+pub mod Held
+pub mod Shown
+pub mod Receiver
+pub mod Decoded
+pub mod Device

@@ -1,0 +1,361 @@
+//! A device of all four packages.
+
+ghost use Rattle.std.specs.Prelude.{◌≡◌, ◌≤◌, None, length};
+ghost use Rattle.core.specs.Result.{result_map_both};
+ghost use Rattle.wire_base.specs.Payload.{max_payload};
+ghost use Rattle.device_core.specs.HeldDevice.{IsReserved};
+ghost use Rattle.c_base.specs.Answer.{done, no_object};
+ghost use Rattle.c_base.specs.Calls.{Does, Tells};
+ghost use Rattle.fuota_c.specs.Device.{IsNewDevice, DeliversOrNot, WakesOrNot, TakesUplink, IsUplinkOut, IsSessionShown, IsSessionFile, config_of, downlink_of, delivered_number};
+
+use crate::device_handle::DeviceHandle;
+use crate::shown::{ViewFields, file_in, show};
+use c_base::answer::{DEAF, DONE, FULL, NO_MEMORY, NO_OBJECT, NOTHING, RANGE, REFUSED};
+use c_base::{copy_part, put_whole};
+use device_core::{Class, Delivered, Device, DeviceConfig, OutboxFull, ReserveError, Uplink};
+use package_grammar::{Downlink, To};
+use std::alloc::Global;
+use wire_base::{MAX_PAYLOAD, Payload};
+
+/// The last ms of true time at which a device is called.
+const MAX_MOMENT: u64 = 4_294_967_295_999;
+
+/// What a device is configured with, as `DeviceConfig` of `device_core` has it.
+#[repr(C)]
+#[derive(Drop)]
+pub struct ConfigFields {
+    pub hw: u32,
+    pub offset: u32,
+    pub area: u32,
+    /// The one descriptor that its sessions take, where `has_descriptor`.
+    pub descriptor: u32,
+    pub rows: u16,
+    pub formats: u8,
+    pub sessions: u8,
+    pub groups: u8,
+    pub has_descriptor: bool,
+    /// It always hears unicast payloads; else in the two windows behind its uplink.
+    pub is_class_c: bool,
+    /// GenAppKey.
+    pub key: [u8; 16],
+}
+
+/// When and how a payload comes: `t` in ms of true time, a random word, the number at which a verdict is marked; by
+/// unicast, or by the multicast group with an address, with a frame count.
+#[repr(C)]
+#[derive(Drop)]
+pub struct ArrivalFields {
+    pub t: u64,
+    pub mark: u64,
+    pub word: u32,
+    pub addr: u32,
+    pub count: u32,
+    pub is_group: bool,
+}
+
+/// An uplink: when it is due, in ms of true time; its bytes are the first `length` ones.
+#[repr(C)]
+#[derive(Drop)]
+pub struct UplinkFields {
+    pub due: u64,
+    pub length: usize,
+    pub port: u8,
+    pub payload: [u8; 242],
+}
+
+/// Puts a new device into the handle, with all memory that it will ever need, and frees what was there: done; out of
+/// range where a number of the configuration is, or no memory, and then there is no device.
+#[unsafe(no_mangle)]
+pub extern "C" fn fuota_device_new(
+    handle: &mut DeviceHandle,
+    alloc: Global,
+    config: &ConfigFields,
+) -> u8
+    ensures { IsNewDevice (config_of config.now) handle.new.held result }
+{
+    match boxed(alloc, config_of(config)) {
+        Ok(device) => {
+            *handle = DeviceHandle::of(device);
+            DONE
+        }
+        Err(ReserveError::BadConfig) => {
+            *handle = DeviceHandle::none(alloc);
+            RANGE
+        }
+        Err(ReserveError::Memory) => {
+            *handle = DeviceHandle::none(alloc);
+            NO_MEMORY
+        }
+    }
+}
+
+fn boxed(alloc: Global, config: DeviceConfig) -> Result<Box<Device>, ReserveError>
+    ensures { IsReserved config (result_map_both (λ b. b.value) (λ e. e) result) }
+{
+    match Device::reserve(alloc, config) {
+        Err(error) => Err(error),
+        Ok(device) => match Box::new(alloc, device) {
+            Err(_) => Err(ReserveError::Memory),
+            Ok(device) => Ok(device),
+        },
+    }
+}
+
+fn config_of(fields: &ConfigFields) -> DeviceConfig
+    ensures { result ≡ config_of fields.now }
+{
+    let class = if fields.is_class_c {
+        Class::C
+    } else {
+        Class::A
+    };
+    let descriptor = if fields.has_descriptor {
+        Some(fields.descriptor)
+    } else {
+        None
+    };
+    DeviceConfig {
+        class,
+        hw: fields.hw,
+        formats: fields.formats,
+        rows: fields.rows,
+        offset: fields.offset,
+        key: fields.key,
+        descriptor,
+        sessions: fields.sessions,
+        groups: fields.groups,
+        area: fields.area,
+    }
+}
+
+/// Frees the device, if there is one; the handle has none afterwards.
+#[unsafe(no_mangle)]
+pub extern "C" fn fuota_device_free(handle: &mut DeviceHandle, alloc: Global)
+    ensures { handle.new.held ≡ None }
+{
+    let _device = handle.take(alloc);
+}
+
+/// A payload comes: done, where its commands acted; deaf, refused or full, where they did not; out of range at more
+/// than 242 bytes and at a `t` of more than 4,294,967,295,999, where nothing changes.
+#[unsafe(no_mangle)]
+pub extern "C" fn fuota_device_deliver(
+    handle: &mut DeviceHandle,
+    alloc: Global,
+    port: u8,
+    payload: &[u8],
+    arrival: &ArrivalFields,
+) -> u8
+    ensures { Does handle.old.held handle.new.held
+        (λ x y. DeliversOrNot x y port payload.now arrival.now result) (result ≡ no_object) }
+{
+    match handle.take(alloc) {
+        None => NO_OBJECT,
+        Some(mut device) => {
+            let answer = deliver_or_not(&mut device, port, payload, arrival);
+            *handle = DeviceHandle::of(device);
+            answer
+        }
+    }
+}
+
+fn deliver_or_not(device: &mut Device, port: u8, payload: &[u8], arrival: &ArrivalFields) -> u8
+    ensures { DeliversOrNot device.old device.new port payload.now arrival.now result }
+{
+    if payload.len() > MAX_PAYLOAD || arrival.t > MAX_MOMENT {
+        return RANGE;
+    }
+    let down = downlink_of(port, payload, arrival);
+    delivered_number(device.deliver(arrival.t, &down, arrival.word, arrival.mark))
+}
+
+fn downlink_of(port: u8, payload: &[u8], arrival: &ArrivalFields) -> Downlink
+    requires { length payload.now ≤ max_payload }
+    ensures { result ≡ downlink_of port payload.now arrival.now }
+{
+    let to = if arrival.is_group {
+        To::Group {
+            addr: arrival.addr,
+            count: arrival.count,
+        }
+    } else {
+        To::Unicast
+    };
+    Downlink {
+        to,
+        port,
+        payload: Payload::from_slice(payload),
+    }
+}
+
+fn delivered_number(delivered: Delivered) -> u8
+    ensures { result ≡ delivered_number delivered }
+{
+    match delivered {
+        Delivered::Done => DONE,
+        Delivered::Deaf => DEAF,
+        Delivered::Refused(_) => REFUSED,
+        Delivered::OutboxFull(_) => FULL,
+    }
+}
+
+/// The device wakes at `t` ms of true time, and asks for the time: done; full where it holds 8 uplinks; out of range
+/// at a `t` of more than 4,294,967,295,999, where nothing changes.
+#[unsafe(no_mangle)]
+pub extern "C" fn fuota_device_wake(handle: &mut DeviceHandle, alloc: Global, t: u64) -> u8
+    ensures { Does handle.old.held handle.new.held (λ x y. WakesOrNot x y t result) (result ≡ no_object) }
+{
+    match handle.take(alloc) {
+        None => NO_OBJECT,
+        Some(mut device) => {
+            let answer = wake_or_not(&mut device, t);
+            *handle = DeviceHandle::of(device);
+            answer
+        }
+    }
+}
+
+fn wake_or_not(device: &mut Device, t: u64) -> u8
+    ensures { WakesOrNot device.old device.new t result }
+{
+    if t > MAX_MOMENT {
+        return RANGE;
+    }
+    match device.wake(t) {
+        Ok(()) => DONE,
+        Err(OutboxFull) => FULL,
+    }
+}
+
+/// Takes the oldest uplink that is held: done, or nothing where none is.
+#[unsafe(no_mangle)]
+pub extern "C" fn fuota_device_take_uplink(
+    handle: &mut DeviceHandle,
+    alloc: Global,
+    out: &mut UplinkFields,
+) -> u8
+    ensures { Does handle.old.held handle.new.held
+        (λ x y. TakesUplink x y out.old out.new result) ((result ≡ no_object) × (out.new ≡ out.old)) }
+{
+    match handle.take(alloc) {
+        None => NO_OBJECT,
+        Some(mut device) => {
+            let answer = take_uplink(&mut device, out);
+            *handle = DeviceHandle::of(device);
+            answer
+        }
+    }
+}
+
+fn take_uplink(device: &mut Device, out: &mut UplinkFields) -> u8
+    ensures { TakesUplink device.old device.new out.old out.new result }
+{
+    match device.take_uplink() {
+        None => NOTHING,
+        Some(uplink) => {
+            put_uplink(&uplink, out);
+            DONE
+        }
+    }
+}
+
+fn put_uplink(uplink: &Uplink, out: &mut UplinkFields)
+    ensures { IsUplinkOut uplink.now out.old out.new }
+{
+    out.due = uplink.due;
+    out.port = uplink.port;
+    out.length = put_whole(uplink.payload.as_slice(), &mut out.payload);
+}
+
+/// What the session of an index, 0 to 3, shows: done, or nothing where there is no session; out of range at any other
+/// index.
+#[unsafe(no_mangle)]
+pub extern "C" fn fuota_device_view(
+    handle: &mut DeviceHandle,
+    alloc: Global,
+    index: u8,
+    out: &mut ViewFields,
+) -> u8
+    ensures same { handle.new.held ≡ handle.old.held }
+    ensures view { Tells handle.old.held (λ x. IsSessionShown x index out.old out.new result)
+        ((result ≡ no_object) × (out.new ≡ out.old)) }
+{
+    match handle.take(alloc) {
+        None => NO_OBJECT,
+        Some(device) => {
+            let answer = show_session(&device, index, out);
+            *handle = DeviceHandle::of(device);
+            answer
+        }
+    }
+}
+
+fn show_session(device: &Device, index: u8, out: &mut ViewFields) -> u8
+    ensures { IsSessionShown device.now index out.old out.new result }
+{
+    if index > 3 {
+        return RANGE;
+    }
+    show(device.session(index), out)
+}
+
+/// Copies bytes of the whole file of the session of an index, 0 to 3, from the offset on, as many as there are and
+/// have room; their count.
+#[unsafe(no_mangle)]
+pub extern "C" fn fuota_device_file(
+    handle: &mut DeviceHandle,
+    alloc: Global,
+    index: u8,
+    offset: usize,
+    into: &mut [u8],
+) -> usize
+    ensures same { handle.new.held ≡ handle.old.held }
+    ensures file { Tells handle.old.held (λ x. IsSessionFile x index offset into.old into.new result)
+        ((result ≡ 0) × (into.new ≡ into.old)) }
+{
+    match handle.take(alloc) {
+        None => 0,
+        Some(device) => {
+            let count = copy_session(&device, index, offset, into);
+            *handle = DeviceHandle::of(device);
+            count
+        }
+    }
+}
+
+fn copy_session(device: &Device, index: u8, offset: usize, into: &mut [u8]) -> usize
+    ensures { IsSessionFile device.now index offset into.old into.new result }
+{
+    if index > 3 {
+        return 0;
+    }
+    copy_part(file_in(device.session(index)), offset, into)
+}
+
+/// The version of the firmware that runs, 0 at first: done.
+#[unsafe(no_mangle)]
+pub extern "C" fn fuota_device_running(
+    handle: &mut DeviceHandle,
+    alloc: Global,
+    version: &mut u32,
+) -> u8
+    ensures same { handle.new.held ≡ handle.old.held }
+    ensures version { Tells handle.old.held (λ x. (result ≡ done) × (version.new ≡ x.slots.version))
+        ((result ≡ no_object) × (version.new ≡ version.old)) }
+{
+    match handle.take(alloc) {
+        None => NO_OBJECT,
+        Some(device) => {
+            *version = running(&device);
+            *handle = DeviceHandle::of(device);
+            DONE
+        }
+    }
+}
+
+fn running(device: &Device) -> u32
+    ensures { result ≡ device.now.slots.version }
+{
+    let (version, _file) = device.slots().running();
+    version
+}

@@ -1,0 +1,227 @@
+//! A receiver of one file at a time.
+
+ghost use Rattle.std.specs.Prelude.{◌≡◌, ◌≤◌, None, IfSome, Option, option_map};
+ghost use Rattle.frag_session.specs.Session.{Session, view_of, status_of};
+ghost use Rattle.frag_session.specs.Shows.{seen};
+ghost use Rattle.frag_session.specs.declared.answers.Via.TheVariants.{Unicast};
+ghost use Rattle.sample_receiver.specs.HeldReceiver.{SetsUp, ReceiverStands};
+ghost use Rattle.c_base.specs.Answer.{no_object};
+ghost use Rattle.c_base.specs.Calls.{Does, Tells};
+ghost use Rattle.fuota_c.specs.Shown.{IsShown};
+ghost use Rattle.fuota_c.specs.Receiver.{IsNewReceiver, HearsOrNot, IsFileCopy, IsStatus, answer_bytes, setup_of};
+
+use crate::receiver_handle::ReceiverHandle;
+use crate::shown::{ViewFields, file_in, show};
+use c_base::answer::{DONE, NO_MEMORY, NO_OBJECT, RANGE};
+use c_base::{copy_part, put_whole};
+use cast_wire::{Cmd, FRAGMENT_PORT};
+use frag_session::{SetupReq, Via};
+use package_grammar::{Command, spelled};
+use sample_receiver::{Receiver, hear, receiver, set_up};
+use std::alloc::Global;
+use wire_base::{Direction, MAX_PAYLOAD, Payload};
+
+/// The fields of FragSessionSetupReq (TS004-1.0.0).
+#[repr(C)]
+#[derive(Drop)]
+pub struct SetupFields {
+    pub descriptor: u32,
+    pub nb_frag: u16,
+    pub frag_size: u8,
+    pub index: u8,
+    pub mask: u8,
+    pub algo: u8,
+    pub delay: u8,
+    pub padding: u8,
+}
+
+/// Puts a new receiver, with no session, into the handle, and frees what was there: done, or no memory and no
+/// receiver.
+#[unsafe(no_mangle)]
+pub extern "C" fn fuota_receiver_new(handle: &mut ReceiverHandle, alloc: Global) -> u8
+    ensures { IsNewReceiver handle.new.held result }
+{
+    match made(alloc) {
+        None => {
+            *handle = ReceiverHandle::none(alloc);
+            NO_MEMORY
+        }
+        Some(receiver) => {
+            *handle = ReceiverHandle::of(receiver);
+            DONE
+        }
+    }
+}
+
+fn made(alloc: Global) -> Option<Box<Receiver>>
+    ensures { IfSome result (λ b. ReceiverStands b.value None) }
+{
+    match receiver(alloc) {
+        Err(_) => None,
+        Ok(receiver) => match Box::new(alloc, receiver) {
+            Err(_) => None,
+            Ok(receiver) => Some(receiver),
+        },
+    }
+}
+
+/// Frees the receiver, if there is one; the handle has none afterwards.
+#[unsafe(no_mangle)]
+pub extern "C" fn fuota_receiver_free(handle: &mut ReceiverHandle, alloc: Global)
+    ensures { handle.new.held ≡ None }
+{
+    let _receiver = handle.take(alloc);
+}
+
+/// FragSessionSetupReq: all refusal bits of its answer, 0 where the session lives; 255 where there is no receiver.
+#[unsafe(no_mangle)]
+pub extern "C" fn fuota_receiver_set_up(
+    handle: &mut ReceiverHandle,
+    alloc: Global,
+    setup: &SetupFields,
+) -> u8
+    ensures { Does handle.old.held handle.new.held
+        (λ x y. SetsUp x y (setup_of setup.now) result) (result ≡ 255) }
+{
+    match handle.take(alloc) {
+        None => 255,
+        Some(mut receiver) => {
+            let bits = set_up(&mut receiver, request_of(setup));
+            *handle = ReceiverHandle::of(receiver);
+            bits
+        }
+    }
+}
+
+fn request_of(setup: &SetupFields) -> SetupReq
+    ensures { result ≡ setup_of setup.now }
+{
+    SetupReq {
+        index: setup.index,
+        mask: setup.mask,
+        nb_frag: setup.nb_frag,
+        frag_size: setup.frag_size,
+        algo: setup.algo,
+        delay: setup.delay,
+        padding: setup.padding,
+        descriptor: setup.descriptor,
+    }
+}
+
+/// A payload of port 201, by unicast, with a mark that is the caller's own: done; out of range at more than 242
+/// bytes.
+#[unsafe(no_mangle)]
+pub extern "C" fn fuota_receiver_hear(
+    handle: &mut ReceiverHandle,
+    alloc: Global,
+    payload: &[u8],
+    mark: u64,
+) -> u8
+    ensures { Does handle.old.held handle.new.held
+        (λ x y. HearsOrNot x y payload.now mark result) (result ≡ no_object) }
+{
+    match handle.take(alloc) {
+        None => NO_OBJECT,
+        Some(mut receiver) => {
+            let answer = hear_or_not(&mut receiver, payload, mark);
+            *handle = ReceiverHandle::of(receiver);
+            answer
+        }
+    }
+}
+
+fn hear_or_not(receiver: &mut Receiver, payload: &[u8], mark: u64) -> u8
+    ensures { HearsOrNot receiver.old receiver.new payload.now mark result }
+{
+    if payload.len() > MAX_PAYLOAD {
+        return RANGE;
+    }
+    hear(receiver, payload, mark);
+    DONE
+}
+
+/// What the session shows: done, or nothing where there is no session.
+#[unsafe(no_mangle)]
+pub extern "C" fn fuota_receiver_view(
+    handle: &mut ReceiverHandle,
+    alloc: Global,
+    out: &mut ViewFields,
+) -> u8
+    ensures same { handle.new.held ≡ handle.old.held }
+    ensures view { Tells handle.old.held
+        (λ x. (s : Option Session) → ReceiverStands x s → IsShown (view_of s) out.old out.new result)
+        ((result ≡ no_object) × (out.new ≡ out.old)) }
+{
+    match handle.take(alloc) {
+        None => NO_OBJECT,
+        Some(receiver) => {
+            let answer = show(receiver.view(), out);
+            *handle = ReceiverHandle::of(receiver);
+            answer
+        }
+    }
+}
+
+/// Copies bytes of the whole file, from the offset on, as many as there are and have room; their count.
+#[unsafe(no_mangle)]
+pub extern "C" fn fuota_receiver_file(
+    handle: &mut ReceiverHandle,
+    alloc: Global,
+    offset: usize,
+    into: &mut [u8],
+) -> usize
+    ensures same { handle.new.held ≡ handle.old.held }
+    ensures file { Tells handle.old.held
+        (λ x. (s : Option Session) → ReceiverStands x s → IsFileCopy (view_of s) offset into.old into.new result)
+        ((result ≡ 0) × (into.new ≡ into.old)) }
+{
+    match handle.take(alloc) {
+        None => 0,
+        Some(receiver) => {
+            let count = copy_part(file_in(receiver.view()), offset, into);
+            *handle = ReceiverHandle::of(receiver);
+            count
+        }
+    }
+}
+
+/// FragSessionStatusAns, as the bytes to send, at the front of `answer`; their count, and 0 where none is to be sent
+/// or where they have no room, which is 5 bytes.
+#[unsafe(no_mangle)]
+pub extern "C" fn fuota_receiver_status(
+    handle: &mut ReceiverHandle,
+    alloc: Global,
+    all: bool,
+    answer: &mut [u8],
+) -> usize
+    ensures same { handle.new.held ≡ handle.old.held }
+    ensures status { Tells handle.old.held
+        (λ x. (s : Option Session) → ReceiverStands x s → IsStatus s all answer.old answer.new result)
+        ((result ≡ 0) × (answer.new ≡ answer.old)) }
+{
+    match handle.take(alloc) {
+        None => 0,
+        Some(receiver) => {
+            let count = put_whole(status_bytes(&receiver, all).as_slice(), answer);
+            *handle = ReceiverHandle::of(receiver);
+            count
+        }
+    }
+}
+
+fn status_bytes(receiver: &Receiver, all: bool) -> Payload
+    ensures { (s : Option Session) → ReceiverStands receiver.now s → result ≡ answer_bytes (status_of s Unicast all) }
+{
+    match receiver.status(Via::Unicast, all) {
+        None => Payload::new(),
+        Some(status) => {
+            let command = Command::Cast(Cmd::FragSessionStatusAns {
+                index: 0,
+                received: status.received,
+                missing: status.missing,
+                norows: status.norows,
+            });
+            spelled(FRAGMENT_PORT, Direction::Up, &command)
+        }
+    }
+}

@@ -1,0 +1,2 @@
+pub mod ServerHandles
+pub mod Plans

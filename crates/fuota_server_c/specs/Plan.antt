@@ -1,0 +1,93 @@
+-- What a server is to do, as C tells it, and the server that comes of it.
+use Rattle.std.specs.Prelude.{◌≡◌, ◌⊎◌, ℕ, ◌/◌, Bool, true, false, List, length, map, Option, Some, None, Result, Ok, Err}
+use Rattle.core.specs.Simd.{first_chunks}
+use Rattle.image_slots.specs.Image.{is_image}
+use Rattle.campaign_server.specs.declared.plan.Field.{Field}
+use Rattle.campaign_server.specs.declared.plan.Field.TheVariants as field
+use Rattle.campaign_server.specs.declared.plan.Kind.{Kind}
+use Rattle.campaign_server.specs.declared.plan.Kind.TheVariants as kind
+use Rattle.campaign_server.specs.declared.plan.PlanDevice.{PlanDevice}
+use Rattle.campaign_server.specs.declared.plan.PlanGroup.{PlanGroup}
+use Rattle.campaign_server.specs.declared.plan.PlanWindow.{PlanWindow}
+use Rattle.campaign_server.specs.declared.server.ServerError.{ServerError}
+use Rattle.campaign_server.specs.declared.server.ServerError.TheVariants as error
+use Rattle.campaign_server.specs.Plan.{Plan, bad_field}
+use Rattle.campaign_server.specs.Server.{ServerState, first_server}
+use Rattle.c_base.specs.Answer.{done, range, no_memory, refused}
+use Rattle.fuota_server_c.specs.declared.plan.PlanFields.{PlanFields}
+
+-- ---- the plan
+
+abbrev pub kind_of : (is_class_b : Bool) → (periodicity : ℕ) → Kind
+kind_of true periodicity = kind.B periodicity
+kind_of false periodicity = kind.C
+
+abbrev pub where_told : {X : Type 0} → (has : Bool) → X → Option X
+where_told true x = Some x
+where_told false x = None
+
+abbrev pub group_of : PlanFields → Option PlanGroup
+group_of fields = where_told fields.has_group (record {
+  addr = fields.addr;
+  key = fields.key;
+  min = fields.min;
+  max = fields.max;
+})
+
+abbrev pub window_of : PlanFields → Option PlanWindow
+window_of fields = where_told fields.has_window (record {
+  kind = kind_of fields.is_class_b fields.periodicity;
+  start = fields.start;
+  timeout = fields.timeout;
+  freq = fields.freq;
+  dr = fields.dr;
+})
+
+abbrev pub device_of : (key : List ℕ) → PlanDevice
+device_of key = record { key = key }
+
+-- whole keys of 16 bytes
+abbrev pub devices_of : (keys : List ℕ) → List PlanDevice
+devices_of keys = map device_of (first_chunks 16 (length keys / 16) keys)
+
+abbrev pub plan_of : PlanFields → (keys : List ℕ) → Plan
+plan_of fields keys = record {
+  frag_size = fields.frag_size;
+  parity = fields.parity;
+  group = group_of fields;
+  window = window_of fields;
+  devices = devices_of keys;
+}
+
+-- ---- the server
+
+abbrev pub field_number : Field → ℕ
+field_number field.FragSize = 1
+field_number field.Parity = 2
+field_number field.Group = 3
+field_number field.Window = 4
+field_number field.Devices = 5
+
+-- a server at its start where no field of the plan is wrong; else the first that is
+abbrev pub IsMade : (image : List ℕ) → Plan → Result ServerState ServerError → Type 0
+IsMade image plan (Ok x) = (x ≡ first_server image plan) × (bad_field (length image) plan ≡ None)
+IsMade image plan (Err (error.BadPlan wrong)) = bad_field (length image) plan ≡ Some wrong
+IsMade image plan (Err error.Memory) = Unit {0}
+
+-- the first field that is wrong has this number
+pub record IsWrong (image : List ℕ) (plan : Plan) (number : ℕ) : Type 0 where
+  pub field : Field
+  pub first : bad_field (length image) plan ≡ Some field
+  pub told : number ≡ field_number field
+
+-- there is none: the image is no image file, a field is wrong, or memory was wanting
+abbrev pub IsNoServer : (image : List ℕ) → Plan → (old new answer : ℕ) → Type 0
+IsNoServer image plan old new answer =
+    ((answer ≡ refused) × (is_image image ≡ false) × (new ≡ old))
+    ⊎ (((answer ≡ range) × (is_image image ≡ true) × IsWrong image plan new)
+    ⊎ ((answer ≡ no_memory) × (is_image image ≡ true) × (new ≡ old)))
+
+abbrev pub IsNewServer : (image : List ℕ) → Plan → Option ServerState → (old new answer : ℕ) → Type 0
+IsNewServer image plan (Some x) old new answer =
+    (answer ≡ done) × (is_image image ≡ true) × IsMade image plan (Ok x) × (new ≡ old)
+IsNewServer image plan None old new answer = IsNoServer image plan old new answer

@@ -1,0 +1,102 @@
+-- What the calls of a server write for C.
+use Rattle.std.specs.Prelude.{◌≡◌, ◌&&◌, ℕ, Bool, true, false, nat_le, length, Option, Some, None, option_map, Result, Ok, Err}
+use Rattle.wire_base.specs.declared.refusal.Refusal.{Refusal}
+use Rattle.package_grammar.specs.declared.downlink.To.{To}
+use Rattle.package_grammar.specs.declared.downlink.To.TheVariants.{Unicast, Group}
+use Rattle.package_grammar.specs.declared.downlink.Downlink.{Downlink}
+use Rattle.campaign_server.specs.declared.fragments.Spent.{Spent}
+use Rattle.campaign_server.specs.declared.fragments.Spent.TheVariants.{Fragments, Counts}
+use Rattle.campaign_server.specs.declared.stage.Request.{Request}
+use Rattle.campaign_server.specs.declared.stage.Request.TheVariants as request
+use Rattle.campaign_server.specs.declared.stage.Stage.{Stage}
+use Rattle.campaign_server.specs.declared.stage.Stage.TheVariants.{At, Updated, Refused}
+use Rattle.campaign_server.specs.Server.{ServerState, ledger}
+use Rattle.campaign_server.specs.Asking.{request_of}
+use Rattle.campaign_server.specs.Fragments.{next_fragment, after_fragment, status_to_all, after_status_to_all}
+use Rattle.campaign_server.specs.Uplinks.{UplinkStep}
+use Rattle.campaign_server.specs.Sent.{down_of, result_of, answer_of}
+use Rattle.c_base.specs.Answer.{done, nothing, range, refused, spent}
+use Rattle.c_base.specs.Bytes.{IsPut}
+use Rattle.fuota_server_c.specs.declared.sent.DownFields.{DownFields}
+use Rattle.fuota_server_c.specs.declared.server.StageFields.{StageFields}
+
+-- ---- a payload
+
+abbrev pub to_of : DownFields → To
+to_of fields = by fields.is_group
+  where
+    by : Bool → To
+    by true = Group fields.addr fields.count
+    by false = Unicast
+
+-- it is written with whom it is for, its bytes at the front
+pub record IsDownOut (down : Downlink) (old new : DownFields) : Type 0 where
+  pub to : to_of new ≡ down.to
+  pub port : new.port ≡ down.port
+  pub count : new.length ≡ length down.payload
+  pub payload : IsPut down.payload old.payload new.payload
+
+-- it is written where there is one
+abbrev pub IsOut : Option Downlink → (none : ℕ) → (old new : DownFields) → (answer : ℕ) → Type 0
+IsOut None none old new answer = (answer ≡ none) × (new ≡ old)
+IsOut (Some down) none old new answer = (answer ≡ done) × IsDownOut down old new
+
+-- ---- to all devices
+
+abbrev pub spent_number : Spent → ℕ
+spent_number Fragments = nothing
+spent_number Counts = spent
+
+abbrev pub IsFragmentOut : Result Downlink Spent → (old new : DownFields) → (answer : ℕ) → Type 0
+IsFragmentOut (Ok down) old new answer = (answer ≡ done) × IsDownOut down old new
+IsFragmentOut (Err why) old new answer = (answer ≡ spent_number why) × (new ≡ old)
+
+pub record SendsFragment (x y : ServerState) (old new : DownFields) (answer : ℕ) : Type 0 where
+  pub moved : y ≡ after_fragment x
+  pub out : IsFragmentOut (result_of (next_fragment x)) old new answer
+
+pub record SendsStatus (x y : ServerState) (old new : DownFields) (answer : ℕ) : Type 0 where
+  pub moved : y ≡ after_status_to_all x
+  pub out : IsOut (down_of (status_to_all x)) spent old new answer
+
+-- ---- one device
+
+-- devices are numbered from 1
+abbrev pub has_device : ServerState → (dev : ℕ) → Bool
+has_device server dev = nat_le 1 dev && nat_le dev (length server.plan.devices)
+
+-- a device that the plan does not have changes nothing
+pub record Asks (x : ServerState) (dev : ℕ) (old new : DownFields) (answer : ℕ) : Type 0 where
+  pub out : has_device x dev ≡ true → IsOut (down_of (request_of x dev)) nothing old new answer
+  pub beyond : has_device x dev ≡ false → (answer ≡ range) × (new ≡ old)
+
+abbrev pub IsUplinkAnswer : Result (Option Downlink) Refusal → (old new : DownFields) → (answer : ℕ) → Type 0
+IsUplinkAnswer (Ok down) old new answer = IsOut down nothing old new answer
+IsUplinkAnswer (Err refusal) old new answer = (answer ≡ refused) × (new ≡ old)
+
+pub record TakesUplink (x y : ServerState) (dev : ℕ) (step : UplinkStep) (old new : DownFields) (answer : ℕ)
+    : Type 0 where
+  pub moved : has_device x dev ≡ true → y ≡ step.server
+  pub out : has_device x dev ≡ true → IsUplinkAnswer (answer_of step.answer) old new answer
+  pub beyond : has_device x dev ≡ false → (answer ≡ range) × (y ≡ x) × (new ≡ old)
+
+-- ---- the ledger
+
+abbrev pub request_number : Request → ℕ
+request_number request.Version = 1
+request_number request.Group = 2
+request_number request.Fragments = 3
+request_number request.Window = 4
+request_number request.Status = 5
+request_number request.Image = 6
+request_number request.Reboot = 7
+request_number request.Check = 8
+
+abbrev pub fields_of : Stage → StageFields
+fields_of (At r) = record { stage = 0; request = request_number r; bits = 0 }
+fields_of Updated = record { stage = 1; request = 0; bits = 0 }
+fields_of (Refused r bits) = record { stage = 2; request = request_number r; bits = bits }
+
+pub record TellsStage (x : ServerState) (dev : ℕ) (old new : StageFields) (answer : ℕ) : Type 0 where
+  pub told : has_device x dev ≡ true → (answer ≡ done) × (Some new ≡ option_map fields_of (ledger x dev))
+  pub beyond : has_device x dev ≡ false → (answer ≡ range) × (new ≡ old)

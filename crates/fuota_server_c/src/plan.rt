@@ -1,0 +1,105 @@
+//! What a server is to do, as C tells it.
+
+ghost use Rattle.std.specs.Prelude.{◌≡◌, IfOk, map};
+ghost use Rattle.fuota_server_c.specs.Plan.{plan_of, group_of, window_of, kind_of, device_of, field_number};
+
+use campaign_server::{Field, Kind, Plan, PlanDevice, PlanGroup, PlanWindow};
+use std::alloc::{AllocError, Global};
+
+/// What a server is to do, but for the devices' keys, as `Plan` of `campaign_server` has it.
+#[repr(C)]
+#[derive(Drop)]
+pub struct PlanFields {
+    pub addr: u32,
+    pub min: u32,
+    pub max: u32,
+    pub start: u32,
+    pub freq: u32,
+    pub parity: u16,
+    pub frag_size: u8,
+    pub timeout: u8,
+    pub dr: u8,
+    pub periodicity: u8,
+    pub has_group: bool,
+    pub has_window: bool,
+    pub is_class_b: bool,
+    /// McKey.
+    pub key: [u8; 16],
+}
+
+/// The plan of these fields, for devices with these GenAppKeys of 16 bytes.
+pub fn plan_of(alloc: Global, fields: &PlanFields, keys: &[u8]) -> Result<Plan, AllocError>
+    ensures { IfOk result (λ plan. plan ≡ plan_of fields.now keys.now) }
+{
+    let (keys, _rest) = keys.as_chunks::<16>();
+    let devices = devices_of(alloc, keys)?;
+    Ok(Plan {
+        frag_size: fields.frag_size,
+        parity: fields.parity,
+        group: group_of(fields),
+        window: window_of(fields),
+        devices,
+    })
+}
+
+fn devices_of(alloc: Global, keys: &[[u8; 16]]) -> Result<Vec<PlanDevice>, AllocError>
+    ensures { IfOk result (λ devices. devices.items ≡ map device_of keys.now) }
+{
+    let mut devices = Vec::new(alloc);
+    for key in keys {
+        devices.push(PlanDevice { key: *key })?;
+    }
+    Ok(devices)
+}
+
+fn group_of(fields: &PlanFields) -> Option<PlanGroup>
+    ensures { result ≡ group_of fields.now }
+{
+    if !fields.has_group {
+        return None;
+    }
+    Some(PlanGroup {
+        addr: fields.addr,
+        key: fields.key,
+        min: fields.min,
+        max: fields.max,
+    })
+}
+
+fn window_of(fields: &PlanFields) -> Option<PlanWindow>
+    ensures { result ≡ window_of fields.now }
+{
+    if !fields.has_window {
+        return None;
+    }
+    Some(PlanWindow {
+        kind: kind_of(fields.is_class_b, fields.periodicity),
+        start: fields.start,
+        timeout: fields.timeout,
+        freq: fields.freq,
+        dr: fields.dr,
+    })
+}
+
+fn kind_of(is_class_b: bool, periodicity: u8) -> Kind
+    ensures { result ≡ kind_of is_class_b periodicity }
+{
+    if is_class_b {
+        Kind::B { periodicity }
+    } else {
+        Kind::C
+    }
+}
+
+/// The number of a field that is wrong.
+pub fn field_number(field: Field) -> u8
+    ensures { result ≡ field_number field }
+{
+    match field {
+        Field::FragSize => 1,
+        Field::Parity => 2,
+        Field::Group => 3,
+        Field::Window => 4,
+        Field::Devices => 5,
+    }
+}

@@ -1,0 +1,310 @@
+//! The calls of a server.
+
+ghost use Rattle.std.specs.Prelude.{◌≡◌, None, true};
+ghost use Rattle.core.specs.Result.{result_map_both};
+ghost use Rattle.image_slots.specs.Image.{is_image};
+ghost use Rattle.campaign_server.specs.Uplinks.{uplink_step};
+ghost use Rattle.c_base.specs.Answer.{no_object};
+ghost use Rattle.c_base.specs.Calls.{Does, Tells};
+ghost use Rattle.fuota_server_c.specs.Plan.{IsMade, IsNewServer, plan_of};
+ghost use Rattle.fuota_server_c.specs.Sent.{SendsFragment, SendsStatus, Asks, TakesUplink, TellsStage, IsOut, fields_of, request_number};
+
+use crate::campaign::Campaign;
+use crate::plan::{PlanFields, field_number, plan_of};
+use crate::sent::{DownFields, put_down};
+use crate::server_handle::ServerHandle;
+use c_base::answer::{DONE, NO_MEMORY, NO_OBJECT, NOTHING, RANGE, REFUSED, SPENT};
+use campaign_server::{Request, ServerError, Spent, Stage};
+use image_slots::is_image;
+use package_grammar::Downlink;
+use std::alloc::{AllocError, Global};
+
+/// Where a device stands: 0 at a request, 1 updated, 2 refused; the number of the request, and 0 at updated; the bits
+/// of the answer that refused, and else 0. Requests are 1 version, 2 group, 3 fragments, 4 window, 5 status, 6 image,
+/// 7 reboot, 8 check.
+#[repr(C)]
+#[derive(Drop)]
+pub struct StageFields {
+    pub stage: u8,
+    pub request: u8,
+    pub bits: u8,
+}
+
+/// Puts a server at the start of a campaign into the handle, and frees what was there: done; refused where the image
+/// is no image file; out of range where a field of the plan is wrong, with the number of the first in `field`; no
+/// memory. `keys` has the GenAppKey of each device in turn, 16 bytes each; a rest that is shorter is left out.
+#[unsafe(no_mangle)]
+pub extern "C" fn fuota_server_new(
+    handle: &mut ServerHandle,
+    alloc: Global,
+    plan: &PlanFields,
+    keys: &[u8],
+    image: &[u8],
+    field: &mut u8,
+) -> u8
+    ensures { IsNewServer image.now (plan_of plan.now keys.now) handle.new.held field.old field.new result }
+{
+    if !is_image(image) {
+        *handle = ServerHandle::none(alloc);
+        return REFUSED;
+    }
+    match boxed(alloc, plan, keys, image) {
+        Ok(server) => {
+            *handle = ServerHandle::of(server);
+            DONE
+        }
+        Err(ServerError::BadPlan(wrong)) => {
+            *handle = ServerHandle::none(alloc);
+            *field = field_number(wrong);
+            RANGE
+        }
+        Err(ServerError::Memory) => {
+            *handle = ServerHandle::none(alloc);
+            NO_MEMORY
+        }
+    }
+}
+
+fn boxed(
+    alloc: Global,
+    fields: &PlanFields,
+    keys: &[u8],
+    image: &[u8],
+) -> Result<Box<Campaign>, ServerError>
+    requires { is_image image.now ≡ true }
+    ensures { IsMade image.now (plan_of fields.now keys.now) (result_map_both (λ b. b.value) (λ e. e) result) }
+{
+    let plan = match plan_of(alloc, fields, keys) {
+        Ok(plan) => plan,
+        Err(AllocError) => return Err(ServerError::Memory),
+    };
+    match Campaign::new(alloc, plan, image) {
+        Err(error) => Err(error),
+        Ok(server) => match Box::new(alloc, server) {
+            Err(_) => Err(ServerError::Memory),
+            Ok(server) => Ok(server),
+        },
+    }
+}
+
+/// Frees the server, if there is one; the handle has none afterwards.
+#[unsafe(no_mangle)]
+pub extern "C" fn fuota_server_free(handle: &mut ServerHandle, alloc: Global)
+    ensures { handle.new.held ≡ None }
+{
+    let _server = handle.take(alloc);
+}
+
+/// The next fragment to all devices: done; nothing where all were sent; spent where the group's frame counts are.
+#[unsafe(no_mangle)]
+pub extern "C" fn fuota_server_next_fragment(
+    handle: &mut ServerHandle,
+    alloc: Global,
+    out: &mut DownFields,
+) -> u8
+    ensures { Does handle.old.held handle.new.held
+        (λ x y. SendsFragment x y out.old out.new result) ((result ≡ no_object) × (out.new ≡ out.old)) }
+{
+    match handle.take(alloc) {
+        None => NO_OBJECT,
+        Some(mut server) => {
+            let answer = next_fragment(&mut server, out);
+            *handle = ServerHandle::of(server);
+            answer
+        }
+    }
+}
+
+fn next_fragment(server: &mut Campaign, out: &mut DownFields) -> u8
+    ensures { SendsFragment server.old server.new out.old out.new result }
+{
+    match server.next_fragment() {
+        Ok(down) => {
+            put_down(&down, out);
+            DONE
+        }
+        Err(Spent::Fragments) => NOTHING,
+        Err(Spent::Counts) => SPENT,
+    }
+}
+
+/// FragSessionStatusReq to all devices, answered by those that miss a fragment: done; spent where the group's frame
+/// counts are.
+#[unsafe(no_mangle)]
+pub extern "C" fn fuota_server_status_all(
+    handle: &mut ServerHandle,
+    alloc: Global,
+    out: &mut DownFields,
+) -> u8
+    ensures { Does handle.old.held handle.new.held
+        (λ x y. SendsStatus x y out.old out.new result) ((result ≡ no_object) × (out.new ≡ out.old)) }
+{
+    match handle.take(alloc) {
+        None => NO_OBJECT,
+        Some(mut server) => {
+            let answer = put_or(server.status_all(), SPENT, out);
+            *handle = ServerHandle::of(server);
+            answer
+        }
+    }
+}
+
+fn put_or(down: Option<Downlink>, none: u8, out: &mut DownFields) -> u8
+    ensures { IsOut down none out.old out.new result }
+{
+    match down {
+        None => none,
+        Some(down) => {
+            put_down(&down, out);
+            DONE
+        }
+    }
+}
+
+/// What the server asks of a device now, by unicast: done; nothing where it is updated or refused; out of range where
+/// the plan has no device of this number. Devices are numbered from 1.
+#[unsafe(no_mangle)]
+pub extern "C" fn fuota_server_ask(
+    handle: &mut ServerHandle,
+    alloc: Global,
+    dev: u8,
+    out: &mut DownFields,
+) -> u8
+    ensures same { handle.new.held ≡ handle.old.held }
+    ensures asks { Tells handle.old.held (λ x. Asks x dev out.old out.new result)
+        ((result ≡ no_object) × (out.new ≡ out.old)) }
+{
+    match handle.take(alloc) {
+        None => NO_OBJECT,
+        Some(server) => {
+            let answer = ask(&server, dev, out);
+            *handle = ServerHandle::of(server);
+            answer
+        }
+    }
+}
+
+fn ask(server: &Campaign, dev: u8, out: &mut DownFields) -> u8
+    ensures { Asks server.now dev out.old out.new result }
+{
+    if !server.has_device(dev) {
+        return RANGE;
+    }
+    put_or(server.ask(dev), NOTHING, out)
+}
+
+/// An uplink of a device came on a port, at `t` ms of GPS time, and its stage moves: done, with an answer to send;
+/// nothing, where none is due; refused where the payload spells no commands, out of range where the plan has no such
+/// device, and then nothing changes.
+#[unsafe(no_mangle)]
+pub extern "C" fn fuota_server_uplink(
+    handle: &mut ServerHandle,
+    alloc: Global,
+    dev: u8,
+    port: u8,
+    payload: &[u8],
+    t: u64,
+    out: &mut DownFields,
+) -> u8
+    ensures { Does handle.old.held handle.new.held
+        (λ x y. TakesUplink x y dev (uplink_step x dev port payload.now t) out.old out.new result)
+        ((result ≡ no_object) × (out.new ≡ out.old)) }
+{
+    match handle.take(alloc) {
+        None => NO_OBJECT,
+        Some(mut server) => {
+            let answer = uplink(&mut server, dev, port, payload, t, out);
+            *handle = ServerHandle::of(server);
+            answer
+        }
+    }
+}
+
+fn uplink(
+    server: &mut Campaign,
+    dev: u8,
+    port: u8,
+    payload: &[u8],
+    t: u64,
+    out: &mut DownFields,
+) -> u8
+    ensures { TakesUplink server.old server.new dev (uplink_step server.old dev port payload.now t)
+        out.old out.new result }
+{
+    if !server.has_device(dev) {
+        return RANGE;
+    }
+    match server.uplink(dev, port, payload, t) {
+        Ok(answer) => put_or(answer, NOTHING, out),
+        Err(_) => REFUSED,
+    }
+}
+
+/// Where a device stands: done; out of range where the plan has no device of this number.
+#[unsafe(no_mangle)]
+pub extern "C" fn fuota_server_ledger(
+    handle: &mut ServerHandle,
+    alloc: Global,
+    dev: u8,
+    out: &mut StageFields,
+) -> u8
+    ensures same { handle.new.held ≡ handle.old.held }
+    ensures stage { Tells handle.old.held (λ x. TellsStage x dev out.old out.new result)
+        ((result ≡ no_object) × (out.new ≡ out.old)) }
+{
+    match handle.take(alloc) {
+        None => NO_OBJECT,
+        Some(server) => {
+            let answer = tell_stage(&server, dev, out);
+            *handle = ServerHandle::of(server);
+            answer
+        }
+    }
+}
+
+fn tell_stage(server: &Campaign, dev: u8, out: &mut StageFields) -> u8
+    ensures { TellsStage server.now dev out.old out.new result }
+{
+    if !server.has_device(dev) {
+        return RANGE;
+    }
+    *out = fields_of(server.ledger(dev));
+    DONE
+}
+
+fn fields_of(stage: Stage) -> StageFields
+    ensures { result ≡ fields_of stage }
+{
+    match stage {
+        Stage::At(request) => StageFields {
+            stage: 0,
+            request: request_number(request),
+            bits: 0,
+        },
+        Stage::Updated => StageFields {
+            stage: 1,
+            request: 0,
+            bits: 0,
+        },
+        Stage::Refused { request, bits } => StageFields {
+            stage: 2,
+            request: request_number(request),
+            bits,
+        },
+    }
+}
+
+fn request_number(request: Request) -> u8
+    ensures { result ≡ request_number request }
+{
+    match request {
+        Request::Version => 1,
+        Request::Group => 2,
+        Request::Fragments => 3,
+        Request::Window => 4,
+        Request::Status => 5,
+        Request::Image => 6,
+        Request::Reboot => 7,
+        Request::Check => 8,
+    }
+}
