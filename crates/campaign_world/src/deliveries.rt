@@ -88,4 +88,3 @@ pub fn migrate(devices: &mut Vec<LateDevice>, alloc: Global, id: u8) -> Result<(
     let device = &mut devices[id as usize - 1];
     raise(device, alloc)
 }
-

@@ -82,7 +82,9 @@ impl LateDevice {
     }
 }
 
-/// The device at its start, with all memory that it will ever need.
+/// The device at its start, with all memory that it will ever need. It stands alone, so that no line sees to the room for a
+/// whole device.
+#[inline(never)]
 fn reserved(alloc: Global, config: DeviceConfig) -> Result<Box<Device>, AllocError>
     requires { is_config config ≡ true }
     ensures { IfOk result (λ device. DeviceStands device.value (first_device config)) }

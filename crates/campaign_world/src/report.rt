@@ -15,7 +15,11 @@ use report_lines::{Tail, counts_line, device_line, session_lines, stage_text};
 use std::alloc::{AllocError, Global};
 
 /// The report: what is sent, where each device stands, and what its sessions show.
-pub fn report(alloc: Global, server: &Server, devices: &Vec<LateDevice>) -> Result<Vec<u8>, AllocError>
+pub fn report(
+    alloc: Global,
+    server: &Server,
+    devices: &Vec<LateDevice>,
+) -> Result<Vec<u8>, AllocError>
     requires numbers { length devices.now.items ≡ length server.now.plan.devices }
     requires few { length devices.now.items ≤ 64 }
     ensures { (ds : List DeviceState) → DevicesRest devices.now.items ds
