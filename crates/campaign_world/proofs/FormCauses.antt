@@ -27,7 +27,7 @@ use Rattle.campaign_world.specs.Causes.{is_device, is_event_or_end, may_come, fi
 use Rattle.script_lines.specs.Forms.{form_of}
 use Rattle.script_lines.specs.Limits.{max_lines, max_line, max_time, max_rows, max_devices}
 use Rattle.frag_model.specs.Limits.{max_pieces}
-use Rattle.campaign_world.specs.Late.{Late}
+use Rattle.campaign_world.specs.HeldLate.{Late}
 use Rattle.campaign_world.specs.HeldWorld.{HeldWorld, server_of, world_of, IsFine}
 use Rattle.campaign_world.specs.Making.{device_of, formats_of}
 use Rattle.script_lines.specs.declared.forms.Class.{Class}

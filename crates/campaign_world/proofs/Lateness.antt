@@ -12,7 +12,7 @@ use Rattle.campaign_server.specs.declared.stage.Stage.{Stage}
 use Rattle.campaign_world.specs.declared.recovery.NoFile.TheVariants as no_file
 use Rattle.campaign_world.specs.Recovery.{recovery_by}
 use Rattle.campaign_world.specs.Report.{first_part, device_part}
-use Rattle.campaign_world.specs.Late.{Late, HeldRests, RestsBy, DeviceRests}
+use Rattle.campaign_world.specs.HeldLate.{Late, HeldRests, RestsBy, DeviceRests}
 
 -- what is here rests as the device does
 pub here_rests : (late : Late) (held : HeldDevice) (d : DeviceState) → late.came ≡ Some held → DeviceRests late d → HeldRests held d

@@ -19,7 +19,7 @@ use Rattle.campaign_world.specs.Making.{after_form}
 use Rattle.campaign_world.specs.Script.{one_line_more, after_line, end_result_at}
 use Rattle.campaign_world.specs.Report.{device_part, device_parts, report_with, report_of}
 use Rattle.campaign_world.specs.HeldWorld.{HeldWorld, WorldStands, WorldBecomes, IsLineAnswer, IsCauseOf, world_of}
-use Rattle.campaign_world.specs.Late.{DeviceRests}
+use Rattle.campaign_world.specs.HeldLate.{DeviceRests}
 use Rattle.campaign_world.proofs.Zips.{zip_long}
 
 -- ---- a line

@@ -9,7 +9,7 @@ use Rattle.device_core.proofs.Outboxes.{outbox_is, all_taken}
 use Rattle.campaign_world.specs.declared.numbered.MadeUplink.{MadeUplink}
 use Rattle.campaign_world.specs.Making.{made_by}
 use Rattle.campaign_world.specs.HeldWorld.{resting}
-use Rattle.campaign_world.specs.Late.{HeldRests}
+use Rattle.campaign_world.specs.HeldLate.{HeldRests}
 
 -- none is left: the device rests
 pub rests_now : (d : DeviceState) (old new : HeldDevice) → Becomes old new (λ x. (taking x).device) → TakesOldest old.outbox new.outbox None

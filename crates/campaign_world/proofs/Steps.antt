@@ -28,7 +28,7 @@ use Rattle.campaign_world.specs.Causes.{is_event_or_end}
 use Rattle.campaign_world.specs.World.{WorldState}
 use Rattle.campaign_world.specs.Making.{with_plan, with_sent, with_device, after_answer, after_up, after_form, after_wake, after_migrate, after_down, raw_down, after_raw, at_events}
 use Rattle.campaign_world.specs.HeldWorld.{HeldWorld, WorldStands, KeepsEnds, DevicesRest, OneComesToRest, OnesAreNumbered, world_of, server_of}
-use Rattle.campaign_world.specs.Late.{Late, DeviceRests}
+use Rattle.campaign_world.specs.HeldLate.{Late, DeviceRests}
 use Rattle.campaign_world.specs.WorldInside.{ServerIs, IsBuilt}
 use Rattle.campaign_world.proofs.Lateness.{rests_empty}
 use Rattle.campaign_world.proofs.Zips.{zip_some, zip_more, zip_back}

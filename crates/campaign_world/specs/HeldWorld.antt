@@ -11,7 +11,7 @@ use Rattle.campaign_world.specs.declared.numbered.SentPayload.{SentPayload}
 use Rattle.campaign_world.specs.declared.numbered.MadeUplink.{MadeUplink}
 use Rattle.campaign_world.specs.declared.section.Section.{Section}
 use Rattle.campaign_world.specs.World.{WorldState}
-use Rattle.campaign_world.specs.Late.{Late, DeviceRests}
+use Rattle.campaign_world.specs.HeldLate.{Late, DeviceRests}
 use Rattle.package_grammar.specs.declared.downlink.Downlink.{Downlink}
 use Rattle.script_lines.specs.declared.forms.Form.{Form}
 use Rattle.report_lines.specs.declared.faults.LineWhy.{LineWhy}

@@ -6,7 +6,7 @@ pub mod Honest
 pub mod Report
 pub mod Summary
 pub mod Recovery
-pub mod Late
+pub mod HeldLate
 pub mod HeldWorld
 pub mod HeardWorld
 pub mod WorldInside

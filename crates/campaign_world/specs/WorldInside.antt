@@ -6,7 +6,7 @@ use Rattle.device_core.specs.Sendable.{IsUplink}
 use Rattle.campaign_server.specs.Plan.{Plan, is_frag_size, is_group, is_window, max_parity, max_devices}
 use Rattle.campaign_server.specs.Server.{ServerState}
 use Rattle.script_lines.specs.Limits.{max_lines, max_time}
-use Rattle.campaign_world.specs.Late.{Late}
+use Rattle.campaign_world.specs.HeldLate.{Late}
 use Rattle.campaign_world.specs.HeldWorld.{HeldWorld}
 use Rattle.campaign_world.specs.declared.numbered.MadeUplink.{MadeUplink}
 use Rattle.campaign_world.specs.declared.section.Section.{Section}

@@ -6,7 +6,7 @@ ghost use Rattle.device_core.specs.Deliver.{delivery, waking};
 ghost use Rattle.device_core.specs.Firmware.{after_migration};
 ghost use Rattle.device_core.specs.HeldDevice.{DeviceStands};
 ghost use Rattle.campaign_world.specs.HeldWorld.{resting, numbered_behind, ComesToRest, AreNumbered};
-ghost use Rattle.campaign_world.specs.Late.{HeldRests};
+ghost use Rattle.campaign_world.specs.HeldLate.{HeldRests};
 ghost use Rattle.campaign_world.specs.WorldInside.{StayMade};
 
 use crate::numbered::MadeUplink;

@@ -6,7 +6,7 @@ ghost use Rattle.device_core.specs.HeldDevice.{DeviceStands};
 ghost use Rattle.device_core.specs.Deliver.{delivery, waking};
 ghost use Rattle.device_core.specs.Firmware.{after_migration};
 ghost use Rattle.campaign_world.specs.HeldWorld.{ComesToRest, AreNumbered};
-ghost use Rattle.campaign_world.specs.Late.{IsHere, DeviceRests};
+ghost use Rattle.campaign_world.specs.HeldLate.{IsHere, DeviceRests};
 ghost use Rattle.campaign_world.specs.WorldInside.{StayMade};
 
 use crate::calls::{raise_device, reach_device, rouse_device};
@@ -28,7 +28,7 @@ impl Model for LateDevice {
     ghost use Rattle.std.specs.Prelude.{◌≡◌, true};
     ghost use Rattle.device_core.specs.Device.{is_config};
     ghost use Rattle.std.specs.Prelude.{option_map};
-    ghost use Rattle.campaign_world.specs.Late.{Late};
+    ghost use Rattle.campaign_world.specs.HeldLate.{Late};
 
     ghost Value = { Late };
 

@@ -4,7 +4,7 @@ ghost use Rattle.std.specs.Prelude.{◌≡◌, Some, Ok, Err, IfOk, IfErr};
 ghost use Rattle.frag_session.specs.Shows.{seen};
 ghost use Rattle.device_core.specs.Device.{DeviceState};
 ghost use Rattle.device_core.specs.HeldDevice.{DeviceStands};
-ghost use Rattle.campaign_world.specs.Late.{DeviceRests};
+ghost use Rattle.campaign_world.specs.HeldLate.{DeviceRests};
 ghost use Rattle.campaign_world.specs.Recovery.{file_of, recovery_by};
 
 use crate::late::LateDevice;

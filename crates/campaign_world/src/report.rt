@@ -5,7 +5,7 @@ ghost use Rattle.std.specs.Fmt.{decimal};
 ghost use Rattle.device_core.specs.Device.{DeviceState};
 ghost use Rattle.device_core.specs.HeldDevice.{DeviceStands};
 ghost use Rattle.campaign_world.specs.HeldWorld.{DevicesRest};
-ghost use Rattle.campaign_world.specs.Late.{DeviceRests};
+ghost use Rattle.campaign_world.specs.HeldLate.{DeviceRests};
 ghost use Rattle.campaign_world.specs.Report.{image_text, image_line, first_text, first_part, device_part, device_parts, report_with};
 
 use crate::late::LateDevice;

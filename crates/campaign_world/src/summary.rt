@@ -6,7 +6,7 @@ ghost use Rattle.frag_session.specs.Shows.{seen};
 ghost use Rattle.device_core.specs.Device.{DeviceState};
 ghost use Rattle.device_core.specs.HeldDevice.{DeviceStands};
 ghost use Rattle.campaign_world.specs.HeldWorld.{DevicesRest};
-ghost use Rattle.campaign_world.specs.Late.{DeviceRests};
+ghost use Rattle.campaign_world.specs.HeldLate.{DeviceRests};
 ghost use Rattle.campaign_world.specs.Summary.{heard_by, has_file, is_complete, is_updated, one_if, with_device, totals_from, nothing_counted, size_line, totals_lines, summary_with};
 
 use crate::late::LateDevice;

@@ -1,5 +1,5 @@
 use Rattle.std.proofs.Common.{arith}
-use Rattle.campaign_world.specs.Late.{DeviceRests}
+use Rattle.campaign_world.specs.HeldLate.{DeviceRests}
 use Rattle.report_lines.proofs.Outcomes.{on_ok, on_ok_then, on_err}
 use Rattle.campaign_world.proofs.Zips.{zip_set, zip_at, same_set}
 use Rattle.campaign_world.proofs.deliveries.deliver.Goals as goal

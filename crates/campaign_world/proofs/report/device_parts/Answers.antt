@@ -1,5 +1,5 @@
 use Rattle.std.proofs.Common.{◌∙◌, sym, arith}
-use Rattle.campaign_world.specs.Late.{DeviceRests}
+use Rattle.campaign_world.specs.HeldLate.{DeviceRests}
 use Rattle.campaign_world.proofs.Zips.{zip_get, zip_long}
 use Rattle.campaign_world.proofs.Lines.{part_told, all_told}
 use Rattle.campaign_world.proofs.report.device_parts.Goals as goal

@@ -1,5 +1,5 @@
 use Rattle.std.proofs.Common.{sym, arith}
-use Rattle.campaign_world.specs.Late.{DeviceRests}
+use Rattle.campaign_world.specs.HeldLate.{DeviceRests}
 use Rattle.campaign_world.specs.Summary.{totals_from, nothing_counted}
 use Rattle.campaign_world.proofs.Zips.{zip_get, zip_long}
 use Rattle.campaign_world.proofs.Counting.{all_counted, one_counted}

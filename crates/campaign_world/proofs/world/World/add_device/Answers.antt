@@ -1,6 +1,6 @@
 use Rattle.std.proofs.Common.{◌≡◌, None, refl, sym, subst}
 use Rattle.device_core.specs.Device.{first_device}
-use Rattle.campaign_world.specs.Late.{Late, DeviceRests}
+use Rattle.campaign_world.specs.HeldLate.{Late, DeviceRests}
 use Rattle.campaign_world.specs.HeldWorld.{HeldWorld}
 use Rattle.campaign_world.proofs.Steps.{join_step}
 use Rattle.campaign_world.proofs.world.World.add_device.Goals as goal

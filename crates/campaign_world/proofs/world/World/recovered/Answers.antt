@@ -1,7 +1,7 @@
 use Rattle.std.proofs.Common.{◌≡◌, ◌∙◌, List, Ok, Err, IfOk, IfErr, Option, sym, ap, subst}
 use Rattle.device_core.specs.Device.{DeviceState}
 use Rattle.wire_base.specs.Numbered.{numbered}
-use Rattle.campaign_world.specs.Late.{Late, DeviceRests}
+use Rattle.campaign_world.specs.HeldLate.{Late, DeviceRests}
 use Rattle.campaign_world.specs.Recovery.{recovery_by, recovery}
 use Rattle.campaign_world.proofs.Steps.{some_now, none_now}
 use Rattle.campaign_world.proofs.Zips.{numbered_found, numbered_missed}
