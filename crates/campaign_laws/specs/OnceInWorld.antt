@@ -10,8 +10,8 @@ use Rattle.campaign_world.specs.Honest.{AreHonest}
 use Rattle.campaign_world.specs.Making.{after_up}
 use Rattle.campaign_world.specs.Script.{read_lines}
 
--- an uplink with this number that has moved a stage of the campaign that is held moves none when it comes again, whatever
--- lines came between; those before it are honest
+-- an uplink with this number that has moved a stage of the campaign that is held moves none when it comes again,
+-- whatever lines came between; those before it are honest
 abbrev pub MovesOnceIn : HeldWorld → (number : ℕ) → Type 0
 MovesOnceIn held number = (image line : List ℕ) (before between : List (List ℕ)) (world later : WorldState)
     → WorldStands held world → All (λ b. b < 2 ^ 8) image → is_image image ≡ true

@@ -74,7 +74,8 @@ pub fn a_past_answer_moves_none()
     ensures { PastMovesNone }
 {}
 
-/// An uplink of one command that has moved a stage moves none when it comes again, whatever lines of the script came between.
+/// An uplink of one command that has moved a stage moves none when it comes again, whatever lines of the script came between; those
+/// before it are honest.
 pub fn an_uplink_moves_once()
     ensures { MovesOnce }
 {}

@@ -61,7 +61,8 @@ abbrev pub resting : DeviceState → DeviceState
 resting device = record device { outbox = [] }
 
 -- whatever record it rested as, by this relation, it rests as what the event makes of that
-abbrev pub ComesToRest : {H : Type 0} (Rests : H → DeviceState → Type 0) (event : DeviceState → DeviceState) → (old new : H) → Type 0
+abbrev pub ComesToRest : {H : Type 0} (Rests : H → DeviceState → Type 0) (event : DeviceState → DeviceState)
+    → (old new : H) → Type 0
 ComesToRest Rests event old new = (device : DeviceState) → Rests old device → Rests new (resting (event device))
 
 -- the uplinks that a device holds, numbered behind the others
@@ -69,8 +70,8 @@ abbrev pub numbered_behind : List MadeUplink → (id : ℕ) → List Uplink → 
 numbered_behind uplinks id made = uplinks ++ map (λ uplink. made_by id uplink) made
 
 -- so are those that the event makes
-abbrev pub AreNumbered : {H : Type 0} (Rests : H → DeviceState → Type 0) (event : DeviceState → DeviceState) → H → (id : ℕ)
-    → (old new : List MadeUplink) → Type 0
+abbrev pub AreNumbered : {H : Type 0} (Rests : H → DeviceState → Type 0) (event : DeviceState → DeviceState)
+    → H → (id : ℕ) → (old new : List MadeUplink) → Type 0
 AreNumbered Rests event held id old new =
     (device : DeviceState) → Rests held device → new ≡ numbered_behind old id (event device).outbox
 
@@ -79,7 +80,8 @@ abbrev pub OneComesToRest : (event : DeviceState → DeviceState) → (id : ℕ)
 OneComesToRest event id old new = (all : List DeviceState) (device : DeviceState) → DevicesRest old all
     → slice_get all (id - 1) ≡ Some device → DevicesRest new (slice_set all (id - 1) (resting (event device)))
 
-abbrev pub OnesAreNumbered : (event : DeviceState → DeviceState) → List Late → (id : ℕ) → (old new : List MadeUplink) → Type 0
+abbrev pub OnesAreNumbered : (event : DeviceState → DeviceState) → List Late → (id : ℕ)
+    → (old new : List MadeUplink) → Type 0
 OnesAreNumbered event held id old new = (all : List DeviceState) (device : DeviceState) → DevicesRest held all
     → slice_get all (id - 1) ≡ Some device → new ≡ numbered_behind old id (event device).outbox
 

@@ -28,7 +28,8 @@ pub fn reach_device(
     requires moment { coming.t ≤ max_moment }
     requires room { vec_len uplinks.old + outbox_size ≤ vec_capacity uplinks.old }
     ensures made { StayMade id uplinks.old.items uplinks.new.items }
-    ensures rests { ComesToRest HeldRests (λ d. (delivery coming.t coming.word coming.mark down.now d).device) device.old device.new }
+    ensures rests { ComesToRest HeldRests (λ d. (delivery coming.t coming.word coming.mark down.now d).device)
+        device.old device.new }
     ensures uplinks { AreNumbered HeldRests (λ d. (delivery coming.t coming.word coming.mark down.now d).device)
         device.old id uplinks.old.items uplinks.new.items }
 {
@@ -43,7 +44,8 @@ pub fn rouse_device(device: &mut Device, uplinks: &mut Vec<MadeUplink>, id: u8, 
     requires room { vec_len uplinks.old + outbox_size ≤ vec_capacity uplinks.old }
     ensures made { StayMade id uplinks.old.items uplinks.new.items }
     ensures rests { ComesToRest HeldRests (λ d. (waking t d).device) device.old device.new }
-    ensures uplinks { AreNumbered HeldRests (λ d. (waking t d).device) device.old id uplinks.old.items uplinks.new.items }
+    ensures uplinks { AreNumbered HeldRests (λ d. (waking t d).device) device.old id
+        uplinks.old.items uplinks.new.items }
 {
     let _asked = device.wake(t);
     take_uplinks(id, device, uplinks);

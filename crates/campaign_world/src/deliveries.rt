@@ -24,6 +24,7 @@ fn make_room(uplinks: &mut Vec<MadeUplink>) -> Result<(), AllocError>
 
 /// A payload reaches the device with a number, whose uplinks are taken, oldest first. Where there is no memory for them
 /// the device is not called.
+#[inline(always)]
 pub fn deliver(
     devices: &mut Vec<LateDevice>,
     alloc: Global,

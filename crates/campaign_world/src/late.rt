@@ -82,8 +82,8 @@ impl LateDevice {
     }
 }
 
-/// The device at its start, with all memory that it will ever need. It stands alone, so that no line sees to the room for a
-/// whole device.
+/// The device at its start, with all memory that it will ever need. It stands alone, so that no line sees to the room
+/// for a whole device.
 #[inline(never)]
 fn reserved(alloc: Global, config: DeviceConfig) -> Result<Box<Device>, AllocError>
     requires { is_config config ≡ true }
@@ -113,10 +113,11 @@ pub fn reach(
     requires moment { coming.t ≤ max_moment }
     requires room { vec_len uplinks.old + outbox_size ≤ vec_capacity uplinks.old }
     ensures made { StayMade id uplinks.old.items uplinks.new.items }
-    ensures rests { OnOk result (ComesToRest DeviceRests (λ d. (delivery coming.t coming.word coming.mark down.now d).device)
-        late.old late.new) }
+    ensures rests { OnOk result (ComesToRest DeviceRests
+        (λ d. (delivery coming.t coming.word coming.mark down.now d).device) late.old late.new) }
     ensures uplinks { OnOk result (AreNumbered DeviceRests
-        (λ d. (delivery coming.t coming.word coming.mark down.now d).device) late.old id uplinks.old.items uplinks.new.items) }
+        (λ d. (delivery coming.t coming.word coming.mark down.now d).device) late.old id
+        uplinks.old.items uplinks.new.items) }
     ensures same { OnErr result (late.new ≡ late.old) }
 {
     match late.come(alloc) {

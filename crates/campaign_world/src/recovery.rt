@@ -26,7 +26,8 @@ pub enum NoFile {
 
 /// The file that a device recovered; one to which nothing happened has none.
 pub fn recovered_by(late: &LateDevice) -> Result<&[u8], NoFile>
-    ensures file { (d : DeviceState) → DeviceRests late.now d → IfOk result (λ file. recovery_by (Some d) ≡ Ok file.now) }
+    ensures file { (d : DeviceState) → DeviceRests late.now d
+        → IfOk result (λ file. recovery_by (Some d) ≡ Ok file.now) }
     ensures why { (d : DeviceState) → DeviceRests late.now d → IfErr result (λ why. recovery_by (Some d) ≡ Err why) }
 {
     match late.device() {

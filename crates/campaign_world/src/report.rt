@@ -68,7 +68,8 @@ fn device_part(
     stage: Stage,
     late: &LateDevice,
 ) -> Result<String, AllocError>
-    ensures { (d : DeviceState) → DeviceRests late.now d → IfOk result (λ text. string_bytes text ≡ device_part image.now id stage d) }
+    ensures { (d : DeviceState) → DeviceRests late.now d
+        → IfOk result (λ text. string_bytes text ≡ device_part image.now id stage d) }
 {
     match late.device() {
         Some(device) => came_part(alloc, image, id, stage, device),

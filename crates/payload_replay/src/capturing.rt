@@ -1,6 +1,6 @@
 //! What `capture` tells of a file of JSON lines: what each says, and where a device stands that hears those for it.
 
-ghost use Rattle.std.specs.Prelude.{◌≡◌, ◌+◌, ◌<◌, ◌≤◌, [], ◌++◌, List, ℕ, IsTrue, None, Ok, IfOk, IfErr, OnOk, codes, string_bytes};
+ghost use Rattle.std.specs.Prelude.{◌≡◌, ◌+◌, ◌<◌, ◌≤◌, [], ◌++◌, List, ℕ, IsTrue, is_some, None, Ok, IfOk, IfErr, OnOk, codes, string_bytes};
 ghost use Rattle.script_lines.specs.Lines.{lines_of};
 ghost use Rattle.device_core.specs.Device.{DeviceState};
 ghost use Rattle.device_core.specs.HeldDevice.{Becomes};
@@ -114,7 +114,8 @@ impl Capturing {
 
     /// Whether a line was refused, or memory was wanting.
     fn is_kept(&self) -> bool
-        ensures { IsTrue result → (line : List ℕ) → HearsCaptured self.now line self.now }
+        ensures kept { result ≡ is_some self.now.kept }
+        ensures stays { IsTrue result → (line : List ℕ) → HearsCaptured self.now line self.now }
     {
         self.kept.is_some()
     }

@@ -1,6 +1,6 @@
 //! What `decode` says of a file of payloads, one a line.
 
-ghost use Rattle.std.specs.Prelude.{◌≡◌, ℕ, ◌+◌, ◌<◌, ◌≤◌, [], List, ◌++◌, codes, string_bytes, IsTrue, Ok, IfOk, IfErr, OnOk};
+ghost use Rattle.std.specs.Prelude.{◌≡◌, ℕ, ◌+◌, ◌<◌, ◌≤◌, [], List, ◌++◌, codes, string_bytes, IsTrue, is_some, Ok, IfOk, IfErr, OnOk};
 ghost use Rattle.std.specs.Fmt.{decimal};
 ghost use Rattle.package_grammar.specs.Reading.{reading_of};
 ghost use Rattle.script_lines.specs.Lines.{lines_of};
@@ -106,7 +106,8 @@ impl Decoding {
 
     /// Whether a line was refused, or memory was wanting.
     fn is_kept(&self) -> bool
-        ensures { IsTrue result → (line : List ℕ) → HearsDecoded self.now line self.now }
+        ensures kept { result ≡ is_some self.now.kept }
+        ensures stays { IsTrue result → (line : List ℕ) → HearsDecoded self.now line self.now }
     {
         self.kept.is_some()
     }

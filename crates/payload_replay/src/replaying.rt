@@ -1,6 +1,6 @@
 //! What `replay` tells of a file of captured payloads: where a device stands that hears them.
 
-ghost use Rattle.std.specs.Prelude.{◌≡◌, ◌+◌, ◌<◌, ◌≤◌, [], ◌++◌, List, ℕ, IsTrue, Ok, IfOk, IfErr, OnOk, codes, string_bytes};
+ghost use Rattle.std.specs.Prelude.{◌≡◌, ◌+◌, ◌<◌, ◌≤◌, [], ◌++◌, List, ℕ, IsTrue, is_some, Ok, IfOk, IfErr, OnOk, codes, string_bytes};
 ghost use Rattle.script_lines.specs.Lines.{lines_of};
 ghost use Rattle.device_core.specs.Device.{DeviceState};
 ghost use Rattle.device_core.specs.HeldDevice.{DeviceStands, Becomes};
@@ -90,7 +90,8 @@ impl Replaying {
 
     /// Whether a line was refused, or memory was wanting.
     fn is_kept(&self) -> bool
-        ensures { IsTrue result → (line : List ℕ) → HearsReplayed self.now line self.now }
+        ensures kept { result ≡ is_some self.now.kept }
+        ensures stays { IsTrue result → (line : List ℕ) → HearsReplayed self.now line self.now }
     {
         self.kept.is_some()
     }
