@@ -8,7 +8,7 @@ ghost use Rattle.sample_receiver.specs.HeldReceiver.{SetsUp, ReceiverStands};
 ghost use Rattle.c_base.specs.Answer.{no_object};
 ghost use Rattle.c_base.specs.Calls.{Does, Tells};
 ghost use Rattle.fuota_c.specs.Shown.{IsShown};
-ghost use Rattle.fuota_c.specs.Receiver.{IsNewReceiver, HearsOrNot, IsFileCopy, IsStatus, answer_bytes, setup_of};
+ghost use Rattle.fuota_c.specs.Receiver.{IsNewReceiver, HearsOrNot, IsFileCopy, IsStatus, answer_bytes, no_receiver, setup_of};
 
 use crate::receiver_handle::ReceiverHandle;
 use crate::shown::{ViewFields, file_in, show};
@@ -20,6 +20,9 @@ use package_grammar::{Command, spelled};
 use sample_receiver::{Receiver, hear, receiver, set_up};
 use std::alloc::Global;
 use wire_base::{Direction, MAX_PAYLOAD, Payload};
+
+/// What setting up answers without a receiver: it is no bits of a refusal.
+pub const NO_RECEIVER: u8 = 255;
 
 /// The fields of FragSessionSetupReq (TS004-1.0.0).
 #[repr(C)]
@@ -35,17 +38,15 @@ pub struct SetupFields {
     pub padding: u8,
 }
 
-/// Puts a new receiver, with no session, into the handle, and frees what was there: done, or no memory and no
+/// Frees what was there, and puts a new receiver, with no session, into the handle: done, or no memory and no
 /// receiver.
 #[unsafe(no_mangle)]
 pub extern "C" fn fuota_receiver_new(handle: &mut ReceiverHandle, alloc: Global) -> u8
     ensures { IsNewReceiver handle.new.held result }
 {
+    fuota_receiver_free(handle, alloc);
     match made(alloc) {
-        None => {
-            *handle = ReceiverHandle::none(alloc);
-            NO_MEMORY
-        }
+        None => NO_MEMORY,
         Some(receiver) => {
             *handle = ReceiverHandle::of(receiver);
             DONE
@@ -81,10 +82,10 @@ pub extern "C" fn fuota_receiver_set_up(
     setup: &SetupFields,
 ) -> u8
     ensures { Does handle.old.held handle.new.held
-        (λ x y. SetsUp x y (setup_of setup.now) result) (result ≡ 255) }
+        (λ x y. SetsUp x y (setup_of setup.now) result) (result ≡ no_receiver) }
 {
     match handle.take(alloc) {
-        None => 255,
+        None => NO_RECEIVER,
         Some(mut receiver) => {
             let bits = set_up(&mut receiver, request_of(setup));
             *handle = ReceiverHandle::of(receiver);
