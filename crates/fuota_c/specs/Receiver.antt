@@ -20,10 +20,6 @@ abbrev pub IsNewReceiver : Option HeldSlot → (answer : ℕ) → Type 0
 IsNewReceiver None answer = answer ≡ no_memory
 IsNewReceiver (Some x) answer = (answer ≡ done) × ReceiverStands x None
 
--- what setting up answers without a receiver, which is no bits of a refusal
-abbrev pub no_receiver : ℕ
-no_receiver = 255
-
 abbrev pub setup_of : SetupFields → SetupReq
 setup_of fields = record {
   index = fields.index;

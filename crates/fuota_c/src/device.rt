@@ -17,8 +17,8 @@ use package_grammar::{Downlink, To};
 use std::alloc::Global;
 use wire_base::{MAX_PAYLOAD, Payload};
 
-/// The most sessions that a device has.
-const MAX_SESSIONS: u8 = 4;
+/// Session indices, 0 to 3.
+const SESSIONS: u8 = 4;
 
 /// The last ms of true time at which a device is called.
 const MAX_MOMENT: u64 = 4_294_967_295_999;
@@ -291,7 +291,7 @@ pub extern "C" fn fuota_device_view(
 fn show_session(device: &Device, index: u8, out: &mut ViewFields) -> u8
     ensures { IsSessionShown device.now index out.old out.new result }
 {
-    if index >= MAX_SESSIONS {
+    if index >= SESSIONS {
         return RANGE;
     }
     show(device.session(index), out)
@@ -324,7 +324,7 @@ pub extern "C" fn fuota_device_file(
 fn copy_session(device: &Device, index: u8, offset: usize, into: &mut [u8]) -> usize
     ensures { IsSessionFile device.now index offset into.old into.new result }
 {
-    if index >= MAX_SESSIONS {
+    if index >= SESSIONS {
         return 0;
     }
     copy_part(file_in(device.session(index)), offset, into)

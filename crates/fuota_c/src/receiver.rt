@@ -5,14 +5,14 @@ ghost use Rattle.frag_session.specs.Session.{Session, view_of, status_of};
 ghost use Rattle.frag_session.specs.Shows.{seen};
 ghost use Rattle.frag_session.specs.declared.answers.Via.TheVariants.{Unicast};
 ghost use Rattle.sample_receiver.specs.HeldReceiver.{SetsUp, ReceiverStands};
-ghost use Rattle.c_base.specs.Answer.{no_object};
+ghost use Rattle.c_base.specs.Answer.{no_object, no_receiver};
 ghost use Rattle.c_base.specs.Calls.{Does, Tells};
 ghost use Rattle.fuota_c.specs.Shown.{IsShown};
-ghost use Rattle.fuota_c.specs.Receiver.{IsNewReceiver, HearsOrNot, IsFileCopy, IsStatus, answer_bytes, no_receiver, setup_of};
+ghost use Rattle.fuota_c.specs.Receiver.{IsNewReceiver, HearsOrNot, IsFileCopy, IsStatus, answer_bytes, setup_of};
 
 use crate::receiver_handle::ReceiverHandle;
 use crate::shown::{ViewFields, file_in, show};
-use c_base::answer::{DONE, NO_MEMORY, NO_OBJECT, RANGE};
+use c_base::answer::{DONE, NO_MEMORY, NO_OBJECT, NO_RECEIVER, RANGE};
 use c_base::{copy_part, put_whole};
 use cast_wire::{Cmd, FRAGMENT_PORT};
 use frag_session::{SetupReq, Via};
@@ -20,9 +20,6 @@ use package_grammar::{Command, spelled};
 use sample_receiver::{Receiver, hear, receiver, set_up};
 use std::alloc::Global;
 use wire_base::{Direction, MAX_PAYLOAD, Payload};
-
-/// What setting up answers without a receiver: it is no bits of a refusal.
-pub const NO_RECEIVER: u8 = 255;
 
 /// The fields of FragSessionSetupReq (TS004-1.0.0).
 #[repr(C)]
