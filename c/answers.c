@@ -1,15 +1,15 @@
-/* Each call with and without an object, at the edges of its arguments, and what it then writes and leaves: nothing is printed but the
- * first line that is not so. */
+/* Each call with and without an object, at the edges of its arguments, and what it then writes and leaves: nothing is
+ * printed but the first line that is not so. */
 #include "fuota.h"
 #include <stdio.h>
 #include <string.h>
 
-#define SO(fact)                                                                                                                 \
-    do {                                                                                                                         \
-        if (!(fact)) {                                                                                                           \
-            printf("answers.c:%d: %s\n", __LINE__, #fact);                                                                       \
-            return 1;                                                                                                            \
-        }                                                                                                                        \
+#define SO(fact)                                            \
+    do {                                                    \
+        if (!(fact)) {                                      \
+            printf("answers.c:%d: %s\n", __LINE__, #fact);  \
+            return 1;                                       \
+        }                                                   \
     } while (0)
 
 static const uint8_t FILE_BYTES[5] = {0x11, 0x22, 0x33, 0x44, 0x55};
@@ -27,7 +27,7 @@ static int without_objects(void) {
     fuota_stage stage = {.bits = 9};
     uint32_t version = 9;
     uint8_t bytes[8] = {0xEE};
-    SO(fuota_receiver_set_up(&receiver, &setup) == 255);
+    SO(fuota_receiver_set_up(&receiver, &setup) == FUOTA_NO_RECEIVER);
     SO(fuota_receiver_hear(&receiver, zeros, 5, 1) == FUOTA_NO_OBJECT);
     SO(fuota_receiver_view(&receiver, &view) == FUOTA_NO_OBJECT && view.mark == 9);
     SO(fuota_receiver_file(&receiver, 0, bytes, 8) == 0 && bytes[0] == 0xEE);
@@ -73,7 +73,8 @@ static int receiver_answers(void) {
     SO(fuota_receiver_set_up(&receiver, &setup) == 0);
     for (i = 0; i < 4; i++) { /* of these the third is of session 1, and the fourth no fragment */
         SO(fuota_receiver_hear(&receiver, rows[i], i == 3 ? 6 : 5, (uint64_t)i) == FUOTA_DONE);
-        SO(fuota_receiver_view(&receiver, &view) == FUOTA_DONE && view.verdict == FUOTA_RECEIVING && view.file_length == 0);
+        SO(fuota_receiver_view(&receiver, &view) == FUOTA_DONE);
+        SO(view.verdict == FUOTA_RECEIVING && view.file_length == 0);
     }
     SO(view.received == 2 && view.missing == 1 && view.mark == 0);
     memset(bytes, 0xEE, sizeof bytes);
@@ -103,7 +104,8 @@ static int device_answers(void) {
         {0x08, 0x01, 0x00, 0x11, 0x22}, {0x08, 0x03, 0x00, 0x55, 0x00}, {0x08, 0x04, 0x00, 0x33, 0x44}};
     static const uint8_t answer[2] = {0x02, 0x00};
     fuota_device device = FUOTA_DEVICE_NONE;
-    fuota_config config = {.hw = 1, .area = 12288, .rows = 16, .formats = 2, .sessions = 1, .groups = 1, .is_class_c = true};
+    fuota_config config = {.hw = 1, .area = 12288, .rows = 16, .formats = 2, .sessions = 1, .groups = 1,
+                           .is_class_c = true};
     fuota_arrival arrival = {.t = 1000, .mark = 5};
     fuota_uplink up = {.port = 1};
     fuota_view view = {0};
@@ -153,14 +155,17 @@ static int server_answers(const uint8_t *image, size_t length) {
     int i;
     SO(fuota_server_new(&server, &plan, zeros, 47, image, length - 1, &field) == FUOTA_REFUSED && field == 7);
     plan.frag_size = 0;
-    SO(fuota_server_new(&server, &plan, zeros, 47, image, length, &field) == FUOTA_RANGE && field == FUOTA_FIELD_FRAG_SIZE);
+    SO(fuota_server_new(&server, &plan, zeros, 47, image, length, &field) == FUOTA_RANGE);
+    SO(field == FUOTA_FIELD_FRAG_SIZE);
     plan.frag_size = 13;
     plan.has_group = true;
     SO(fuota_server_new(&server, &plan, zeros, 47, image, length, &field) == FUOTA_RANGE && field == FUOTA_FIELD_GROUP);
     plan.max = 3;
-    SO(fuota_server_new(&server, &plan, zeros, 47, image, length, &field) == FUOTA_RANGE && field == FUOTA_FIELD_WINDOW);
+    SO(fuota_server_new(&server, &plan, zeros, 47, image, length, &field) == FUOTA_RANGE);
+    SO(field == FUOTA_FIELD_WINDOW);
     plan.has_window = true;
-    SO(fuota_server_new(&server, &plan, zeros, 15, image, length, &field) == FUOTA_RANGE && field == FUOTA_FIELD_DEVICES);
+    SO(fuota_server_new(&server, &plan, zeros, 15, image, length, &field) == FUOTA_RANGE);
+    SO(field == FUOTA_FIELD_DEVICES);
     SO(server.at == NULL);
     SO(fuota_server_new(&server, &plan, zeros, 47, image, length, &field) == FUOTA_DONE && server.at != NULL);
     SO(fuota_server_ask(&server, 0, &down) == FUOTA_RANGE && fuota_server_ask(&server, 3, &down) == FUOTA_RANGE);
@@ -196,10 +201,13 @@ static int decode_answers(void) {
     fuota_decoded out = {0};
     memset(text, 0xEE, sizeof text);
     SO(fuota_decode(201, true, status, 5, text, 3, &out) == FUOTA_NO_ROOM && out.length > 20 && text[0] == 0xEE);
-    SO(fuota_decode(201, true, status, 5, text, sizeof text, &out) == FUOTA_DONE && !memcmp(text, line, sizeof line - 1));
+    SO(fuota_decode(201, true, status, 5, text, sizeof text, &out) == FUOTA_DONE);
+    SO(!memcmp(text, line, sizeof line - 1));
     SO(text[out.length - 1] == '\n' && text[out.length] == 0xEE);
-    SO(fuota_decode(201, true, status, 4, text, sizeof text, &out) == FUOTA_REFUSED && out.at == 4 && out.why == FUOTA_WHY_SHORT);
-    SO(fuota_decode(9, true, status, 4, text, sizeof text, &out) == FUOTA_REFUSED && out.at == 0 && out.why == FUOTA_WHY_PORT);
+    SO(fuota_decode(201, true, status, 4, text, sizeof text, &out) == FUOTA_REFUSED);
+    SO(out.at == 4 && out.why == FUOTA_WHY_SHORT);
+    SO(fuota_decode(9, true, status, 4, text, sizeof text, &out) == FUOTA_REFUSED);
+    SO(out.at == 0 && out.why == FUOTA_WHY_PORT);
     SO(fuota_decode(201, true, zeros, 300, text, sizeof text, &out) == FUOTA_REFUSED && out.why == FUOTA_WHY_TOO_LONG);
     return 0;
 }
@@ -212,5 +220,6 @@ int main(int argc, char **argv) {
         fclose(file);
     if (length != 52)
         return 2;
-    return without_objects() || receiver_answers() || device_answers() || server_answers(image, length) || decode_answers();
+    return without_objects() || receiver_answers() || device_answers() || server_answers(image, length)
+        || decode_answers();
 }

@@ -1,5 +1,6 @@
-/* A campaign between a server and a device, which loses every third fragment: campaign IMAGE, an image file of tools/make_image for
- * hardware 1. The radio is what calls on both sides; a server of a network asks when a device can hear, and asks again. */
+/* A campaign between a server and a device, which loses every third fragment: campaign IMAGE, an image file of
+ * tools/make_image for hardware 1. The radio is what calls on both sides; a server of a network asks when a device can
+ * hear, and asks again. */
 #include "fuota.h"
 #include <stdio.h>
 #include <string.h>
@@ -7,16 +8,21 @@
 static fuota_server server = FUOTA_SERVER_NONE;
 static fuota_device device = FUOTA_DEVICE_NONE;
 
-/* A payload comes down at t, and what the device sends goes up. */
-static void radio(const fuota_down *down, uint64_t t, uint64_t mark) {
+/* A payload comes to the device at t. */
+static void deliver(const fuota_down *down, uint64_t t, uint64_t mark) {
     const fuota_arrival arrival = {.t = t, .mark = mark, .word = 0x5EED, .addr = down->addr, .count = down->count,
                                    .is_group = down->is_group};
+    fuota_device_deliver(&device, down->port, down->payload, down->length, &arrival);
+}
+
+/* A payload comes down at t, what the device sends goes up, and what the server answers comes down. */
+static void radio(const fuota_down *down, uint64_t t, uint64_t mark) {
     fuota_uplink up = {0};
     fuota_down answer = {0};
-    fuota_device_deliver(&device, down->port, down->payload, down->length, &arrival);
+    deliver(down, t, mark);
     while (fuota_device_take_uplink(&device, &up) == FUOTA_DONE)
         if (fuota_server_uplink(&server, 1, up.port, up.payload, up.length, t, &answer) == FUOTA_DONE)
-            fuota_device_deliver(&device, answer.port, answer.payload, answer.length, &arrival);
+            deliver(&answer, t, mark);
 }
 
 int main(int argc, char **argv) {

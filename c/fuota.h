@@ -1,15 +1,19 @@
-/* Firmware update over the air for LoRaWAN (TS003, TS004, TS005 and TS006, 1.0.0): a receiver of one file at a time, a whole
- * device, the server of a campaign, and payloads as text. README.md says how to build and link it.
+/* Firmware update over the air for LoRaWAN (TS003, TS004, TS005 and TS006, 1.0.0): a receiver of one file at a time, a
+ * whole device, the server of a campaign, and payloads as text. README.md says how to build and link it.
  *
- * Each call is proved: with any argument that its types allow it does what docs/promises/fuota_c.md and fuota_server_c.md say,
- * nothing undefined, and returns. Memory is taken by the calls _new alone, and given back by _free; fuota_decode takes memory
- * for its text and gives it back. What C owes is written here, and nothing checks it:
- *   - a handle begins as { 0 }, as by its ..._NONE. It is not copied, and what is in it is neither read nor written by C;
+ * Each call is proved: with any argument that its types allow it does what docs/promises/fuota_c.md and
+ * fuota_server_c.md say, nothing undefined, and returns. Memory is taken by the calls _new alone, and given back by
+ * _free, and by _new of what was there; fuota_decode takes memory for its text and gives it back. What C owes is
+ * written here, and nothing checks it:
+ *   - a handle begins as { 0 }, as by its ..._NONE. It is not copied, and what is in it is neither read nor written by
+ *     C;
  *   - one call at a time uses a handle, and all calls on one handle come from one thread;
- *   - a pointer is to a value of its type, or to so many bytes as the length behind it says, set before the call even where the
- *     call only writes there; nothing else reads or writes there during the call. It is not NULL, also at length 0;
+ *   - a pointer is to a value of its type, or to so many bytes as the length behind it says, set before the call even
+ *     where the call only writes there; nothing else reads or writes there during the call. It is not NULL, also at
+ *     length 0;
  *   - a bool is 0 or 1;
- *   - malloc, realloc and free come from one allocator, and align a block to each power of two up to 16 that divides its size;
+ *   - malloc, realloc and free come from one allocator, and align a block to each power of two up to 16 that divides
+ *     its size;
  *   - no call comes from a signal handler, or from the forked child of a process with threads;
  *   - there is stack for the call: docs/SAMPLES.md says how much.
  */
@@ -24,8 +28,8 @@
 extern "C" {
 #endif
 
-/* What a call answers, where it says nothing else. Behind each answer but FUOTA_DONE what C handed in to be written to is as it
- * was, unless the call says otherwise. */
+/* What a call answers, where it says nothing else. Behind each answer but FUOTA_DONE what C handed in to be written to
+ * is as it was, unless the call says otherwise. */
 enum fuota_answer {
     FUOTA_DONE = 0,
     FUOTA_NOTHING = 1,   /* there is nothing to tell, to take or to send */
@@ -57,13 +61,16 @@ typedef struct fuota_view {
     uint8_t verdict;    /* a value of enum fuota_verdict */
 } fuota_view;
 
-/* ---- A receiver of one file at a time: session 0, up to 256 pieces of 48 bytes, 16 rows for coded fragments (TS004) ---- */
+/* ---- A receiver of one file at a time (TS004): session 0, 256 pieces of 48 bytes, 16 rows for coded fragments ---- */
 
 typedef struct fuota_receiver {
     void *at;
 } fuota_receiver;
 
 #define FUOTA_RECEIVER_NONE { 0 }
+
+/* What fuota_receiver_set_up answers where the handle has no receiver. */
+#define FUOTA_NO_RECEIVER 255
 
 /* The fields of FragSessionSetupReq. */
 typedef struct fuota_setup {
@@ -77,28 +84,30 @@ typedef struct fuota_setup {
     uint8_t padding;     /* zero bytes at the end of the last piece, fewer than frag_size */
 } fuota_setup;
 
-/* Puts a new receiver, with no session, into the handle, and frees what was there: FUOTA_DONE, or FUOTA_NO_MEMORY with no receiver. */
+/* Frees what was there, and puts a new receiver, with no session, into the handle: FUOTA_DONE, or FUOTA_NO_MEMORY with
+ * no receiver. */
 uint8_t fuota_receiver_new(fuota_receiver *handle);
 
 /* Frees the receiver, if there is one; the handle has none afterwards, and may be freed again. */
 void fuota_receiver_free(fuota_receiver *handle);
 
-/* FragSessionSetupReq: all refusal bits of its answer (1 coding, 2 no room, 4 no such index, 8 another descriptor), 0 where the
- * session lives; 255 without a receiver. */
+/* FragSessionSetupReq: all refusal bits of its answer (1 coding, 2 no room, 4 no such index, 8 another descriptor), 0
+ * where the session lives; FUOTA_NO_RECEIVER. */
 uint8_t fuota_receiver_set_up(fuota_receiver *handle, const fuota_setup *setup);
 
-/* A payload of port 201 that came by unicast: a DataFragment of session 0 is heard, and anything else passed over; `mark` is the
- * caller's own. FUOTA_DONE; FUOTA_RANGE at more than 242 bytes; FUOTA_NO_OBJECT. */
+/* A payload of port 201 that came by unicast: a DataFragment of session 0 is heard, and anything else passed over;
+ * `mark` is the caller's own. FUOTA_DONE; FUOTA_RANGE at more than 242 bytes; FUOTA_NO_OBJECT. */
 uint8_t fuota_receiver_hear(fuota_receiver *handle, const uint8_t *payload, size_t length, uint64_t mark);
 
 /* What the session shows: FUOTA_DONE; FUOTA_NOTHING without a session; FUOTA_NO_OBJECT. */
 uint8_t fuota_receiver_view(fuota_receiver *handle, fuota_view *out);
 
-/* Copies bytes of the whole file, from the offset on, as many as there are and have room; their count. */
+/* Copies bytes of the whole file, from the offset on, as many as there are and have room; their count, 0 also without a
+ * receiver. */
 size_t fuota_receiver_file(fuota_receiver *handle, size_t offset, uint8_t *into, size_t room);
 
-/* FragSessionStatusAns, as the 5 bytes to send, at the front of `answer`; their count, and 0 where none is to be sent or where they
- * have no room. `all` is the request's Participants bit. */
+/* FragSessionStatusAns, as the 5 bytes to send, at the front of `answer`; their count, and 0 where none is to be sent,
+ * where they have no room, or without a receiver. `all` is the request's Participants bit. */
 size_t fuota_receiver_status(fuota_receiver *handle, bool all, uint8_t *answer, size_t room);
 
 /* ---- A device of all four packages ---- */
@@ -140,30 +149,31 @@ typedef struct fuota_uplink {
     uint8_t payload[242]; /* in the order in which they are sent; the bytes behind `length` are as they were */
 } fuota_uplink;
 
-/* Puts a new device into the handle, with all memory that it will ever need, and frees what was there: FUOTA_DONE; FUOTA_RANGE where
- * a number of the configuration is out of range, or FUOTA_NO_MEMORY, and then there is no device. */
+/* Frees what was there, and puts a new device into the handle, with all memory that it will ever need: FUOTA_DONE;
+ * FUOTA_RANGE where a number of the configuration is out of range, or FUOTA_NO_MEMORY, and then there is no device. */
 uint8_t fuota_device_new(fuota_device *handle, const fuota_config *config);
 
 /* Frees the device, if there is one; the handle has none afterwards, and may be freed again. */
 void fuota_device_free(fuota_device *handle);
 
-/* A payload comes: FUOTA_DONE, where its commands acted; FUOTA_DEAF, FUOTA_REFUSED, FUOTA_FULL, where they did not, which is
- * counted; FUOTA_RANGE at more than 242 bytes, and at a `t` out of range; FUOTA_NO_OBJECT. */
+/* A payload comes: FUOTA_DONE, where its commands acted; FUOTA_DEAF, FUOTA_REFUSED, FUOTA_FULL, where they did not,
+ * which is counted; FUOTA_RANGE at more than 242 bytes, and at a `t` out of range; FUOTA_NO_OBJECT. */
 uint8_t fuota_device_deliver(fuota_device *handle, uint8_t port, const uint8_t *payload, size_t length,
                              const fuota_arrival *arrival);
 
-/* The device wakes at `t` ms of true time and asks for the time: FUOTA_DONE; FUOTA_FULL where it holds 8 uplinks; FUOTA_RANGE at a `t`
- * out of range; FUOTA_NO_OBJECT. */
+/* The device wakes at `t` ms of true time and asks for the time: FUOTA_DONE; FUOTA_FULL where it holds 8 uplinks;
+ * FUOTA_RANGE at a `t` out of range; FUOTA_NO_OBJECT. */
 uint8_t fuota_device_wake(fuota_device *handle, uint64_t t);
 
 /* Takes the oldest uplink that is held: FUOTA_DONE; FUOTA_NOTHING where none is; FUOTA_NO_OBJECT. */
 uint8_t fuota_device_take_uplink(fuota_device *handle, fuota_uplink *out);
 
-/* What the session of an index, 0 to 3, shows: FUOTA_DONE; FUOTA_NOTHING without a session; FUOTA_RANGE at another index;
- * FUOTA_NO_OBJECT. */
+/* What the session of an index, 0 to 3, shows: FUOTA_DONE; FUOTA_NOTHING without a session; FUOTA_RANGE at another
+ * index; FUOTA_NO_OBJECT. */
 uint8_t fuota_device_view(fuota_device *handle, uint8_t index, fuota_view *out);
 
-/* Copies bytes of the whole file of the session of an index, from the offset on, as many as there are and have room; their count. */
+/* Copies bytes of the whole file of the session of an index, from the offset on, as many as there are and have room;
+ * their count, 0 also at another index and without a device. */
 size_t fuota_device_file(fuota_device *handle, uint8_t index, size_t offset, uint8_t *into, size_t room);
 
 /* The version of the firmware that runs, 0 at first: FUOTA_DONE; FUOTA_NO_OBJECT. */
@@ -236,9 +246,10 @@ typedef struct fuota_stage {
     uint8_t bits;    /* at FUOTA_STOPPED; else 0 */
 } fuota_stage;
 
-/* Puts a server at the start of a campaign into the handle, and frees what was there: FUOTA_DONE. There is no server behind
- * FUOTA_REFUSED, where the image is no image file; FUOTA_RANGE, where a field of the plan is wrong, with the first of them in *field;
- * and FUOTA_NO_MEMORY. `keys` has the GenAppKeys of the 1 to 64 devices in turn, 16 bytes each; a rest of fewer is left out. */
+/* Frees what was there, and puts a server at the start of a campaign into the handle: FUOTA_DONE. There is no server
+ * behind FUOTA_REFUSED, where the image is no image file; FUOTA_RANGE, where a field of the plan is wrong, with the
+ * first of them in *field; and FUOTA_NO_MEMORY. `keys` has the GenAppKeys of the 1 to 64 devices in turn, 16 bytes
+ * each; a rest of fewer is left out. */
 uint8_t fuota_server_new(fuota_server *handle, const fuota_plan *plan, const uint8_t *keys, size_t keys_length,
                          const uint8_t *image, size_t image_length, uint8_t *field);
 
@@ -248,17 +259,18 @@ void fuota_server_free(fuota_server *handle);
 /* The next fragment to all devices: FUOTA_DONE; FUOTA_NOTHING where all were sent; FUOTA_SPENT; FUOTA_NO_OBJECT. */
 uint8_t fuota_server_next_fragment(fuota_server *handle, fuota_down *out);
 
-/* FragSessionStatusReq to all devices, answered by those that miss a fragment: FUOTA_DONE; FUOTA_SPENT; FUOTA_NO_OBJECT. */
+/* FragSessionStatusReq to all devices, answered by those that miss a fragment: FUOTA_DONE; FUOTA_SPENT;
+ * FUOTA_NO_OBJECT. */
 uint8_t fuota_server_status_all(fuota_server *handle, fuota_down *out);
 
-/* What the server asks of a device now, by unicast; it is sent again when no answer comes: FUOTA_DONE; FUOTA_NOTHING where it is
- * updated or refused; FUOTA_RANGE where the plan has no device of this number (1 to 64); FUOTA_NO_OBJECT. */
+/* What the server asks of a device now, by unicast; it is sent again when no answer comes: FUOTA_DONE; FUOTA_NOTHING
+ * where it is updated or refused; FUOTA_RANGE where the plan has no device of this number, 1 to 64; FUOTA_NO_OBJECT. */
 uint8_t fuota_server_ask(fuota_server *handle, uint8_t dev, fuota_down *out);
 
-/* An uplink of a device came on a port, at `t` ms of GPS time, and moves its stage: FUOTA_DONE, with an answer to send to it;
- * FUOTA_NOTHING, where none is due; FUOTA_REFUSED and FUOTA_RANGE, and then nothing changes; FUOTA_NO_OBJECT. */
-uint8_t fuota_server_uplink(fuota_server *handle, uint8_t dev, uint8_t port, const uint8_t *payload, size_t length, uint64_t t,
-                            fuota_down *out);
+/* An uplink of a device came on a port, at `t` ms of GPS time, and moves its stage: FUOTA_DONE, with an answer to send
+ * to it; FUOTA_NOTHING, where none is due; FUOTA_REFUSED and FUOTA_RANGE, and then nothing changes; FUOTA_NO_OBJECT. */
+uint8_t fuota_server_uplink(fuota_server *handle, uint8_t dev, uint8_t port, const uint8_t *payload, size_t length,
+                            uint64_t t, fuota_down *out);
 
 /* Where a device stands: FUOTA_DONE; FUOTA_RANGE where the plan has no such device; FUOTA_NO_OBJECT. */
 uint8_t fuota_server_ledger(fuota_server *handle, uint8_t dev, fuota_stage *out);
@@ -272,15 +284,16 @@ enum fuota_why {
     FUOTA_WHY_TOO_LONG = 3 /* it has more than 242 bytes */
 };
 
+/* A field is written at the answers that it names, and else as it was. */
 typedef struct fuota_decoded {
     size_t length; /* bytes of the text, at FUOTA_DONE and FUOTA_NO_ROOM */
     uint16_t at;   /* the byte at which reading stops, from 0, at FUOTA_REFUSED */
     uint8_t why;   /* a value of enum fuota_why, at FUOTA_REFUSED */
 } fuota_decoded;
 
-/* The commands of a payload of port 200 to 203, each on a line, at the front of `text`, with no 0 behind it: FUOTA_DONE, and
- * out->length bytes of text; FUOTA_REFUSED; FUOTA_NO_ROOM, where the text has more than `room` bytes, and its length is in
- * out->length; FUOTA_NO_MEMORY. `up` says which way the payload goes: from a device, or to one. */
+/* The commands of a payload of port 200 to 203, each on a line, at the front of `text`, with no 0 behind it:
+ * FUOTA_DONE, and out->length bytes of text; FUOTA_REFUSED; FUOTA_NO_ROOM, where the text has more than `room` bytes,
+ * and its length is in out->length; FUOTA_NO_MEMORY. `up` says which way the payload goes: from a device, or to one. */
 uint8_t fuota_decode(uint8_t port, bool up, const uint8_t *payload, size_t length, uint8_t *text, size_t room,
                      fuota_decoded *out);
 

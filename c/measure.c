@@ -1,9 +1,10 @@
-/* What the calls take on the machine that this runs on: of the stack, at most, and the longest `deliver`, by its time. A server sends
- * the longest image to a device in 4,096 pieces of 64 bytes; it hears 256 coded fragments first, or the pieces first but for 256,
- * or loses one in twenty. A receiver hears 256 pieces of 48 bytes, and loses one in sixteen. Build it with -Wl,-z,now, or what
- * binds functions at their first call is measured too: measure IMAGE SMALL [N [K]], image files for hardware 1 of at most 262,144
- * and 12,288 bytes. With N, campaign N alone is played, from 0, and with K the device hears K payloads of it; so two runs under
- * valgrind --tool=callgrind --toggle-collect=fuota_device_deliver, of K and of K - 1, tell the instructions of one. */
+/* What the calls take on the machine that this runs on: of the stack, at most, and the longest `deliver`, by its time.
+ * A server sends the longest image to a device in 4,096 pieces of 64 bytes; it hears 256 coded fragments first, or the
+ * pieces first but for 256, or loses one in twenty. A receiver hears 256 pieces of 48 bytes, and loses one in sixteen.
+ * Build it with -Wl,-z,now, or what binds functions at their first call is measured too: measure IMAGE SMALL [N [K]],
+ * image files for hardware 1 of at most 262,144 and 12,288 bytes. With N, campaign N alone is played, from 0, and with
+ * K the device hears K payloads of it; so two runs under valgrind --tool=callgrind
+ * --toggle-collect=fuota_device_deliver, of K and of K - 1, tell the instructions of one. */
 #define _XOPEN_SOURCE 700
 #include "fuota.h"
 #include <stdio.h>
@@ -22,7 +23,8 @@ static fuota_receiver receiver = FUOTA_RECEIVER_NONE;
 static fuota_device device = FUOTA_DEVICE_NONE;
 static fuota_server server = FUOTA_SERVER_NONE;
 static fuota_setup setup = {.frag_size = 48};
-static const fuota_config config = {.hw = 1, .area = 262144, .rows = 256, .formats = 2, .sessions = 4, .groups = 4, .is_class_c = true};
+static const fuota_config config = {.hw = 1, .area = 262144, .rows = 256, .formats = 2, .sessions = 4, .groups = 4,
+                                    .is_class_c = true};
 static const fuota_plan plan = {.frag_size = 64, .parity = 512}, small_plan = {.frag_size = 48, .parity = 64};
 static const uint8_t keys[16];
 static fuota_arrival arrival = {.t = 1000};
@@ -47,19 +49,27 @@ static void receiver_file(void) { fuota_receiver_file(&receiver, 0, file, sizeof
 static void receiver_status(void) { fuota_receiver_status(&receiver, true, text, sizeof text); }
 static void device_new(void) { answer = fuota_device_new(&device, &config); }
 static void device_free(void) { fuota_device_free(&device); }
-static void device_deliver(void) { answer = fuota_device_deliver(&device, down.port, down.payload, down.length, &arrival); }
+static void device_deliver(void) {
+    answer = fuota_device_deliver(&device, down.port, down.payload, down.length, &arrival);
+}
 static void device_wake(void) { answer = fuota_device_wake(&device, 1000); }
 static void device_take_uplink(void) { answer = fuota_device_take_uplink(&device, &up); }
 static void device_view(void) { answer = fuota_device_view(&device, 0, &view); }
 static void device_file(void) { fuota_device_file(&device, 0, 0, file, sizeof file); }
 static void device_running(void) { answer = fuota_device_running(&device, &version); }
-static void server_new(void) { answer = fuota_server_new(&server, &plan, keys, sizeof keys, image, image_length, &field); }
-static void small_server_new(void) { answer = fuota_server_new(&server, &small_plan, keys, sizeof keys, small, small_length, &field); }
+static void server_new(void) {
+    answer = fuota_server_new(&server, &plan, keys, sizeof keys, image, image_length, &field);
+}
+static void small_server_new(void) {
+    answer = fuota_server_new(&server, &small_plan, keys, sizeof keys, small, small_length, &field);
+}
 static void server_free(void) { fuota_server_free(&server); }
 static void server_next_fragment(void) { answer = fuota_server_next_fragment(&server, &down); }
 static void server_status_all(void) { answer = fuota_server_status_all(&server, &down); }
 static void server_ask(void) { answer = fuota_server_ask(&server, 1, &down); }
-static void server_uplink(void) { answer = fuota_server_uplink(&server, 1, up.port, up.payload, up.length, 1000, &down); }
+static void server_uplink(void) {
+    answer = fuota_server_uplink(&server, 1, up.port, up.payload, up.length, 1000, &down);
+}
 static void server_ledger(void) { answer = fuota_server_ledger(&server, 1, &stage); }
 static void decode(void) { answer = fuota_decode(up.port, true, up.payload, up.length, text, sizeof text, &decoded); }
 
@@ -74,7 +84,8 @@ static call calls[] = {
     {receiver_new, "receiver_new", 0}, {receiver_free, "receiver_free", 0}, {receiver_set_up, "receiver_set_up", 0},
     {receiver_hear, "receiver_hear", 0}, {receiver_view, "receiver_view", 0}, {receiver_file, "receiver_file", 0},
     {receiver_status, "receiver_status", 0}, {device_new, "device_new", 0}, {device_free, "device_free", 0},
-    {device_deliver, "device_deliver", 0}, {device_wake, "device_wake", 0}, {device_take_uplink, "device_take_uplink", 0},
+    {device_deliver, "device_deliver", 0}, {device_wake, "device_wake", 0},
+    {device_take_uplink, "device_take_uplink", 0},
     {device_view, "device_view", 0}, {device_file, "device_file", 0}, {device_running, "device_running", 0},
     {server_new, "server_new", 0}, {server_free, "server_free", 0}, {server_next_fragment, "server_next_fragment", 0},
     {server_status_all, "server_status_all", 0}, {server_ask, "server_ask", 0}, {server_uplink, "server_uplink", 0},
@@ -158,8 +169,8 @@ static void play(int campaign) {
     made(device_view);
     made(device_file);
     made(device_running);
-    printf("campaign %d: verdict %d, %d pieces missing, the longest deliver is number %d: %.3f ms\n", campaign, view.verdict,
-           view.missing, longest_at, longest / 1e6);
+    printf("campaign %d: verdict %d, %d pieces missing, the longest deliver is number %d: %.3f ms\n", campaign,
+           view.verdict, view.missing, longest_at, longest / 1e6);
     made(server_free);
     made(device_free);
     stage.request = 0;

@@ -1,4 +1,4 @@
-"""The receiver of fuota.h by ctypes: python3 receive.py libfuota.so
+"""The receiver of fuota.h by ctypes: python3 c/receive.py library/libfuota.so
 
 A file of 6 bytes in 3 pieces of 2, of which the second is lost and a coded fragment makes it good.
 """
@@ -20,7 +20,13 @@ class Setup(Structure):
 
 
 class View(Structure):
-    _fields_ = [("mark", c_uint64), ("file_length", c_size_t), ("received", c_uint16), ("missing", c_uint16), ("verdict", c_uint8)]
+    _fields_ = [
+        ("mark", c_uint64),
+        ("file_length", c_size_t),
+        ("received", c_uint16),
+        ("missing", c_uint16),
+        ("verdict", c_uint8),
+    ]
 
 
 class Receiver:

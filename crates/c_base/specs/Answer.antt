@@ -23,7 +23,7 @@ no_room = 4
 abbrev pub no_memory : ℕ
 no_memory = 5
 
--- a payload spells no commands
+-- a payload spells no commands, or an image is no image file
 abbrev pub refused : ℕ
 refused = 6
 
@@ -38,3 +38,7 @@ full = 8
 -- the frame counts of a group are spent
 abbrev pub spent : ℕ
 spent = 9
+
+-- where a call answers bits of a refusal, and there is no receiver
+abbrev pub no_receiver : ℕ
+no_receiver = 255

@@ -1,4 +1,4 @@
-//! What a call answers C, beside what it writes: `enum fuota_answer` of the header.
+//! What a call answers C, beside what it writes: `enum fuota_answer` of the header, and `FUOTA_NO_RECEIVER`.
 
 /// It was done.
 pub const DONE: u8 = 0;
@@ -12,7 +12,7 @@ pub const RANGE: u8 = 3;
 pub const NO_ROOM: u8 = 4;
 /// There was not enough memory.
 pub const NO_MEMORY: u8 = 5;
-/// The payload spells no commands; nothing acted.
+/// The payload spells no commands, or the image is no image file; nothing acted.
 pub const REFUSED: u8 = 6;
 /// The device did not hear the payload.
 pub const DEAF: u8 = 7;
@@ -20,3 +20,6 @@ pub const DEAF: u8 = 7;
 pub const FULL: u8 = 8;
 /// The frame counts of the group are spent; nothing changed.
 pub const SPENT: u8 = 9;
+
+/// Where a call answers bits of a refusal, and there is no receiver.
+pub const NO_RECEIVER: u8 = 255;

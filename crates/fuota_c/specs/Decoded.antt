@@ -2,6 +2,7 @@
 use Rattle.std.specs.Prelude.{◌≡◌, ◌⊎◌, ◌<◌, ℕ, Bool, true, false, List, length, Ok, Err}
 use Rattle.wire_base.specs.declared.refusal.Direction.{Direction}
 use Rattle.wire_base.specs.declared.refusal.Direction.TheVariants.{Up, Down}
+use Rattle.wire_base.specs.declared.refusal.Refusal.{Refusal}
 use Rattle.wire_base.specs.declared.refusal.Why.{Why}
 use Rattle.wire_base.specs.declared.refusal.Why.TheVariants as why
 use Rattle.package_grammar.specs.Reading.{Reading}
@@ -21,30 +22,44 @@ why_number why.UnknownCommand = 1
 why_number why.Short = 2
 why_number why.TooLong = 3
 
+-- the length of a text is told, and nothing else
+pub record IsLength (text : List ℕ) (before out : DecodedFields) : Type 0 where
+  pub count : out.length ≡ length text
+  pub at : out.at ≡ before.at
+  pub why : out.why ≡ before.why
+
 -- the text stands at the front, and its length is told
-pub record IsTold (text old new : List ℕ) (out : DecodedFields) (answer : ℕ) : Type 0 where
+pub record IsTold (text old new : List ℕ) (before out : DecodedFields) (answer : ℕ) : Type 0 where
   pub answered : answer ≡ done
   pub put : IsPut text old new
-  pub told : out.length ≡ length text
+  pub told : IsLength text before out
 
 -- it has no room, and its length is told
-pub record HasNoRoom (text old new : List ℕ) (out : DecodedFields) (answer : ℕ) : Type 0 where
+pub record HasNoRoom (text old new : List ℕ) (before out : DecodedFields) (answer : ℕ) : Type 0 where
   pub answered : answer ≡ no_room
   pub over : length old < length text
   pub stays : new ≡ old
-  pub told : out.length ≡ length text
+  pub told : IsLength text before out
 
--- memory was wanting
-pub record HasNoMemory (old new : List ℕ) (answer : ℕ) : Type 0 where
+-- memory was wanting, and nothing is written
+pub record HasNoMemory (old new : List ℕ) (before out : DecodedFields) (answer : ℕ) : Type 0 where
   pub answered : answer ≡ no_memory
   pub stays : new ≡ old
+  pub untold : out ≡ before
 
-abbrev pub IsTextOut : (text old new : List ℕ) → (out : DecodedFields) → (answer : ℕ) → Type 0
-IsTextOut text old new out answer =
-    IsTold text old new out answer ⊎ (HasNoRoom text old new out answer ⊎ HasNoMemory old new answer)
+-- a refusal is told by its place and why, and nothing else
+pub record IsRefusal (refusal : Refusal) (old new : List ℕ) (before out : DecodedFields) (answer : ℕ) : Type 0 where
+  pub answered : answer ≡ refused
+  pub stays : new ≡ old
+  pub at : out.at ≡ refusal.at
+  pub why : out.why ≡ why_number refusal.why
+  pub count : out.length ≡ before.length
+
+abbrev pub IsTextOut : (text old new : List ℕ) → (before out : DecodedFields) → (answer : ℕ) → Type 0
+IsTextOut text old new before out answer = IsTold text old new before out answer
+    ⊎ (HasNoRoom text old new before out answer ⊎ HasNoMemory old new before out answer)
 
 -- commands are told as text, and a refusal by its place and why
-abbrev pub IsDecoded : Reading → (old new : List ℕ) → (out : DecodedFields) → (answer : ℕ) → Type 0
-IsDecoded (Ok commands) old new out answer = IsTextOut (lines_of commands) old new out answer
-IsDecoded (Err refusal) old new out answer =
-    (answer ≡ refused) × (new ≡ old) × (out.at ≡ refusal.at) × (out.why ≡ why_number refusal.why)
+abbrev pub IsDecoded : Reading → (old new : List ℕ) → (before out : DecodedFields) → (answer : ℕ) → Type 0
+IsDecoded (Ok commands) old new before out answer = IsTextOut (lines_of commands) old new before out answer
+IsDecoded (Err refusal) old new before out answer = IsRefusal refusal old new before out answer

@@ -14,7 +14,7 @@ use Rattle.device_core.specs.declared.delivered.Delivered.TheVariants as deliver
 use Rattle.device_core.specs.declared.delivered.OutboxFull.{OutboxFull}
 use Rattle.device_core.specs.declared.uplink.Uplink.{Uplink}
 use Rattle.device_core.specs.SessionTable.{session_at}
-use Rattle.device_core.specs.Device.{DeviceState, max_moment}
+use Rattle.device_core.specs.Device.{DeviceState, max_moment, max_sessions}
 use Rattle.device_core.specs.Deliver.{Outcome, delivery, waking, taking}
 use Rattle.device_core.specs.HeldDevice.{HeldDevice, DeviceStands, Becomes, Makes, IsReserved}
 use Rattle.c_base.specs.Answer.{done, nothing, range, no_memory, refused, deaf, full}
@@ -116,12 +116,12 @@ pub record TakesUplink (x y : HeldDevice) (old new : UplinkFields) (answer : ℕ
 -- ---- what is shown
 
 pub record IsSessionShown (x : HeldDevice) (index : ℕ) (old new : ViewFields) (answer : ℕ) : Type 0 where
-  pub shown : index < 4 → (device : DeviceState) → DeviceStands x device
+  pub shown : index < max_sessions → (device : DeviceState) → DeviceStands x device
       → IsShown (view_of (session_at device.sessions index)) old new answer
-  pub beyond : 4 ≤ index → (answer ≡ range) × (new ≡ old)
+  pub beyond : max_sessions ≤ index → (answer ≡ range) × (new ≡ old)
 
 -- a window of the whole file of a session
 pub record IsSessionFile (x : HeldDevice) (index offset : ℕ) (old new : List ℕ) (n : ℕ) : Type 0 where
-  pub file : index < 4 → (device : DeviceState) → DeviceStands x device
+  pub file : index < max_sessions → (device : DeviceState) → DeviceStands x device
       → Copied (file_or_none (view_of (session_at device.sessions index))) offset old new n
-  pub beyond : 4 ≤ index → (n ≡ 0) × (new ≡ old)
+  pub beyond : max_sessions ≤ index → (n ≡ 0) × (new ≡ old)

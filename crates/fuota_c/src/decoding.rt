@@ -31,7 +31,8 @@ pub extern "C" fn fuota_decode(
     text: &mut [u8],
     out: &mut DecodedFields,
 ) -> u8
-    ensures { IsDecoded (reading_of port (direction_of up) payload.now) text.old text.new out.new result }
+    ensures { IsDecoded (reading_of port (direction_of up) payload.now)
+        text.old text.new out.old out.new result }
 {
     decode_into(alloc, port, direction_of(up), payload, text, out)
 }
@@ -44,7 +45,7 @@ fn decode_into(
     text: &mut [u8],
     out: &mut DecodedFields,
 ) -> u8
-    ensures { IsDecoded (reading_of port direction payload.now) text.old text.new out.new result }
+    ensures { IsDecoded (reading_of port direction payload.now) text.old text.new out.old out.new result }
 {
     match decode(alloc, port, direction, payload) {
         Ok(lines) => {

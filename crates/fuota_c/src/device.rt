@@ -17,6 +17,9 @@ use package_grammar::{Downlink, To};
 use std::alloc::Global;
 use wire_base::{MAX_PAYLOAD, Payload};
 
+/// Session indices, 0 to 3.
+const SESSIONS: u8 = 4;
+
 /// The last ms of true time at which a device is called.
 const MAX_MOMENT: u64 = 4_294_967_295_999;
 
@@ -63,7 +66,7 @@ pub struct UplinkFields {
     pub payload: [u8; 242],
 }
 
-/// Puts a new device into the handle, with all memory that it will ever need, and frees what was there: done; out of
+/// Frees what was there, and puts a new device into the handle, with all memory that it will ever need: done; out of
 /// range where a number of the configuration is, or no memory, and then there is no device.
 #[unsafe(no_mangle)]
 pub extern "C" fn fuota_device_new(
@@ -73,19 +76,14 @@ pub extern "C" fn fuota_device_new(
 ) -> u8
     ensures { IsNewDevice (config_of config.now) handle.new.held result }
 {
+    fuota_device_free(handle, alloc);
     match boxed(alloc, config_of(config)) {
         Ok(device) => {
             *handle = DeviceHandle::of(device);
             DONE
         }
-        Err(ReserveError::BadConfig) => {
-            *handle = DeviceHandle::none(alloc);
-            RANGE
-        }
-        Err(ReserveError::Memory) => {
-            *handle = DeviceHandle::none(alloc);
-            NO_MEMORY
-        }
+        Err(ReserveError::BadConfig) => RANGE,
+        Err(ReserveError::Memory) => NO_MEMORY,
     }
 }
 
@@ -293,7 +291,7 @@ pub extern "C" fn fuota_device_view(
 fn show_session(device: &Device, index: u8, out: &mut ViewFields) -> u8
     ensures { IsSessionShown device.now index out.old out.new result }
 {
-    if index > 3 {
+    if index >= SESSIONS {
         return RANGE;
     }
     show(device.session(index), out)
@@ -326,7 +324,7 @@ pub extern "C" fn fuota_device_file(
 fn copy_session(device: &Device, index: u8, offset: usize, into: &mut [u8]) -> usize
     ensures { IsSessionFile device.now index offset into.old into.new result }
 {
-    if index > 3 {
+    if index >= SESSIONS {
         return 0;
     }
     copy_part(file_in(device.session(index)), offset, into)

@@ -5,14 +5,14 @@ ghost use Rattle.frag_session.specs.Session.{Session, view_of, status_of};
 ghost use Rattle.frag_session.specs.Shows.{seen};
 ghost use Rattle.frag_session.specs.declared.answers.Via.TheVariants.{Unicast};
 ghost use Rattle.sample_receiver.specs.HeldReceiver.{SetsUp, ReceiverStands};
-ghost use Rattle.c_base.specs.Answer.{no_object};
+ghost use Rattle.c_base.specs.Answer.{no_object, no_receiver};
 ghost use Rattle.c_base.specs.Calls.{Does, Tells};
 ghost use Rattle.fuota_c.specs.Shown.{IsShown};
 ghost use Rattle.fuota_c.specs.Receiver.{IsNewReceiver, HearsOrNot, IsFileCopy, IsStatus, answer_bytes, setup_of};
 
 use crate::receiver_handle::ReceiverHandle;
 use crate::shown::{ViewFields, file_in, show};
-use c_base::answer::{DONE, NO_MEMORY, NO_OBJECT, RANGE};
+use c_base::answer::{DONE, NO_MEMORY, NO_OBJECT, NO_RECEIVER, RANGE};
 use c_base::{copy_part, put_whole};
 use cast_wire::{Cmd, FRAGMENT_PORT};
 use frag_session::{SetupReq, Via};
@@ -35,17 +35,15 @@ pub struct SetupFields {
     pub padding: u8,
 }
 
-/// Puts a new receiver, with no session, into the handle, and frees what was there: done, or no memory and no
+/// Frees what was there, and puts a new receiver, with no session, into the handle: done, or no memory and no
 /// receiver.
 #[unsafe(no_mangle)]
 pub extern "C" fn fuota_receiver_new(handle: &mut ReceiverHandle, alloc: Global) -> u8
     ensures { IsNewReceiver handle.new.held result }
 {
+    fuota_receiver_free(handle, alloc);
     match made(alloc) {
-        None => {
-            *handle = ReceiverHandle::none(alloc);
-            NO_MEMORY
-        }
+        None => NO_MEMORY,
         Some(receiver) => {
             *handle = ReceiverHandle::of(receiver);
             DONE
@@ -81,10 +79,10 @@ pub extern "C" fn fuota_receiver_set_up(
     setup: &SetupFields,
 ) -> u8
     ensures { Does handle.old.held handle.new.held
-        (λ x y. SetsUp x y (setup_of setup.now) result) (result ≡ 255) }
+        (λ x y. SetsUp x y (setup_of setup.now) result) (result ≡ no_receiver) }
 {
     match handle.take(alloc) {
-        None => 255,
+        None => NO_RECEIVER,
         Some(mut receiver) => {
             let bits = set_up(&mut receiver, request_of(setup));
             *handle = ReceiverHandle::of(receiver);

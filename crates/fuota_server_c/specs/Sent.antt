@@ -29,9 +29,15 @@ to_of fields = by fields.is_group
     by true = Group fields.addr fields.count
     by false = Unicast
 
+-- by unicast, address and count of a group are as they were
+abbrev pub StaysByUnicast : To → (old new : DownFields) → Type 0
+StaysByUnicast Unicast old new = (new.addr ≡ old.addr) × (new.count ≡ old.count)
+StaysByUnicast (Group addr count) old new = Unit {0}
+
 -- it is written with whom it is for, its bytes at the front
 pub record IsDownOut (down : Downlink) (old new : DownFields) : Type 0 where
   pub to : to_of new ≡ down.to
+  pub unicast : StaysByUnicast down.to old new
   pub port : new.port ≡ down.port
   pub count : new.length ≡ length down.payload
   pub payload : IsPut down.payload old.payload new.payload

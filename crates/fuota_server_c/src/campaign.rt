@@ -24,9 +24,6 @@ impl Model for Campaign {
     ghost invariant = { λ c. c.devices ≡ length c.server.plan.devices };
 }
 
-/// The plan has no device of this number.
-pub struct NoDevice;
-
 impl Campaign {
     ghost use Rattle.std.specs.Prelude.{◌≡◌, Some, true};
     ghost use Rattle.image_slots.specs.Image.{is_image};

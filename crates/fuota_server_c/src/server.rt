@@ -30,7 +30,7 @@ pub struct StageFields {
     pub bits: u8,
 }
 
-/// Puts a server at the start of a campaign into the handle, and frees what was there: done; refused where the image
+/// Frees what was there, and puts a server at the start of a campaign into the handle: done; refused where the image
 /// is no image file; out of range where a field of the plan is wrong, with the number of the first in `field`; no
 /// memory. `keys` has the GenAppKey of each device in turn, 16 bytes each; a rest that is shorter is left out.
 #[unsafe(no_mangle)]
@@ -44,8 +44,8 @@ pub extern "C" fn fuota_server_new(
 ) -> u8
     ensures { IsNewServer image.now (plan_of plan.now keys.now) handle.new.held field.old field.new result }
 {
+    fuota_server_free(handle, alloc);
     if !is_image(image) {
-        *handle = ServerHandle::none(alloc);
         return REFUSED;
     }
     match boxed(alloc, plan, keys, image) {
@@ -54,14 +54,10 @@ pub extern "C" fn fuota_server_new(
             DONE
         }
         Err(ServerError::BadPlan(wrong)) => {
-            *handle = ServerHandle::none(alloc);
             *field = field_number(wrong);
             RANGE
         }
-        Err(ServerError::Memory) => {
-            *handle = ServerHandle::none(alloc);
-            NO_MEMORY
-        }
+        Err(ServerError::Memory) => NO_MEMORY,
     }
 }
 

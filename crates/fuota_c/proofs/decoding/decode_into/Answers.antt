@@ -3,20 +3,29 @@ use Rattle.fuota_c.proofs.Decodings.{out_of, wanting, refused_at, ok_or_err, mem
 use Rattle.fuota_c.proofs.decoding.decode_into.Goals as goal
 
 pub returns-then-len-text : goal.returns-then-len-text
-returns-then-len-text c = out_of _ c.in-Ok.lines.items _ _ _ _ c.in-Ok.ensures.text
+returns-then-len-text c = out_of _ c.in-Ok.lines.items _ _ _ _ _ c.in-Ok.ensures.text
     (λ r is. ok_or_err _ _ ((c.in-Ok.ensures.refused r).1 is))
-    (inr (inl (record { answered = refl; over = search rules; stays = refl; told = search rules })))
+    (inr (inl (record {
+      answered = refl;
+      over = search rules;
+      stays = refl;
+      told = record { count = search rules; at = refl; why = refl };
+    })))
 
 pub returns-else-len-text : goal.returns-else-len-text
-returns-else-len-text c = out_of _ c.in-Ok.lines.items _ _ _ _ c.in-Ok.ensures.text
+returns-else-len-text c = out_of _ c.in-Ok.lines.items _ _ _ _ _ c.in-Ok.ensures.text
     (λ r is. ok_or_err _ _ ((c.in-Ok.ensures.refused r).1 is))
-    (inl (record { answered = refl; put = search rules; told = search rules }))
+    (inl (record {
+      answered = refl;
+      put = search rules;
+      told = record { count = search rules; at = refl; why = refl };
+    }))
 
 pub returns-in-Err-Memory : goal.returns-in-Err-Memory
 returns-in-Err-Memory c = wanting _ _ _
     (λ r is. memory_or_refused _ _ r c.in-Err-Memory.field-0-is ((c.in-Err-Memory.ensures.refused r).1 is))
 
 pub returns-in-Err-Refused : goal.returns-in-Err-Refused
-returns-in-Err-Refused c = refused_at _ _ _ c.in-Err-Refused.refusal
+returns-in-Err-Refused c = refused_at _ _ _ _ c.in-Err-Refused.refusal
     ((c.in-Err-Refused.ensures.refused c.in-Err-Refused.refusal).0 (ap Err c.in-Err-Refused.field-0-is))
-    refl c.why_number-out.ensures
+    refl c.why_number-out.ensures refl
