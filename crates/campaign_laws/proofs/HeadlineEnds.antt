@@ -6,7 +6,7 @@ use Rattle.frag_session.specs.declared.setups.Limits.{Limits}
 use Rattle.frag_session.specs.declared.answers.Via.{Via}
 use Rattle.frag_session.specs.Setup.{Room, rows_of}
 use Rattle.frag_session.specs.Session.{Session, new_session, after_setup, followed, after_fragment}
-use Rattle.frag_session.specs.Stands.{IsSetUp}
+use Rattle.frag_session.specs.HeldHistory.{IsSetUp}
 use Rattle.frag_encoder.specs.Encoding.{nb_frag_of, data_of}
 use Rattle.cast_wire.specs.declared.cmd.Cmd.TheVariants.{DataFragment}
 use Rattle.sync_wire.specs.declared.cmd.Cmd.TheVariants.{AppTimeReq, AppTimeAns, DevVersionReq}

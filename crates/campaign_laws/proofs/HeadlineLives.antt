@@ -13,7 +13,7 @@ use Rattle.package_grammar.specs.declared.command.Command.{Command}
 use Rattle.device_core.specs.declared.config.DeviceConfig.{DeviceConfig}
 use Rattle.device_core.specs.Device.{limits_of, room_of, max_area, max_rows, row_words, row_bytes}
 use Rattle.frag_model.specs.Limits.{max_frag_size, max_pieces}
-use Rattle.row_elimination.specs.Grid.{max_line_words}
+use Rattle.row_elimination.specs.HeldTable.{max_line_words}
 use Rattle.script_lines.specs.Lines.{lines_of}
 use Rattle.campaign_world.specs.declared.section.Section.{Section}
 use Rattle.campaign_world.specs.declared.section.Section.TheVariants as section

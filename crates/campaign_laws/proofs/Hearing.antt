@@ -9,7 +9,7 @@ use Rattle.frag_session.specs.declared.answers.Verdict.{Verdict as Shown}
 use Rattle.frag_session.specs.declared.answers.Verdict.TheVariants as shown
 use Rattle.frag_session.specs.Setup.{setup_bits, wrong_coding, too_large, other_descriptor}
 use Rattle.frag_session.specs.Session.{Session, new_session, followed, after_fragment, excludes, cause_of, drop_cause, seen_of, view_of, shown_verdict}
-use Rattle.frag_session.specs.Stands.{IsSetUp}
+use Rattle.frag_session.specs.HeldHistory.{IsSetUp}
 use Rattle.frag_model.specs.Verdict.{verdict}
 use Rattle.image_slots.specs.declared.view.ImageState.TheVariants as state
 use Rattle.image_slots.specs.Image.{is_image, format_of, lowest_of, highest_of, is_for, is_unknown, firmware_of, image_state}

@@ -10,7 +10,7 @@ use Rattle.frag_encoder.specs.Encoding.{data_of}
 use Rattle.frag_session.specs.declared.answers.StatusAns.{StatusAns}
 use Rattle.frag_session.specs.declared.setups.Limits.{Limits}
 use Rattle.frag_session.specs.Session.{Session, new_session, followed, after_fragment}
-use Rattle.frag_session.specs.Stands.{IsSetUp}
+use Rattle.frag_session.specs.HeldHistory.{IsSetUp}
 use Rattle.image_slots.specs.declared.view.ImageState.{ImageState}
 use Rattle.image_slots.specs.declared.view.ImageState.TheVariants as state
 use Rattle.image_slots.specs.Image.{further, is_image, firmware_of}

@@ -6,7 +6,7 @@ use Rattle.frag_model.specs.Fragments.{Fragment}
 use Rattle.frag_session.specs.declared.answers.Verdict.{Verdict}
 use Rattle.frag_session.specs.declared.answers.Verdict.TheVariants as verdict
 use Rattle.frag_session.specs.Session.{Session, Seen, shape_of, seen_of, view_of}
-use Rattle.frag_session.specs.Stands.{IsSetUp}
+use Rattle.frag_session.specs.HeldHistory.{IsSetUp}
 use Rattle.frag_session.specs.FirstMoment.{MakesFile, IsWhole, FirstAt, IsDecidedAtFirst}
 use Rattle.frag_session.proofs.FirstMoments.{decided_at_first}
 use Rattle.package_grammar.specs.declared.command.Command.{Command}

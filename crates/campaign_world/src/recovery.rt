@@ -1,7 +1,7 @@
 //! The file that a device recovered, or where its session stands instead.
 
 ghost use Rattle.std.specs.Prelude.{◌≡◌, Some, Ok, Err, IfOk, IfErr};
-ghost use Rattle.frag_session.specs.Shows.{seen};
+ghost use Rattle.frag_session.specs.HeldView.{seen};
 ghost use Rattle.device_core.specs.Device.{DeviceState};
 ghost use Rattle.device_core.specs.HeldDevice.{DeviceStands};
 ghost use Rattle.campaign_world.specs.HeldLate.{DeviceRests};
@@ -48,7 +48,7 @@ fn first_file(device: &Device) -> Result<&[u8], NoFile>
 }
 
 /// The file of what a session shows.
-#[tactic(auto, unfolding(frag_session::specs::Shows::seen))]
+#[tactic(auto, unfolding(frag_session::specs::HeldView::seen))]
 fn file_of(view: View<'_>) -> Result<&[u8], NoFile>
     ensures file { IfOk result (λ file. file_of (Some (seen view.entry)) ≡ Ok file.now) }
     ensures why { IfErr result (λ why. file_of (Some (seen view.entry)) ≡ Err why) }

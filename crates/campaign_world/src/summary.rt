@@ -2,7 +2,7 @@
 
 ghost use Rattle.std.specs.Prelude.{◌≡◌, ◌≤◌, ◌<◌, ◌+◌, ◌^◌, ◌++◌, List, Some, IfOk, codes, length, string_bytes};
 ghost use Rattle.frag_session.specs.Session.{view_of};
-ghost use Rattle.frag_session.specs.Shows.{seen};
+ghost use Rattle.frag_session.specs.HeldView.{seen};
 ghost use Rattle.device_core.specs.Device.{DeviceState};
 ghost use Rattle.device_core.specs.HeldDevice.{DeviceStands};
 ghost use Rattle.campaign_world.specs.HeldWorld.{DevicesRest};
@@ -132,7 +132,7 @@ fn first_of(device: &Device) -> (u16, bool)
     }
 }
 
-#[tactic(auto, unfolding(frag_session::specs::Shows::seen))]
+#[tactic(auto, unfolding(frag_session::specs::HeldView::seen))]
 fn seen_in(view: View<'_>) -> (u16, bool)
     ensures heard { result.0 ≡ heard_by (Some (seen view.entry)) }
     ensures file { result.1 ≡ has_file (Some (seen view.entry)) }

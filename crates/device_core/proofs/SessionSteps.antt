@@ -5,7 +5,7 @@ use Rattle.frag_session.specs.declared.setups.Limits.{Limits}
 use Rattle.frag_session.specs.declared.answers.Via.{Via}
 use Rattle.frag_session.specs.Setup.{Room, setup_bits, same_setup}
 use Rattle.frag_session.specs.Session.{Session, new_session, renewed, after_setup, followed, after_fragment, drop_cause}
-use Rattle.frag_session.specs.Stands.{IsSetUp}
+use Rattle.frag_session.specs.HeldHistory.{IsSetUp}
 use Rattle.frag_session.proofs.Calls.{accepted, set_up_fine}
 
 renewed_by : (P : Session → Type 0) (limits : Limits) (s : Session) (req : SetupReq) (b : Bool)

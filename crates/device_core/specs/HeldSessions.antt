@@ -1,10 +1,10 @@
 -- What the four slots of sessions hold, and when they stand for sessions.
 use Rattle.std.specs.Prelude.{◌≡◌, ℕ}
 use Rattle.frag_session.specs.Held.{HeldSlot}
-use Rattle.frag_session.specs.Stands.{Stands}
+use Rattle.frag_session.specs.HeldHistory.{Stands}
 use Rattle.frag_session.specs.Setup.{Room, memory_room}
 use Rattle.row_elimination.specs.Room.{extent_for}
-use Rattle.frag_session.specs.Steps.{extent_of}
+use Rattle.frag_session.specs.HeldSteps.{extent_of}
 use Rattle.device_core.specs.Device.{row_words, row_bytes}
 use Rattle.device_core.specs.SessionTable.{SessionTable}
 

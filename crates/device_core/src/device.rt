@@ -5,7 +5,7 @@ ghost use Rattle.wire_base.specs.declared.refusal.Direction.{Direction};
 ghost use Rattle.cast_wire.specs.declared.cmd.Cmd.TheVariants.{DataFragment};
 ghost use Rattle.package_grammar.specs.declared.command.Command.TheVariants.{Cast};
 ghost use Rattle.frag_session.specs.Session.{view_of};
-ghost use Rattle.frag_session.specs.Shows.{seen};
+ghost use Rattle.frag_session.specs.HeldView.{seen};
 ghost use Rattle.device_core.specs.SessionTable.{session_at};
 ghost use Rattle.device_core.specs.Device.{DeviceState, max_moment, after_deaf, after_refused, after_full, after_dropped};
 ghost use Rattle.device_core.specs.Step.{weights, after_commands};

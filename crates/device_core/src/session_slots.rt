@@ -3,9 +3,9 @@
 ghost use Rattle.std.specs.Prelude.{◌≡◌, ◌≢◌, ◌<◌, ◌≤◌, Option, None, IfOk, IfSome, is_some, option_map, length};
 ghost use Rattle.frag_session.specs.Setup.{setup_bits};
 ghost use Rattle.frag_session.specs.Session.{answer_of, drop_cause, news_in, status_of, view_of};
-ghost use Rattle.frag_session.specs.Shows.{seen};
-ghost use Rattle.frag_session.specs.Stands.{Stands};
-ghost use Rattle.frag_session.specs.Steps.{extent_of};
+ghost use Rattle.frag_session.specs.HeldView.{seen};
+ghost use Rattle.frag_session.specs.HeldHistory.{Stands};
+ghost use Rattle.frag_session.specs.HeldSteps.{extent_of};
 ghost use Rattle.row_elimination.specs.Room.{extent_for};
 ghost use Rattle.device_core.specs.SessionTable.{SessionTable, no_sessions, session_at, with_session, table_after_setup, table_after_fragment};
 ghost use Rattle.device_core.specs.HeldSessions.{SessionsStand, TableBecomes, room_in};
@@ -31,7 +31,7 @@ pub struct SessionSlots {
 }
 
 impl Model for SessionSlots {
-    ghost use Rattle.frag_session.specs.Steps.{extent_of};
+    ghost use Rattle.frag_session.specs.HeldSteps.{extent_of};
     ghost use Rattle.device_core.specs.HeldSessions.{HeldSessions, HaveArea};
 
     ghost Value = { HeldSessions };

@@ -12,7 +12,7 @@ use Rattle.frag_session.specs.declared.answers.Heard.TheVariants as answer
 use Rattle.frag_session.specs.declared.answers.News.TheVariants as told
 use Rattle.frag_session.specs.Session.{Session, shape_of, fragment, followed, drop_cause, news_in, answer_of, after_fragment}
 use Rattle.frag_session.specs.Held.{HeldSlot}
-use Rattle.frag_session.specs.Stands.{Stands}
+use Rattle.frag_session.specs.HeldHistory.{Stands}
 use Rattle.flash_session.specs.Sessions.{hearing}
 use Rattle.flash_session.specs.Replayed.{Replayed, StopsAt}
 use Rattle.flash_session.proofs.Hearing.{Hears, hears, after_heard, Answers}

@@ -18,8 +18,8 @@ use Rattle.frag_session.specs.declared.answers.News.{News}
 use Rattle.frag_session.specs.declared.answers.News.TheVariants as told
 use Rattle.frag_session.specs.Session.{Session, shape_of, fragment, followed, cause_of, drop_cause, news_in, answer_of, after_fragment}
 use Rattle.frag_session.specs.Held.{HeldSlot}
-use Rattle.frag_session.specs.Stands.{Stands}
-use Rattle.frag_session.specs.Steps.{extent_of}
+use Rattle.frag_session.specs.HeldHistory.{Stands}
+use Rattle.frag_session.specs.HeldSteps.{extent_of}
 use Rattle.frag_session.proofs.Calls.{can_hear}
 use Rattle.flash_session.specs.Body.{IsBody}
 use Rattle.flash_session.specs.HeldSession.{HeldSession}

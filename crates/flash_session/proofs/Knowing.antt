@@ -6,9 +6,9 @@ use Rattle.frag_model.specs.News.{lines_heard, KnowTheSame, MeanTheSame}
 use Rattle.frag_model.specs.Verdict.{receiving, verdict, FittingBlock}
 use Rattle.frag_session.specs.Held.{HeldSlot}
 use Rattle.frag_session.specs.Session.{shape_of}
-use Rattle.frag_session.specs.Stands.{Stands, Holds}
-use Rattle.row_elimination.specs.Held.{Held as Solved}
-use Rattle.row_elimination.specs.Stands.{StandsFor}
+use Rattle.frag_session.specs.HeldHistory.{Stands, Holds}
+use Rattle.row_elimination.specs.HeldSolver.{Held as Solved}
+use Rattle.row_elimination.specs.HeldHistory.{StandsFor}
 use Rattle.flash_session.specs.FixedMemory.{FixedMemory}
 use Rattle.flash_session.specs.Sessions.{hearing}
 

@@ -14,7 +14,7 @@ use Rattle.frag_session.specs.declared.answers.Cause.{Cause}
 use Rattle.frag_session.specs.declared.answers.Cause.TheVariants as cause
 use Rattle.frag_session.specs.Session.{Session, cause_of, excludes}
 use Rattle.frag_session.specs.Setup.{Room, setup_bits}
-use Rattle.frag_session.specs.Steps.{extent_of}
+use Rattle.frag_session.specs.HeldSteps.{extent_of}
 use Rattle.frag_session.proofs.Calls.{accepted, room_for, can_hear}
 use Rattle.flash_session.specs.HeldSession.{HeldSession, room_in}
 use Rattle.flash_session.specs.Lies.{Fits}

@@ -14,7 +14,7 @@ use Rattle.frag_session.specs.declared.setups.SetupReq.{SetupReq}
 use Rattle.frag_session.specs.Held.{HeldSlot}
 use Rattle.frag_session.specs.Session.{Session, shape_of, new_session, cause_of, drop_cause, news_in, answer_of}
 use Rattle.frag_session.specs.Setup.{setup_bits}
-use Rattle.frag_session.specs.Steps.{extent_of}
+use Rattle.frag_session.specs.HeldSteps.{extent_of}
 use Rattle.flash_session.specs.Body.{IsBody}
 use Rattle.flash_session.specs.Contents.{Same, IsKept}
 use Rattle.flash_session.specs.declared.fault.OpenFault.{OpenFault}

@@ -15,8 +15,8 @@ use Rattle.frag_session.specs.declared.setups.SetupReq.{SetupReq}
 use Rattle.frag_session.specs.Held.{HeldSlot}
 use Rattle.frag_session.specs.Session.{Session, Seen, shape_of, received_count, new_session, renewed, after_setup, seen_of, view_of, shown_verdict, shown_file, answers, status_by, status_in, status_of}
 use Rattle.frag_session.specs.Setup.{Room, memory_room, rows_of, too_long, bit_where, wrong_coding, too_large, other_descriptor, setup_bits, lives}
-use Rattle.frag_session.specs.Stands.{Stands}
-use Rattle.frag_session.specs.Steps.{extent_of}
+use Rattle.frag_session.specs.HeldHistory.{Stands}
+use Rattle.frag_session.specs.HeldSteps.{extent_of}
 use Rattle.frag_session.proofs.Calls.{accepted}
 use Rattle.flash_session.specs.Body.{setup_bytes, setup_from, IsBody, FieldsFit}
 use Rattle.flash_session.specs.HeldSession.{HeldSession, room_in}

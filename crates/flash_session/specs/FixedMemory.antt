@@ -7,8 +7,8 @@ use Rattle.frag_model.specs.Verdict.{receiving, verdict, FittingBlock}
 use Rattle.frag_session.specs.Held as kept
 use Rattle.frag_session.specs.Held.{Held}
 use Rattle.frag_session.specs.Session.{Session, shape_of}
-use Rattle.row_elimination.specs.Held.{IsMarked}
-use Rattle.row_elimination.specs.Places.{rows_held, pieces_held, gained_held, lines_held, FitsHeld}
+use Rattle.row_elimination.specs.HeldSolver.{IsMarked}
+use Rattle.row_elimination.specs.HeldPlaces.{rows_held, pieces_held, gained_held, lines_held, FitsHeld}
 use Rattle.flash_session.specs.HeldSession.{HeldSession}
 use Rattle.flash_session.specs.Sessions.{HeldStands}
 

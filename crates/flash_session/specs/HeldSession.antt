@@ -3,7 +3,7 @@ use Rattle.std.specs.Prelude.{ℕ, Some}
 use Rattle.frag_session.specs.declared.setups.Limits.{Limits}
 use Rattle.frag_session.specs.Held.{HeldSlot}
 use Rattle.frag_session.specs.Setup.{Room}
-use Rattle.frag_session.specs.Steps.{extent_of}
+use Rattle.frag_session.specs.HeldSteps.{extent_of}
 
 -- what its slot keeps, the limits, its range, how many records and tallies lie there, and what there is for rows
 pub record HeldSession : Type 0 where

@@ -6,9 +6,9 @@ use Rattle.frag_session.specs.declared.setups.SetupReq.{SetupReq}
 use Rattle.frag_session.specs.Held.{HeldSlot, idle}
 use Rattle.frag_session.specs.Session.{Session, new_session}
 use Rattle.frag_session.specs.Setup.{setup_bits}
-use Rattle.frag_session.specs.Stands.{Stands}
+use Rattle.frag_session.specs.HeldHistory.{Stands}
 use Rattle.row_elimination.specs.Room.{Extent}
-use Rattle.frag_session.specs.Steps.{extent_of}
+use Rattle.frag_session.specs.HeldSteps.{extent_of}
 use Rattle.flash_session.specs.Body.{IsBody}
 use Rattle.flash_session.specs.Contents.{byte_at}
 use Rattle.flash_session.specs.declared.finding.Counts.{Counts}

@@ -8,7 +8,7 @@ use Rattle.frag_session.specs.Session.{Session, shape_of, cause_of, received_cou
 use Rattle.frag_session.specs.declared.setups.SetupReq.{SetupReq}
 use Rattle.frag_session.specs.declared.answers.Via.TheVariants as via
 use Rattle.frag_session.specs.Held.{HeldSlot}
-use Rattle.frag_session.specs.Stands.{Stands}
+use Rattle.frag_session.specs.HeldHistory.{Stands}
 use Rattle.flash_session.specs.Body.{IsBody}
 use Rattle.flash_session.specs.HeldSession.{HeldSession, room_in}
 use Rattle.flash_session.specs.InRange.{AllInRange}

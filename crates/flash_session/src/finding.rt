@@ -10,8 +10,8 @@ ghost use Rattle.flash_session.specs.Opening.{IsFirstForeign};
 ghost use Rattle.flash_session.specs.Replayed.{Replayed, HasHeader, IsFound, IsOpened, IsEmpty, place_in};
 ghost use Rattle.frag_session.specs.Session.{new_session};
 ghost use Rattle.frag_session.specs.Setup.{setup_bits, memory_room};
-ghost use Rattle.frag_session.specs.Stands.{Stands};
-ghost use Rattle.frag_session.specs.Steps.{extent_of};
+ghost use Rattle.frag_session.specs.HeldHistory.{Stands};
+ghost use Rattle.frag_session.specs.HeldSteps.{extent_of};
 
 use crate::fault::OpenFault;
 use crate::flash::Flash;

@@ -3,8 +3,8 @@
 ghost use Rattle.std.specs.Prelude.{◌≡◌, ◌+◌, ◌≤◌, Option, IfSome, length, min, option_map};
 ghost use Rattle.frag_session.specs.Limits.{max_received};
 ghost use Rattle.frag_session.specs.Session.{Session, status_of, view_of};
-ghost use Rattle.frag_session.specs.Shows.{seen};
-ghost use Rattle.frag_session.specs.Steps.{extent_of};
+ghost use Rattle.frag_session.specs.HeldView.{seen};
+ghost use Rattle.frag_session.specs.HeldSteps.{extent_of};
 ghost use Rattle.flash_session.specs.Sessions.{HeldStandsAs, CountsAs};
 
 mod hearing;

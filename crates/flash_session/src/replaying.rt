@@ -5,8 +5,8 @@ ghost use Rattle.std.specs.Bool.{MatchBool};
 ghost use Rattle.flash_session.specs.Contents.{Same, StillHolds, HasCause};
 ghost use Rattle.flash_session.specs.Moments.{Elapses};
 ghost use Rattle.frag_session.specs.Session.{Session};
-ghost use Rattle.frag_session.specs.Stands.{Stands};
-ghost use Rattle.frag_session.specs.Steps.{extent_of};
+ghost use Rattle.frag_session.specs.HeldHistory.{Stands};
+ghost use Rattle.frag_session.specs.HeldSteps.{extent_of};
 ghost use Rattle.flash_session.specs.Layout.{records_place};
 ghost use Rattle.flash_session.specs.Replayed.{Replayed, StopsAt};
 

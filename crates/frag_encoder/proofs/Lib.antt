@@ -1,5 +1,6 @@
 pub mod Pieces
 pub mod Summing
+pub mod Counting
 pub mod Filling
 pub mod Blocks
 pub mod WorkedFiles

@@ -1,7 +1,7 @@
 -- What an encoder makes of a file. (TS004-1.0.0: fragments, and the forward error correction code.)
-use Rattle.std.specs.Prelude.{◌≡◌, ◌⊎◌, ℕ, zero, suc, ◌-◌, ◌*◌, ◌<◌, ◌≤◌, List, [], ◌∷◌, ◌++◌, length, take, drop, replicate}
+use Rattle.std.specs.Prelude.{◌≡◌, ◌⊎◌, ℕ, zero, suc, ◌-◌, ◌*◌, ◌<◌, ◌≤◌, List, [], ◌∷◌, ◌++◌, length, take, drop, replicate, nat_le, if◌then◌else◌}
 use Rattle.std.specs.Int.{div_ceil}
-use Rattle.frag_model.specs.Fragments.{line_of, pieces_at, xor_all}
+use Rattle.frag_model.specs.Fragments.{columns_in, line_of, pieces_at, xor_all}
 use Rattle.frag_model.specs.Limits.{max_frag_size, max_pieces}
 
 -- how many pieces of this size hold so many bytes: rounded up
@@ -28,6 +28,10 @@ block_of file frag_size = pieces_of (nb_frag_of (length file) frag_size) frag_si
 -- the data of fragment n, from 1 on: the XOR of the pieces whose columns are in its line
 unfoldable pub data_of : List ℕ → ℕ → ℕ → List ℕ
 data_of file frag_size n = xor_all frag_size (pieces_at (line_of (nb_frag_of (length file) frag_size) n) (block_of file frag_size))
+
+-- how many pieces are summed for it: none for a piece, else those of its line
+unfoldable pub sums_of : ℕ → ℕ → ℕ
+sums_of nb_frag n = if nat_le n nb_frag then 0 else columns_in (line_of nb_frag n)
 
 -- what is encoded: a file, in pieces of this size
 pub record Encoding : Type 0 where

@@ -1,16 +1,17 @@
 //! A file cut into pieces, and its fragments.
 
-ghost use Rattle.std.specs.Prelude.{◌≡◌, ◌↔◌, ◌+◌, ◌-◌, ◌*◌, ◌^◌, ◌<◌, ◌≤◌, ◌++◌, length, take, drop, replicate, Err, IsOk, OnOk, OnErr, IfOk};
-ghost use Rattle.frag_model.specs.Fragments.{line_of, pieces_at, xor_all};
-ghost use Rattle.frag_encoder.specs.Encoding.{Encoding, IsBadSize, nb_frag_of, padding_of, filled, pieces_of, data_of};
+ghost use Rattle.std.specs.Prelude.{◌≡◌, ◌↔◌, ◌+◌, ◌-◌, ◌*◌, ◌/◌, ◌^◌, ◌<◌, ◌≤◌, ◌++◌, length, take, drop, replicate, Err, IsOk, OnOk, OnErr, IfOk};
+ghost use Rattle.frag_model.specs.Fragments.{draws_of, line_of, pieces_at, xor_all};
+ghost use Rattle.frag_encoder.specs.Encoding.{Encoding, IsBadSize, nb_frag_of, padding_of, filled, pieces_of, data_of, sums_of};
 
 use crate::answers::{Beyond, EncoderError};
 use crate::xoring::{piece_at, xor_line};
 use arrayvec::ArrayVec;
 use frag_model::lines::{MAX_PARITY_INDEX, MAX_PIECES};
-use parity_lines::line_uncounted;
+use parity_lines::Steps;
 use std::alloc::{AllocError, Global};
-use std::marker::Model;
+use std::marker::{Brand, Model};
+use std::sync::ledger::{Blank, Ledger};
 
 /// The most bytes of a fragment that a payload has room for (TS004-1.0.0).
 pub const MAX_FRAGMENT: usize = 239;
@@ -98,13 +99,69 @@ impl Encoder {
             take self.now.frag_size (drop ((n - 1) * self.now.frag_size) (filled self.now.file self.now.frag_size))) }
         ensures beyond { OnErr result (out.new ≡ out.old) }
     {
+        self.fragment_over::<Brand, Brand>(n, out, Blank::new(1), Blank::new(1))
+    }
+
+    fn fragment_over<L: Ledger, M: Ledger>(
+        &self,
+        n: u16,
+        out: &mut ArrayVec<u8, MAX_FRAGMENT>,
+        no_draws: Blank,
+        no_sums: Blank,
+    ) -> Result<(), Beyond>
+        requires draws_name { no_draws.name ≡ L.name }
+        requires draws_parts { no_draws.parts ≡ L.parts }
+        requires draws_counted { 0 < no_draws.parts }
+        requires sums_name { no_sums.name ≡ M.name }
+        requires sums_parts { no_sums.parts ≡ M.parts }
+        requires sums_counted { 0 < no_sums.parts }
+        ensures within { IsOk result ↔
+            ((1 ≤ n) × (n ≤ nb_frag_of (length self.now.file) self.now.frag_size + MAX_PARITY_INDEX)) }
+        ensures part { OnOk result (out.new.items ≡ data_of self.now.file self.now.frag_size n) }
+        ensures size { OnOk result (length out.new.items ≡ self.now.frag_size) }
+        ensures piece { n ≤ nb_frag_of (length self.now.file) self.now.frag_size → OnOk result
+            (out.new.items ≡ take self.now.frag_size
+                (drop ((n - 1) * self.now.frag_size) (filled self.now.file self.now.frag_size))) }
+        ensures beyond { OnErr result (out.new ≡ out.old) }
+    {
+        let mut draws = Steps::<L>::new(no_draws);
+        let mut sums = Steps::<M>::new(no_sums);
+        self.fragment_counted(n, out, &mut draws, &mut sums)
+    }
+
+    /// As `fragment`, and counts its work: the states of the register that are drawn for the fragment's line, and the pieces
+    /// that are summed, each the XOR of its bytes into the fragment's. `Beyond` costs none.
+    pub fn fragment_counted<L: Ledger, M: Ledger>(
+        &self,
+        n: u16,
+        out: &mut ArrayVec<u8, MAX_FRAGMENT>,
+        draws: &mut Steps<L>,
+        sums: &mut Steps<M>,
+    ) -> Result<(), Beyond>
+        ensures within { IsOk result ↔
+            ((1 ≤ n) × (n ≤ nb_frag_of (length self.now.file) self.now.frag_size + MAX_PARITY_INDEX)) }
+        ensures part { OnOk result (out.new.items ≡ data_of self.now.file self.now.frag_size n) }
+        ensures size { OnOk result (length out.new.items ≡ self.now.frag_size) }
+        ensures piece { n ≤ nb_frag_of (length self.now.file) self.now.frag_size → OnOk result
+            (out.new.items ≡ take self.now.frag_size
+                (drop ((n - 1) * self.now.frag_size) (filled self.now.file self.now.frag_size))) }
+        ensures beyond { OnErr result (out.new ≡ out.old) }
+        ensures draws { OnOk result
+            (draws.new ≡ draws.old + draws_of (nb_frag_of (length self.now.file) self.now.frag_size) n) }
+        ensures sums { OnOk result
+            (sums.new ≡ sums.old + sums_of (nb_frag_of (length self.now.file) self.now.frag_size) n) }
+        ensures few_draws { draws.new ≤ draws.old
+            + 25 * (nb_frag_of (length self.now.file) self.now.frag_size / 2) }
+        ensures few_sums { sums.new ≤ sums.old + nb_frag_of (length self.now.file) self.now.frag_size / 2 }
+        ensures idle { OnErr result ((draws.new ≡ draws.old) × (sums.new ≡ sums.old)) }
+    {
         if n == 0 || n > self.nb_frag + MAX_PARITY_INDEX {
             return Err(Beyond);
         }
         let size = self.frag_size as usize;
         let mut part = [0; MAX_FRAGMENT];
         let part = &mut part[..size];
-        write_data(n, self.nb_frag, size, &self.bytes, part);
+        write_data(n, self.nb_frag, size, &self.bytes, part, draws, sums);
         replace(out, part);
         Ok(())
     }
@@ -130,8 +187,17 @@ fn replace(out: &mut ArrayVec<u8, MAX_FRAGMENT>, part: &[u8])
     let _ = out.try_extend_from_slice(part);
 }
 
-/// Writes the data of fragment `n` of pieces of `size` bytes.
-fn write_data(n: u16, nb_frag: u16, size: usize, bytes: &[u8], part: &mut [u8])
+/// Writes the data of fragment `n` of pieces of `size` bytes. Counts the states that are drawn for its line, and the pieces
+/// that are summed.
+fn write_data<L: Ledger, M: Ledger>(
+    n: u16,
+    nb_frag: u16,
+    size: usize,
+    bytes: &[u8],
+    part: &mut [u8],
+    draws: &mut Steps<L>,
+    sums: &mut Steps<M>,
+)
     requires some { 1 ≤ nb_frag }
     requires most { nb_frag ≤ MAX_PIECES }
     requires first { 1 ≤ n }
@@ -140,6 +206,10 @@ fn write_data(n: u16, nb_frag: u16, size: usize, bytes: &[u8], part: &mut [u8])
     requires bytes { length bytes.now ≡ nb_frag * size }
     ensures whole { part.new ≡ xor_all size (pieces_at (line_of nb_frag n) (pieces_of nb_frag size bytes.now)) }
     ensures piece { n ≤ nb_frag → part.new ≡ take size (drop ((n - 1) * size) bytes.now) }
+    ensures draws { draws.new ≡ draws.old + draws_of nb_frag n }
+    ensures sums { sums.new ≡ sums.old + sums_of nb_frag n }
+    ensures few_draws { draws.new ≤ draws.old + 25 * (nb_frag / 2) }
+    ensures few_sums { sums.new ≤ sums.old + nb_frag / 2 }
 {
     if n <= nb_frag {
         part.copy_from_slice(piece_at(bytes, size, n as usize - 1));
@@ -147,8 +217,8 @@ fn write_data(n: u16, nb_frag: u16, size: usize, bytes: &[u8], part: &mut [u8])
         let columns = nb_frag as usize;
         let mut words = [0; MAX_PIECES as usize / 64];
         let line = &mut words[..columns.div_ceil(64)];
-        line_uncounted(n - nb_frag, nb_frag, line);
+        parity_lines::line(n - nb_frag, nb_frag, line, draws);
         part.fill(0);
-        xor_line(line, columns, bytes, part);
+        xor_line(line, columns, bytes, part, sums);
     }
 }

@@ -11,11 +11,11 @@ use Rattle.std.proofs.lemmas.Nat.{pow_below, pow_pos}
 use lib.Bits.{or_lt}
 use Rattle.frag_model.specs.Parity.{line, line_with, columns_drawn, residues}
 use Rattle.frag_model.specs.Fragments.{line_of}
-use Rattle.frag_model.specs.Gain.{gain_of_lines, gain_of, direct_of}
+use Rattle.frag_model.specs.Gain.{gain_of_lines, gain_of, direct_of, IsSum}
 use Rattle.frag_model.proofs.Members.{In, In-map, In-map_from, In-range, In-range_from, In-filter_from}
 use Rattle.frag_model.proofs.Uncoded.{each-In, heard_or_new, direct_of-heard, direct_of-new, line_of_piece}
 use Rattle.frag_model.proofs.Sums.{line_of_coded}
-use Rattle.frag_model.proofs.Tables.{IsSum, IsSum-line, Row, lines_of, pivots_of, IsRow, Apart, Table, has_table, no_columns}
+use Rattle.frag_model.proofs.Tables.{IsSum-line, Row, lines_of, pivots_of, IsRow, Apart, Table, has_table, no_columns}
 
 -- ---- counting
 

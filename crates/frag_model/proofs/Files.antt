@@ -6,10 +6,10 @@ use Rattle.std.proofs.lemmas.List.Elements.{All-from_recursion, recursion_from_A
 use Rattle.std.proofs.lemmas.Nat.{xor_lt}
 use Rattle.std.specs.Int.Bits.{xor_self, xor_zero_r}
 use Rattle.std.specs.List.{AllByRecursion, concat}
-use Rattle.frag_model.specs.Fragments.{Fragment, Shape, IsPiece, IsBlock, Meets, Equation, equation_of, xor_all, pieces_at, file_of}
+use Rattle.frag_model.specs.Fragments.{Fragment, Shape, IsPiece, IsBlock, Meets, Equation, equation_of, xor_all, pieces_at, file_of, byte_at}
 use Rattle.frag_model.specs.Verdict.{FittingBlock, OneBlockFits}
 use Rattle.frag_model.specs.File.{FileFits, OneFileFits}
-use Rattle.frag_model.proofs.Parts.{xor_swap, xor_kept, xor_same, byte_at, get_or-xor_all, length-xor_all}
+use Rattle.frag_model.proofs.Parts.{xor_swap, xor_kept, xor_same, get_or-xor_all, length-xor_all}
 
 -- ---- a block between two others: the first one, with what they differ by at one place added to each first byte
 

@@ -10,14 +10,14 @@ use Rattle.std.proofs.lemmas.Nat.Bits.{bit_at_xor, bit_at_lowest, bit_at-suc, bi
 use Rattle.std.proofs.lemmas.List.{ext_get_or, length-map}
 use Rattle.std.proofs.lemmas.List.Elements.{All-from_recursion, recursion_from_All, All-get_or, All-set}
 use Rattle.std.proofs.lemmas.Bool.{cases_lt, cases_Bool, eqb-false}
-use Rattle.frag_model.specs.Fragments.{Fragment, Shape, IsPiece, Meets, Equation, equation_of, line_of, xor_all, pieces_at}
-use Rattle.frag_model.specs.Gain.{gain_of, numbers_of, gain}
+use Rattle.frag_model.specs.Fragments.{Fragment, Shape, IsPiece, Meets, Equation, equation_of, line_of, xor_all, pieces_at, byte_at}
+use Rattle.frag_model.specs.Gain.{gain_of, numbers_of, gain, IsSum}
 use Rattle.frag_model.specs.Verdict.{FittingBlock, OneBlockFits}
 use Rattle.frag_model.specs.Laws.{AreNumbered}
 use Rattle.frag_model.proofs.Members.{In, In-map, In-map_from}
-use Rattle.frag_model.proofs.Parts.{xor_swap, xor_kept, byte_at, get_or-xor_all, length-xor_all}
+use Rattle.frag_model.proofs.Parts.{xor_swap, xor_kept, get_or-xor_all, length-xor_all}
 use Rattle.frag_model.proofs.Uncoded.{each-In, each-from_In}
-use Rattle.frag_model.proofs.Tables.{IsSum, IsSum-line, Row, lines_of, pivots_of, Apart, Table, has_table}
+use Rattle.frag_model.proofs.Tables.{IsSum-line, Row, lines_of, pivots_of, Apart, Table, has_table}
 use Rattle.frag_model.proofs.Dimension.{free_number, lines_within}
 use Rattle.frag_model.proofs.Enough.{gain-most}
 use Rattle.frag_model.proofs.Uniqueness.{same_at_sums, heard_lines, numbers_from_one}

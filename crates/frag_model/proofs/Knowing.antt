@@ -4,11 +4,11 @@ use Rattle.std.specs.Prelude.{if◌then◌else◌}
 use Rattle.std.proofs.lemmas.Bool.{cases_lt, cases_Bool, or_left, or_cases}
 use Rattle.std.proofs.lemmas.List.{ext_get_or}
 use Rattle.std.proofs.lemmas.List.Elements.{All-from_recursion, recursion_from_All}
-use Rattle.frag_model.specs.Fragments.{Fragment, Shape, IsPiece, Meets, equation_of, line_of, xor_all, pieces_at}
+use Rattle.frag_model.specs.Fragments.{Fragment, Shape, IsPiece, Meets, equation_of, line_of, xor_all, pieces_at, byte_at}
 use Rattle.frag_model.specs.Gain.{is_sum, gain_of_lines, gain_of, numbers_of, gain, direct, excess}
 use Rattle.frag_model.specs.Verdict.{Verdict, receiving, complete, no_rows, conflict, verdict_now, FittingBlock, IsVerdictNow}
 use Rattle.frag_model.proofs.Members.{In, In-map_from}
-use Rattle.frag_model.proofs.Parts.{byte_at, get_or-xor_all, length-xor_all}
+use Rattle.frag_model.proofs.Parts.{get_or-xor_all, length-xor_all}
 use Rattle.frag_model.proofs.Sums.{is_sum-cons, xor_back}
 use Rattle.frag_model.proofs.Tables.{IsSum-from_test, test-from_IsSum, IsSum-xor}
 use Rattle.frag_model.proofs.Uncoded.{each-In, heard_or_new, direct_of-heard, direct_of-new}

@@ -13,3 +13,4 @@ pub mod Enough
 pub mod Draws
 pub mod Knowing
 pub mod News
+pub mod Work

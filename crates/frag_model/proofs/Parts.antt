@@ -4,7 +4,7 @@ use Rattle.std.proofs.lemmas.List.{length-replicate}
 use Rattle.std.specs.Int.Bits.{xor_self, xor_zero_l, xor_zero_r, xor_assoc}
 use Rattle.std.proofs.lemmas.Nat.{xor_comm}
 use Rattle.std.specs.List.{AllByRecursion}
-use Rattle.frag_model.specs.Fragments.{xor_bytes, xor_all, pieces_at, IsPiece}
+use Rattle.frag_model.specs.Fragments.{xor_bytes, xor_all, pieces_at, byte_at, IsPiece}
 
 pub xor_swap : (a b c d : ℕ) → bit_xor (bit_xor a b) (bit_xor c d) ≡ bit_xor (bit_xor a c) (bit_xor b d)
 xor_swap a b c d =
@@ -37,11 +37,6 @@ length-xor_bytes (x ∷ xs) (y ∷ ys) e =
     let e' : length xs ≡ length ys = omega arith in
     let h = length-xor_bytes xs ys e' in
     omega arith
-
--- the XOR of the bytes at one place of the pieces at a line's columns
-unfoldable pub byte_at : ℕ → ℕ → List (List ℕ) → ℕ
-byte_at line i [] = 0
-byte_at line i (p ∷ ps) = cond (line % 2 == 1) (bit_xor (get_or p i 0) (byte_at (line / 2) i ps)) (byte_at (line / 2) i ps)
 
 pub get_or-xor_all : (size line i : ℕ) (block : List (List ℕ)) → get_or (xor_all size (pieces_at line block)) i 0 ≡ byte_at line i block
 unfolding xor_all pieces_at byte_at

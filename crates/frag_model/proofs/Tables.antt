@@ -1,5 +1,5 @@
 -- Each list of lines has a table of reduced rows: as many as the lines gain, with the same sums, and each with a column of its own.
-use Rattle.std.proofs.Common.{◌≡◌, ◌≢◌, ◌⊎◌, ℕ, zero, suc, ◌+◌, ◌<◌, ◌/◌, ◌%◌, ◌^◌, true, false, cond, ◌==◌, List, [], ◌∷◌, map, length, bit_xor, refl, sym, ap, ap₂, ◌∙◌, subst, inl, inr, arith, eq-eqb, eqb-true, pow-suc}
+use Rattle.std.proofs.Common.{◌≡◌, ◌≢◌, ℕ, zero, suc, ◌+◌, ◌<◌, ◌/◌, ◌%◌, ◌^◌, true, false, cond, ◌==◌, List, [], ◌∷◌, map, length, bit_xor, refl, sym, ap, ap₂, ◌∙◌, subst, inl, inr, arith, eq-eqb, eqb-true, pow-suc}
 use Rattle.std.specs.Prelude.{if◌then◌else◌}
 use Rattle.std.specs.List.{AllByRecursion}
 use Rattle.std.specs.Int.{bit_at}
@@ -8,17 +8,12 @@ use Rattle.std.proofs.lemmas.Nat.{xor_comm, xor_lt}
 use Rattle.std.proofs.lemmas.Nat.Bits.{bit_at_xor, bit_at-lt, bit_at-zero, bit_at_lowest, bit_at-suc}
 use Rattle.std.proofs.lemmas.List.{length-map}
 use Rattle.std.proofs.lemmas.Bool.{cases_Bool, cases_eq, or_cases, or_left, or_right, eqb-false}
-use Rattle.frag_model.specs.Gain.{is_sum, gain_of_lines}
+use Rattle.frag_model.specs.Gain.{is_sum, IsSum, gain_of_lines}
 use Rattle.frag_model.proofs.Members.{In, In-map, In-map_from}
 use Rattle.frag_model.proofs.Parts.{xor_swap}
 use Rattle.frag_model.proofs.Sums.{is_sum-nil, is_sum-cons, xor_back}
 
 -- ---- sums, by cases on the list
-
--- x is the XOR of some of the lines
-abbrev pub IsSum : ℕ → List ℕ → Type 0
-IsSum x [] = x ≡ 0
-IsSum x (l ∷ ls) = IsSum x ls ⊎ IsSum (bit_xor l x) ls
 
 pub IsSum-from_test : (x : ℕ) (ls : List ℕ) → is_sum x ls ≡ true → IsSum x ls
 IsSum-from_test x [] e = eqb-true x 0 (sym (is_sum-nil x) ∙ e)

@@ -9,15 +9,15 @@ use Rattle.std.proofs.lemmas.Nat.Bits.{bit_at_xor, bit_at_lowest, bit_at-pow_sam
 use Rattle.std.proofs.lemmas.List.{ext_get_or, length-map}
 use Rattle.std.proofs.lemmas.List.Elements.{recursion_from_All, All-get_or}
 use Rattle.std.proofs.lemmas.Bool.{cases_eq, cases_lt}
-use Rattle.frag_model.specs.Fragments.{Fragment, Shape, IsPiece, Meets, equation_of, line_of}
-use Rattle.frag_model.specs.Gain.{gain_of_lines, gain_of, numbers_of, gain}
+use Rattle.frag_model.specs.Fragments.{Fragment, Shape, IsPiece, Meets, equation_of, line_of, byte_at}
+use Rattle.frag_model.specs.Gain.{gain_of_lines, gain_of, numbers_of, gain, IsSum}
 use Rattle.frag_model.specs.Verdict.{FittingBlock}
 use Rattle.frag_model.specs.Laws.{AreNumbered}
 use Rattle.frag_model.proofs.Members.{In, In-map, In-map_from}
-use Rattle.frag_model.proofs.Parts.{xor_swap, byte_at, get_or-xor_all}
+use Rattle.frag_model.proofs.Parts.{xor_swap, get_or-xor_all}
 use Rattle.frag_model.proofs.Uncoded.{each-In, xor_all_piece}
 use Rattle.frag_model.proofs.Sums.{xor_back}
-use Rattle.frag_model.proofs.Tables.{IsSum, IsSum-line, Row, lines_of, pivots_of, IsRow, Table, has_table}
+use Rattle.frag_model.proofs.Tables.{IsSum-line, Row, lines_of, pivots_of, IsRow, Table, has_table}
 use Rattle.frag_model.proofs.Dimension.{pivots_distinct, pivot_inside, row_of, rows_apart, all_there, lines_within}
 
 -- ---- the bytes of pieces at a line's columns are linear in the line

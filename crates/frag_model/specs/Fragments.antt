@@ -1,8 +1,9 @@
 -- Fragments, blocks, and which blocks fit what was heard. (TS004-1.0.0, DataFragment and its coding.)
 -- A list of heard fragments is newest first, so that "followed by f" is f ∷ heard.
-use Rattle.std.specs.Prelude.{◌≡◌, ℕ, ◌-◌, ◌*◌, ◌/◌, ◌%◌, ◌^◌, ◌<◌, ◌≤◌, Bool, nat_le, ◌==◌, List, [], ◌∷◌, length, replicate, take, All, bit_xor, if◌then◌else◌, bytes_eq}
+use Rattle.std.specs.Prelude.{◌≡◌, ℕ, ◌-◌, ◌*◌, ◌/◌, ◌%◌, ◌^◌, ◌<◌, ◌≤◌, Bool, nat_le, ◌==◌, List, [], ◌∷◌, length, get_or, replicate, take, All, bit_xor, if◌then◌else◌, bytes_eq}
 use Rattle.std.specs.List.{concat, list_all}
-use Rattle.frag_model.specs.Parity.{line}
+use Rattle.std.specs.Int.Count.{ones}
+use Rattle.frag_model.specs.Parity.{line, draws}
 
 -- a fragment that was heard: its number from 1 on, its bytes, and the mark at which it came
 pub record Fragment : Type 0 where
@@ -19,6 +20,14 @@ pub record Shape : Type 0 where
 -- the line of fragment number n over so many pieces: piece n itself, or the parity line of the coded fragment
 unfoldable pub line_of : ℕ → ℕ → ℕ
 line_of nb_frag n = if nat_le n nb_frag then 2 ^ (n - 1) else line (n - nb_frag) nb_frag
+
+-- how many states of the register are drawn for that line: none for a piece's
+unfoldable pub draws_of : ℕ → ℕ → ℕ
+draws_of nb_frag n = if nat_le n nb_frag then 0 else draws (n - nb_frag) nb_frag
+
+-- how many columns are in a line
+abbrev pub columns_in : ℕ → ℕ
+columns_in line = ones line
 
 -- an equation: the XOR of the pieces at the line's columns is the part
 pub record Equation : Type 0 where
@@ -60,6 +69,12 @@ pieces_at line (piece ∷ block) = if line % 2 == 1 then piece ∷ pieces_at (li
 unfoldable pub xor_all : ℕ → List (List ℕ) → List ℕ
 xor_all size [] = replicate size 0
 xor_all size (piece ∷ pieces) = xor_bytes piece (xor_all size pieces)
+
+-- the XOR of the bytes at one place of the pieces whose columns are in the line
+unfoldable pub byte_at : ℕ → ℕ → List (List ℕ) → ℕ
+byte_at line i [] = 0
+byte_at line i (piece ∷ block) =
+    if line % 2 == 1 then bit_xor (get_or piece i 0) (byte_at (line / 2) i block) else byte_at (line / 2) i block
 
 -- the block meets the equation
 unfoldable pub Meets : ℕ → List (List ℕ) → Equation → Type 0

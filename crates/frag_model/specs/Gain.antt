@@ -1,5 +1,5 @@
 -- How much a list of heard fragments tells: gain, direct and excess, over the numbers heard, newest first.
-use Rattle.std.specs.Prelude.{ℕ, ◌+◌, ◌-◌, Bool, ◌&&◌, not, ◌==◌, nat_le, List, [], ◌∷◌, ◌++◌, map, bit_xor, if◌then◌else◌}
+use Rattle.std.specs.Prelude.{◌≡◌, ◌⊎◌, ℕ, ◌+◌, ◌-◌, Bool, ◌&&◌, not, ◌==◌, nat_le, List, [], ◌∷◌, ◌++◌, map, bit_xor, if◌then◌else◌}
 use Rattle.std.specs.List.{list_any}
 use Rattle.frag_model.specs.Fragments.{Fragment, Shape, line_of}
 
@@ -11,6 +11,11 @@ sums (line ∷ lines) = sums lines ++ map (λ s. bit_xor line s) (sums lines)
 -- x is one of them
 unfoldable pub is_sum : ℕ → List ℕ → Bool
 is_sum x lines = list_any (λ s. s == x) (sums lines)
+
+-- the same by cases on the list: the first line is left out of the XOR, or it is in it
+abbrev pub IsSum : ℕ → List ℕ → Type 0
+IsSum x [] = x ≡ 0
+IsSum x (line ∷ lines) = IsSum x lines ⊎ IsSum (bit_xor line x) lines
 
 -- how many lines are no sum of those behind them
 unfoldable pub gain_of_lines : List ℕ → ℕ

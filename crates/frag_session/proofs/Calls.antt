@@ -4,7 +4,7 @@ use Rattle.std.specs.List.{concat}
 use Rattle.std.proofs.lemmas.Bool.{or_parts, eqb-false, leb-false, not-false}
 use Rattle.frag_model.specs.Fragments.{Shape, file_of}
 use Rattle.frag_model.specs.Verdict.{verdict, missing}
-use Rattle.row_elimination.specs.Held.{Held as Solved, IsBegun, missing_of}
+use Rattle.row_elimination.specs.HeldSolver.{Held as Solved, IsBegun, missing_of}
 use Rattle.row_elimination.specs.Room.{has_room}
 use Rattle.row_elimination.proofs.Standing.{feed_stands}
 use Rattle.frag_session.specs.declared.setups.SetupReq.{SetupReq}
@@ -20,9 +20,9 @@ use Rattle.frag_session.specs.Setup.{Room, rows_of, too_long, setup_bits, bit_wh
 use Rattle.frag_session.specs.Session.{Session, Seen, shape_of, followed, received_count, new_session, renewed, after_setup, excludes, cause_of, drop_cause, news_in, answer_of, after_fragment, seen_of, view_of, shown_verdict, shown_file, status_in, status_of}
 use Rattle.frag_session.specs.Held as kept
 use Rattle.frag_session.specs.Held.{HeldSlot, Held}
-use Rattle.frag_session.specs.Shows.{receiving_seen, done_seen, failed_seen, overflowed_seen}
-use Rattle.frag_session.specs.Steps.{session_setup, slot_cause, slot_seen, CanHear, told_of, news_between}
-use Rattle.frag_session.specs.Stands.{IsSetUp, Holds, Stands}
+use Rattle.frag_session.specs.HeldView.{receiving_seen, done_seen, failed_seen, overflowed_seen}
+use Rattle.frag_session.specs.HeldSteps.{session_setup, slot_cause, slot_seen, CanHear, told_of, news_between}
+use Rattle.frag_session.specs.HeldHistory.{IsSetUp, Holds, Stands}
 use Rattle.frag_session.proofs.Standing.{setup_kept, no_setup_kept}
 use Rattle.frag_session.proofs.Telling.{told_news}
 

@@ -3,13 +3,13 @@ use Rattle.std.proofs.Common.{◌≡◌, ℕ, zero, suc, suc-mul, ◌*◌, ◌<�
 use Rattle.frag_model.specs.Fragments.{Fragment, Shape}
 use Rattle.frag_model.specs.Verdict.{Verdict, complete, no_rows, conflict, verdict, verdict_now, first_verdict, missing, missing_now, missing_next, lacking}
 use Rattle.frag_model.proofs.Files.{length-block}
-use Rattle.row_elimination.specs.Held.{Held as Solved, missing_of, Receives, Completes, Contradicts, Overflows}
+use Rattle.row_elimination.specs.HeldSolver.{Held as Solved, missing_of, Receives, Completes, Contradicts, Overflows}
 use Rattle.row_elimination.proofs.Standing.{feed_stands}
 use Rattle.frag_session.specs.Session.{Session, shape_of, followed, received_count}
 use Rattle.frag_session.specs.Held as kept
 use Rattle.frag_session.specs.Held.{HeldSlot, Held, Done, Failed, one_more}
-use Rattle.frag_session.specs.Steps.{session_setup}
-use Rattle.frag_session.specs.Stands.{Holds, IsWhole, IsFailed, IsOverflowed, Stands}
+use Rattle.frag_session.specs.HeldSteps.{session_setup}
+use Rattle.frag_session.specs.HeldHistory.{Holds, IsWhole, IsFailed, IsOverflowed, Stands}
 
 count_more : (received : ℕ) (heard : List Fragment) (f : Fragment) → received ≡ received_count (length heard) → one_more received ≡ received_count (length (f ∷ heard))
 unfolding one_more

@@ -6,17 +6,17 @@ use Rattle.frag_model.specs.Fragments.{Fragment, Shape}
 use Rattle.frag_model.specs.Gain.{gain, direct}
 use Rattle.frag_model.specs.Verdict.{Verdict, verdict}
 use Rattle.frag_model.proofs.Enough.{gain-most}
-use Rattle.row_elimination.specs.Places.{pieces_held, gained_held}
-use Rattle.row_elimination.specs.Held.{missing_of}
-use Rattle.row_elimination.specs.Stands.{StandsFor}
+use Rattle.row_elimination.specs.HeldPlaces.{pieces_held, gained_held}
+use Rattle.row_elimination.specs.HeldSolver.{missing_of}
+use Rattle.row_elimination.specs.HeldHistory.{StandsFor}
 use Rattle.frag_model.specs.News.{is_receiving}
 use Rattle.frag_model.proofs.News.{is_new_open, is_new_decided}
 use Rattle.frag_session.specs.declared.answers.News.TheVariants as news
 use Rattle.frag_session.specs.Session.{Session, shape_of, followed, fragment, news_in}
 use Rattle.frag_session.specs.Held as kept
 use Rattle.frag_session.specs.Held.{HeldSlot, Held}
-use Rattle.frag_session.specs.Steps.{told_of, news_between}
-use Rattle.frag_session.specs.Stands.{Stands}
+use Rattle.frag_session.specs.HeldSteps.{told_of, news_between}
+use Rattle.frag_session.specs.HeldHistory.{Stands}
 
 same_tests : (a b c d : ℕ) → (a ≡ b → c ≡ d) → (c ≡ d → a ≡ b) → (a == b) ≡ (c == d)
 same_tests a b c d to from = elim (cases_eq a b) [

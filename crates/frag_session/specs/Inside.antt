@@ -1,7 +1,7 @@
 -- What the fields of each state keep true.
 use Rattle.std.specs.Prelude.{◌≡◌, ℕ, ◌*◌, ◌<◌, ◌≤◌, length}
 use Rattle.row_elimination.specs.declared.stages.Stage.TheVariants as stage
-use Rattle.row_elimination.specs.Held.{Held as Solved}
+use Rattle.row_elimination.specs.HeldSolver.{Held as Solved}
 use Rattle.frag_session.specs.declared.setups.SetupReq.{SetupReq}
 use Rattle.frag_session.specs.Limits.{max_received}
 

@@ -3,9 +3,9 @@ pub mod Setup
 pub mod Session
 pub mod Held
 pub mod Inside
-pub mod Shows
-pub mod Steps
-pub mod Stands
+pub mod HeldView
+pub mod HeldSteps
+pub mod HeldHistory
 pub mod FirstMoment
 pub mod Missing
 pub mod WorkedSessions

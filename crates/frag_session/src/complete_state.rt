@@ -2,7 +2,7 @@
 
 ghost use Rattle.std.specs.Prelude.{◌≡◌, ◌*◌, ◌<◌, ◌≤◌, length};
 ghost use Rattle.frag_session.specs.Held.{one_more};
-ghost use Rattle.frag_session.specs.Shows.{done_seen, seen};
+ghost use Rattle.frag_session.specs.HeldView.{done_seen, seen};
 ghost use Rattle.frag_session.specs.Limits.{max_received};
 
 use crate::answers::{Verdict, View};
@@ -85,7 +85,7 @@ impl<const W: usize, const B: usize> Complete<W, B> {
         self.received = one_more(self.received);
     }
 
-    #[tactic(auto, unfolding(crate::specs::Shows::seen, crate::specs::Shows::done_seen))]
+    #[tactic(auto, unfolding(crate::specs::HeldView::seen, crate::specs::HeldView::done_seen))]
     pub(crate) fn view(&self) -> View<'_>
         ensures value { seen result ≡ done_seen self.now }
         ensures within { length result.file.now ≤ self.now.solver.extent.area }

@@ -1,10 +1,10 @@
 //! A slot's memory while no session lives.
 
 ghost use Rattle.std.specs.Prelude.{◌≡◌, ◌<◌, MatchResult, IfOk};
-ghost use Rattle.row_elimination.specs.Held.{TwoFit};
+ghost use Rattle.row_elimination.specs.HeldSolver.{TwoFit};
 ghost use Rattle.frag_session.specs.Setup.{memory_room, setup_bits};
 ghost use Rattle.frag_session.specs.Session.{new_session};
-ghost use Rattle.frag_session.specs.Stands.{Holds};
+ghost use Rattle.frag_session.specs.HeldHistory.{Holds};
 
 use crate::receiving_state::Receiving;
 use crate::setups::{Limits, SetupReq, refusal, rows_of};

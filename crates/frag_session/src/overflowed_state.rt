@@ -1,9 +1,9 @@
 //! A session whose rows did not suffice.
 
 ghost use Rattle.std.specs.Prelude.{◌≡◌, ◌≤◌, length};
-ghost use Rattle.row_elimination.specs.Held.{missing_of};
+ghost use Rattle.row_elimination.specs.HeldSolver.{missing_of};
 ghost use Rattle.frag_session.specs.Held.{one_more};
-ghost use Rattle.frag_session.specs.Shows.{overflowed_seen, seen};
+ghost use Rattle.frag_session.specs.HeldView.{overflowed_seen, seen};
 ghost use Rattle.frag_session.specs.Limits.{max_received};
 
 use crate::answers::{Verdict, View};
@@ -84,7 +84,7 @@ impl<const W: usize, const B: usize> Overflowed<W, B> {
         self.received = one_more(self.received);
     }
 
-    #[tactic(auto, unfolding(crate::specs::Shows::seen, crate::specs::Shows::overflowed_seen))]
+    #[tactic(auto, unfolding(crate::specs::HeldView::seen, crate::specs::HeldView::overflowed_seen))]
     pub(crate) fn view(&self) -> View<'_>
         ensures value { seen result ≡ overflowed_seen self.now }
         ensures within { length result.file.now ≤ self.now.solver.extent.area }

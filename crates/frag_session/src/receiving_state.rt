@@ -1,12 +1,12 @@
 //! A session whose file is not decided.
 
 ghost use Rattle.std.specs.Prelude.{◌≡◌, ◌+◌, ◌<◌, ◌≤◌, Some, length};
-ghost use Rattle.row_elimination.specs.Held.{IsBegun};
+ghost use Rattle.row_elimination.specs.HeldSolver.{IsBegun};
 ghost use Rattle.frag_session.specs.Held.{one_more, receiving};
 ghost use Rattle.frag_session.specs.Session.{Session, followed};
-ghost use Rattle.frag_session.specs.Stands.{Holds, IsOpen, Stands};
-ghost use Rattle.frag_session.specs.Steps.{extent_of, become, told_of};
-ghost use Rattle.frag_session.specs.Shows.{receiving_seen, seen};
+ghost use Rattle.frag_session.specs.HeldHistory.{Holds, IsOpen, Stands};
+ghost use Rattle.frag_session.specs.HeldSteps.{extent_of, become, told_of};
+ghost use Rattle.frag_session.specs.HeldView.{receiving_seen, seen};
 ghost use Rattle.frag_model.specs.Limits.{max_parity_index};
 ghost use Rattle.frag_session.specs.Limits.{max_received};
 
@@ -109,7 +109,7 @@ impl<const W: usize, const B: usize> Receiving<W, B> {
     }
 
     /// What it knows: the pieces that are still to be gained, and how many came uncoded.
-    #[tactic(auto, unfolding(crate::specs::Steps::told_of))]
+    #[tactic(auto, unfolding(crate::specs::HeldSteps::told_of))]
     pub(crate) fn told(&self) -> (u16, u16)
         ensures { Some result ≡ told_of (receiving self.now) }
     {
@@ -123,7 +123,7 @@ impl<const W: usize, const B: usize> Receiving<W, B> {
         &self.solver
     }
 
-    #[tactic(auto, unfolding(crate::specs::Shows::seen, crate::specs::Shows::receiving_seen))]
+    #[tactic(auto, unfolding(crate::specs::HeldView::seen, crate::specs::HeldView::receiving_seen))]
     pub(crate) fn view(&self) -> View<'_>
         ensures value { seen result ≡ receiving_seen self.now }
         ensures within { length result.file.now ≤ self.now.solver.extent.area }

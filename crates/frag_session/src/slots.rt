@@ -4,9 +4,9 @@ ghost use Rattle.std.specs.Prelude.{◌≡◌, ◌<◌, ◌≢◌, ◌≤◌, Op
 ghost use Rattle.frag_session.specs.Setup.{memory_room, setup_bits, lives};
 ghost use Rattle.frag_session.specs.Session.{Session, new_session, followed, excludes, cause_of, drop_cause, answer_of, news_in, after_setup, after_fragment, view_of, status_by, status_in, status_of, is_overflow};
 ghost use Rattle.frag_session.specs.Held.{idle};
-ghost use Rattle.frag_session.specs.Steps.{extent_of, session_setup, slot_cause, kept, become, CanHear, slot_seen, told_of, news_between};
-ghost use Rattle.frag_session.specs.Shows.{seen};
-ghost use Rattle.frag_session.specs.Stands.{Stands};
+ghost use Rattle.frag_session.specs.HeldSteps.{extent_of, session_setup, slot_cause, kept, become, CanHear, slot_seen, told_of, news_between};
+ghost use Rattle.frag_session.specs.HeldView.{seen};
+ghost use Rattle.frag_session.specs.HeldHistory.{Stands};
 ghost use Rattle.frag_session.specs.Limits.{max_received};
 
 use crate::answers::{Cause, Heard, News, StatusAns, Verdict, Via, View};
@@ -37,7 +37,7 @@ pub struct Slot<const W: usize, const B: usize> {
 impl<const W: usize, const B: usize> Model for Slot<W, B> {
     ghost use Rattle.std.specs.Prelude.{◌≡◌, true, is_some};
     ghost use Rattle.frag_session.specs.Held.{HeldSlot};
-    ghost use Rattle.frag_session.specs.Steps.{kept_by};
+    ghost use Rattle.frag_session.specs.HeldSteps.{kept_by};
 
     ghost Value = { HeldSlot };
 
@@ -55,7 +55,7 @@ impl<const W: usize, const B: usize> Drop for Slot<W, B> {
 
 impl<const W: usize, const B: usize> Slot<W, B> {
     /// A slot without a session.
-    #[tactic(auto, unfolding(crate::specs::Stands::Stands, crate::specs::Steps::extent_of))]
+    #[tactic(auto, unfolding(crate::specs::HeldHistory::Stands, crate::specs::HeldSteps::extent_of))]
     pub fn new(idle: Idle<W, B>) -> Slot<W, B>
         ensures stands { Stands result None }
         ensures extent { extent_of result ≡ idle.entry }
@@ -101,7 +101,7 @@ impl<const W: usize, const B: usize> Slot<W, B> {
     }
 
     /// All refusal bits of a setup, with so many bytes of flash where its session is kept there.
-    #[tactic(auto, unfolding(crate::specs::Steps::extent_of))]
+    #[tactic(auto, unfolding(crate::specs::HeldSteps::extent_of))]
     pub fn refusal(&self, req: SetupReq, limits: Limits, span: Option<u32>) -> u8
         ensures { result ≡ setup_bits limits (record { words = W; bytes = B; extent = extent_of self.now; span = span }) req }
     {
@@ -204,7 +204,7 @@ impl<const W: usize, const B: usize> Slot<W, B> {
     }
 
     /// What is known while nothing is decided.
-    #[tactic(auto, unfolding(crate::specs::Steps::told_of))]
+    #[tactic(auto, unfolding(crate::specs::HeldSteps::told_of))]
     fn told(&self) -> Option<(u16, u16)>
         ensures { result ≡ told_of self.now }
     {
@@ -215,7 +215,7 @@ impl<const W: usize, const B: usize> Slot<W, B> {
     }
 
     /// What the state shows.
-    #[tactic(auto, unfolding(crate::specs::Steps::slot_seen, crate::specs::Steps::extent_of))]
+    #[tactic(auto, unfolding(crate::specs::HeldSteps::slot_seen, crate::specs::HeldSteps::extent_of))]
     fn shown(&self) -> Option<View<'_>>
         ensures value { option_map seen result ≡ slot_seen self.now }
         ensures within { IfSome result (λ v. length v.file.now ≤ (extent_of self.now).area) }
@@ -231,7 +231,7 @@ impl<const W: usize, const B: usize> Slot<W, B> {
     }
 
     /// The request that the session was made of.
-    #[tactic(auto, unfolding(crate::specs::Steps::session_setup))]
+    #[tactic(auto, unfolding(crate::specs::HeldSteps::session_setup))]
     fn session(&self) -> Option<SetupReq>
         ensures { result ≡ session_setup self.now }
     {
@@ -246,7 +246,7 @@ impl<const W: usize, const B: usize> Slot<W, B> {
 }
 
 /// Whether a fragment changed what is known.
-#[tactic(auto, unfolding(crate::specs::Steps::news_between))]
+#[tactic(auto, unfolding(crate::specs::HeldSteps::news_between))]
 fn news_between(before: Option<(u16, u16)>, after: Option<(u16, u16)>) -> News
     ensures { result ≡ news_between before after }
 {
@@ -264,7 +264,7 @@ fn news_between(before: Option<(u16, u16)>, after: Option<(u16, u16)>) -> News
 }
 
 /// The memory of whatever lived.
-#[tactic(auto, unfolding(crate::specs::Steps::extent_of))]
+#[tactic(auto, unfolding(crate::specs::HeldSteps::extent_of))]
 fn cleared<const W: usize, const B: usize>(state: State<W, B>) -> Idle<W, B>
     ensures { result ≡ extent_of (kept state.entry) }
 {
@@ -278,7 +278,7 @@ fn cleared<const W: usize, const B: usize>(state: State<W, B>) -> Idle<W, B>
 }
 
 /// The state without a session.
-#[tactic(auto, unfolding(crate::specs::Steps::extent_of))]
+#[tactic(auto, unfolding(crate::specs::HeldSteps::extent_of))]
 fn ended<const W: usize, const B: usize>(state: State<W, B>) -> State<W, B>
     ensures { kept result ≡ idle (extent_of (kept state.entry)) }
 {
@@ -302,7 +302,7 @@ fn renewed<const W: usize, const B: usize>(
 }
 
 /// The first cause for which a fragment is dropped.
-#[tactic(auto, unfolding(crate::specs::Steps::slot_cause))]
+#[tactic(auto, unfolding(crate::specs::HeldSteps::slot_cause))]
 fn dropped(session: Option<SetupReq>, via: Via, n: u16, part: &[u8]) -> Option<Cause>
     ensures { result ≡ slot_cause session via n part.now }
 {
@@ -381,7 +381,7 @@ fn state_of<const W: usize, const B: usize>(next: Next<W, B>) -> State<W, B>
 }
 
 /// The answer of a session with this setup, of which this is seen.
-#[tactic(auto, unfolding(crate::specs::Session::status_in, crate::specs::Shows::seen))]
+#[tactic(auto, unfolding(crate::specs::Session::status_in, crate::specs::HeldView::seen))]
 fn status_in(setup: SetupReq, view: &View, via: Via, all: bool) -> Option<StatusAns>
     ensures answer { result ≡ status_in setup (seen view.now) via all }
     ensures received { IfSome result (λ a. a.received ≡ view.now.received) }
@@ -393,7 +393,7 @@ fn status_in(setup: SetupReq, view: &View, via: Via, all: bool) -> Option<Status
 }
 
 /// The status of what is seen.
-#[tactic(auto, unfolding(crate::specs::Session::status_by, crate::specs::Shows::seen))]
+#[tactic(auto, unfolding(crate::specs::Session::status_by, crate::specs::HeldView::seen))]
 fn status(view: &View, delay: u8) -> StatusAns
     ensures answer { result ≡ status_by (seen view.now) delay }
     ensures received { result.received ≡ view.now.received }

@@ -2,7 +2,7 @@
 
 ghost use Rattle.std.specs.Prelude.{◌≡◌, ◌≤◌, None, IfSome, Option, option_map};
 ghost use Rattle.frag_session.specs.Session.{Session, view_of, status_of};
-ghost use Rattle.frag_session.specs.Shows.{seen};
+ghost use Rattle.frag_session.specs.HeldView.{seen};
 ghost use Rattle.frag_session.specs.declared.answers.Via.TheVariants.{Unicast};
 ghost use Rattle.sample_receiver.specs.HeldReceiver.{SetsUp, ReceiverStands};
 ghost use Rattle.c_base.specs.Answer.{no_object, no_receiver};

@@ -1,7 +1,7 @@
 //! What a session shows.
 
 ghost use Rattle.std.specs.Prelude.{◌≡◌, option_map};
-ghost use Rattle.frag_session.specs.Shows.{seen};
+ghost use Rattle.frag_session.specs.HeldView.{seen};
 ghost use Rattle.fuota_c.specs.Shown.{IsShown, fields_of, file_or_none, mark_of, verdict_number};
 
 use c_base::answer::{DONE, NOTHING};
@@ -34,7 +34,7 @@ pub fn show(view: Option<View>, out: &mut ViewFields) -> u8
 }
 
 /// The whole file, and no bytes where none is.
-#[tactic(auto, unfolding(frag_session::specs::Shows::seen))]
+#[tactic(auto, unfolding(frag_session::specs::HeldView::seen))]
 pub fn file_in(view: Option<View<'_>>) -> &[u8]
     ensures { result.now ≡ file_or_none (option_map seen view.entry) }
 {
@@ -44,7 +44,7 @@ pub fn file_in(view: Option<View<'_>>) -> &[u8]
     }
 }
 
-#[tactic(auto, unfolding(frag_session::specs::Shows::seen))]
+#[tactic(auto, unfolding(frag_session::specs::HeldView::seen))]
 fn put_view(view: &View, out: &mut ViewFields)
     ensures { out.new ≡ fields_of (seen view.now) }
 {

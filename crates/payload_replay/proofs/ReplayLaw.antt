@@ -7,7 +7,7 @@ use Rattle.frag_session.specs.declared.answers.Verdict.TheVariants as verdict
 use Rattle.frag_model.specs.Members.{In}
 use Rattle.frag_session.specs.declared.answers.Via.TheVariants.{Unicast}
 use Rattle.frag_session.specs.Session.{Session, Seen, cause_of, shape_of, seen_of, view_of}
-use Rattle.frag_session.specs.Stands.{IsSetUp}
+use Rattle.frag_session.specs.HeldHistory.{IsSetUp}
 use Rattle.script_lines.specs.Lines.{lines_of}
 use Rattle.device_core.specs.declared.config.DeviceConfig.{DeviceConfig}
 use Rattle.device_core.specs.SessionTable.{session_at}

@@ -3,7 +3,7 @@
 ghost use Rattle.std.specs.Prelude.{◌≡◌, ◌<◌, ◌++◌, Some, IfOk, codes, string_bytes};
 ghost use Rattle.std.specs.Fmt.{decimal};
 ghost use Rattle.frag_session.specs.Session.{view_of};
-ghost use Rattle.frag_session.specs.Shows.{seen};
+ghost use Rattle.frag_session.specs.HeldView.{seen};
 ghost use Rattle.device_core.specs.SessionTable.{session_at};
 ghost use Rattle.device_core.specs.Device.{DeviceState};
 ghost use Rattle.device_core.specs.HeldDevice.{DeviceStands};
@@ -76,7 +76,7 @@ fn seen_line(alloc: Global, index: u8, view: View, tail: Tail) -> Result<String,
 }
 
 /// The line of a session, with whether its file is the image.
-#[tactic(auto, unfolding(frag_session::specs::Shows::seen))]
+#[tactic(auto, unfolding(frag_session::specs::HeldView::seen))]
 fn compared_line(alloc: Global, index: u8, view: View, image: &[u8]) -> Result<String, AllocError>
     ensures { IfOk result (λ text. string_bytes text ≡ session_line (same image.now) index (Some (seen view.entry))) }
 {
@@ -85,7 +85,7 @@ fn compared_line(alloc: Global, index: u8, view: View, image: &[u8]) -> Result<S
 }
 
 /// The line of a session, with its file behind it.
-#[tactic(auto, unfolding(frag_session::specs::Shows::seen))]
+#[tactic(auto, unfolding(frag_session::specs::HeldView::seen))]
 fn whole_lines(alloc: Global, index: u8, view: View) -> Result<String, AllocError>
     ensures { IfOk result (λ text. string_bytes text ≡ session_line whole index (Some (seen view.entry))) }
 {

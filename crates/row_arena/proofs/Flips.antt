@@ -2,6 +2,7 @@
 use Rattle.std.proofs.Common.{◌≡◌, ◌≢◌, ℕ, ◌+◌, ◌*◌, ◌/◌, ◌%◌, ◌^◌, ◌<◌, ◌≤◌, List, [], ◌∷◌, ◌++◌, length, take, get_or, set, min, bit_xor, bit_and, refl, sym, ap, ap₂, ◌∙◌, subst, inl, inr, arith, w64, length-set, get_or-set_same, get_or-set_other}
 use Rattle.std.specs.Int.{bit_at, trailing_zeros}
 use Rattle.std.specs.Int.Bits.{xor_add_and}
+use Rattle.std.specs.Int.Count.{ones}
 use Rattle.std.proofs.lemmas.Bool.{cases_lt, cases_eq}
 use Rattle.std.proofs.lemmas.Nat.{xor_lt, pow_pos, pow_below}
 use Rattle.std.proofs.lemmas.Nat.Bits.{bit_at-lt, bit_at-zero, bit_at_and, bit_at_xor, bit_at-pow_same, bit_at-pow_other, bit_at-trailing_zeros, same_from_bits, and_pow}
@@ -9,6 +10,7 @@ use Rattle.std.proofs.lemmas.List.{take_more_set, get_or_past}
 use Rattle.row_arena.specs.Rows.{line_in}
 use Rattle.row_arena.specs.Sums.{after_flips}
 use Rattle.row_arena.proofs.Bits.{AreWords, bit_of_word}
+use Rattle.row_arena.proofs.Ones.{one_less}
 
 pub after_flips-more : (l : ℕ) (cs : List ℕ) (c : ℕ) → after_flips l (cs ++ c ∷ []) ≡ bit_xor (after_flips l cs) (2 ^ c)
 unfolding after_flips
@@ -76,6 +78,7 @@ pub record Picking (i left count : ℕ) (old line known picks : List ℕ) : Type
   pub small : AreWords line
   pub same : line_in line ≡ after_flips (line_in old) (take count picks)
   pub told : (n : ℕ) → n < count → bit_at (line_in known) (get_or picks n 0) ≡ 1
+  pub counted : count + ones (line_in line) ≡ ones (line_in old)
   pub cleared : (w : ℕ) → w < i → bit_and (get_or line w 0) (get_or known w 0) ≡ 0
   pub here : left ≡ bit_and (get_or line i 0) (get_or known i 0)
   pub few : count ≤ 64 * (i + 1)
@@ -105,6 +108,7 @@ pub record PickedTo (i count : ℕ) (old line known picks : List ℕ) : Type 0 w
   pub small : AreWords line
   pub same : line_in line ≡ after_flips (line_in old) (take count picks)
   pub told : (n : ℕ) → n < count → bit_at (line_in known) (get_or picks n 0) ≡ 1
+  pub counted : count + ones (line_in line) ≡ ones (line_in old)
   pub cleared : (w : ℕ) → w < i → bit_and (get_or line w 0) (get_or known w 0) ≡ 0
   pub few : count ≤ 64 * i
 
@@ -116,6 +120,7 @@ pick_begin line known picks small same room = record {
   small = small;
   same = after_flips_none (line_in line) picks;
   told = λ n lt. absurd (omega arith);
+  counted = omega arith;
   cleared = λ w lt. absurd (omega arith);
   few = omega arith;
 }
@@ -129,6 +134,7 @@ pick_word i count old line known picks h = record {
   small = h.small;
   same = h.same;
   told = h.told;
+  counted = h.counted;
   cleared = h.cleared;
   here = refl;
   few = let f = h.few in omega arith;
@@ -143,6 +149,7 @@ pick_next i m left count old line known picks next none h = record {
   small = h.small;
   same = h.same;
   told = h.told;
+  counted = h.counted;
   cleared = λ w lt. elim (cases_eq w i) [
     | inl here ↦ ap (λ n. bit_and (get_or line n 0) (get_or known n 0)) here ∙ sym h.here ∙ none
     | inr other ↦ h.cleared w (omega arith)
@@ -182,6 +189,14 @@ pick_step i left t c b count m old line known picks is_t is_c is_b is_m some bel
             ∙ bit_of_word known c words ∙ ap₂ (λ w k. bit_at (get_or known w 0) k) word spot ∙ one
         | inr other ↦ ap (λ k. bit_at (line_in known) k) (get_or-set_other picks count n c 0 other) ∙ h.told n (omega arith)
       ];
+      counted =
+          let word : c / 64 ≡ i = omega arith in
+          let spot : c % 64 ≡ t = omega arith in
+          let one : bit_at (get_or line i 0) t ≡ 1 = omega (arith, both, bit_at_and (get_or line i 0) (get_or known i 0) t, bit_at-lt (get_or line i 0) t) in
+          let has : bit_at (line_in line) c ≡ 1 = bit_of_word line c h.small ∙ ap₂ (λ w k. bit_at (get_or line w 0) k) word spot ∙ one in
+          let less = one_less (line_in line) c has in
+          let flipped = ap ones (line_flipped line i t c is_c lt place h.small) in
+          omega (arith, h.counted, less, flipped);
       cleared = λ w lower.
           let ne : w ≢ i = omega arith in
           ap (λ n. bit_and n (get_or known w 0)) (get_or-set_other line i w v 0 ne) ∙ h.cleared w lower;

@@ -2,6 +2,7 @@
 
 ghost use Rattle.std.specs.Prelude.{◌≡◌, ℕ, ◌+◌, ◌*◌, ◌<◌, ◌≤◌, length, take, slice_index};
 ghost use Rattle.std.specs.Int.{bit_at};
+ghost use Rattle.std.specs.Int.Count.{ones};
 ghost use Rattle.row_arena.specs.Limits.{max_width};
 ghost use Rattle.row_arena.specs.Rows.{line_in};
 ghost use Rattle.row_arena.specs.Sums.{after_flips};
@@ -17,6 +18,7 @@ pub fn pick(line: &mut [u64], known: &[u64], picks: &mut [u16]) -> usize
     ensures inside { (n : ℕ) → n < result → slice_index picks.new n < 64 * length known.now }
     ensures none { (c : ℕ) → bit_at (line_in known.now) c ≡ 1 → bit_at (line_in line.new) c ≡ 0 }
     ensures few { result ≤ length picks.new }
+    ensures each { result + ones (line_in line.new) ≡ ones (line_in line.old) }
 {
     let mut count = 0;
     for i in 0..line.len() {

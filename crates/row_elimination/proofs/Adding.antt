@@ -4,8 +4,8 @@ use Rattle.std.proofs.lemmas.List.{set-set, set_comm, take_at}
 use Rattle.row_arena.specs.Rows.{Arena}
 use Rattle.row_elimination.specs.declared.columns.Column.{Column}
 use Rattle.row_elimination.specs.declared.columns.Column.TheVariants.{Free, Piece, Row}
-use Rattle.row_elimination.specs.Places.{Place, piece, row, all_cleared, grown}
-use Rattle.row_elimination.specs.Storage.{places_in, Slots, TakesOver}
+use Rattle.row_elimination.specs.HeldPlaces.{Place, piece, row, all_cleared, grown}
+use Rattle.row_elimination.specs.HeldStorage.{places_in, Slots, TakesOver}
 use Rattle.row_elimination.proofs.Slotting.{slots_piece, slots_moved}
 
 free_no_row : (s : ℕ) → Free ≢ Row s

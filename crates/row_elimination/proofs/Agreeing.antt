@@ -4,10 +4,10 @@ use Rattle.std.specs.List.{AllByRecursion}
 use Rattle.std.specs.Int.Bits.{xor_self, xor_zero_r, xor_assoc}
 use Rattle.std.proofs.lemmas.Nat.{xor_comm}
 use Rattle.std.proofs.lemmas.List.{ext_get_or}
-use Rattle.frag_model.specs.Fragments.{Equation, IsPiece, Meets, xor_bytes, xor_all, pieces_at}
-use Rattle.frag_model.proofs.Parts.{byte_at, get_or-xor_all, length-xor_all, get_or-xor_bytes}
+use Rattle.frag_model.specs.Fragments.{Equation, IsPiece, Meets, xor_bytes, xor_all, pieces_at, byte_at}
+use Rattle.frag_model.proofs.Parts.{get_or-xor_all, length-xor_all, get_or-xor_bytes}
 use Rattle.frag_model.proofs.Uniqueness.{byte_at-xor}
-pub use Rattle.row_elimination.specs.Steps.{Agrees}
+pub use Rattle.row_elimination.specs.HeldSteps.{Agrees}
 
 pub agrees_xor : (b : List (List ℕ)) (l m : ℕ) (p q : List ℕ) → Agrees b l p → Agrees b m q → Agrees b (bit_xor l m) (xor_bytes p q)
 agrees_xor b l m p q h k = λ i. byte_at-xor l m i b ∙ ap₂ bit_xor (h i) (k i) ∙ sym (get_or-xor_bytes p q i)

@@ -8,17 +8,17 @@ use Rattle.std.proofs.lemmas.List.{ext_get_or, drop-drop}
 use Rattle.std.proofs.lemmas.List.Elements.{recursion_from_All}
 use Rattle.std.proofs.lemmas.Bool.{cases_eq, cases_Bool, and_left, and_right, and_from, lt-leb, false≢true}
 use Rattle.frag_model.specs.Fragments.{Shape, Equation, IsPiece, IsBlock, line_of}
-use Rattle.frag_model.specs.Gain.{is_sum}
-use Rattle.frag_model.proofs.Tables.{IsSum, IsSum-from_test, test-from_IsSum}
+use Rattle.frag_model.specs.Gain.{is_sum, IsSum}
+use Rattle.frag_model.proofs.Tables.{IsSum-from_test, test-from_IsSum}
 use Rattle.frag_model.proofs.Uncoded.{line_of_piece}
 use Rattle.row_elimination.specs.declared.stages.Stage.TheVariants as stage
-use Rattle.row_elimination.specs.Places.{Place, free, piece, row, told, is_piece, pieces_held, rows_held, gained_held, lines_held, grown, FitsHeld}
+use Rattle.row_elimination.specs.HeldPlaces.{Place, free, piece, row, told, is_piece, pieces_held, rows_held, gained_held, lines_held, grown, FitsHeld}
 use Rattle.row_elimination.specs.Inside.{IsReduced}
-use Rattle.row_elimination.specs.Storage.{chunk}
-use Rattle.row_elimination.specs.Steps.{IsNew, Knows, Tells, Agrees, AgreesAll, Reduced}
-use Rattle.row_elimination.specs.Grid.{Grid, SameRoom}
-use Rattle.row_elimination.specs.Held.{Held, IsMarked, line_for, equation_for, IsLeft, is_new_piece, Takes, Receives, Completes, Contradicts, Overflows}
-use Rattle.row_elimination.specs.Taking.{held_of, IsReady, IsZero, stage_after, FedAs, DecidedAs}
+use Rattle.row_elimination.specs.HeldStorage.{chunk}
+use Rattle.row_elimination.specs.HeldSteps.{IsNew, Knows, Tells, Agrees, AgreesAll, Reduced}
+use Rattle.row_elimination.specs.HeldTable.{Grid, SameRoom}
+use Rattle.row_elimination.specs.HeldSolver.{Held, IsMarked, line_for, equation_for, IsLeft, is_new_piece, Takes, Receives, Completes, Contradicts, Overflows}
+use Rattle.row_elimination.specs.HeldTaking.{held_of, IsReady, IsZero, stage_after, FedAs, DecidedAs}
 use Rattle.row_elimination.specs.declared.stages.Fed.{Fed}
 use Rattle.row_elimination.specs.declared.stages.Fed.TheVariants as fed
 use Rattle.row_elimination.proofs.Agreeing.{agrees_from_meets, meets_from_agrees}

@@ -8,11 +8,11 @@ use Rattle.std.proofs.lemmas.Nat.Bits.{bit_at_lowest, bit_at-suc, bit_at-pow_sam
 use Rattle.std.proofs.lemmas.Bool.{cases_Bool, cases_eq, cases_lt, eqb-false}
 use Rattle.std.proofs.lemmas.List.{length-replicate, get_or-replicate, ext_get_or}
 use Rattle.std.proofs.lemmas.List.Elements.{All-set, All-get_or, All-from_get_or, recursion_from_All}
-use Rattle.frag_model.specs.Fragments.{Shape, Equation, IsPiece, IsBlock, Meets, xor_bytes, xor_all, pieces_at}
-use Rattle.frag_model.proofs.Parts.{xor_swap, byte_at, get_or-xor_all, get_or-xor_bytes}
+use Rattle.frag_model.specs.Fragments.{Shape, Equation, IsPiece, IsBlock, Meets, xor_bytes, xor_all, pieces_at, byte_at}
+use Rattle.frag_model.proofs.Parts.{xor_swap, get_or-xor_all, get_or-xor_bytes}
 use Rattle.frag_model.proofs.Sums.{xor_back}
 use Rattle.frag_model.proofs.Uncoded.{xor_all_piece}
-use Rattle.row_elimination.specs.Places.{Place, free, told, gained_held, FitsHeld}
+use Rattle.row_elimination.specs.HeldPlaces.{Place, free, told, gained_held, FitsHeld}
 use Rattle.row_elimination.specs.Inside.{IsReduced}
 use Rattle.row_elimination.proofs.Agreeing.{Agrees, meets_from_agrees}
 use Rattle.row_elimination.proofs.Telling.{Tells, AgreesAll, told_within, agrees_from_fits}

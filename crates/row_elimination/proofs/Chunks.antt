@@ -5,7 +5,7 @@ use Rattle.std.proofs.lemmas.Slice.{take-put_mid_below, drop-put_mid}
 use Rattle.std.proofs.lemmas.Nat.{mul-le}
 use Rattle.std.proofs.lemmas.Bool.{cases_lt}
 use borrow.Rule.Slice.PartMut.{put_mid, post_of}
-use Rattle.row_elimination.specs.Storage.{chunk}
+use Rattle.row_elimination.specs.HeldStorage.{chunk}
 
 pub get_or-chunk : {A : Type 0} (k size i : ℕ) (xs : List A) (d : A) → i < size → get_or (chunk k size xs) i d ≡ get_or xs (k * size + i) d
 unfolding chunk

@@ -5,7 +5,7 @@ use Rattle.std.specs.List.{count_by}
 use Rattle.std.specs.Int.{bit_at}
 use Rattle.std.proofs.lemmas.List.Sums.{sum_by-cons}
 use Rattle.frag_model.specs.Fragments.{Equation, xor_bytes}
-use Rattle.row_elimination.specs.Places.{Place, free, piece, row, told, is_piece, is_row, pieces_held, rows_held, gained_held, cleared, all_cleared, grown}
+use Rattle.row_elimination.specs.HeldPlaces.{Place, free, piece, row, told, is_piece, is_row, pieces_held, rows_held, gained_held, cleared, all_cleared, grown}
 use Rattle.row_elimination.proofs.Telling.{Tells}
 use Rattle.row_elimination.proofs.Growing.{length-all_cleared, at_all_cleared, free_is_cleared}
 

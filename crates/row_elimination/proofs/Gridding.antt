@@ -8,13 +8,13 @@ use Rattle.frag_model.specs.Fragments.{Shape, Equation, IsPiece}
 use Rattle.row_arena.specs.Rows.{Arena, Row as Line, zero_row, row_at, line_in, words_for}
 use Rattle.row_elimination.specs.declared.columns.Column.{Column}
 use Rattle.row_elimination.specs.declared.columns.Column.TheVariants.{Free, Piece, Row}
-use Rattle.row_elimination.specs.Places.{Place, free, piece, row, told, is_piece, is_row, pieces_held, rows_held, gained_held, grown, cleared}
+use Rattle.row_elimination.specs.HeldPlaces.{Place, free, piece, row, told, is_piece, is_row, pieces_held, rows_held, gained_held, grown, cleared}
 use Rattle.row_elimination.specs.Inside.{IsReduced, Marks}
 use Rattle.row_elimination.specs.Made.{no_rows}
 use Rattle.row_elimination.specs.Room.{Extent}
-use Rattle.row_elimination.specs.Storage.{chunk, place_in, places_in, part_in, IsStored, IsRowOf, SameShape, Slots}
-use Rattle.row_elimination.specs.Steps.{IsNew, Knows, Tells}
-use Rattle.row_elimination.specs.Grid.{Grid, IsGrid, max_line_words}
+use Rattle.row_elimination.specs.HeldStorage.{chunk, place_in, places_in, part_in, IsStored, IsRowOf, SameShape, Slots}
+use Rattle.row_elimination.specs.HeldSteps.{IsNew, Knows, Tells}
+use Rattle.row_elimination.specs.HeldTable.{Grid, IsGrid, max_line_words}
 use Rattle.frag_model.specs.Limits.{max_pieces}
 use Rattle.row_elimination.proofs.Chunks.{before}
 use Rattle.row_elimination.proofs.Storing.{at_places, length-places, row_told, same_shape}

@@ -7,13 +7,14 @@ use Rattle.std.proofs.lemmas.Bool.{cases_Bool, cases_eq, cases_lt, eqb-false}
 use Rattle.std.proofs.lemmas.List.{length-map, get_or-map, get_or_past, get_or-set_same, get_or-set_other}
 use Rattle.frag_model.specs.Fragments.{Equation, IsPiece, xor_bytes}
 use Rattle.frag_model.proofs.Sums.{xor_back}
-use Rattle.frag_model.proofs.Tables.{IsSum, IsSum-line, IsSum-xor, IsSum-within}
-use Rattle.row_elimination.specs.Places.{Place, free, piece, row, told, lines_held, cleared, all_cleared, grown}
+use Rattle.frag_model.specs.Gain.{IsSum}
+use Rattle.frag_model.proofs.Tables.{IsSum-line, IsSum-xor, IsSum-within}
+use Rattle.row_elimination.specs.HeldPlaces.{Place, free, piece, row, told, lines_held, cleared, all_cleared, grown}
 use Rattle.row_elimination.specs.Inside.{IsReduced}
 use Rattle.row_elimination.proofs.Agreeing.{Agrees, agrees_xor, agrees_back}
 use Rattle.row_elimination.proofs.Telling.{Tells, AgreesAll, told-sum, lines-In}
 use Rattle.row_elimination.proofs.Reducing.{piece_xor}
-pub use Rattle.row_elimination.specs.Steps.{IsNew}
+pub use Rattle.row_elimination.specs.HeldSteps.{IsNew}
 
 -- the equation at a place is as it was, or it was changed by the new one
 Changed : ℕ → ℕ → List ℕ → Equation → Equation → Type 0

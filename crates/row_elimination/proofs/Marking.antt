@@ -3,7 +3,7 @@ use Rattle.std.proofs.Common.{◌≡◌, ◌≢◌, ℕ, ◌<◌, ◌^◌, true,
 use Rattle.std.specs.Int.{bit_at}
 use Rattle.std.proofs.lemmas.Nat.Bits.{bit_at-lt, bit_at-zero, bit_at_xor, bit_at-pow_same, bit_at-pow_other}
 use Rattle.std.proofs.lemmas.Bool.{cases_eq}
-use Rattle.row_elimination.specs.Places.{Place, free, piece, is_piece, grown}
+use Rattle.row_elimination.specs.HeldPlaces.{Place, free, piece, is_piece, grown}
 use Rattle.row_elimination.specs.Inside.{Marks}
 use Rattle.row_elimination.proofs.Counting.{is_piece-cleared}
 use Rattle.row_elimination.proofs.Growing.{at_new, at_old}

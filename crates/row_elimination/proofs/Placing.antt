@@ -5,8 +5,8 @@ use Rattle.std.proofs.lemmas.Bool.{cases_eq, cases_lt}
 use Rattle.row_arena.specs.Rows.{Arena, Row as Line, row_at, with_row}
 use Rattle.row_elimination.specs.declared.columns.Column.{Column}
 use Rattle.row_elimination.specs.declared.columns.Column.TheVariants.{Free, Piece, Row}
-use Rattle.row_elimination.specs.Places.{Place, free, piece, row}
-use Rattle.row_elimination.specs.Storage.{chunk, place_in, places_in, part_in}
+use Rattle.row_elimination.specs.HeldPlaces.{Place, free, piece, row}
+use Rattle.row_elimination.specs.HeldStorage.{chunk, place_in, places_in, part_in}
 use Rattle.row_elimination.proofs.Storing.{at_places, length-places, with_here, with_others}
 
 -- the storage says the same of all columns but one

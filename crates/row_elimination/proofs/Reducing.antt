@@ -4,16 +4,17 @@ use Rattle.std.proofs.lemmas.List.{ext_get_or}
 use Rattle.std.specs.Int.Bits.{xor_self}
 use Rattle.std.proofs.lemmas.Nat.{xor_lt}
 use Rattle.std.proofs.lemmas.List.Elements.{All-get_or, All-from_get_or}
-use Rattle.frag_model.specs.Fragments.{Equation, IsPiece, xor_bytes}
-use Rattle.frag_model.proofs.Parts.{byte_at, get_or-xor_bytes, length-xor_bytes}
+use Rattle.frag_model.specs.Fragments.{Equation, IsPiece, xor_bytes, byte_at}
+use Rattle.frag_model.proofs.Parts.{get_or-xor_bytes, length-xor_bytes}
 use Rattle.frag_model.proofs.Uniqueness.{byte_at-xor}
-use Rattle.frag_model.proofs.Tables.{IsSum, IsSum-zero, IsSum-xor}
-use Rattle.row_elimination.specs.Places.{Place, told, lines_held}
+use Rattle.frag_model.specs.Gain.{IsSum}
+use Rattle.frag_model.proofs.Tables.{IsSum-zero, IsSum-xor}
+use Rattle.row_elimination.specs.HeldPlaces.{Place, told, lines_held}
 use Rattle.row_elimination.specs.Inside.{IsReduced}
 use Rattle.row_elimination.proofs.Agreeing.{agrees_xor, agrees_same, xor_right}
 use Rattle.row_elimination.proofs.Telling.{Tells, told-sum}
-pub use Rattle.row_elimination.specs.Steps.{Reduced, Taken}
-use Rattle.row_elimination.specs.Storage.{chunk}
+pub use Rattle.row_elimination.specs.HeldSteps.{Reduced, Taken}
+use Rattle.row_elimination.specs.HeldStorage.{chunk}
 use Rattle.row_elimination.proofs.Chunks.{get_or-chunk}
 use Rattle.row_arena.specs.Sums.{after_pieces, after_flips}
 

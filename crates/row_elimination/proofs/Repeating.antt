@@ -11,11 +11,11 @@ use Rattle.frag_model.proofs.Parts.{xor_same, get_or-xor_bytes}
 use Rattle.row_elimination.specs.declared.stages.Stage.TheVariants as stage
 use Rattle.row_elimination.specs.declared.stages.Fed.{Fed}
 use Rattle.row_elimination.specs.declared.stages.Fed.TheVariants as fed
-use Rattle.row_elimination.specs.Places.{Place, free, piece, told, rows_held, gained_held, grown}
+use Rattle.row_elimination.specs.HeldPlaces.{Place, free, piece, told, rows_held, gained_held, grown}
 use Rattle.row_elimination.specs.Inside.{IsReduced}
-use Rattle.row_elimination.specs.Steps.{Reduced, Tells}
-use Rattle.row_elimination.specs.Grid.{Grid, SameRoom}
-use Rattle.row_elimination.specs.Taking.{held_of, IsReady, stage_after, FedAs, DecidedAs}
+use Rattle.row_elimination.specs.HeldSteps.{Reduced, Tells}
+use Rattle.row_elimination.specs.HeldTable.{Grid, SameRoom}
+use Rattle.row_elimination.specs.HeldTaking.{held_of, IsReady, stage_after, FedAs, DecidedAs}
 use Rattle.row_elimination.proofs.Reducing.{taken_begins, taken_more}
 use Rattle.row_elimination.proofs.Settling.{unit_off}
 use Rattle.row_elimination.proofs.Gridding.{put_places, put_reduced}

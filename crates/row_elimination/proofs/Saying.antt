@@ -6,12 +6,12 @@ use Rattle.std.specs.Int.Bits.{xor_self, xor_zero_l}
 use Rattle.std.proofs.lemmas.Nat.{xor_comm}
 use Rattle.std.proofs.lemmas.Nat.Bits.{bit_at-zero}
 use Rattle.std.proofs.lemmas.Bool.{cases_Bool}
-use Rattle.frag_model.specs.Fragments.{Shape, Equation, IsPiece, xor_bytes}
-use Rattle.frag_model.specs.Gain.{is_sum}
-use Rattle.frag_model.proofs.Parts.{xor_swap, byte_at, get_or-xor_bytes}
+use Rattle.frag_model.specs.Fragments.{Shape, Equation, IsPiece, xor_bytes, byte_at}
+use Rattle.frag_model.specs.Gain.{is_sum, IsSum}
+use Rattle.frag_model.proofs.Parts.{xor_swap, get_or-xor_bytes}
 use Rattle.frag_model.proofs.Sums.{xor_back}
-use Rattle.frag_model.proofs.Tables.{IsSum, IsSum-zero, IsSum-xor, IsSum-from_test, test-from_IsSum}
-use Rattle.row_elimination.specs.Places.{Place, free, piece, row, told, lines_held, grown, gained_held}
+use Rattle.frag_model.proofs.Tables.{IsSum-zero, IsSum-xor, IsSum-from_test, test-from_IsSum}
+use Rattle.row_elimination.specs.HeldPlaces.{Place, free, piece, row, told, lines_held, grown, gained_held}
 use Rattle.row_elimination.specs.Inside.{IsReduced}
 use Rattle.row_elimination.proofs.Agreeing.{Agrees, agrees_back, agrees_same}
 use Rattle.row_elimination.proofs.Telling.{AgreesAll, no_lead}

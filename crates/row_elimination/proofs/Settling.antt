@@ -5,16 +5,17 @@ use Rattle.std.proofs.lemmas.Nat.{pow_pos}
 use Rattle.std.proofs.lemmas.Nat.Bits.{bit_at_xor, bit_at-pow_same, bit_at-pow_other}
 use Rattle.std.proofs.lemmas.Bool.{cases_eq}
 use Rattle.std.proofs.lemmas.List.{ext_get_or}
-use Rattle.frag_model.specs.Fragments.{Shape, Equation}
-use Rattle.frag_model.proofs.Parts.{xor_same, byte_at}
-use Rattle.frag_model.proofs.Tables.{IsSum, IsSum-xor, IsSum-within}
-use Rattle.row_elimination.specs.Places.{Place, free, piece, row, told, lines_held, is_piece, is_row, rows_held, pieces_held, gained_held, cleared, grown}
+use Rattle.frag_model.specs.Fragments.{Shape, Equation, byte_at}
+use Rattle.frag_model.proofs.Parts.{xor_same}
+use Rattle.frag_model.specs.Gain.{IsSum}
+use Rattle.frag_model.proofs.Tables.{IsSum-xor, IsSum-within}
+use Rattle.row_elimination.specs.HeldPlaces.{Place, free, piece, row, told, lines_held, is_piece, is_row, rows_held, pieces_held, gained_held, cleared, grown}
 use Rattle.row_elimination.specs.Inside.{IsReduced}
 use Rattle.row_elimination.proofs.Telling.{Tells, AgreesAll, told-sum, lines-In, no_lead}
 use Rattle.row_elimination.proofs.Blocks.{some_fitting}
 use Rattle.row_elimination.proofs.Counting.{one, one_true, one_false, rows_set, pieces_set, held_kind, is_piece-cleared}
 use Rattle.row_elimination.proofs.Growing.{IsNew, at_old, new_at}
-pub use Rattle.row_elimination.specs.Steps.{Knows}
+pub use Rattle.row_elimination.specs.HeldSteps.{Knows}
 
 -- its column then leads an equation
 pub unit_off : (k d : ℕ) (ps : List Place) (e : Equation) → Tells ps d e → get_or ps k free ≡ free → d ≢ k

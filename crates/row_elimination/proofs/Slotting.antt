@@ -3,7 +3,7 @@ use Rattle.std.proofs.Common.{◌≡◌, ◌≢◌, ◌⊎◌, ℕ, ◌+◌, ◌
 use Rattle.std.proofs.lemmas.Bool.{cases_eq}
 use Rattle.row_elimination.specs.declared.columns.Column.{Column}
 use Rattle.row_elimination.specs.declared.columns.Column.TheVariants.{Free, Piece, Row}
-use Rattle.row_elimination.specs.Storage.{Slots}
+use Rattle.row_elimination.specs.HeldStorage.{Slots}
 
 row_same : (s t : ℕ) → Row s ≡ Row t → s ≡ t
 row_same s t e = cc

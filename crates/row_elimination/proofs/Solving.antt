@@ -6,11 +6,11 @@ use Rattle.row_elimination.specs.declared.stages.Stage.{Stage}
 use Rattle.row_elimination.specs.declared.stages.Stage.TheVariants as stage
 use Rattle.row_elimination.specs.declared.stages.Fed.{Fed}
 use Rattle.row_elimination.specs.declared.stages.Fed.TheVariants as fed
-use Rattle.row_elimination.specs.Places.{free, gained_held}
+use Rattle.row_elimination.specs.HeldPlaces.{free, gained_held}
 use Rattle.row_elimination.specs.Inside.{IsReduced}
-use Rattle.row_elimination.specs.Grid.{Grid, SameRoom}
-use Rattle.row_elimination.specs.Held.{Held, TwoFit, Receives, Completes, Contradicts, Overflows}
-use Rattle.row_elimination.specs.Taking.{held_of, stage_after, FedAs}
+use Rattle.row_elimination.specs.HeldTable.{Grid, SameRoom}
+use Rattle.row_elimination.specs.HeldSolver.{Held, TwoFit, Receives, Completes, Contradicts, Overflows}
+use Rattle.row_elimination.specs.HeldTaking.{held_of, stage_after, FedAs}
 use Rattle.row_arena.specs.Rows.{words_for, has_room as has_arena_room}
 use Rattle.row_elimination.specs.Room.{Extent, has_room}
 use Rattle.row_elimination.specs.SolverInside.{IsSolver}

@@ -15,9 +15,9 @@ use Rattle.frag_model.proofs.Dimension.{direct_of-coded}
 use Rattle.frag_model.proofs.Enough.{enough_after}
 use Rattle.frag_model.proofs.Verdicts.{verdict_now-right, IsVerdictNow-same}
 use Rattle.row_elimination.specs.declared.stages.Stage.TheVariants as stage
-use Rattle.row_elimination.specs.Places.{Place, free, told, equations_from, equations_held, lines_held, is_piece, pieces_held, rows_held, gained_held, FitsHeld}
-use Rattle.row_elimination.specs.Held.{Held, missing_of, line_for, equation_for, IsLeft, is_new_piece, Takes, Receives, Completes, Contradicts, Overflows, IsBegun}
-use Rattle.row_elimination.specs.Stands.{StandsFor, FeedStands}
+use Rattle.row_elimination.specs.HeldPlaces.{Place, free, told, equations_from, equations_held, lines_held, is_piece, pieces_held, rows_held, gained_held, FitsHeld}
+use Rattle.row_elimination.specs.HeldSolver.{Held, missing_of, line_for, equation_for, IsLeft, is_new_piece, Takes, Receives, Completes, Contradicts, Overflows, IsBegun}
+use Rattle.row_elimination.specs.HeldHistory.{StandsFor, FeedStands}
 use Rattle.row_elimination.proofs.Gridding.{free_everywhere, rows_none, gained_none}
 
 -- ---- one fragment more

@@ -11,10 +11,10 @@ use Rattle.row_arena.specs.Sums.{after_flips, after_pieces}
 use Rattle.row_arena.proofs.Flips.{after_flips-more}
 use Rattle.row_elimination.specs.declared.columns.Column.{Column}
 use Rattle.row_elimination.specs.declared.columns.Column.TheVariants.{Free, Piece, Row}
-use Rattle.row_elimination.specs.Places.{Place, free, row, told, is_piece, cleared, all_cleared}
+use Rattle.row_elimination.specs.HeldPlaces.{Place, free, row, told, is_piece, cleared, all_cleared}
 use Rattle.row_elimination.specs.Inside.{IsReduced, Marks}
-use Rattle.row_elimination.specs.Storage.{place_in, places_from, places_in, line_cleared, IsStored, SameShape, Clears, ClearsAll}
-use Rattle.row_elimination.specs.Steps.{Tells, Taken, Reduced, TakesRow}
+use Rattle.row_elimination.specs.HeldStorage.{place_in, places_from, places_in, line_cleared, IsStored, SameShape, Clears, ClearsAll}
+use Rattle.row_elimination.specs.HeldSteps.{Tells, Taken, Reduced, TakesRow}
 use Rattle.row_elimination.proofs.Lines.{sum_is}
 use Rattle.row_elimination.proofs.Growing.{at_all_cleared, length-all_cleared}
 use Rattle.row_elimination.proofs.Chunks.{before}

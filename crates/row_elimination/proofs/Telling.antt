@@ -9,11 +9,12 @@ use Rattle.std.proofs.lemmas.List.{get_or_past}
 use Rattle.frag_model.specs.Fragments.{Shape, Equation, IsPiece, IsBlock, Meets}
 use Rattle.frag_model.proofs.Members.{In, In-append_left, In-append_right, In-append_cases, In-map, In-map_from}
 use Rattle.frag_model.proofs.Uncoded.{each-In, each-from_In}
-use Rattle.frag_model.proofs.Tables.{IsSum, IsSum-line, IsSum-without}
-use Rattle.row_elimination.specs.Places.{Place, free, piece, row, told, equations_from, equations_held, lines_held, FitsHeld}
+use Rattle.frag_model.specs.Gain.{IsSum}
+use Rattle.frag_model.proofs.Tables.{IsSum-line, IsSum-without}
+use Rattle.row_elimination.specs.HeldPlaces.{Place, free, piece, row, told, equations_from, equations_held, lines_held, FitsHeld}
 use Rattle.row_elimination.specs.Inside.{IsReduced}
 use Rattle.row_elimination.proofs.Agreeing.{agrees_from_meets, meets_from_agrees}
-pub use Rattle.row_elimination.specs.Steps.{Tells, AgreesAll}
+pub use Rattle.row_elimination.specs.HeldSteps.{Tells, AgreesAll}
 
 -- ---- membership
 

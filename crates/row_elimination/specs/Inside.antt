@@ -2,7 +2,7 @@
 use Rattle.std.specs.Prelude.{◌≡◌, ◌≢◌, ℕ, ◌^◌, ◌<◌, List, length, get_or, Some, true}
 use Rattle.std.specs.Int.{bit_at}
 use Rattle.frag_model.specs.Fragments.{Equation, IsPiece}
-use Rattle.row_elimination.specs.Places.{Place, free, told, is_piece}
+use Rattle.row_elimination.specs.HeldPlaces.{Place, free, told, is_piece}
 
 -- fully reduced: each equation has its own column, and none that another equation leads
 pub record IsReduced (cols size : ℕ) (ps : List Place) : Type 0 where

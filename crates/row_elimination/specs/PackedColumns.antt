@@ -1,6 +1,5 @@
 -- A column in two bytes: 0 where nothing is kept, 1 for its piece, and 2 more than the slot of the row that it leads.
 use Rattle.std.specs.Prelude.{◌≡◌, ℕ, zero, suc, refl}
-use Rattle.std.proofs.Common.{ap}
 use Rattle.row_elimination.specs.declared.columns.Column.{Column}
 use Rattle.row_elimination.specs.declared.columns.PackedColumn.TheInside.{Inside}
 use Rattle.row_elimination.specs.declared.columns.Column.TheVariants.{Free, Piece, Row}
@@ -30,4 +29,4 @@ code_back (suc (suc slot)) = refl
 
 -- a column is read as it was written
 pub packed_back : (c : Inside) → packed (code_in (column_in c.code)) ≡ c
-packed_back c = ap packed (code_back c.code)
+packed_back c = λ i. packed (code_back c.code i)

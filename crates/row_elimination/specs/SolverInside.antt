@@ -2,9 +2,9 @@
 use Rattle.std.specs.Prelude.{◌≡◌, ℕ, ◌*◌, ◌<◌, ◌≤◌, List, length}
 use Rattle.row_elimination.specs.declared.stages.Stage.{Stage}
 use Rattle.row_elimination.specs.declared.stages.Stage.TheVariants as stage
-use Rattle.row_elimination.specs.Places.{gained_held}
+use Rattle.row_elimination.specs.HeldPlaces.{gained_held}
 use Rattle.row_arena.specs.Rows.{words_for}
-use Rattle.row_elimination.specs.Grid.{Grid}
+use Rattle.row_elimination.specs.HeldTable.{Grid}
 use Rattle.frag_model.specs.Limits.{max_frag_size, max_pieces}
 
 -- the fields of a solver, with the capacities of what a line and its columns are written to

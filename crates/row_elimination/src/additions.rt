@@ -3,22 +3,25 @@
 ghost use Rattle.std.specs.Prelude.{◌≡◌, ◌≢◌, ◌⊎◌, ℕ, ◌+◌, ◌*◌, ◌<◌, ◌≤◌, length, get_or, List, set, take};
 ghost use Rattle.row_arena.specs.Rows.{Arena, line_in};
 ghost use Rattle.row_elimination.specs.PackedColumns.{last_slot};
-ghost use Rattle.row_elimination.specs.Places.{piece, piece as known, grown};
-ghost use Rattle.row_elimination.specs.Storage.{places_in, IsStored, IsRowOf, SameShape, Slots, TakesOver};
+ghost use Rattle.row_elimination.specs.HeldPlaces.{piece, piece as known, grown};
+ghost use Rattle.row_elimination.specs.HeldStorage.{places_in, IsStored, IsRowOf, SameShape, Slots, TakesOver};
 
 use crate::columns::{Column, PackedColumn};
 use crate::entries::{put_piece, put_row};
 use crate::passes::clear;
 use crate::rows::Rows;
+use parity_lines::Steps;
+use std::sync::ledger::Ledger;
 
-/// Adds a row, which its column `p` leads, in a slot that no column uses.
-pub fn add_row<const W: usize, const B: usize>(
+/// Adds a row, which its column `p` leads, in a slot that no column uses, and counts the rows that it is added to.
+pub fn add_row<const W: usize, const B: usize, M: Ledger>(
     columns: &mut [PackedColumn],
     arena: &mut Rows<W, B>,
     slot: u16,
     p: u16,
     line: &[u64],
     part: &[u8],
+    sums: &mut Steps<M>,
 )
     requires columns { arena.old.cols ≤ length columns.old }
     requires inside { p < arena.old.cols }
@@ -31,9 +34,10 @@ pub fn add_row<const W: usize, const B: usize>(
     ensures places { (area : List ℕ) → places_in (length part.now) area arena.new (take arena.old.cols columns.new) ≡
         grown p (line_in line.now) part.now (places_in (length part.now) area arena.old (take arena.old.cols columns.old)) }
     ensures shape { SameShape arena.old arena.new }
+    ensures few { sums.new ≤ sums.old + length arena.old.rows }
 {
     let columns = &mut columns[..arena.cols() as usize];
-    clear(arena, p, line, part);
+    clear(arena, p, line, part, sums);
     put_row(columns, arena, slot, p, line, part);
 }
 
@@ -50,8 +54,8 @@ pub fn add_piece(columns: &mut [PackedColumn], cols: usize, area: &mut [u8], k: 
 }
 
 /// Puts the piece of column `k` into the area, and a row, which its column `p` leads, where the row was that `k` led. Where
-/// `k` led none the row is the piece itself.
-pub fn add_piece_and_row<const W: usize, const B: usize>(
+/// `k` led none the row is the piece itself. Counts the rows that it is added to.
+pub fn add_piece_and_row<const W: usize, const B: usize, M: Ledger>(
     columns: &mut [PackedColumn],
     area: &mut [u8],
     arena: &mut Rows<W, B>,
@@ -60,6 +64,7 @@ pub fn add_piece_and_row<const W: usize, const B: usize>(
     p: u16,
     line: &[u64],
     part: &[u8],
+    sums: &mut Steps<M>,
 )
     requires columns { arena.old.cols ≤ length columns.old }
     requires inside { p < arena.old.cols }
@@ -74,9 +79,10 @@ pub fn add_piece_and_row<const W: usize, const B: usize>(
     ensures places { places_in (length part.now) area.new arena.new (take arena.old.cols columns.new) ≡
         set (grown p (line_in line.now) part.now (places_in (length part.now) area.old arena.old (take arena.old.cols columns.old))) k (known piece.now) }
     ensures shape { SameShape arena.old arena.new }
+    ensures few { sums.new ≤ sums.old + length arena.old.rows }
 {
     let columns = &mut columns[..arena.cols() as usize];
-    clear(arena, p, line, part);
+    clear(arena, p, line, part, sums);
     let kept = columns[k].column();
     put_piece(columns, area, k, piece);
     take_over(kept, columns, arena, p, line, part);

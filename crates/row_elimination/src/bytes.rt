@@ -1,7 +1,7 @@
 //! The stretches of a slice.
 
 ghost use Rattle.std.specs.Prelude.{◌≡◌, ◌≢◌, ℕ, ◌+◌, ◌*◌, ◌≤◌, length};
-ghost use Rattle.row_elimination.specs.Storage.{chunk};
+ghost use Rattle.row_elimination.specs.HeldStorage.{chunk};
 
 /// The `k`-th stretch of `size` items.
 pub fn chunk<T>(items: &[T], k: usize, size: usize) -> &[T]

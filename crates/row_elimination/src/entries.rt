@@ -3,8 +3,8 @@
 ghost use Rattle.std.specs.Prelude.{◌≡◌, ◌≢◌, ℕ, ◌+◌, ◌*◌, ◌<◌, ◌≤◌, length, get_or, List, set};
 ghost use Rattle.row_arena.specs.Rows.{Arena, line_in};
 ghost use Rattle.row_elimination.specs.PackedColumns.{last_slot};
-ghost use Rattle.row_elimination.specs.Places.{piece, row};
-ghost use Rattle.row_elimination.specs.Storage.{chunk, part_in, places_in, IsRowOf, SameShape};
+ghost use Rattle.row_elimination.specs.HeldPlaces.{piece, row};
+ghost use Rattle.row_elimination.specs.HeldStorage.{chunk, part_in, places_in, IsRowOf, SameShape};
 
 use crate::bytes::put_at;
 use crate::columns::{Column, PackedColumn};

@@ -1,6 +1,6 @@
 //! Laws about what a solver stands for, each the contract of a function that does nothing.
 
-ghost use Rattle.row_elimination.specs.Stands.{FeedStands};
+ghost use Rattle.row_elimination.specs.HeldHistory.{FeedStands};
 
 /// What each answer of `feed` means for every list of heard fragments that the solver stands for.
 #[tactic(auto, using(crate::proofs::Standing::feed_stands))]

@@ -26,6 +26,7 @@ mod solver;
 mod stages;
 mod tables;
 mod taking;
+mod uncounted;
 
 pub use solver::{MAX_FRAG_SIZE, Memory, NoRoom, Solver};
 pub use stages::{Fed, Stage};

@@ -1,21 +1,24 @@
 //! A file that is recovered from whatever fragments of it come.
 
-ghost use Rattle.std.specs.Prelude.{◌≡◌, ◌*◌, ◌+◌, ◌<◌, ◌≤◌, length, is_ok, IfOk, OnOk, OnErr};
-ghost use Rattle.frag_model.specs.Fragments.{Shape};
-ghost use Rattle.row_elimination.specs.Held.{missing_of, TwoFit, IsBegun, Receives, Completes, Contradicts, Overflows};
-ghost use Rattle.row_elimination.specs.Places.{pieces_held};
+ghost use Rattle.std.specs.Prelude.{◌≡◌, ◌*◌, ◌+◌, ◌/◌, ◌<◌, ◌≤◌, length, max, is_ok, IfOk, OnOk, OnErr};
+ghost use Rattle.frag_model.specs.Fragments.{Shape, columns_in, draws_of, line_of};
+ghost use Rattle.row_elimination.specs.HeldSolver.{missing_of, TwoFit, IsBegun, Receives, Completes, Contradicts, Overflows};
+ghost use Rattle.row_elimination.specs.HeldPlaces.{pieces_held};
 ghost use Rattle.row_elimination.specs.Room.{extent_for, has_room};
-ghost use Rattle.row_elimination.specs.Taking.{stage_after};
+ghost use Rattle.row_elimination.specs.HeldTaking.{stage_after};
 ghost use Rattle.row_arena.specs.Limits.{max_bytes, max_words};
 ghost use Rattle.frag_model.specs.Limits.{max_frag_size, max_parity_index, max_pieces};
 
 use crate::stages::{Fed, Stage};
 use crate::tables::{Table, widen};
 use crate::taking::take;
+use crate::uncounted::{Counts, take_uncounted};
 use frag_model::lines::MAX_PIECES;
+use parity_lines::Steps;
 use row_arena::words_for;
 use std::alloc::Global;
-use std::marker::Model;
+use std::marker::{Brand, Model};
+use std::sync::ledger::{Blank, Ledger};
 
 /// The most bytes of a fragment.
 pub const MAX_FRAG_SIZE: usize = 239;
@@ -48,8 +51,8 @@ struct Kept<const W: usize, const B: usize> {
 
 impl<const W: usize, const B: usize> Model for Solver<W, B> {
     ghost use Rattle.std.specs.Prelude.{vec_capacity};
-    ghost use Rattle.row_elimination.specs.Held.{Held};
-    ghost use Rattle.row_elimination.specs.Taking.{held_of};
+    ghost use Rattle.row_elimination.specs.HeldSolver.{Held};
+    ghost use Rattle.row_elimination.specs.HeldTaking.{held_of};
     ghost use Rattle.row_elimination.specs.SolverInside.{IsSolver};
 
     ghost Value = { Held };
@@ -167,6 +170,33 @@ impl<const W: usize, const B: usize> Solver<W, B> {
         ensures conflict { result ≡ Fed.Conflict → Contradicts self.old self.new n part.now }
         ensures extent { self.new.extent ≡ self.old.extent }
     {
+        take_uncounted::<Solver<W, B>, Brand, Brand>(self, n, part, Blank::new(1), Blank::new(1))
+    }
+
+    /// As `feed`, and counts its work: the states of the register that are drawn for the fragment's line, and the sums that
+    /// are made, each the XOR of one part of a piece's length into another.
+    pub fn feed_counted<L: Ledger, M: Ledger>(
+        &mut self,
+        n: u16,
+        part: &[u8],
+        draws: &mut Steps<L>,
+        sums: &mut Steps<M>,
+    ) -> Fed
+        requires receiving { self.old.stage ≡ Stage.Receiving }
+        requires first { 1 ≤ n }
+        requires last { n ≤ self.old.shape.nb_frag + max_parity_index }
+        requires sized { length part.now ≡ self.old.shape.frag_size }
+        ensures receiving { result ≡ Fed.Receiving → Receives self.old self.new n part.now }
+        ensures complete { result ≡ Fed.Complete → Completes self.old self.new n part.now }
+        ensures no_rows { result ≡ Fed.NoRows → Overflows self.old self.new n part.now }
+        ensures conflict { result ≡ Fed.Conflict → Contradicts self.old self.new n part.now }
+        ensures extent { self.new.extent ≡ self.old.extent }
+        ensures draws { draws.new ≡ draws.old + draws_of self.old.shape.nb_frag n }
+        ensures few_draws { draws.new ≤ draws.old + 25 * (self.old.shape.nb_frag / 2) }
+        ensures sums { sums.new ≤ sums.old
+            + columns_in (line_of self.old.shape.nb_frag n) + self.old.shape.rows }
+        ensures few_sums { sums.new ≤ sums.old + max 1 (self.old.shape.nb_frag / 2) + self.old.shape.rows }
+    {
         let kept = &mut *self.kept;
         let fed = take(
             &mut kept.table,
@@ -175,13 +205,15 @@ impl<const W: usize, const B: usize> Solver<W, B> {
             &mut kept.line,
             &mut kept.picks,
             &mut kept.part,
+            draws,
+            sums,
         );
         kept.stage = stage_after(fed);
         fed
     }
 
     /// How many pieces are still to be gained, by pieces or by independent coded fragments.
-    #[tactic(auto, unfolding(crate::specs::Held::missing_of))]
+    #[tactic(auto, unfolding(crate::specs::HeldSolver::missing_of))]
     pub fn missing(&self) -> u16
         ensures { result ≡ missing_of self.now }
     {
@@ -205,6 +237,24 @@ impl<const W: usize, const B: usize> Solver<W, B> {
     }
 }
 
+impl<const W: usize, const B: usize> Counts for Solver<W, B> {
+    ghost use Rattle.row_elimination.specs.HeldSolver.{MayFeed, Feeds};
+
+    ghost may_take = { MayFeed };
+
+    ghost takes = { Feeds };
+
+    fn take_counted<L: Ledger, M: Ledger>(
+        &mut self,
+        n: u16,
+        part: &[u8],
+        draws: &mut Steps<L>,
+        sums: &mut Steps<M>,
+    ) -> Fed {
+        self.feed_counted(n, part, draws, sums)
+    }
+}
+
 /// Whether so many rows of a file fit in so many words and bytes, its pieces in the area, and they are no more than `most`.
 #[tactic(auto, unfolding(crate::specs::Room::has_room))]
 fn has_room(
@@ -225,7 +275,7 @@ fn has_room(
 }
 
 /// Where the solver stands after an answer.
-#[tactic(auto, unfolding(crate::specs::Taking::stage_after))]
+#[tactic(auto, unfolding(crate::specs::HeldTaking::stage_after))]
 fn stage_after(fed: Fed) -> Stage
     ensures { result ≡ stage_after fed }
 {

@@ -1,14 +1,14 @@
 //! The table of all that is held: pieces in their area, and the rows in slots.
 
 ghost use Rattle.std.specs.Prelude.{◌≡◌, ◌≢◌, ℕ, ◌+◌, ◌-◌, ◌*◌, ◌<◌, ◌≤◌, ◌==◌, length, get_or, set, replicate, take, true, false, IfOk, bit_xor, ◌^◌, MatchOption, nat_le, vec_capacity};
-ghost use Rattle.frag_model.specs.Fragments.{Equation, IsPiece};
+ghost use Rattle.frag_model.specs.Fragments.{Equation, IsPiece, columns_in};
 ghost use Rattle.row_arena.specs.Limits.{max_bytes, max_words};
 ghost use Rattle.row_arena.specs.Rows.{has_room, line_in, words_for};
-ghost use Rattle.row_elimination.specs.Places.{free, piece as known, is_piece, grown, pieces_held, rows_held, gained_held};
+ghost use Rattle.row_elimination.specs.HeldPlaces.{free, piece as known, is_piece, grown, pieces_held, rows_held, gained_held};
 ghost use Rattle.row_elimination.specs.Inside.{IsReduced};
-ghost use Rattle.row_elimination.specs.Storage.{chunk};
-ghost use Rattle.row_elimination.specs.Steps.{Reduced, IsNew, Knows, Tells};
-ghost use Rattle.row_elimination.specs.Grid.{Grid, SameRoom, max_line_words};
+ghost use Rattle.row_elimination.specs.HeldStorage.{chunk};
+ghost use Rattle.row_elimination.specs.HeldSteps.{Reduced, IsNew, Knows, Tells};
+ghost use Rattle.row_elimination.specs.HeldTable.{Grid, SameRoom, max_line_words};
 ghost use Rattle.frag_model.specs.Limits.{max_pieces};
 
 use crate::additions::{add_piece, add_piece_and_row, add_row};
@@ -18,9 +18,11 @@ use crate::entries::put_parts;
 use crate::passes::reduce;
 use crate::rows::Rows;
 use frag_model::lines::MAX_PIECES;
+use parity_lines::Steps;
 use row_arena::{clear_bits, flip_bit, words_for};
 use std::alloc::{AllocError, Global};
 use std::marker::Model;
+use std::sync::ledger::Ledger;
 
 /// How many words of 64 columns the line of the largest file takes.
 pub const LINE_WORDS: usize = MAX_PIECES as usize / 64;
@@ -48,8 +50,8 @@ pub struct Table<const W: usize, const B: usize> {
 
 impl<const W: usize, const B: usize> Model for Table<W, B> {
     ghost use Rattle.std.specs.Prelude.{take, vec_capacity};
-    ghost use Rattle.row_elimination.specs.Grid.{Grid, IsTable};
-    ghost use Rattle.row_elimination.specs.Storage.{places_in};
+    ghost use Rattle.row_elimination.specs.HeldTable.{Grid, IsTable};
+    ghost use Rattle.row_elimination.specs.HeldStorage.{places_in};
 
     ghost Value = { Grid };
 
@@ -126,7 +128,7 @@ impl<const W: usize, const B: usize> Table<W, B> {
     }
 
     /// How many pieces came uncoded.
-    #[tactic(auto, unfolding(crate::specs::Places::gained_held))]
+    #[tactic(auto, unfolding(crate::specs::HeldPlaces::gained_held))]
     pub fn pieces(&self) -> u16
         ensures { result ≡ pieces_held self.now.places }
     {
@@ -178,8 +180,15 @@ impl<const W: usize, const B: usize> Table<W, B> {
     }
 
     /// Takes out of a line, and out of the bytes `part`, all columns of which something is held, and writes what is left of
-    /// the bytes over `rest`. `picks` is room for the columns of a line.
-    pub fn reduce(&self, line: &mut [u64], picks: &mut [u16], part: &[u8], rest: &mut [u8])
+    /// the bytes over `rest`. `picks` is room for the columns of a line. Counts each piece and each row that is added.
+    pub fn reduce<M: Ledger>(
+        &self,
+        line: &mut [u64],
+        picks: &mut [u16],
+        part: &[u8],
+        rest: &mut [u8],
+        sums: &mut Steps<M>,
+    )
         requires words { length line.old ≡ words_for self.now.shape.nb_frag }
         requires within { line_in line.old < 2 ^ self.now.shape.nb_frag }
         requires picks { 64 * length line.old ≤ length picks.old }
@@ -188,6 +197,7 @@ impl<const W: usize, const B: usize> Table<W, B> {
         ensures left { Reduced self.now.shape.nb_frag self.now.shape.frag_size self.now.places (line_in line.old) part.now (line_in line.new) rest.new }
         ensures held { IsReduced self.now.shape.nb_frag self.now.shape.frag_size self.now.places }
         ensures room { rows_held self.now.places ≤ self.now.shape.rows }
+        ensures few { sums.new ≤ sums.old + columns_in (line_in line.old) }
     {
         let columns = &self.columns[..self.nb_frag as usize];
         let known = &self.known[..line.len()];
@@ -200,19 +210,29 @@ impl<const W: usize, const B: usize> Table<W, B> {
             picks,
             part,
             rest,
+            sums,
         );
     }
 
-    /// Takes in a new row, which its column `p` leads.
-    pub fn push(&mut self, p: u16, line: &[u64], part: &[u8])
+    /// Takes in a new row, which its column `p` leads, and counts the rows that it is added to.
+    pub fn push<M: Ledger>(&mut self, p: u16, line: &[u64], part: &[u8], sums: &mut Steps<M>)
         requires words { length line.now ≡ words_for self.old.shape.nb_frag }
         requires sized { length part.now ≡ self.old.shape.frag_size }
         requires new { IsNew self.old.shape.nb_frag self.old.shape.frag_size self.old.places p (line_in line.now) part.now }
         requires room { rows_held self.old.places < self.old.shape.rows }
-        ensures { self.new ≡ record self.old { places = grown p (line_in line.now) part.now self.old.places } }
+        ensures grown { self.new ≡ record self.old { places = grown p (line_in line.now) part.now self.old.places } }
+        ensures few { sums.new ≤ sums.old + self.old.shape.rows }
     {
         let slot = self.spare[self.count as usize];
-        add_row(&mut self.columns, &mut self.arena, slot, p, line, part);
+        add_row(
+            &mut self.columns,
+            &mut self.arena,
+            slot,
+            p,
+            line,
+            part,
+            sums,
+        );
         self.count += 1;
         self.gained += 1;
     }
@@ -238,8 +258,16 @@ impl<const W: usize, const B: usize> Table<W, B> {
     }
 
     /// Takes in a piece and a new row that column `p` leads, which is the piece itself or takes the place of the row that
-    /// the piece's column led.
-    pub fn learn(&mut self, k: usize, piece: &[u8], p: u16, line: &[u64], part: &[u8])
+    /// the piece's column led. Counts the rows that it is added to.
+    pub fn learn<M: Ledger>(
+        &mut self,
+        k: usize,
+        piece: &[u8],
+        p: u16,
+        line: &[u64],
+        part: &[u8],
+        sums: &mut Steps<M>,
+    )
         requires words { length line.now ≡ words_for self.old.shape.nb_frag }
         requires sized { length part.now ≡ self.old.shape.frag_size }
         requires new { IsNew self.old.shape.nb_frag self.old.shape.frag_size self.old.places p (line_in line.now) part.now }
@@ -247,6 +275,7 @@ impl<const W: usize, const B: usize> Table<W, B> {
         requires fresh { is_piece (get_or self.old.places k free) ≡ false }
         ensures places { self.new.places ≡ set (grown p (line_in line.now) part.now self.old.places) k (known piece.now) }
         ensures room { SameRoom self.old self.new }
+        ensures few { sums.new ≤ sums.old + self.old.shape.rows }
     {
         add_piece_and_row(
             &mut self.columns,
@@ -257,6 +286,7 @@ impl<const W: usize, const B: usize> Table<W, B> {
             p,
             line,
             part,
+            sums,
         );
         mark(&mut self.known, self.nb_frag, k);
         self.gained += 1;

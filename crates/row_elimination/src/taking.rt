@@ -1,32 +1,37 @@
 //! Taking one fragment into a table.
 
-ghost use Rattle.std.specs.Prelude.{◌≡◌, ◌≢◌, ℕ, ◌+◌, ◌-◌, ◌*◌, ◌^◌, ◌<◌, ◌≤◌, length, get_or, true, false, All, MatchOption};
+ghost use Rattle.std.specs.Prelude.{◌≡◌, ◌≢◌, ℕ, ◌+◌, ◌-◌, ◌*◌, ◌/◌, ◌^◌, ◌<◌, ◌≤◌, length, get_or, true, false, All, MatchOption};
 ghost use Rattle.std.specs.Int.{bit_at};
-ghost use Rattle.frag_model.specs.Fragments.{IsPiece, line_of, xor_bytes};
+ghost use Rattle.frag_model.specs.Fragments.{IsPiece, columns_in, draws_of, line_of, xor_bytes};
 ghost use Rattle.row_arena.specs.Rows.{line_in, words_for};
 ghost use Rattle.row_elimination.specs.declared.stages.Stage.{Stage};
 ghost use Rattle.row_elimination.specs.declared.stages.Stage.TheVariants as stage;
-ghost use Rattle.row_elimination.specs.Places.{free, piece as known, gained_held, rows_held};
+ghost use Rattle.row_elimination.specs.HeldPlaces.{free, piece as known, gained_held, rows_held};
 ghost use Rattle.row_elimination.specs.Inside.{IsReduced};
-ghost use Rattle.row_elimination.specs.Grid.{SameRoom, max_line_words};
-ghost use Rattle.row_elimination.specs.Held.{Takes, Receives};
-ghost use Rattle.row_elimination.specs.Taking.{held_of, IsReady, IsZero, stage_after, FedAs, DecidedAs};
+ghost use Rattle.row_elimination.specs.HeldTable.{SameRoom, max_line_words};
+ghost use Rattle.row_elimination.specs.HeldSolver.{Takes, Receives};
+ghost use Rattle.row_elimination.specs.HeldTaking.{held_of, IsReady, IsZero, stage_after, FedAs, DecidedAs};
 ghost use Rattle.frag_model.specs.Limits.{max_parity_index, max_pieces};
 
 use crate::drawing::draw;
 use crate::stages::Fed;
 use crate::tables::Table;
+use parity_lines::Steps;
 use row_arena::first_bit;
+use std::sync::ledger::Ledger;
 
 /// Takes fragment `n` in, or answers why not. A piece that came before is only compared, and where no row is held one that
 /// did not needs no line. `line`, `picks` and `rest` are room for a line, for its columns and for the bytes of a piece.
-pub fn take<const W: usize, const B: usize>(
+/// Counts the states that are drawn for the line, and each piece and row that is added to another part.
+pub fn take<const W: usize, const B: usize, L: Ledger, M: Ledger>(
     table: &mut Table<W, B>,
     n: u16,
     part: &[u8],
     line: &mut [u64],
     picks: &mut [u16],
     rest: &mut [u8],
+    draws: &mut Steps<L>,
+    sums: &mut Steps<M>,
 ) -> Fed
     requires words { words_for table.old.shape.nb_frag ≤ length line.old }
     requires picks { 64 * words_for table.old.shape.nb_frag ≤ length picks.old }
@@ -40,6 +45,9 @@ pub fn take<const W: usize, const B: usize>(
     ensures fed { FedAs result (held_of stage.Receiving table.old) (held_of (stage_after result) table.new) n part.now }
     ensures room { SameRoom table.old table.new }
     ensures held { IsReduced table.new.shape.nb_frag table.new.shape.frag_size table.new.places }
+    ensures draws { draws.new ≡ draws.old + draws_of table.old.shape.nb_frag n }
+    ensures few_draws { draws.new ≤ draws.old + 25 * (table.old.shape.nb_frag / 2) }
+    ensures sums { sums.new ≤ sums.old + columns_in (line_of table.old.shape.nb_frag n) + table.old.shape.rows }
 {
     if n <= table.nb_frag() {
         let k = n as usize - 1;
@@ -52,8 +60,8 @@ pub fn take<const W: usize, const B: usize>(
     }
     let line = &mut line[..table.width()];
     let rest = &mut rest[..part.len()];
-    draw(n, table.nb_frag(), line);
-    take_in(table, n, part, line, picks, rest)
+    draw(n, table.nb_frag(), line, draws);
+    take_in(table, n, part, line, picks, rest, sums)
 }
 
 /// Takes in a piece that came before: it has to be the same.
@@ -90,13 +98,14 @@ fn take_first<const W: usize, const B: usize>(table: &mut Table<W, B>, n: u16, p
 }
 
 /// Takes fragment `n` in, or answers why not. `line` is its line and is used up, `picks` and `rest` are room.
-fn take_in<const W: usize, const B: usize>(
+fn take_in<const W: usize, const B: usize, M: Ledger>(
     table: &mut Table<W, B>,
     n: u16,
     part: &[u8],
     line: &mut [u64],
     picks: &mut [u16],
     rest: &mut [u8],
+    sums: &mut Steps<M>,
 ) -> Fed
     requires words { length line.old ≡ words_for table.old.shape.nb_frag }
     requires few { length line.old ≤ max_line_words }
@@ -110,10 +119,11 @@ fn take_in<const W: usize, const B: usize>(
     ensures fed { FedAs result (held_of stage.Receiving table.old) (held_of (stage_after result) table.new) n part.now }
     ensures room { SameRoom table.old table.new }
     ensures held { IsReduced table.new.shape.nb_frag table.new.shape.frag_size table.new.places }
+    ensures sums { sums.new ≤ sums.old + columns_in (line_in line.old) + table.old.shape.rows }
 {
-    table.reduce(line, picks, part, rest);
+    table.reduce(line, picks, part, rest, sums);
     match first_set(line) {
-        Some(p) => take_new(table, n, part, p, line, rest),
+        Some(p) => take_new(table, n, part, p, line, rest, sums),
         None => take_old(table, n, part, line, rest),
     }
 }
@@ -142,13 +152,14 @@ fn take_old<const W: usize, const B: usize>(
 }
 
 /// Takes in a fragment whose line is no sum of the lines held.
-fn take_new<const W: usize, const B: usize>(
+fn take_new<const W: usize, const B: usize, M: Ledger>(
     table: &mut Table<W, B>,
     n: u16,
     part: &[u8],
     p: u16,
     line: &[u64],
     rest: &[u8],
+    sums: &mut Steps<M>,
 ) -> Fed
     requires ready { IsReady table.old n part.now (line_in line.now) rest.now }
     requires words { length line.now ≡ words_for table.old.shape.nb_frag }
@@ -157,24 +168,26 @@ fn take_new<const W: usize, const B: usize>(
     ensures fed { FedAs result (held_of stage.Receiving table.old) (held_of (stage_after result) table.new) n part.now }
     ensures room { SameRoom table.old table.new }
     ensures held { IsReduced table.new.shape.nb_frag table.new.shape.frag_size table.new.places }
+    ensures sums { sums.new ≤ sums.old + table.old.shape.rows }
 {
     if n <= table.nb_frag() {
-        take_piece(table, n, part, p, line, rest)
+        take_piece(table, n, part, p, line, rest, sums)
     } else if table.is_full() {
         Fed::NoRows
     } else {
-        take_row(table, n, part, p, line, rest)
+        take_row(table, n, part, p, line, rest, sums)
     }
 }
 
 /// Takes in a piece whose line is no sum of the lines held.
-fn take_piece<const W: usize, const B: usize>(
+fn take_piece<const W: usize, const B: usize, M: Ledger>(
     table: &mut Table<W, B>,
     n: u16,
     part: &[u8],
     p: u16,
     line: &[u64],
     rest: &[u8],
+    sums: &mut Steps<M>,
 ) -> Fed
     requires ready { IsReady table.old n part.now (line_in line.now) rest.now }
     requires words { length line.now ≡ words_for table.old.shape.nb_frag }
@@ -184,20 +197,22 @@ fn take_piece<const W: usize, const B: usize>(
     ensures fed { FedAs result (held_of stage.Receiving table.old) (held_of (stage_after result) table.new) n part.now }
     ensures room { SameRoom table.old table.new }
     ensures held { IsReduced table.new.shape.nb_frag table.new.shape.frag_size table.new.places }
+    ensures sums { sums.new ≤ sums.old + table.old.shape.rows }
 {
-    table.learn(n as usize - 1, part, p, line, rest);
+    table.learn(n as usize - 1, part, p, line, rest, sums);
     decide(table)
 }
 
 /// Takes in a coded fragment whose line is no sum of the lines held, where a slot is spare. Its own bytes are told by the
 /// row that is left of it.
-fn take_row<const W: usize, const B: usize>(
+fn take_row<const W: usize, const B: usize, M: Ledger>(
     table: &mut Table<W, B>,
     n: u16,
     part: &[u8],
     p: u16,
     line: &[u64],
     rest: &[u8],
+    sums: &mut Steps<M>,
 ) -> Fed
     requires ready { IsReady table.old n part.now (line_in line.now) rest.now }
     requires words { length line.now ≡ words_for table.old.shape.nb_frag }
@@ -208,8 +223,9 @@ fn take_row<const W: usize, const B: usize>(
     ensures fed { FedAs result (held_of stage.Receiving table.old) (held_of (stage_after result) table.new) n part.now }
     ensures room { SameRoom table.old table.new }
     ensures held { IsReduced table.new.shape.nb_frag table.new.shape.frag_size table.new.places }
+    ensures sums { sums.new ≤ sums.old + table.old.shape.rows }
 {
-    table.push(p, line, rest);
+    table.push(p, line, rest, sums);
     decide(table)
 }
 

@@ -8,7 +8,7 @@ use Rattle.frag_session.specs.declared.answers.Verdict.{Verdict}
 use Rattle.frag_session.specs.declared.answers.Verdict.TheVariants as verdict
 use Rattle.frag_session.specs.Held.{HeldSlot}
 use Rattle.frag_session.specs.Session.{Seen}
-use Rattle.frag_session.specs.Shows.{seen}
+use Rattle.frag_session.specs.HeldView.{seen}
 use Rattle.sample_receiver.specs.HeldReceiver.{Hears, file_by, whole_file}
 
 -- nothing is heard of a payload in which no fragment is spelled

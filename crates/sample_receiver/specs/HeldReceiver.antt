@@ -10,8 +10,8 @@ use Rattle.frag_session.specs.declared.answers.Verdict.{Verdict}
 use Rattle.frag_session.specs.declared.answers.Verdict.TheVariants as verdict
 use Rattle.frag_session.specs.Held.{HeldSlot}
 use Rattle.row_elimination.specs.Room.{Extent}
-use Rattle.frag_session.specs.Steps.{extent_of}
-use Rattle.frag_session.specs.Stands.{Stands}
+use Rattle.frag_session.specs.HeldSteps.{extent_of}
+use Rattle.frag_session.specs.HeldHistory.{Stands}
 use Rattle.frag_session.specs.Setup.{Room, memory_room, setup_bits}
 use Rattle.frag_session.specs.Session.{Session, Seen, after_setup, after_fragment}
 

@@ -80,7 +80,7 @@ impl Device {
 }
 
 /// Whether the file of a session is whole.
-#[tactic(auto, unfolding(frag_session::specs::Shows::seen))]
+#[tactic(auto, unfolding(frag_session::specs::HeldView::seen))]
 fn is_whole(sessions: &SessionSlots, index: u8) -> bool
     requires { index < 4 }
     ensures { (table : SessionTable) → SessionsStand sessions.now table
@@ -93,7 +93,7 @@ fn is_whole(sessions: &SessionSlots, index: u8) -> bool
 }
 
 /// The file of a session that was not whole becomes next, if it is whole now.
-#[tactic(auto, unfolding(frag_session::specs::Shows::seen))]
+#[tactic(auto, unfolding(frag_session::specs::HeldView::seen))]
 fn offer(slots: &mut Slots, sessions: &SessionSlots, index: u8, was_whole: bool)
     requires index { index < 4 }
     requires area { sessions.now.area ≤ slots.old.area }

@@ -7,7 +7,7 @@ ghost use Rattle.flash_session.specs.Layout.{most_records, records_place, spelle
 ghost use Rattle.flash_session.specs.Lies.{Stored, IsStored, with_record, IsBeforeOrAfter};
 ghost use Rattle.frag_session.specs.Limits.{max_received};
 ghost use Rattle.frag_session.specs.Session.{Session, fragment, drop_cause, news_in, answer_of, after_fragment};
-ghost use Rattle.frag_session.specs.Steps.{extent_of};
+ghost use Rattle.frag_session.specs.HeldSteps.{extent_of};
 ghost use Rattle.flash_session.specs.Sessions.{HeldStandsAs, CountsAs, IsHeldAs, LiesForAs};
 
 use super::{Held, MAX_RECEIVED};

@@ -10,7 +10,7 @@ ghost use Rattle.flash_session.specs.Moments.{Elapses, LeavesOnly};
 ghost use Rattle.flash_session.specs.Sessions.{HeldStandsAs, CountsAs, IsHeldAs, LiesForAs};
 ghost use Rattle.frag_session.specs.Session.{Session, after_setup, new_session};
 ghost use Rattle.frag_session.specs.Setup.{lives, setup_bits};
-ghost use Rattle.frag_session.specs.Steps.{extent_of};
+ghost use Rattle.frag_session.specs.HeldSteps.{extent_of};
 
 use super::Held;
 use crate::beginning::{begin, end};

@@ -1,6 +1,6 @@
 use Rattle.std.proofs.Common.{◌≡◌, ℕ, List, sym, ap, subst, ◌∙◌, arith, lit≤}
 use Rattle.frag_session.specs.Setup.{setup_bits}
-use Rattle.frag_session.specs.Steps.{extent_of}
+use Rattle.frag_session.specs.HeldSteps.{extent_of}
 use Rattle.frag_session.specs.declared.setups.SetupReq.{SetupReq}
 use Rattle.flash_session.specs.HeldSession.{HeldSession, room_in}
 use Rattle.flash_session.specs.Layout.{body_at}

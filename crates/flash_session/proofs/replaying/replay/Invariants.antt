@@ -2,8 +2,8 @@ use Rattle.std.proofs.Common.{◌≡◌, ◌≤◌, [], Some}
 use Rattle.flash_session.specs.Contents.{Same, StillHolds}
 use Rattle.flash_session.specs.Moments.{Elapses}
 use Rattle.frag_session.specs.Session.{Session}
-use Rattle.frag_session.specs.Stands.{Stands}
-use Rattle.frag_session.specs.Steps.{extent_of}
+use Rattle.frag_session.specs.HeldHistory.{Stands}
+use Rattle.frag_session.specs.HeldSteps.{extent_of}
 use Rattle.flash_session.specs.Replayed.{Replayed}
 use Rattle.flash_session.proofs.replaying.replay.Given as goal
 

@@ -1,6 +1,6 @@
 use Rattle.std.proofs.Common.{refl, lit≤}
-use Rattle.frag_session.specs.Steps.{CanHear, extent_of}
-use Rattle.frag_session.specs.Stands.{Stands}
+use Rattle.frag_session.specs.HeldSteps.{CanHear, extent_of}
+use Rattle.frag_session.specs.HeldHistory.{Stands}
 use Rattle.frag_session.proofs.Standing.{complete_counts, overflowed_counts, conflicted_counts}
 use Rattle.frag_session.proofs.slots.fed.Goals as goal
 

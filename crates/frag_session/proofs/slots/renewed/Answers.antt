@@ -1,6 +1,6 @@
 use Rattle.std.proofs.Common.{◌∙◌}
-use Rattle.frag_session.specs.Steps.{extent_of}
-use Rattle.frag_session.specs.Stands.{Stands}
+use Rattle.frag_session.specs.HeldSteps.{extent_of}
+use Rattle.frag_session.specs.HeldHistory.{Stands}
 use Rattle.frag_session.proofs.slots.renewed.Goals as goal
 
 pub returns-in-Ok-clause-stands : goal.returns-in-Ok-clause-stands

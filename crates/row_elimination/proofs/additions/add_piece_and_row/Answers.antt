@@ -2,8 +2,8 @@ use Rattle.std.proofs.Common.{◌≡◌, ◌<◌, ℕ, List, length, take, set, 
 use Rattle.row_arena.specs.Rows.{line_in}
 use Rattle.row_elimination.specs.declared.columns.Column.{Column}
 use Rattle.row_elimination.specs.declared.columns.Column.TheVariants.{Free, Piece}
-use Rattle.row_elimination.specs.Places.{piece}
-use Rattle.row_elimination.specs.Storage.{places_in, Slots}
+use Rattle.row_elimination.specs.HeldPlaces.{piece}
+use Rattle.row_elimination.specs.HeldStorage.{places_in, Slots}
 use Rattle.row_elimination.proofs.Storing.{cleared_places, shape_then}
 use Rattle.row_elimination.proofs.Packing.{any_default}
 use Rattle.row_elimination.proofs.Adding.{swapped_slots, swapped_places, over_at, written_first}
@@ -33,7 +33,7 @@ returns-clause-places g c =
     (c.take_over.auto.columns ∙ c.put_piece.auto.columns))
     ∙ swapped_places size os c.take_over.new.columns c.args.k c.args.p (line_in c.args.line.now) c.args.part.now c.args.piece.now c.args.area.now c.put_piece.new.area
     c.args.arena.now c.clear.new.arena c.take_over.new.arena c.requires.kind c.requires.lead
-    (cleared_places size c.args.area.now c.args.arena.now c.clear.new.arena os c.args.p (line_in c.args.line.now) c.args.part.now c.requires.stored refl c.clear.ensures)
+    (cleared_places size c.args.area.now c.args.arena.now c.clear.new.arena os c.args.p (line_in c.args.line.now) c.args.part.now c.requires.stored refl c.clear.ensures.cleared)
     (λ x.
     let Q : ℕ → ℕ → List Column → Type 0 = λ m i l. places_in m c.put_piece.new.area x l ≡ set (places_in m c.args.area.now x (take i c.args.columns.now)) c.args.k (piece c.args.piece.now) in
     subst (λ (m : ℕ). Q m n (set os c.args.k Piece)) c.requires.sized
@@ -43,4 +43,4 @@ returns-clause-places g c =
     c.clear.new.arena c.take_over.new.arena c.column-kept.result c.cols.ensures c.put_piece.ensures.columns (c.column-kept.ensures.same ∙ any_default (take c.cols.result c.args.columns.now) c.args.k c.index-columns-k.result Free inside) c.take_over.ensures.over)
 
 pub returns-clause-shape : goal.returns-clause-shape
-returns-clause-shape g c = shape_then c.args.arena.now c.clear.new.arena c.take_over.new.arena c.clear.ensures.shape c.take_over.ensures.shape
+returns-clause-shape g c = shape_then c.args.arena.now c.clear.new.arena c.take_over.new.arena c.clear.ensures.cleared.shape c.take_over.ensures.shape

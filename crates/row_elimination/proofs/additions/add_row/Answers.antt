@@ -1,8 +1,8 @@
 use Rattle.std.proofs.Common.{ℕ, List, length, take, set, refl, ◌∙◌, ap, arith}
 use Rattle.row_arena.specs.Rows.{line_in}
 use Rattle.row_elimination.specs.declared.columns.Column.TheVariants.{Row}
-use Rattle.row_elimination.specs.Places.{Place, row, grown}
-use Rattle.row_elimination.specs.Storage.{places_in}
+use Rattle.row_elimination.specs.HeldPlaces.{Place, row, grown}
+use Rattle.row_elimination.specs.HeldStorage.{places_in}
 use Rattle.row_elimination.proofs.Storing.{cleared_places, shape_then}
 use Rattle.row_elimination.proofs.Adding.{written_first}
 use Rattle.row_elimination.proofs.additions.add_row.Goals as goal
@@ -20,7 +20,7 @@ returns-clause-places g c = λ area.
     ∙ c.put_row.ensures.places size area
     ∙ ap (λ (l : List Place). set l c.args.p (row (line_in c.args.line.now) c.args.part.now))
     (ap (λ (n : ℕ). places_in size area c.clear.new.arena (take n columns)) c.cols.ensures
-    ∙ cleared_places size area c.args.arena.now c.clear.new.arena (take c.args.arena.now.cols columns) c.args.p (line_in c.args.line.now) c.args.part.now c.requires.stored refl c.clear.ensures)
+    ∙ cleared_places size area c.args.arena.now c.clear.new.arena (take c.args.arena.now.cols columns) c.args.p (line_in c.args.line.now) c.args.part.now c.requires.stored refl c.clear.ensures.cleared)
 
 pub returns-clause-shape : goal.returns-clause-shape
-returns-clause-shape g c = shape_then c.args.arena.now c.clear.new.arena c.put_row.new.arena c.clear.ensures.shape c.put_row.ensures.shape
+returns-clause-shape g c = shape_then c.args.arena.now c.clear.new.arena c.put_row.new.arena c.clear.ensures.cleared.shape c.put_row.ensures.shape

@@ -1,12 +1,19 @@
 use Rattle.std.proofs.Common.{sym, ◌∙◌, arith}
 use Rattle.frag_model.proofs.Sums.{line_of_coded}
 use Rattle.frag_model.proofs.Uncoded.{line_of_piece}
+use Rattle.frag_model.proofs.Work.{draws_of_piece, draws_of_coded}
 use Rattle.row_elimination.proofs.Lines.{words_are}
 use Rattle.row_elimination.proofs.drawing.draw.Goals as goal
 
-pub returns-then-n-pieces : goal.returns-then-n-pieces
-returns-then-n-pieces c = c.mark_piece.ensures ∙ sym (line_of_piece c.args.pieces c.args.n (omega arith))
+pub returns-then-n-pieces-clause-line : goal.returns-then-n-pieces-clause-line
+returns-then-n-pieces-clause-line g c = c.mark_piece.ensures ∙ sym (line_of_piece c.args.pieces c.args.n (omega arith))
 
-pub returns-else-n-pieces : goal.returns-else-n-pieces
-returns-else-n-pieces c =
-    words_are c.line_uncounted.new.out ∙ c.line_uncounted.ensures.line ∙ sym (line_of_coded c.args.pieces c.args.n (omega arith))
+pub returns-else-n-pieces-clause-line : goal.returns-else-n-pieces-clause-line
+returns-else-n-pieces-clause-line g c =
+    words_are c.line.new.out ∙ c.line.ensures.line ∙ sym (line_of_coded c.args.pieces c.args.n (omega arith))
+
+pub returns-then-n-pieces-clause-draws : goal.returns-then-n-pieces-clause-draws
+returns-then-n-pieces-clause-draws g c = omega (arith, draws_of_piece c.args.pieces c.args.n (omega arith))
+
+pub returns-else-n-pieces-clause-draws : goal.returns-else-n-pieces-clause-draws
+returns-else-n-pieces-clause-draws g c = omega (arith, c.line.ensures.draws, draws_of_coded c.args.pieces c.args.n (omega arith))

@@ -1,5 +1,5 @@
 use Rattle.std.proofs.Common.{◌≡◌, ℕ, ◌∙◌, subst, inl, inr}
-use Rattle.row_elimination.specs.Storage.{chunk}
+use Rattle.row_elimination.specs.HeldStorage.{chunk}
 use Rattle.row_elimination.proofs.Placing.{part_stays, part_is}
 use Rattle.row_elimination.proofs.entries.put_part.Goals as goal
 

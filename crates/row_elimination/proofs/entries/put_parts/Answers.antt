@@ -1,6 +1,6 @@
 use Rattle.std.proofs.Common.{◌≡◌, ◌∙◌, length, refl, sym, subst, arith}
 use Rattle.row_elimination.specs.declared.columns.Column.{Column}
-use Rattle.row_elimination.specs.Storage.{chunk, part_in}
+use Rattle.row_elimination.specs.HeldStorage.{chunk, part_in}
 use Rattle.row_elimination.proofs.Chunks.{before}
 use Rattle.row_elimination.proofs.Packing.{read_there}
 use Rattle.row_elimination.proofs.Placing.{putting_turn, putting_ends}

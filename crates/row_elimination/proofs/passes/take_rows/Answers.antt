@@ -4,7 +4,7 @@ use Rattle.std.proofs.lemmas.List.{take_more}
 use Rattle.row_arena.specs.Sums.{after_flips}
 use Rattle.row_arena.specs.Rows.{line_in, words_for}
 use Rattle.row_elimination.specs.declared.columns.Column.{Column}
-use Rattle.row_elimination.specs.Steps.{TakesRow}
+use Rattle.row_elimination.specs.HeldSteps.{TakesRow}
 use Rattle.row_elimination.proofs.Packing.{read_there}
 use Rattle.row_elimination.proofs.Lines.{column_inside}
 use Rattle.row_elimination.proofs.Storing.{RowsTaken, rows_none, rows_more, rows_all}
@@ -19,6 +19,7 @@ loop-n-init g c = record {
   taken = rows_none (length c.args.rest.now) c.args.arena.now c.args.columns.now (line_in c.args.line.now) c.args.rest.now c.list_bits-count.new.picks;
   line_sized = refl;
   rest_sized = refl;
+  counted = omega arith;
 }
 
 pub loop-n-preserved : goal.loop-n-preserved
@@ -38,13 +39,14 @@ loop-n-preserved g c =
       taken =
           subst (λ (ks : List ℕ). RowsTaken size arena os l q ks (line_in c.take_row.new.line) c.take_row.new.rest) (sym (take_more picks n 0 lt))
           (rows_more size arena os l q (take n picks) k (line_in c.loop-n.line) c.loop-n.rest (line_in c.take_row.new.line) c.take_row.new.rest c.requires.stored
-          (λ e. absurd (omega (arith, on, c.requires.none k e))) (subst (λ (o : Column). TakesRow arena o (line_in c.loop-n.line) c.loop-n.rest (line_in c.take_row.new.line) c.take_row.new.rest) (c.column.ensures.same ∙ read_there os k c.index-columns-picks.result inside c.index-columns-picks.is) c.take_row.ensures) c.loop-n.invariant.taken);
+          (λ e. absurd (omega (arith, on, c.requires.none k e))) (subst (λ (o : Column). TakesRow arena o (line_in c.loop-n.line) c.loop-n.rest (line_in c.take_row.new.line) c.take_row.new.rest) (c.column.ensures.same ∙ read_there os k c.index-columns-picks.result inside c.index-columns-picks.is) c.take_row.ensures.taken) c.loop-n.invariant.taken);
       line_sized = c.take_row.auto.line ∙ c.loop-n.invariant.line_sized;
       rest_sized = c.take_row.auto.rest ∙ c.loop-n.invariant.rest_sized;
+      counted = omega (arith, c.take_row.ensures.few, c.loop-n.invariant.counted);
     }
 
-pub returns : goal.returns
-returns g c =
+pub returns-clause-taken : goal.returns-clause-taken
+returns-clause-taken g c =
     let picks = c.list_bits-count.new.picks in
     let l = line_in c.args.line.now in
     let all : c.list_bits-count.result ≡ c.loop-n.n = omega (arith, c.loop-n-test.false, c.loop-n.auto.n-end) in
@@ -53,6 +55,10 @@ returns g c =
           rows_all (length c.args.rest.now) area c.args.arena.now c.args.columns.now l c.args.rest.now (take c.loop-n.n picks) (line_in c.loop-n.line) c.loop-n.rest y part
           (subst (λ (n : ℕ). (d : ℕ) → bit_at (after_flips l (take n picks)) d ≡ 0) all c.list_bits-count.ensures.listed) c.loop-n.invariant.taken t k;
     }
+
+pub returns-clause-few : goal.returns-clause-few
+returns-clause-few g c =
+    omega (arith, c.loop-n-test.false, c.loop-n.auto.n-end, c.loop-n.invariant.counted, c.list_bits-count.ensures.each)
 
 pub take_row-requires : goal.take_row-requires
 take_row-requires g c =

@@ -1,5 +1,5 @@
 use Rattle.std.proofs.Common.{refl, arith}
-use Rattle.row_elimination.specs.Taking.{DecidedAs}
+use Rattle.row_elimination.specs.HeldTaking.{DecidedAs}
 use Rattle.row_elimination.proofs.Counting.{gained-le}
 use Rattle.row_elimination.proofs.taking.decide.Goals as goal
 

@@ -1,8 +1,9 @@
 use Rattle.std.proofs.Common.{◌≡◌, ◌-◌, ◌<◌, ◌^◌, ℕ, length, take, get_or, sym, ap, ◌∙◌, arith, eqb-true, length-take-le}
 use Rattle.std.proofs.lemmas.List.Elements.{All-from_get_or}
 use Rattle.frag_model.specs.Fragments.{line_of}
+use Rattle.frag_model.proofs.Work.{draws_of_piece}
 use Rattle.row_arena.specs.Rows.{words_for}
-use Rattle.row_elimination.specs.Places.{free, rows_held}
+use Rattle.row_elimination.specs.HeldPlaces.{free, rows_held}
 use Rattle.row_elimination.proofs.Counting.{no_rows_free}
 use Rattle.row_elimination.proofs.Gridding.{width_holds}
 use Rattle.row_elimination.proofs.Repeating.{ready_free, ready_again}
@@ -49,7 +50,7 @@ take_in-requires g c =
         (
           omega (arith, c.draw.auto.line, long, c.width.ensures.few),
           (
-            c.draw.ensures ∙ ap (λ (m : ℕ). line_of m c.args.n) c.nb_frag-2.ensures,
+            c.draw.ensures.line ∙ ap (λ (m : ℕ). line_of m c.args.n) c.nb_frag-2.ensures,
             (
               omega (arith, words, c.requires.picks),
               (
@@ -67,3 +68,9 @@ take_in-requires g c =
         ),
       ),
     )
+
+pub returns-in-Some-clause-draws : goal.returns-in-Some-clause-draws
+returns-in-Some-clause-draws g c = omega (arith, draws_of_piece c.args.table.now.shape.nb_frag c.args.n (omega arith))
+
+pub returns-then-has_no_rows-clause-draws : goal.returns-then-has_no_rows-clause-draws
+returns-then-has_no_rows-clause-draws g c = omega (arith, draws_of_piece c.args.table.now.shape.nb_frag c.args.n (omega arith))

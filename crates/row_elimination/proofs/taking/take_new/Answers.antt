@@ -1,6 +1,6 @@
 use Rattle.std.proofs.Common.{◌∙◌, sym, arith, eqb-true}
 use Rattle.row_arena.specs.Rows.{line_in}
-use Rattle.row_elimination.specs.Places.{rows_held}
+use Rattle.row_elimination.specs.HeldPlaces.{rows_held}
 use Rattle.row_elimination.proofs.Answering.{no_rows_is}
 use Rattle.row_elimination.proofs.taking.take_new.Goals as goal
 

@@ -1,6 +1,6 @@
 use Rattle.std.proofs.Common.{◌-◌, subst, arith}
 use Rattle.row_arena.specs.Rows.{line_in}
-use Rattle.row_elimination.specs.Taking.{IsReady}
+use Rattle.row_elimination.specs.HeldTaking.{IsReady}
 use Rattle.row_elimination.proofs.Answering.{conflict_is, sum_is, known_piece_is, knows_sum}
 use Rattle.row_elimination.proofs.taking.take_old.Goals as goal
 

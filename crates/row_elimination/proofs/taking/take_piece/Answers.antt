@@ -1,6 +1,6 @@
 use Rattle.std.proofs.Common.{◌≡◌, ◌-◌, ◌<◌, ℕ, suc, set, arith}
 use Rattle.row_arena.specs.Rows.{line_in}
-use Rattle.row_elimination.specs.Places.{piece, grown}
+use Rattle.row_elimination.specs.HeldPlaces.{piece, grown}
 use Rattle.row_elimination.proofs.Saying.{is_new_row}
 use Rattle.row_elimination.proofs.Settling.{settled_reduced}
 use Rattle.row_elimination.proofs.Answering.{knows_grown, is_fresh, takes_new_piece, reduced_in, decided, decided_room, decided_held}

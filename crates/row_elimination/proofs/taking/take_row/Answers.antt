@@ -1,7 +1,7 @@
 use Rattle.std.proofs.Common.{◌<◌, ℕ, ap, arith}
 use Rattle.row_arena.specs.Rows.{line_in}
-use Rattle.row_elimination.specs.Places.{grown}
-use Rattle.row_elimination.specs.Grid.{Grid}
+use Rattle.row_elimination.specs.HeldPlaces.{grown}
+use Rattle.row_elimination.specs.HeldTable.{Grid}
 use Rattle.row_elimination.proofs.Growing.{grown_reduced}
 use Rattle.row_elimination.proofs.Saying.{is_new_row}
 use Rattle.row_elimination.proofs.Answering.{takes_coded_row, reduced_in, room_grown, decided, decided_room, decided_held}
@@ -30,7 +30,7 @@ decide-requires g c =
     let q = c.args.rest.now in
     let new = is_new_row t.shape.nb_frag t.shape.frag_size t.places _ c.args.part.now c.args.p l q c.requires.ready.held c.requires.ready.left c.requires.inside c.requires.has in (
       omega arith,
-      reduced_in t c.push.new.self (grown c.args.p l q t.places) (room_grown t c.push.new.self (grown c.args.p l q t.places) c.push.ensures) (ap (λ (x : Grid). x.places) c.push.ensures)
+      reduced_in t c.push.new.self (grown c.args.p l q t.places) (room_grown t c.push.new.self (grown c.args.p l q t.places) c.push.ensures.grown) (ap (λ (x : Grid). x.places) c.push.ensures.grown)
           (grown_reduced t.shape.nb_frag t.shape.frag_size t.places c.args.p l q new),
     )
 
@@ -44,16 +44,16 @@ returns-clause-fed g c =
     let inside : c.args.p < t.shape.nb_frag = omega arith in
     let own = c.requires.has in
     let new = is_new_row t.shape.nb_frag t.shape.frag_size t.places _ part c.args.p l q c.requires.ready.held c.requires.ready.left inside own in
-    let room = room_grown t now (grown c.args.p l q t.places) c.push.ensures in
-    let held = reduced_in t now (grown c.args.p l q t.places) room (ap (λ (x : Grid). x.places) c.push.ensures) (grown_reduced t.shape.nb_frag t.shape.frag_size t.places c.args.p l q new) in
+    let room = room_grown t now (grown c.args.p l q t.places) c.push.ensures.grown in
+    let held = reduced_in t now (grown c.args.p l q t.places) room (ap (λ (x : Grid). x.places) c.push.ensures.grown) (grown_reduced t.shape.nb_frag t.shape.frag_size t.places c.args.p l q new) in
     decided c.decide.result t now c.decide.new.table c.args.n part c.requires.ready.piece.sized c.requires.ready.held c.requires.ready.some
-    (takes_coded_row t now c.args.n c.args.p l part q c.requires.ready c.requires.coded inside own c.requires.spare c.push.ensures)
+    (takes_coded_row t now c.args.n c.args.p l part q c.requires.ready c.requires.coded inside own c.requires.spare c.push.ensures.grown)
     held room c.decide.ensures
 
 pub returns-clause-room : goal.returns-clause-room
 returns-clause-room g c =
     decided_room c.decide.result c.args.table.now c.push.new.self c.decide.new.table
-    (room_grown c.args.table.now c.push.new.self (grown c.args.p (line_in c.args.line.now) c.args.rest.now c.args.table.now.places) c.push.ensures) c.decide.ensures
+    (room_grown c.args.table.now c.push.new.self (grown c.args.p (line_in c.args.line.now) c.args.rest.now c.args.table.now.places) c.push.ensures.grown) c.decide.ensures
 
 pub returns-clause-held : goal.returns-clause-held
 returns-clause-held g c =
@@ -63,6 +63,6 @@ returns-clause-held g c =
     let inside : c.args.p < t.shape.nb_frag = omega arith in
     let new = is_new_row t.shape.nb_frag t.shape.frag_size t.places _ c.args.part.now c.args.p l q c.requires.ready.held c.requires.ready.left inside c.requires.has in
     decided_held c.decide.result c.push.new.self c.decide.new.table
-    (reduced_in t c.push.new.self (grown c.args.p l q t.places) (room_grown t c.push.new.self (grown c.args.p l q t.places) c.push.ensures) (ap (λ (x : Grid). x.places) c.push.ensures)
+    (reduced_in t c.push.new.self (grown c.args.p l q t.places) (room_grown t c.push.new.self (grown c.args.p l q t.places) c.push.ensures.grown) (ap (λ (x : Grid). x.places) c.push.ensures.grown)
     (grown_reduced t.shape.nb_frag t.shape.frag_size t.places c.args.p l q new))
     c.decide.ensures

@@ -1,6 +1,6 @@
 use Rattle.std.proofs.Common.{◌≡◌, ℕ, Some, None, subst, ◌∙◌, arith, rules}
 use Rattle.row_elimination.specs.Room.{Extent}
-use Rattle.frag_session.specs.Steps.{extent_of}
+use Rattle.frag_session.specs.HeldSteps.{extent_of}
 use Rattle.flash_session.specs.Opening.{IsFirstForeign}
 use Rattle.flash_session.specs.Replayed.{place_in, IsOpened, IsEmpty}
 use Rattle.flash_session.proofs.Opened.{opened_there, empty_there, lies_there, foreign_there, empty_opened, empty_but, opened_for, opened_but, opened_fine, not_foreign}

@@ -1,5 +1,5 @@
 use Rattle.std.proofs.Common.{refl}
-use Rattle.frag_session.specs.Shows.{seen}
+use Rattle.frag_session.specs.HeldView.{seen}
 use Rattle.flash_session.proofs.Renewing.{at_view, shown_as}
 use Rattle.flash_session.proofs.held.Held.view.Goals as goal
 

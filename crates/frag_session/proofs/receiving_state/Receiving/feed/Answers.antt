@@ -1,8 +1,8 @@
 use Rattle.std.proofs.Common.{◌≡◌, ◌*◌, length, sym, ap, ap₂, subst, ◌∙◌, lit≤}
 use Rattle.frag_model.specs.Fragments.{Shape}
 use Rattle.frag_session.specs.Held.{Held}
-use Rattle.frag_session.specs.Steps.{extent_of}
-use Rattle.frag_session.specs.Stands.{Holds, IsOpen, Stands}
+use Rattle.frag_session.specs.HeldSteps.{extent_of}
+use Rattle.frag_session.specs.HeldHistory.{Holds, IsOpen, Stands}
 use Rattle.frag_session.proofs.Standing.{receives_holds, completes_whole, complete_sized, contradicts_failed, overflows_failed}
 use Rattle.frag_session.proofs.receiving_state.Receiving.feed.Goals as goal
 

@@ -1,6 +1,6 @@
 use Rattle.std.proofs.Common.{is_some, ap, refl, ◌∙◌}
-use Rattle.frag_session.specs.Steps.{extent_of}
-use Rattle.frag_session.specs.Stands.{Stands}
+use Rattle.frag_session.specs.HeldSteps.{extent_of}
+use Rattle.frag_session.specs.HeldHistory.{Stands}
 use Rattle.frag_session.proofs.Calls.{lived}
 use Rattle.frag_session.proofs.slots.Slot.delete.Goals as goal
 

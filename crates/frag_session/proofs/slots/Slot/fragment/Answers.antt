@@ -1,7 +1,7 @@
 use Rattle.std.proofs.Common.{Option, lit≤, ap, ap₂, ◌∙◌}
 use Rattle.frag_session.specs.declared.setups.SetupReq.{SetupReq}
 use Rattle.frag_session.specs.declared.answers.Heard.TheVariants as Heard
-use Rattle.frag_session.specs.Steps.{slot_cause, news_between}
+use Rattle.frag_session.specs.HeldSteps.{slot_cause, news_between}
 use Rattle.frag_session.proofs.Calls.{dropped_answer, heard_answer, dropped_stands, heard_stands, can_hear_kept}
 use Rattle.frag_session.proofs.slots.Slot.fragment.Goals as goal
 

@@ -2,11 +2,11 @@ use Rattle.std.proofs.Common.{◌≡◌, ◌<◌, replicate, sym, ap, subst, ◌
 use Rattle.std.specs.Prelude.{vec_capacity}
 use Rattle.row_arena.specs.Rows.{words_for}
 use Rattle.row_elimination.specs.Room.{Extent}
-use Rattle.row_elimination.specs.Places.{gained_held, free}
+use Rattle.row_elimination.specs.HeldPlaces.{gained_held, free}
 use Rattle.frag_model.specs.Fragments.{Shape}
-use Rattle.row_elimination.specs.Held.{Held}
+use Rattle.row_elimination.specs.HeldSolver.{Held}
 use Rattle.row_elimination.specs.SolverInside.{IsSolver}
-use Rattle.row_elimination.specs.Taking.{held_of}
+use Rattle.row_elimination.specs.HeldTaking.{held_of}
 use Rattle.row_elimination.specs.declared.solver.Kept.{Kept}
 use Rattle.row_elimination.specs.declared.stages.Stage.TheVariants as stage
 use Rattle.row_elimination.proofs.Gridding.{more_words}

@@ -1,8 +1,8 @@
 use Rattle.std.proofs.Common.{◌≡◌, ℕ, length, take, ap, subst, ◌∙◌, arith}
 use Rattle.frag_model.specs.Fragments.{Equation}
-use Rattle.row_elimination.specs.Storage.{chunk}
-use Rattle.row_elimination.specs.Steps.{Tells}
-use Rattle.row_elimination.specs.Grid.{Grid}
+use Rattle.row_elimination.specs.HeldStorage.{chunk}
+use Rattle.row_elimination.specs.HeldSteps.{Tells}
+use Rattle.row_elimination.specs.HeldTable.{Grid}
 use Rattle.row_elimination.proofs.Gridding.{written, wrote_parts, finished, finished_places, finished_parts}
 use Rattle.row_elimination.proofs.tables.Table.finish.Goals as goal
 

@@ -2,10 +2,10 @@ use Rattle.std.proofs.Common.{◌≡◌, ◌^◌, ℕ, List, false, bit_xor, len
 use Rattle.frag_model.specs.Fragments.{Shape}
 use Rattle.row_arena.specs.Rows.{Arena, line_in, words_for}
 use Rattle.row_elimination.specs.declared.columns.Column.{Column}
-use Rattle.row_elimination.specs.Places.{Place, free, piece, is_piece, grown}
-use Rattle.row_elimination.specs.Storage.{places_in, Slots}
-use Rattle.row_elimination.specs.Steps.{IsNew, Knows}
-use Rattle.row_elimination.specs.Grid.{Grid}
+use Rattle.row_elimination.specs.HeldPlaces.{Place, free, piece, is_piece, grown}
+use Rattle.row_elimination.specs.HeldStorage.{places_in, Slots}
+use Rattle.row_elimination.specs.HeldSteps.{IsNew, Knows}
+use Rattle.row_elimination.specs.HeldTable.{Grid}
 use Rattle.row_elimination.proofs.Counting.{gained-le}
 use Rattle.row_elimination.proofs.Gridding.{stored_at, file_row, piece_room, written, lead_free, learned_kind, learned}
 use Rattle.row_elimination.proofs.tables.Table.learn.Goals as goal

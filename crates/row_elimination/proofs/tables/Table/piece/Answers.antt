@@ -1,7 +1,7 @@
 use Rattle.std.proofs.Common.{sym, ap, ◌∙◌}
 use Rattle.row_elimination.specs.declared.columns.Column.TheVariants.{Free, Piece, Row}
-use Rattle.row_elimination.specs.Places.{piece, is_piece}
-use Rattle.row_elimination.specs.Storage.{chunk, place_in}
+use Rattle.row_elimination.specs.HeldPlaces.{piece, is_piece}
+use Rattle.row_elimination.specs.HeldStorage.{chunk, place_in}
 use Rattle.row_elimination.proofs.Gridding.{place_read}
 use Rattle.row_elimination.proofs.tables.Table.piece.Goals as goal
 

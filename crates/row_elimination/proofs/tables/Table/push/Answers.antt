@@ -3,10 +3,10 @@ use Rattle.std.proofs.lemmas.Grind.{get_or_default_zero}
 use Rattle.row_arena.specs.Rows.{Arena, line_in, words_for}
 use Rattle.row_elimination.specs.declared.columns.Column.{Column}
 use Rattle.row_elimination.specs.declared.columns.Column.TheVariants.{Row}
-use Rattle.row_elimination.specs.Places.{Place, rows_held, grown}
-use Rattle.row_elimination.specs.Storage.{places_in}
-use Rattle.row_elimination.specs.Steps.{IsNew}
-use Rattle.row_elimination.specs.Grid.{Grid}
+use Rattle.row_elimination.specs.HeldPlaces.{Place, rows_held, grown}
+use Rattle.row_elimination.specs.HeldStorage.{places_in}
+use Rattle.row_elimination.specs.HeldSteps.{IsNew}
+use Rattle.row_elimination.specs.HeldTable.{Grid}
 use Rattle.row_elimination.proofs.Counting.{gained-le}
 use Rattle.row_elimination.proofs.Gridding.{stored_at, file_row, written, pushed}
 use Rattle.row_elimination.proofs.tables.Table.push.Goals as goal

@@ -3,9 +3,9 @@ use Rattle.frag_model.specs.Fragments.{IsPiece}
 use Rattle.row_arena.specs.Rows.{line_in, words_for}
 use Rattle.row_elimination.specs.declared.columns.Column.{Column}
 use Rattle.row_elimination.specs.declared.columns.Column.TheVariants.{Piece}
-use Rattle.row_elimination.specs.Places.{Place, free, piece, rows_held}
-use Rattle.row_elimination.specs.Storage.{places_in}
-use Rattle.row_elimination.specs.Grid.{Grid}
+use Rattle.row_elimination.specs.HeldPlaces.{Place, free, piece, rows_held}
+use Rattle.row_elimination.specs.HeldStorage.{places_in}
+use Rattle.row_elimination.specs.HeldTable.{Grid}
 use Rattle.row_elimination.proofs.Counting.{gained-le}
 use Rattle.row_elimination.proofs.Gridding.{written, put_in}
 use Rattle.row_elimination.proofs.tables.Table.put.Goals as goal

@@ -1,9 +1,9 @@
 use Rattle.std.proofs.Common.{◌≡◌, ◌<◌, ◌≤◌, ◌^◌, ℕ, List, length, take, refl, sym, ap, subst, ◌∙◌, arith, length-take-le}
 use Rattle.row_arena.specs.Rows.{line_in, words_for}
-use Rattle.row_elimination.specs.Places.{Place}
-use Rattle.row_elimination.specs.Storage.{places_in}
-use Rattle.row_elimination.specs.Steps.{Reduced}
-use Rattle.row_elimination.specs.Grid.{Grid}
+use Rattle.row_elimination.specs.HeldPlaces.{Place}
+use Rattle.row_elimination.specs.HeldStorage.{places_in}
+use Rattle.row_elimination.specs.HeldSteps.{Reduced}
+use Rattle.row_elimination.specs.HeldTable.{Grid}
 use Rattle.row_elimination.proofs.Gridding.{stored, width_few}
 use Rattle.row_elimination.proofs.tables.Table.reduce.Goals as goal
 
@@ -70,5 +70,5 @@ returns-clause-left g c =
     let all : Reduced s.nb_frag s.frag_size ps l part l' q' =
     subst (λ (n : ℕ). Reduced n s.frag_size ps l part l' q') long
     (subst (λ (n : ℕ). Reduced (length (take s.nb_frag c.deref.result.now)) n ps l part l' q') sz
-    (subst (λ (x : List Place). Reduced (length (take s.nb_frag c.deref.result.now)) (length part) x l part l' q') same c.reduce.ensures)) in
+    (subst (λ (x : List Place). Reduced (length (take s.nb_frag c.deref.result.now)) (length part) x l part l' q') same c.reduce.ensures.left)) in
     subst (λ (x : Grid). Reduced x.shape.nb_frag x.shape.frag_size x.places l part l' q') c.self.view_is all

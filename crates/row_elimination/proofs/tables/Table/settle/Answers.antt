@@ -3,10 +3,10 @@ use Rattle.frag_model.specs.Fragments.{Shape}
 use Rattle.row_arena.specs.Rows.{line_in, words_for}
 use Rattle.row_elimination.specs.declared.columns.Column.{Column}
 use Rattle.row_elimination.specs.declared.columns.Column.TheVariants.{Free, Piece, Row}
-use Rattle.row_elimination.specs.Places.{Place, piece}
-use Rattle.row_elimination.specs.Storage.{places_in}
-use Rattle.row_elimination.specs.Steps.{Knows}
-use Rattle.row_elimination.specs.Grid.{Grid}
+use Rattle.row_elimination.specs.HeldPlaces.{Place, piece}
+use Rattle.row_elimination.specs.HeldStorage.{places_in}
+use Rattle.row_elimination.specs.HeldSteps.{Knows}
+use Rattle.row_elimination.specs.HeldTable.{Grid}
 use Rattle.row_elimination.proofs.Gridding.{written, column_read, settled_count, settled, settled_already}
 use Rattle.row_elimination.proofs.tables.Table.settle.Goals as goal
 

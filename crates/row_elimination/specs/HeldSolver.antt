@@ -1,12 +1,15 @@
 -- A solver as contracts see it, and what a fragment makes of it.
-use Rattle.std.specs.Prelude.{◌≡◌, ◌≢◌, ◌↔◌, ◌⊎◌, ℕ, suc, ◌+◌, ◌-◌, ◌<◌, ◌≤◌, Bool, true, false, ◌&&◌, not, nat_le, List, ◌∷◌, get_or, replicate, if◌then◌else◌}
+use Rattle.std.specs.Prelude.{◌≡◌, ◌≢◌, ◌↔◌, ◌⊎◌, ℕ, suc, ◌+◌, ◌-◌, ◌<◌, ◌≤◌, Bool, true, false, ◌&&◌, not, nat_le, List, ◌∷◌, length, get_or, replicate, if◌then◌else◌}
 use Rattle.std.specs.List.{concat}
 use Rattle.frag_model.specs.Fragments.{Shape, Equation, Meets, line_of}
 use Rattle.frag_model.specs.Gain.{is_sum}
+use Rattle.frag_model.specs.Limits.{max_parity_index}
 use Rattle.row_elimination.specs.declared.stages.Stage.{Stage}
 use Rattle.row_elimination.specs.declared.stages.Stage.TheVariants as stage
+use Rattle.row_elimination.specs.declared.stages.Fed.{Fed}
+use Rattle.row_elimination.specs.declared.stages.Fed.TheVariants as fed
 use Rattle.row_elimination.specs.Room.{Extent}
-use Rattle.row_elimination.specs.Places.{Place, free, is_piece, pieces_held, rows_held, gained_held, lines_held, FitsHeld}
+use Rattle.row_elimination.specs.HeldPlaces.{Place, free, is_piece, pieces_held, rows_held, gained_held, lines_held, FitsHeld}
 
 -- what a solver holds: the shape of its file, what is held of each column, and the bytes that lie in its area
 pub record Held : Type 0 where
@@ -90,6 +93,21 @@ pub record Overflows (old new : Held) (n : ℕ) (part : List ℕ) : Type 0 where
   pub no_sum : is_sum (line_for old n) (lines_held old.places) ≡ false
   pub rows : rows_held old.places ≡ old.shape.rows
   pub left : (block : List (List ℕ)) × IsLeft old n part block
+
+-- a fragment of this number and part may be fed
+pub record MayFeed (h : Held) (n : ℕ) (part : List ℕ) : Type 0 where
+  pub receiving : h.stage ≡ stage.Receiving
+  pub first : 1 ≤ n
+  pub last : n ≤ h.shape.nb_frag + max_parity_index
+  pub sized : length part ≡ h.shape.frag_size
+
+-- what each answer to it means
+pub record Feeds (old new : Held) (n : ℕ) (part : List ℕ) (answer : Fed) : Type 0 where
+  pub receiving : answer ≡ fed.Receiving → Receives old new n part
+  pub complete : answer ≡ fed.Complete → Completes old new n part
+  pub no_rows : answer ≡ fed.NoRows → Overflows old new n part
+  pub conflict : answer ≡ fed.Conflict → Contradicts old new n part
+  pub extent : new.extent ≡ old.extent
 
 -- a solver that has just begun: it holds nothing
 pub record IsBegun (h : Held) : Type 0 where

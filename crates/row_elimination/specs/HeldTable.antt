@@ -5,9 +5,9 @@ use Rattle.frag_model.specs.Limits.{max_pieces}
 use Rattle.row_arena.specs.Limits.{max_bytes, max_words}
 use Rattle.row_arena.specs.Rows.{Arena, line_in, words_for}
 use Rattle.row_elimination.specs.declared.columns.Column.{Column}
-use Rattle.row_elimination.specs.Places.{Place, rows_held, gained_held}
+use Rattle.row_elimination.specs.HeldPlaces.{Place, rows_held, gained_held}
 use Rattle.row_elimination.specs.Inside.{IsReduced, Marks}
-use Rattle.row_elimination.specs.Storage.{places_in, Slots}
+use Rattle.row_elimination.specs.HeldStorage.{places_in, Slots}
 use Rattle.row_elimination.specs.Room.{Extent}
 
 -- how many words of 64 columns the line of the largest file takes

@@ -5,12 +5,12 @@ use Rattle.row_elimination.specs.declared.stages.Stage.{Stage}
 use Rattle.row_elimination.specs.declared.stages.Stage.TheVariants as stage
 use Rattle.row_elimination.specs.declared.stages.Fed.{Fed}
 use Rattle.row_elimination.specs.declared.stages.Fed.TheVariants as fed
-use Rattle.row_elimination.specs.Places.{rows_held, gained_held}
+use Rattle.row_elimination.specs.HeldPlaces.{rows_held, gained_held}
 use Rattle.row_elimination.specs.Inside.{IsReduced}
-use Rattle.row_elimination.specs.Storage.{chunk}
-use Rattle.row_elimination.specs.Steps.{Reduced, Tells}
-use Rattle.row_elimination.specs.Grid.{Grid, SameRoom}
-use Rattle.row_elimination.specs.Held.{Held, Receives, Completes, Contradicts, Overflows}
+use Rattle.row_elimination.specs.HeldStorage.{chunk}
+use Rattle.row_elimination.specs.HeldSteps.{Reduced, Tells}
+use Rattle.row_elimination.specs.HeldTable.{Grid, SameRoom}
+use Rattle.row_elimination.specs.HeldSolver.{Held, Receives, Completes, Contradicts, Overflows}
 
 -- a table at a stage
 abbrev pub held_of : Stage → Grid → Held

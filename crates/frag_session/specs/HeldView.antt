@@ -1,6 +1,6 @@
 -- What the states of a session show.
 use Rattle.std.specs.Prelude.{◌-◌, [], take, length}
-use Rattle.row_elimination.specs.Held.{missing_of}
+use Rattle.row_elimination.specs.HeldSolver.{missing_of}
 use Rattle.frag_session.specs.declared.answers.View.{View}
 use Rattle.frag_session.specs.declared.answers.Verdict.TheVariants as shown
 use Rattle.frag_session.specs.Held.{Held, Done, Failed}

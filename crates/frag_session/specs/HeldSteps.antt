@@ -1,7 +1,7 @@
 -- What one call makes of what is held.
 use Rattle.std.specs.Prelude.{◌≡◌, ℕ, ◌+◌, ◌≤◌, ◌&&◌, ◌==◌, List, length, Option, Some, None, if◌then◌else◌}
-use Rattle.row_elimination.specs.Places.{pieces_held}
-use Rattle.row_elimination.specs.Held.{missing_of}
+use Rattle.row_elimination.specs.HeldPlaces.{pieces_held}
+use Rattle.row_elimination.specs.HeldSolver.{missing_of}
 use Rattle.row_elimination.specs.Room.{Extent, extent_for}
 use Rattle.frag_session.specs.declared.answers.News.{News}
 use Rattle.frag_session.specs.declared.answers.News.TheVariants as news
@@ -15,7 +15,7 @@ use Rattle.frag_session.specs.declared.slots.State.{State}
 use Rattle.frag_session.specs.declared.slots.State.TheVariants as state
 use Rattle.frag_session.specs.Held.{HeldSlot, idle, receiving, complete, overflowed, conflicted}
 use Rattle.frag_session.specs.Session.{cause_of, Seen}
-use Rattle.frag_session.specs.Shows.{receiving_seen, done_seen, failed_seen, overflowed_seen}
+use Rattle.frag_session.specs.HeldView.{receiving_seen, done_seen, failed_seen, overflowed_seen}
 use Rattle.frag_model.specs.Limits.{max_parity_index}
 
 -- a state as it is kept

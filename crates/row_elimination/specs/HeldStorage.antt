@@ -4,7 +4,7 @@ use Rattle.std.specs.Int.{bit_at}
 use Rattle.row_arena.specs.Rows.{Arena, Row as Line, row_at, row_sum, line_in, words_for}
 use Rattle.row_elimination.specs.declared.columns.Column.{Column}
 use Rattle.row_elimination.specs.declared.columns.Column.TheVariants.{Free, Piece, Row}
-use Rattle.row_elimination.specs.Places.{Place, free, piece, row}
+use Rattle.row_elimination.specs.HeldPlaces.{Place, free, piece, row}
 
 -- the k-th stretch of this size
 unfoldable pub chunk : {A : Type 0} → ℕ → ℕ → List A → List A

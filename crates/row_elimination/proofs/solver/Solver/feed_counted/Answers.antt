@@ -1,13 +1,14 @@
 use Rattle.std.specs.Prelude.{vec_capacity}
-use Rattle.std.proofs.Common.{◌≡◌, List, ℕ, length, sym, ap, ◌∙◌, subst}
+use Rattle.std.proofs.Common.{◌≡◌, ◌+◌, ◌/◌, ◌≤◌, List, ℕ, length, max, sym, ap, ◌∙◌, subst, arith}
+use Rattle.frag_model.proofs.Work.{few_in_line}
 use Rattle.row_elimination.specs.declared.stages.Stage.TheVariants as stage
 use Rattle.row_elimination.specs.declared.solver.Kept.{Kept}
-use Rattle.row_elimination.specs.Held.{Held}
-use Rattle.row_elimination.specs.Taking.{held_of}
+use Rattle.row_elimination.specs.HeldSolver.{Held}
+use Rattle.row_elimination.specs.HeldTaking.{held_of}
 use Rattle.row_elimination.specs.SolverInside.{IsSolver}
 use Rattle.row_elimination.proofs.Gridding.{written}
 use Rattle.row_elimination.proofs.Solving.{still_solver, left_to_gain, fed_is, fed_receives, fed_completes, fed_overflows, fed_contradicts}
-use Rattle.row_elimination.proofs.solver.Solver.feed.Goals as goal
+use Rattle.row_elimination.proofs.solver.Solver.feed_counted.Goals as goal
 
 pub invariant_of-self : goal.invariant_of-self
 invariant_of-self g c =
@@ -67,3 +68,11 @@ returns-clause-conflict g c =
     fed_contradicts c.take-fed.result c.args.self.now _ c.args.n c.args.part.now
     (fed_is c.take-fed.result k.table c.take-fed.new.table k.stage c.stage_after-kept.result c.args.self.now c.args.n c.args.part.now view c.requires.receiving
     c.stage_after-kept.ensures c.take-fed.ensures.fed)
+
+pub returns-clause-few_sums : goal.returns-clause-few_sums
+returns-clause-few_sums g c =
+    let k : Kept g.row.W g.row.B = c.deref_mut-kept.result.now in
+    let same : k ≡ c.self.inside.kept.value = c.deref_mut-kept.ensures.value in
+    let view : held_of k.stage k.table ≡ c.args.self.now = ap (λ (x : Kept g.row.W g.row.B). held_of x.stage x.table) same ∙ c.self.view_is in
+    subst (λ (h : Held). c.take-fed.new.sums ≤ c.args.sums.now + max 1 (h.shape.nb_frag / 2) + h.shape.rows) view
+    (omega (arith, c.take-fed.ensures.sums, few_in_line k.table.shape.nb_frag c.args.n))

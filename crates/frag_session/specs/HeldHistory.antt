@@ -2,8 +2,8 @@
 use Rattle.std.specs.Prelude.{◌≡◌, ℕ, ◌*◌, ◌<◌, ◌≤◌, List, length, Option, Some, None}
 use Rattle.std.specs.List.{concat}
 use Rattle.frag_model.specs.Verdict.{complete, no_rows, conflict, verdict, missing}
-use Rattle.row_elimination.specs.Held.{TwoFit}
-use Rattle.row_elimination.specs.Stands.{StandsFor}
+use Rattle.row_elimination.specs.HeldSolver.{TwoFit}
+use Rattle.row_elimination.specs.HeldHistory.{StandsFor}
 use Rattle.frag_session.specs.declared.setups.SetupReq.{SetupReq}
 use Rattle.frag_session.specs.Held as kept
 use Rattle.frag_session.specs.Held.{HeldSlot, Held, Done, Failed}

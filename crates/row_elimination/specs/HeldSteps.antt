@@ -2,15 +2,14 @@
 use Rattle.std.specs.Prelude.{◌≡◌, ◌≢◌, ℕ, ◌^◌, ◌<◌, List, length, get_or, Some, bit_xor}
 use Rattle.std.specs.Simd.Lanes.{zip2}
 use Rattle.std.specs.Int.{bit_at}
-use Rattle.frag_model.specs.Fragments.{Shape, Equation, IsPiece, xor_bytes}
-use Rattle.frag_model.proofs.Parts.{byte_at}
-use Rattle.frag_model.proofs.Tables.{IsSum}
+use Rattle.frag_model.specs.Fragments.{Shape, Equation, IsPiece, xor_bytes, byte_at}
+use Rattle.frag_model.specs.Gain.{IsSum}
 use Rattle.row_arena.specs.Rows.{Arena, row_at}
 use Rattle.row_elimination.specs.declared.columns.Column.{Column}
 use Rattle.row_elimination.specs.declared.columns.Column.TheVariants.{Row}
-use Rattle.row_elimination.specs.Places.{Place, free, told, lines_held}
+use Rattle.row_elimination.specs.HeldPlaces.{Place, free, told, lines_held}
 use Rattle.row_elimination.specs.Inside.{IsReduced}
-use Rattle.row_elimination.specs.Storage.{places_in}
+use Rattle.row_elimination.specs.HeldStorage.{places_in}
 
 -- byte by byte, the pieces at the line's columns add up to the part
 abbrev pub Agrees : List (List ℕ) → ℕ → List ℕ → Type 0

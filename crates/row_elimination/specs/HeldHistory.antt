@@ -7,8 +7,8 @@ use Rattle.frag_model.specs.Gain.{is_sum, numbers_of, gain, direct, excess}
 use Rattle.frag_model.specs.Verdict.{receiving, complete, no_rows, conflict, verdict, missing, FittingBlock}
 use Rattle.frag_model.specs.Laws.{AreNumbered}
 use Rattle.frag_model.specs.Members.{In}
-use Rattle.row_elimination.specs.Places.{pieces_held, rows_held, gained_held, lines_held, FitsHeld}
-use Rattle.row_elimination.specs.Held.{Held, IsMarked, missing_of, Receives, Completes, Contradicts, Overflows, IsBegun}
+use Rattle.row_elimination.specs.HeldPlaces.{pieces_held, rows_held, gained_held, lines_held, FitsHeld}
+use Rattle.row_elimination.specs.HeldSolver.{Held, IsMarked, missing_of, Receives, Completes, Contradicts, Overflows, IsBegun}
 
 pub record StandsFor (held : Held) (heard : List Fragment) : Type 0 where
   pub numbered : AreNumbered heard

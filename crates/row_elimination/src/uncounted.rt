@@ -1,0 +1,49 @@
+//! A call that counts its work, for a caller that counts nothing.
+
+ghost use Rattle.std.specs.Prelude.{◌≡◌, ℕ, ◌<◌, List};
+ghost use Rattle.row_elimination.specs.declared.stages.Fed.{Fed};
+
+use crate::stages::Fed;
+use parity_lines::Steps;
+use std::sync::ledger::{Blank, Ledger};
+
+/// What takes fragments and counts its work.
+pub trait Counts {
+    /// It takes a fragment of this number and part.
+    ghost may_take: { Self → ℕ → List ℕ → Type 0 };
+
+    /// What it was and what it has become, by a fragment of this number and part and its answer to that.
+    ghost takes: { Self → Self → ℕ → List ℕ → Fed → Type 0 };
+
+    fn take_counted<L: Ledger, M: Ledger>(
+        &mut self,
+        n: u16,
+        part: &[u8],
+        draws: &mut Steps<L>,
+        sums: &mut Steps<M>,
+    ) -> Fed
+        requires { may_take self.old n part.now }
+        ensures { takes self.old self.new n part.now result };
+}
+
+/// Takes fragment `n`, from counts that nobody reads.
+pub fn take_uncounted<F: Counts, L: Ledger, M: Ledger>(
+    taker: &mut F,
+    n: u16,
+    part: &[u8],
+    no_draws: Blank,
+    no_sums: Blank,
+) -> Fed
+    requires may { F.may_take taker.old n part.now }
+    requires draws_name { no_draws.name ≡ L.name }
+    requires draws_parts { no_draws.parts ≡ L.parts }
+    requires draws_counted { 0 < no_draws.parts }
+    requires sums_name { no_sums.name ≡ M.name }
+    requires sums_parts { no_sums.parts ≡ M.parts }
+    requires sums_counted { 0 < no_sums.parts }
+    ensures { F.takes taker.old taker.new n part.now result }
+{
+    let mut draws = Steps::<L>::new(no_draws);
+    let mut sums = Steps::<M>::new(no_sums);
+    taker.take_counted(n, part, &mut draws, &mut sums)
+}
