@@ -20,7 +20,7 @@ struct Receiver<const W: usize, const B: usize> {
 
 impl<const W: usize, const B: usize> Model for Receiver<W, B> {
     ghost use Rattle.std.specs.Prelude.{◌≡◌};
-    ghost use Rattle.row_elimination.specs.Held.{Held};
+    ghost use Rattle.row_elimination.specs.HeldSolver.{Held};
 
     ghost Value = { Held };
 
