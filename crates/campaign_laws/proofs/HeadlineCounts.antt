@@ -7,6 +7,7 @@ use Rattle.package_grammar.specs.declared.command.Command.{Command}
 use Rattle.package_grammar.specs.Reading.{Reading, reading_of}
 use Rattle.device_core.specs.Device.{DeviceState}
 use Rattle.device_core.specs.Events.{Event, event_step}
+use Rattle.mc_keys.specs.declared.root_kind.RootKind.TheVariants.{V10}
 use Rattle.campaign_server.specs.declared.stage.Stage.{Stage}
 use Rattle.campaign_server.specs.declared.stage.Stage.TheVariants.{At as AtRequest}
 use Rattle.campaign_server.specs.declared.stage.Request.TheVariants.{Version}
@@ -171,12 +172,12 @@ form_counted w (WindowB start periodicity timeout freq dr) fine k = record {
 }
 form_counted w (Device id class hw rows offset key descriptor v1) fine k =
     let more = length_push w.devices _ in
-    let planned : length (w.server.plan.devices ++ record { key = key } ∷ []) ≡ _ =
-    length_push w.server.plan.devices (record { key = key }) ∙ ap (λ (n : ℕ). n + 1) k.even.planned ∙ sym more in
+    let planned : length (w.server.plan.devices ++ record { key = key; root = V10 } ∷ []) ≡ _ =
+    length_push w.server.plan.devices (record { key = key; root = V10 }) ∙ ap (λ (n : ℕ). n + 1) k.even.planned ∙ sym more in
     record {
       some = omega (arith, more);
       even = record {
-        stages = length-replicate (length (w.server.plan.devices ++ record { key = key } ∷ [])) (AtRequest Version)
+        stages = length-replicate (length (w.server.plan.devices ++ record { key = key; root = V10 } ∷ [])) (AtRequest Version)
             ∙ planned;
         planned = planned;
       };

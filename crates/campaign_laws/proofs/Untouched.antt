@@ -127,16 +127,16 @@ far_from n stages stage (Some x) at other = λ id may here.
     absurd (other (let e : Some stage ≡ Some (At request.Version) = sym at ∙ subst (λ (i : ℕ). numbered stages i ≡ Some (At request.Version)) (sym same) here in cc))
 
 asked_by : (plan : Plan) (image : List ℕ) (n : ℕ) (stages : List Stage) (k : PlanDevice) (stage : Stage) → numbered stages n ≡ Some stage
-    → IfSome (by_unicast (request_at plan image k.key stage)) (λ x. IsFor stages (record { receiver = Some n; down = downlink_of x }))
+    → IfSome (by_unicast (request_at plan image k stage)) (λ x. IsFor stages (record { receiver = Some n; down = downlink_of x }))
 unfolding request_at
 asked_by plan image n stages k (At request.Version) at = λ id may here. inr (refl, refl)
-asked_by plan image n stages k (At request.Group) at = far_from n stages (At request.Group) (request_at plan image k.key (At request.Group)) at (λ e. cc)
-asked_by plan image n stages k (At request.Fragments) at = far_from n stages (At request.Fragments) (request_at plan image k.key (At request.Fragments)) at (λ e. cc)
-asked_by plan image n stages k (At request.Window) at = far_from n stages (At request.Window) (request_at plan image k.key (At request.Window)) at (λ e. cc)
-asked_by plan image n stages k (At request.Status) at = far_from n stages (At request.Status) (request_at plan image k.key (At request.Status)) at (λ e. cc)
-asked_by plan image n stages k (At request.Image) at = far_from n stages (At request.Image) (request_at plan image k.key (At request.Image)) at (λ e. cc)
-asked_by plan image n stages k (At request.Reboot) at = far_from n stages (At request.Reboot) (request_at plan image k.key (At request.Reboot)) at (λ e. cc)
-asked_by plan image n stages k (At request.Check) at = far_from n stages (At request.Check) (request_at plan image k.key (At request.Check)) at (λ e. cc)
+asked_by plan image n stages k (At request.Group) at = far_from n stages (At request.Group) (request_at plan image k (At request.Group)) at (λ e. cc)
+asked_by plan image n stages k (At request.Fragments) at = far_from n stages (At request.Fragments) (request_at plan image k (At request.Fragments)) at (λ e. cc)
+asked_by plan image n stages k (At request.Window) at = far_from n stages (At request.Window) (request_at plan image k (At request.Window)) at (λ e. cc)
+asked_by plan image n stages k (At request.Status) at = far_from n stages (At request.Status) (request_at plan image k (At request.Status)) at (λ e. cc)
+asked_by plan image n stages k (At request.Image) at = far_from n stages (At request.Image) (request_at plan image k (At request.Image)) at (λ e. cc)
+asked_by plan image n stages k (At request.Reboot) at = far_from n stages (At request.Reboot) (request_at plan image k (At request.Reboot)) at (λ e. cc)
+asked_by plan image n stages k (At request.Check) at = far_from n stages (At request.Check) (request_at plan image k (At request.Check)) at (λ e. cc)
 asked_by plan image n stages k Updated at = tt
 asked_by plan image n stages k (Refused r bits) at = tt
 

@@ -147,24 +147,24 @@ built_of image devices server s is built = rw is at built
 -- ---- a device joins
 
 join_held : (held : HeldWorld) (ds : List DeviceState) (new_plan : Plan) (new_devices : List Late) (config : DeviceConfig) (device : Late)
-    → DevicesRest held.devices ds → new_plan ≡ record held.plan { devices = held.plan.devices ++ record { key = config.key } ∷ [] }
+    → DevicesRest held.devices ds → new_plan ≡ record held.plan { devices = held.plan.devices ++ record { key = config.key; root = config.root } ∷ [] }
     → new_devices ≡ held.devices ++ device ∷ [] → DeviceRests device (first_device config) → (server : Option ServerState) → server ≡ None
     → WorldStands (record held { section = section.Devices; plan = new_plan; devices = new_devices; server = server })
     (with_plan (record (world_of (record held { server = server }) ds) { devices = ds ++ first_device config ∷ [] })
-    (record (server_of held.image held.plan server).plan { devices = (server_of held.image held.plan server).plan.devices ++ record { key = config.key } ∷ [] }) section.Devices)
+    (record (server_of held.image held.plan server).plan { devices = (server_of held.image held.plan server).plan.devices ++ record { key = config.key; root = config.root } ∷ [] }) section.Devices)
 join_held held ds new_plan new_devices config device all plan_is devices_are joins server none =
     rw (none, plan_is, devices_are) (record { devices = zip_more DeviceRests held.devices ds device (first_device config) all joins; rest = refl })
 
 pub join_step : (held : HeldWorld) (world : WorldState) (new_plan : Plan) (new_devices : List Late) (config : DeviceConfig) (device : Late)
-    → WorldStands held world → new_plan ≡ record held.plan { devices = held.plan.devices ++ record { key = config.key } ∷ [] }
+    → WorldStands held world → new_plan ≡ record held.plan { devices = held.plan.devices ++ record { key = config.key; root = config.root } ∷ [] }
     → new_devices ≡ held.devices ++ device ∷ [] → DeviceRests device (first_device config) → held.server ≡ None
     → WorldStands (record held { section = section.Devices; plan = new_plan; devices = new_devices })
     (with_plan (record world { devices = world.devices ++ first_device config ∷ [] })
-    (record world.server.plan { devices = world.server.plan.devices ++ record { key = config.key } ∷ [] }) section.Devices)
+    (record world.server.plan { devices = world.server.plan.devices ++ record { key = config.key; root = config.root } ∷ [] }) section.Devices)
 join_step held world new_plan new_devices config device stands plan_is devices_are joins none =
     subst (λ (w : WorldState). WorldStands (record held { section = section.Devices; plan = new_plan; devices = new_devices })
     (with_plan (record w { devices = w.devices ++ first_device config ∷ [] })
-    (record w.server.plan { devices = w.server.plan.devices ++ record { key = config.key } ∷ [] }) section.Devices)) (sym stands.rest)
+    (record w.server.plan { devices = w.server.plan.devices ++ record { key = config.key; root = config.root } ∷ [] }) section.Devices)) (sym stands.rest)
     (join_held held world.devices new_plan new_devices config device stands.devices plan_is devices_are joins held.server none)
 
 -- ---- an event is the same behind the plan

@@ -4,6 +4,7 @@ use Rattle.std.specs.Result.{result_ok}
 use Rattle.wire_base.specs.declared.refusal.Refusal.{Refusal}
 use Rattle.package_grammar.specs.declared.downlink.Downlink.{Downlink}
 use Rattle.package_grammar.specs.declared.downlink.To.TheVariants.{Unicast}
+use Rattle.mc_keys.specs.declared.root_kind.RootKind.TheVariants.{V10}
 use Rattle.device_core.specs.declared.config.Class.{Class as DeviceClass}
 use Rattle.device_core.specs.declared.config.Class.TheVariants as device_class
 use Rattle.device_core.specs.declared.config.DeviceConfig.{DeviceConfig}
@@ -47,7 +48,7 @@ abbrev pub formats_of : (v1 : Bool) → ℕ
 formats_of true = 1
 formats_of false = 2
 
--- a device has 4 sessions, 4 groups, and an area for the largest file
+-- a device is of LoRaWAN 1.0, and has 4 sessions, 4 groups, and an area for the largest file
 abbrev pub config_of : Class → (hw rows offset : ℕ) → (key : List ℕ) → (descriptor : Option ℕ) → (v1 : Bool) → DeviceConfig
 config_of class hw rows offset key descriptor v1 = record {
   class = class_of class;
@@ -56,6 +57,7 @@ config_of class hw rows offset key descriptor v1 = record {
   rows = rows;
   offset = offset;
   key = key;
+  root = V10;
   descriptor = descriptor;
   sessions = 4;
   groups = 4;
@@ -146,7 +148,7 @@ after_form world (WindowC start timeout freq dr) =
 after_form world (WindowB start periodicity timeout freq dr) =
     with_plan world (with_window world.server.plan (kind.B periodicity) start timeout freq dr) section.Device
 after_form world (Device id class hw rows offset key descriptor v1) =
-    let plan = record world.server.plan { devices = world.server.plan.devices ++ record { key = key } ∷ [] } in
+    let plan = record world.server.plan { devices = world.server.plan.devices ++ record { key = key; root = V10 } ∷ [] } in
     with_plan (record world { devices = world.devices ++ device_of class hw rows offset key descriptor v1 ∷ [] }) plan section.Devices
 after_form world (At time) = at_events (record world { time = time })
 after_form world (Wake device) = with_event_of world device (Wake device)

@@ -4,6 +4,7 @@ use Rattle.std.specs.Prelude.{◌≡◌, ℕ, List, [], ◌++◌, replicate, cod
 use Rattle.cast_wire.specs.Limits.{max_groups}
 use Rattle.package_grammar.specs.declared.downlink.Downlink.{Downlink}
 use Rattle.package_grammar.specs.declared.downlink.To.TheVariants.{Unicast}
+use Rattle.mc_keys.specs.declared.root_kind.RootKind.TheVariants.{V10}
 use Rattle.device_core.specs.declared.config.Class.TheVariants as class
 use Rattle.device_core.specs.Device.{DeviceState, first_device, max_formats, max_sessions, max_area}
 use Rattle.device_core.specs.Events.{Receives, after_event}
@@ -33,6 +34,7 @@ replay_device rows = first_device (record {
   rows = rows;
   offset = 0;
   key = replicate 16 0;
+  root = V10;
   descriptor = None;
   sessions = max_sessions;
   groups = max_groups;
