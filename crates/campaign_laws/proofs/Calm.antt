@@ -94,7 +94,7 @@ gone_calm at d id k =
 cast_calm : (at : Arrival) (d : DeviceState) (cmd : CastCmd) → IsUntouched d → IsUntouched (command_step at d (Cast cmd)).device
 unfolding command_step setup_step status_step delete_step fragment_step groups_step class_session_step
 cast_calm at d (c.DataFragment index n part) k = fragment_calm at d index n part _ k
-cast_calm at d (c.McGroupSetupReq id addr key min max) k = group_calm at d id (group_of d.config.key addr key min max) k
+cast_calm at d (c.McGroupSetupReq id addr key min max) k = group_calm at d id (group_of d.config.key d.config.root addr key min max) k
 cast_calm at d (c.McGroupDeleteReq id) k = gone_calm at d id k
 cast_calm at d cmd k = record { reboot = k.reboot; version = k.version }
 

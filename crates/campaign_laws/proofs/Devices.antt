@@ -25,6 +25,7 @@ use Rattle.campaign_server.specs.declared.stage.Stage.{Stage}
 use Rattle.campaign_server.specs.Plan.{Plan}
 use Rattle.campaign_server.specs.Server.{port_of}
 use Rattle.campaign_server.specs.Sent.{unicast_of}
+use Rattle.campaign_server.specs.declared.plan.PlanDevice.{PlanDevice}
 use Rattle.campaign_server.specs.Asking.{request_at}
 use Rattle.campaign_server.specs.Answers.{stage_after}
 use Rattle.campaign_server.specs.Time.{time_answer_to}
@@ -79,7 +80,7 @@ answered c a e mark empty = rw empty refl
 -- ---- a turn that a device takes on
 
 pub record TurnOf (image : List ℕ) (P' : DeviceState → Stage → Type 0) (d : DeviceState) (s : Stage) (c a : Command) (e f : DeviceState) : Type 0 where
-  pub ask : (plan : Plan) (key : List ℕ) → IsPlan plan → request_at plan image key s ≡ Some c
+  pub ask : (plan : Plan) (planned : PlanDevice) → IsPlan plan → request_at plan image planned s ≡ Some c
   pub down_read : reading_of (port_of c) Down (canonical c) ≡ Ok (c ∷ [])
   pub light : weight c ≤ 1
   pub makes : (mark : ℕ) → command_step (at_of mark c) d c ≡ one_answer (at_of mark c) e a

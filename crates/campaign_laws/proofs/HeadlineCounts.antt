@@ -6,8 +6,8 @@ use Rattle.wire_base.specs.declared.refusal.Direction.TheVariants.{Up as Upwards
 use Rattle.package_grammar.specs.declared.command.Command.{Command}
 use Rattle.package_grammar.specs.Reading.{Reading, reading_of}
 use Rattle.device_core.specs.Device.{DeviceState}
-use Rattle.device_core.specs.Deliver.{delivery, waking}
-use Rattle.device_core.specs.Firmware.{after_migration}
+use Rattle.device_core.specs.Events.{Event, event_step}
+use Rattle.mc_keys.specs.declared.root_kind.RootKind.TheVariants.{V10}
 use Rattle.campaign_server.specs.declared.stage.Stage.{Stage}
 use Rattle.campaign_server.specs.declared.stage.Stage.TheVariants.{At as AtRequest}
 use Rattle.campaign_server.specs.declared.stage.Request.TheVariants.{Version}
@@ -30,7 +30,7 @@ use Rattle.campaign_world.specs.declared.numbered.SentPayload.{SentPayload}
 use Rattle.campaign_world.specs.declared.numbered.MadeUplink.{MadeUplink}
 use Rattle.campaign_world.specs.World.{WorldState, first_world}
 use Rattle.campaign_world.specs.Causes.{is_event_or_end, may_come, form_cause, cause_of_form, cause_of}
-use Rattle.campaign_world.specs.Making.{with_sent, with_device, after_wake, after_migrate, after_down, raw_down, after_raw, after_answer, after_up, at_events, after_form}
+use Rattle.campaign_world.specs.Making.{with_sent, with_device, event_of, after_event_at, with_event_of, after_answer, after_up, at_events, after_form}
 use Rattle.campaign_world.specs.Script.{after_form_of, after_line, line_result, read_line, read_lines, campaign_of}
 use Rattle.campaign_laws.specs.Lives.{HasItsDevices}
 use Rattle.campaign_world.proofs.FormCauses.{event_at, passes}
@@ -77,24 +77,10 @@ device_many : (w : WorldState) (n : ℕ) (d : DeviceState) → IsAsMany w (with_
 unfolding with_device
 device_many w n d = record { devices = length-set w.devices (n - 1) _; stages = refl; planned = refl }
 
-woken_many : (w : WorldState) (n : ℕ) (o : Option DeviceState) → IsAsMany w (after_wake w n o)
-woken_many w n None = record { devices = refl; stages = refl; planned = refl }
-woken_many w n (Some d) = device_many w n (waking w.time d).device
-
-migrated_many : (w : WorldState) (n : ℕ) (o : Option DeviceState) → IsAsMany w (after_migrate w n o)
-migrated_many w n None = record { devices = refl; stages = refl; planned = refl }
-migrated_many w n (Some d) = device_many w n (after_migration d)
-
-reached_many : (w : WorldState) (n word : ℕ) (o : Option DeviceState) (p : Option SentPayload)
-    → IsAsMany w (after_down w n word o p)
-reached_many w n word (Some d) (Some p) = device_many w n (delivery w.time word (w.lines + 1) p.down d).device
-reached_many w n word (Some d) None = record { devices = refl; stages = refl; planned = refl }
-reached_many w n word None p = record { devices = refl; stages = refl; planned = refl }
-
-struck_many : (w : WorldState) (n word : ℕ) (down : Downlink) (o : Option DeviceState)
-    → IsAsMany w (after_raw w n word down o)
-struck_many w n word down None = record { devices = refl; stages = refl; planned = refl }
-struck_many w n word down (Some d) = device_many w n (delivery w.time word (w.lines + 1) down d).device
+event_many : (w : WorldState) (n : ℕ) (d : Option DeviceState) (o : Option Event) → IsAsMany w (after_event_at w n d o)
+event_many w n None o = record { devices = refl; stages = refl; planned = refl }
+event_many w n (Some d) None = record { devices = refl; stages = refl; planned = refl }
+event_many w n (Some d) (Some e) = device_many w n (event_step d e)
 
 fragment_by : (s : ServerState) (b : Bool) → (length (cond b (after_count (record s { next = s.next + 1 })) s).stages
     ≡ length s.stages) × (length (cond b (after_count (record s { next = s.next + 1 })) s).plan.devices
@@ -153,6 +139,13 @@ event_counted w v form event may k m = record {
   even = record { stages = (as_many w v k.even m).stages; planned = (as_many w v k.even m).planned };
 }
 
+-- what a form lets happen at a device
+form_event_counted : (w : WorldState) (n : ℕ) (form : Form) → is_event_or_end form ≡ true → may_come w.section form ≡ true
+    → IsCounted w → IsCounted (with_event_of w n form)
+form_event_counted w n form event may k =
+    let o = event_of w.sent w.time (w.lines + 1) form in
+    event_counted w (after_event_at w n (numbered w.devices n) o) form event may k (event_many w n (numbered w.devices n) o)
+
 -- a plan in which as many devices are planned as there are
 planned_even : (plan : Plan) (n : ℕ) → length plan.devices ≡ n
     → length (replicate (length plan.devices) (AtRequest Version)) ≡ n
@@ -179,12 +172,12 @@ form_counted w (WindowB start periodicity timeout freq dr) fine k = record {
 }
 form_counted w (Device id class hw rows offset key descriptor v1) fine k =
     let more = length_push w.devices _ in
-    let planned : length (w.server.plan.devices ++ record { key = key } ∷ []) ≡ _ =
-    length_push w.server.plan.devices (record { key = key }) ∙ ap (λ (n : ℕ). n + 1) k.even.planned ∙ sym more in
+    let planned : length (w.server.plan.devices ++ record { key = key; root = V10 } ∷ []) ≡ _ =
+    length_push w.server.plan.devices (record { key = key; root = V10 }) ∙ ap (λ (n : ℕ). n + 1) k.even.planned ∙ sym more in
     record {
       some = omega (arith, more);
       even = record {
-        stages = length-replicate (length (w.server.plan.devices ++ record { key = key } ∷ [])) (AtRequest Version)
+        stages = length-replicate (length (w.server.plan.devices ++ record { key = key; root = V10 } ∷ [])) (AtRequest Version)
             ∙ planned;
         planned = planned;
       };
@@ -193,11 +186,9 @@ form_counted w (At time) fine k =
     event_counted w (record w { time = time }) (At time) refl (passes w (At time) fine).comes k
     (record { devices = refl; stages = refl; planned = refl })
 form_counted w (Wake device) fine k =
-    event_counted w (after_wake w device (numbered w.devices device)) (Wake device) refl (passes w (Wake device) fine).comes
-    k (woken_many w device (numbered w.devices device))
+    form_event_counted w device (Wake device) refl (passes w (Wake device) fine).comes k
 form_counted w (Migrate device) fine k =
-    event_counted w (after_migrate w device (numbered w.devices device)) (Migrate device) refl
-    (passes w (Migrate device) fine).comes k (migrated_many w device (numbered w.devices device))
+    form_event_counted w device (Migrate device) refl (passes w (Migrate device) fine).comes k
 form_counted w (Ask device) fine k =
     event_counted w (with_sent w (Some device) (request_of w.server device)) (Ask device) refl
     (passes w (Ask device) fine).comes k (sent_many w w.server (Some device) (request_of w.server device) refl refl)
@@ -212,13 +203,9 @@ form_counted w Status fine k =
     refl (passes w Status fine).comes k
     (sent_many w (after_status_to_all w.server) None (status_to_all w.server) same.0 same.1)
 form_counted w (Down number device word) fine k =
-    event_counted w (after_down w device word (numbered w.devices device) (numbered w.sent number))
-    (Down number device word) refl (passes w (Down number device word) fine).comes k
-    (reached_many w device word (numbered w.devices device) (numbered w.sent number))
+    let form : Form = Down number device word in form_event_counted w device form refl (passes w form fine).comes k
 form_counted w (Raw device port payload word) fine k =
-    event_counted w (after_raw w device word (raw_down port payload) (numbered w.devices device))
-    (Raw device port payload word) refl (passes w (Raw device port payload word) fine).comes k
-    (struck_many w device word (raw_down port payload) (numbered w.devices device))
+    let form : Form = Raw device port payload word in form_event_counted w device form refl (passes w form fine).comes k
 form_counted w (Up number) fine k =
     event_counted w (after_up w (numbered w.uplinks number)) (Up number) refl (passes w (Up number) fine).comes k
     (up_many w (numbered w.uplinks number))

@@ -163,10 +163,10 @@ IsDown image cut down = IsSentOf image cut down
 abbrev IsAsked : List ℕ → Cut → Command → Type 0
 IsAsked image cut x = IsSentOf image cut (record { to = Unicast; command = x })
 
-group_sent : (image : List ℕ) (cut : Cut) (key : List ℕ) (group : Option PlanGroup)
-    → IfSome (cast_of (λ g. group_request key g) group) (IsAsked image cut)
-group_sent image cut key None = tt
-group_sent image cut key (Some group) = inr (inr (inr (inl refl)))
+group_sent : (image : List ℕ) (cut : Cut) (device : PlanDevice) (group : Option PlanGroup)
+    → IfSome (cast_of (λ g. group_request device g) group) (IsAsked image cut)
+group_sent image cut device None = tt
+group_sent image cut device (Some group) = inr (inr (inr (inl refl)))
 
 window_port : (id : ℕ) (window : PlanWindow) (k : Kind) → port_of (Cast (window_request_of id window k)) ≡ 200
 window_port id window kind.C = refl
@@ -177,19 +177,19 @@ window_sent : (image : List ℕ) (cut : Cut) (id : ℕ) (window : Option PlanWin
 window_sent image cut id None = tt
 window_sent image cut id (Some window) = inr (inr (inr (inl (window_port id window window.kind))))
 
-request_sent : (plan : Plan) (image key : List ℕ) (stage : Stage)
-    → IfSome (request_at plan image key stage) (IsAsked image (cut_of plan))
+request_sent : (plan : Plan) (image : List ℕ) (device : PlanDevice) (stage : Stage)
+    → IfSome (request_at plan image device stage) (IsAsked image (cut_of plan))
 unfolding request_at
-request_sent plan image key (At request.Version) = inr (inr (inr (inr (DevVersionReq, refl))))
-request_sent plan image key (At request.Group) = group_sent image (cut_of plan) key plan.group
-request_sent plan image key (At request.Fragments) = inl (refl, refl)
-request_sent plan image key (At request.Window) = window_sent image (cut_of plan) (own_id plan.group) plan.window
-request_sent plan image key (At request.Status) = inr (inr (inl (true, refl)))
-request_sent plan image key (At request.Image) = inr (inr (inr (inr (_, refl))))
-request_sent plan image key (At request.Reboot) = inr (inr (inr (inr (_, refl))))
-request_sent plan image key (At request.Check) = inr (inr (inr (inr (_, refl))))
-request_sent plan image key Updated = tt
-request_sent plan image key (Refused request bits) = tt
+request_sent plan image device (At request.Version) = inr (inr (inr (inr (DevVersionReq, refl))))
+request_sent plan image device (At request.Group) = group_sent image (cut_of plan) device plan.group
+request_sent plan image device (At request.Fragments) = inl (refl, refl)
+request_sent plan image device (At request.Window) = window_sent image (cut_of plan) (own_id plan.group) plan.window
+request_sent plan image device (At request.Status) = inr (inr (inl (true, refl)))
+request_sent plan image device (At request.Image) = inr (inr (inr (inr (_, refl))))
+request_sent plan image device (At request.Reboot) = inr (inr (inr (inr (_, refl))))
+request_sent plan image device (At request.Check) = inr (inr (inr (inr (_, refl))))
+request_sent plan image device Updated = tt
+request_sent plan image device (Refused request bits) = tt
 
 pub down_of : (image : List ℕ) (cut : Cut) (x : Option Command) → IfSome x (IsAsked image cut)
     → IfSome (by_unicast x) (IsDown image cut)
@@ -198,7 +198,7 @@ down_of image cut (Some x) k = k
 
 command_sent : (plan : Plan) (image : List ℕ) (device : Option PlanDevice) (stage : Option Stage)
     → IfSome (command_for plan image device stage) (IsAsked image (cut_of plan))
-command_sent plan image (Some device) (Some stage) = request_sent plan image device.key stage
+command_sent plan image (Some device) (Some stage) = request_sent plan image device stage
 command_sent plan image (Some device) None = tt
 command_sent plan image None (Some stage) = tt
 command_sent plan image None None = tt

@@ -12,6 +12,7 @@ use Rattle.frag_model.specs.Limits.{max_pieces}
 use Rattle.script_lines.specs.Limits.{max_rows, max_devices}
 use Rattle.device_core.specs.Deliver.{delivery, waking}
 use Rattle.device_core.specs.Firmware.{after_migration}
+use Rattle.device_core.specs.Events.{Event, Wakes, Migrates, after_event}
 use Rattle.campaign_server.specs.declared.plan.PlanGroup.{PlanGroup}
 use Rattle.campaign_server.specs.Plan.{Plan}
 use Rattle.campaign_server.specs.Server.{ServerState, DownlinkCommand, ledger, downlink_of}
@@ -31,7 +32,7 @@ use Rattle.campaign_world.specs.declared.numbered.MadeUplink.{MadeUplink}
 use Rattle.campaign_world.specs.World.{WorldState}
 use Rattle.campaign_world.specs.Honest.{is_raw}
 use Rattle.campaign_world.specs.Causes.{may_come, fits_script, is_device, names_device, may_reach, has_come, form_cause}
-use Rattle.campaign_world.specs.Making.{with_sent, with_device, after_wake, after_migrate, after_down, after_answer, after_up, at_events, after_form}
+use Rattle.campaign_world.specs.Making.{with_sent, with_device, with_event, with_event_of, after_answer, after_up, at_events, after_form}
 use Rattle.campaign_server.proofs.LineItems.{if_some, numbered_put, numbered_there}
 use Rattle.campaign_laws.proofs.HeadlineCommands.{cut_of, IsCut}
 use Rattle.device_core.proofs.Stays.{Stays, waking_stays}
@@ -230,8 +231,7 @@ taken d = record d { outbox = [] }
 reached_turn : (image : List ℕ) (w : WorldState) (number n word : ℕ) (d : DeviceState) (p : SentPayload)
     → All (λ b. b < 2 ^ 8) image → Keeps image w → IsCut image (cut_of w.server.plan)
     → 1 ≤ n → numbered w.devices n ≡ Some d → numbered w.sent number ≡ Some p
-    → Turns image (Down number n word) w (at_events
-    (after_down w n word (numbered w.devices n) (numbered w.sent number)))
+    → Turns image (Down number n word) w (with_event_of w n (Down number n word))
 unfolding with_device
 reached_turn image w number n word d p bytes k cut first there got =
     let down = all_numbered (IsPayloadOf image (cut_of w.server.plan)) w.sent number p k.sent got in
@@ -266,37 +266,37 @@ reached_turn image w number n word d p bytes k cut first there got =
       })));
     })
 
-woken_turn : (image : List ℕ) (w : WorldState) (n : ℕ) (d : DeviceState) → Keeps image w
-    → IsCut image (cut_of w.server.plan) → 1 ≤ n → numbered w.devices n ≡ Some d
-    → Turns image (Wake n) w (at_events (after_wake w n (numbered w.devices n)))
+-- an event at a device that hears nothing
+quiet_turn : (image : List ℕ) (w : WorldState) (n : ℕ) (form : Form) (d : DeviceState) (event : Event) → is_down form ≡ false
+    → Keeps image w → IsCut image (cut_of w.server.plan) → 1 ≤ n → numbered w.devices n ≡ Some d → Stays d (after_event d event)
+    → Turns image form w (with_event w n (Some event))
 unfolding with_device
-woken_turn image w n d k cut first there =
-    let new : DeviceState = taken (waking w.time d).device in
+quiet_turn image w n form d event other k cut first there stays =
     rw (there) (record {
       lines = refl;
       server = k.server;
       stands = cut;
       how = inl (record {
-        other = refl;
+        other = other;
         cut = refl;
-        devices = λ id. stayed id (numbered_put w.devices n id new first);
+        devices = λ id. stayed id (numbered_put w.devices n id (after_event d event) first);
         more = [];
         sent = sym (append-nil w.sent);
         fine = tt;
       });
     })
   where
-    stayed : (id : ℕ) → (id ≡ n) ⊎ (numbered (slice_set w.devices (n - 1) (taken (waking w.time d).device)) id ≡ numbered w.devices id)
-        → (numbered (slice_set w.devices (n - 1) (taken (waking w.time d).device)) id ≡ numbered w.devices id)
-        ⊎ HasStayed (numbered w.devices id) (numbered (slice_set w.devices (n - 1) (taken (waking w.time d).device)) id)
+    stayed : (id : ℕ) → (id ≡ n) ⊎ (numbered (slice_set w.devices (n - 1) (after_event d event)) id ≡ numbered w.devices id)
+        → (numbered (slice_set w.devices (n - 1) (after_event d event)) id ≡ numbered w.devices id)
+        ⊎ HasStayed (numbered w.devices id) (numbered (slice_set w.devices (n - 1) (after_event d event)) id)
     stayed id (inr same) = inl same
     stayed id (inl is) = inr (record {
       d = d;
-      e = taken (waking w.time d).device;
+      e = after_event d event;
       was = ap (λ (x : ℕ). numbered w.devices x) is ∙ there;
-      is = ap (λ (x : ℕ). numbered (slice_set w.devices (n - 1) (taken (waking w.time d).device)) x) is
-          ∙ numbered_there w.devices n d (taken (waking w.time d).device) there;
-      moves = waking_stays w.time d;
+      is = ap (λ (x : ℕ). numbered (slice_set w.devices (n - 1) (after_event d event)) x) is
+          ∙ numbered_there w.devices n d (after_event d event) there;
+      moves = stays;
       empty = refl;
     })
 
@@ -304,40 +304,6 @@ woken_turn image w n d k cut first there =
 migration_stays : (d : DeviceState) → Stays d (taken (after_migration d))
 unfolding after_migration
 migration_stays d = record { config = refl; sessions = refl }
-
-migrated_turn : (image : List ℕ) (w : WorldState) (n : ℕ) (d : DeviceState) → Keeps image w
-    → IsCut image (cut_of w.server.plan) → 1 ≤ n → numbered w.devices n ≡ Some d
-    → Turns image (Migrate n) w (at_events (after_migrate w n (numbered w.devices n)))
-unfolding with_device
-migrated_turn image w n d k cut first there =
-    let new : DeviceState = taken (after_migration d) in
-    rw (there) (record {
-      lines = refl;
-      server = k.server;
-      stands = cut;
-      how = inl (record {
-        other = refl;
-        cut = refl;
-        devices = λ id. stayed id (numbered_put w.devices n id new first);
-        more = [];
-        sent = sym (append-nil w.sent);
-        fine = tt;
-      });
-    })
-  where
-    stayed : (id : ℕ) → (id ≡ n) ⊎ (numbered (slice_set w.devices (n - 1) (taken (after_migration d))) id ≡ numbered w.devices id)
-        → (numbered (slice_set w.devices (n - 1) (taken (after_migration d))) id ≡ numbered w.devices id)
-        ⊎ HasStayed (numbered w.devices id) (numbered (slice_set w.devices (n - 1) (taken (after_migration d))) id)
-    stayed id (inr same) = inl same
-    stayed id (inl is) = inr (record {
-      d = d;
-      e = taken (after_migration d);
-      was = ap (λ (x : ℕ). numbered w.devices x) is ∙ there;
-      is = ap (λ (x : ℕ). numbered (slice_set w.devices (n - 1) (taken (after_migration d))) x) is
-          ∙ numbered_there w.devices n d (taken (after_migration d)) there;
-      moves = migration_stays d;
-      empty = refl;
-    })
 
 -- nothing is sent, and no device changes
 still_turn : (image : List ℕ) (form : Form) (w v : WorldState) → is_down form ≡ false → IsServerOf image v.server
@@ -444,12 +410,14 @@ form_turn image w (Wake device) bytes k fine honest =
     let p = passes w (Wake device) fine in
     let there = number_there (length w.devices) device p.names in
     let d = device_there w.devices device there in
-    woken_turn image w device d.0 k (late_cut image w (Wake device) w.section refl p.may k.stands) there.0 d.1
+    quiet_turn image w device (Wake device) d.0 (Wakes w.time) refl k
+    (late_cut image w (Wake device) w.section refl p.may k.stands) there.0 d.1 (waking_stays w.time d.0)
 form_turn image w (Migrate device) bytes k fine honest =
     let p = passes w (Migrate device) fine in
     let there = number_there (length w.devices) device p.names in
     let d = device_there w.devices device there in
-    migrated_turn image w device d.0 k (late_cut image w (Migrate device) w.section refl p.may k.stands) there.0 d.1
+    quiet_turn image w device (Migrate device) d.0 Migrates refl k
+    (late_cut image w (Migrate device) w.section refl p.may k.stands) there.0 d.1 (migration_stays d.0)
 form_turn image w (Ask device) bytes k fine honest =
     sends_turn image (Ask device) w w.server (Some device) (request_of w.server device) refl
     (record { is = k.server; plan = refl })

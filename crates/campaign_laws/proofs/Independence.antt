@@ -23,10 +23,11 @@ use Rattle.campaign_world.specs.declared.numbered.SentPayload.{SentPayload}
 use Rattle.campaign_world.specs.declared.numbered.MadeUplink.{MadeUplink}
 use Rattle.campaign_world.specs.World.{WorldState, first_world}
 use Rattle.campaign_world.specs.Causes.{is_device, may_reach, cause_of, cause_of_form, form_cause}
-use Rattle.campaign_world.specs.Making.{with_sent, with_device, after_wake, after_migrate, after_down, raw_down, after_raw, after_answer, after_up, at_events, after_form}
+use Rattle.campaign_world.specs.Making.{with_sent, with_device, raw_down, reception, with_event, with_event_of, after_answer, after_up, at_events, after_form}
 use Rattle.campaign_world.specs.Script.{after_form_of, after_line, line_result, read_line, read_lines, campaign_of}
 use Rattle.device_core.specs.Events.{Event, Wakes, Receives, Migrates, after_event}
 use Rattle.campaign_laws.specs.Independence.{device_in, first_devices, time_after, event_in, history_of, DevicesAreIndependent}
+use Rattle.campaign_world.proofs.Steps.{reception_of}
 use Rattle.campaign_server.proofs.LineItems.{numbered_more, numbered_put, numbered_there}
 use Rattle.campaign_laws.proofs.HeadlineForms.{passes}
 use Rattle.campaign_laws.proofs.HeadlineLines.{cause_by, end_is}
@@ -184,56 +185,28 @@ happened id n ds later d e events false is first there =
       | inr other ↦ rw (set_front ds later n d (after_event d e) there, other) refl
     ]
 
-woken_told : (id n : ℕ) (all : List SentPayload) (w : WorldState) (d : DeviceState) → 1 ≤ n
-    → numbered w.devices n ≡ Some d
-    → IsTold id all w (at_events (after_wake w n (numbered w.devices n))) (Wake n)
+event_told : (id n : ℕ) (all : List SentPayload) (w : WorldState) (form : Form) (d : DeviceState) (o : Option Event) (e : Event)
+    → 1 ≤ n → numbered w.devices n ≡ Some d → o ≡ Some e → time_after w.time (Some form) ≡ w.time → device_in (Some form) ≡ None
+    → (Grows w.sent all → event_in id all w.time (w.lines + 1) (Some form) ≡ cond (n == id) (Some e) None)
+    → IsTold id all w (with_event w n o) form
 unfolding with_device
-woken_told id n all w d first there = rw (there) (record {
+event_told id n all w form d o e first there is time device told = rw (is, there) (record {
   lines = refl;
-  time = refl;
+  time = sym time;
   sent = same_sent w;
-  record_is = λ grows later events. happened id n w.devices (filter_map device_in later) d
-      (Wakes w.time) events (n == id) refl first there;
-})
-
-migrated_told : (id n : ℕ) (all : List SentPayload) (w : WorldState) (d : DeviceState) → 1 ≤ n
-    → numbered w.devices n ≡ Some d
-    → IsTold id all w (at_events (after_migrate w n (numbered w.devices n))) (Migrate n)
-unfolding with_device
-migrated_told id n all w d first there = rw (there) (record {
-  lines = refl;
-  time = refl;
-  sent = same_sent w;
-  record_is = λ grows later events. happened id n w.devices (filter_map device_in later) d
-      Migrates events (n == id) refl first there;
+  record_is = λ grows later events. rw (told grows, device)
+      (happened id n w.devices (filter_map device_in later) d e events (n == id) refl first there);
 })
 
 reached_told : (id number n word : ℕ) (all : List SentPayload) (w : WorldState) (d : DeviceState) (p : SentPayload)
     → 1 ≤ n → numbered w.devices n ≡ Some d → numbered w.sent number ≡ Some p
-    → IsTold id all w (at_events (after_down w n word (numbered w.devices n) (numbered w.sent number))) (Down number n word)
-unfolding with_device
-reached_told id number n word all w d p first there got = rw (there, got) (record {
-  lines = refl;
-  time = refl;
-  sent = same_sent w;
-  record_is = λ grows later events.
-      let late : numbered all number ≡ Some p = rw (grows.1) (numbered_more w.sent grows.0 number p got) in
-      rw (late) (happened id n w.devices (filter_map device_in later) d
-      (Receives w.time word (w.lines + 1) p.down) events (n == id) refl first there);
-})
-
-struck_told : (id n port : ℕ) (payload : List ℕ) (word : ℕ) (all : List SentPayload) (w : WorldState) (d : DeviceState)
-    → 1 ≤ n → numbered w.devices n ≡ Some d
-    → IsTold id all w (at_events (after_raw w n word (raw_down port payload) (numbered w.devices n)))
-    (Raw n port payload word)
-unfolding with_device
-struck_told id n port payload word all w d first there = rw (there) (record {
-  lines = refl;
-  time = refl;
-  sent = same_sent w;
-  record_is = λ grows later events. happened id n w.devices (filter_map device_in later) d
-      (Receives w.time word (w.lines + 1) (raw_down port payload)) events (n == id) refl first there;
-})
+    → IsTold id all w (with_event_of w n (Down number n word)) (Down number n word)
+reached_told id number n word all w d p first there got =
+    event_told id n all w (Down number n word) d (reception w.time word (w.lines + 1) (numbered w.sent number))
+    (Receives w.time word (w.lines + 1) p.down) first there (reception_of w.time word (w.lines + 1) _ p got) refl refl
+    (λ grows.
+    let late : numbered all number ≡ Some p = rw (grows.1) (numbered_more w.sent grows.0 number p got) in
+    rw (late) refl)
 
 pub form_told : (id : ℕ) (all : List SentPayload) (w : WorldState) (form : Form) → form_cause w form ≡ None
     → IsTold id all w (after_form w form) form
@@ -264,10 +237,11 @@ form_told id all w (At time) fine = record {
 }
 form_told id all w (Wake device) fine =
     let d = is_there w.devices device (passes w (Wake device) fine).names in
-    woken_told id device all w d.1.0 d.0 d.1.1
+    event_told id device all w (Wake device) d.1.0 (Some (Wakes w.time)) (Wakes w.time) d.0 d.1.1 refl refl refl
+    (λ grows. refl)
 form_told id all w (Migrate device) fine =
     let d = is_there w.devices device (passes w (Migrate device) fine).names in
-    migrated_told id device all w d.1.0 d.0 d.1.1
+    event_told id device all w (Migrate device) d.1.0 (Some Migrates) Migrates d.0 d.1.1 refl refl refl (λ grows. refl)
 form_told id all w (Ask device) fine =
     let s = sends_still w w.server (Some device) (request_of w.server device) in
     still_told id all w _ (Ask device) (at_events_still w _ s) refl refl refl
@@ -284,7 +258,8 @@ form_told id all w (Down number device word) fine =
     reached_told id number device word all w d.1.0 s.0 d.0 d.1.1 s.1
 form_told id all w (Raw device port payload word) fine =
     let d = is_there w.devices device (passes w (Raw device port payload word) fine).names in
-    struck_told id device port payload word all w d.1.0 d.0 d.1.1
+    let e : Event = Receives w.time word (w.lines + 1) (raw_down port payload) in
+    event_told id device all w (Raw device port payload word) d.1.0 (Some e) e d.0 d.1.1 refl refl refl (λ grows. refl)
 form_told id all w (Up number) fine =
     let s = up_still w (numbered w.uplinks number) in
     still_told id all w _ (Up number) (at_events_still w _ s) refl refl refl

@@ -12,6 +12,7 @@ use Rattle.device_core.specs.declared.uplink.Uplink.{Uplink}
 use Rattle.device_core.specs.Device.{DeviceState}
 use Rattle.device_core.specs.Deliver.{delivery, waking}
 use Rattle.device_core.specs.Firmware.{after_migration}
+use Rattle.device_core.specs.Events.{Wakes, Migrates}
 use Rattle.campaign_server.specs.declared.stage.Stage.{Stage}
 use Rattle.campaign_server.specs.declared.stage.Stage.TheVariants.{At as Asked, Updated}
 use Rattle.campaign_server.specs.declared.stage.Request.TheVariants.{Version}
@@ -34,7 +35,7 @@ use Rattle.campaign_world.specs.declared.numbered.SentPayload.{SentPayload}
 use Rattle.campaign_world.specs.declared.numbered.MadeUplink.{MadeUplink}
 use Rattle.campaign_world.specs.World.{WorldState, first_world}
 use Rattle.campaign_world.specs.Causes.{cause_of_form, form_cause, fits_script}
-use Rattle.campaign_world.specs.Making.{with_plan, with_sent, made_by, with_device, after_wake, after_migrate, after_down, after_answer, after_up, at_events, after_form}
+use Rattle.campaign_world.specs.Making.{with_plan, with_sent, made_by, with_device, with_event, with_event_of, after_answer, after_up, at_events, after_form}
 use Rattle.campaign_world.specs.Script.{after_form_of, after_line, read_lines, campaign_of}
 use Rattle.campaign_world.specs.Honest.{is_raw, has_raw, AreHonest}
 use Rattle.campaign_laws.specs.Ledger.{IsRunning, Runs, TheLedgerIsTrue}
@@ -315,13 +316,13 @@ reached_cut image w v number n word turn = elim turn.how [
 ]
 
 woken_holds : (image : List ℕ) (w : WorldState) (n : ℕ) (d : DeviceState) → Keeps image w → Holds image w
-    → numbered w.devices n ≡ Some d → Holds image (at_events (after_wake w n (numbered w.devices n)))
+    → numbered w.devices n ≡ Some d → Holds image (with_event w n (Some (Wakes w.time)))
 woken_holds image w n d k h there = rw (there)
     (device_holds image (cut_of w.server.plan) w n d (waking w.time d).device there
     (waking_goes image (cut_of w.server.plan) w.time d (device_sound image w n d k h there)) h)
 
 migrated_holds : (image : List ℕ) (w : WorldState) (n : ℕ) (d : DeviceState) → Keeps image w → Holds image w
-    → numbered w.devices n ≡ Some d → Holds image (at_events (after_migrate w n (numbered w.devices n)))
+    → numbered w.devices n ≡ Some d → Holds image (with_event w n (Some Migrates))
 migrated_holds image w n d k h there = rw (there)
     (device_holds image (cut_of w.server.plan) w n d (after_migration d) there
     (migration_goes image (cut_of w.server.plan) d (device_sound image w n d k h there)) h)
@@ -330,7 +331,7 @@ reached_holds : (image : List ℕ) (w : WorldState) (number n word : ℕ) (d : D
     → All (λ b. b < 2 ^ 8) image → is_image image ≡ true → IsCut image (cut_of w.server.plan) → Keeps image w
     → Holds image w
     → numbered w.devices n ≡ Some d → numbered w.sent number ≡ Some p
-    → Holds image (at_events (after_down w n word (numbered w.devices n) (numbered w.sent number)))
+    → Holds image (with_event_of w n (Down number n word))
 reached_holds image w number n word d p bytes is cut k h there got =
     let whole : Cut = cut_of w.server.plan in
     let reads = payload_by image whole p _ refl bytes cut

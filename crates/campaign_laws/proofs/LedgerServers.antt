@@ -185,10 +185,10 @@ updated_by plan image R (x ∷ cs) old told is =
 abbrev pub IsOwn : DownlinkCommand → Type 0
 IsOwn down = port_of down.command ≡ 203 → IsAskedOfFirmware down.command
 
-group_own : (key : List ℕ) (group : Option PlanGroup)
-    → IfSome (by_unicast (cast_of (λ g. group_request key g) group)) IsOwn
-group_own key None = tt
-group_own key (Some group) = λ port. absurd (omega (arith, port))
+group_own : (device : PlanDevice) (group : Option PlanGroup)
+    → IfSome (by_unicast (cast_of (λ g. group_request device g) group)) IsOwn
+group_own device None = tt
+group_own device (Some group) = λ port. absurd (omega (arith, port))
 
 window_of_own : (id : ℕ) (window : PlanWindow) (k : Kind) → port_of (Cast (window_request_of id window k)) ≡ 203 → ⊥
 window_of_own id window kind.C port = omega (arith, port)
@@ -199,23 +199,23 @@ window_own : (id : ℕ) (window : Option PlanWindow)
 window_own id None = tt
 window_own id (Some window) = λ port. absurd (window_of_own id window window.kind port)
 
-request_own : (plan : Plan) (image key : List ℕ) (old : Stage)
-    → IfSome (by_unicast (request_at plan image key old)) IsOwn
+request_own : (plan : Plan) (image : List ℕ) (device : PlanDevice) (old : Stage)
+    → IfSome (by_unicast (request_at plan image device old)) IsOwn
 unfolding request_at
-request_own plan image key (stage.At request.Version) = λ port. inl refl
-request_own plan image key (stage.At request.Group) = group_own key plan.group
-request_own plan image key (stage.At request.Fragments) = λ port. absurd (omega (arith, port))
-request_own plan image key (stage.At request.Window) = window_own (own_id plan.group) plan.window
-request_own plan image key (stage.At request.Status) = λ port. absurd (omega (arith, port))
-request_own plan image key (stage.At request.Image) = λ port. inr (inl refl)
-request_own plan image key (stage.At request.Reboot) = λ port. inr (inr refl)
-request_own plan image key (stage.At request.Check) = λ port. inl refl
-request_own plan image key Updated = tt
-request_own plan image key (Refused r bits) = tt
+request_own plan image device (stage.At request.Version) = λ port. inl refl
+request_own plan image device (stage.At request.Group) = group_own device plan.group
+request_own plan image device (stage.At request.Fragments) = λ port. absurd (omega (arith, port))
+request_own plan image device (stage.At request.Window) = window_own (own_id plan.group) plan.window
+request_own plan image device (stage.At request.Status) = λ port. absurd (omega (arith, port))
+request_own plan image device (stage.At request.Image) = λ port. inr (inl refl)
+request_own plan image device (stage.At request.Reboot) = λ port. inr (inr refl)
+request_own plan image device (stage.At request.Check) = λ port. inl refl
+request_own plan image device Updated = tt
+request_own plan image device (Refused r bits) = tt
 
 command_own : (plan : Plan) (image : List ℕ) (device : Option PlanDevice) (old : Option Stage)
     → IfSome (by_unicast (command_for plan image device old)) IsOwn
-command_own plan image (Some device) (Some old) = request_own plan image device.key old
+command_own plan image (Some device) (Some old) = request_own plan image device old
 command_own plan image (Some device) None = tt
 command_own plan image None (Some old) = tt
 command_own plan image None None = tt

@@ -10,8 +10,7 @@ use Rattle.package_grammar.specs.declared.command.Command.TheVariants.{Sync}
 use Rattle.package_grammar.specs.Reading.{Reading, reading_of}
 use Rattle.device_core.specs.declared.uplink.Uplink.{Uplink}
 use Rattle.device_core.specs.Device.{DeviceState}
-use Rattle.device_core.specs.Deliver.{delivery, waking}
-use Rattle.device_core.specs.Firmware.{after_migration}
+use Rattle.device_core.specs.Events.{Event, event_step}
 use Rattle.campaign_server.specs.declared.stage.Stage.{Stage}
 use Rattle.campaign_server.specs.declared.stage.Stage.TheVariants.{At}
 use Rattle.campaign_server.specs.declared.stage.Request.TheVariants as request
@@ -31,7 +30,7 @@ use Rattle.campaign_world.specs.declared.numbered.MadeUplink.{MadeUplink}
 use Rattle.campaign_world.specs.World.{WorldState, first_world}
 use Rattle.campaign_world.specs.Causes.{may_come, cause_of_form, form_cause}
 use Rattle.campaign_laws.specs.Ledger.{Runs}
-use Rattle.campaign_world.specs.Making.{with_sent, made_by, with_device, after_wake, after_migrate, after_down, raw_down, after_raw, after_answer, after_up, at_events, after_form}
+use Rattle.campaign_world.specs.Making.{with_sent, made_by, with_device, event_of, after_event_at, with_event_of, after_answer, after_up, at_events, after_form}
 use Rattle.campaign_world.specs.Script.{one_line_more, after_form_of, after_line, read_lines}
 use Rattle.campaign_server.proofs.LineItems.{numbered_more, numbered_there}
 use Rattle.campaign_laws.proofs.HeadlineForms.{passes}
@@ -121,22 +120,14 @@ device_goes : (w : WorldState) (n : ℕ) (e : DeviceState) → Goes w (at_events
 unfolding with_device
 device_goes w n e = goes_by w _ (same_on w.server w.server refl refl) (map (λ (u : Uplink). made_by n u) e.outbox) refl refl
 
-migrate_go : (w : WorldState) (n : ℕ) (o : Option DeviceState) → Goes w (at_events (after_migrate w n o))
-migrate_go w n None = still w _ refl refl refl
-migrate_go w n (Some d) = device_goes w n (after_migration d)
+event_go : (w : WorldState) (n : ℕ) (d : Option DeviceState) (o : Option Event) → Goes w (at_events (after_event_at w n d o))
+event_go w n None o = still w _ refl refl refl
+event_go w n (Some d) None = still w _ refl refl refl
+event_go w n (Some d) (Some e) = device_goes w n (event_step d e)
 
-wake_go : (w : WorldState) (n : ℕ) (o : Option DeviceState) → Goes w (at_events (after_wake w n o))
-wake_go w n None = still w _ refl refl refl
-wake_go w n (Some d) = device_goes w n (waking w.time d).device
-
-down_go : (w : WorldState) (n word : ℕ) (o : Option DeviceState) (p : Option SentPayload) → Goes w (at_events (after_down w n word o p))
-down_go w n word (Some d) (Some p) = device_goes w n (delivery w.time word (w.lines + 1) p.down d).device
-down_go w n word (Some d) None = still w _ refl refl refl
-down_go w n word None p = still w _ refl refl refl
-
-raw_go : (w : WorldState) (n word : ℕ) (down : Downlink) (o : Option DeviceState) → Goes w (at_events (after_raw w n word down o))
-raw_go w n word down (Some d) = device_goes w n (delivery w.time word (w.lines + 1) down d).device
-raw_go w n word down None = still w _ refl refl refl
+-- what a form lets happen at a device
+form_event_goes : (w : WorldState) (n : ℕ) (form : Form) → Goes w (with_event_of w n form)
+form_event_goes w n form = event_go w n (numbered w.devices n) (event_of w.sent w.time (w.lines + 1) form)
 
 -- no line of a plan comes any more
 no_plan : {X : Type 0} (w : WorldState) (form : Form) → form_cause w form ≡ None → is_planning w.section ≡ false → (may_come w.section form ≡ true → is_planning w.section ≡ true) → X
@@ -152,13 +143,13 @@ form_goes w (WindowB start periodicity timeout freq dr) fine over = no_plan w (W
 form_goes w (Device id class hw rows offset key descriptor v1) fine over =
     no_plan w (Device id class hw rows offset key descriptor v1) fine over (plan_at w.section (Device id class hw rows offset key descriptor v1) refl)
 form_goes w (AtTime time) fine over = still w _ refl refl refl
-form_goes w (Wake n) fine over = wake_go w n (numbered w.devices n)
-form_goes w (Migrate n) fine over = migrate_go w n (numbered w.devices n)
+form_goes w (Wake n) fine over = form_event_goes w n (Wake n)
+form_goes w (Migrate n) fine over = form_event_goes w n (Migrate n)
 form_goes w (Ask n) fine over = sends_go w w.server (Some n) (request_of w.server n) (same_on w.server w.server refl refl)
 form_goes w Frag fine over = sends_go w (after_fragment w.server) None (result_ok (next_fragment w.server)) (fragment_on w.server)
 form_goes w Status fine over = sends_go w (after_status_to_all w.server) None (status_to_all w.server) (status_on w.server)
-form_goes w (Down number n word) fine over = down_go w n word (numbered w.devices n) (numbered w.sent number)
-form_goes w (Raw n port payload word) fine over = raw_go w n word (raw_down port payload) (numbered w.devices n)
+form_goes w (Down number n word) fine over = form_event_goes w n (Down number n word)
+form_goes w (Raw n port payload word) fine over = form_event_goes w n (Raw n port payload word)
 form_goes w (Up number) fine over = up_go w (numbered w.uplinks number)
 form_goes w End fine over = still w _ refl refl refl
 
@@ -229,13 +220,13 @@ form_image w (WindowC start timeout freq dr) = refl
 form_image w (WindowB start periodicity timeout freq dr) = refl
 form_image w (Device id class hw rows offset key descriptor v1) = refl
 form_image w (AtTime time) = refl
-form_image w (Wake n) = (wake_go w n (numbered w.devices n)).image
-form_image w (Migrate n) = (migrate_go w n (numbered w.devices n)).image
+form_image w (Wake n) = (form_event_goes w n (Wake n)).image
+form_image w (Migrate n) = (form_event_goes w n (Migrate n)).image
 form_image w (Ask n) = (sends_go w w.server (Some n) (request_of w.server n) (same_on w.server w.server refl refl)).image
 form_image w Frag = (sends_go w (after_fragment w.server) None (result_ok (next_fragment w.server)) (fragment_on w.server)).image
 form_image w Status = (sends_go w (after_status_to_all w.server) None (status_to_all w.server) (status_on w.server)).image
-form_image w (Down number n word) = (down_go w n word (numbered w.devices n) (numbered w.sent number)).image
-form_image w (Raw n port payload word) = (raw_go w n word (raw_down port payload) (numbered w.devices n)).image
+form_image w (Down number n word) = (form_event_goes w n (Down number n word)).image
+form_image w (Raw n port payload word) = (form_event_goes w n (Raw n port payload word)).image
 form_image w (Up number) = (up_go w (numbered w.uplinks number)).image
 form_image w End = refl
 

@@ -5,7 +5,7 @@ use Rattle.std.specs.Result.{result_ok}
 use Rattle.wire_base.specs.declared.refusal.Direction.TheVariants.{Up as Upwards}
 use Rattle.package_grammar.specs.Reading.{Reading, reading_of}
 use Rattle.device_core.specs.Device.{DeviceState}
-use Rattle.package_grammar.specs.declared.downlink.Downlink.{Downlink}
+use Rattle.device_core.specs.Events.{Event}
 use Rattle.campaign_server.specs.Server.{DownlinkCommand, ledger}
 use Rattle.wire_base.specs.Numbered.{numbered}
 use Rattle.campaign_server.specs.Asking.{request_of, by_unicast}
@@ -21,7 +21,7 @@ use Rattle.report_lines.specs.declared.faults.LineWhy.{LineWhy}
 use Rattle.report_lines.specs.declared.faults.LineFault.{LineFault}
 use Rattle.campaign_world.specs.World.{WorldState}
 use Rattle.campaign_world.specs.Causes.{form_cause, cause_of}
-use Rattle.campaign_world.specs.Making.{with_sent, with_device, after_wake, after_migrate, after_down, raw_down, after_raw, after_answer, after_up, after_form}
+use Rattle.campaign_world.specs.Making.{with_sent, with_device, event_of, after_event_at, with_event_of, after_answer, after_up, after_form}
 use Rattle.campaign_world.specs.Script.{one_line_more, after_form_of, after_line, line_result, read_line, read_lines}
 use Rattle.campaign_world.proofs.FormCauses.{of_form}
 
@@ -58,26 +58,15 @@ sent_keeps : (w v : WorldState) (to : Option ℕ) (down : Option DownlinkCommand
 sent_keeps w v to None is = is
 sent_keeps w v to (Some down) is = is
 
-migrate_keeps : (w : WorldState) (n : ℕ) (o : Option DeviceState) → (after_migrate w n o).lines ≡ w.lines
+event_keeps : (w : WorldState) (n : ℕ) (d : Option DeviceState) (o : Option Event) → (after_event_at w n d o).lines ≡ w.lines
 unfolding with_device
-migrate_keeps w n None = refl
-migrate_keeps w n (Some d) = refl
+event_keeps w n None o = refl
+event_keeps w n (Some d) None = refl
+event_keeps w n (Some d) (Some e) = refl
 
-wake_keeps : (w : WorldState) (n : ℕ) (o : Option DeviceState) → (after_wake w n o).lines ≡ w.lines
-unfolding with_device
-wake_keeps w n None = refl
-wake_keeps w n (Some d) = refl
-
-down_keeps : (w : WorldState) (n word : ℕ) (o : Option DeviceState) (p : Option SentPayload) → (after_down w n word o p).lines ≡ w.lines
-unfolding with_device
-down_keeps w n word (Some d) (Some p) = refl
-down_keeps w n word (Some d) None = refl
-down_keeps w n word None p = refl
-
-raw_keeps : (w : WorldState) (n word : ℕ) (down : Downlink) (o : Option DeviceState) → (after_raw w n word down o).lines ≡ w.lines
-unfolding with_device
-raw_keeps w n word down None = refl
-raw_keeps w n word down (Some d) = refl
+-- what a form lets happen at a device
+form_event_keeps : (w : WorldState) (n : ℕ) (form : Form) → (with_event_of w n form).lines ≡ w.lines
+form_event_keeps w n form = event_keeps w n (numbered w.devices n) (event_of w.sent w.time (w.lines + 1) form)
 
 reading_keeps : (w : WorldState) (dev t : ℕ) (r : Reading) → (after_answer w dev (read_uplink w.server dev t r)).lines ≡ w.lines
 unfolding read_uplink
@@ -98,13 +87,13 @@ lines_kept w (WindowC start timeout freq dr) = refl
 lines_kept w (WindowB start periodicity timeout freq dr) = refl
 lines_kept w (Device id class hw rows offset key descriptor v1) = refl
 lines_kept w (At time) = refl
-lines_kept w (Wake device) = wake_keeps w device (numbered w.devices device)
-lines_kept w (Migrate device) = migrate_keeps w device (numbered w.devices device)
+lines_kept w (Wake device) = form_event_keeps w device (Wake device)
+lines_kept w (Migrate device) = form_event_keeps w device (Migrate device)
 lines_kept w (Ask device) = sent_keeps w w (Some device) (request_of w.server device) refl
 lines_kept w Frag = sent_keeps w (record w { server = after_fragment w.server }) None (result_ok (next_fragment w.server)) refl
 lines_kept w Status = sent_keeps w (record w { server = after_status_to_all w.server }) None (status_to_all w.server) refl
-lines_kept w (Down number device word) = down_keeps w device word (numbered w.devices device) (numbered w.sent number)
-lines_kept w (Raw device port payload word) = raw_keeps w device word (raw_down port payload) (numbered w.devices device)
+lines_kept w (Down number device word) = form_event_keeps w device (Down number device word)
+lines_kept w (Raw device port payload word) = form_event_keeps w device (Raw device port payload word)
 lines_kept w (Up number) = up_keeps w (numbered w.uplinks number)
 lines_kept w End = refl
 

@@ -16,6 +16,7 @@ use Rattle.frag_session.specs.Session.{Session, seen_of, view_of, shape_of}
 use Rattle.image_slots.specs.Image.{image_start}
 use Rattle.device_core.specs.Device.{DeviceState}
 use Rattle.frag_model.specs.Limits.{max_pieces}
+use Rattle.mc_keys.specs.declared.root_kind.RootKind.TheVariants.{V10}
 use Rattle.campaign_server.specs.declared.stage.Stage.{Stage}
 use Rattle.campaign_server.specs.declared.stage.Stage.TheVariants.{At}
 use Rattle.campaign_server.specs.declared.stage.Request.TheVariants as request
@@ -224,7 +225,7 @@ device_to image k g w few j =
     })
   where
     plan' : Plan
-    plan' = record w.server.plan { devices = w.server.plan.devices ++ record { key = replicate 16 0 } ∷ [] }
+    plan' = record w.server.plan { devices = w.server.plan.devices ++ record { key = replicate 16 0; root = V10 } ∷ [] }
 
     low : nat_le 1 (k + 1) ≡ true
     low = grind arith

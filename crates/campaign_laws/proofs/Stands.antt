@@ -157,7 +157,7 @@ abbrev pub asks : WorldState → (n : ℕ) → Command → WorldState
 asks w n c = record w { lines = w.lines + 1; section = section.Events; sent = w.sent ++ record { receiver = Some n; down = unicast_of c } ∷ [] }
 
 ask_plays : (w : WorldState) (n : ℕ) (k : PlanDevice) (s : Stage) (c : Command) → MayCome w n → numbered w.server.plan.devices n ≡ Some k
-    → numbered w.server.stages n ≡ Some s → request_at w.server.plan w.server.image k.key s ≡ Some c → To w (Ask n ∷ []) (λ v. v ≡ asks w n c)
+    → numbered w.server.stages n ≡ Some s → request_at w.server.plan w.server.image k s ≡ Some c → To w (Ask n ∷ []) (λ v. v ≡ asks w n c)
 unfolding after_form request_of in_range
 ask_plays w n k s c may key stage ask =
     one w (Ask n) (λ v. v ≡ asks w n c)
@@ -212,7 +212,7 @@ behind mark c d = (delivery 0 0 mark (unicast_of c) d).device
 
 -- what a turn makes of a device and its stage
 pub record Turns (image : List ℕ) (P' : DeviceState → Stage → Type 0) (d : DeviceState) (s : Stage) (c a : Command) (p : ℕ) : Type 0 where
-  pub ask : (plan : Plan) (key : List ℕ) → IsPlan plan → request_at plan image key s ≡ Some c
+  pub ask : (plan : Plan) (planned : PlanDevice) → IsPlan plan → request_at plan image planned s ≡ Some c
   pub answer : (mark : ℕ) → (behind mark c d).outbox ≡ uplink_of (record { due = 0; port = p; command = a }) ∷ []
   pub read : reading_of p Upwards (canonical a) ≡ Ok (a ∷ [])
   pub silent : time_answer_to 0 a ≡ None
@@ -233,7 +233,7 @@ turned w n e s c a u = record w {
 
 turn_plays : (w : WorldState) (n : ℕ) (d : DeviceState) (k : PlanDevice) (s : Stage) (c a : Command) (p : ℕ) → MayCome w n → w.time ≡ 0
     → numbered w.devices n ≡ Some d → numbered w.server.plan.devices n ≡ Some k → numbered w.server.stages n ≡ Some s
-    → request_at w.server.plan w.server.image k.key s ≡ Some c
+    → request_at w.server.plan w.server.image k s ≡ Some c
     → ((mark : ℕ) → (behind mark c d).outbox ≡ uplink_of (record { due = 0; port = p; command = a }) ∷ [])
     → reading_of p Upwards (canonical a) ≡ Ok (a ∷ []) → time_answer_to 0 a ≡ None
     → To w (forms_of_turn n (length w.sent + 1) (length w.uplinks + 1))
@@ -275,7 +275,7 @@ turn_to image payloads answers from P P' w n low high k mine others = by (k.each
             (Stand image (length w.sent + 1) (length w.uplinks + 1) from P')
             (λ v is. subst (Stand image (length w.sent + 1) (length w.uplinks + 1) from P') (sym is) stands)
             (turn_plays w n d one.key.0 s c a p (may_come_at image payloads answers from P w n k low high) k.time one.device one.key.1 one.stage
-            (ap (λ (i : List ℕ). request_at w.server.plan i one.key.0.key s) k.image_is ∙ t.ask w.server.plan one.key.0.key k.plan) t.answer t.read t.silent))
+            (ap (λ (i : List ℕ). request_at w.server.plan i one.key.0 s) k.image_is ∙ t.ask w.server.plan one.key.0 k.plan) t.answer t.read t.silent))
           where
             u : Uplink
             u = uplink_of (record { due = 0; port = p; command = a })

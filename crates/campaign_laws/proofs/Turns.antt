@@ -21,6 +21,7 @@ use Rattle.campaign_server.specs.declared.stage.Stage.{Stage}
 use Rattle.campaign_server.specs.declared.stage.Stage.TheVariants.{At, Updated}
 use Rattle.campaign_server.specs.declared.stage.Request.TheVariants as request
 use Rattle.campaign_server.specs.Plan.{Plan}
+use Rattle.campaign_server.specs.declared.plan.PlanDevice.{PlanDevice}
 use Rattle.campaign_server.specs.Asking.{request_at}
 use Rattle.campaign_server.specs.Answers.{stage_after}
 use Rattle.campaign_laws.proofs.HeadlineCommands.{setup_req, setup_request, setup_good, status_good, good_read}
@@ -59,7 +60,7 @@ version_turn : (image : List ℕ) (d : DeviceState) (s : Stage) → IsMade image
 unfolding request_at command_step version_step
 version_turn image d s made (is, new) =
     takes_turn image (Early image 1) d s (Sync DevVersionReq) (Sync (DevVersionAns d.slots.version d.config.hw)) d d new.plain (record {
-      ask = λ plan key planned. rw is refl;
+      ask = λ plan device planned. rw is refl;
       down_read = version_asked;
       light = omega arith;
       makes = λ mark. refl;
@@ -82,9 +83,9 @@ setup_makes : (image : List ℕ) (d : DeviceState) (mark : ℕ) → IsMade image
 unfolding command_step setup_step after_setup renewed
 setup_makes image d mark made new = rw (no_bits image d made new.plain, new.session) refl
 
-setup_asked : (image : List ℕ) (plan : Plan) (key : List ℕ) → IsPlan plan → request_at plan image key (At request.Fragments) ≡ Some (setup_request image cut)
+setup_asked : (image : List ℕ) (plan : Plan) (device : PlanDevice) → IsPlan plan → request_at plan image device (At request.Fragments) ≡ Some (setup_request image cut)
 unfolding request_at
-setup_asked image plan key is = rw (is.size, is.group) refl
+setup_asked image plan device is = rw (is.size, is.group) refl
 
 setup_moves : (image : List ℕ) (plan : Plan) → IsPlan plan → stage_after plan image (At request.Fragments) (Cast (FragSessionSetupAns 0 false false false false)) ≡ At request.Status
 unfolding stage_after
@@ -95,7 +96,7 @@ setup_turn image d s made (is, new) =
     let c : Command = setup_request image cut in
     let a : Command = Cast (FragSessionSetupAns 0 false false false false) in
     takes_turn image (Early image 2) d s c a (ready_by image d) (ready_by image d) new.plain (record {
-      ask = λ plan key planned. ap (λ (x : Stage). request_at plan image key x) is ∙ setup_asked image plan key planned;
+      ask = λ plan device planned. ap (λ (x : Stage). request_at plan image device x) is ∙ setup_asked image plan device planned;
       down_read = good_read c (setup_good image cut made.bytes (is_cut image made));
       light = omega arith;
       makes = λ mark. setup_makes image d mark made new;
@@ -179,7 +180,7 @@ status_turn : (image : List ℕ) (j : ℕ) (d : DeviceState) (s : Stage) (x : Se
 unfolding request_at
 status_turn image j d s x plain session is decided after =
     takes_turn image (Late image (j + 1)) d s (Cast (FragSessionStatusReq 0 true)) (status_answer x) d d plain (record {
-      ask = λ plan key planned. rw is refl;
+      ask = λ plan device planned. rw is refl;
       down_read = good_read (Cast (FragSessionStatusReq 0 true)) (status_good true);
       light = omega arith;
       makes = λ mark. status_made d x mark (seen_of x).verdict session refl decided;
@@ -231,7 +232,7 @@ unfolding request_at command_step upgrade_step
 image_turn image d s x mark made plain session ours whole (is, next) =
     let a : Command = Sync (DevUpgradeImageAns 3 (Some (firmware_of image))) in
     takes_turn image (Late image 2) d s (Sync DevUpgradeImageReq) a d d plain (record {
-      ask = λ plan key planned. rw is refl;
+      ask = λ plan device planned. rw is refl;
       down_read = image_asked;
       light = omega arith;
       makes = λ mark. rw next refl;
@@ -274,7 +275,7 @@ reboot_turn : (image : List ℕ) (d : DeviceState) (s : Stage) (x : Session) (ma
 unfolding request_at command_step countdown_step stage_after
 reboot_turn image d s x mark made plain session ours whole (is, next) =
     takes_turn image (Late image 3) d s (Sync (DevRebootCountdownReq 0)) (Sync (DevRebootCountdownAns 0)) (rebooting d) (rebooted image d) plain (record {
-      ask = λ plan key planned. rw is refl;
+      ask = λ plan device planned. rw is refl;
       down_read = reboot_asked;
       light = omega arith;
       makes = λ mark. refl;
@@ -312,7 +313,7 @@ unfolding request_at command_step version_step
 check_turn image d s x mark made plain session ours whole (is, runs) =
     let a : Command = Sync (DevVersionAns d.slots.version d.config.hw) in
     takes_turn image (Late image 4) d s (Sync DevVersionReq) a d d plain (record {
-      ask = λ plan key planned. rw is refl;
+      ask = λ plan device planned. rw is refl;
       down_read = version_asked;
       light = omega arith;
       makes = λ mark. refl;

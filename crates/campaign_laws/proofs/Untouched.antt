@@ -11,6 +11,7 @@ use Rattle.package_grammar.specs.Reading.{Reading, reading_of}
 use Rattle.device_core.specs.Device.{DeviceState}
 use Rattle.device_core.specs.Deliver.{delivery, waking}
 use Rattle.device_core.specs.Firmware.{after_migration}
+use Rattle.device_core.specs.Events.{Wakes, Migrates}
 use Rattle.image_slots.specs.Slots.{after_raise}
 use Rattle.campaign_server.specs.declared.plan.PlanDevice.{PlanDevice}
 use Rattle.campaign_server.specs.declared.stage.Stage.{Stage}
@@ -36,7 +37,7 @@ use Rattle.campaign_world.specs.declared.numbered.MadeUplink.{MadeUplink}
 use Rattle.campaign_world.specs.World.{WorldState, first_world}
 use Rattle.campaign_world.specs.Honest.{is_raw, has_raw, AreHonest}
 use Rattle.campaign_world.specs.Causes.{is_event_or_end, may_come, may_reach, cause_of_form, form_cause}
-use Rattle.campaign_world.specs.Making.{with_plan, with_sent, with_device, after_wake, after_migrate, after_answer, after_up, at_events, device_of, after_form}
+use Rattle.campaign_world.specs.Making.{with_plan, with_sent, with_device, after_event_at, after_answer, after_up, at_events, device_of, after_form}
 use Rattle.campaign_world.specs.Script.{after_form_of, after_line, read_lines}
 use Rattle.campaign_server.proofs.LineItems.{numbered_push}
 use Rattle.campaign_laws.proofs.HeadlineForms.{passes}
@@ -126,16 +127,16 @@ far_from n stages stage (Some x) at other = λ id may here.
     absurd (other (let e : Some stage ≡ Some (At request.Version) = sym at ∙ subst (λ (i : ℕ). numbered stages i ≡ Some (At request.Version)) (sym same) here in cc))
 
 asked_by : (plan : Plan) (image : List ℕ) (n : ℕ) (stages : List Stage) (k : PlanDevice) (stage : Stage) → numbered stages n ≡ Some stage
-    → IfSome (by_unicast (request_at plan image k.key stage)) (λ x. IsFor stages (record { receiver = Some n; down = downlink_of x }))
+    → IfSome (by_unicast (request_at plan image k stage)) (λ x. IsFor stages (record { receiver = Some n; down = downlink_of x }))
 unfolding request_at
 asked_by plan image n stages k (At request.Version) at = λ id may here. inr (refl, refl)
-asked_by plan image n stages k (At request.Group) at = far_from n stages (At request.Group) (request_at plan image k.key (At request.Group)) at (λ e. cc)
-asked_by plan image n stages k (At request.Fragments) at = far_from n stages (At request.Fragments) (request_at plan image k.key (At request.Fragments)) at (λ e. cc)
-asked_by plan image n stages k (At request.Window) at = far_from n stages (At request.Window) (request_at plan image k.key (At request.Window)) at (λ e. cc)
-asked_by plan image n stages k (At request.Status) at = far_from n stages (At request.Status) (request_at plan image k.key (At request.Status)) at (λ e. cc)
-asked_by plan image n stages k (At request.Image) at = far_from n stages (At request.Image) (request_at plan image k.key (At request.Image)) at (λ e. cc)
-asked_by plan image n stages k (At request.Reboot) at = far_from n stages (At request.Reboot) (request_at plan image k.key (At request.Reboot)) at (λ e. cc)
-asked_by plan image n stages k (At request.Check) at = far_from n stages (At request.Check) (request_at plan image k.key (At request.Check)) at (λ e. cc)
+asked_by plan image n stages k (At request.Group) at = far_from n stages (At request.Group) (request_at plan image k (At request.Group)) at (λ e. cc)
+asked_by plan image n stages k (At request.Fragments) at = far_from n stages (At request.Fragments) (request_at plan image k (At request.Fragments)) at (λ e. cc)
+asked_by plan image n stages k (At request.Window) at = far_from n stages (At request.Window) (request_at plan image k (At request.Window)) at (λ e. cc)
+asked_by plan image n stages k (At request.Status) at = far_from n stages (At request.Status) (request_at plan image k (At request.Status)) at (λ e. cc)
+asked_by plan image n stages k (At request.Image) at = far_from n stages (At request.Image) (request_at plan image k (At request.Image)) at (λ e. cc)
+asked_by plan image n stages k (At request.Reboot) at = far_from n stages (At request.Reboot) (request_at plan image k (At request.Reboot)) at (λ e. cc)
+asked_by plan image n stages k (At request.Check) at = far_from n stages (At request.Check) (request_at plan image k (At request.Check)) at (λ e. cc)
 asked_by plan image n stages k Updated at = tt
 asked_by plan image n stages k (Refused r bits) at = tt
 
@@ -322,11 +323,11 @@ form_waits w (Device id class hw rows offset key descriptor v1) fine honest k =
 form_waits w (AtTime time) fine honest k = record { none_sent = λ plan. absurd cc; all = λ plan. absurd cc; devices = k.devices; sent = k.sent }
 form_waits w (Wake n) fine honest k =
     let there = is_there w.devices n (passes w (Wake n) fine).names in
-    subst (λ (o : Option DeviceState). Waits (at_events (after_wake w n o))) (sym there.1.1)
+    subst (λ (o : Option DeviceState). Waits (at_events (after_event_at w n o (Some (Wakes w.time))))) (sym there.1.1)
     (device_waits w n there.1.0 (waking w.time there.1.0).device there.1.1 (λ at. waking_calm w.time there.1.0 (k.devices n there.1.0 there.1.1 at)) k)
 form_waits w (Migrate n) fine honest k =
     let there = is_there w.devices n (passes w (Migrate n) fine).names in
-    subst (λ (o : Option DeviceState). Waits (at_events (after_migrate w n o))) (sym there.1.1)
+    subst (λ (o : Option DeviceState). Waits (at_events (after_event_at w n o (Some Migrates)))) (sym there.1.1)
     (device_waits w n there.1.0 (after_migration there.1.0) there.1.1 (λ at. migration_calm there.1.0 (k.devices n there.1.0 there.1.1 at)) k)
 form_waits w (Ask n) fine honest k = sends_wait w w.server (Some n) (request_of w.server n) k (λ id at. at) (asked_calm w.server n)
 form_waits w Frag fine honest k =

@@ -21,7 +21,7 @@ use Rattle.script_lines.specs.Lines.{lines_of}
 use Rattle.script_lines.specs.Forms.{form_of}
 use Rattle.campaign_world.specs.declared.numbered.SentPayload.{SentPayload}
 use Rattle.campaign_world.specs.World.{WorldState}
-use Rattle.campaign_world.specs.Making.{raw_down, device_of}
+use Rattle.campaign_world.specs.Making.{raw_down, reception, device_of}
 use Rattle.campaign_world.specs.Script.{campaign_of}
 use Rattle.campaign_server.specs.declared.stage.Stage.{Stage}
 use Rattle.campaign_server.specs.Server.{ledger}
@@ -31,13 +31,13 @@ use Rattle.campaign_laws.specs.Told.{report_with_line}
 use Rattle.campaign_laws.proofs.Told.{line_parted}
 use Rattle.campaign_world.specs.Recovery.{file_by, file_of, recovery_by, recovery}
 use Rattle.device_core.specs.Events.{Event, Wakes, Receives, Migrates, after_event}
-use Rattle.campaign_laws.specs.Independence.{device_in, first_devices, time_after, reception, event_in, history_of}
+use Rattle.campaign_laws.specs.Independence.{device_in, first_devices, time_after, event_in, history_of}
 use Rattle.device_core.specs.Events.{CameInTurn}
 use Rattle.campaign_laws.specs.Verdicts.{Carries, IsToldOf, IsSessionOf, Verdicts}
 use Rattle.report_lines.specs.Sessions.{saying}
 use Rattle.campaign_server.proofs.LineItems.{if_some, numbered_next, within}
 use Rattle.campaign_laws.proofs.Independence.{devices_are_independent, folded}
-use Rattle.device_core.proofs.HeardSessions.{IsFine, of_one, AreFine, AreCarried, fine_later, delivery_fine, waking_fine, migration_fine}
+use Rattle.device_core.proofs.HeardSessions.{IsFine, of_one, AreFine, AreCarried, ComesAt, fine_later, event_fine}
 use Rattle.device_core.specs.Firmware.{after_migration}
 
 -- ---- what lines let happen
@@ -100,20 +100,19 @@ carried_by lines sent id time n t v l down line line_is is at cs message c among
 
 -- ---- a device behind its lines
 
+comes : (lines : List (List ℕ)) (sent : List SentPayload) (id time n : ℕ) (line : List ℕ) (e : Event) → numbered lines n ≡ Some line
+    → event_in id sent time n (form_of line) ≡ Some e → ComesAt (Carries lines sent id) n e
+comes lines sent id time n line (Wakes t) line_is is = tt
+comes lines sent id time n line Migrates line_is is = tt
+comes lines sent id time n line (Receives t v l down) line_is is =
+    let at = at_its_line id sent time n t v l down (form_of line) is in
+    (at.1, carried_by lines sent id time n t v l down line line_is is at)
+
 happens : (lines : List (List ℕ)) (sent : List SentPayload) (id time k : ℕ) (line : List ℕ) (d : DeviceState) (e : Event)
     → numbered lines (k + 1) ≡ Some line → event_in id sent time (k + 1) (form_of line) ≡ Some e
     → AreFine (Carries lines sent id) k d → AreFine (Carries lines sent id) (k + 1) (after_event d e)
-happens lines sent id time k line d (Wakes t) line_is is h =
-    fine_later (Carries lines sent id) k (k + 1) (record (waking t d).device { outbox = [] }) (omega arith)
-    (waking_fine (Carries lines sent id) k t d h)
-happens lines sent id time k line d Migrates line_is is h =
-    fine_later (Carries lines sent id) k (k + 1) (record (after_migration d) { outbox = [] }) (omega arith)
-    (migration_fine (Carries lines sent id) k d h)
-happens lines sent id time k line d (Receives t v l down) line_is is h =
-    let at = at_its_line id sent time (k + 1) t v l down (form_of line) is in
-    let carried = carried_by lines sent id time (k + 1) t v l down line line_is is at in
-    subst (λ (n : ℕ). AreFine (Carries lines sent id) (k + 1) (after_event d (Receives t v n down))) (sym at.1)
-    (delivery_fine (Carries lines sent id) k (k + 1) t v down d (omega arith) carried h)
+happens lines sent id time k line d e line_is is h =
+    event_fine (Carries lines sent id) k (k + 1) d e (omega arith) (comes lines sent id time (k + 1) line e line_is is) h
 
 -- what comes of a line, and then of those behind it
 goes_on : (carries : ℕ → Command → Type 0) (k : ℕ) (d : DeviceState) (o : Option Event) (more : List Event) → AreFine carries k d

@@ -1,9 +1,9 @@
 -- Devices are independent of one another (this project's profile): the record of each is its own first one, folded over
 -- what its script tells of it. No campaign stands in what is folded: only the forms of the lines, and the payloads that
 -- were sent in all.
-use Rattle.std.specs.Prelude.{◌≡◌, ℕ, ◌+◌, ◌==◌, if◌then◌else◌, List, [], ◌∷◌, ◌++◌, map, fold, filter_map, Option, Some, None, option_map, option_to_list, Ok}
+use Rattle.std.specs.Prelude.{◌≡◌, ℕ, ◌+◌, Bool, false, ◌==◌, if◌then◌else◌, List, [], ◌∷◌, ◌++◌, map, fold, filter_map, Option, Some, None, option_map, option_to_list, Ok}
 use Rattle.device_core.specs.Device.{DeviceState}
-use Rattle.device_core.specs.Events.{Event, Wakes, Receives, Migrates, after_event}
+use Rattle.device_core.specs.Events.{Event, after_event}
 use Rattle.wire_base.specs.Numbered.{numbered}
 use Rattle.script_lines.specs.declared.forms.Form.{Form}
 use Rattle.script_lines.specs.declared.forms.Form.TheVariants.{Device, At, Wake, Migrate, Down, Raw}
@@ -11,7 +11,7 @@ use Rattle.script_lines.specs.Lines.{lines_of}
 use Rattle.script_lines.specs.Forms.{form_of}
 use Rattle.campaign_world.specs.declared.numbered.SentPayload.{SentPayload}
 use Rattle.campaign_world.specs.World.{WorldState}
-use Rattle.campaign_world.specs.Making.{device_of, raw_down}
+use Rattle.campaign_world.specs.Making.{device_of, event_of}
 use Rattle.campaign_world.specs.Script.{campaign_of}
 
 -- ---- what the lines of a script tell of it
@@ -30,20 +30,18 @@ abbrev pub time_after : (now : ℕ) → Option Form → ℕ
 time_after now (Some (At time)) = time
 time_after now form = now
 
--- a sent payload reaches a device
-abbrev pub reception : (time word line : ℕ) → Option SentPayload → Option Event
-reception time word line sent = option_map (λ payload. Receives time word line payload.down) sent
+-- a wake line, a migrate line, a down line and a raw line name the device at which something happens
+abbrev pub happens_at : (id : ℕ) → Form → Bool
+happens_at id (Wake device) = device == id
+happens_at id (Migrate device) = device == id
+happens_at id (Down number device word) = device == id
+happens_at id (Raw device port payload word) = device == id
+happens_at id form = false
 
--- what a line with this number lets happen at device id, at this time: a wake line, a migrate line, a down line and a raw line do that name
--- it
+-- what a line with this number lets happen at device id, at this time
 abbrev pub event_in : (id : ℕ) → List SentPayload → (time line : ℕ) → Option Form → Option Event
-event_in id sent time line (Some (Wake device)) = if device == id then Some (Wakes time) else None
-event_in id sent time line (Some (Migrate device)) = if device == id then Some Migrates else None
-event_in id sent time line (Some (Down number device word)) =
-    if device == id then reception time word line (numbered sent number) else None
-event_in id sent time line (Some (Raw device port payload word)) =
-    if device == id then Some (Receives time word line (raw_down port payload)) else None
-event_in id sent time line form = None
+event_in id sent time line (Some form) = if happens_at id form then event_of sent time line form else None
+event_in id sent time line None = None
 
 -- what lines let happen at device id: from this time on, where the first of them has this number
 unfoldable pub history_of : (id : ℕ) → List SentPayload → (time line : ℕ) → (lines : List (List ℕ)) → List Event

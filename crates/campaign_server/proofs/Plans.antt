@@ -112,7 +112,7 @@ starts plan encoder stages count image fine cuts are is = record {
 
 -- what is asked of a device that is numbered
 pub asked_of : (server : ServerState) (dev : ℕ) (device : PlanDevice) (stage : Stage) → numbered server.plan.devices dev ≡ Some device → ledger server dev ≡ Some stage
-    → request_of server dev ≡ by_unicast (request_at server.plan server.image device.key stage)
+    → request_of server dev ≡ by_unicast (request_at server.plan server.image device stage)
 unfolding request_of
 asked_of server dev device stage numbers stands = rw (numbers, stands) refl
 

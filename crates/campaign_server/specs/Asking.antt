@@ -2,7 +2,8 @@
 use Rattle.std.specs.Prelude.{ℕ, ◌^◌, true, List, length, Option, Some, None}
 use Rattle.frag_encoder.specs.Encoding.{nb_frag_of, padding_of}
 use Rattle.image_slots.specs.Image.{firmware_of}
-use Rattle.mc_keys.specs.Keys.{mc_root_key, mc_ke_key}
+use Rattle.mc_keys.specs.Keys.{mc_ke_key}
+use Rattle.mc_keys.specs.Roots.{root_of}
 use Rattle.cast_wire.specs.declared.cmd.Cmd.{Cmd}
 use Rattle.cast_wire.specs.declared.cmd.Cmd.TheVariants.{McGroupSetupReq, FragSessionSetupReq, McClassCSessionReq, McClassBSessionReq, FragSessionStatusReq}
 use Rattle.sync_wire.specs.declared.cmd.Cmd.TheVariants.{DevVersionReq, DevUpgradeImageReq, DevRebootCountdownReq}
@@ -24,10 +25,10 @@ use Rattle.wire_base.specs.Numbered.{numbered}
 
 -- ---- the requests
 
--- the group, its key wrapped under the device's GenAppKey
-abbrev pub group_request : (gen_app_key : List ℕ) → PlanGroup → Cmd
-group_request gen_app_key group =
-    let key = wrapped_key (mc_ke_key (mc_root_key gen_app_key)) group.key in
+-- the group, its key wrapped for the device: under the root key of its GenAppKey, or of its AppKey
+abbrev pub group_request : PlanDevice → PlanGroup → Cmd
+group_request device group =
+    let key = wrapped_key (mc_ke_key (root_of device.root device.key)) group.key in
     McGroupSetupReq (group_id group) group.addr key group.min group.max
 
 -- the group may feed the session where there is one
@@ -58,24 +59,24 @@ abbrev pub cast_of : {A : Type 0} → (A → Cmd) → Option A → Option Comman
 cast_of request None = None
 cast_of request (Some x) = Some (Cast (request x))
 
--- the request of a stage, to a device with this GenAppKey; none at updated or refused
-unfoldable pub request_at : Plan → (image gen_app_key : List ℕ) → Stage → Option Command
-request_at plan image gen_app_key (At Version) = Some (Sync DevVersionReq)
-request_at plan image gen_app_key (At Group) = cast_of (λ group. group_request gen_app_key group) plan.group
-request_at plan image gen_app_key (At Fragments) = Some (Cast (fragments_request plan image))
-request_at plan image gen_app_key (At Window) =
+-- the request of a stage, to a device; none at updated or refused
+unfoldable pub request_at : Plan → (image : List ℕ) → PlanDevice → Stage → Option Command
+request_at plan image device (At Version) = Some (Sync DevVersionReq)
+request_at plan image device (At Group) = cast_of (λ group. group_request device group) plan.group
+request_at plan image device (At Fragments) = Some (Cast (fragments_request plan image))
+request_at plan image device (At Window) =
     cast_of (λ window. window_request (own_id plan.group) window) plan.window
-request_at plan image gen_app_key (At Status) = Some (Cast (FragSessionStatusReq (session_index plan) true))
-request_at plan image gen_app_key (At Image) = Some (Sync DevUpgradeImageReq)
-request_at plan image gen_app_key (At Reboot) = Some (Sync (DevRebootCountdownReq 0))
-request_at plan image gen_app_key (At Check) = Some (Sync DevVersionReq)
-request_at plan image gen_app_key Updated = None
-request_at plan image gen_app_key (Refused request bits) = None
+request_at plan image device (At Status) = Some (Cast (FragSessionStatusReq (session_index plan) true))
+request_at plan image device (At Image) = Some (Sync DevUpgradeImageReq)
+request_at plan image device (At Reboot) = Some (Sync (DevRebootCountdownReq 0))
+request_at plan image device (At Check) = Some (Sync DevVersionReq)
+request_at plan image device Updated = None
+request_at plan image device (Refused request bits) = None
 
 -- ---- the call
 
 abbrev pub command_for : Plan → (image : List ℕ) → Option PlanDevice → Option Stage → Option Command
-command_for plan image (Some device) (Some stage) = request_at plan image device.key stage
+command_for plan image (Some device) (Some stage) = request_at plan image device stage
 command_for plan image device stage = None
 
 abbrev pub by_unicast : Option Command → Option DownlinkCommand

@@ -7,6 +7,7 @@ pub mod Fragments
 pub mod Time
 pub mod Uplinks
 pub mod Sent
+pub mod Framing
 pub mod Counts
 pub mod WorkedSteps
 pub mod ServerInside

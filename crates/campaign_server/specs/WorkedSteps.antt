@@ -7,6 +7,7 @@ use Rattle.cast_wire.specs.declared.cmd.Cmd.TheVariants.{DataFragment}
 use Rattle.frag_encoder.specs.Encoding.{data_of}
 use Rattle.package_grammar.specs.declared.downlink.Downlink.{Downlink}
 use Rattle.package_grammar.specs.declared.downlink.To.TheVariants as to
+use Rattle.mc_keys.specs.declared.root_kind.RootKind.TheVariants.{V10}
 use Rattle.campaign_server.specs.declared.plan.Kind.TheVariants as kind
 use Rattle.campaign_server.specs.declared.plan.Field.TheVariants as field
 use Rattle.campaign_server.specs.declared.plan.PlanGroup.{PlanGroup}
@@ -33,7 +34,7 @@ ranged =
     0x46 ∷ 0x55 ∷ 0x49 ∷ 0x4d ∷ 0x02 ∷ 0x01 ∷ 0 ∷ 0 ∷ 0 ∷ 0x03 ∷ 0 ∷ 0 ∷ 0 ∷ 0x02 ∷ 0 ∷ 0 ∷ 0 ∷ 0x03 ∷ 0 ∷ 0 ∷ 0 ∷ replicate 35 0
 
 abbrev pub alone : Plan
-alone = record { frag_size = 13; parity = 4; group = None; window = None; devices = record { key = replicate 16 0 } ∷ [] }
+alone = record { frag_size = 13; parity = 4; group = None; window = None; devices = record { key = replicate 16 0; root = V10 } ∷ [] }
 
 -- a group with the frame counts 5 and 6, and its class C session
 abbrev pub worked_group : PlanGroup
@@ -50,7 +51,7 @@ abbrev pub of_class_b : Plan
 of_class_b = record grouped { window = Some (record worked_window { kind = kind.B 3 }) }
 
 abbrev pub two_devices : Plan
-two_devices = record alone { devices = record { key = replicate 16 0 } ∷ record { key = replicate 16 1 } ∷ [] }
+two_devices = record alone { devices = record { key = replicate 16 0; root = V10 } ∷ record { key = replicate 16 1; root = V10 } ∷ [] }
 
 -- a server whose device stands at a stage
 abbrev pub at_stage : Plan → Stage → ServerState
@@ -69,7 +70,7 @@ pub record AskSteps : Type 0 where
       ≡ record { plan = two_devices; image = image; stages = At Version ∷ At Version ∷ []; next = 1; count = 0 }
   -- the second device is asked for the group, with the key wrapped for it
   pub own_key : request_of (record (first_server image (record grouped { devices = two_devices.devices })) { stages = At Version ∷ At Group ∷ [] }) 2
-      ≡ Some (record { to = to.Unicast; command = Cast (group_request (replicate 16 1) worked_group) })
+      ≡ Some (record { to = to.Unicast; command = Cast (group_request (record { key = replicate 16 1; root = V10 }) worked_group) })
   pub version : asks alone (At Version) ≡ by_unicast 203 (0x01 ∷ [])
   -- 4 fragments of 13 bytes, or 2 of 50 with 48 of padding; the descriptor is the firmware version, and a group may feed the session
   pub fragments : asks alone (At Fragments) ≡ by_unicast 201 (0x02 ∷ 0x00 ∷ 0x04 ∷ 0x00 ∷ 0x0d ∷ 0x00 ∷ 0x00 ∷ 0x02 ∷ 0x00 ∷ 0x00 ∷ 0x00 ∷ [])
@@ -235,5 +236,5 @@ pub record PlanSteps : Type 0 where
   pub timeout : bad_field 52 (record grouped { window = Some (record worked_window { timeout = 16 }) }) ≡ Some field.Window
   pub periodicity : bad_field 52 (record grouped { window = Some (record worked_window { kind = kind.B 8 }) }) ≡ Some field.Window
   pub no_devices : bad_field 52 (record alone { devices = [] }) ≡ Some field.Devices
-  pub devices : bad_field 52 (record alone { devices = replicate 64 (record { key = replicate 16 0 }) }) ≡ None
-  pub more_devices : bad_field 52 (record alone { devices = replicate 65 (record { key = replicate 16 0 }) }) ≡ Some field.Devices
+  pub devices : bad_field 52 (record alone { devices = replicate 64 (record { key = replicate 16 0; root = V10 }) }) ≡ None
+  pub more_devices : bad_field 52 (record alone { devices = replicate 65 (record { key = replicate 16 0; root = V10 }) }) ≡ Some field.Devices

@@ -6,32 +6,38 @@ ghost use Rattle.sync_wire.specs.declared.cmd.Cmd.TheVariants.{DevVersionReq, De
 ghost use Rattle.cast_wire.specs.declared.cmd.Cmd.TheVariants.{FragSessionStatusReq};
 ghost use Rattle.campaign_server.specs.Plan.{session_index, own_id};
 ghost use Rattle.aes_block.specs.Cipher.{IsBlock};
-ghost use Rattle.mc_keys.specs.Keys.{mc_root_key, mc_ke_key};
+ghost use Rattle.mc_keys.specs.Keys.{mc_ke_key};
+ghost use Rattle.mc_keys.specs.Roots.{root_of};
 ghost use Rattle.campaign_server.specs.Asking.{request_at, by_unicast, group_request, mask_of, fragments_request, window_request};
 ghost use Rattle.campaign_server.specs.Wrapping.{wrapped_key};
 ghost use Rattle.campaign_server.specs.ServerInside.{IsCut, WindowFits};
 ghost use Rattle.campaign_server.specs.Sent.{down_of, unicast_of};
 
-use crate::plan::{Kind, Plan, PlanGroup, PlanWindow, own_id};
+use crate::plan::{Kind, Plan, PlanDevice, PlanGroup, PlanWindow, own_id};
 use crate::spelling::unicast;
 use crate::stage::{Request, Stage};
 use cast_wire::{Cmd, FRAGMENT_PORT, MULTICAST_PORT};
 use frag_encoder::Encoder;
 use image_slots::firmware;
-use mc_keys::{Key, kek, root_1_0, wrap_key};
+use mc_keys::{Key, kek, wrap_key};
 use package_grammar::{Command, Downlink};
 use sync_wire::FIRMWARE_PORT;
 
-/// The request of a stage, to a device with this GenAppKey; None at updated and refused.
+/// The request of a stage, to a device; None at updated and refused.
 #[tactic(auto, unfolding(crate::specs::Asking::request_at))]
-pub fn request(plan: &Plan, encoder: &Encoder, key: &Key, stage: Stage) -> Option<Downlink>
+pub fn request(
+    plan: &Plan,
+    encoder: &Encoder,
+    device: &PlanDevice,
+    stage: Stage,
+) -> Option<Downlink>
     requires { IsCut plan.now encoder.now }
-    ensures { result ≡ down_of (by_unicast (request_at plan.now encoder.now.file key.now stage)) }
+    ensures { result ≡ down_of (by_unicast (request_at plan.now encoder.now.file device.now stage)) }
 {
     match stage {
         Stage::At(Request::Version) => Some(version_request()),
         Stage::At(Request::Group) => match plan.group {
-            Some(group) => Some(group_request(key, &group)),
+            Some(group) => Some(group_request(device, &group)),
             None => None,
         },
         Stage::At(Request::Fragments) => Some(fragments_request(plan, encoder)),
@@ -84,9 +90,9 @@ fn status_request(plan: &Plan) -> Downlink
     )
 }
 
-/// McGroupSetupReq, the group's key wrapped under the device's GenAppKey.
-fn group_request(gen_app_key: &Key, group: &PlanGroup) -> Downlink
-    ensures { result ≡ unicast_of (Cast (group_request gen_app_key.now group.now)) }
+/// McGroupSetupReq, the group's key wrapped for the device.
+fn group_request(device: &PlanDevice, group: &PlanGroup) -> Downlink
+    ensures { result ≡ unicast_of (Cast (group_request device.now group.now)) }
 {
     // each read here, so that the command is known to have numbers of four bytes
     let _addr = group.addr;
@@ -97,19 +103,21 @@ fn group_request(gen_app_key: &Key, group: &PlanGroup) -> Downlink
         Command::Cast(Cmd::McGroupSetupReq {
             id: group.group_id(),
             addr: group.addr,
-            key: wrapped(gen_app_key, &group.key),
+            key: wrapped(device, &group.key),
             min: group.min,
             max: group.max,
         }),
     )
 }
 
-/// McKey_encrypted for a device with this GenAppKey.
-fn wrapped(gen_app_key: &Key, key: &Key) -> Key
-    ensures value { result ≡ wrapped_key (mc_ke_key (mc_root_key gen_app_key.now)) key.now }
+/// McKey_encrypted for a device.
+fn wrapped(device: &PlanDevice, key: &Key) -> Key
+    ensures value { let kek = mc_ke_key (root_of device.now.root device.now.key) in
+        result ≡ wrapped_key kek key.now }
     ensures sized { length result ≡ 16 }
 {
-    let block = wrap_key(&kek(&root_1_0(gen_app_key)), key);
+    let root = mc_keys::root(device.root, &device.key);
+    let block = wrap_key(&kek(&root), key);
     told_block(&block);
     block
 }

@@ -1,11 +1,15 @@
 //! What holds of the definitions alone.
 
-ghost use Rattle.std.specs.Prelude.{◌≡◌, List, ℕ, Err};
+ghost use Rattle.std.specs.Prelude.{◌≡◌, ◌<◌, ◌≤◌, ◌+◌, length, List, ℕ, Err};
+ghost use Rattle.wire_base.specs.Payload.{max_payload};
+ghost use Rattle.mc_frames.specs.Opening.{Holds};
 ghost use Rattle.aes_block.specs.Cipher.{IsBlock};
-ghost use Rattle.mc_keys.specs.Keys.{mc_root_key, mc_ke_key, mc_key};
+ghost use Rattle.mc_keys.specs.Keys.{mc_ke_key, mc_key};
+ghost use Rattle.mc_keys.specs.Roots.{root_of};
 ghost use Rattle.wire_base.specs.declared.refusal.Refusal.{Refusal};
 ghost use Rattle.package_grammar.specs.declared.command.Command.{Command};
 ghost use Rattle.cast_wire.specs.declared.cmd.Cmd.TheVariants.{McGroupSetupReq};
+ghost use Rattle.campaign_server.specs.declared.plan.PlanDevice.{PlanDevice};
 ghost use Rattle.campaign_server.specs.declared.plan.PlanGroup.{PlanGroup};
 ghost use Rattle.campaign_server.specs.declared.stage.Request.{Request};
 ghost use Rattle.campaign_server.specs.declared.stage.Stage.{Stage};
@@ -14,10 +18,13 @@ ghost use Rattle.campaign_server.specs.Plan.{Plan, group_id};
 ghost use Rattle.campaign_server.specs.Server.{ServerState};
 ghost use Rattle.campaign_server.specs.Answers.{stage_after};
 ghost use Rattle.campaign_server.specs.Asking.{group_request};
+ghost use Rattle.campaign_server.specs.Framing.{session_keys, group_frame};
 ghost use Rattle.campaign_server.specs.Uplinks.{uplink_step};
 ghost use Rattle.campaign_server.specs.Wrapping.{wrapped_key};
 ghost use Rattle.campaign_server.specs.Counts.{CountsOnce};
 ghost use Rattle.campaign_server.specs.WorkedSteps.{AskSteps, AnswerSteps, TimeSteps, SendSteps, PlanSteps};
+
+use mc_frames::frame_holds_what_it_was_made_of;
 
 /// The wrapped key that the server sends is the one block that is unwrapped to the group's key: what `wrap_key` answers.
 pub fn wrapped_key_is_the_one()
@@ -25,15 +32,27 @@ pub fn wrapped_key_is_the_one()
         → ((x : List ℕ) → IsBlock x → mc_key kek x ≡ key → x ≡ block) → wrapped_key kek key ≡ block }
 {}
 
-/// The request for a group carries what a device unwraps to the group's key, under the key that it derives of its GenAppKey.
+/// The request for a group carries what a device unwraps to the group's key, under the key that it derives of its own.
 pub fn a_device_unwraps_the_key()
-    ensures { (gen_app_key block : List ℕ) (group : PlanGroup)
-        → let kek = mc_ke_key (mc_root_key gen_app_key) in
+    ensures { (device : PlanDevice) (block : List ℕ) (group : PlanGroup)
+        → let kek = mc_ke_key (root_of device.root device.key) in
         IsBlock block → mc_key kek block ≡ group.key
         → ((x : List ℕ) → IsBlock x → mc_key kek x ≡ group.key → x ≡ block)
-        → group_request gen_app_key group
+        → group_request device group
         ≡ McGroupSetupReq (group_id group) group.addr block group.min group.max }
 {}
+
+/// What the server sends to its group is opened with the group's session keys, to its count, port and payload: where the
+/// count is from MIN to below MAX, and one of the 65,536 from MIN on.
+pub fn a_frame_is_opened()
+    ensures { (group : PlanGroup) (count port : ℕ) (payload : List ℕ)
+        → length payload ≤ max_payload → 0 < port
+        → group.min ≤ count → count < group.max → count < group.min + 65536
+        → Holds (session_keys group) group.addr group.min group.max
+        (group_frame group count port payload) count port payload }
+{
+    frame_holds_what_it_was_made_of()
+}
 
 /// An answer that comes again does nothing more.
 #[tactic(auto, unfolding(crate::specs::Answers::stage_after))]

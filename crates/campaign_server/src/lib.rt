@@ -5,7 +5,8 @@
 //!
 //!     let mut server = Server::new(alloc, plan, image)?;       // `image` is an image file
 //!     let request = server.ask(1);                             // what device 1 is to be sent next
-//!     let fragment = server.next_fragment();
+//!     let fragment = server.next_fragment()?;
+//!     let frame = server.frame(&fragment);                     // of a plan with a group: the bytes on air
 //!     let answer = server.uplink(1, port, payload, t)?;        // moves its stage
 //!     let stage = server.ledger(1);
 #![tactic(auto)]
@@ -14,6 +15,7 @@ mod answers;
 mod asking;
 mod checks;
 mod fragments;
+mod framing;
 mod laws;
 mod plan;
 mod server;
@@ -23,8 +25,9 @@ mod time;
 
 pub use fragments::Spent;
 pub use laws::{
-    a_count_is_sent_once, a_device_unwraps_the_key, a_refused_uplink_changes_nothing,
-    an_answer_moves_once, an_end_is_final, worked_steps, wrapped_key_is_the_one,
+    a_count_is_sent_once, a_device_unwraps_the_key, a_frame_is_opened,
+    a_refused_uplink_changes_nothing, an_answer_moves_once, an_end_is_final, worked_steps,
+    wrapped_key_is_the_one,
 };
 pub use plan::{Field, Kind, Plan, PlanDevice, PlanGroup, PlanWindow};
 pub use server::{Server, ServerError};

@@ -3,6 +3,7 @@
 ghost use Rattle.std.specs.Prelude.{◌≡◌, ◌<◌};
 ghost use Rattle.campaign_server.specs.Plan.{own_id};
 
+use mc_keys::RootKind;
 use std::marker::Model;
 
 /// A multicast group of a campaign.
@@ -45,8 +46,10 @@ pub struct PlanWindow {
 /// A device of a campaign.
 #[derive(Clone, Copy, Debug)]
 pub struct PlanDevice {
-    /// GenAppKey.
+    /// GenAppKey, or AppKey where `root` is `V11`.
     pub key: [u8; 16],
+    /// By which version of LoRaWAN the root key of multicast keys is made of `key`.
+    pub root: RootKind,
 }
 
 /// What a server is to do: how the image is cut, how many coded fragments follow, the group and its window, or neither,

@@ -14,16 +14,19 @@ ghost use Rattle.campaign_server.specs.Fragments.{last_fragment, next_fragment, 
 ghost use Rattle.campaign_server.specs.Uplinks.{uplink_step};
 ghost use Rattle.campaign_server.specs.ServerInside.{IsPlan};
 ghost use Rattle.campaign_server.specs.Sent.{down_of, result_of, answer_of};
+ghost use Rattle.campaign_server.specs.Framing.{has_frame, frame_for};
 
 use crate::answers::stage_after_all;
 use crate::asking::request;
 use crate::checks::bad_field;
 use crate::fragments::{Spent, data_fragment, has_no_count, next_count, receivers, status_of_all};
+use crate::framing::{group_frame, is_to_group};
 use crate::plan::{Field, Plan, PlanDevice, PlanGroup};
 use crate::stage::{Request, Stage};
 use crate::time::time_answer;
 use frag_encoder::{Encoder, EncoderError};
-use package_grammar::{Downlink, Message};
+use mc_frames::Frame;
+use package_grammar::{Downlink, Message, To};
 use std::alloc::{AllocError, Global};
 use std::marker::Model;
 use wire_base::{Direction, Refusal};
@@ -108,7 +111,7 @@ impl Server {
     {
         let device = device_of(&self.plan, dev);
         let stage = numbered(&self.stages, dev);
-        request(&self.plan, &self.encoder, &device.key, stage)
+        request(&self.plan, &self.encoder, &device, stage)
     }
 
     /// Whether a next fragment can be sent.
@@ -164,6 +167,26 @@ impl Server {
         let down = status_of_all(&self.plan, receivers(group, self.count));
         self.count = next_count(group, self.count);
         Some(down)
+    }
+
+    /// Whether a payload has a frame: it is to the plan's group, and its port isn't 0.
+    pub fn has_frame(&self, down: &Downlink) -> bool
+        ensures { result ≡ has_frame self.now.plan.group down.now }
+    {
+        is_to_group(self.plan.group, down.to) && down.port > 0
+    }
+
+    /// A payload to the plan's group as the frame that goes out, at most 255 bytes, under the group's session keys.
+    pub fn frame(&self, down: &Downlink) -> Frame
+        requires { has_frame self.now.plan.group down.now ≡ true }
+        ensures { result.items ≡ frame_for self.now.plan.group down.now }
+    {
+        match (self.plan.group, down.to) {
+            (Some(group), To::Group { count, .. }) => {
+                group_frame(&group, count, down.port, &down.payload)
+            }
+            _ => unreachable!(),
+        }
     }
 
     /// An uplink of device `dev` comes on a port, at `t` ms of true time: its commands move the device's stage in order, and

@@ -3,11 +3,10 @@ use Rattle.std.proofs.Common.{◌≡◌, ℕ, ◌≤◌, ◌+◌, ◌-◌, Bool,
 use Rattle.std.proofs.lemmas.Bool.Decides.{nat_tests}
 use Rattle.std.specs.Option.{option_map}
 use Rattle.device_core.specs.Device.{DeviceState, first_device}
-use Rattle.device_core.specs.Deliver.{delivery, waking}
+use Rattle.device_core.specs.Events.{Event, Receives, Migrates, event_step}
 use Rattle.device_core.specs.Firmware.{after_migration}
 use Rattle.device_core.specs.declared.config.DeviceConfig.{DeviceConfig}
 use Rattle.campaign_server.specs.Plan.{Plan}
-use Rattle.package_grammar.specs.declared.downlink.Downlink.{Downlink}
 use Rattle.campaign_server.specs.Server.{ServerState, DownlinkCommand, ledger}
 use Rattle.wire_base.specs.Numbered.{numbered}
 use Rattle.campaign_server.specs.Fragments.{next_fragment, after_fragment, after_count, status_to_all, after_status_to_all}
@@ -26,7 +25,7 @@ use Rattle.script_lines.specs.declared.forms.Form.{Form}
 use Rattle.script_lines.specs.declared.forms.Form.TheVariants as form
 use Rattle.campaign_world.specs.Causes.{is_event_or_end}
 use Rattle.campaign_world.specs.World.{WorldState}
-use Rattle.campaign_world.specs.Making.{with_plan, with_sent, with_device, after_answer, after_up, after_form, after_wake, after_migrate, after_down, raw_down, after_raw, at_events}
+use Rattle.campaign_world.specs.Making.{with_plan, with_sent, with_device, after_answer, after_up, after_form, reception, after_event_at, with_event, at_events}
 use Rattle.campaign_world.specs.HeldWorld.{HeldWorld, WorldStands, KeepsEnds, DevicesRest, OneComesToRest, OnesAreNumbered, world_of, server_of}
 use Rattle.campaign_world.specs.HeldLate.{Late, DeviceRests}
 use Rattle.campaign_world.specs.WorldInside.{ServerIs, IsBuilt}
@@ -69,85 +68,42 @@ unfolding with_device
 event_of_held held ds new_devices new_uplinks device event d all there reaches =
     record { devices = reaches.devices ds d all there; rest = rw (reaches.uplinks ds d all there) refl }
 
-down_of_held : (held : HeldWorld) (ds : List DeviceState) (new_devices : List Late) (new_uplinks : List MadeUplink) (number device word : ℕ) (sent : SentPayload)
-    → DevicesRest held.devices ds → 1 ≤ device → device ≤ length held.devices → numbered held.sent number ≡ Some sent
-    → Reaches held new_devices new_uplinks device (λ d. (delivery held.time word (held.lines + 1) sent.down d).device)
-    → WorldStands (Behind held new_devices new_uplinks)
-    (at_events (after_down (world_of held ds) device word (numbered ds device) (numbered held.sent number)))
-down_of_held held ds new_devices new_uplinks number device word sent all first last was_sent reaches =
+at_held : (held : HeldWorld) (ds : List DeviceState) (new_devices : List Late) (new_uplinks : List MadeUplink) (device : ℕ)
+    (o : Option Event) (event : Event) → o ≡ Some event → DevicesRest held.devices ds → 1 ≤ device → device ≤ length held.devices
+    → Reaches held new_devices new_uplinks device (λ d. event_step d event)
+    → WorldStands (Behind held new_devices new_uplinks) (with_event (world_of held ds) device o)
+at_held held ds new_devices new_uplinks device o event is all first last reaches =
     let one = zip_some DeviceRests held.devices ds (device - 1) all (omega (arith, first, last)) in
-    rw (numbered_at ds device one.0 first one.1, was_sent)
-    (event_of_held held ds new_devices new_uplinks device _ one.0 all one.1 reaches)
+    rw (is, numbered_at ds device one.0 first one.1)
+    (event_of_held held ds new_devices new_uplinks device (λ d. event_step d event) one.0 all one.1 reaches)
 
-woken_of_held : (held : HeldWorld) (ds : List DeviceState) (new_devices : List Late) (new_uplinks : List MadeUplink) (device : ℕ)
-    → DevicesRest held.devices ds → 1 ≤ device → device ≤ length held.devices
-    → Reaches held new_devices new_uplinks device (λ d. (waking held.time d).device)
-    → WorldStands (Behind held new_devices new_uplinks) (at_events (after_wake (world_of held ds) device (numbered ds device)))
-woken_of_held held ds new_devices new_uplinks device all first last reaches =
-    let one = zip_some DeviceRests held.devices ds (device - 1) all (omega (arith, first, last)) in
-    rw (numbered_at ds device one.0 first one.1) (event_of_held held ds new_devices new_uplinks device _ one.0 all one.1 reaches)
+-- an event that the campaign lets happen at a device
+pub event_at_step : (held : HeldWorld) (world : WorldState) (new_devices : List Late) (new_uplinks : List MadeUplink) (device : ℕ)
+    (o : WorldState → Option Event) (event : Event) → WorldStands held world → 1 ≤ device → device ≤ length held.devices
+    → o (world_of held world.devices) ≡ Some event → Reaches held new_devices new_uplinks device (λ d. event_step d event)
+    → WorldStands (record held { section = section.Events; devices = new_devices; uplinks = new_uplinks })
+    (with_event world device (o world))
+event_at_step held world new_devices new_uplinks device o event stands first last is reaches =
+    subst (λ (w : WorldState). WorldStands (Behind held new_devices new_uplinks) (with_event w device (o w))) (sym stands.rest)
+    (at_held held world.devices new_devices new_uplinks device _ event is stands.devices first last reaches)
 
-migrated_of_held : (held : HeldWorld) (ds : List DeviceState) (new_devices : List Late) (device : ℕ)
-    → DevicesRest held.devices ds → 1 ≤ device → device ≤ length held.devices → OneComesToRest after_migration device held.devices new_devices
-    → WorldStands (Behind held new_devices held.uplinks) (at_events (after_migrate (world_of held ds) device (numbered ds device)))
+-- a device that learns an image format makes no uplink
+pub migrate_reaches : (held : HeldWorld) (new_devices : List Late) (device : ℕ)
+    → OneComesToRest after_migration device held.devices new_devices
+    → Reaches held new_devices held.uplinks device (λ d. event_step d Migrates)
 unfolding after_migration
-migrated_of_held held ds new_devices device all first last raised =
-    let one = zip_some DeviceRests held.devices ds (device - 1) all (omega (arith, first, last)) in
-    let reaches : Reaches held new_devices held.uplinks device after_migration = record {
-      devices = raised;
-      uplinks = λ es d stand there.
-          let rests = zip_back DeviceRests held.devices es (device - 1) d stand there in
-          let none : d.outbox ≡ [] = rests_empty rests.0 d rests.1 in
-          rw (none) (sym (append-nil held.uplinks));
-    } in
-    rw (numbered_at ds device one.0 first one.1) (event_of_held held ds new_devices held.uplinks device after_migration one.0 all one.1 reaches)
+migrate_reaches held new_devices device raised = record {
+  devices = raised;
+  uplinks = λ es d stand there.
+      let rests = zip_back DeviceRests held.devices es (device - 1) d stand there in
+      let none : d.outbox ≡ [] = rests_empty rests.0 d rests.1 in
+      rw (none) (sym (append-nil held.uplinks));
+}
 
-struck_of_held : (held : HeldWorld) (ds : List DeviceState) (new_devices : List Late) (new_uplinks : List MadeUplink) (device word : ℕ) (down : Downlink)
-    → DevicesRest held.devices ds → 1 ≤ device → device ≤ length held.devices
-    → Reaches held new_devices new_uplinks device (λ d. (delivery held.time word (held.lines + 1) down d).device)
-    → WorldStands (Behind held new_devices new_uplinks) (at_events (after_raw (world_of held ds) device word down (numbered ds device)))
-struck_of_held held ds new_devices new_uplinks device word down all first last reaches =
-    let one = zip_some DeviceRests held.devices ds (device - 1) all (omega (arith, first, last)) in
-    rw (numbered_at ds device one.0 first one.1) (event_of_held held ds new_devices new_uplinks device _ one.0 all one.1 reaches)
-
-pub raw_step : (held : HeldWorld) (world : WorldState) (new_devices : List Late) (new_uplinks : List MadeUplink) (device word : ℕ) (down : Downlink)
-    → WorldStands held world → 1 ≤ device → device ≤ length held.devices
-    → Reaches held new_devices new_uplinks device (λ d. (delivery held.time word (held.lines + 1) down d).device)
-    → WorldStands (record held { section = section.Events; devices = new_devices; uplinks = new_uplinks })
-    (at_events (after_raw world device word down (numbered world.devices device)))
-raw_step held world new_devices new_uplinks device word down stands first last reaches =
-    subst (λ (w : WorldState). WorldStands (Behind held new_devices new_uplinks)
-    (at_events (after_raw w device word down (numbered w.devices device)))) (sym stands.rest)
-    (struck_of_held held world.devices new_devices new_uplinks device word down stands.devices first last reaches)
-
-pub wake_step : (held : HeldWorld) (world : WorldState) (new_devices : List Late) (new_uplinks : List MadeUplink) (device : ℕ)
-    → WorldStands held world → 1 ≤ device → device ≤ length held.devices
-    → Reaches held new_devices new_uplinks device (λ d. (waking held.time d).device)
-    → WorldStands (record held { section = section.Events; devices = new_devices; uplinks = new_uplinks })
-    (at_events (after_wake world device (numbered world.devices device)))
-wake_step held world new_devices new_uplinks device stands first last reaches =
-    subst (λ (w : WorldState). WorldStands (Behind held new_devices new_uplinks)
-    (at_events (after_wake w device (numbered w.devices device)))) (sym stands.rest)
-    (woken_of_held held world.devices new_devices new_uplinks device stands.devices first last reaches)
-
-pub migrate_step : (held : HeldWorld) (world : WorldState) (new_devices : List Late) (device : ℕ)
-    → WorldStands held world → 1 ≤ device → device ≤ length held.devices → OneComesToRest after_migration device held.devices new_devices
-    → WorldStands (record held { section = section.Events; devices = new_devices })
-    (at_events (after_migrate world device (numbered world.devices device)))
-migrate_step held world new_devices device stands first last raised =
-    subst (λ (w : WorldState). WorldStands (Behind held new_devices held.uplinks)
-    (at_events (after_migrate w device (numbered w.devices device)))) (sym stands.rest)
-    (migrated_of_held held world.devices new_devices device stands.devices first last raised)
-
-pub down_step : (held : HeldWorld) (world : WorldState) (new_devices : List Late) (new_uplinks : List MadeUplink) (number device word : ℕ) (sent : SentPayload)
-    → WorldStands held world → 1 ≤ device → device ≤ length held.devices → numbered held.sent number ≡ Some sent
-    → Reaches held new_devices new_uplinks device (λ d. (delivery held.time word (held.lines + 1) sent.down d).device)
-    → WorldStands (record held { section = section.Events; devices = new_devices; uplinks = new_uplinks })
-    (at_events (after_down world device word (numbered world.devices device) (numbered world.sent number)))
-down_step held world new_devices new_uplinks number device word sent stands first last was_sent reaches =
-    subst (λ (w : WorldState). WorldStands (record held { section = section.Events; devices = new_devices; uplinks = new_uplinks })
-    (at_events (after_down w device word (numbered w.devices device) (numbered w.sent number)))) (sym stands.rest)
-    (down_of_held held world.devices new_devices new_uplinks number device word sent stands.devices first last was_sent reaches)
+-- a payload that was sent
+pub reception_of : (time word line : ℕ) (o : Option SentPayload) (sent : SentPayload) → o ≡ Some sent
+    → reception time word line o ≡ Some (Receives time word line sent.down)
+reception_of time word line o sent is = rw (is) refl
 
 -- ---- what server and image keep
 
@@ -191,39 +147,34 @@ built_of image devices server s is built = rw is at built
 -- ---- a device joins
 
 join_held : (held : HeldWorld) (ds : List DeviceState) (new_plan : Plan) (new_devices : List Late) (config : DeviceConfig) (device : Late)
-    → DevicesRest held.devices ds → new_plan ≡ record held.plan { devices = held.plan.devices ++ record { key = config.key } ∷ [] }
+    → DevicesRest held.devices ds → new_plan ≡ record held.plan { devices = held.plan.devices ++ record { key = config.key; root = config.root } ∷ [] }
     → new_devices ≡ held.devices ++ device ∷ [] → DeviceRests device (first_device config) → (server : Option ServerState) → server ≡ None
     → WorldStands (record held { section = section.Devices; plan = new_plan; devices = new_devices; server = server })
     (with_plan (record (world_of (record held { server = server }) ds) { devices = ds ++ first_device config ∷ [] })
-    (record (server_of held.image held.plan server).plan { devices = (server_of held.image held.plan server).plan.devices ++ record { key = config.key } ∷ [] }) section.Devices)
+    (record (server_of held.image held.plan server).plan { devices = (server_of held.image held.plan server).plan.devices ++ record { key = config.key; root = config.root } ∷ [] }) section.Devices)
 join_held held ds new_plan new_devices config device all plan_is devices_are joins server none =
     rw (none, plan_is, devices_are) (record { devices = zip_more DeviceRests held.devices ds device (first_device config) all joins; rest = refl })
 
 pub join_step : (held : HeldWorld) (world : WorldState) (new_plan : Plan) (new_devices : List Late) (config : DeviceConfig) (device : Late)
-    → WorldStands held world → new_plan ≡ record held.plan { devices = held.plan.devices ++ record { key = config.key } ∷ [] }
+    → WorldStands held world → new_plan ≡ record held.plan { devices = held.plan.devices ++ record { key = config.key; root = config.root } ∷ [] }
     → new_devices ≡ held.devices ++ device ∷ [] → DeviceRests device (first_device config) → held.server ≡ None
     → WorldStands (record held { section = section.Devices; plan = new_plan; devices = new_devices })
     (with_plan (record world { devices = world.devices ++ first_device config ∷ [] })
-    (record world.server.plan { devices = world.server.plan.devices ++ record { key = config.key } ∷ [] }) section.Devices)
+    (record world.server.plan { devices = world.server.plan.devices ++ record { key = config.key; root = config.root } ∷ [] }) section.Devices)
 join_step held world new_plan new_devices config device stands plan_is devices_are joins none =
     subst (λ (w : WorldState). WorldStands (record held { section = section.Devices; plan = new_plan; devices = new_devices })
     (with_plan (record w { devices = w.devices ++ first_device config ∷ [] })
-    (record w.server.plan { devices = w.server.plan.devices ++ record { key = config.key } ∷ [] }) section.Devices)) (sym stands.rest)
+    (record w.server.plan { devices = w.server.plan.devices ++ record { key = config.key; root = config.root } ∷ [] }) section.Devices)) (sym stands.rest)
     (join_held held world.devices new_plan new_devices config device stands.devices plan_is devices_are joins held.server none)
 
 -- ---- an event is the same behind the plan
 
-down_alike : (world : WorldState) (device word : ℕ) (d : Option DeviceState) (s : Option SentPayload) → at_events (after_down (at_events world) device word d s) ≡ at_events (after_down world device word d s)
+at_device_alike : (world : WorldState) (n : ℕ) (d : Option DeviceState) (o : Option Event)
+    → at_events (after_event_at (at_events world) n d o) ≡ at_events (after_event_at world n d o)
 unfolding with_device
-down_alike world device word None s = refl
-down_alike world device word (Some d) None = refl
-down_alike world device word (Some d) (Some s) = refl
-
-raw_alike : (world : WorldState) (device word : ℕ) (down : Downlink) (d : Option DeviceState)
-    → at_events (after_raw (at_events world) device word down d) ≡ at_events (after_raw world device word down d)
-unfolding with_device
-raw_alike world device word down None = refl
-raw_alike world device word down (Some d) = refl
+at_device_alike world n None o = refl
+at_device_alike world n (Some d) None = refl
+at_device_alike world n (Some d) (Some event) = refl
 
 sent_alike : (world : WorldState) (server : ServerState) (receiver : Option ℕ) (down : Option DownlinkCommand)
     → at_events (with_sent (record (at_events world) { server = server }) receiver down) ≡ at_events (with_sent (record world { server = server }) receiver down)
@@ -239,16 +190,6 @@ up_alike : (world : WorldState) (made : Option MadeUplink) → at_events (after_
 up_alike world None = refl
 up_alike world (Some made) = answer_alike world made.device (uplink_step world.server made.device made.uplink.port made.uplink.payload world.time) _ refl
 
-migrate_alike : (world : WorldState) (device : ℕ) (d : Option DeviceState) → at_events (after_migrate (at_events world) device d) ≡ at_events (after_migrate world device d)
-unfolding with_device
-migrate_alike world device None = refl
-migrate_alike world device (Some d) = refl
-
-wake_alike : (world : WorldState) (device : ℕ) (d : Option DeviceState) → at_events (after_wake (at_events world) device d) ≡ at_events (after_wake world device d)
-unfolding with_device
-wake_alike world device None = refl
-wake_alike world device (Some d) = refl
-
 pub event_alike : (world : WorldState) (f : Form) → is_event_or_end f ≡ true → after_form (at_events world) f ≡ after_form world f
 unfolding after_form
 event_alike world form.Header event = absurd cc
@@ -258,13 +199,13 @@ event_alike world (form.WindowC start timeout freq dr) event = absurd cc
 event_alike world (form.WindowB start periodicity timeout freq dr) event = absurd cc
 event_alike world (form.Device id class hw rows offset key descriptor v1) event = absurd cc
 event_alike world (form.At time) event = refl
-event_alike world (form.Wake device) event = wake_alike world device (numbered world.devices device)
-event_alike world (form.Migrate device) event = migrate_alike world device (numbered world.devices device)
+event_alike world (form.Wake device) event = at_device_alike world device (numbered world.devices device) _
+event_alike world (form.Migrate device) event = at_device_alike world device (numbered world.devices device) _
 event_alike world (form.Ask device) event = sent_alike world world.server (Some device) (request_of world.server device)
 event_alike world form.Frag event = sent_alike world (after_fragment world.server) None (result_ok (next_fragment world.server))
 event_alike world form.Status event = sent_alike world (after_status_to_all world.server) None (status_to_all world.server)
-event_alike world (form.Down number device word) event = down_alike world device word (numbered world.devices device) (numbered world.sent number)
-event_alike world (form.Raw device port payload word) event = raw_alike world device word (raw_down port payload) (numbered world.devices device)
+event_alike world (form.Down number device word) event = at_device_alike world device (numbered world.devices device) _
+event_alike world (form.Raw device port payload word) event = at_device_alike world device (numbered world.devices device) _
 event_alike world (form.Up number) event = up_alike world (numbered world.uplinks number)
 event_alike world form.End event = refl
 

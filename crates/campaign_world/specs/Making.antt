@@ -1,16 +1,16 @@
 -- What a form that is not refused makes of a campaign (this project's profile).
-use Rattle.std.specs.Prelude.{ℕ, ◌+◌, ◌-◌, Bool, true, false, List, [], ◌∷◌, ◌++◌, map, slice_set, Option, Some, None, Result, Ok, Err}
+use Rattle.std.specs.Prelude.{ℕ, ◌+◌, ◌-◌, Bool, true, false, List, [], ◌∷◌, ◌++◌, map, slice_set, Option, Some, None, option_map, Result, Ok, Err}
 use Rattle.std.specs.Result.{result_ok}
 use Rattle.wire_base.specs.declared.refusal.Refusal.{Refusal}
 use Rattle.package_grammar.specs.declared.downlink.Downlink.{Downlink}
 use Rattle.package_grammar.specs.declared.downlink.To.TheVariants.{Unicast}
+use Rattle.mc_keys.specs.declared.root_kind.RootKind.TheVariants.{V10}
 use Rattle.device_core.specs.declared.config.Class.{Class as DeviceClass}
 use Rattle.device_core.specs.declared.config.Class.TheVariants as device_class
 use Rattle.device_core.specs.declared.config.DeviceConfig.{DeviceConfig}
 use Rattle.device_core.specs.declared.uplink.Uplink.{Uplink}
 use Rattle.device_core.specs.Device.{DeviceState, first_device, max_area}
-use Rattle.device_core.specs.Deliver.{delivery, waking}
-use Rattle.device_core.specs.Firmware.{after_migration}
+use Rattle.device_core.specs.Events.{Event, Wakes, Receives, Migrates, event_step, uplinks_taken}
 use Rattle.campaign_server.specs.declared.plan.Kind.{Kind}
 use Rattle.campaign_server.specs.declared.plan.Kind.TheVariants as kind
 use Rattle.campaign_server.specs.Plan.{Plan}
@@ -48,7 +48,7 @@ abbrev pub formats_of : (v1 : Bool) → ℕ
 formats_of true = 1
 formats_of false = 2
 
--- a device has 4 sessions, 4 groups, and an area for the largest file
+-- a device is of LoRaWAN 1.0, and has 4 sessions, 4 groups, and an area for the largest file
 abbrev pub config_of : Class → (hw rows offset : ℕ) → (key : List ℕ) → (descriptor : Option ℕ) → (v1 : Bool) → DeviceConfig
 config_of class hw rows offset key descriptor v1 = record {
   class = class_of class;
@@ -57,6 +57,7 @@ config_of class hw rows offset key descriptor v1 = record {
   rows = rows;
   offset = offset;
   key = key;
+  root = V10;
   descriptor = descriptor;
   sessions = 4;
   groups = 4;
@@ -82,35 +83,32 @@ made_by device uplink = record { device = device; uplink = uplink }
 -- behind an event at a device its uplinks are taken, the oldest first, and numbered
 unfoldable pub with_device : WorldState → (n : ℕ) → DeviceState → WorldState
 with_device world n device = record world {
-  devices = slice_set world.devices (n - 1) (record device { outbox = [] });
+  devices = slice_set world.devices (n - 1) (uplinks_taken device);
   uplinks = world.uplinks ++ map (λ uplink. made_by n uplink) device.outbox;
 }
 
 -- ---- events
 
-abbrev pub after_wake : WorldState → (n : ℕ) → Option DeviceState → WorldState
-after_wake world n None = world
-after_wake world n (Some device) = with_device world n (waking world.time device).device
-
--- a device knows both image formats from now on
-abbrev pub after_migrate : WorldState → (n : ℕ) → Option DeviceState → WorldState
-after_migrate world n None = world
-after_migrate world n (Some device) = with_device world n (after_migration device)
-
--- a payload reaches a device at the time now; the mark is the line
-abbrev pub after_down : WorldState → (n word : ℕ) → Option DeviceState → Option SentPayload → WorldState
-after_down world n word (Some device) (Some sent) =
-    with_device world n (delivery world.time word (world.lines + 1) sent.down device).device
-after_down world n word device sent = world
-
 -- anybody's payload, by unicast
 abbrev pub raw_down : (port : ℕ) → (payload : List ℕ) → Downlink
 raw_down port payload = record { to = Unicast; port = port; payload = payload }
 
--- it reaches a device in the same way
-abbrev pub after_raw : WorldState → (n word : ℕ) → Downlink → Option DeviceState → WorldState
-after_raw world n word down None = world
-after_raw world n word down (Some device) = with_device world n (delivery world.time word (world.lines + 1) down device).device
+-- a sent payload reaches a device; the mark is the line
+abbrev pub reception : (time word line : ℕ) → Option SentPayload → Option Event
+reception time word line sent = option_map (λ payload. Receives time word line payload.down) sent
+
+-- what a line with this number lets happen at a device, at the time now
+abbrev pub event_of : List SentPayload → (time line : ℕ) → Form → Option Event
+event_of sent time line (Wake device) = Some (Wakes time)
+event_of sent time line (Migrate device) = Some Migrates
+event_of sent time line (Down number device word) = reception time word line (numbered sent number)
+event_of sent time line (Raw device port payload word) = Some (Receives time word line (raw_down port payload))
+event_of sent time line form = None
+
+-- an event at a device, where there are both
+abbrev pub after_event_at : WorldState → (n : ℕ) → Option DeviceState → Option Event → WorldState
+after_event_at world n (Some device) (Some event) = with_device world n (event_step device event)
+after_event_at world n device event = world
 
 -- the server behind an uplink sends its answer to the device
 abbrev pub after_answer : WorldState → (n : ℕ) → UplinkStep → WorldState
@@ -128,6 +126,14 @@ after_up world (Some made) =
 abbrev pub at_events : WorldState → WorldState
 at_events world = record world { section = section.Events }
 
+-- the device with a number, behind an event
+abbrev pub with_event : WorldState → (n : ℕ) → Option Event → WorldState
+with_event world n event = at_events (after_event_at world n (numbered world.devices n) event)
+
+-- the device with a number, behind what the next line lets happen
+abbrev pub with_event_of : WorldState → (n : ℕ) → Form → WorldState
+with_event_of world n form = with_event world n (event_of world.sent world.time (world.lines + 1) form)
+
 -- ---- the table
 
 -- the campaign behind a form
@@ -142,19 +148,17 @@ after_form world (WindowC start timeout freq dr) =
 after_form world (WindowB start periodicity timeout freq dr) =
     with_plan world (with_window world.server.plan (kind.B periodicity) start timeout freq dr) section.Device
 after_form world (Device id class hw rows offset key descriptor v1) =
-    let plan = record world.server.plan { devices = world.server.plan.devices ++ record { key = key } ∷ [] } in
+    let plan = record world.server.plan { devices = world.server.plan.devices ++ record { key = key; root = V10 } ∷ [] } in
     with_plan (record world { devices = world.devices ++ device_of class hw rows offset key descriptor v1 ∷ [] }) plan section.Devices
 after_form world (At time) = at_events (record world { time = time })
-after_form world (Wake device) = at_events (after_wake world device (numbered world.devices device))
-after_form world (Migrate device) = at_events (after_migrate world device (numbered world.devices device))
+after_form world (Wake device) = with_event_of world device (Wake device)
+after_form world (Migrate device) = with_event_of world device (Migrate device)
 after_form world (Ask device) = at_events (with_sent world (Some device) (request_of world.server device))
 after_form world Frag =
     at_events (with_sent (record world { server = after_fragment world.server }) None (result_ok (next_fragment world.server)))
 after_form world Status =
     at_events (with_sent (record world { server = after_status_to_all world.server }) None (status_to_all world.server))
-after_form world (Down number device word) =
-    at_events (after_down world device word (numbered world.devices device) (numbered world.sent number))
-after_form world (Raw device port payload word) =
-    at_events (after_raw world device word (raw_down port payload) (numbered world.devices device))
+after_form world (Down number device word) = with_event_of world device (Down number device word)
+after_form world (Raw device port payload word) = with_event_of world device (Raw device port payload word)
 after_form world (Up number) = at_events (after_up world (numbered world.uplinks number))
 after_form world End = record world { section = section.Ended }

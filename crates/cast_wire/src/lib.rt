@@ -42,6 +42,3 @@ pub use reading::read_one;
 pub use setup_refusal::{refusal_bits, setup_answer};
 pub use validity::valid;
 pub use writing::{write_fragment, write_one};
-
-#[cfg(test)]
-mod tests;

@@ -273,7 +273,7 @@ unfolding after_due_reboot
 reboot_fine carries last t d h = device_by carries last _ _ d h h
 
 -- a payload reaches the device, which hears it or not
-pub delivery_fine : (carries : ℕ → Command → Type 0) (last more t word : ℕ) (down : Downlink) (d : DeviceState) → last ≤ more
+delivery_fine : (carries : ℕ → Command → Type 0) (last more t word : ℕ) (down : Downlink) (d : DeviceState) → last ≤ more
     → AreCarried carries more down → AreFine carries last d → AreFine carries more (delivery t word more down d).device
 unfolding delivery
 delivery_fine carries last more t word down d le its h =
@@ -282,16 +282,32 @@ delivery_fine carries last more t word down d le its h =
     (reboot_fine carries more t d (fine_later carries last more d le h)))
 
 -- the device wakes
-pub waking_fine : (carries : ℕ → Command → Type 0) (last t : ℕ) (d : DeviceState) → AreFine carries last d
+waking_fine : (carries : ℕ → Command → Type 0) (last t : ℕ) (d : DeviceState) → AreFine carries last d
     → AreFine carries last (record (waking t d).device { outbox = [] })
 waking_fine carries last t d h =
     subst (OfEach (λ index s. IfSome s (IsFine carries last index))) (sym (waking_stays t d).sessions) (h.0, h.1, h.2, h.3)
 
 -- it knows both image formats from now on
-pub migration_fine : (carries : ℕ → Command → Type 0) (last : ℕ) (d : DeviceState) → AreFine carries last d
+migration_fine : (carries : ℕ → Command → Type 0) (last : ℕ) (d : DeviceState) → AreFine carries last d
     → AreFine carries last (record (after_migration d) { outbox = [] })
 unfolding after_migration
 migration_fine carries last d h = (h.0, h.1, h.2, h.3)
+
+-- what a payload carries comes with the line whose number is its mark
+abbrev pub ComesAt : (carries : ℕ → Command → Type 0) → (line : ℕ) → Event → Type 0
+ComesAt carries line (Receives t word mark down) = (mark ≡ line) × AreCarried carries line down
+ComesAt carries line event = Unit {0}
+
+-- and it still holds behind any event at a later line
+pub event_fine : (carries : ℕ → Command → Type 0) (last line : ℕ) (d : DeviceState) (e : Event) → last ≤ line
+    → ComesAt carries line e → AreFine carries last d → AreFine carries line (after_event d e)
+event_fine carries last line d (Wakes t) le comes h =
+    fine_later carries last line (after_event d (Wakes t)) le (waking_fine carries last t d h)
+event_fine carries last line d Migrates le comes h =
+    fine_later carries last line (after_event d Migrates) le (migration_fine carries last d h)
+event_fine carries last line d (Receives t word mark down) le comes h =
+    subst (λ (m : ℕ). AreFine carries line (after_event d (Receives t word m down))) (sym comes.0)
+    (delivery_fine carries last line t word down d le comes.1 h)
 
 -- ---- the configuration stays
 

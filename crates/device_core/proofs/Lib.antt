@@ -1,5 +1,6 @@
 pub mod Outboxes
 pub mod Deliveries
+pub mod Radio
 pub mod WholeFiles
 pub mod WorkedSteps
 pub mod Sending

@@ -14,6 +14,7 @@ use Rattle.package_grammar.specs.declared.command.Command.{Command}
 use Rattle.package_grammar.specs.declared.command.Command.TheVariants.{Sync, Cast}
 use Rattle.package_grammar.specs.declared.downlink.Downlink.{Downlink}
 use Rattle.package_grammar.specs.Reading.{Reading, reading_of}
+use Rattle.mc_frames.specs.declared.fault.FrameFault.{FrameFault}
 use Rattle.frag_session.specs.Session.{Seen, view_of}
 use Rattle.device_core.specs.declared.arrival.Arrival.{Arrival}
 use Rattle.device_core.specs.declared.config.DeviceConfig.{DeviceConfig}
@@ -30,8 +31,9 @@ use Rattle.device_core.specs.ClassSessions.{hears, class_session_step}
 use Rattle.device_core.specs.Firmware.{version_step, upgrade_step, delete_image_step, reboot_time_step, countdown_step, after_due_reboot, after_migration}
 use Rattle.device_core.specs.Step.{acts, command_step, step, after_commands}
 use Rattle.device_core.specs.Deliver.{Outcome, arrival, message_delivery, read_delivery, heard_delivery, delivery, time_asking, waking, with_due_reboot, taking}
+use Rattle.device_core.specs.Radio.{brought, after_frame, radio}
 use Rattle.device_core.specs.Events.{Event, after_event, Wakes, Receives, Migrates}
-use Rattle.device_core.specs.Running.{Call, Delivers, Wakes as Awakes, Takes, Raises, after_call, after_calls, after_events, RunsNone, RunsImage, RunsImagesAlone}
+use Rattle.device_core.specs.Running.{Call, Delivers, Airs, Wakes as Awakes, Takes, Raises, after_call, after_calls, after_events, RunsNone, RunsImage, RunsImagesAlone}
 
 -- ---- the two slots
 
@@ -228,6 +230,15 @@ delivery_keeps t word mark down d =
     let start = after_due_reboot t d in
     between t d (heard_delivery t word mark down start) (heard_keeps t word mark down start)
 
+frame_keeps : (t word mark : ℕ) (down : Result Downlink FrameFault) (d : DeviceState)
+    → Keeps d (after_frame t word mark down d).device
+frame_keeps t word mark (Ok down) d = delivery_keeps t word mark down d
+frame_keeps t word mark (Err fault) d = keeps_on d _ _ (reboot_keeps t d) (same (after_due_reboot t d) _ refl refl)
+
+radio_keeps : (t word mark : ℕ) (bytes : List ℕ) (d : DeviceState) → Keeps d (radio t word mark bytes d).device
+unfolding radio
+radio_keeps t word mark bytes d = frame_keeps t word mark (brought d bytes) d
+
 asking_keeps : (t : ℕ) (d : DeviceState) → Keeps d (time_asking t d).device
 unfolding time_asking after_answers
 asking_keeps t d =
@@ -249,6 +260,7 @@ migration_keeps d = record { config = refl; slots = λ k. raised d.config.hw d.s
 
 call_keeps : (d : DeviceState) (call : Call) → Keeps d (after_call d call)
 call_keeps d (Delivers t word mark down) = delivery_keeps t word mark down d
+call_keeps d (Airs t word mark bytes) = radio_keeps t word mark bytes d
 call_keeps d (Awakes t) = waking_keeps t d
 call_keeps d Takes = take_by d d.outbox
 call_keeps d Raises = migration_keeps d

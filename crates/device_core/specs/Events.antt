@@ -17,14 +17,18 @@ pub data Event : Type 0 where
   Receives : (time word line : ℕ) → Downlink → Event
   Migrates : Event
 
+-- the device behind an event, its uplinks in its outbox
+abbrev pub event_step : DeviceState → Event → DeviceState
+event_step device Migrates = after_migration device
+event_step device (Wakes time) = (waking time device).device
+event_step device (Receives time word line down) = (delivery time word line down device).device
+
 -- behind each event all its uplinks are taken
 abbrev pub uplinks_taken : DeviceState → DeviceState
 uplinks_taken device = record device { outbox = [] }
 
 abbrev pub after_event : DeviceState → Event → DeviceState
-after_event device Migrates = uplinks_taken (after_migration device)
-after_event device (Wakes time) = uplinks_taken (waking time device).device
-after_event device (Receives time word line down) = uplinks_taken (delivery time word line down device).device
+after_event device event = uplinks_taken (event_step device event)
 
 -- ---- what a session heard
 

@@ -8,6 +8,7 @@ pub mod ClassSessions
 pub mod Firmware
 pub mod Step
 pub mod Deliver
+pub mod Radio
 pub mod WholeFiles
 pub mod WorkedSteps
 pub mod Sendable

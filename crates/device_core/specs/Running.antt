@@ -8,19 +8,22 @@ use Rattle.device_core.specs.declared.config.DeviceConfig.{DeviceConfig}
 use Rattle.device_core.specs.Device.{DeviceState, first_device}
 use Rattle.device_core.specs.Firmware.{after_migration}
 use Rattle.device_core.specs.Deliver.{delivery, waking, taking}
+use Rattle.device_core.specs.Radio.{radio}
 use Rattle.device_core.specs.Events.{Event, after_event}
 
 -- ---- calls
 
--- a payload comes, the device wakes, its oldest uplink is taken, or it learns both image formats
+-- a payload comes, the radio hears bytes, the device wakes, its oldest uplink is taken, or it learns both image formats
 pub data Call : Type 0 where
   Delivers : (t word mark : ℕ) → Downlink → Call
+  Airs : (t word mark : ℕ) → List ℕ → Call
   Wakes : (t : ℕ) → Call
   Takes : Call
   Raises : Call
 
 abbrev pub after_call : DeviceState → Call → DeviceState
 after_call device (Delivers t word mark down) = (delivery t word mark down device).device
+after_call device (Airs t word mark bytes) = (radio t word mark bytes device).device
 after_call device (Wakes t) = (waking t device).device
 after_call device Takes = (taking device).device
 after_call device Raises = after_migration device

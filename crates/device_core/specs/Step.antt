@@ -46,7 +46,7 @@ command_step here device (Cast (c.DataFragment index n part)) = fragment_step he
 -- TS005
 command_step here device (Cast (c.McGroupStatusReq mask)) = groups_step here device mask
 command_step here device (Cast (c.McGroupSetupReq id addr key min max)) =
-    group_setup_step here device id (group_of device.config.key addr key min max)
+    group_setup_step here device id (group_of device.config.key device.config.root addr key min max)
 command_step here device (Cast (c.McGroupDeleteReq id)) = group_delete_step here device id
 command_step here device (Cast (c.McClassCSessionReq id time timeout freq dr)) =
     let session : ClassSession = record { id = id; kind = ClassC; time = time; timeout = timeout } in

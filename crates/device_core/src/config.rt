@@ -3,6 +3,8 @@
 ghost use Rattle.std.specs.Prelude.{◌≡◌};
 ghost use Rattle.device_core.specs.Device.{is_config};
 
+use mc_keys::RootKind;
+
 /// When a device hears unicast payloads (LoRaWAN 1.0).
 #[derive(Clone, Copy, Debug, PartialEq, Eq)]
 pub enum Class {
@@ -30,8 +32,10 @@ pub struct DeviceConfig {
     pub rows: u16,
     /// Seconds that its clock is ahead of true time, modulo 2^32.
     pub offset: u32,
-    /// GenAppKey, which multicast keys are wrapped for.
+    /// GenAppKey, or AppKey where `root` is `V11`: which multicast keys are wrapped for.
     pub key: [u8; 16],
+    /// By which version of LoRaWAN the root key of multicast keys is made of `key`.
+    pub root: RootKind,
     /// The one descriptor that its sessions take, if only one is.
     pub descriptor: Option<u32>,
     /// How many session indices there are, 1 to 4.

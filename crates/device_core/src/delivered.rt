@@ -1,5 +1,6 @@
-//! What became of a payload or of waking.
+//! What became of a payload, of a frame or of waking.
 
+use mc_frames::FrameFault;
 use wire_base::Refusal;
 
 /// What became of a payload.
@@ -13,6 +14,15 @@ pub enum Delivered {
     OutboxFull(u16),
     /// Its commands acted in order.
     Done,
+}
+
+/// What became of bytes that the radio heard.
+#[derive(Clone, Copy, Debug, PartialEq, Eq)]
+pub enum Aired {
+    /// They are no frame of the group that is heard: why.
+    Foreign(FrameFault),
+    /// They are one, and this became of its payload.
+    Heard(Delivered),
 }
 
 /// The outbox holds 8 uplinks; nothing was sent.

@@ -8,10 +8,11 @@ ghost use Rattle.package_grammar.specs.declared.command.Command.TheVariants.{Cas
 ghost use Rattle.frag_session.specs.Session.{view_of};
 ghost use Rattle.frag_session.specs.HeldView.{seen};
 ghost use Rattle.device_core.specs.SessionTable.{session_at};
-ghost use Rattle.device_core.specs.Device.{DeviceState, max_moment, after_deaf, after_refused, after_full, after_dropped};
+ghost use Rattle.device_core.specs.Device.{DeviceState, max_moment, after_deaf, after_refused, after_full, after_dropped, with_counts};
 ghost use Rattle.device_core.specs.Step.{weights, after_commands};
-ghost use Rattle.device_core.specs.Firmware.{after_migration};
+ghost use Rattle.device_core.specs.Firmware.{after_due_reboot, after_migration};
 ghost use Rattle.device_core.specs.Deliver.{message_delivery, read_delivery, heard_delivery, delivery, time_asking, waking, taking, commands_read, commands_of};
+ghost use Rattle.device_core.specs.Radio.{radio};
 ghost use Rattle.package_grammar.specs.Reading.{reading_of};
 
 mod acting;
@@ -19,13 +20,14 @@ mod clock;
 mod firmware;
 mod fragments;
 mod groups;
+mod radio;
 mod windows;
 
 use crate::arrival::Arrival;
 use crate::class_session::ClassSession;
 use crate::config::{DeviceConfig, ReserveError, is_config};
 use crate::counts::Counts;
-use crate::delivered::{Delivered, OutboxFull};
+use crate::delivered::{Aired, Delivered, OutboxFull};
 use crate::moment::Moment;
 use crate::outbox::{OUTBOX, Outbox};
 use crate::session_slots::SessionSlots;
@@ -88,6 +90,7 @@ impl Device {
     ghost use Rattle.std.specs.Prelude.{◌∷◌, []};
     ghost use Rattle.device_core.specs.declared.uplink.Uplink.{Uplink};
     ghost use Rattle.device_core.specs.declared.uplink.UplinkCommand.{UplinkCommand};
+    ghost use Rattle.device_core.specs.declared.delivered.Aired.{Aired};
     ghost use Rattle.device_core.specs.declared.delivered.Delivered.{Delivered};
     ghost use Rattle.device_core.specs.declared.delivered.OutboxFull.{OutboxFull};
     ghost use Rattle.device_core.specs.HeldDevice.{DeviceStands, Becomes, Makes, IsReserved, TakesOldest, held_with_answers};
@@ -177,6 +180,23 @@ impl Device {
         delivered
     }
 
+    /// Bytes that the radio heard come at `t` ms of true time. Where they are a frame of the class session's group, with a count
+    /// from its minMcFCount to below its maxMcFCount, their payload comes to that group as in `deliver`. Other bytes are
+    /// foreign: they change nothing but a reboot that is due and the deaf counter.
+    #[tactic(auto, unfolding(crate::specs::Radio::radio))]
+    pub fn radio(&mut self, t: u64, bytes: &[u8], word: u32, mark: u64) -> Aired
+        requires { t ≤ max_moment }
+        ensures { Makes Aired self.old self.new result (radio t word mark bytes.now) }
+    {
+        match self.brought(bytes) {
+            Ok(down) => Aired::Heard(self.deliver(t, &down, word, mark)),
+            Err(fault) => {
+                self.pass_over(t);
+                Aired::Foreign(fault)
+            }
+        }
+    }
+
     /// The device wakes at `t` ms of true time: it asks for the time, and OutboxFull comes exactly where 8 uplinks are held.
     /// A reboot that is due is carried out before and behind.
     #[tactic(auto, unfolding(crate::specs::Deliver::waking))]
@@ -236,6 +256,15 @@ impl Device {
         ensures { result ≡ self.now.counts }
     {
         self.counts
+    }
+
+    /// Bytes that are no frame for it are counted.
+    fn pass_over(&mut self, t: u64)
+        ensures { Becomes self.old self.new
+            (λ device. with_counts after_deaf (after_due_reboot t device)) }
+    {
+        self.reboot_where_due(t);
+        self.count_deaf();
     }
 
     /// A payload that is heard is read, and one that is not is counted.

@@ -1,12 +1,19 @@
 //! What holds of the definitions alone.
 
-ghost use Rattle.std.specs.Prelude.{◌≡◌, ◌≤◌, ◌↔◌, ℕ, length, IsErr};
+ghost use Rattle.std.specs.Prelude.{◌≡◌, ◌+◌, ◌^◌, ◌<◌, ◌≤◌, ◌↔◌, ℕ, List, length, Some, IsErr};
+ghost use Rattle.wire_base.specs.Payload.{max_payload};
 ghost use Rattle.wire_base.specs.declared.refusal.Refusal.{Refusal};
 ghost use Rattle.package_grammar.specs.declared.downlink.Downlink.{Downlink};
+ghost use Rattle.package_grammar.specs.declared.downlink.To.{To};
+ghost use Rattle.mc_group.specs.declared.group.Group.{Group};
+ghost use Rattle.mc_frames.specs.declared.fault.FrameFault.{FrameFault};
+ghost use Rattle.mc_frames.specs.Frames.{frame_of};
 ghost use Rattle.device_core.specs.declared.delivered.Delivered.TheVariants.{Deaf, Refused, OutboxFull};
+ghost use Rattle.device_core.specs.declared.delivered.Aired.TheVariants.{Foreign};
 ghost use Rattle.device_core.specs.Device.{DeviceState, outbox_size, after_deaf, after_refused, after_full, with_counts};
 ghost use Rattle.device_core.specs.Firmware.{after_due_reboot};
 ghost use Rattle.device_core.specs.Deliver.{delivery, waking};
+ghost use Rattle.device_core.specs.Radio.{heard_group, session_keys, aired, radio};
 ghost use Rattle.device_core.specs.Multicast.{MulticastActs};
 ghost use Rattle.device_core.specs.Running.{RunsImagesAlone};
 ghost use Rattle.device_core.specs.WholeFiles.{WholeFiles};
@@ -18,7 +25,7 @@ pub fn due_reboot_is_once()
         → after_due_reboot t (after_due_reboot t device) ≡ after_due_reboot t device }
 {}
 
-/// A payload that does not act changes nothing but a reboot that is due, and one counter.
+/// A payload that does not act, and bytes that are foreign, change nothing but a reboot that is due, and one counter.
 pub fn what_does_not_act_is_counted()
     ensures deaf { (t word mark : ℕ) (down : Downlink) (device : DeviceState)
         → let made = delivery t word mark down device in
@@ -29,6 +36,22 @@ pub fn what_does_not_act_is_counted()
     ensures full { (t word mark n : ℕ) (down : Downlink) (device : DeviceState)
         → let made = delivery t word mark down device in made.answer ≡ OutboxFull n
         → made.device ≡ with_counts after_full (after_due_reboot t device) }
+    ensures foreign { (t word mark : ℕ) (bytes : List ℕ) (device : DeviceState) (fault : FrameFault)
+        → let made = radio t word mark bytes device in made.answer ≡ Foreign fault
+        → made.device ≡ with_counts after_deaf (after_due_reboot t device) }
+{}
+
+/// What is framed for the group that a device hears comes to it as the payload itself comes, where the count is from
+/// minMcFCount to below maxMcFCount, and one of the 65,536 from minMcFCount on.
+#[tactic(auto, using(crate::proofs::Radio::frame_delivered))]
+pub fn a_frame_is_delivered()
+    ensures { (t word mark count port : ℕ) (payload : List ℕ) (group : Group) (device : DeviceState)
+        → heard_group device.groups device.class_session ≡ Some group
+        → group.addr < 2 ^ 32 → length payload ≤ max_payload → 0 < port
+        → group.min ≤ count → count < group.max → count < group.min + 65536
+        → let down : Downlink = record { to = To.Group group.addr count; port = port; payload = payload } in
+        radio t word mark (frame_of (session_keys group) group.addr 0x00 count port payload) device
+        ≡ aired (delivery t word mark down device) }
 {}
 
 /// Waking is refused exactly where 8 uplinks are held, and then changes nothing but a reboot that is due.

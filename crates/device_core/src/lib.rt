@@ -6,6 +6,7 @@
 //!
 //!     let mut device = Device::reserve(alloc, config)?;        // all memory
 //!     device.deliver(t, &downlink, random_word, mark);         // deaf, refused, outbox full, or done
+//!     device.radio(t, &bytes, random_word, mark);              // a multicast frame: foreign, or heard
 //!     while let Some(uplink) = device.take_uplink() { .. }     // uplink.due, uplink.port, uplink.payload
 //!     let file = device.session(0).map(|view| view.file);
 #![tactic(auto)]
@@ -26,11 +27,12 @@ pub use arrival::Arrival;
 pub use class_session::{ClassSession, Kind};
 pub use config::{Class, DeviceConfig, MAX_AREA, MAX_ROWS, ReserveError, is_config};
 pub use counts::Counts;
-pub use delivered::{Delivered, OutboxFull};
+pub use delivered::{Aired, Delivered, OutboxFull};
 pub use device::Device;
 pub use laws::{
-    a_full_device_wakes_for_its_reboot_alone, a_whole_file_comes_once, due_reboot_is_once,
-    runs_images_alone, two_commands_act_by_multicast, what_does_not_act_is_counted, worked_steps,
+    a_frame_is_delivered, a_full_device_wakes_for_its_reboot_alone, a_whole_file_comes_once,
+    due_reboot_is_once, runs_images_alone, two_commands_act_by_multicast,
+    what_does_not_act_is_counted, worked_steps,
 };
 pub use moment::Moment;
 pub use uplink::{Uplink, UplinkCommand};

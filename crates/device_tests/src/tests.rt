@@ -5,11 +5,13 @@ ghost use Rattle.wire_base.specs.declared.payload.TheConstants.{MAX_PAYLOAD};
 
 use device_core::*;
 use image_slots::ImageState;
+use mc_frames::FrameFault;
+use mc_keys::RootKind;
 use package_grammar::{Downlink, To};
 use std::alloc::Global;
 use std::process::Abort;
 use std::test::*;
-use wire_base::Payload;
+use wire_base::{Payload, Refusal, Why};
 
 const CONFIG: DeviceConfig = DeviceConfig {
     class: Class::C,
@@ -18,6 +20,7 @@ const CONFIG: DeviceConfig = DeviceConfig {
     rows: 0,
     offset: 0,
     key: [0; 16],
+    root: RootKind::V10,
     descriptor: None,
     sessions: 4,
     groups: 4,
@@ -245,6 +248,84 @@ const WINDOWS: [Exchange; 5] = [
         &[0x02, 0x01, 1, 0, 52, 0x00, 0, 2, 0, 0, 0],
         &[0x02, 0x00],
     ),
+];
+
+/// The image as one fragment, in the frame 3 of the group of `WINDOWS`; made with the AES and CMAC of Python's
+/// `cryptography`, as are the frames below. Its group's key is unwrapped by a device of LoRaWAN 1.0.
+const FRAME: [u8; 68] = [
+    0x60, 0x44, 0x33, 0x22, 0x11, 0x00, 0x03, 0x00, 0xc9, 0x4d, 0x1e, 0x2d, 0xfe, 0x68, 0x03, 0xf3,
+    0xc7, 0xf8, 0xad, 0x18, 0xd2, 0x4d, 0xf4, 0x47, 0x75, 0xf9, 0xb5, 0x54, 0x10, 0x9f, 0x6c, 0xf2,
+    0x8a, 0x89, 0x32, 0x5a, 0x90, 0x37, 0xe0, 0xe8, 0x58, 0xe6, 0x46, 0xa7, 0xda, 0xb5, 0x63, 0x04,
+    0x6f, 0x6c, 0xde, 0x05, 0x4f, 0x4b, 0x2c, 0xe7, 0xea, 0x3e, 0x9b, 0x27, 0xa6, 0x12, 0x7f, 0xbd,
+    0x41, 0xb8, 0x58, 0xdc,
+];
+
+/// The same where a device of LoRaWAN 1.1 unwraps the key.
+const FRAME_1_1: [u8; 68] = [
+    0x60, 0x44, 0x33, 0x22, 0x11, 0x00, 0x03, 0x00, 0xc9, 0x62, 0x60, 0x11, 0xb7, 0x24, 0x77, 0x94,
+    0xbd, 0x17, 0x02, 0x89, 0xd8, 0x67, 0xe2, 0x6b, 0x7b, 0x26, 0xb7, 0x6c, 0x74, 0x33, 0x6b, 0x2f,
+    0x99, 0xc0, 0x08, 0xb7, 0xc3, 0x78, 0x24, 0x4c, 0x03, 0x91, 0xd6, 0xd3, 0xb2, 0xa0, 0xac, 0x83,
+    0xbd, 0xca, 0x4d, 0x05, 0x67, 0x67, 0x1b, 0xe2, 0x69, 0x47, 0x94, 0xf7, 0x4c, 0xea, 0xf7, 0x74,
+    0xd2, 0xd9, 0xf2, 0xf1,
+];
+
+/// Bytes that the radio hears where no group is heard, and what becomes of them: none is a frame for the device.
+const STRANGE: [(&[u8], FrameFault); 4] = [
+    (&[0x60; 12], FrameFault::Short),
+    (&[0x60; 256], FrameFault::Long),
+    (&[0x60; 255], FrameFault::Header),
+    (&FRAME, FrameFault::Address),
+];
+
+/// Bytes that the radio hears at a moment in ms, with the session of `WINDOWS`, and what becomes of them.
+const AIRED: [(u64, &[u8], Aired); 11] = [
+    (1_000_000, &FRAME_1_1, Aired::Foreign(FrameFault::Mic)),
+    (1_000_000, &[0; 12], Aired::Foreign(FrameFault::Short)),
+    (
+        1_000_000,
+        &[0x60, 0x44, 0x33, 0x22, 0x11, 0x20, 0, 0, 201, 0, 0, 0, 0],
+        Aired::Foreign(FrameFault::Header),
+    ),
+    (
+        1_000_000,
+        &[0x60, 0x44, 0x33, 0x22, 0x10, 0, 0, 0, 201, 0, 0, 0, 0],
+        Aired::Foreign(FrameFault::Address),
+    ),
+    (
+        1_000_000,
+        &[0x60, 0x44, 0x33, 0x22, 0x11, 0, 0, 0, 0, 0, 0, 0, 0],
+        Aired::Foreign(FrameFault::Port),
+    ),
+    // of count 10, which is the group's MAX
+    (
+        1_000_000,
+        &[
+            0x60, 0x44, 0x33, 0x22, 0x11, 0x00, 0x0a, 0x00, 0xc9, 0xd2, 0x52, 0xe0, 0x18, 0xdd,
+        ],
+        Aired::Foreign(FrameFault::Count),
+    ),
+    (999_999, &FRAME, Aired::Heard(Delivered::Deaf)),
+    (
+        1_000_000,
+        &[
+            0x60, 0x44, 0x33, 0x22, 0x11, 0x00, 0x04, 0x00, 0x07, 0xab, 0x34, 0x05, 0x42, 0xe7,
+        ],
+        Aired::Heard(Delivered::Refused(Refusal {
+            at: 0,
+            why: Why::Port,
+        })),
+    ),
+    // with FPending: McGroupDeleteReq, which does not act by multicast
+    (
+        1_000_000,
+        &[
+            0x60, 0x44, 0x33, 0x22, 0x11, 0x10, 0x09, 0x00, 0xc8, 0x7e, 0x1b, 0x34, 0x99, 0x7e,
+            0xa9,
+        ],
+        Aired::Heard(Delivered::Done),
+    ),
+    (1_000_999, &FRAME, Aired::Heard(Delivered::Done)),
+    (1_001_000, &FRAME, Aired::Heard(Delivered::Deaf)),
 ];
 
 /// An image is deleted by its version alone, and once; all ones cancel a reboot.
@@ -598,6 +679,36 @@ fn a_file_comes_by_the_group_in_its_window(rt: HostRuntime) {
         &[(200, &[0x03, 0x00], &[0x03, 0x00])],
     );
     assert!(rt; delivered(&rt, &mut device, 1_000_999, to, 201, &[]) == Delivered::Deaf);
+}
+
+/// What the radio hears is a frame of the class session's group, or foreign; what is foreign is counted as not heard, and an
+/// image comes by a frame in the window.
+#[test]
+fn frames_of_the_group_are_heard(rt: HostRuntime) {
+    let mut device = reserved(&rt, rt.alloc(), CONFIG);
+    for (bytes, fault) in &STRANGE {
+        assert!(rt; device.radio(1_000_000, bytes, 0, 1) == Aired::Foreign(*fault));
+    }
+    assert!(rt; device.counts().deaf == 4);
+    exchanges(&rt, &mut device, 1_000_000, &WINDOWS);
+    for (t, bytes, answer) in &AIRED {
+        assert!(rt; *t <= 4_294_967_295_999);
+        assert!(rt; device.radio(*t, bytes, 0, 1) == *answer);
+        taken(&rt, &mut device, 0, 0, &[]);
+    }
+    assert!(rt; device.counts().deaf == 12);
+    assert!(rt; device.counts().refused == 1);
+    assert!(rt; device.slots().next() == ImageState::Valid(2));
+    // a device of LoRaWAN 1.1 unwraps the group's key under another root key
+    let config = DeviceConfig {
+        root: RootKind::V11,
+        ..CONFIG
+    };
+    let mut other = reserved(&rt, rt.alloc(), config);
+    exchanges(&rt, &mut other, 1_000_000, &WINDOWS);
+    assert!(rt; other.radio(1_000_000, &FRAME, 0, 1) == Aired::Foreign(FrameFault::Mic));
+    assert!(rt; other.radio(1_000_000, &FRAME_1_1, 0, 1) == Aired::Heard(Delivered::Done));
+    assert!(rt; other.slots().next() == ImageState::Valid(2));
 }
 
 #[test]

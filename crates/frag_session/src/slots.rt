@@ -415,6 +415,3 @@ fn is_overflow(verdict: Verdict) -> bool
         _ => false,
     }
 }
-
-#[cfg(test)]
-mod tests;

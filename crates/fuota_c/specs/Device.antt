@@ -5,6 +5,7 @@ use Rattle.package_grammar.specs.declared.downlink.To.{To}
 use Rattle.package_grammar.specs.declared.downlink.To.TheVariants.{Unicast, Group}
 use Rattle.package_grammar.specs.declared.downlink.Downlink.{Downlink}
 use Rattle.frag_session.specs.Session.{view_of}
+use Rattle.mc_keys.specs.declared.root_kind.RootKind.TheVariants.{V10}
 use Rattle.device_core.specs.declared.config.Class.{Class}
 use Rattle.device_core.specs.declared.config.Class.TheVariants.{A, C}
 use Rattle.device_core.specs.declared.config.DeviceConfig.{DeviceConfig}
@@ -43,6 +44,7 @@ config_of fields = record {
   rows = fields.rows;
   offset = fields.offset;
   key = fields.key;
+  root = V10;
   descriptor = where_told fields.has_descriptor fields.descriptor;
   sessions = fields.sessions;
   groups = fields.groups;

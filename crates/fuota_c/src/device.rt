@@ -13,6 +13,7 @@ use crate::shown::{ViewFields, file_in, show};
 use c_base::answer::{DEAF, DONE, FULL, NO_MEMORY, NO_OBJECT, NOTHING, RANGE, REFUSED};
 use c_base::{copy_part, put_whole};
 use device_core::{Class, Delivered, Device, DeviceConfig, OutboxFull, ReserveError, Uplink};
+use mc_keys::RootKind;
 use package_grammar::{Downlink, To};
 use std::alloc::Global;
 use wire_base::{MAX_PAYLOAD, Payload};
@@ -119,6 +120,7 @@ fn config_of(fields: &ConfigFields) -> DeviceConfig
         rows: fields.rows,
         offset: fields.offset,
         key: fields.key,
+        root: RootKind::V10,
         descriptor,
         sessions: fields.sessions,
         groups: fields.groups,

@@ -2,6 +2,7 @@
 use Rattle.std.specs.Prelude.{◌≡◌, ◌⊎◌, ℕ, ◌/◌, Bool, true, false, List, length, map, Option, Some, None, Result, Ok, Err}
 use Rattle.core.specs.Simd.{first_chunks}
 use Rattle.image_slots.specs.Image.{is_image}
+use Rattle.mc_keys.specs.declared.root_kind.RootKind.TheVariants.{V10}
 use Rattle.campaign_server.specs.declared.plan.Field.{Field}
 use Rattle.campaign_server.specs.declared.plan.Field.TheVariants as field
 use Rattle.campaign_server.specs.declared.plan.Kind.{Kind}
@@ -44,7 +45,7 @@ window_of fields = where_told fields.has_window (record {
 })
 
 abbrev pub device_of : (key : List ℕ) → PlanDevice
-device_of key = record { key = key }
+device_of key = record { key = key; root = V10 }
 
 -- whole keys of 16 bytes
 abbrev pub devices_of : (keys : List ℕ) → List PlanDevice

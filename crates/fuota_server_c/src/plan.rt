@@ -4,6 +4,7 @@ ghost use Rattle.std.specs.Prelude.{◌≡◌, IfOk, map};
 ghost use Rattle.fuota_server_c.specs.Plan.{plan_of, group_of, window_of, kind_of, device_of, field_number};
 
 use campaign_server::{Field, Kind, Plan, PlanDevice, PlanGroup, PlanWindow};
+use mc_keys::RootKind;
 use std::alloc::{AllocError, Global};
 
 /// What a server is to do, but for the devices' keys, as `Plan` of `campaign_server` has it.
@@ -47,9 +48,19 @@ fn devices_of(alloc: Global, keys: &[[u8; 16]]) -> Result<Vec<PlanDevice>, Alloc
 {
     let mut devices = Vec::new(alloc);
     for key in keys {
-        devices.push(PlanDevice { key: *key })?;
+        devices.push(device_of(key))?;
     }
     Ok(devices)
+}
+
+/// A device of LoRaWAN 1.0 with this GenAppKey.
+fn device_of(key: &[u8; 16]) -> PlanDevice
+    ensures { result ≡ device_of key.now }
+{
+    PlanDevice {
+        key: *key,
+        root: RootKind::V10,
+    }
 }
 
 fn group_of(fields: &PlanFields) -> Option<PlanGroup>

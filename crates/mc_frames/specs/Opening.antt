@@ -1,5 +1,5 @@
 -- Which frames are opened, and why others are not (this project's profile).
-use Rattle.std.specs.Prelude.{◌≡◌, ℕ, ◌+◌, ◌-◌, ◌%◌, ◌<◌, ◌≤◌, ◌==◌, nat_lt, ◌⊎◌, Bool, ◌&&◌, ◌||◌, not, if◌then◌else◌, List, length, take, drop, slice_index, Option, Some, None, Result, MatchResult}
+use Rattle.std.specs.Prelude.{◌≡◌, ℕ, ◌+◌, ◌-◌, ◌%◌, ◌<◌, ◌≤◌, ◌==◌, nat_lt, ◌⊎◌, Bool, ◌&&◌, ◌||◌, not, if◌then◌else◌, List, length, take, drop, slice_index, Option, Some, None, Result, Ok, Err, MatchResult}
 use Rattle.std.specs.Str.{bytes_eq}
 use Rattle.wire_base.specs.Numbers.{number_at}
 use Rattle.wire_base.specs.Payload.{max_payload}
@@ -8,7 +8,7 @@ use Rattle.mc_frames.specs.declared.opening.Opened.{Opened}
 use Rattle.mc_frames.specs.declared.fault.FrameFault.{FrameFault}
 use Rattle.mc_frames.specs.declared.fault.FrameFault.TheVariants.{Short, Long, Header, Address, Port, Count, Mic}
 use Rattle.mc_frames.specs.Limits.{min_frame, max_frame}
-use Rattle.mc_frames.specs.Frames.{mic, frame_of}
+use Rattle.mc_frames.specs.Frames.{ciphered, mic, frame_of}
 
 -- the bytes are the frame of a payload for the address, on a port that isn't 0, with a count below max of the 65,536 from
 -- min on; FCtrl says nothing, or that more frames wait (10, FPending)
@@ -49,6 +49,30 @@ fault_of keys addr min max bytes =
     else (if not (nat_lt (count_in min bytes) max) then Some Count
     else (if not (has_mic keys addr (count_in min bytes) bytes) then Some Mic
     else None))))))
+
+-- the count, the port and the payload of a frame
+abbrev pub contents : Keys → (addr min : ℕ) → List ℕ → Opened
+contents keys addr min bytes = record {
+  count = count_in min bytes;
+  port = slice_index bytes 8;
+  payload = ciphered keys.app_s addr (count_in min bytes) (take (length bytes - 13) (drop 9 bytes));
+}
+
+-- what a frame without a fault holds, else its first fault; that this is what the bytes hold, Holds says
+abbrev pub contents_or : Option FrameFault → Opened → Result Opened FrameFault
+contents_or None opened = Ok opened
+contents_or (Some fault) opened = Err fault
+
+abbrev pub opening : Keys → (addr min max : ℕ) → List ℕ → Result Opened FrameFault
+opening keys addr min max bytes = contents_or (fault_of keys addr min max bytes) (contents keys addr min bytes)
+
+-- the first fault where no group is heard: then any address is another
+unfoldable pub fault_without_group : List ℕ → FrameFault
+fault_without_group bytes =
+    if nat_lt (length bytes) min_frame then Short
+    else (if nat_lt max_frame (length bytes) then Long
+    else (if not (has_header bytes) then Header
+    else Address))
 
 -- what was opened is this
 abbrev pub IsOpenedTo : Result Opened FrameFault → (count port : ℕ) → List ℕ → Type 0

@@ -21,7 +21,7 @@ mod session;
 pub use fault::FrameFault;
 pub use laws::{frame_holds_what_it_was_made_of, held_is_unique, one_count_is_near, worked_frames};
 pub use mac::cmac;
-pub use opening::{Opened, open};
+pub use opening::{Opened, fault_without_group, open};
 pub use sending::{Frame, MAX_FRAME, frame};
 pub use session::Keys;
 

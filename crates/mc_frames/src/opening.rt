@@ -4,7 +4,7 @@ ghost use Rattle.std.specs.Prelude.{◌≡◌, ℕ, ◌-◌, ◌+◌, ◌≤◌,
 ghost use Rattle.wire_base.specs.Numbers.{number_at};
 ghost use Rattle.mc_frames.specs.Frames.{ciphered};
 ghost use Rattle.mc_frames.specs.Limits.{min_frame, max_frame};
-ghost use Rattle.mc_frames.specs.Opening.{Holds, count_near, count_in, has_header, has_mic, fault_of, IsOpenedTo, IsAnswerTo};
+ghost use Rattle.mc_frames.specs.Opening.{Holds, count_near, count_in, has_header, has_mic, fault_of, fault_without_group, opening, IsOpenedTo, IsAnswerTo};
 
 use crate::fault::FrameFault;
 use crate::sending::{MAX_FRAME, ciphered, mic};
@@ -33,10 +33,27 @@ pub fn open(keys: &Keys, addr: u32, min: u32, max: u32, bytes: &[u8]) -> Result<
         → Holds keys.now addr min max bytes.now count port payload
         → IsOpenedTo result count port payload }
     ensures fault { IsAnswerTo (fault_of keys.now addr min max bytes.now) result }
+    ensures exact { result ≡ opening keys.now addr min max bytes.now }
 {
     match fault(keys, addr, min, max, bytes) {
         Some(fault) => Err(fault),
         None => Ok(contents(keys, addr, min, max, bytes)),
+    }
+}
+
+/// Why bytes are not opened where no group is heard: the first of Short, Long, Header and Address that holds.
+#[tactic(auto, unfolding(crate::specs::Opening::fault_without_group))]
+pub fn fault_without_group(bytes: &[u8]) -> FrameFault
+    ensures { result ≡ fault_without_group bytes.now }
+{
+    if bytes.len() < MIN_FRAME {
+        FrameFault::Short
+    } else if bytes.len() > MAX_FRAME {
+        FrameFault::Long
+    } else if !has_header(bytes) {
+        FrameFault::Header
+    } else {
+        FrameFault::Address
     }
 }
 

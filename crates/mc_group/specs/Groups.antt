@@ -3,7 +3,9 @@ use Rattle.std.specs.Prelude.{ℕ, ◌^◌, ◌==◌, Bool, false, ◌&&◌, nat
 use Rattle.std.specs.Int.{bit_at}
 use Rattle.std.specs.Option.{option_map}
 use Rattle.std.specs.List.{filter_map, range_with_len, sum_by}
-use Rattle.mc_keys.specs.Keys.{mc_root_key, mc_ke_key, mc_key}
+use Rattle.mc_keys.specs.Keys.{mc_ke_key, mc_key, mc_app_s_key, mc_net_s_key}
+use Rattle.mc_keys.specs.Roots.{root_of}
+use Rattle.mc_keys.specs.declared.root_kind.RootKind.{RootKind}
 use Rattle.cast_wire.specs.declared.group_list.GroupAddress.{GroupAddress}
 use Rattle.cast_wire.specs.declared.cmd.Cmd.{Cmd}
 use Rattle.cast_wire.specs.declared.cmd.Cmd.TheVariants.{McGroupStatusAns}
@@ -17,9 +19,18 @@ max_groups = 4
 abbrev pub group_at : List (Option Group) → (id : ℕ) → Option Group
 group_at table id = slice_index_or table id None
 
--- what a McGroupSetupReq makes of its fields: the key unwrapped under the device's GenAppKey
-abbrev pub group_of : (gen_app_key : List ℕ) (addr : ℕ) (wrapped : List ℕ) (min max : ℕ) → Group
-group_of gen_app_key addr wrapped min max = record { addr = addr; key = mc_key (mc_ke_key (mc_root_key gen_app_key)) wrapped; min = min; max = max }
+-- what a McGroupSetupReq makes of its fields: the key unwrapped under the device's GenAppKey, or under its AppKey where
+-- that makes the root key
+abbrev pub group_of : (gen_app_key : List ℕ) → RootKind → (addr : ℕ) (wrapped : List ℕ) (min max : ℕ) → Group
+group_of gen_app_key root addr wrapped min max =
+    record { addr = addr; key = mc_key (mc_ke_key (root_of root gen_app_key)) wrapped; min = min; max = max }
+
+-- McAppSKey and McNetSKey of a group
+abbrev pub group_app_s_key : Group → List ℕ
+group_app_s_key group = mc_app_s_key group.key group.addr
+
+abbrev pub group_net_s_key : Group → List ℕ
+group_net_s_key group = mc_net_s_key group.key group.addr
 
 -- a frame is for the group that is there: its address is the group's, and its count within the group's range
 abbrev pub is_for : Option Group → (addr count : ℕ) → Bool

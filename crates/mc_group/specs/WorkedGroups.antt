@@ -1,5 +1,6 @@
 -- Groups that are worked out (TS005-1.0.0).
 use Rattle.std.specs.Prelude.{◌≡◌, ℕ, true, false, List, [], ◌∷◌, replicate, Option, Some, None}
+use Rattle.mc_keys.specs.declared.root_kind.RootKind.TheVariants.{V10}
 use Rattle.mc_keys.specs.WorkedKeys.{worked_gen_app_key, worked_wrapped, worked_key}
 use Rattle.cast_wire.specs.declared.cmd.Cmd.TheVariants.{McGroupStatusAns}
 use Rattle.mc_group.specs.declared.group.Group.{Group}
@@ -32,5 +33,5 @@ pub record WorkedGroups : Type 0 where
 
 -- the key that a setup unwraps under the device's GenAppKey
 pub record WorkedSetup : Type 0 where
-  pub key : group_of worked_gen_app_key 0x11223344 worked_wrapped 3 10
+  pub key : group_of worked_gen_app_key V10 0x11223344 worked_wrapped 3 10
       ≡ record { addr = 0x11223344; key = worked_key; min = 3; max = 10 }

@@ -1,13 +1,13 @@
 //! The groups of a device, by their ids.
 
-ghost use Rattle.std.specs.Prelude.{◌≡◌, ◌≢◌, ◌↔◌, ◌<◌, ◌≤◌, ℕ, length, replicate, Option, None, Some, IsTrue, is_some, count_by, slice_set};
+ghost use Rattle.std.specs.Prelude.{◌≡◌, ◌≢◌, ◌↔◌, ◌<◌, ◌≤◌, ℕ, length, replicate, Option, None, Some, IsTrue, is_some, count_by, slice_set, option_map};
 ghost use Rattle.cast_wire.specs.Table.{IsValid};
-ghost use Rattle.mc_group.specs.Groups.{max_groups, group_at, group_of, is_for, answer_for, status_answer};
+ghost use Rattle.mc_group.specs.Groups.{max_groups, group_at, group_of, group_app_s_key, group_net_s_key, is_for, answer_for, status_answer};
 
 use crate::group::Group;
 use arrayvec::ArrayVec;
 use cast_wire::{Cmd, GroupAddress, GroupList, MAX_GROUPS};
-use mc_keys::{Key, kek, root_1_0, unwrap_key};
+use mc_keys::{Key, RootKind, app_s_key, kek, net_s_key, unwrap_key};
 use std::marker::Model;
 
 /// What becomes of a McGroupSetupReq.
@@ -59,10 +59,11 @@ impl GroupTable {
     }
 
     /// Answers McGroupSetupReq: a group of frame counts from `min` to below `max` takes the place of what the id had.
-    /// Its key was wrapped for the device whose GenAppKey this is.
+    /// Its key was wrapped for the device whose GenAppKey this is, or whose AppKey, where that makes the root key.
     pub fn setup(
         &mut self,
         gen_app_key: &Key,
+        root: RootKind,
         id: u8,
         addr: u32,
         wrapped: &Key,
@@ -71,14 +72,14 @@ impl GroupTable {
     ) -> GroupAnswer
         ensures id_error { (result ≡ GroupAnswer.IdError) ↔ (length self.old ≤ id) }
         ensures ok { result ≡ GroupAnswer.Ok
-            → self.new ≡ slice_set self.old id (Some (group_of gen_app_key.now addr wrapped.now min max)) }
+            → self.new ≡ slice_set self.old id (Some (group_of gen_app_key.now root addr wrapped.now min max)) }
         ensures refused { result ≡ GroupAnswer.IdError → self.new ≡ self.old }
     {
         let id = id as usize;
         if id >= self.places.len() {
             return GroupAnswer::IdError;
         }
-        let key = unwrap_key(&kek(&root_1_0(gen_app_key)), wrapped);
+        let key = unwrap_key(&kek(&mc_keys::root(root, gen_app_key)), wrapped);
         self.places[id] = Some(Group {
             addr,
             key,
@@ -109,6 +110,21 @@ impl GroupTable {
             return None;
         }
         self.places[id as usize]
+    }
+
+    /// McAppSKey and McNetSKey of the group of an id, which is to be there.
+    pub fn keys(&self, id: u8) -> (Key, Key)
+        requires { group_at self.now id ≢ None }
+        ensures app_s { Some result.0 ≡ option_map group_app_s_key (group_at self.now id) }
+        ensures net_s { Some result.1 ≡ option_map group_net_s_key (group_at self.now id) }
+    {
+        match self.get(id) {
+            Some(group) => (
+                app_s_key(&group.key, group.addr),
+                net_s_key(&group.key, group.addr),
+            ),
+            None => unreachable!(),
+        }
     }
 
     /// Whether a frame is for the group of an id: it is there with that McAddr, and the frame count is within its range.

@@ -36,6 +36,3 @@ pub use message::Message;
 pub use reading::read_one;
 pub use showing::show;
 pub use writing::{spelled, spelled_fragment, write_one};
-
-#[cfg(test)]
-mod tests;

@@ -10,7 +10,8 @@ use Rattle.report_lines.specs.Lines.{BehindLine, TakesLines}
 use Rattle.payload_replay.specs.Headed.{TakesFile}
 use Rattle.payload_replay.specs.Replay.{header_rows, replay_device, captured, after_payload, Hears, ReachesBehind, Reaches}
 use Rattle.payload_replay.specs.ReplayHeadline.{Carries}
-use Rattle.device_core.proofs.HeardSessions.{AreFine, AreCarried, delivery_fine}
+use Rattle.device_core.specs.Events.{Receives}
+use Rattle.device_core.proofs.HeardSessions.{AreFine, AreCarried, event_fine}
 use Rattle.campaign_server.proofs.LineItems.{numbered_next}
 
 -- ---- a payload
@@ -39,8 +40,8 @@ hears_fine : (all : List (List ℕ)) (lines : ℕ) (line payload : List ℕ) (d 
     → AreFine (Carries all) lines d → AreFine (Carries all) (lines + 1) (after_payload (lines + 1) payload d)
 unfolding after_payload
 hears_fine all lines line payload d its h =
-    delivery_fine (Carries all) lines (lines + 1) 0 0 (captured payload) d (omega arith)
-    (carried_by all lines line payload its) h
+    event_fine (Carries all) lines (lines + 1) d (Receives 0 0 (lines + 1) (captured payload)) (omega arith)
+    (refl, carried_by all lines line payload its) h
 
 -- ---- all lines
 

@@ -4,9 +4,10 @@ use Rattle.std.specs.Prelude.{◌≡◌, ℕ, List, [], ◌++◌, replicate, cod
 use Rattle.cast_wire.specs.Limits.{max_groups}
 use Rattle.package_grammar.specs.declared.downlink.Downlink.{Downlink}
 use Rattle.package_grammar.specs.declared.downlink.To.TheVariants.{Unicast}
+use Rattle.mc_keys.specs.declared.root_kind.RootKind.TheVariants.{V10}
 use Rattle.device_core.specs.declared.config.Class.TheVariants as class
 use Rattle.device_core.specs.Device.{DeviceState, first_device, max_formats, max_sessions, max_area}
-use Rattle.device_core.specs.Deliver.{delivery}
+use Rattle.device_core.specs.Events.{Receives, after_event}
 use Rattle.script_lines.specs.Lines.{lines_of}
 use Rattle.report_lines.specs.declared.faults.LineWhy.{LineWhy}
 use Rattle.report_lines.specs.declared.faults.LineFault.{LineFault}
@@ -33,6 +34,7 @@ replay_device rows = first_device (record {
   rows = rows;
   offset = 0;
   key = replicate 16 0;
+  root = V10;
   descriptor = None;
   sessions = max_sessions;
   groups = max_groups;
@@ -45,7 +47,7 @@ captured payload = record { to = Unicast; port = 201; payload = payload }
 
 -- what a payload makes of the device, at moment 0 and with random word 0; its uplinks are thrown away, and the mark is the line's number
 unfoldable pub after_payload : ℕ → List ℕ → DeviceState → DeviceState
-after_payload n payload device = record (delivery 0 0 n (captured payload) device).device { outbox = [] }
+after_payload n payload device = after_event device (Receives 0 0 n (captured payload))
 
 abbrev pub Hears : ℕ → List ℕ → DeviceState → DeviceState → Type 0
 Hears n payload device next = next ≡ after_payload n payload device

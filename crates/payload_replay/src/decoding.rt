@@ -10,7 +10,7 @@ ghost use Rattle.report_lines.specs.Lines.{IsLineRefused, IsTold};
 ghost use Rattle.payload_replay.specs.Decode.{commands_text, stop_word, stop_text, payload_text, numbered_text, Writes, Decodes};
 ghost use Rattle.payload_replay.specs.HeldDecoding.{DecodingStands, HearsDecoded};
 
-use crate::payload_lines::read_payload;
+use crate::payload_lines::{MAX_SPELLED, read_payload};
 use package_grammar::Message;
 use report_lines::LineError;
 use script_lines::HearsLine;
@@ -152,11 +152,12 @@ fn decode_line(
     ensures few { OnOk result (lines < 20000) }
     ensures refused { IfErr result (IsLineRefused payload_of lines line.now) }
 {
-    let payload = match read_payload(alloc, lines, line) {
-        Ok(payload) => payload,
+    let mut bytes = [0; MAX_SPELLED];
+    let count = match read_payload(lines, line, &mut bytes) {
+        Ok(count) => count,
         Err(error) => return Err(error),
     };
-    match show_numbered(alloc, port, dir, lines + 1, &payload, text) {
+    match show_numbered(alloc, port, dir, lines + 1, &bytes[..count], text) {
         Ok(()) => Ok(()),
         Err(_) => Err(LineError::Memory),
     }

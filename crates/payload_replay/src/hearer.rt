@@ -10,6 +10,7 @@ ghost use Rattle.payload_replay.specs.HeldHeaded.{IsBegun};
 
 use cast_wire::FRAGMENT_PORT;
 use device_core::{Class, Device, DeviceConfig, MAX_AREA, MAX_ROWS};
+use mc_keys::RootKind;
 use package_grammar::{Downlink, To};
 use report_lines::{
     LineError, LineWhy, MAX_LINE, Tail, counts_line, refused_behind, session_lines,
@@ -43,6 +44,7 @@ fn config(rows: u16) -> DeviceConfig
         rows,
         offset: 0,
         key: [0; 16],
+        root: RootKind::V10,
         descriptor: None,
         sessions: 4,
         groups: 4,

@@ -11,7 +11,7 @@ ghost use Rattle.payload_replay.specs.Replay.{after_payload, replay_text, Replay
 ghost use Rattle.payload_replay.specs.HeldReplaying.{ReplayingStands, HearsReplayed};
 
 use crate::hearer::{begin, closing_text, hear};
-use crate::payload_lines::read_payload;
+use crate::payload_lines::{MAX_SPELLED, read_payload};
 use device_core::Device;
 use report_lines::{LineError, LineWhy, refused_behind};
 use script_lines::HearsLine;
@@ -79,7 +79,7 @@ impl Replaying {
         match self.kept {
             Some(_) => {}
             None => match &mut self.device {
-                Some(device) => match hear_line(self.alloc, device, self.lines, line) {
+                Some(device) => match hear_line(device, self.lines, line) {
                     Ok(()) => self.lines += 1,
                     Err(error) => self.kept = Some(error),
                 },
@@ -132,16 +132,17 @@ impl Replaying {
 }
 
 /// The device hears the payload of a line that comes after so many; or the line is refused.
-fn hear_line(alloc: Global, device: &mut Device, lines: u32, line: &[u8]) -> Result<(), LineError>
+fn hear_line(device: &mut Device, lines: u32, line: &[u8]) -> Result<(), LineError>
     requires { lines ≤ 20000 }
     ensures heard { OnOk result ((payload : List ℕ) × (payload_of lines line.now ≡ Ok payload)
         × Becomes device.old device.new (λ before. after_payload (lines + 1) payload before)) }
     ensures few { OnOk result (lines < 20000) }
     ensures refused { IfErr result (IsLineRefused payload_of lines line.now) }
 {
-    match read_payload(alloc, lines, line) {
-        Ok(payload) => {
-            hear(device, &payload, u64::from(lines + 1));
+    let mut bytes = [0; MAX_SPELLED];
+    match read_payload(lines, line, &mut bytes) {
+        Ok(count) => {
+            hear(device, &bytes[..count], u64::from(lines + 1));
             Ok(())
         }
         Err(error) => Err(error),

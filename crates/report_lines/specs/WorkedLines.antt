@@ -4,6 +4,7 @@ use Rattle.frag_session.specs.declared.answers.Verdict.{Verdict}
 use Rattle.frag_session.specs.declared.answers.Verdict.TheVariants as verdict
 use Rattle.frag_session.specs.Session.{Seen}
 use Rattle.image_slots.specs.declared.view.ImageState.TheVariants as next
+use Rattle.mc_keys.specs.declared.root_kind.RootKind.TheVariants.{V10}
 use Rattle.device_core.specs.declared.config.Class.TheVariants as class
 use Rattle.device_core.specs.Device.{DeviceState, first_device}
 use Rattle.campaign_server.specs.declared.stage.Stage.TheVariants.{At, Updated, Refused}
@@ -22,6 +23,7 @@ worked_device = record (first_device (record {
   rows = 4;
   offset = 0;
   key = replicate 16 0;
+  root = V10;
   descriptor = None;
   sessions = 4;
   groups = 4;

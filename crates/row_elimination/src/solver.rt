@@ -286,6 +286,3 @@ fn stage_after(fed: Fed) -> Stage
         Fed::Conflict => Stage::Ended,
     }
 }
-
-#[cfg(test)]
-mod tests;

@@ -2,6 +2,7 @@
 
 use super::*;
 use image_slots::is_image;
+use mc_keys::RootKind;
 use package_grammar::To;
 use std::process::Abort;
 use std::test::*;
@@ -27,7 +28,10 @@ fn group() -> PlanGroup {
 fn a_campaign_is_driven(rt: HostRuntime) -> Result<(), Fail> {
     assert!(rt; is_image(&IMAGE));
     let mut devices = Vec::new(rt.alloc());
-    devices.push(PlanDevice { key: [0; 16] })?;
+    devices.push(PlanDevice {
+        key: [0; 16],
+        root: RootKind::V10,
+    })?;
     let Ok(mut server) = campaign(rt.alloc(), &IMAGE, group(), 1000, devices) else {
         panic!(rt; "a plan that is none");
     };

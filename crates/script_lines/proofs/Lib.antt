@@ -2,6 +2,7 @@ pub mod SourceLines
 pub mod Stretches
 pub mod CutLines
 pub mod Heard
+pub mod HexWords
 pub mod CutWords
 pub mod OftenForms
 pub mod WorkedLines

@@ -1,7 +1,11 @@
 //! The bytes that a word of hex digits spells.
 
-ghost use Rattle.std.specs.Prelude.{◌≡◌, ◌≤◌, length, take, None, Some, MatchOption};
-ghost use Rattle.script_lines.specs.Numbers.{hex_bytes_of};
+ghost use Rattle.std.specs.Prelude.{◌≡◌, ◌≤◌, length, take, codes, None, Some, MatchOption, is_some};
+ghost use Rattle.std.specs.Str.{bytes_eq};
+ghost use Rattle.std.specs.List.{list_all};
+ghost use Rattle.std.specs.Char.{is_ascii_hexdigit};
+ghost use Rattle.hex.specs.Hex.{decode_of};
+ghost use Rattle.script_lines.specs.Numbers.{hex_bytes_of, read_part};
 ghost use Rattle.script_lines.specs.Limits.{max_hex_bytes};
 
 use crate::numbers::is_hex_word;
@@ -34,10 +38,10 @@ impl<'a> HexBytes<'a> {
     pub fn read(word: &'a [u8]) -> Option<Self>
         ensures { result ≡ hex_bytes_of word.now }
     {
-        let mut bytes = [0; MAX_HEX_BYTES];
-        match spell(word, &mut bytes) {
-            Some(_) => Some(HexBytes { word }),
-            None => None,
+        if is_spelling(word) {
+            Some(HexBytes { word })
+        } else {
+            None
         }
     }
 
@@ -45,8 +49,11 @@ impl<'a> HexBytes<'a> {
     pub fn len(&self) -> usize
         ensures { result ≡ length self.now }
     {
-        let mut bytes = [0; MAX_HEX_BYTES];
-        self.put(&mut bytes)
+        if is_dash(self.word) {
+            0
+        } else {
+            self.word.len() / 2
+        }
     }
 
     /// Writes the bytes to the front of `out`, and says how many they are.
@@ -62,6 +69,34 @@ impl<'a> HexBytes<'a> {
     }
 }
 
+/// Whether this is the word for no bytes.
+fn is_dash(word: &[u8]) -> bool
+    ensures { result ≡ bytes_eq word.now (codes "-") }
+{
+    word == b"-".as_slice()
+}
+
+/// Whether a word spells bytes.
+#[tactic(auto, unfolding(crate::specs::Numbers::hex_bytes_of))]
+fn is_spelling(word: &[u8]) -> bool
+    ensures { result ≡ is_some (hex_bytes_of word.now) }
+{
+    is_dash(word) || (is_hex_word(word) && is_hex(word))
+}
+
+/// Whether these are pairs of hex digits.
+fn is_hex(digits: &[u8]) -> bool
+    ensures { result ≡ is_some (read_part (decode_of digits.now)) }
+{
+    digits.len() % 2 == 0 && are_hex_digits(digits)
+}
+
+fn are_hex_digits(bytes: &[u8]) -> bool
+    ensures { result ≡ list_all is_ascii_hexdigit bytes.now }
+{
+    bytes.iter().all(|b| b.is_ascii_hexdigit())
+}
+
 /// Writes the bytes that a word spells to the front of `out`, and says how many they are; None where it spells none.
 #[tactic(auto, unfolding(crate::specs::Numbers::hex_bytes_of))]
 fn spell(word: &[u8], out: &mut [u8]) -> Option<usize>
@@ -69,7 +104,7 @@ fn spell(word: &[u8], out: &mut [u8]) -> Option<usize>
     ensures spelled { MatchOption result (hex_bytes_of word.now ≡ None) (λ n. hex_bytes_of word.now ≡ Some (take n out.new)) }
     ensures few { MatchOption result (hex_bytes_of word.now ≡ None) (λ n. n ≤ max_hex_bytes) }
 {
-    if word == b"-".as_slice() {
+    if is_dash(word) {
         return Some(0);
     }
     if !is_hex_word(word) {

@@ -18,8 +18,6 @@ mod often;
 mod pieces;
 mod ranges;
 mod reading;
-#[cfg(test)]
-mod tests;
 mod words;
 
 pub use forms::{Class, Form, Key};

@@ -4,12 +4,26 @@ use campaign_server::{
     Field, Kind, Plan, PlanDevice, PlanGroup, PlanWindow, Request, Server, ServerError, Spent,
     Stage,
 };
+use device_core::{Aired, Class, Delivered, Device, DeviceConfig, MAX_AREA};
 use image_slots::is_image;
+use mc_keys::RootKind;
 use package_grammar::{Downlink, To};
 use std::alloc::{AllocError, Global};
 use std::process::Abort;
 use std::test::*;
 use wire_base::{Refusal, Why};
+
+/// The first fragment of the image in pieces of 13 bytes, and then a status request, as frames of `GROUP`; made with the AES
+/// and CMAC of Python's `cryptography`.
+static FRAMES: [&[u8]; 2] = [
+    &[
+        0x60, 0x44, 0x33, 0x22, 0x11, 0x00, 0x00, 0x00, 0xc9, 0x47, 0x6a, 0x7f, 0xc7, 0xc0, 0xb1,
+        0x6e, 0xa3, 0xf3, 0xef, 0x09, 0x42, 0x5b, 0x5d, 0xc3, 0x47, 0x04, 0x68, 0x30, 0x7c,
+    ],
+    &[
+        0x60, 0x44, 0x33, 0x22, 0x11, 0x00, 0x01, 0x00, 0xc9, 0x14, 0x33, 0x7a, 0x74, 0x7a, 0xf7,
+    ],
+];
 
 /// An image file for hardware 1 with firmware 2, its body and digest those of the text abc.
 const IMAGE: [u8; 52] = [
@@ -24,6 +38,20 @@ const GROUP: PlanGroup = PlanGroup {
     key: [0; 16],
     min: 0,
     max: 10,
+};
+
+const CONFIG: DeviceConfig = DeviceConfig {
+    class: Class::C,
+    hw: 1,
+    formats: 2,
+    rows: 4,
+    offset: 0,
+    key: [0; 16],
+    root: RootKind::V10,
+    descriptor: None,
+    sessions: 4,
+    groups: 4,
+    area: MAX_AREA,
 };
 
 const WINDOW: PlanWindow = PlanWindow {
@@ -45,7 +73,11 @@ fn plan(
     ensures { IfOk result (λ p. length p.devices ≡ count) }
 {
     let mut devices = Vec::new(alloc);
-    devices.resize(count, PlanDevice { key: [0; 16] })?;
+    let device = PlanDevice {
+        key: [0; 16],
+        root: RootKind::V10,
+    };
+    devices.resize(count, device)?;
     Ok(Plan {
         frag_size,
         parity,
@@ -497,6 +529,39 @@ fn a_group_is_asked_and_sent_to_in_bytes(rt: HostRuntime) -> Result<(), Fail> {
     let mut even = OneDevice::begin(&rt, rt.alloc(), 26, 0, Some(few), Some(WINDOW))?;
     assert!(rt; even.fragment().is_ok() && even.fragment().is_ok());
     assert!(rt; matches!(even.fragment(), Err(Spent::Fragments)));
+    Ok(())
+}
+
+/// A device that the server sets up hears what the server sends to the group, in its window.
+#[test]
+fn frames_reach_a_device_with_the_group(rt: HostRuntime) -> Result<(), Fail> {
+    let mut campaign = OneDevice::begin(&rt, rt.alloc(), 13, 4, Some(GROUP), Some(WINDOW))?;
+    let mut device = Device::reserve(rt.alloc(), CONFIG).expect(&rt, "no device");
+    for _ in 0..4 {
+        let down = campaign.server.ask(1).expect(&rt, "nothing asked");
+        assert!(rt; !campaign.server.has_frame(&down));
+        assert!(rt; device.deliver(0, &down, 0, 1) == Delivered::Done);
+        let uplink = device.take_uplink().expect(&rt, "no answer");
+        assert!(rt;
+            campaign
+                .uplink(uplink.port, uplink.payload.as_slice(), 0)
+                .is_ok()
+        );
+    }
+    assert!(rt; campaign.server.ledger(1) == Stage::At(Request::Status));
+    let fragment = campaign.fragment().expect(&rt, "no fragment");
+    let status = campaign.status_all().expect(&rt, "no count");
+    for (down, bytes) in [fragment, status].iter().zip(&FRAMES) {
+        assert!(rt; campaign.server.has_frame(down));
+        let frame = campaign.server.frame(down);
+        assert!(rt; frame.as_slice() == *bytes);
+        assert!(rt;
+            device.radio(1_000_000, frame.as_slice(), 0, 2) == Aired::Heard(Delivered::Done)
+        );
+    }
+    let answer = device.take_uplink().expect(&rt, "no answer");
+    assert!(rt; answer.payload.as_slice() == [0x01, 0x01, 0x00, 0x03, 0x00].as_slice());
+    assert!(rt; device.counts().deaf == 0);
     Ok(())
 }
 

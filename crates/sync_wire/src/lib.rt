@@ -28,6 +28,3 @@ pub use laws::{
 pub use reading::read_one;
 pub use validity::valid;
 pub use writing::write_one;
-
-#[cfg(test)]
-mod tests;

@@ -1,6 +1,7 @@
 use campaign_world::{NoFile, World};
 use device_core::{Class, Delivered, Device, DeviceConfig, MAX_AREA};
 use image_slots::{ImageState, is_image};
+use mc_keys::RootKind;
 use package_grammar::{Downlink, To};
 use report_lines::{LineError, LineFault, LineWhy};
 use std::process::Abort;
@@ -155,6 +156,7 @@ fn cut_commands_change_nothing(rt: HostRuntime) {
         rows: 0,
         offset: 5,
         key: [0; 16],
+        root: RootKind::V10,
         descriptor: None,
         sessions: 4,
         groups: 4,

@@ -11,7 +11,8 @@ ghost use Rattle.campaign_server.specs.Asking.{request_of};
 ghost use Rattle.campaign_server.specs.Fragments.{next_fragment, after_fragment, status_to_all, after_status_to_all};
 ghost use Rattle.campaign_server.specs.Uplinks.{uplink_step};
 ghost use Rattle.campaign_server.specs.Sent.{down_of};
-ghost use Rattle.campaign_world.specs.Making.{with_sent, after_wake, after_migrate, after_down, raw_down, after_raw, after_up, at_events, after_form};
+ghost use Rattle.campaign_world.specs.Making.{with_sent, with_event, reception, raw_down, after_up, at_events, after_form};
+ghost use Rattle.device_core.specs.Events.{Wakes, Receives, Migrates};
 ghost use Rattle.campaign_world.specs.HeldWorld.{sent_by, answered};
 ghost use Rattle.campaign_world.specs.declared.numbered.SentPayload.{SentPayload};
 ghost use Rattle.campaign_world.specs.declared.numbered.MadeUplink.{MadeUplink};
@@ -202,7 +203,7 @@ impl World {
         requires last { device ≤ length self.old.devices }
         requires begun { (s : ServerState) × (self.old.server ≡ Some s) }
         ensures taken { OnOk result (WorldBecomes self.old self.new
-            (λ world. at_events (after_wake world device (numbered world.devices device)))) }
+            (λ world. with_event world device (Some (Wakes world.time)))) }
         ensures kept { self.new.kept ≡ self.old.kept }
         ensures lines { self.new.lines ≡ self.old.lines }
         ensures ends { OnErr result (KeepsEnds self.old self.new) }
@@ -223,7 +224,7 @@ impl World {
         requires last { device ≤ length self.old.devices }
         requires begun { (s : ServerState) × (self.old.server ≡ Some s) }
         ensures taken { OnOk result (WorldBecomes self.old self.new
-            (λ world. at_events (after_migrate world device (numbered world.devices device)))) }
+            (λ world. with_event world device (Some Migrates))) }
         ensures kept { self.new.kept ≡ self.old.kept }
         ensures lines { self.new.lines ≡ self.old.lines }
         ensures ends { OnErr result (KeepsEnds self.old self.new) }
@@ -240,7 +241,7 @@ impl World {
         requires sent { (s : SentPayload) × (numbered self.old.sent number ≡ Some s) }
         requires begun { (s : ServerState) × (self.old.server ≡ Some s) }
         ensures taken { OnOk result (WorldBecomes self.old self.new
-            (λ world. at_events (after_down world device word (numbered world.devices device) (numbered world.sent number)))) }
+            (λ world. with_event world device (reception world.time word (world.lines + 1) (numbered world.sent number)))) }
         ensures kept { self.new.kept ≡ self.old.kept }
         ensures lines { self.new.lines ≡ self.old.lines }
         ensures ends { OnErr result (KeepsEnds self.old self.new) }
@@ -273,7 +274,7 @@ impl World {
         requires room { self.old.lines < max_lines }
         requires begun { (s : ServerState) × (self.old.server ≡ Some s) }
         ensures taken { OnOk result (WorldBecomes self.old self.new
-            (λ world. at_events (after_raw world device word down.now (numbered world.devices device)))) }
+            (λ world. with_event world device (Some (Receives world.time word (world.lines + 1) down.now)))) }
         ensures kept { self.new.kept ≡ self.old.kept }
         ensures lines { self.new.lines ≡ self.old.lines }
         ensures ends { OnErr result (KeepsEnds self.old self.new) }

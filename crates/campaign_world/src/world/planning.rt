@@ -12,6 +12,7 @@ use crate::late::LateDevice;
 use crate::section::Section;
 use campaign_server::{Kind, Plan, PlanDevice, PlanGroup, PlanWindow};
 use device_core::{Class, DeviceConfig, MAX_AREA};
+use mc_keys::RootKind;
 use script_lines::Form;
 use std::alloc::AllocError;
 
@@ -110,6 +111,7 @@ impl World {
                     rows: *rows as u16,
                     offset: *offset as u32,
                     key,
+                    root: RootKind::V10,
                     descriptor: *descriptor,
                     sessions: SESSIONS,
                     groups: GROUPS,
@@ -167,14 +169,16 @@ impl World {
         requires planned { IsToJoin self.old }
         ensures taken { OnOk result (WorldBecomes self.old self.new (λ world. with_plan
             (record world { devices = world.devices ++ first_device config ∷ [] })
-            (record world.server.plan { devices = world.server.plan.devices ++ record { key = config.key } ∷ [] })
+            (record world.server.plan { devices = world.server.plan.devices ++ record { key = config.key; root = config.root } ∷ [] })
             section.Devices)) }
         ensures kept { self.new.kept ≡ self.old.kept }
         ensures lines { self.new.lines ≡ self.old.lines }
         ensures ends { OnErr result (KeepsEnds self.old self.new) }
     {
-        let key = config.key;
-        let planned = PlanDevice { key };
+        let planned = PlanDevice {
+            key: config.key,
+            root: config.root,
+        };
         match join(
             &mut self.plan,
             &mut self.devices,

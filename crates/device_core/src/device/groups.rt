@@ -42,12 +42,18 @@ impl Device {
         requires id { id < 4 }
         requires room { length self.old.outbox < 8 }
         ensures { Steps self.old self.new 1 (λ device.
-            group_setup_step here device id (group_of device.config.key addr wrapped.now min max)) }
+            group_setup_step here device id
+            (group_of device.config.key device.config.root addr wrapped.now min max)) }
     {
-        match self
-            .groups
-            .setup(&self.config.key, id, addr, wrapped, min, max)
-        {
+        match self.groups.setup(
+            &self.config.key,
+            self.config.root,
+            id,
+            addr,
+            wrapped,
+            min,
+            max,
+        ) {
             GroupAnswer::IdError => self.send(here.moment.t, here.port, setup_answer(id, true)),
             GroupAnswer::Ok => self.send(here.moment.t, here.port, setup_answer(id, false)),
         }

@@ -1,4 +1,5 @@
 use Rattle.device_core.proofs.Deliveries.{counted}
+use Rattle.device_core.proofs.Radio.{foreign_counted}
 use Rattle.device_core.proofs.laws.what_does_not_act_is_counted.Goals as goal
 
 pub returns-clause-deaf : goal.returns-clause-deaf
@@ -9,3 +10,6 @@ returns-clause-refused c = λ t word mark down device refusal. (counted t word m
 
 pub returns-clause-full : goal.returns-clause-full
 returns-clause-full c = λ t word mark n down device. (counted t word mark down device).full n
+
+pub returns-clause-foreign : goal.returns-clause-foreign
+returns-clause-foreign c = λ t word mark bytes device fault. foreign_counted t word mark bytes fault device

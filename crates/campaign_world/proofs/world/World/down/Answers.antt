@@ -1,10 +1,11 @@
-use Rattle.std.proofs.Common.{◌≡◌, ◌≤◌, List, length, ap, Some, sym, ◌∙◌, subst}
+use Rattle.std.proofs.Common.{◌≡◌, ◌≤◌, ◌+◌, List, length, ap, Some, sym, ◌∙◌, subst}
 use Rattle.campaign_server.specs.Server.{ServerState}
 use Rattle.wire_base.specs.Numbered.{numbered}
 use Rattle.campaign_world.specs.declared.numbered.SentPayload.{SentPayload}
+use Rattle.campaign_world.specs.Making.{reception}
 use Rattle.campaign_world.specs.HeldWorld.{HeldWorld}
 use Rattle.report_lines.proofs.Outcomes.{on_ok, on_ok_then}
-use Rattle.campaign_world.proofs.Steps.{built_alike, down_step, some_now}
+use Rattle.campaign_world.proofs.Steps.{built_alike, event_at_step, reception_of, some_now}
 use Rattle.campaign_world.proofs.world.World.down.Goals as goal
 
 pub invariant_of-self : goal.invariant_of-self
@@ -19,9 +20,10 @@ invariant_of-self c = record {
 }
 
 pub returns-clause-taken : goal.returns-clause-taken
-returns-clause-taken c = on_ok c.deliver.result (λ ok. rw (← c.self.view_is) (λ world stands. down_step _ world _ _ c.args.number c.args.device c.args.word c.in-Some.sent.now stands c.requires.first
+returns-clause-taken c = on_ok c.deliver.result (λ ok. rw (← c.self.view_is) (λ world stands. event_at_step _ world _ _ c.args.device
+    (λ w. reception w.time c.args.word (w.lines + 1) (numbered w.sent c.args.number)) _ stands c.requires.first
     (subst (λ (h : HeldWorld). c.args.device ≤ length h.devices) (sym c.self.view_is) c.requires.last)
-    (some_now _ _ _ _ (c.numbered.ensures ∙ ap (λ (items : List SentPayload). numbered items c.args.number) c.deref.ensures.value) c.in-Some.is)
+    (reception_of _ _ _ _ c.in-Some.sent.now (some_now _ _ _ _ (c.numbered.ensures ∙ ap (λ (items : List SentPayload). numbered items c.args.number) c.deref.ensures.value) c.in-Some.is))
     (record {
       devices = rw (← c.mark_behind-mark.ensures) (on_ok_then c.deliver.result ok c.deliver.ensures.devices);
       uplinks = rw (← c.mark_behind-mark.ensures) (on_ok_then c.deliver.result ok c.deliver.ensures.uplinks);

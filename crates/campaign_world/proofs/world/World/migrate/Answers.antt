@@ -1,8 +1,9 @@
 use Rattle.std.proofs.Common.{◌≡◌, ◌≤◌, length, Some, sym, subst}
 use Rattle.campaign_server.specs.Server.{ServerState}
+use Rattle.device_core.specs.Events.{Migrates}
 use Rattle.campaign_world.specs.HeldWorld.{HeldWorld}
 use Rattle.report_lines.proofs.Outcomes.{on_ok, on_ok_then}
-use Rattle.campaign_world.proofs.Steps.{built_alike, migrate_step}
+use Rattle.campaign_world.proofs.Steps.{built_alike, event_at_step, migrate_reaches}
 use Rattle.campaign_world.proofs.world.World.migrate.Goals as goal
 
 pub invariant_of-self : goal.invariant_of-self
@@ -17,6 +18,7 @@ invariant_of-self c = record {
 }
 
 pub returns-clause-taken : goal.returns-clause-taken
-returns-clause-taken c = on_ok c.migrate.result (λ ok. rw (← c.self.view_is) (λ world stands. migrate_step _ world _ c.args.device stands c.requires.first
-    (subst (λ (h : HeldWorld). c.args.device ≤ length h.devices) (sym c.self.view_is) c.requires.last)
-    (on_ok_then c.migrate.result ok c.migrate.ensures.devices)))
+returns-clause-taken c = on_ok c.migrate.result (λ ok. rw (← c.self.view_is) (λ world stands. event_at_step _ world _ _ c.args.device
+    (λ w. Some Migrates) _ stands c.requires.first
+    (subst (λ (h : HeldWorld). c.args.device ≤ length h.devices) (sym c.self.view_is) c.requires.last) refl
+    (migrate_reaches _ _ c.args.device (on_ok_then c.migrate.result ok c.migrate.ensures.devices))))

@@ -1,8 +1,9 @@
-use Rattle.std.proofs.Common.{◌≡◌, ◌≤◌, length, Some, sym, subst}
+use Rattle.std.proofs.Common.{◌≡◌, ◌≤◌, ◌+◌, length, Some, sym, subst}
 use Rattle.campaign_server.specs.Server.{ServerState}
+use Rattle.device_core.specs.Events.{Receives}
 use Rattle.campaign_world.specs.HeldWorld.{HeldWorld}
 use Rattle.report_lines.proofs.Outcomes.{on_ok, on_ok_then}
-use Rattle.campaign_world.proofs.Steps.{built_alike, raw_step}
+use Rattle.campaign_world.proofs.Steps.{built_alike, event_at_step}
 use Rattle.campaign_world.proofs.world.World.raw.Goals as goal
 
 pub invariant_of-self : goal.invariant_of-self
@@ -17,8 +18,9 @@ invariant_of-self c = record {
 }
 
 pub returns-clause-taken : goal.returns-clause-taken
-returns-clause-taken c = on_ok c.deliver.result (λ ok. rw (← c.self.view_is) (λ world stands. raw_step _ world _ _ c.args.device c.args.word c.args.down.now stands c.requires.first
-    (subst (λ (h : HeldWorld). c.args.device ≤ length h.devices) (sym c.self.view_is) c.requires.last)
+returns-clause-taken c = on_ok c.deliver.result (λ ok. rw (← c.self.view_is) (λ world stands. event_at_step _ world _ _ c.args.device
+    (λ w. Some (Receives w.time c.args.word (w.lines + 1) c.args.down.now)) _ stands c.requires.first
+    (subst (λ (h : HeldWorld). c.args.device ≤ length h.devices) (sym c.self.view_is) c.requires.last) refl
     (record {
       devices = rw (← c.mark_behind-mark.ensures) (on_ok_then c.deliver.result ok c.deliver.ensures.devices);
       uplinks = rw (← c.mark_behind-mark.ensures) (on_ok_then c.deliver.result ok c.deliver.ensures.uplinks);

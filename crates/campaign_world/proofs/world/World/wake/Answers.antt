@@ -1,8 +1,9 @@
 use Rattle.std.proofs.Common.{◌≡◌, ◌≤◌, length, Some, sym, subst}
 use Rattle.campaign_server.specs.Server.{ServerState}
+use Rattle.device_core.specs.Events.{Wakes}
 use Rattle.campaign_world.specs.HeldWorld.{HeldWorld}
 use Rattle.report_lines.proofs.Outcomes.{on_ok, on_ok_then}
-use Rattle.campaign_world.proofs.Steps.{built_alike, wake_step}
+use Rattle.campaign_world.proofs.Steps.{built_alike, event_at_step}
 use Rattle.campaign_world.proofs.world.World.wake.Goals as goal
 
 pub invariant_of-self : goal.invariant_of-self
@@ -17,8 +18,9 @@ invariant_of-self c = record {
 }
 
 pub returns-clause-taken : goal.returns-clause-taken
-returns-clause-taken c = on_ok c.wake.result (λ ok. rw (← c.self.view_is) (λ world stands. wake_step _ world _ _ c.args.device stands c.requires.first
-    (subst (λ (h : HeldWorld). c.args.device ≤ length h.devices) (sym c.self.view_is) c.requires.last)
+returns-clause-taken c = on_ok c.wake.result (λ ok. rw (← c.self.view_is) (λ world stands. event_at_step _ world _ _ c.args.device
+    (λ w. Some (Wakes w.time)) _ stands c.requires.first
+    (subst (λ (h : HeldWorld). c.args.device ≤ length h.devices) (sym c.self.view_is) c.requires.last) refl
     (record {
       devices = on_ok_then c.wake.result ok c.wake.ensures.devices;
       uplinks = on_ok_then c.wake.result ok c.wake.ensures.uplinks;

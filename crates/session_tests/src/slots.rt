@@ -1,6 +1,8 @@
 //! Slots over a few pieces of one byte, by worked rows.
 
-use super::*;
+ghost use Rattle.std.specs.Prelude.{◌≡◌};
+
+use frag_session::*;
 use row_elimination::Solver;
 use std::alloc::Global;
 use std::process::Abort;
@@ -507,6 +509,17 @@ fn a_session_is_deleted_in_every_state(rt: HostRuntime) {
     }
 }
 
+/// A session of a setup that is not refused.
+#[tactic(auto, unfolding(frag_session::specs::Session::new_session))]
+fn accepted(rt: &impl Abort, idle: Idle<4, 4>, req: SetupReq) -> Receiving<4, 4>
+    ensures { result.setup ≡ req }
+{
+    match idle.setup(req, LIMITS) {
+        Ok(receiving) => receiving,
+        Err(_) => panic!(rt; "refused"),
+    }
+}
+
 #[test]
 fn states_hand_their_memory_on(rt: HostRuntime) {
     let solver = Solver::<4, 4>::reserve(rt.alloc(), 4).expect(&rt, "no memory");
@@ -518,14 +531,15 @@ fn states_hand_their_memory_on(rt: HostRuntime) {
         nb_frag: 1,
         ..SETUP
     };
-    let accepted = idle.setup(one, LIMITS).ok();
-    let receiving = accepted.expect(&rt, "refused");
-    assert_eq!(rt; receiving.setup(), one);
-    match receiving.feed(1, &[0x5a], 3) {
-        Next::Complete(complete) => {
-            assert_eq!(rt; complete.view().file, [0x5a].as_slice());
-            assert!(rt; complete.delete().setup(SETUP, LIMITS).is_ok());
-        }
-        _ => assert!(rt; false),
-    }
+    let receiving = accepted(&rt, idle, one);
+    let Next::Complete(complete) = receiving.feed(1, &[0x5a], 3) else {
+        panic!(rt; "not complete");
+    };
+    let receiving = accepted(&rt, complete.delete(), SETUP);
+    let mut slot = Slot::new(receiving.delete());
+    assert_eq!(rt; slot.setup(one, LIMITS), 0);
+    feed(&rt, &mut slot, &[(1, 0x5a)], 3);
+    let view = slot.view().expect(&rt, "no session");
+    assert_eq!(rt; view.verdict, Verdict::Complete(3));
+    assert_eq!(rt; view.file, [0x5a].as_slice());
 }

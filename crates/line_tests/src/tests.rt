@@ -1,4 +1,6 @@
-use crate::{Class, Cut, Form, Lines, MAX_HEX_BYTES, form, in_range};
+//! Lines of a script, and a stream of them in pieces.
+
+use script_lines::{Class, Cut, Form, Lines, MAX_HEX_BYTES, form, in_range};
 use std::test::Fail;
 
 /// Lines, the form that each spells, and whether its numbers are in their ranges.

@@ -1,6 +1,6 @@
 //! The message examples, and the texts of commands as they are read.
 
-use super::*;
+use package_grammar::*;
 use std::alloc::Global;
 use std::process::Abort;
 use std::test::Fail;

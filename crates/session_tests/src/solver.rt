@@ -1,13 +1,77 @@
 //! Solvers over a few pieces of one byte, by worked rows and against plain sums of lines, and over pieces of many sizes.
 
-use super::*;
 use frag_model::gains::{plain_excess, plain_gain, plain_line_of};
 use frag_model::lines::MAX_PARITY_INDEX;
 use parity_lines::line_uncounted;
+use row_elimination::*;
+use std::alloc::Global;
+use std::marker::Model;
 use std::process::Abort;
 use std::test::Fail;
 
-type SmallSolver = Solver<16, 64>;
+/// A solver with a file, so many pieces of so many bytes, and where it stands after what it answered.
+#[derive(Drop)]
+struct Receiver<const W: usize, const B: usize> {
+    solver: Solver<W, B>,
+    nb_frag: u16,
+    frag_size: u8,
+    stage: Stage,
+}
+
+impl<const W: usize, const B: usize> Model for Receiver<W, B> {
+    ghost use Rattle.std.specs.Prelude.{◌≡◌};
+    ghost use Rattle.row_elimination.specs.HeldSolver.{Held};
+
+    ghost Value = { Held };
+
+    ghost view = { λ r. r.solver };
+
+    ghost invariant = { λ r. (r.stage ≡ r.solver.stage) × (r.nb_frag ≡ r.solver.shape.nb_frag)
+        × (r.frag_size ≡ r.solver.shape.frag_size) };
+}
+
+impl<const W: usize, const B: usize> Receiver<W, B> {
+    /// A solver with a new file.
+    fn begin(
+        rt: &impl Abort,
+        mut solver: Solver<W, B>,
+        nb_frag: u16,
+        frag_size: u8,
+        rows: u16,
+    ) -> Receiver<W, B> {
+        assert!(rt; 1 <= nb_frag && nb_frag <= 4096 && rows <= nb_frag);
+        assert!(rt; 1 <= frag_size && frag_size <= 239);
+        if solver.begin(nb_frag, frag_size, 0, rows).is_err() {
+            panic!(rt; "no room");
+        }
+        Receiver {
+            solver,
+            nb_frag,
+            frag_size,
+            stage: Stage::Receiving,
+        }
+    }
+
+    fn feed(&mut self, rt: &impl Abort, n: u16, part: &[u8]) -> Fed {
+        assert_eq!(rt; self.stage, Stage::Receiving);
+        assert!(rt; 1 <= n && n as u32 <= self.nb_frag as u32 + MAX_PARITY_INDEX as u32);
+        assert_eq!(rt; part.len(), self.frag_size as usize);
+        let fed = self.solver.feed(n, part);
+        self.stage = match fed {
+            Fed::Receiving => Stage::Receiving,
+            Fed::Complete => Stage::Complete,
+            Fed::NoRows | Fed::Conflict => Stage::Ended,
+        };
+        fed
+    }
+
+    fn block(&self, rt: &impl Abort) -> &[u8] {
+        assert_eq!(rt; self.stage, Stage::Complete);
+        self.solver.block()
+    }
+}
+
+type SmallReceiver = Receiver<16, 64>;
 
 /// What a solver answers after fragments, and shows.
 #[derive(Clone, Copy)]
@@ -19,37 +83,26 @@ struct Row<'a> {
     block: &'a [u8],
 }
 
-fn begun(rt: &impl Abort, alloc: Global, pieces: u16, rows: u16) -> Result<SmallSolver, Fail> {
-    assert!(rt; 1 <= pieces && pieces <= 64 && rows <= pieces);
-    let mut solver = SmallSolver::reserve(alloc, 64).expect(rt, "no memory");
-    assert!(rt; solver.begin(pieces, 1, 0, rows).is_ok());
-    Ok(solver)
+fn begun(rt: &impl Abort, alloc: Global, pieces: u16, rows: u16) -> SmallReceiver {
+    let solver = Solver::reserve(alloc, 64).expect(rt, "no memory");
+    Receiver::begin(rt, solver, pieces, 1, rows)
 }
 
-fn feed(rt: &impl Abort, solver: &mut SmallSolver, n: u16, byte: u8) -> Fed {
-    assert_eq!(rt; solver.kept.stage, Stage::Receiving);
-    assert!(rt; 1 <= n && n as u32 <= solver.kept.table.nb_frag() as u32 + MAX_PARITY_INDEX as u32);
-    assert_eq!(rt; solver.kept.table.frag_size(), 1);
-    solver.feed(n, &[byte])
-}
-
-fn shows(rt: &impl Abort, alloc: Global, pieces: u16, row: &Row) -> Result<(), Fail> {
-    let mut solver = begun(rt, alloc, pieces, row.rows)?;
+fn shows(rt: &impl Abort, alloc: Global, pieces: u16, row: &Row) {
+    let mut receiver = begun(rt, alloc, pieces, row.rows);
     let mut answer = Fed::Receiving;
     for (n, byte) in row.fragments {
-        answer = feed(rt, &mut solver, *n, *byte);
+        answer = receiver.feed(rt, *n, &[*byte]);
     }
     assert_eq!(rt; answer, row.answer);
-    assert_eq!(rt; solver.missing(), row.missing);
+    assert_eq!(rt; receiver.solver.missing(), row.missing);
     if answer == Fed::Complete {
-        assert_eq!(rt; solver.kept.stage, Stage::Complete);
-        assert_eq!(rt; solver.block(), row.block);
+        assert_eq!(rt; receiver.block(rt), row.block);
     }
-    Ok(())
 }
 
 #[test]
-fn four_pieces(rt: HostRuntime) -> Result<(), Fail> {
+fn four_pieces(rt: HostRuntime) {
     let whole = [0x11, 0x22, 0x33, 0x44];
     let rows = [
         Row {
@@ -138,13 +191,12 @@ fn four_pieces(rt: HostRuntime) -> Result<(), Fail> {
         },
     ];
     for row in &rows {
-        shows(&rt, rt.alloc(), 4, row)?;
+        shows(&rt, rt.alloc(), 4, row);
     }
-    Ok(())
 }
 
 #[test]
-fn one_piece(rt: HostRuntime) -> Result<(), Fail> {
+fn one_piece(rt: HostRuntime) {
     let rows = [
         Row {
             rows: 1,
@@ -162,9 +214,8 @@ fn one_piece(rt: HostRuntime) -> Result<(), Fail> {
         },
     ];
     for row in &rows {
-        shows(&rt, rt.alloc(), 1, row)?;
+        shows(&rt, rt.alloc(), 1, row);
     }
-    Ok(())
 }
 
 /// The byte of fragment `n` of a file whose piece `k` is `k + 1`.
@@ -219,16 +270,16 @@ fn agrees(
     rows: u16,
     numbers: &[u16],
 ) -> Result<(), Fail> {
-    let mut solver = begun(rt, alloc, pieces, rows)?;
+    let mut receiver = begun(rt, alloc, pieces, rows);
     let mut heard = Vec::new(alloc);
     for n in numbers {
         let byte = byte_of(rt, pieces, *n);
-        let answer = feed(rt, &mut solver, *n, byte);
+        let answer = receiver.feed(rt, *n, &[byte]);
         heard.insert(0, *n)?;
         let (expected, missing) = by_sums(rt, alloc, pieces, rows, &heard)?;
         assert_eq!(rt; answer, expected);
         if answer == Fed::Receiving {
-            assert_eq!(rt; solver.missing() as usize, missing);
+            assert_eq!(rt; receiver.solver.missing() as usize, missing);
         } else {
             return Ok(());
         }
@@ -286,8 +337,6 @@ fn room_is_needed_for_rows_and_for_pieces(rt: HostRuntime) -> Result<(), Fail> {
     Ok(())
 }
 
-type LongSolver = Solver<16, 1912>;
-
 /// Byte `i` of piece `k`.
 fn byte_in(k: u16, i: u8) -> u8 {
     ((k % 251) as u8).wrapping_mul(7) ^ i.wrapping_mul(13) ^ (k % 5) as u8
@@ -320,23 +369,16 @@ fn coded(rt: &impl Abort, alloc: Global, pieces: u16, size: u8, n: u16) -> Resul
     Ok(part)
 }
 
-fn feed_long(rt: &impl Abort, solver: &mut LongSolver, n: u16, part: &[u8]) -> Fed {
-    assert_eq!(rt; solver.kept.stage, Stage::Receiving);
-    assert!(rt; 1 <= n && n as u32 <= solver.kept.table.nb_frag() as u32 + MAX_PARITY_INDEX as u32);
-    assert_eq!(rt; part.len(), solver.kept.table.frag_size() as usize);
-    solver.feed(n, part)
-}
-
 /// Recovers a file of which each tenth piece comes by coded fragments alone.
 fn recovers(rt: &impl Abort, alloc: Global, pieces: u16, size: u8) -> Result<(), Fail> {
     assert!(rt; 8 <= pieces && pieces <= 70 && 1 <= size && size <= 239);
-    let mut solver = LongSolver::reserve(alloc, 16730).expect(rt, "no memory");
-    assert!(rt; solver.begin(pieces, size, 0, 8).is_ok());
+    let solver = Solver::<16, 1912>::reserve(alloc, 16730).expect(rt, "no memory");
+    let mut receiver = Receiver::begin(rt, solver, pieces, size, 8);
     let mut whole = Vec::new(alloc);
     for k in 0..pieces {
         let part = piece(alloc, size, k)?;
         if k % 10 != 3 {
-            assert_eq!(rt; feed_long(rt, &mut solver, k + 1, &part), Fed::Receiving);
+            assert_eq!(rt; receiver.feed(rt, k + 1, &part), Fed::Receiving);
         }
         for byte in &part {
             whole.push(*byte)?;
@@ -346,12 +388,11 @@ fn recovers(rt: &impl Abort, alloc: Global, pieces: u16, size: u8) -> Result<(),
     for n in 1..40 {
         if answer == Fed::Receiving {
             let part = coded(rt, alloc, pieces, size, n)?;
-            answer = feed_long(rt, &mut solver, pieces + n, &part);
+            answer = receiver.feed(rt, pieces + n, &part);
         }
     }
     assert_eq!(rt; answer, Fed::Complete);
-    assert_eq!(rt; solver.kept.stage, Stage::Complete);
-    assert!(rt; solver.block() == whole.as_slice());
+    assert!(rt; receiver.block(rt) == whole.as_slice());
     Ok(())
 }
 

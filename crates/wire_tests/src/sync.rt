@@ -1,6 +1,8 @@
-use super::*;
+//! Commands of the clock and of the firmware, as values and as bytes.
+
 use std::process::Abort;
 use std::test::*;
+use sync_wire::*;
 use wire_base::{Direction, Payload, Refusal, Why};
 
 /// The bytes spell the command, and it is written with these bytes again.

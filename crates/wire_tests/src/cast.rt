@@ -1,4 +1,6 @@
-use super::*;
+//! Commands of fragments and groups, as values and as bytes.
+
+use cast_wire::*;
 use std::process::Abort;
 use std::test::*;
 use wire_base::{Direction, Payload, Refusal, Why};
