@@ -55,6 +55,15 @@ arrival t word mark down device = record {
   port = down.port;
 }
 
+-- how many commands were read
+unfoldable pub commands_read : Reading → ℕ
+commands_read (Ok cs) = length cs
+commands_read (Err refusal) = 0
+
+-- how many a downlink has: none where it is refused
+abbrev pub commands_of : Downlink → ℕ
+commands_of down = commands_read (reading_of down.port Down down.payload)
+
 -- a payload that is heard is read, and one that is not is counted
 unfoldable pub heard_delivery : (t word mark : ℕ) → Downlink → DeviceState → Outcome Delivered
 heard_delivery t word mark down device =

@@ -1,7 +1,8 @@
 //! A device: the calls of whoever runs it, and the order of their checks.
 
-ghost use Rattle.std.specs.Prelude.{◌≡◌, ◌+◌, ◌<◌, ◌≤◌, length, Option, Result, IfSome, option_map};
+ghost use Rattle.std.specs.Prelude.{◌≡◌, ◌≢◌, ◌+◌, ◌<◌, ◌≤◌, length, Option, Result, IfSome, option_map};
 ghost use Rattle.wire_base.specs.declared.refusal.Direction.{Direction};
+ghost use Rattle.wire_base.specs.Payload.{max_payload};
 ghost use Rattle.cast_wire.specs.declared.cmd.Cmd.TheVariants.{DataFragment};
 ghost use Rattle.package_grammar.specs.declared.command.Command.TheVariants.{Cast};
 ghost use Rattle.frag_session.specs.Session.{view_of};
@@ -10,7 +11,7 @@ ghost use Rattle.device_core.specs.SessionTable.{session_at};
 ghost use Rattle.device_core.specs.Device.{DeviceState, max_moment, after_deaf, after_refused, after_full, after_dropped, with_counts};
 ghost use Rattle.device_core.specs.Step.{weights, after_commands};
 ghost use Rattle.device_core.specs.Firmware.{after_due_reboot, after_migration};
-ghost use Rattle.device_core.specs.Deliver.{message_delivery, read_delivery, heard_delivery, delivery, time_asking, waking, taking};
+ghost use Rattle.device_core.specs.Deliver.{message_delivery, read_delivery, heard_delivery, delivery, time_asking, waking, taking, commands_read, commands_of};
 ghost use Rattle.device_core.specs.Radio.{radio};
 ghost use Rattle.package_grammar.specs.Reading.{reading_of};
 
@@ -38,8 +39,10 @@ use frag_session::View;
 use image_slots::Slots;
 use mc_group::GroupTable;
 use package_grammar::{Command, Downlink, Message};
+use parity_lines::Steps;
 use std::alloc::Global;
-use std::marker::Model;
+use std::marker::{Brand, Model};
+use std::sync::ledger::{Blank, Ledger};
 use windows::via_of;
 use wire_base::{Direction, Payload};
 
@@ -129,13 +132,50 @@ impl Device {
     /// A payload comes at `t` ms of true time. If it is heard, can be read and the outbox has room, its commands act in
     /// order. `word` is a random word, and `mark` the number at which a verdict on a file is reported. A reboot that is due
     /// is carried out before and behind all this.
-    #[tactic(auto, unfolding(crate::specs::Deliver::delivery))]
     pub fn deliver(&mut self, t: u64, down: &Downlink, word: u32, mark: u64) -> Delivered
         requires { t ≤ max_moment }
         ensures { Makes Delivered self.old self.new result (delivery t word mark down.now) }
     {
+        self.deliver_over::<Brand>(t, down, word, mark, Blank::new(1))
+    }
+
+    fn deliver_over<L: Ledger>(
+        &mut self,
+        t: u64,
+        down: &Downlink,
+        word: u32,
+        mark: u64,
+        no_steps: Blank,
+    ) -> Delivered
+        requires moment { t ≤ max_moment }
+        requires name { no_steps.name ≡ L.name }
+        requires parts { no_steps.parts ≡ L.parts }
+        requires counted { 0 < no_steps.parts }
+        ensures { Makes Delivered self.old self.new result (delivery t word mark down.now) }
+    {
+        let mut steps = Steps::<L>::new(no_steps);
+        self.deliver_counted(t, down, word, mark, &mut steps)
+    }
+
+    /// As `deliver`, and counts the commands that are taken up, one after another: where the answer is `Done` all of the
+    /// payload, those included that do not act by multicast, and else none.
+    #[tactic(auto, unfolding(crate::specs::Deliver::delivery))]
+    pub fn deliver_counted<L: Ledger>(
+        &mut self,
+        t: u64,
+        down: &Downlink,
+        word: u32,
+        mark: u64,
+        steps: &mut Steps<L>,
+    ) -> Delivered
+        requires { t ≤ max_moment }
+        ensures makes { Makes Delivered self.old self.new result (delivery t word mark down.now) }
+        ensures done { result ≡ Delivered.Done → steps.new ≡ steps.old + commands_of down.now }
+        ensures idle { result ≢ Delivered.Done → steps.new ≡ steps.old }
+        ensures few { steps.new ≤ steps.old + max_payload }
+    {
         self.reboot_where_due(t);
-        let delivered = self.hear(t, down, word, mark);
+        let delivered = self.hear(t, down, word, mark, steps);
         self.reboot_where_due(t);
         delivered
     }
@@ -229,9 +269,19 @@ impl Device {
 
     /// A payload that is heard is read, and one that is not is counted.
     #[tactic(auto, unfolding(crate::specs::Deliver::heard_delivery))]
-    fn hear(&mut self, t: u64, down: &Downlink, word: u32, mark: u64) -> Delivered
+    fn hear<L: Ledger>(
+        &mut self,
+        t: u64,
+        down: &Downlink,
+        word: u32,
+        mark: u64,
+        steps: &mut Steps<L>,
+    ) -> Delivered
         requires { t ≤ max_moment }
-        ensures { Makes Delivered self.old self.new result (heard_delivery t word mark down.now) }
+        ensures makes { Makes Delivered self.old self.new result (heard_delivery t word mark down.now) }
+        ensures done { result ≡ Delivered.Done → steps.new ≡ steps.old + commands_of down.now }
+        ensures idle { result ≢ Delivered.Done → steps.new ≡ steps.old }
+        ensures few { steps.new ≤ steps.old + max_payload }
     {
         if !self.hears(t, down.to) {
             self.count_deaf();
@@ -242,18 +292,27 @@ impl Device {
             via: via_of(self.class_session, down.to),
             port: down.port,
         };
-        self.read(here, &down.payload)
+        self.read(here, &down.payload, steps)
     }
 
     /// What is read of a payload acts, and one that is refused is counted.
-    #[tactic(auto, unfolding(crate::specs::Deliver::read_delivery))]
-    fn read(&mut self, here: Arrival, payload: &Payload) -> Delivered
+    #[tactic(auto, unfolding(crate::specs::Deliver::read_delivery, crate::specs::Deliver::commands_read))]
+    fn read<L: Ledger>(
+        &mut self,
+        here: Arrival,
+        payload: &Payload,
+        steps: &mut Steps<L>,
+    ) -> Delivered
         requires { here.moment.t ≤ max_moment }
-        ensures { let reading = reading_of here.port Direction.Down payload.now in
+        ensures makes { let reading = reading_of here.port Direction.Down payload.now in
             Makes Delivered self.old self.new result (λ device. read_delivery here device reading) }
+        ensures done { result ≡ Delivered.Done → let reading = reading_of here.port Direction.Down payload.now in
+            steps.new ≡ steps.old + commands_read reading }
+        ensures idle { result ≢ Delivered.Done → steps.new ≡ steps.old }
+        ensures few { steps.new ≤ steps.old + max_payload }
     {
         match Message::read(here.port, Direction::Down, payload.as_slice()) {
-            Ok(message) => self.take(here, message),
+            Ok(message) => self.take(here, message, steps),
             Err(refusal) => {
                 self.count_refused();
                 Delivered::Refused(refusal)
@@ -263,17 +322,26 @@ impl Device {
 
     /// A message acts where the outbox has room for its weights.
     #[tactic(auto, unfolding(crate::specs::Deliver::message_delivery))]
-    fn take(&mut self, here: Arrival, message: Message<'_>) -> Delivered
+    fn take<L: Ledger>(
+        &mut self,
+        here: Arrival,
+        message: Message<'_>,
+        steps: &mut Steps<L>,
+    ) -> Delivered
         requires moment { here.moment.t ≤ max_moment }
         requires port { message.port ≡ here.port }
         requires direction { message.direction ≡ Direction.Down }
         requires few { length message.commands ≤ 242 }
-        ensures { Makes Delivered self.old self.new result
+        ensures makes { Makes Delivered self.old self.new result
             (λ device. message_delivery here device message.entry.commands) }
+        ensures done { result ≡ Delivered.Done → steps.new ≡ steps.old + length message.entry.commands }
+        ensures idle { result ≢ Delivered.Done → steps.new ≡ steps.old }
+        ensures few { steps.new ≤ steps.old + length message.entry.commands }
     {
         let held = self.outbox.len() as u16;
         if let Some(fragment) = message.fragment() {
             self.take_fragment(here, fragment);
+            steps.tick();
             return Delivered::Done;
         }
         let n = held + weights(message.again());
@@ -281,7 +349,7 @@ impl Device {
             self.count_full();
             return Delivered::OutboxFull(n);
         }
-        self.act_on(here, message);
+        self.act_on(here, message, steps);
         Delivered::Done
     }
 
@@ -294,17 +362,19 @@ impl Device {
         self.fragment(here, fragment.index, fragment.n, fragment.bytes);
     }
 
-    /// Acts on the commands of a message, one after another.
-    fn act_on(&mut self, here: Arrival, mut message: Message<'_>)
+    /// Acts on the commands of a message, one after another, and counts them.
+    fn act_on<L: Ledger>(&mut self, here: Arrival, mut message: Message<'_>, steps: &mut Steps<L>)
         requires moment { here.moment.t ≤ max_moment }
         requires port { message.port ≡ here.port }
         requires direction { message.direction ≡ Direction.Down }
         requires room { length self.old.outbox + weights message.commands ≤ 8 }
-        ensures { Becomes self.old self.new
+        ensures becomes { Becomes self.old self.new
             (λ device. after_commands here device message.entry.commands) }
+        ensures each { steps.new ≡ steps.old + length message.entry.commands }
     {
         while let Some(command) = message.next() {
             self.act(here, &command);
+            steps.tick();
         }
     }
 
