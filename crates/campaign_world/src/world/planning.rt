@@ -175,8 +175,9 @@ impl World {
         ensures lines { self.new.lines ≡ self.old.lines }
         ensures ends { OnErr result (KeepsEnds self.old self.new) }
     {
+        let key = config.key;
         let planned = PlanDevice {
-            key: config.key,
+            key,
             root: config.root,
         };
         match join(
