@@ -317,6 +317,3 @@ fn generated(alloc: Global, seed: u32) -> Result<Reply, AllocError>
     let made = generate(alloc, seed)?;
     reply_of(alloc, sum_up(alloc, seed, &made.image, &made.script))
 }
-
-#[cfg(test)]
-mod tests;
