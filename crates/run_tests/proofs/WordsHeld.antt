@@ -5,7 +5,7 @@ use Rattle.std.proofs.lemmas.List.Elements.{All-contains}
 use Rattle.clap.specs.Words.{Text}
 use Rattle.fuota_run.specs.Outside.{Held}
 use Rattle.fuota_run.specs.Words.{asked, names_asked}
-use Rattle.fuota_run.specs.Reply.{HoldsForm}
+use Rattle.fuota_run.specs.Ending.{HoldsForm}
 use Rattle.fuota_run.specs.Forms.{NamesAreWords}
 
 are_held : (held : Held) (words names : List Text) → All (λ word. IsSome (held word)) words → AllByRecursion (Contains words) names

@@ -2,7 +2,7 @@
 ghost use Rattle.std.specs.Prelude.{Some, IsSome, IsTrue, map, string_bytes};
 ghost use Rattle.std.specs.List.{All};
 ghost use Rattle.fuota_run.specs.Memory.{held_by};
-ghost use Rattle.fuota_run.specs.Reply.{HoldsForm};
+ghost use Rattle.fuota_run.specs.Ending.{HoldsForm};
 
 use fuota_run::*;
 use std::alloc::Global;
