@@ -15,31 +15,31 @@ use Rattle.fuota_run.specs.declared.words.FileForm.{FileForm}
 use Rattle.fuota_run.specs.declared.words.FileForm.TheVariants.{Replay, Capture}
 use Rattle.fuota_run.specs.declared.status.Status.TheVariants as status
 use Rattle.fuota_run.specs.Outside.{Held}
-use Rattle.fuota_run.specs.Words.{Asked, payloads, asked}
-use Rattle.fuota_run.specs.Answer.{Answer, answer, tells, told, IsReadAnswer, IsFileAnswer, IsAnswerTo, IsAnswer}
+use Rattle.fuota_run.specs.Words.{Invocation, payloads, asked}
+use Rattle.fuota_run.specs.Answer.{Answer, answer, telling_of, text_answer, IsReadAnswer, IsFileAnswer, IsAnswerTo, IsAnswer}
 use Rattle.fuota_run.specs.Headline.{IsFileHandedIn, IsCaptureAnswered}
 
 -- what is told of a file within its limit is what its words are answered
-file_told : (words : List (List ℕ)) (held : Held) (what : FileForm) (file : List ℕ) → IsFileHandedIn words held what file
-    → (a : Answer) → IsAnswer words held a → (said : Result (List ℕ) LineFault) × tells what file said × (a ≡ told said)
+file_answered : (words : List (List ℕ)) (held : Held) (what : FileForm) (file : List ℕ) → IsFileHandedIn words held what file
+    → (a : Answer) → IsAnswer words held a → (said : Result (List ℕ) LineFault) × telling_of what file said × (a ≡ text_answer said)
 unfolding IsAnswer IsFileAnswer
-file_told words held what file its a given =
-    let here : IsFileAnswer (tells what) (held its.name) a = subst (λ (o : Option Asked). IsAnswerTo o held a) its.form given in
-    let read : IsFileAnswer (tells what) (Some file) a =
-    subst (λ (f : Option (List ℕ)). IsFileAnswer (tells what) f a) its.file_held here in
+file_answered words held what file its a given =
+    let here : IsFileAnswer (telling_of what) (held its.name) a = subst (λ (o : Option Invocation). IsAnswerTo o held a) its.form given in
+    let read : IsFileAnswer (telling_of what) (Some file) a =
+    subst (λ (f : Option (List ℕ)). IsFileAnswer (telling_of what) f a) its.file_held here in
     let fine : nat_lt 1048576 (length file) ≡ false = le-ltb _ _ its.short in
-    subst (λ (b : Bool). IsReadAnswer (tells what) b file a) fine read
+    subst (λ (b : Bool). IsReadAnswer (telling_of what) b file a) fine read
 
 text_is : (words : List (List ℕ)) (held : Held) (file : List ℕ) (all : Caught) → IsFileHandedIn words held Capture file
     → CatchesAll (lines_of file) (Ok all) → (a : Answer) → IsAnswer words held a → a ≡ answer status.Done (capture_text all)
 unfolding Captures
 text_is words held file all its catches a given =
-    let said = file_told words held Capture file its a given in
+    let said = file_answered words held Capture file its a given in
     let text : Result (List ℕ) LineFault = Ok (capture_text all) in
-    said.2 ∙ ap told (capture_one file said.0 text said.1 (Ok all, catches, refl))
+    said.2 ∙ ap text_answer (capture_one file said.0 text said.1 (Ok all, catches, refl))
 
 -- an answer that is done is a text
-done_text : (said : Result (List ℕ) LineFault) (a : Answer) → a ≡ told said → a.status ≡ status.Done
+done_text : (said : Result (List ℕ) LineFault) (a : Answer) → a ≡ text_answer said → a.status ≡ status.Done
     → (text : List ℕ) × (said ≡ Ok text) × (a ≡ answer status.Done text)
 done_text (Ok text) a is done = (text, refl, is)
 done_text (Err fault) a is done = absurd (let other = sym (ap (λ (x : Answer). x.status) is) ∙ done in cc)
@@ -51,15 +51,15 @@ ends : (words replay_words : List (List ℕ)) (held : Held) (file replay_file : 
     × (a ≡ answer status.Done (codes "fuota capture 1\n" ++ (entries_text 1 items ++ closing_text device)))
     × (replay ≡ answer status.Done (codes "fuota replay 1\n" ++ closing_text device))
 ends words replay_words held file replay_file items its other same a replay given done there =
-    let said = file_told words held Capture file its a given in
+    let said = file_answered words held Capture file its a given in
     let text = done_text said.0 a said.2 done in
     let captures : Captures file (Ok text.0) = subst (λ (r : Result (List ℕ) LineFault). Captures file r) text.1 said.1 in
     let end = ends_as_replay file replay_file text.0 items same captures in
-    let heard = file_told replay_words held Replay replay_file other replay there in
+    let heard = file_answered replay_words held Replay replay_file other replay there in
     let second : Result (List ℕ) LineFault = Ok (codes "fuota replay 1\n" ++ closing_text end.0) in (
       end.0,
       text.2 ∙ ap (λ (t : List ℕ). answer status.Done t) end.1,
-      heard.2 ∙ ap told (replay_one replay_file heard.0 second heard.1 end.2),
+      heard.2 ∙ ap text_answer (replay_one replay_file heard.0 second heard.1 end.2),
     )
 
 pub capture_answered : IsCaptureAnswered

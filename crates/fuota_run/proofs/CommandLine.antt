@@ -6,7 +6,7 @@ use Rattle.clap.specs.declared.error.kind.ErrorKind.TheVariants as kind
 use Rattle.clap.specs.declared.parser.matches.ArgMatches.{ArgMatches}
 use Rattle.clap.specs.Words.{App, HasKind, HasMatchesOf, Row, Text, IsAmong, Kinds, fault_of, is_simple, is_simple_and_free, kind_of, subcommand_of, subcommand_rows_of}
 use Rattle.clap.proofs.OnLiterals.{clap_on_literals}
-use Rattle.fuota_run.specs.Words.{Asked, asked, asked_by, fuota, parsed, where_none}
+use Rattle.fuota_run.specs.Words.{Invocation, asked, asked_by, fuota, parsed, where_none}
 
 fuota_simple : is_simple fuota ≡ true
 unfolding fuota clap_on_literals
@@ -16,7 +16,7 @@ fuota_free : is_simple_and_free fuota ≡ true
 unfolding fuota clap_on_literals
 fuota_free = refl
 
-abbrev then_asked : Option (Text × List Row) → Option Asked
+abbrev then_asked : Option (Text × List Row) → Option Invocation
 then_asked = option_and_then (λ found. asked_by found.0 found.1)
 
 -- no fault: what clap found is what is asked for

@@ -15,7 +15,7 @@ use Rattle.clap.specs.Simple.{App, Shape, built, built_leaf, entered, label_of, 
 use Rattle.clap.specs.Faults.{bundle_fault, check_fault, defaults_fault, flag_word_fault, level_fault, settle_fault, step_fault, turn_fault, walk_fault, word_fault}
 use Rattle.clap.proofs.OnLiterals.{clap_on_literals}
 use Rattle.campaign_generator.proofs.Decimals.{decimal_is_read}
-use Rattle.fuota_run.specs.Words.{Asked, plays, payloads, generates, asked, asked_by, device_by, device_of_word, direction_of_word, form, fuota, parsed, port_by, port_of_word, seed_by, seed_of_word, where_none}
+use Rattle.fuota_run.specs.Words.{Invocation, plays, payloads, generates, asked, asked_by, device_by, device_of_word, direction_of_word, form, fuota, parsed, port_by, port_of_word, seed_by, seed_of_word, where_none}
 use Rattle.script_lines.specs.Numbers.{decimal_of, ◌>>=◌}
 use Rattle.wire_base.specs.declared.refusal.Direction.{Direction}
 use Rattle.fuota_run.specs.declared.words.FileForm.TheVariants.{Replay, Decode, Capture}
@@ -70,7 +70,7 @@ name_turn s h position word name =
 
 -- ---- a form
 
-abbrev then_asked : Option (Text × List Row) → Option Asked
+abbrev then_asked : Option (Text × List Row) → Option Invocation
 then_asked = option_and_then (λ found. asked_by found.0 found.1)
 
 -- the faults of a form's words, by those of the walk over them and by its end
@@ -79,11 +79,11 @@ faults_by s k w = or_else k (or_else (settle_fault s.rules s.args_override_self 
     (or_else (defaults_fault (settled s.rules w.held).rows s.rules) (check_fault s (finished s.rules w.held) false)))
 
 -- what a form asks for, by the same
-abbrev asks_by : Text → Shape → Kinds → Walk → Option Asked
+abbrev asks_by : Text → Shape → Kinds → Walk → Option Invocation
 asks_by keyword s k w = then_asked (where_none (faults_by s k w) (Some (keyword, finished s.rules w.held)))
 
 -- what it asks for with these words to come
-abbrev asks : Text → Shape → Held → ℕ → List Text → Option Asked
+abbrev asks : Text → Shape → Held → ℕ → List Text → Option Invocation
 asks keyword s h position words = asks_by keyword s (walk_fault s [] (at h position) words) (fold (walked s.rules []) (at h position) words)
 
 -- one name more
@@ -127,7 +127,7 @@ abbrev form_of : Text → Option Shape
 form_of keyword = find (λ s. answers_to keyword (label_of s)) top.subs
 
 -- what is asked for by the end of the program's own words
-abbrev asks_at : Kinds → Walk → Option Asked
+abbrev asks_at : Kinds → Walk → Option Invocation
 asks_at k w = then_asked (where_none
     (or_else k (or_else (option_map_or (λ p. option_map_or (λ s. level_fault s [] nothing_held p.1 false []) (find (λ s. answers_to p.0 (label_of s)) top.subs) []) w.stopped [])
     (or_else (settle_fault top.top.rules top.top.args_override_self w.held)
@@ -247,7 +247,7 @@ seed_name word seed is = name_of seed_of_word word seed (λ more. ap (λ (o : Op
 direction_name : (word : Text) (direction : Direction) → direction_of_word word ≡ Some direction → IsName word
 direction_name word direction is = name_of direction_of_word word direction (λ more. refl) is
 
-abbrev recovers : (image script : Text) → Option ℕ → Option Asked
+abbrev recovers : (image script : Text) → Option ℕ → Option Invocation
 recovers image script found = do
   device ← found
   Some (plays (Recover device) image script)
@@ -270,7 +270,7 @@ replay_form program file name =
     reads_replay program (file ∷ [])
     ∙ takes_name (codes "replay") of_replay nothing_held (behind of_replay 1 file nothing_held) 1 2 file [] name refl refl
 
-abbrev decodes : (file : Text) → Option ℕ → Option Direction → Option Asked
+abbrev decodes : (file : Text) → Option ℕ → Option Direction → Option Invocation
 decodes file port direction = do
   p ← port
   d ← direction
@@ -290,7 +290,7 @@ decode_form program port_word direction_word file port direction first second na
     ∙ ap (λ (o : Option ℕ). decodes file o (direction_of_word direction_word)) first
     ∙ ap (decodes file (Some port)) second
 
-abbrev generates_by : Option ℕ → Option Asked
+abbrev generates_by : Option ℕ → Option Invocation
 generates_by found = do
   seed ← found
   Some (generates seed)

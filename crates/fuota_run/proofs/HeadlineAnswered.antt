@@ -11,20 +11,20 @@ use Rattle.campaign_laws.proofs.HeadlineLaw.{recovers}
 use Rattle.campaign_laws.proofs.Seeds.{generated}
 use Rattle.fuota_run.specs.declared.status.Status.TheVariants as status
 use Rattle.fuota_run.specs.Outside.{Held}
-use Rattle.fuota_run.specs.Words.{Asked}
+use Rattle.fuota_run.specs.Words.{Invocation}
 use Rattle.fuota_run.specs.declared.words.ScriptForm.{ScriptForm}
 use Rattle.fuota_run.specs.declared.words.ScriptForm.TheVariants.{Campaign, Recover}
-use Rattle.fuota_run.specs.Answer.{Answer, answer, not_complete, recovered, told_of, summed_up, played, script_answer, campaign_answer, generate_answer, IsAnswerTo, IsAnswer}
+use Rattle.fuota_run.specs.Answer.{Answer, answer, not_complete, recovered, world_answer, summary_answer, played, script_answer, campaign_answer, generate_answer, IsAnswerTo, IsAnswer}
 use Rattle.fuota_run.specs.Headline.{AreHandedIn, IsRecoveryAnswered, IsSeedAnswered}
 
 -- the answer is what is told of the campaign
 told : (words : List (List ℕ)) (held : Held) (what : ScriptForm) (image script : List ℕ) (world : WorldState)
     → AreHandedIn words held what image script → campaign_of image script ≡ Ok world
-    → (a : Answer) → IsAnswer words held a → a ≡ told_of what world
+    → (a : Answer) → IsAnswer words held a → a ≡ world_answer what world
 unfolding IsAnswer campaign_answer script_answer
 told words held what image script world h is a given =
     let here : a ≡ campaign_answer what (held h.image_name) (held h.script_name) =
-    subst (λ (o : Option Asked). IsAnswerTo o held a) h.form given in
+    subst (λ (o : Option Invocation). IsAnswerTo o held a) h.form given in
     here ∙ rw (h.image_held, le-ltb _ _ h.image_short, h.image_fine, h.script_held, le-ltb _ _ h.script_short, is) refl
 
 pub answered : (words : List (List ℕ)) (held : Held) (image script : List ℕ) (world : WorldState)
@@ -62,4 +62,4 @@ pub seed_answered : IsSeedAnswered
 unfolding IsAnswer generate_answer
 seed_answered words held seed form =
     let its = generated seed in
-    (its.0, its.1, λ a given. subst (λ (o : Option Asked). IsAnswerTo o held a) form given ∙ ap (played (summed_up seed)) its.1.accepted)
+    (its.0, its.1, λ a given. subst (λ (o : Option Invocation). IsAnswerTo o held a) form given ∙ ap (played (summary_answer seed)) its.1.accepted)

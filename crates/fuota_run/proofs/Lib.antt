@@ -1,7 +1,7 @@
 pub mod Named
 pub mod Writing
 pub mod Taken
-pub mod ReplyLemmas
+pub mod AnswerLemmas
 pub mod Outcomes
 pub mod Playing
 pub mod CommandLine

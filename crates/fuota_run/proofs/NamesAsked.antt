@@ -18,8 +18,8 @@ use Rattle.clap.specs.Faults.{fault_of}
 use Rattle.clap.proofs.WalkLemmas.{both}
 use Rattle.script_lines.specs.Numbers.{◌>>=◌}
 use Rattle.fuota_run.specs.Outside.{Held as Contents}
-use Rattle.fuota_run.specs.Words.{Asked, plays, payloads, generates, asked, asked_by, names_asked, campaign_asked, recover_asked, replay_asked, decode_asked, generate_asked, capture_asked, device_of_word, direction_of_word, fuota, parsed, port_of_word, seed_of_word, where_none}
-use Rattle.fuota_run.specs.Reply.{HoldsAsked}
+use Rattle.fuota_run.specs.Words.{Invocation, plays, payloads, generates, asked, asked_by, names_asked, campaign_asked, recover_asked, replay_asked, decode_asked, generate_asked, capture_asked, device_of_word, direction_of_word, fuota, parsed, port_of_word, seed_of_word, where_none}
+use Rattle.fuota_run.specs.Ending.{HoldsInvocation}
 use Rattle.fuota_run.specs.Forms.{NamesAreWords}
 
 -- ---- lists
@@ -349,14 +349,14 @@ found_unless (k ∷ ks) o x is = absurd cc
 
 -- ---- what is asked for
 
-abbrev AreAsked : (Text → Type 0) → Option Asked → Type 0
+abbrev AreAsked : (Text → Type 0) → Option Invocation → Type 0
 AreAsked Is o = AllByRecursion Is (names_asked o)
 
-asked_test : (Is : Text → Type 0) (b : Bool) (x y : Option Asked) → AreAsked Is x → AreAsked Is y → AreAsked Is (if b then x else y)
+asked_test : (Is : Text → Type 0) (b : Bool) (x y : Option Invocation) → AreAsked Is x → AreAsked Is y → AreAsked Is (if b then x else y)
 asked_test Is true x y first second = first
 asked_test Is false x y first second = second
 
-asked_then : {X : Type 0} (Is : Text → Type 0) (o : Option X) (f : X → Option Asked) → ((x : X) → o ≡ Some x → AreAsked Is (f x)) → AreAsked Is (o >>= f)
+asked_then : {X : Type 0} (Is : Text → Type 0) (o : Option X) (f : X → Option Invocation) → ((x : X) → o ≡ Some x → AreAsked Is (f x)) → AreAsked Is (o >>= f)
 asked_then Is None f all = tt
 asked_then Is (Some x) f all = all x refl
 
@@ -414,7 +414,7 @@ among_all before (word ∷ words) = (
   subst (λ (all : List Text). AllByRecursion (Contains all) words) (append_assoc before (word ∷ []) words) (among_all (before ++ word ∷ []) words),
 )
 
-holds_by : (held : Contents) (o : Option Asked) → AllByRecursion (λ name. IsSome (held name)) (names_asked o) → HoldsAsked (Some held) o
+holds_by : (held : Contents) (o : Option Invocation) → AllByRecursion (λ name. IsSome (held name)) (names_asked o) → HoldsInvocation (Some held) o
 holds_by held None all = tt
 holds_by held (Some (plays what image script)) all = (all.0, all.1.0)
 holds_by held (Some (payloads what file)) all = all.0

@@ -3,7 +3,7 @@ use Rattle.std.proofs.Common.{ℕ, List, Option, Some, arith}
 use Rattle.fuota_run.specs.Outside.{Held}
 use Rattle.fuota_run.specs.declared.status.Status.{Status}
 use Rattle.fuota_run.specs.declared.status.Status.TheVariants as status
-use Rattle.fuota_run.specs.Reply.{Ends, AppendsAnswer, IsAnswered, IsSure}
+use Rattle.fuota_run.specs.Ending.{Ends, AppendsAnswer, IsAnswered, IsSure}
 
 answered : (held : Held) (words : List (List ℕ)) (s : Status) (old new : Option (List ℕ)) → AppendsAnswer (Some held) words s old new
     → IsAnswered held words s

@@ -6,8 +6,8 @@ use Rattle.fuota_run.specs.declared.words.FileForm.{FileForm}
 use Rattle.fuota_run.specs.declared.words.FileForm.TheVariants.{Replay, Decode, Capture}
 use Rattle.fuota_run.specs.Outside.{Held}
 use Rattle.report_lines.specs.Lines.{Telling, TellsOnce, TellsAlways}
-use Rattle.fuota_run.specs.Words.{Asked, plays, payloads, generates, asked}
-use Rattle.fuota_run.specs.Answer.{Answer, usage, read_fault, too_long, campaign_answer, generate_answer, tells, told, IsReadAnswer, IsFileAnswer, IsAnswerTo, IsAnswer, HasOneReply, HasAReply}
+use Rattle.fuota_run.specs.Words.{Invocation, plays, payloads, generates, asked}
+use Rattle.fuota_run.specs.Answer.{Answer, usage, read_fault, too_long, campaign_answer, generate_answer, telling_of, text_answer, IsReadAnswer, IsFileAnswer, IsAnswerTo, IsAnswer, HasOneAnswer, HasAnAnswer}
 use Rattle.payload_replay.proofs.CaptureLines.{capture_one, capture_always}
 use Rattle.payload_replay.proofs.Payloads.{decode_one, decode_always}
 use Rattle.payload_replay.proofs.ReplayLines.{replay_one, replay_always}
@@ -16,7 +16,7 @@ read_one : (Tells : Telling) (is_long : Bool) (file : List ℕ) (one other : Ans
     → IsReadAnswer Tells is_long file one → IsReadAnswer Tells is_long file other → one ≡ other
 read_one Tells true file one other once first second = first ∙ sym second
 read_one Tells false file one other once first second =
-    first.2 ∙ ap (λ (said : Result (List ℕ) LineFault). told said) (once file first.0 second.0 first.1 second.1)
+    first.2 ∙ ap (λ (said : Result (List ℕ) LineFault). text_answer said) (once file first.0 second.0 first.1 second.1)
     ∙ sym second.2
 
 file_one : (Tells : Telling) (file : Option (List ℕ)) (one other : Answer) → TellsOnce Tells
@@ -26,45 +26,45 @@ file_one Tells None one other once first second = first ∙ sym second
 file_one Tells (Some file) one other once first second =
     read_one Tells (nat_lt script_limit (length file)) file one other once first second
 
-tells_one : (what : FileForm) → TellsOnce (tells what)
-tells_one Replay = replay_one
-tells_one (Decode port dir) = decode_one port dir
-tells_one Capture = capture_one
+telling_one : (what : FileForm) → TellsOnce (telling_of what)
+telling_one Replay = replay_one
+telling_one (Decode port dir) = decode_one port dir
+telling_one Capture = capture_one
 
-to_one : (what : Option Asked) (held : Held) (one other : Answer) → IsAnswerTo what held one
+to_one : (what : Option Invocation) (held : Held) (one other : Answer) → IsAnswerTo what held one
     → IsAnswerTo what held other → one ≡ other
 to_one None held one other first second = first ∙ sym second
 to_one (Some (plays what image script)) held one other first second = first ∙ sym second
 to_one (Some (generates seed)) held one other first second = first ∙ sym second
 to_one (Some (payloads what file)) held one other first second =
-    file_one (tells what) (held file) one other (tells_one what) first second
+    file_one (telling_of what) (held file) one other (telling_one what) first second
 
-pub reply_one : HasOneReply
+pub one_answer : HasOneAnswer
 unfolding IsAnswer
-reply_one words held one other first second = to_one (asked words) held one other first second
+one_answer words held one other first second = to_one (asked words) held one other first second
 
 -- ---- and all words have one
 
 read_always : (Tells : Telling) (is_long : Bool) (file : List ℕ) → TellsAlways Tells → (a : Answer) × IsReadAnswer Tells is_long file a
 read_always Tells true file always = (too_long script_limit, refl)
-read_always Tells false file always = let said = always file in (told said.0, (said.0, said.1, refl))
+read_always Tells false file always = let said = always file in (text_answer said.0, (said.0, said.1, refl))
 
 file_always : (Tells : Telling) (file : Option (List ℕ)) → TellsAlways Tells → (a : Answer) × IsFileAnswer Tells file a
 unfolding IsFileAnswer
 file_always Tells None always = (read_fault, refl)
 file_always Tells (Some file) always = read_always Tells (nat_lt script_limit (length file)) file always
 
-tells_always : (what : FileForm) → TellsAlways (tells what)
-tells_always Replay = replay_always
-tells_always (Decode port dir) = decode_always port dir
-tells_always Capture = capture_always
+telling_always : (what : FileForm) → TellsAlways (telling_of what)
+telling_always Replay = replay_always
+telling_always (Decode port dir) = decode_always port dir
+telling_always Capture = capture_always
 
-to_always : (what : Option Asked) (held : Held) → (a : Answer) × IsAnswerTo what held a
+to_always : (what : Option Invocation) (held : Held) → (a : Answer) × IsAnswerTo what held a
 to_always None held = (usage, refl)
 to_always (Some (plays what image script)) held = (campaign_answer what (held image) (held script), refl)
 to_always (Some (generates seed)) held = (generate_answer seed, refl)
-to_always (Some (payloads what file)) held = file_always (tells what) (held file) (tells_always what)
+to_always (Some (payloads what file)) held = file_always (telling_of what) (held file) (telling_always what)
 
-pub reply_always : HasAReply
+pub always_answered : HasAnAnswer
 unfolding IsAnswer
-reply_always words held = to_always (asked words) held
+always_answered words held = to_always (asked words) held

@@ -9,8 +9,8 @@ use Rattle.payload_replay.proofs.ReplayLines.{reaches_once}
 use Rattle.fuota_run.specs.declared.words.FileForm.TheVariants.{Replay}
 use Rattle.fuota_run.specs.declared.status.Status.TheVariants as status
 use Rattle.fuota_run.specs.Outside.{Held}
-use Rattle.fuota_run.specs.Words.{Asked, payloads, asked}
-use Rattle.fuota_run.specs.Answer.{Answer, answer, told, IsReadAnswer, IsFileAnswer, IsAnswerTo, IsAnswer}
+use Rattle.fuota_run.specs.Words.{Invocation, payloads, asked}
+use Rattle.fuota_run.specs.Answer.{Answer, answer, text_answer, IsReadAnswer, IsFileAnswer, IsAnswerTo, IsAnswer}
 
 pub answered : (words : List (List ℕ)) (held : Held) (name file : List ℕ) (device : DeviceState)
     → asked words ≡ Some (payloads Replay name) → held name ≡ Some file → length file ≤ 1048576
@@ -18,10 +18,10 @@ pub answered : (words : List (List ℕ)) (held : Held) (name file : List ℕ) (d
     → a ≡ answer status.Done (replay_text device)
 unfolding IsAnswer IsFileAnswer Replays
 answered words held name file device form source short reaches a given =
-    let here : IsFileAnswer Replays (held name) a = subst (λ (o : Option Asked). IsAnswerTo o held a) form given in
+    let here : IsFileAnswer Replays (held name) a = subst (λ (o : Option Invocation). IsAnswerTo o held a) form given in
     let read : IsFileAnswer Replays (Some file) a =
     subst (λ (f : Option (List ℕ)). IsFileAnswer Replays f a) source here in
     let fine : nat_lt 1048576 (length file) ≡ false = le-ltb _ _ short in
     let its : IsReadAnswer Replays false file a = subst (λ (b : Bool). IsReadAnswer Replays b file a) fine read in
     let one : its.1.0 ≡ Ok device = reaches_once (lines_of file) its.1.0 (Ok device) its.1.1 reaches in
-    its.2 ∙ ap told its.1.2 ∙ ap (λ (o : Result DeviceState LineFault). told (told_by (λ d. replay_text d) o)) one
+    its.2 ∙ ap text_answer its.1.2 ∙ ap (λ (o : Result DeviceState LineFault). text_answer (told_by (λ d. replay_text d) o)) one

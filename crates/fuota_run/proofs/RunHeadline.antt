@@ -8,7 +8,7 @@ use Rattle.fuota_run.specs.declared.status.Status.{Status}
 use Rattle.fuota_run.specs.declared.status.Status.TheVariants as status
 use Rattle.fuota_run.specs.Outside.{Held}
 use Rattle.fuota_run.specs.Answer.{Answer, answer, IsAnswer}
-use Rattle.fuota_run.specs.Reply.{AppendsAnswer}
+use Rattle.fuota_run.specs.Ending.{AppendsAnswer}
 use Rattle.fuota_run.specs.Headline.{IsCampaignRun, IsWritten, IsRecoveryRun}
 use Rattle.fuota_run.proofs.HeadlineAnswered.{answered, recovery_answered}
 

@@ -6,7 +6,7 @@ use Rattle.fuota_run.specs.declared.status.Status.TheVariants as status
 use Rattle.fuota_run.specs.Outside.{Held, IsReadSoFar}
 use Rattle.fuota_run.specs.Source.{IsTaken}
 use Rattle.fuota_run.specs.Answer.{Answer}
-use Rattle.fuota_run.specs.Replies.{IsUnread}
+use Rattle.fuota_run.specs.HeldAnswer.{IsUnreadAnswer}
 
 -- what was read so far was taken
 pub taken_so_far : (held : Option Held) (name bytes : List ℕ) (taken : ℕ) (left : Option (List ℕ)) → length bytes ≡ taken → IsReadSoFar held name bytes left → IsTaken held name taken left
@@ -14,7 +14,7 @@ taken_so_far None name bytes taken left long so_far = tt
 taken_so_far (Some h) name bytes taken left long so_far = (bytes, long, so_far)
 
 -- an answer that a source is too long comes from a source that was
-pub unread_taken : (e : SourceError) (a : Answer) (Took : ℕ → Type 0) → IsUnread e a → ((taken : ℕ) → e ≡ error.TooLong taken → Took taken) → (n : ℕ) → a.status ≡ status.TooLong n → Took n
+pub unread_taken : (e : SourceError) (a : Answer) (Took : ℕ → Type 0) → IsUnreadAnswer e a → ((taken : ℕ) → e ≡ error.TooLong taken → Took taken) → (n : ℕ) → a.status ≡ status.TooLong n → Took n
 unread_taken error.Memory a Took is took n long = absurd is
 unread_taken error.Failed a Took is took n long = let s = ap (λ (x : Answer). x.status) is in absurd cc
 unread_taken (error.TooLong m) a Took is took n long =

@@ -11,7 +11,7 @@ use Rattle.fuota_run.specs.declared.words.ScriptForm.TheVariants.{Campaign, Reco
 use Rattle.report_lines.specs.declared.faults.LineFault.{LineFault}
 use Rattle.report_lines.specs.Faults.{fault_line}
 use Rattle.fuota_run.specs.Outside.{Held}
-use Rattle.fuota_run.specs.Words.{Asked, plays, payloads, generates, asked}
+use Rattle.fuota_run.specs.Words.{Invocation, plays, payloads, generates, asked}
 use Rattle.report_lines.specs.Lines.{Telling}
 use Rattle.payload_replay.specs.Capture.{Captures}
 use Rattle.payload_replay.specs.Decode.{Decodes}
@@ -76,13 +76,13 @@ recovered device (Ok file) = answer status.Done file
 recovered device (Err why) = not_complete device why
 
 -- what each form tells of a campaign
-abbrev pub told_of : ScriptForm → WorldState → Answer
-told_of Campaign world = answer status.Done (report_of world)
-told_of (Recover device) world = recovered device (recovery world device)
+abbrev pub world_answer : ScriptForm → WorldState → Answer
+world_answer Campaign world = answer status.Done (report_of world)
+world_answer (Recover device) world = recovered device (recovery world device)
 
 -- the summary of the campaign of a seed
-abbrev pub summed_up : (seed : ℕ) → WorldState → Answer
-summed_up seed world = answer status.Done (codes "generate " ++ decimal seed ++ (codes "\n" ++ summary_of world))
+abbrev pub summary_answer : (seed : ℕ) → WorldState → Answer
+summary_answer seed world = answer status.Done (codes "generate " ++ decimal seed ++ (codes "\n" ++ summary_of world))
 
 -- the answer with what is told of a campaign, or its first refused line
 abbrev pub played : (tell : WorldState → Answer) → Result WorldState LineFault → Answer
@@ -93,7 +93,7 @@ played tell (Err fault) = refused fault
 unfoldable pub script_answer : ScriptForm → List ℕ → Option (List ℕ) → Answer
 script_answer what image None = read_fault
 script_answer what image (Some script) =
-    if nat_lt script_limit (length script) then too_long script_limit else played (told_of what) (campaign_of image script)
+    if nat_lt script_limit (length script) then too_long script_limit else played (world_answer what) (campaign_of image script)
 
 -- the answer to `campaign IMAGE SCRIPT` and to `recover IMAGE SCRIPT DEVICE`: of the image first too long, then refused; then
 -- of the script
@@ -105,20 +105,20 @@ campaign_answer what (Some image) script =
     else image_refused
 
 -- what each form tells of a file of payloads
-abbrev pub tells : FileForm → Telling
-tells Replay = Replays
-tells (Decode port direction) = Decodes port direction
-tells Capture = Captures
+abbrev pub telling_of : FileForm → Telling
+telling_of Replay = Replays
+telling_of (Decode port direction) = Decodes port direction
+telling_of Capture = Captures
 
 -- the answer with what is told of a file of payloads: its text, or its first refused line
-abbrev pub told : Result (List ℕ) LineFault → Answer
-told (Ok text) = answer status.Done text
-told (Err fault) = refused fault
+abbrev pub text_answer : Result (List ℕ) LineFault → Answer
+text_answer (Ok text) = answer status.Done text
+text_answer (Err fault) = refused fault
 
 -- the answer to a file of payloads that was read: it is too long, or what is told of it
 abbrev pub IsReadAnswer : Telling → Bool → List ℕ → Answer → Type 0
 IsReadAnswer Tells true file a = a ≡ too_long script_limit
-IsReadAnswer Tells false file a = (said : Result (List ℕ) LineFault) × Tells file said × (a ≡ told said)
+IsReadAnswer Tells false file a = (said : Result (List ℕ) LineFault) × Tells file said × (a ≡ text_answer said)
 
 -- the answer to a form with one file of payloads
 unfoldable pub IsFileAnswer : Telling → Option (List ℕ) → Answer → Type 0
@@ -127,13 +127,13 @@ IsFileAnswer Tells (Some file) a = IsReadAnswer Tells (nat_lt script_limit (leng
 
 -- the answer to `generate SEED`: the campaign of the seed's image and script, summed up
 unfoldable pub generate_answer : (seed : ℕ) → Answer
-generate_answer seed = played (summed_up seed) (campaign_of (image_of seed) (script_of seed))
+generate_answer seed = played (summary_answer seed) (campaign_of (image_of seed) (script_of seed))
 
 -- the answer to what is asked for, over the files that are held
-abbrev pub IsAnswerTo : Option Asked → Held → Answer → Type 0
+abbrev pub IsAnswerTo : Option Invocation → Held → Answer → Type 0
 IsAnswerTo None held a = a ≡ usage
 IsAnswerTo (Some (plays what image script)) held a = a ≡ campaign_answer what (held image) (held script)
-IsAnswerTo (Some (payloads what file)) held a = IsFileAnswer (tells what) (held file) a
+IsAnswerTo (Some (payloads what file)) held a = IsFileAnswer (telling_of what) (held file) a
 IsAnswerTo (Some (generates seed)) held a = a ≡ generate_answer seed
 
 -- the answer to the words
@@ -141,9 +141,9 @@ unfoldable pub IsAnswer : List (List ℕ) → Held → Answer → Type 0
 IsAnswer words held a = IsAnswerTo (asked words) held a
 
 -- no words have two answers over the files that are held
-abbrev pub HasOneReply : Type 0
-HasOneReply = (words : List (List ℕ)) (held : Held) (one other : Answer) → IsAnswer words held one → IsAnswer words held other → one ≡ other
+abbrev pub HasOneAnswer : Type 0
+HasOneAnswer = (words : List (List ℕ)) (held : Held) (one other : Answer) → IsAnswer words held one → IsAnswer words held other → one ≡ other
 
 -- and all have one
-abbrev pub HasAReply : Type 0
-HasAReply = (words : List (List ℕ)) (held : Held) → (a : Answer) × IsAnswer words held a
+abbrev pub HasAnAnswer : Type 0
+HasAnAnswer = (words : List (List ℕ)) (held : Held) → (a : Answer) × IsAnswer words held a

@@ -9,7 +9,7 @@ use Rattle.clap.specs.Words.{Text}
 use Rattle.fuota_run.specs.declared.words.FileForm.TheVariants.{Replay, Decode, Capture}
 use Rattle.fuota_run.specs.declared.words.ScriptForm.TheVariants.{Campaign, Recover}
 use Rattle.fuota_run.specs.Outside.{Held}
-use Rattle.fuota_run.specs.Reply.{HoldsForm}
+use Rattle.fuota_run.specs.Ending.{HoldsForm}
 use Rattle.fuota_run.specs.Words.{plays, payloads, generates, asked, names_asked, port_of_word, device_of_word, seed_of_word, direction_of_word}
 
 -- a word that is taken as it stands: it does not begin with a dash (45)

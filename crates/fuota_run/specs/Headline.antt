@@ -33,7 +33,7 @@ use Rattle.fuota_run.specs.declared.words.ScriptForm.TheVariants.{Campaign, Reco
 use Rattle.campaign_world.specs.declared.recovery.NoFile.{NoFile}
 use Rattle.campaign_world.specs.Recovery.{recovery}
 use Rattle.fuota_run.specs.Words.{plays, payloads, generates, asked}
-use Rattle.fuota_run.specs.Answer.{Answer, answer, not_complete, summed_up, IsAnswer}
+use Rattle.fuota_run.specs.Answer.{Answer, answer, not_complete, summary_answer, IsAnswer}
 
 -- the words and the files of a form over a campaign: both files are within their limits, and the image is an image file
 pub record AreHandedIn (words : List (List ℕ)) (held : Held) (what : ScriptForm) (image script : List ℕ) : Type 0 where
@@ -98,7 +98,7 @@ pub record IsCaptureAnswered : Type 0 where
 -- whatever seed is asked for, no line of its campaign is refused, and the answer is what that comes to
 abbrev pub IsSeedAnswered : Type 0
 IsSeedAnswered = (words : List (List ℕ)) (held : Held) (seed : ℕ) → asked words ≡ Some (generates seed)
-    → (world : WorldState) × IsCampaignOf seed world × ((a : Answer) → IsAnswer words held a → a ≡ summed_up seed world)
+    → (world : WorldState) × IsCampaignOf seed world × ((a : Answer) → IsAnswer words held a → a ≡ summary_answer seed world)
 
 -- ---- the same of a run: its status, and the bytes of the sink before and after it
 

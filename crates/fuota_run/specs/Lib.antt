@@ -7,9 +7,9 @@ pub mod System
 pub mod Words
 pub mod Forms
 pub mod Answer
-pub mod Reply
+pub mod Ending
 pub mod Hearing
-pub mod Replies
+pub mod HeldAnswer
 pub mod Exit
 pub mod Headline
 pub mod WorkedAnswers

@@ -1,7 +1,7 @@
 -- What reading a whole source answers.
 use Rattle.std.specs.Prelude.{◌≡◌, ◌⊎◌, ℕ, ◌<◌, List, length, ⊤, Option, None, Some, IfSome}
 use Rattle.fuota_run.specs.Outside.{Held, IsReadSoFar}
-use Rattle.fuota_run.specs.Words.{Asked, plays, payloads, generates}
+use Rattle.fuota_run.specs.Words.{Invocation, plays, payloads, generates}
 
 -- where it is told what the name holds: all of it, within the limit; or it goes on behind the limit
 abbrev pub IsSource : Option Held → List ℕ → ℕ → List ℕ → Type 0
@@ -18,7 +18,7 @@ IsTaken None name taken left = ⊤
 IsTaken (Some held) name taken left = (bytes : List ℕ) × (length bytes ≡ taken) × IsReadSoFar (Some held) name bytes left
 
 -- so many of a file that is asked for
-abbrev pub IsTakenOf : Option Held → Option Asked → ℕ → Option (List ℕ) → Type 0
+abbrev pub IsTakenOf : Option Held → Option Invocation → ℕ → Option (List ℕ) → Type 0
 IsTakenOf held None taken left = ⊥
 IsTakenOf held (Some (plays what image script)) taken left = IsTaken held image taken left ⊎ IsTaken held script taken left
 IsTakenOf held (Some (payloads what file)) taken left = IsTaken held file taken left

@@ -6,8 +6,8 @@ use Rattle.wire_base.specs.declared.refusal.Direction.TheVariants.{Down, Up}
 use Rattle.clap.specs.declared.builder.command.Command.{Command}
 use Rattle.clap.specs.declared.builder.command.Command.TheViews.{out-Command}
 use Rattle.clap.specs.Words.{App, Kinds, Shape, Row, Rule, Text, app_of, fault_of, first_of, new_app, new_rule, subcommand_of, with_rule, with_subcommand}
-use Rattle.fuota_run.specs.declared.words.Asked.{Asked as Read}
-use Rattle.fuota_run.specs.declared.words.Asked.TheVariants as read
+use Rattle.fuota_run.specs.declared.words.Invocation.{Invocation as Read}
+use Rattle.fuota_run.specs.declared.words.Invocation.TheVariants as read
 use Rattle.fuota_run.specs.declared.words.FileForm.{FileForm}
 use Rattle.fuota_run.specs.declared.words.FileForm.TheVariants.{Replay, Decode, Capture}
 use Rattle.fuota_run.specs.declared.words.ScriptForm.{ScriptForm}
@@ -56,10 +56,10 @@ parsed words = where_none (fault_of fuota words) (subcommand_of fuota words)
 -- ---- what is asked for
 
 -- what is told of the campaign of an image and a script, or of a file of payloads, or of the campaign that a seed makes
-pub data Asked : Type 0 where
-  plays : (what : ScriptForm) (image script : List ℕ) → Asked
-  payloads : (what : FileForm) (file : List ℕ) → Asked
-  generates : (seed : ℕ) → Asked
+pub data Invocation : Type 0 where
+  plays : (what : ScriptForm) (image script : List ℕ) → Invocation
+  payloads : (what : FileForm) (file : List ℕ) → Invocation
+  generates : (seed : ℕ) → Invocation
 
 -- a decimal from 200 to 203
 abbrev pub port_by : ℕ → Option ℕ
@@ -85,13 +85,13 @@ seed_of_word word = decimal_of word >>= seed_by
 abbrev pub direction_of_word : Text → Option Direction
 direction_of_word word = if bytes_eq word (codes "down") then Some Down else if bytes_eq word (codes "up") then Some Up else None
 
-abbrev pub campaign_asked : List Row → Option Asked
+abbrev pub campaign_asked : List Row → Option Invocation
 campaign_asked rows = do
   image ← first_of (codes "IMAGE") rows
   script ← first_of (codes "SCRIPT") rows
   Some (plays Campaign image script)
 
-abbrev pub recover_asked : List Row → Option Asked
+abbrev pub recover_asked : List Row → Option Invocation
 recover_asked rows = do
   image ← first_of (codes "IMAGE") rows
   script ← first_of (codes "SCRIPT") rows
@@ -99,12 +99,12 @@ recover_asked rows = do
   device ← device_of_word device_word
   Some (plays (Recover device) image script)
 
-abbrev pub replay_asked : List Row → Option Asked
+abbrev pub replay_asked : List Row → Option Invocation
 replay_asked rows = do
   file ← first_of (codes "FILE") rows
   Some (payloads Replay file)
 
-abbrev pub decode_asked : List Row → Option Asked
+abbrev pub decode_asked : List Row → Option Invocation
 decode_asked rows = do
   port_word ← first_of (codes "PORT") rows
   port ← port_of_word port_word
@@ -113,18 +113,18 @@ decode_asked rows = do
   file ← first_of (codes "FILE") rows
   Some (payloads (Decode port direction) file)
 
-abbrev pub generate_asked : List Row → Option Asked
+abbrev pub generate_asked : List Row → Option Invocation
 generate_asked rows = do
   seed_word ← first_of (codes "SEED") rows
   seed ← seed_of_word seed_word
   Some (generates seed)
 
-abbrev pub capture_asked : List Row → Option Asked
+abbrev pub capture_asked : List Row → Option Invocation
 capture_asked rows = do
   file ← first_of (codes "FILE") rows
   Some (payloads Capture file)
 
-unfoldable pub asked_by : Text → List Row → Option Asked
+unfoldable pub asked_by : Text → List Row → Option Invocation
 asked_by keyword rows =
     if bytes_eq keyword (codes "campaign") then campaign_asked rows
     else if bytes_eq keyword (codes "recover") then recover_asked rows
@@ -135,18 +135,18 @@ asked_by keyword rows =
     else None
 
 -- what the words ask for; none where they are no form
-unfoldable pub asked : List Text → Option Asked
+unfoldable pub asked : List Text → Option Invocation
 asked words = option_and_then (λ found. asked_by found.0 found.1) (parsed words)
 
 -- the names of the files that are asked for
-abbrev pub names_asked : Option Asked → List Text
+abbrev pub names_asked : Option Invocation → List Text
 names_asked None = []
 names_asked (Some (plays what image script)) = image ∷ script ∷ []
 names_asked (Some (payloads what file)) = file ∷ []
 names_asked (Some (generates seed)) = []
 
 -- whether there are any
-abbrev pub asks_files : Option Asked → Bool
+abbrev pub asks_files : Option Invocation → Bool
 asks_files None = false
 asks_files (Some (plays what image script)) = true
 asks_files (Some (payloads what file)) = true
@@ -155,7 +155,7 @@ asks_files (Some (generates seed)) = false
 -- ---- as it is held
 
 -- the same with the words as they were handed in
-abbrev pub seen_asked : Option Read → Option Asked
+abbrev pub seen_asked : Option Read → Option Invocation
 seen_asked None = None
 seen_asked (Some (read.Script what image script)) = Some (plays what image.now script.now)
 seen_asked (Some (read.Payloads what file)) = Some (payloads what file.now)

@@ -1,6 +1,6 @@
 //! Laws about the definitions, each the contract of a function that does nothing.
 
-ghost use Rattle.fuota_run.specs.Answer.{HasAReply, HasOneReply};
+ghost use Rattle.fuota_run.specs.Answer.{HasAnAnswer, HasOneAnswer};
 ghost use Rattle.fuota_run.specs.Forms.{NamesAreWords, OtherCountsAreNone, WordsAreForms};
 ghost use Rattle.fuota_run.specs.WorkedAnswers.{AreAnswers};
 ghost use Rattle.fuota_run.specs.Headline.{IsCaptureAnswered, IsRecoveryAnswered, IsReplayAnswered, IsReportAnswered, IsSeedAnswered};
@@ -37,8 +37,8 @@ pub fn seeds_are_summed_up()
 
 /// Words have one answer over the files that are held: one status, and one text.
 pub fn run_has_one_answer()
-    ensures once { HasOneReply }
-    ensures always { HasAReply }
+    ensures once { HasOneAnswer }
+    ensures always { HasAnAnswer }
 {}
 
 /// A keyword and its names, which do not begin with a dash, are that form.

@@ -9,12 +9,12 @@
 //!     let code = status.code();
 #![tactic(auto)]
 
+mod answers;
 mod files;
 mod hearing;
 mod laws;
 mod memory;
 mod output;
-mod reply;
 mod running;
 mod sink;
 mod source;

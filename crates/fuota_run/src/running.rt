@@ -8,22 +8,22 @@ ghost use Rattle.fuota_run.specs.Words.{plays, payloads, generates, asked, seen_
 ghost use Rattle.payload_replay.specs.HeldCapturing.{CapturingStands};
 ghost use Rattle.payload_replay.specs.HeldDecoding.{DecodingStands};
 ghost use Rattle.payload_replay.specs.HeldReplaying.{ReplayingStands};
-ghost use Rattle.fuota_run.specs.Reply.{HoldsForm, HoldsAsked, OutsideFiles, Replies, IsImageRead, IsReadUp, Ends, AppendsAnswer, IsNoForm, IsFinished, IsFaultless};
+ghost use Rattle.fuota_run.specs.Ending.{HoldsForm, HoldsInvocation, OutsideFiles, IsSoundAnswer, IsImageRead, IsReadUp, Ends, AppendsAnswer, IsNoForm, IsFinished, IsFaultless};
 ghost use Rattle.fuota_run.specs.Headline.{IsCampaignRun, IsRecoveryRun};
 ghost use Rattle.fuota_run.specs.Source.{IsTakenOf};
-ghost use Rattle.fuota_run.specs.Replies.{answer_in};
+ghost use Rattle.fuota_run.specs.HeldAnswer.{answer_in};
 ghost use Rattle.campaign_world.specs.World.{first_world};
 ghost use Rattle.campaign_world.specs.HeldWorld.{WorldStands};
 
+use crate::answers::{Answer, answer_of, answer_with, text_answer, unread_answer};
 use crate::files::Files;
 use crate::hearing::hear_source;
 use crate::output::write_text;
-use crate::reply::{Reply, reply_of, reply_with, say, unread};
 use crate::sink::Sink;
 use crate::source::read_source;
 use crate::status::Status;
-use crate::telling::{sum_up, tell_of};
-use crate::words::{Asked, FileForm, ScriptForm, read_words};
+use crate::telling::{seed_answer, world_answer};
+use crate::words::{FileForm, Invocation, ScriptForm, read_words};
 use campaign_generator::generate;
 use campaign_world::World;
 use image_slots::is_image;
@@ -82,20 +82,20 @@ pub fn run<F: Files, O: Sink>(alloc: Global, words: &[String], files: &mut F, ou
     // Where a source is too long, so many bytes of it were taken as the status says, and no more.
     ensures taken { (taken : ℕ) → result ≡ Status.TooLong taken → IsTakenOf (F.held files.old) (asked (map string_bytes words.now)) taken (F.left files.new) }
 {
-    match reply_to(alloc, words, files) {
+    match answer_to(alloc, words, files) {
         Err(_) => Status::Memory,
-        Ok(reply) => match write_text(out, &reply.text) {
-            Ok(()) => reply.status,
+        Ok(answer) => match write_text(out, &answer.text) {
+            Ok(()) => answer.status,
             Err(_) => Status::WriteFault,
         },
     }
 }
 
-/// What the words say over the files.
-#[tactic(auto, using(crate::proofs::ReplyLemmas::holds_asked))]
-fn reply_to<F: Files>(alloc: Global, words: &[String], files: &mut F) -> Result<Reply, AllocError>
+/// The answer to the words over the files.
+#[tactic(auto, using(crate::proofs::AnswerLemmas::holds_asked))]
+fn answer_to<F: Files>(alloc: Global, words: &[String], files: &mut F) -> Result<Answer, AllocError>
     requires { HoldsForm (F.held files.old) (map string_bytes words.now) }
-    ensures reply { IfOk result (λ r. Replies (asked (map string_bytes words.now)) (record {
+    ensures answer { IfOk result (λ r. IsSoundAnswer (asked (map string_bytes words.now)) (record {
       held = F.held files.old;
       before = F.faults files.old;
       after = F.faults files.new;
@@ -104,19 +104,19 @@ fn reply_to<F: Files>(alloc: Global, words: &[String], files: &mut F) -> Result<
     ensures untouched { asks_files (asked (map string_bytes words.now)) ≡ false → files.new ≡ files.old }
 {
     match read_words(alloc, words) {
-        Ok(what) => reply_for(alloc, what, files),
+        Ok(what) => answer_for(alloc, what, files),
         Err(error) => Err(error),
     }
 }
 
-/// What is said over the files to what is asked for.
-fn reply_for<F: Files>(
+/// The answer to what is asked for over the files.
+fn answer_for<F: Files>(
     alloc: Global,
-    what: Option<Asked>,
+    what: Option<Invocation>,
     files: &mut F,
-) -> Result<Reply, AllocError>
-    requires { HoldsAsked (F.held files.old) (seen_asked what) }
-    ensures reply { IfOk result (λ r. Replies (seen_asked what.entry) (record {
+) -> Result<Answer, AllocError>
+    requires { HoldsInvocation (F.held files.old) (seen_asked what) }
+    ensures answer { IfOk result (λ r. IsSoundAnswer (seen_asked what.entry) (record {
       held = F.held files.old;
       before = F.faults files.old;
       after = F.faults files.new;
@@ -125,30 +125,30 @@ fn reply_for<F: Files>(
     ensures untouched { asks_files (seen_asked what.entry) ≡ false → files.new ≡ files.old }
 {
     match what {
-        None => say(alloc, Status::Usage, USAGE),
+        None => answer_with(alloc, Status::Usage, USAGE),
         Some(
-            Asked::Script {
+            Invocation::Script {
                 what,
                 image,
                 script,
             },
         ) => campaign(alloc, files, what, image, script),
-        Some(Asked::Payloads { what, file }) => payloads(alloc, files, what, file),
-        Some(Asked::Generate { seed }) => generated(alloc, seed),
+        Some(Invocation::Payloads { what, file }) => payloads(alloc, files, what, file),
+        Some(Invocation::Generate { seed }) => generated(alloc, seed),
     }
 }
 
-/// The reply to a form over a campaign.
+/// The answer to a form over a campaign.
 fn campaign<F: Files>(
     alloc: Global,
     files: &mut F,
     what: ScriptForm,
     image_name: &str,
     script_name: &str,
-) -> Result<Reply, AllocError>
+) -> Result<Answer, AllocError>
     requires image { HoldsName (F.held files.old) image_name.now }
     requires script { HoldsName (F.held files.old) script_name.now }
-    ensures { IfOk result (λ r. Replies (Some (plays what image_name.now script_name.now)) (record {
+    ensures { IfOk result (λ r. IsSoundAnswer (Some (plays what image_name.now script_name.now)) (record {
       held = F.held files.old;
       before = F.faults files.old;
       after = F.faults files.new;
@@ -157,26 +157,26 @@ fn campaign<F: Files>(
 {
     let image = match read_source(alloc, files, image_name, IMAGE_LIMIT) {
         Ok(image) => image,
-        Err(error) => return unread(alloc, error),
+        Err(error) => return unread_answer(alloc, error),
     };
     if !is_image(&image) {
-        return say(alloc, Status::ImageRefused, "image refused\n");
+        return answer_with(alloc, Status::ImageRefused, "image refused\n");
     }
     script(alloc, files, what, &image, script_name)
 }
 
-/// The reply once the image is an image file, whatever its name.
+/// The answer once the image is an image file, whatever its name.
 fn script<F: Files>(
     alloc: Global,
     files: &mut F,
     what: ScriptForm,
     image: &[u8],
     name: &str,
-) -> Result<Reply, AllocError>
+) -> Result<Answer, AllocError>
     requires image { is_image image.now ≡ true }
     requires script { HoldsName (F.held files.old) name.now }
     ensures { (image_name : List ℕ) → IsImageRead (F.held files.old) image_name image.now
-        → IfOk result (λ r. Replies (Some (plays what image_name name.now)) (record {
+        → IfOk result (λ r. IsSoundAnswer (Some (plays what image_name name.now)) (record {
           held = F.held files.old;
           before = F.faults files.old;
           after = F.faults files.new;
@@ -187,19 +187,19 @@ fn script<F: Files>(
     hear_script(alloc, files, what, &mut heard, name)
 }
 
-/// The reply behind the script that a new campaign hears.
+/// The answer behind the script that a new campaign hears.
 fn hear_script<F: Files>(
     alloc: Global,
     files: &mut F,
     what: ScriptForm,
     heard: &mut World,
     name: &str,
-) -> Result<Reply, AllocError>
+) -> Result<Answer, AllocError>
     requires script { HoldsName (F.held files.old) name.now }
     requires fresh { heard.old.kept ≡ None }
     ensures { (image image_name : List ℕ) → WorldStands heard.old (first_world image)
         → IsImageRead (F.held files.old) image_name image
-        → IfOk result (λ r. Replies (Some (plays what image_name name.now)) (record {
+        → IfOk result (λ r. IsSoundAnswer (Some (plays what image_name name.now)) (record {
           held = F.held files.old;
           before = F.faults files.old;
           after = F.faults files.new;
@@ -207,20 +207,20 @@ fn hear_script<F: Files>(
         }) (answer_in r)) }
 {
     match hear_source(files, name, SCRIPT_LIMIT, heard) {
-        Ok(()) => reply_of(alloc, tell_of(alloc, what, heard)),
-        Err(error) => unread(alloc, error),
+        Ok(()) => answer_of(alloc, world_answer(alloc, what, heard)),
+        Err(error) => unread_answer(alloc, error),
     }
 }
 
-/// The reply to a form with one file of payloads.
+/// The answer to a form with one file of payloads.
 fn payloads<F: Files>(
     alloc: Global,
     files: &mut F,
     what: FileForm,
     name: &str,
-) -> Result<Reply, AllocError>
+) -> Result<Answer, AllocError>
     requires { HoldsName (F.held files.old) name.now }
-    ensures { IfOk result (λ r. Replies (Some (payloads what name.now)) (record {
+    ensures { IfOk result (λ r. IsSoundAnswer (Some (payloads what name.now)) (record {
       held = F.held files.old;
       before = F.faults files.old;
       after = F.faults files.new;
@@ -243,16 +243,16 @@ fn payloads<F: Files>(
     }
 }
 
-/// The reply behind the file of payloads that a new replay hears.
+/// The answer behind the file of payloads that a new replay hears.
 fn hear_replay<F: Files>(
     alloc: Global,
     files: &mut F,
     heard: &mut Replaying,
     name: &str,
-) -> Result<Reply, AllocError>
+) -> Result<Answer, AllocError>
     requires file { HoldsName (F.held files.old) name.now }
     requires fresh { ReplayingStands heard.old [] }
-    ensures { IfOk result (λ r. Replies (Some (payloads Replay name.now)) (record {
+    ensures { IfOk result (λ r. IsSoundAnswer (Some (payloads Replay name.now)) (record {
       held = F.held files.old;
       before = F.faults files.old;
       after = F.faults files.new;
@@ -260,21 +260,21 @@ fn hear_replay<F: Files>(
     }) (answer_in r)) }
 {
     match hear_source(files, name, SCRIPT_LIMIT, heard) {
-        Ok(()) => reply_with(alloc, heard.text()),
-        Err(error) => unread(alloc, error),
+        Ok(()) => text_answer(alloc, heard.text()),
+        Err(error) => unread_answer(alloc, error),
     }
 }
 
-/// The reply behind the file of payloads that a new decoding hears.
+/// The answer behind the file of payloads that a new decoding hears.
 fn hear_decode<F: Files>(
     alloc: Global,
     files: &mut F,
     mut heard: Decoding,
     name: &str,
-) -> Result<Reply, AllocError>
+) -> Result<Answer, AllocError>
     requires file { HoldsName (F.held files.old) name.now }
     requires fresh { DecodingStands heard.port heard.direction heard [] }
-    ensures { IfOk result (λ r. Replies (Some (payloads (Decode heard.port heard.direction) name.now)) (record {
+    ensures { IfOk result (λ r. IsSoundAnswer (Some (payloads (Decode heard.port heard.direction) name.now)) (record {
       held = F.held files.old;
       before = F.faults files.old;
       after = F.faults files.new;
@@ -282,21 +282,21 @@ fn hear_decode<F: Files>(
     }) (answer_in r)) }
 {
     match hear_source(files, name, SCRIPT_LIMIT, &mut heard) {
-        Ok(()) => reply_with(alloc, heard.text()),
-        Err(error) => unread(alloc, error),
+        Ok(()) => text_answer(alloc, heard.text()),
+        Err(error) => unread_answer(alloc, error),
     }
 }
 
-/// The reply behind the file of JSON lines that a new capture hears.
+/// The answer behind the file of JSON lines that a new capture hears.
 fn hear_capture<F: Files>(
     alloc: Global,
     files: &mut F,
     mut heard: Capturing,
     name: &str,
-) -> Result<Reply, AllocError>
+) -> Result<Answer, AllocError>
     requires file { HoldsName (F.held files.old) name.now }
     requires fresh { CapturingStands heard [] }
-    ensures { IfOk result (λ r. Replies (Some (payloads Capture name.now)) (record {
+    ensures { IfOk result (λ r. IsSoundAnswer (Some (payloads Capture name.now)) (record {
       held = F.held files.old;
       before = F.faults files.old;
       after = F.faults files.new;
@@ -304,19 +304,16 @@ fn hear_capture<F: Files>(
     }) (answer_in r)) }
 {
     match hear_source(files, name, SCRIPT_LIMIT, &mut heard) {
-        Ok(()) => reply_with(alloc, heard.text()),
-        Err(error) => unread(alloc, error),
+        Ok(()) => text_answer(alloc, heard.text()),
+        Err(error) => unread_answer(alloc, error),
     }
 }
 
-/// The reply to a seed, whatever the files.
-fn generated(alloc: Global, seed: u32) -> Result<Reply, AllocError>
+/// The answer to a seed, whatever the files.
+fn generated(alloc: Global, seed: u32) -> Result<Answer, AllocError>
     ensures { (files : OutsideFiles) → files.after ≡ files.before
-        → IfOk result (λ r. Replies (Some (generates seed)) files (answer_in r)) }
+        → IfOk result (λ r. IsSoundAnswer (Some (generates seed)) files (answer_in r)) }
 {
     let made = generate(alloc, seed)?;
-    reply_of(alloc, sum_up(alloc, seed, &made.image, &made.script))
+    answer_of(alloc, seed_answer(alloc, seed, &made.image, &made.script))
 }
-
-#[cfg(test)]
-mod tests;

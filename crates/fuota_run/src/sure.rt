@@ -2,7 +2,7 @@
 
 ghost use Rattle.std.specs.Prelude.{◌≡◌, false, [], map, None, Some, string_bytes};
 ghost use Rattle.fuota_run.specs.Memory.{held_by};
-ghost use Rattle.fuota_run.specs.Reply.{HoldsForm, IsSure};
+ghost use Rattle.fuota_run.specs.Ending.{HoldsForm, IsSure};
 
 use crate::files::{Failed, Files};
 use crate::memory::{bytes_in, place_of, read_from};

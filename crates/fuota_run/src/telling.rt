@@ -1,46 +1,52 @@
 //! What is told of a campaign: its report, the file that a device recovered, or its summary.
 
-ghost use Rattle.std.specs.Prelude.{◌≡◌, ◌++◌, true, None, Result, Ok, IfOk, codes, string_bytes};
+ghost use Rattle.std.specs.Prelude.{◌≡◌, ◌++◌, true, Result, IfOk, codes, string_bytes};
 ghost use Rattle.std.specs.Fmt.{decimal};
 ghost use Rattle.image_slots.specs.Image.{is_image};
-ghost use Rattle.script_lines.specs.Lines.{lines_of};
 ghost use Rattle.report_lines.specs.declared.faults.LineFault.{LineFault};
 ghost use Rattle.campaign_world.specs.Recovery.{recovery};
-ghost use Rattle.campaign_world.specs.World.{WorldState, first_world};
+ghost use Rattle.campaign_world.specs.World.{WorldState};
 ghost use Rattle.campaign_world.specs.HeldWorld.{WorldStands};
-ghost use Rattle.campaign_world.specs.Script.{read_lines, end_result, campaign_of};
-ghost use Rattle.fuota_run.specs.Answer.{no_file_word, recovered, told_of, summed_up};
-ghost use Rattle.fuota_run.specs.Reply.{IsPlayed};
+ghost use Rattle.campaign_world.specs.Script.{end_result, campaign_of};
+ghost use Rattle.fuota_run.specs.Answer.{no_file_word, recovered, world_answer, summary_answer};
+ghost use Rattle.fuota_run.specs.Ending.{IsPlayed};
 ghost use Rattle.campaign_world.specs.HeardWorld.{WorldIsIf};
-ghost use Rattle.fuota_run.specs.Replies.{seen_reply, IsBehind, IsRecovery};
+ghost use Rattle.fuota_run.specs.HeldAnswer.{seen_answer, IsRecovery};
 
-use crate::reply::Reply;
+use crate::answers::Answer;
 use crate::status::Status;
 use crate::words::ScriptForm;
 use campaign_world::{NoFile, World};
 use report_lines::LineError;
-use script_lines::first_line;
+use script_lines::{Lines, hear_last, hear_piece};
 use std::alloc::{AllocError, Global};
 
 /// The summary of the campaign that image and script define.
-pub fn sum_up(alloc: Global, seed: u32, image: &[u8], script: &[u8]) -> Result<Reply, LineError>
+pub fn seed_answer(
+    alloc: Global,
+    seed: u32,
+    image: &[u8],
+    script: &[u8],
+) -> Result<Answer, LineError>
     requires { is_image image.now ≡ true }
-    ensures { IsPlayed (summed_up seed) (campaign_of image.now script.now) (seen_reply result) }
+    ensures { IsPlayed (summary_answer seed) (campaign_of image.now script.now) (seen_answer result) }
 {
-    match play(alloc, image, script) {
-        Ok(world) => sum_of(alloc, seed, &world),
-        Err(error) => Err(error),
-    }
+    let Ok(mut heard) = World::new(alloc, image) else {
+        return Err(LineError::Memory);
+    };
+    let mut lines = Lines::new();
+    hear_piece(&mut lines, script, &mut heard);
+    hear_last(&mut lines, &mut heard);
+    summary_answer(alloc, seed, &heard)
 }
 
-/// The summary of a campaign whose script has ended.
-fn sum_of(alloc: Global, seed: u32, world: &World) -> Result<Reply, LineError>
-    requires { world.now.kept ≡ None }
-    ensures { (w : WorldState) → WorldStands world.now w → IsPlayed (summed_up seed) (end_result (Ok w)) (seen_reply result) }
+/// The summary of a campaign behind the lines that it has heard.
+fn summary_answer(alloc: Global, seed: u32, world: &World) -> Result<Answer, LineError>
+    ensures { (so_far : Result WorldState LineFault) → WorldIsIf world.now so_far → IsPlayed (summary_answer seed) (end_result so_far) (seen_answer result) }
 {
     match world.summary(alloc) {
-        Ok(summary) => match summed_text(alloc, seed, &summary) {
-            Ok(text) => Ok(Reply {
+        Ok(summary) => match summary_text(alloc, seed, &summary) {
+            Ok(text) => Ok(Answer {
                 status: Status::Done,
                 text,
             }),
@@ -50,7 +56,7 @@ fn sum_of(alloc: Global, seed: u32, world: &World) -> Result<Reply, LineError>
     }
 }
 
-fn summed_text(alloc: Global, seed: u32, summary: &[u8]) -> Result<Vec<u8>, AllocError>
+fn summary_text(alloc: Global, seed: u32, summary: &[u8]) -> Result<Vec<u8>, AllocError>
     ensures { IfOk result (λ text. text.items ≡ codes "generate " ++ decimal seed ++ (codes "\n" ++ summary.now)) }
 {
     let mut text = first_line_of(alloc, seed)?.into_bytes();
@@ -64,32 +70,13 @@ fn first_line_of(alloc: Global, seed: u32) -> Result<String, AllocError>
     format!(in alloc; "generate {seed}\n")
 }
 
-/// The campaign behind all lines of a script.
-fn play(alloc: Global, image: &[u8], script: &[u8]) -> Result<World, LineError>
-    requires { is_image image.now ≡ true }
-    ensures { IsBehind (read_lines (Ok (first_world image.now)) (lines_of script.now)) result }
-{
-    let Ok(mut world) = World::new(alloc, image) else {
-        return Err(LineError::Memory);
-    };
-    let mut rest = script;
-    while !rest.is_empty() {
-        let (line, behind) = first_line(rest);
-        match world.line(line) {
-            Ok(()) => rest = behind,
-            Err(error) => return Err(error),
-        }
-    }
-    Ok(world)
-}
-
 /// What is told of a campaign behind the lines that it has heard.
-pub fn tell_of(alloc: Global, what: ScriptForm, world: &World) -> Result<Reply, LineError>
-    ensures { (so_far : Result WorldState LineFault) → WorldIsIf world.now so_far → IsPlayed (told_of what) (end_result so_far) (seen_reply result) }
+pub fn world_answer(alloc: Global, what: ScriptForm, world: &World) -> Result<Answer, LineError>
+    ensures { (so_far : Result WorldState LineFault) → WorldIsIf world.now so_far → IsPlayed (world_answer what) (end_result so_far) (seen_answer result) }
 {
     match what {
         ScriptForm::Campaign => match world.report(alloc) {
-            Ok(text) => Ok(Reply {
+            Ok(text) => Ok(Answer {
                 status: Status::Done,
                 text,
             }),
@@ -103,19 +90,19 @@ pub fn tell_of(alloc: Global, what: ScriptForm, world: &World) -> Result<Reply, 
 }
 
 /// The file that a device recovered, or how it stands.
-fn recovery(alloc: Global, device: u8, world: &World) -> Result<Reply, LineError>
-    ensures { (w : WorldState) → WorldStands world.now w → IsRecovery (recovered device (recovery w device)) (seen_reply result) }
+fn recovery(alloc: Global, device: u8, world: &World) -> Result<Answer, LineError>
+    ensures { (w : WorldState) → WorldStands world.now w → IsRecovery (recovered device (recovery w device)) (seen_answer result) }
 {
     match world.recovered(device) {
         Ok(file) => match file.to_vec(alloc) {
-            Ok(text) => Ok(Reply {
+            Ok(text) => Ok(Answer {
                 status: Status::Done,
                 text,
             }),
             Err(_) => Err(LineError::Memory),
         },
         Err(why) => match not_complete_text(alloc, device, no_file_word(why)) {
-            Ok(text) => Ok(Reply {
+            Ok(text) => Ok(Answer {
                 status: Status::NotComplete,
                 text: text.into_bytes(),
             }),

@@ -11,7 +11,7 @@ use wire_base::Direction;
 
 /// What the words ask for.
 #[derive(Clone, Copy, Debug)]
-pub enum Asked<'a> {
+pub enum Invocation<'a> {
     /// A form over a campaign: what is told of it.
     Script {
         what: ScriptForm,
@@ -50,7 +50,10 @@ pub enum FileForm {
 }
 
 /// What the words ask for, the first of them being the program's name; None exactly where they are no form.
-pub fn read_words<'a>(alloc: Global, words: &'a [String]) -> Result<Option<Asked<'a>>, AllocError>
+pub fn read_words<'a>(
+    alloc: Global,
+    words: &'a [String],
+) -> Result<Option<Invocation<'a>>, AllocError>
     ensures { IfOk result (λ o. seen_asked o ≡ asked (map string_bytes words.now)) }
 {
     let command = fuota(alloc)?;
@@ -128,7 +131,7 @@ fn offering<'a>(command: Command<'a>, form: Command<'a>) -> Result<Command<'a>, 
 }
 
 /// What was found: the form that was named, and the words behind it.
-fn found_in<'a>(matches: &ArgMatches<'a>) -> Option<Asked<'a>>
+fn found_in<'a>(matches: &ArgMatches<'a>) -> Option<Invocation<'a>>
     ensures { seen_asked result ≡ option_and_then (λ found. asked_by found.0 found.1) (subcommand_rows_of matches.now) }
 {
     match matches.subcommand() {
@@ -138,7 +141,7 @@ fn found_in<'a>(matches: &ArgMatches<'a>) -> Option<Asked<'a>>
 }
 
 #[tactic(auto, unfolding(crate::specs::Words::asked_by))]
-fn asked_by<'a>(keyword: &str, found: &ArgMatches<'a>) -> Option<Asked<'a>>
+fn asked_by<'a>(keyword: &str, found: &ArgMatches<'a>) -> Option<Invocation<'a>>
     ensures { seen_asked result ≡ asked_by keyword.now (rows_of (found_of found.now)) }
 {
     if keyword == "campaign" {
@@ -164,65 +167,65 @@ fn word_of<'a>(found: &ArgMatches<'a>, name: &str) -> Option<&'a str>
     found.get_str(name)
 }
 
-fn campaign_asked<'a>(found: &ArgMatches<'a>) -> Option<Asked<'a>>
+fn campaign_asked<'a>(found: &ArgMatches<'a>) -> Option<Invocation<'a>>
     ensures { seen_asked result ≡ campaign_asked (rows_of (found_of found.now)) }
 {
     let image = word_of(found, "IMAGE")?;
     let script = word_of(found, "SCRIPT")?;
-    Some(Asked::Script {
+    Some(Invocation::Script {
         what: ScriptForm::Campaign,
         image,
         script,
     })
 }
 
-fn recover_asked<'a>(found: &ArgMatches<'a>) -> Option<Asked<'a>>
+fn recover_asked<'a>(found: &ArgMatches<'a>) -> Option<Invocation<'a>>
     ensures { seen_asked result ≡ recover_asked (rows_of (found_of found.now)) }
 {
     let image = word_of(found, "IMAGE")?;
     let script = word_of(found, "SCRIPT")?;
     let device = device_of_word(word_of(found, "DEVICE")?)?;
-    Some(Asked::Script {
+    Some(Invocation::Script {
         what: ScriptForm::Recover { device },
         image,
         script,
     })
 }
 
-fn replay_asked<'a>(found: &ArgMatches<'a>) -> Option<Asked<'a>>
+fn replay_asked<'a>(found: &ArgMatches<'a>) -> Option<Invocation<'a>>
     ensures { seen_asked result ≡ replay_asked (rows_of (found_of found.now)) }
 {
     let file = word_of(found, "FILE")?;
-    Some(Asked::Payloads {
+    Some(Invocation::Payloads {
         what: FileForm::Replay,
         file,
     })
 }
 
-fn decode_asked<'a>(found: &ArgMatches<'a>) -> Option<Asked<'a>>
+fn decode_asked<'a>(found: &ArgMatches<'a>) -> Option<Invocation<'a>>
     ensures { seen_asked result ≡ decode_asked (rows_of (found_of found.now)) }
 {
     let port = port_of_word(word_of(found, "PORT")?)?;
     let dir = direction_of_word(word_of(found, "DIR")?)?;
     let file = word_of(found, "FILE")?;
-    Some(Asked::Payloads {
+    Some(Invocation::Payloads {
         what: FileForm::Decode { port, dir },
         file,
     })
 }
 
-fn generate_asked<'a>(found: &ArgMatches<'a>) -> Option<Asked<'a>>
+fn generate_asked<'a>(found: &ArgMatches<'a>) -> Option<Invocation<'a>>
     ensures { seen_asked result ≡ generate_asked (rows_of (found_of found.now)) }
 {
     let seed = seed_of_word(word_of(found, "SEED")?)?;
-    Some(Asked::Generate { seed })
+    Some(Invocation::Generate { seed })
 }
 
-fn capture_asked<'a>(found: &ArgMatches<'a>) -> Option<Asked<'a>>
+fn capture_asked<'a>(found: &ArgMatches<'a>) -> Option<Invocation<'a>>
     ensures { seen_asked result ≡ capture_asked (rows_of (found_of found.now)) }
 {
     let file = word_of(found, "FILE")?;
-    Some(Asked::Payloads {
+    Some(Invocation::Payloads {
         what: FileForm::Capture,
         file,
     })

@@ -11,19 +11,19 @@ use Rattle.campaign_world.specs.World.{WorldState}
 use Rattle.image_slots.specs.Image.{is_image}
 use Rattle.fuota_run.specs.Limits.{image_limit}
 use Rattle.fuota_run.specs.Source.{IsSource, IsTakenOf}
-use Rattle.fuota_run.specs.Words.{Asked, plays, payloads, generates, asked, asks_files}
-use Rattle.fuota_run.specs.Answer.{Answer, answer, read_fault, usage, tells, campaign_answer, generate_answer, IsFileAnswer, IsAnswerTo, IsAnswer}
+use Rattle.fuota_run.specs.Words.{Invocation, plays, payloads, generates, asked, asks_files}
+use Rattle.fuota_run.specs.Answer.{Answer, answer, read_fault, usage, telling_of, campaign_answer, generate_answer, IsFileAnswer, IsAnswerTo, IsAnswer}
 
 -- where it is told what is held, something is held under the names of the files that are asked for
-abbrev pub HoldsAsked : Option Held → Option Asked → Type 0
-HoldsAsked held None = ⊤
-HoldsAsked held (Some (plays what image script)) = HoldsName held image × HoldsName held script
-HoldsAsked held (Some (payloads what file)) = HoldsName held file
-HoldsAsked held (Some (generates seed)) = ⊤
+abbrev pub HoldsInvocation : Option Held → Option Invocation → Type 0
+HoldsInvocation held None = ⊤
+HoldsInvocation held (Some (plays what image script)) = HoldsName held image × HoldsName held script
+HoldsInvocation held (Some (payloads what file)) = HoldsName held file
+HoldsInvocation held (Some (generates seed)) = ⊤
 
 abbrev pub HoldsForm : Option Held → List (List ℕ) → Type 0
 HoldsForm None words = ⊤
-HoldsForm (Some held) words = HoldsAsked (Some held) (asked words)
+HoldsForm (Some held) words = HoldsInvocation (Some held) (asked words)
 
 -- what is told of a campaign, or its first refused line
 abbrev pub IsPlayed : (tell : WorldState → Answer) → Result WorldState LineFault → Result Answer LineError → Type 0
@@ -32,10 +32,10 @@ IsPlayed tell outcome (Err (error.Line fault)) = outcome ≡ Err fault
 IsPlayed tell outcome (Err error.Memory) = ⊤
 
 -- a status that has a text: all but these two
-abbrev pub IsReplied : Status → Type 0
-IsReplied status.WriteFault = ⊥
-IsReplied status.Memory = ⊥
-IsReplied s = ⊤
+abbrev pub HasText : Status → Type 0
+HasText status.WriteFault = ⊥
+HasText status.Memory = ⊥
+HasText s = ⊤
 
 -- with these statuses the file chosen last was read to its end
 abbrev pub ends_source : Status → Bool
@@ -46,20 +46,20 @@ ends_source status.NotComplete = true
 ends_source s = false
 
 -- the answer to what is asked for, whatever bytes the files have
-abbrev pub IsAnswerToSome : Option Asked → Answer → Type 0
+abbrev pub IsAnswerToSome : Option Invocation → Answer → Type 0
 IsAnswerToSome None a = a ≡ usage
 IsAnswerToSome (Some (plays what image_name script_name)) a =
     (image : List ℕ) × (script : List ℕ) × (a ≡ campaign_answer what (Some image) (Some script))
-IsAnswerToSome (Some (payloads what name)) a = (file : List ℕ) × IsFileAnswer (tells what) (Some file) a
+IsAnswerToSome (Some (payloads what name)) a = (file : List ℕ) × IsFileAnswer (telling_of what) (Some file) a
 IsAnswerToSome (Some (generates seed)) a = a ≡ generate_answer seed
 
-abbrev pub Gives : Option Held → Option Asked → Answer → Type 0
+abbrev pub Gives : Option Held → Option Invocation → Answer → Type 0
 Gives None what a = IsAnswerToSome what a
 Gives (Some held) what a = IsAnswerTo what held a
 
--- a reply is what is to be given, or that reading failed, and the count of faults rose
-abbrev pub IsReply : Type 0 → (before now : ℕ) → Answer → Type 0
-IsReply gives before now a = gives ⊎ ((a ≡ read_fault) × HasRisen before now)
+-- an answer is what is to be given, or that reading failed, and the count of faults rose
+abbrev pub IsGivenOrFault : Type 0 → (before now : ℕ) → Answer → Type 0
+IsGivenOrFault gives before now a = gives ⊎ ((a ≡ read_fault) × HasRisen before now)
 
 -- that reading failed is said only where the count of faults rose
 abbrev pub IsCaused : (before now : ℕ) → Answer → Type 0
@@ -78,9 +78,9 @@ pub record OutsideFiles : Type 0 where
   pub left : Option (List ℕ)
 
 -- what is said of an answer to what is asked for, over the files
-pub record Replies (what : Option Asked) (files : OutsideFiles) (a : Answer) : Type 0 where
-  pub reply : IsReply (Gives files.held what a) files.before files.after a
-  pub replied : IsReplied a.status
+pub record IsSoundAnswer (what : Option Invocation) (files : OutsideFiles) (a : Answer) : Type 0 where
+  pub answered : IsGivenOrFault (Gives files.held what a) files.before files.after a
+  pub has_text : HasText a.status
   -- that reading failed is said exactly where a call failed
   pub caused : IsCaused files.before files.after a
   pub quiet : a.status ≢ status.ReadFault → files.after ≡ files.before

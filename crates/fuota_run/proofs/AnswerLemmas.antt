@@ -1,4 +1,4 @@
--- What a source that was read, or was not, makes the program say.
+-- What the program answers to a source that was read, or was not.
 use Rattle.std.proofs.Common.{◌≡◌, ◌≢◌, ◌⊎◌, inl, inr, ℕ, ◌+◌, ◌<◌, ◌≤◌, Bool, true, false, nat_lt, List, [], length, replicate, Option, None, Some, IsSome, IfSome, Result, Ok, Err, IfOk, refl, sym, ap, subst, ◌∙◌, arith}
 use Rattle.std.proofs.lemmas.Bool.{lt-ltb, le-ltb}
 use Rattle.std.proofs.lemmas.List.{length-replicate}
@@ -21,20 +21,20 @@ use Rattle.campaign_world.specs.Recovery.{recovery}
 use Rattle.fuota_run.specs.declared.words.ScriptForm.{ScriptForm}
 use Rattle.fuota_run.specs.declared.words.ScriptForm.TheVariants.{Campaign, Recover}
 use Rattle.fuota_run.specs.declared.words.FileForm.{FileForm}
-use Rattle.fuota_run.specs.Words.{Asked, plays, payloads, generates, asked, asks_files}
+use Rattle.fuota_run.specs.Words.{Invocation, plays, payloads, generates, asked, asks_files}
 use Rattle.report_lines.specs.Lines.{Telling, IsTold}
-use Rattle.fuota_run.specs.Answer.{Answer, answer, read_fault, usage, image_refused, too_long, taken_text, recovered, told_of, summed_up, played, tells, told, script_answer, campaign_answer, generate_answer, IsFileAnswer, IsAnswer}
-use Rattle.fuota_run.specs.Reply.{OutsideFiles, HoldsAsked, HoldsForm, Gives, Effects, Ends, AppendsAnswer, AppendsAnswerFront, IsPlayed, IsReplied, IsCaused, IsReadUp, IsImageRead, Replies, ends_source}
-use Rattle.fuota_run.specs.Replies.{IsUnread, IsMadeOf, IsSaid}
+use Rattle.fuota_run.specs.Answer.{Answer, answer, read_fault, usage, image_refused, too_long, taken_text, recovered, world_answer, summary_answer, played, telling_of, text_answer, script_answer, campaign_answer, generate_answer, IsFileAnswer, IsAnswer}
+use Rattle.fuota_run.specs.Ending.{OutsideFiles, HoldsInvocation, HoldsForm, Gives, Effects, Ends, AppendsAnswer, AppendsAnswerFront, IsPlayed, HasText, IsCaused, IsReadUp, IsImageRead, IsSoundAnswer, ends_source}
+use Rattle.fuota_run.specs.HeldAnswer.{IsUnreadAnswer, IsMadeOf, IsTextAnswer}
 
 -- where nothing is told of the files, nothing is asked of their names
-none_asked : (what : Option Asked) → HoldsAsked None what
+none_asked : (what : Option Invocation) → HoldsInvocation None what
 none_asked None = tt
 none_asked (Some (plays what image script)) = (tt, tt)
 none_asked (Some (payloads what file)) = tt
 none_asked (Some (generates seed)) = tt
 
-pub holds_asked : (held : Option Held) (words : List (List ℕ)) → HoldsForm held words → HoldsAsked held (asked words)
+pub holds_asked : (held : Option Held) (words : List (List ℕ)) → HoldsForm held words → HoldsInvocation held (asked words)
 holds_asked None words holds = none_asked (asked words)
 holds_asked (Some h) words holds = holds
 
@@ -44,7 +44,7 @@ unfolding script_answer
 script_long what image script long = let t : nat_lt 1048576 (length script) ≡ true = lt-ltb _ _ long in rw t refl
 
 -- one within its limit
-pub script_given : (what : ScriptForm) (image script : List ℕ) (a : Answer) → length script ≤ 1048576 → a ≡ played (told_of what) (campaign_of image script) → a ≡ script_answer what image (Some script)
+pub script_given : (what : ScriptForm) (image script : List ℕ) (a : Answer) → length script ≤ 1048576 → a ≡ played (world_answer what) (campaign_of image script) → a ≡ script_answer what image (Some script)
 unfolding script_answer
 script_given what image script a within is = let t : nat_lt 1048576 (length script) ≡ false = le-ltb _ _ within in rw t is
 
@@ -63,29 +63,29 @@ pub image_given : (what : ScriptForm) (image : List ℕ) (script : Option (List 
 unfolding campaign_answer
 image_given what image script within good = let t : nat_lt image_limit (length image) ≡ false = le-ltb _ _ within in rw (t, good) refl
 
--- a reply that holds of every Ok
+-- an answer that holds of every Ok
 pub if_ok_map : {T E : Type 0} {P Q : T → Type 0} (r : Result T E) → ((x : T) → P x → Q x) → IfOk r P → IfOk r Q
 if_ok_map (Ok x) turns holds = turns x holds
 if_ok_map (Err e) turns holds = tt
 
 -- an answer that whole files made, or a seed
 pub record IsMade (a : Answer) : Type 0 where
-  pub replied : IsReplied a.status
+  pub has_text : HasText a.status
   pub sound : a.status ≢ status.ReadFault
   pub used : a.status ≢ status.Usage
   pub short : (taken : ℕ) → a.status ≢ status.TooLong taken
 
 -- the answer with what a script made
 recovered_made : (device : ℕ) (r : Result (List ℕ) NoFile) → IsMade (recovered device r)
-recovered_made device (Ok file) = record { replied = tt; sound = λ e. cc; used = λ e. cc; short = λ taken e. cc }
-recovered_made device (Err why) = record { replied = tt; sound = λ e. cc; used = λ e. cc; short = λ taken e. cc }
+recovered_made device (Ok file) = record { has_text = tt; sound = λ e. cc; used = λ e. cc; short = λ taken e. cc }
+recovered_made device (Err why) = record { has_text = tt; sound = λ e. cc; used = λ e. cc; short = λ taken e. cc }
 
-pub told_made : (what : ScriptForm) (w : WorldState) → IsMade (told_of what w)
-told_made Campaign w = record { replied = tt; sound = λ e. cc; used = λ e. cc; short = λ taken e. cc }
-told_made (Recover device) w = recovered_made device (recovery w device)
+pub world_made : (what : ScriptForm) (w : WorldState) → IsMade (world_answer what w)
+world_made Campaign w = record { has_text = tt; sound = λ e. cc; used = λ e. cc; short = λ taken e. cc }
+world_made (Recover device) w = recovered_made device (recovery w device)
 
-pub summed_made : (seed : ℕ) (w : WorldState) → IsMade (summed_up seed w)
-summed_made seed w = record { replied = tt; sound = λ e. cc; used = λ e. cc; short = λ taken e. cc }
+pub summed_made : (seed : ℕ) (w : WorldState) → IsMade (summary_answer seed w)
+summed_made seed w = record { has_text = tt; sound = λ e. cc; used = λ e. cc; short = λ taken e. cc }
 
 pub says_played : (tell : WorldState → Answer) (outcome : Result WorldState LineFault) (r : Result Answer LineError) (a : Answer)
     → ((w : WorldState) → IsMade (tell w)) → IsPlayed tell outcome r → IsMadeOf r a → (a ≡ played tell outcome) × IsMade a
@@ -96,22 +96,22 @@ says_played tell outcome (Ok x) a each made said =
     )
 says_played tell outcome (Err (world.Line fault)) a each made said = (
   said ∙ sym (ap (played tell) made),
-  subst IsMade (sym said) (record { replied = tt; sound = λ e. cc; used = λ e. cc; short = λ taken e. cc }),
+  subst IsMade (sym said) (record { has_text = tt; sound = λ e. cc; used = λ e. cc; short = λ taken e. cc }),
 )
 says_played tell outcome (Err world.Memory) a each made said = absurd said
 
 -- and with what a file of payloads made
-pub says_told : (Tells : Telling) (file : List ℕ) (r : Result (List ℕ) LineError) (a : Answer) → IsTold Tells file r → IsSaid r a
-    → ((said : Result (List ℕ) LineFault) × Tells file said × (a ≡ told said)) × IsMade a
-says_told Tells file (Ok text) a made said = (
+pub says_text : (Tells : Telling) (file : List ℕ) (r : Result (List ℕ) LineError) (a : Answer) → IsTold Tells file r → IsTextAnswer r a
+    → ((said : Result (List ℕ) LineFault) × Tells file said × (a ≡ text_answer said)) × IsMade a
+says_text Tells file (Ok text) a made said = (
   (Ok text, made, said),
-  subst IsMade (sym said) (record { replied = tt; sound = λ e. cc; used = λ e. cc; short = λ taken e. cc }),
+  subst IsMade (sym said) (record { has_text = tt; sound = λ e. cc; used = λ e. cc; short = λ taken e. cc }),
 )
-says_told Tells file (Err (world.Line fault)) a made said = (
+says_text Tells file (Err (world.Line fault)) a made said = (
   (Err fault, made, said),
-  subst IsMade (sym said) (record { replied = tt; sound = λ e. cc; used = λ e. cc; short = λ taken e. cc }),
+  subst IsMade (sym said) (record { has_text = tt; sound = λ e. cc; used = λ e. cc; short = λ taken e. cc }),
 )
-says_told Tells file (Err world.Memory) a made said = absurd said
+says_text Tells file (Err world.Memory) a made said = absurd said
 
 -- a file of payloads that is too long
 pub file_long : (Tells : Telling) (file : List ℕ) → 1048576 < length file → IsFileAnswer Tells (Some file) (too_long 1048576)
@@ -119,45 +119,45 @@ unfolding IsFileAnswer
 file_long Tells file long = let t : nat_lt 1048576 (length file) ≡ true = lt-ltb _ _ long in rw t refl
 
 -- one within its limit
-pub file_given : (Tells : Telling) (file : List ℕ) (a : Answer) → length file ≤ 1048576 → ((said : Result (List ℕ) LineFault) × Tells file said × (a ≡ told said))
+pub file_given : (Tells : Telling) (file : List ℕ) (a : Answer) → length file ≤ 1048576 → ((said : Result (List ℕ) LineFault) × Tells file said × (a ≡ text_answer said))
     → IsFileAnswer Tells (Some file) a
 unfolding IsFileAnswer
 file_given Tells file a within said = let t : nat_lt 1048576 (length file) ≡ false = le-ltb _ _ within in rw t said
 
 pub refused_made : IsMade image_refused
-refused_made = record { replied = tt; sound = λ e. cc; used = λ e. cc; short = λ taken e. cc }
+refused_made = record { has_text = tt; sound = λ e. cc; used = λ e. cc; short = λ taken e. cc }
 
--- ---- replies to a form
+-- ---- answers to a form
 
 -- a form with files is one
-no_files : (what : Option Asked) → asks_files what ≡ true → what ≢ None
+no_files : (what : Option Invocation) → asks_files what ≡ true → what ≢ None
 no_files None asks none = absurd cc
 no_files (Some what) asks none = absurd cc
 
 -- what is said where a source was not read
-pub replies_unread : (what : Option Asked) (files : OutsideFiles) (limit : ℕ) (e : SourceError) (a : Answer) → asks_files what ≡ true
+pub sound_unread : (what : Option Invocation) (files : OutsideFiles) (limit : ℕ) (e : SourceError) (a : Answer) → asks_files what ≡ true
     → ((n : ℕ) → e ≡ error.TooLong n → Gives files.held what (too_long limit)) → ((n : ℕ) → e ≡ error.TooLong n → n ≡ limit + 1)
     → ((n : ℕ) → e ≡ error.TooLong n → IsTakenOf files.held what n files.left)
     → (e ≡ error.Failed → HasRisen files.before files.after) → (e ≢ error.Failed → files.after ≡ files.before)
-    → IsUnread e a → Replies what files a
-replies_unread what files limit error.Memory a asks gives count took failed quiet is = absurd is
-replies_unread what files limit error.Failed a asks gives count took failed quiet is =
+    → IsUnreadAnswer e a → IsSoundAnswer what files a
+sound_unread what files limit error.Memory a asks gives count took failed quiet is = absurd is
+sound_unread what files limit error.Failed a asks gives count took failed quiet is =
     let s : a.status ≡ status.ReadFault = ap (λ (x : Answer). x.status) is in
     record {
-      reply = inr (is, failed refl);
-      replied = subst (λ (x : Answer). IsReplied x.status) (sym is) tt;
+      answered = inr (is, failed refl);
+      has_text = subst (λ (x : Answer). HasText x.status) (sym is) tt;
       caused = λ _. (failed refl, is);
       quiet = λ other. absurd (other s);
       read_up = subst (λ (b : Bool). IsReadUp b a.status files.left) (sym asks) (λ ends. absurd (let t = ap ends_source s in cc));
       usage = (λ used. absurd cc, λ none. absurd (no_files what asks none));
       taken = λ n long. absurd cc;
     }
-replies_unread what files limit (error.TooLong n) a asks gives count took failed quiet is =
+sound_unread what files limit (error.TooLong n) a asks gives count took failed quiet is =
     let here : a ≡ too_long limit = is ∙ ap (λ m. answer (status.TooLong m) (taken_text m)) (count n refl) in
     let s : a.status ≡ status.TooLong (limit + 1) = ap (λ (x : Answer). x.status) here in
     record {
-      reply = inl (subst (λ (x : Answer). Gives files.held what x) (sym here) (gives n refl));
-      replied = subst (λ (x : Answer). IsReplied x.status) (sym here) tt;
+      answered = inl (subst (λ (x : Answer). Gives files.held what x) (sym here) (gives n refl));
+      has_text = subst (λ (x : Answer). HasText x.status) (sym here) tt;
       caused = λ fault. absurd cc;
       quiet = λ other. quiet (λ e. cc);
       read_up = subst (λ (b : Bool). IsReadUp b a.status files.left) (sym asks) (λ ends. absurd (let t = ap ends_source s in cc));
@@ -169,11 +169,11 @@ replies_unread what files limit (error.TooLong n) a asks gives count took failed
     }
 
 -- and where all were read to their end
-pub replies_read : (what : Option Asked) (files : OutsideFiles) (a : Answer) → asks_files what ≡ true → Gives files.held what a → IsMade a
-    → IsAtEnd files.left → files.after ≡ files.before → Replies what files a
-replies_read what files a asks gives made ends quiet = record {
-  reply = inl gives;
-  replied = made.replied;
+pub sound_read : (what : Option Invocation) (files : OutsideFiles) (a : Answer) → asks_files what ≡ true → Gives files.held what a → IsMade a
+    → IsAtEnd files.left → files.after ≡ files.before → IsSoundAnswer what files a
+sound_read what files a asks gives made ends quiet = record {
+  answered = inl gives;
+  has_text = made.has_text;
   caused = λ fault. absurd (made.sound fault);
   quiet = λ other. quiet;
   read_up = subst (λ (b : Bool). IsReadUp b a.status files.left) (sym asks) (λ _. ends);
@@ -182,12 +182,12 @@ replies_read what files a asks gives made ends quiet = record {
 }
 
 -- where nothing is asked for
-pub replies_usage : (files : OutsideFiles) (a : Answer) → files.after ≡ files.before → a ≡ usage → Replies None files a
-replies_usage files a quiet is =
+pub sound_usage : (files : OutsideFiles) (a : Answer) → files.after ≡ files.before → a ≡ usage → IsSoundAnswer None files a
+sound_usage files a quiet is =
     let s : a.status ≡ status.Usage = ap (λ (x : Answer). x.status) is in
     record {
-      reply = inl (given files.held);
-      replied = subst (λ (x : Answer). IsReplied x.status) (sym is) tt;
+      answered = inl (given files.held);
+      has_text = subst (λ (x : Answer). HasText x.status) (sym is) tt;
       caused = λ fault. absurd cc;
       quiet = λ other. quiet;
       read_up = tt;
@@ -200,11 +200,11 @@ replies_usage files a quiet is =
     given (Some h) = is
 
 -- and for a seed
-pub replies_generated : (seed : ℕ) (files : OutsideFiles) (a : Answer) → files.after ≡ files.before
-    → (a ≡ generate_answer seed) × IsMade a → Replies (Some (generates seed)) files a
-replies_generated seed files a quiet made = record {
-  reply = inl (given files.held);
-  replied = made.1.replied;
+pub sound_generated : (seed : ℕ) (files : OutsideFiles) (a : Answer) → files.after ≡ files.before
+    → (a ≡ generate_answer seed) × IsMade a → IsSoundAnswer (Some (generates seed)) files a
+sound_generated seed files a quiet made = record {
+  answered = inl (given files.held);
+  has_text = made.1.has_text;
   caused = λ fault. absurd (made.1.sound fault);
   quiet = λ other. quiet;
   read_up = tt;
@@ -272,41 +272,41 @@ gives_script_long held what image_name script_name image read holds long =
 
 pub gives_script : (held : Option Held) (what : ScriptForm) (image_name script_name image script : List ℕ) (a : Answer)
     → IsImageRead held image_name image → IsSource held script_name 1048576 script → length script ≤ 1048576
-    → a ≡ played (told_of what) (campaign_of image script) → Gives held (Some (plays what image_name script_name)) a
+    → a ≡ played (world_answer what) (campaign_of image script) → Gives held (Some (plays what image_name script_name)) a
 gives_script held what image_name script_name image script a read source within is =
     by_both held what image_name script_name image script 1048576 a read.source source
     (script_given what image script a within is ∙ image_given what image (Some script) read.within read.file)
 
 -- a file of payloads that is too long, and one that was read
 gives_file : (held : Option Held) (form : FileForm) (name file : List ℕ) (a : Answer) → IsSource held name 1048576 file
-    → IsFileAnswer (tells form) (Some file) a → Gives held (Some (payloads form name)) a
+    → IsFileAnswer (telling_of form) (Some file) a → Gives held (Some (payloads form name)) a
 gives_file None form name file a source is = (file, is)
-gives_file (Some h) form name file a source is = subst (λ (f : Option (List ℕ)). IsFileAnswer (tells form) f a) (sym source) is
+gives_file (Some h) form name file a source is = subst (λ (f : Option (List ℕ)). IsFileAnswer (telling_of form) f a) (sym source) is
 
 pub gives_file_long : (held : Option Held) (form : FileForm) (name : List ℕ) → HoldsName held name → IsTooLong held name 1048576
     → Gives held (Some (payloads form name)) (too_long 1048576)
 gives_file_long held form name holds long =
     let is = long_source held name 1048576 holds long in
-    gives_file held form name is.0 (too_long 1048576) is.2 (file_long (tells form) is.0 is.1)
+    gives_file held form name is.0 (too_long 1048576) is.2 (file_long (telling_of form) is.0 is.1)
 
 -- what is said behind the lines of a file of payloads
-pub replies_told : (form : FileForm) (files : OutsideFiles) (name file : List ℕ) (r : Result (List ℕ) LineError) (a : Answer)
+pub sound_text : (form : FileForm) (files : OutsideFiles) (name file : List ℕ) (r : Result (List ℕ) LineError) (a : Answer)
     → IsSource files.held name 1048576 file → length file ≤ 1048576 → IsAtEnd files.left → files.after ≡ files.before
-    → IsTold (tells form) file r → IsSaid r a → Replies (Some (payloads form name)) files a
-replies_told form files name file r a source within ends quiet made said =
-    let told = says_told (tells form) file r a made said in
-    replies_read (Some (payloads form name)) files a refl
-    (gives_file files.held form name file a source (file_given (tells form) file a within told.0)) told.1 ends quiet
+    → IsTold (telling_of form) file r → IsTextAnswer r a → IsSoundAnswer (Some (payloads form name)) files a
+sound_text form files name file r a source within ends quiet made said =
+    let told = says_text (telling_of form) file r a made said in
+    sound_read (Some (payloads form name)) files a refl
+    (gives_file files.held form name file a source (file_given (telling_of form) file a within told.0)) told.1 ends quiet
 
 -- ---- a run that says it
 
--- what is written of a reply
-appends_answer : (held : Option Held) (words : List (List ℕ)) (s : Status) (text : List ℕ) (old new : Option (List ℕ)) → Gives held (asked words) (answer s text) → IsReplied s → Appends old new text → AppendsAnswer held words s old new
+-- what is written of an answer
+appends_answer : (held : Option Held) (words : List (List ℕ)) (s : Status) (text : List ℕ) (old new : Option (List ℕ)) → Gives held (asked words) (answer s text) → HasText s → Appends old new text → AppendsAnswer held words s old new
 unfolding IsAnswer
 appends_answer None words s text old new gives told appends = (text, gives, appends)
 appends_answer (Some h) words s text old new gives told appends = (answer s text, gives, refl, appends)
 
-ends_by : (held : Option Held) (words : List (List ℕ)) (e : Effects) (s : Status) (text : List ℕ) → Gives held (asked words) (answer s text) → IsReplied s
+ends_by : (held : Option Held) (words : List (List ℕ)) (e : Effects) (s : Status) (text : List ℕ) → Gives held (asked words) (answer s text) → HasText s
     → IsCaused e.files_before e.files_after (answer s text) → Appends e.old e.new text → Ends held words e s
 ends_by held words e status.Done text gives told caused appends = appends_answer held words status.Done text e.old e.new gives told appends
 ends_by held words e status.Usage text gives told caused appends = appends_answer held words status.Usage text e.old e.new gives told appends
@@ -320,35 +320,35 @@ ends_by held words e status.WriteFault text gives told caused appends = absurd t
 ends_by held words e status.Memory text gives told caused appends = absurd told
 
 -- how a run ends whose text was written
-pub ends_written : (held : Option Held) (words : List (List ℕ)) (e : Effects) (left : Option (List ℕ)) (a : Answer) → Replies (asked words) (record { held = held; before = e.files_before; after = e.files_after; left = left }) a → Appends e.old e.new a.text → Ends held words e a.status
+pub ends_written : (held : Option Held) (words : List (List ℕ)) (e : Effects) (left : Option (List ℕ)) (a : Answer) → IsSoundAnswer (asked words) (record { held = held; before = e.files_before; after = e.files_after; left = left }) a → Appends e.old e.new a.text → Ends held words e a.status
 ends_written held words e left a says appends =
-    elim says.reply [
-      | inl gives ↦ ends_by held words e a.status a.text gives says.replied says.caused appends
+    elim says.answered [
+      | inl gives ↦ ends_by held words e a.status a.text gives says.has_text says.caused appends
       | inr fault ↦ subst (λ (x : Answer). Ends held words e x.status) (sym fault.0) (fault.1, subst (λ (x : Answer). Appends e.old e.new x.text) fault.0 appends)
     ]
 
 -- where no call failed and memory sufficed, what was written is an answer
-pub exact_of : (X Y : Type 0) (held : Option Held) (words : List (List ℕ)) (before now : ℕ) (left : Option (List ℕ)) (a : Answer) (old new : Option (List ℕ)) → Replies (asked words) (record { held = held; before = before; after = now; left = left }) a → Appends old new a.text
+pub exact_of : (X Y : Type 0) (held : Option Held) (words : List (List ℕ)) (before now : ℕ) (left : Option (List ℕ)) (a : Answer) (old new : Option (List ℕ)) → IsSoundAnswer (asked words) (record { held = held; before = before; after = now; left = left }) a → Appends old new a.text
     → IfSome held (λ h. ¬ HasRisen before now → X → Y → AppendsAnswer (Some h) words a.status old new)
 unfolding IsAnswer
 exact_of X Y None words before now left a old new says appends = tt
 exact_of X Y (Some h) words before now left a old new says appends = λ quiet sound enough.
-    elim says.reply [
+    elim says.answered [
       | inl gives ↦ (a, gives, refl, appends)
       | inr fault ↦ absurd (quiet fault.1)
     ]
 
 -- where writing failed, a front of it was
-pub front_of : (held : Option Held) (words : List (List ℕ)) (before now : ℕ) (left : Option (List ℕ)) (a : Answer) (old new : Option (List ℕ)) → Replies (asked words) (record { held = held; before = before; after = now; left = left }) a → AppendsFront old new a.text
+pub front_of : (held : Option Held) (words : List (List ℕ)) (before now : ℕ) (left : Option (List ℕ)) (a : Answer) (old new : Option (List ℕ)) → IsSoundAnswer (asked words) (record { held = held; before = before; after = now; left = left }) a → AppendsFront old new a.text
     → AppendsAnswerFront held words old new ⊎ (HasRisen before now × AppendsFront old new read_fault.text)
 unfolding IsAnswer
 front_of None words before now left a old new says front =
-    elim says.reply [
+    elim says.answered [
       | inl gives ↦ inl (a, gives, front)
       | inr fault ↦ inr (fault.1, subst (λ (x : Answer). AppendsFront old new x.text) fault.0 front)
     ]
 front_of (Some h) words before now left a old new says front =
-    elim says.reply [
+    elim says.answered [
       | inl gives ↦ inl (a, gives, front)
       | inr fault ↦ inr (fault.1, subst (λ (x : Answer). AppendsFront old new x.text) fault.0 front)
     ]

@@ -1,13 +1,11 @@
 //! Whole runs over files and a sink in memory, and the first steps over those of the system.
-ghost use Rattle.std.specs.Prelude.{Some, IsTrue, is_some};
+ghost use Rattle.std.specs.Prelude.{Some, IsSome, IsTrue, map, string_bytes};
+ghost use Rattle.std.specs.List.{All};
 ghost use Rattle.fuota_run.specs.Memory.{held_by};
-ghost use Rattle.fuota_run.specs.Reply.{HoldsAsked};
-ghost use Rattle.fuota_run.specs.Words.{seen_asked};
+ghost use Rattle.fuota_run.specs.Ending.{HoldsForm};
 
-use super::*;
-use crate::files::{Failed, Files};
-use crate::memory::{MemFiles, MemSink};
-use crate::system::{StdFiles, StdSink};
+use fuota_run::*;
+use std::alloc::Global;
 use std::process::Abort;
 use std::test::Fail;
 
@@ -32,6 +30,10 @@ const REPORT_LATER: &str =
 
 const WORDS: [&str; 4] = ["fuota", "campaign", "image", "script"];
 
+/// What is written where the words are no form.
+const USAGE: &str =
+    "usage: fuota campaign IMAGE SCRIPT, recover IMAGE SCRIPT DEVICE, replay FILE, decode PORT DIR FILE, generate SEED, capture FILE\n";
+
 /// What stands outside a run: its two files, the second one in three parts, the number of the call that fails on each
 /// side (0 for none), and the room of its sink.
 #[derive(Clone, Copy)]
@@ -55,7 +57,8 @@ const SOUND: Outside<'static, 'static> = Outside {
     room: 4096,
 };
 
-fn files(alloc: Global, outside: &Outside) -> Result<MemFiles, Fail> {
+/// The two files, and an empty one under each other word.
+fn files(alloc: Global, words: &[&str], outside: &Outside) -> Result<MemFiles, Fail> {
     let script = format!(in alloc;
         "{}{}{}",
         outside.start, outside.clock, outside.events
@@ -63,32 +66,39 @@ fn files(alloc: Global, outside: &Outside) -> Result<MemFiles, Fail> {
     let mut files = Vec::new(alloc);
     files.push((format!(in alloc; "image")?, outside.image.to_vec(alloc)?))?;
     files.push((format!(in alloc; "script")?, script))?;
+    for word in words {
+        files.push((format!(in alloc; "{word}")?, Vec::new(alloc)))?;
+    }
     Ok(MemFiles::new(files, [outside.read_fails].to_vec(alloc)?))
 }
 
-/// Runs the words, where the files that they name are held.
+/// Runs the words, where there are files of all of them.
 fn run_held(
     alloc: Global,
     words: &[String],
     files: &mut MemFiles,
     sink: &mut MemSink,
 ) -> Option<Status> {
-    match read_words(alloc, words) {
-        Ok(what) if all_held(files, what) => Some(run(alloc, words, files, sink)),
-        _ => None,
+    if all_held(files, words) {
+        Some(run(alloc, words, files, sink))
+    } else {
+        None
     }
 }
 
-/// Whether there are files of all names that are asked for.
-fn all_held(files: &MemFiles, what: Option<Asked>) -> bool
-    ensures { IsTrue result → HoldsAsked (Some (held_by files.now.files)) (seen_asked what.entry) }
+/// Whether there are files of all words, those of the names that are asked for among them.
+#[tactic(auto, using(crate::proofs::WordsHeld::holds_words))]
+fn all_held(files: &MemFiles, words: &[String]) -> bool
+    ensures { IsTrue result → HoldsForm (Some (held_by files.now.files)) (map string_bytes words.now) }
 {
-    match what {
-        None => true,
-        Some(Asked::Script { image, script, .. }) => files.holds(image) && files.holds(script),
-        Some(Asked::Payloads { file, .. }) => files.holds(file),
-        Some(Asked::Generate { .. }) => true,
-    }
+    names_are_words();
+    are_held(files, words)
+}
+
+fn are_held(files: &MemFiles, words: &[String]) -> bool
+    ensures { IsTrue result → All (λ word. IsSome (held_by files.now.files word)) (map string_bytes words.now) }
+{
+    words.iter().all(|word| files.holds(word))
 }
 
 fn ends(
@@ -115,7 +125,7 @@ fn wrote(
     for word in words {
         owned.push(format!(in alloc; "{word}")?)?;
     }
-    let mut files = files(alloc, outside)?;
+    let mut files = files(alloc, words, outside)?;
     let fails = [outside.write_fails].to_vec(alloc)?;
     let mut sink = MemSink::reserve(alloc, outside.room, fails)?;
     assert_eq!(rt;
