@@ -10,10 +10,10 @@ ghost use Rattle.report_lines.specs.Lines.{IsLineRefused, IsTold};
 ghost use Rattle.payload_replay.specs.Decode.{commands_text, stop_word, stop_text, payload_text, numbered_text, Writes, Decodes};
 ghost use Rattle.payload_replay.specs.HeldDecoding.{DecodingStands, HearsDecoded};
 
-use crate::payload_lines::{MAX_SPELLED, read_payload};
+use crate::payload_lines::read_payload;
 use package_grammar::Message;
 use report_lines::LineError;
-use script_lines::HearsLine;
+use script_lines::{HearsLine, MAX_HEX_BYTES};
 use std::alloc::{AllocError, Global};
 use std::marker::Model;
 use wire_base::{Direction, Why};
@@ -152,7 +152,7 @@ fn decode_line(
     ensures few { OnOk result (lines < 20000) }
     ensures refused { IfErr result (IsLineRefused payload_of lines line.now) }
 {
-    let mut bytes = [0; MAX_SPELLED];
+    let mut bytes = [0; MAX_HEX_BYTES];
     let count = match read_payload(lines, line, &mut bytes) {
         Ok(count) => count,
         Err(error) => return Err(error),

@@ -6,6 +6,7 @@ ghost use Rattle.report_lines.specs.Lines.{IsLineRefused};
 ghost use Rattle.report_lines.specs.declared.faults.LineError.{LineError};
 
 use report_lines::{LineError, LineWhy, MAX_LINE, MAX_LINES, refused_behind};
+use script_lines::MAX_HEX_BYTES;
 use wire_base::MAX_PAYLOAD;
 
 /// A line that comes after so many is beyond the limits: it is no line of the first 20,000, or has more than 600 bytes.
@@ -15,15 +16,12 @@ pub fn is_beyond(lines: u32, line: &[u8]) -> bool
     lines >= MAX_LINES || line.len() > MAX_LINE
 }
 
-/// The most bytes that a line spells, two digits each.
-pub const MAX_SPELLED: usize = MAX_LINE / 2;
-
 /// Writes the payload of a line that comes after so many to the front of `out`, and says how many bytes it has.
 #[tactic(auto, unfolding(crate::specs::PayloadLines::payload_of, crate::specs::PayloadLines::payload_by))]
 pub fn read_payload(
     lines: u32,
     line: &[u8],
-    out: &mut [u8; MAX_SPELLED],
+    out: &mut [u8; MAX_HEX_BYTES],
 ) -> Result<usize, LineError>
     requires { lines ≤ 20000 }
     ensures payload { IfOk result (λ count. payload_of lines line.now ≡ Ok (take count out.new)) }

@@ -11,10 +11,10 @@ ghost use Rattle.payload_replay.specs.Replay.{after_payload, replay_text, Replay
 ghost use Rattle.payload_replay.specs.HeldReplaying.{ReplayingStands, HearsReplayed};
 
 use crate::hearer::{begin, closing_text, hear};
-use crate::payload_lines::{MAX_SPELLED, read_payload};
+use crate::payload_lines::read_payload;
 use device_core::Device;
 use report_lines::{LineError, LineWhy, refused_behind};
-use script_lines::HearsLine;
+use script_lines::{HearsLine, MAX_HEX_BYTES};
 use std::alloc::{AllocError, Global};
 use std::marker::Model;
 
@@ -139,7 +139,7 @@ fn hear_line(device: &mut Device, lines: u32, line: &[u8]) -> Result<(), LineErr
     ensures few { OnOk result (lines < 20000) }
     ensures refused { IfErr result (IsLineRefused payload_of lines line.now) }
 {
-    let mut bytes = [0; MAX_SPELLED];
+    let mut bytes = [0; MAX_HEX_BYTES];
     match read_payload(lines, line, &mut bytes) {
         Ok(count) => {
             hear(device, &bytes[..count], u64::from(lines + 1));
