@@ -175,10 +175,9 @@ impl World {
         ensures lines { self.new.lines ≡ self.old.lines }
         ensures ends { OnErr result (KeepsEnds self.old self.new) }
     {
-        let planned = PlanDevice {
-            key: config.key,
-            root: config.root,
-        };
+        let key = config.key;
+        let root = config.root;
+        let planned = PlanDevice { key, root };
         match join(
             &mut self.plan,
             &mut self.devices,

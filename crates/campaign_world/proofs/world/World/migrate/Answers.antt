@@ -1,4 +1,4 @@
-use Rattle.std.proofs.Common.{◌≡◌, ◌≤◌, length, Some, sym, subst}
+use Rattle.std.proofs.Common.{◌≡◌, ◌≤◌, length, Some, refl, sym, subst}
 use Rattle.campaign_server.specs.Server.{ServerState}
 use Rattle.device_core.specs.Events.{Migrates}
 use Rattle.campaign_world.specs.HeldWorld.{HeldWorld}
