@@ -137,6 +137,7 @@ fn hex_words_are_read(rt: HostRuntime) -> Result<(), Fail> {
         key: [0; 16],
         descriptor: Some(2),
         v1: false,
+        k11: false,
     };
     assert!(rt; shown(&rt, &device)? == shown(&rt, &Some(wanted))?);
     assert!(rt; form(b"device 1 b 2 64 5 00000000000000000000000000000000").is_none());
@@ -153,6 +154,78 @@ fn hex_words_are_read(rt: HostRuntime) -> Result<(), Fail> {
     assert!(rt; shown(&rt, &window)? == shown(&rt, &Some(wanted))?);
     assert!(rt; form(b"window c 1000 0 8695250").is_none());
     assert!(rt; form(b"window c 1000 7 0 8695250 0").is_none());
+    Ok(())
+}
+
+/// `k11` is the last word of a device's line, behind `v1` where that is there.
+#[test]
+fn kinds_of_root_keys_are_read(rt: HostRuntime) -> Result<(), Fail> {
+    let read: [(&[u8], Option<u32>, bool, bool); 6] = [
+        (
+            b"device 1 c 2 3 4 00000000000000000000000000000000",
+            None,
+            false,
+            false,
+        ),
+        (
+            b"device 1 c 2 3 4 00000000000000000000000000000000 k11",
+            None,
+            false,
+            true,
+        ),
+        (
+            b"device 1 c 2 3 4 00000000000000000000000000000000 v1",
+            None,
+            true,
+            false,
+        ),
+        (
+            b"device 1 c 2 3 4 00000000000000000000000000000000 v1 k11",
+            None,
+            true,
+            true,
+        ),
+        (
+            b"device 1 c 2 3 4 00000000000000000000000000000000 0000000a k11",
+            Some(10),
+            false,
+            true,
+        ),
+        (
+            b"device 1 c 2 3 4 00000000000000000000000000000000 0000000a v1 k11",
+            Some(10),
+            true,
+            true,
+        ),
+    ];
+    for (line, descriptor, v1, k11) in read {
+        let wanted = Form::Device {
+            id: 1,
+            class: Class::C,
+            hw: 2,
+            rows: 3,
+            offset: 4,
+            key: [0; 16],
+            descriptor,
+            v1,
+            k11,
+        };
+        assert!(rt; shown(&rt, &form(line))? == shown(&rt, &Some(wanted))?);
+    }
+    let none: [&[u8]; 9] = [
+        b"device 1 c 2 3 4 k11",
+        b"device 1 c 2 3 4 00000000000000000000000000000000 k11 v1",
+        b"device 1 c 2 3 4 00000000000000000000000000000000 k11 k11",
+        b"device 1 c 2 3 4 00000000000000000000000000000000 k11 0000000a",
+        b"device 1 c 2 3 4 00000000000000000000000000000000 0000000a k11 v1",
+        b"device 1 c 2 3 4 00000000000000000000000000000000 0000000a v1 k11 k11",
+        b"device 1 c 2 3 4 00000000000000000000000000000000 k10",
+        b"device 1 c 2 3 4 00000000000000000000000000000000 K11",
+        b"device 1 c 2 3 4 00000000000000000000000000000000 k11 ",
+    ];
+    for line in none {
+        assert!(rt; form(line).is_none());
+    }
     Ok(())
 }
 

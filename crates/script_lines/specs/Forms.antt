@@ -1,5 +1,5 @@
 -- The form that a line spells (this project's profile): its first word says which, and so many words stand behind it.
-use Rattle.std.specs.Prelude.{ℕ, Bool, true, false, ◌&&◌, ◌==◌, if◌then◌else◌, List, length, codes, Option, Some, None}
+use Rattle.std.specs.Prelude.{ℕ, ◌-◌, Bool, true, false, ◌&&◌, ◌==◌, nat_lt, if◌then◌else◌, List, length, codes, Option, Some, None}
 use Rattle.script_lines.specs.declared.forms.Class.{Class}
 use Rattle.script_lines.specs.declared.forms.Class.TheVariants as class
 use Rattle.script_lines.specs.declared.forms.Form.{Form}
@@ -93,24 +93,31 @@ window_form line =
     else if count_of line == 7 && is_word line 1 (codes "b") then window_b_form line
     else None
 
--- device ID CLASS HW ROWS OFFSET KEY, with DESCRIPTOR behind it or none; and whether v1 stands behind that
-abbrev pub device_words : List ℕ → Option ℕ → (v1 : Bool) → Option Form
-device_words line descriptor v1 = do
+-- device ID CLASS HW ROWS OFFSET KEY, with DESCRIPTOR behind it or none; and whether v1 stands behind that, and k11 at the end
+abbrev pub device_words : List ℕ → Option ℕ → (v1 k11 : Bool) → Option Form
+device_words line descriptor v1 k11 = do
   id ← decimal_at line 1
   class ← class_at line 2
   hw ← decimal_at line 3
   rows ← decimal_at line 4
   offset ← decimal_at line 5
   key ← key_at line 6
-  Some (Device id class hw rows offset key descriptor v1)
+  Some (Device id class hw rows offset key descriptor v1 k11)
 
+-- the same in so many words, those before k11
+abbrev pub device_of_words : List ℕ → (count : ℕ) → (k11 : Bool) → Option Form
+device_of_words line count k11 =
+    if count == 7 then device_words line None false k11
+    else if count == 8 && is_word line 7 (codes "v1") then device_words line None true k11
+    else if count == 8 then hex_at line 7 >>= (λ descriptor. device_words line (Some descriptor) false k11)
+    else if count == 9 && is_word line 8 (codes "v1") then hex_at line 7 >>= (λ descriptor. device_words line (Some descriptor) true k11)
+    else None
+
+-- k11 can only be the last word
 abbrev pub device_form : List ℕ → Option Form
 device_form line =
-    if count_of line == 7 then device_words line None false
-    else if count_of line == 8 && is_word line 7 (codes "v1") then device_words line None true
-    else if count_of line == 8 then hex_at line 7 >>= (λ descriptor. device_words line (Some descriptor) false)
-    else if count_of line == 9 && is_word line 8 (codes "v1") then hex_at line 7 >>= (λ descriptor. device_words line (Some descriptor) true)
-    else None
+    if nat_lt 7 (count_of line) && is_word line (count_of line - 1) (codes "k11") then device_of_words line (count_of line - 1) true
+    else device_of_words line (count_of line) false
 
 -- at MS, wake D, migrate D, ask D and up U
 abbrev pub at_form : List ℕ → Option Form

@@ -14,13 +14,21 @@ pub record AreForms : Type 0 where
   pub window_c : form_of (codes "window c 1000 1 8695250 5") ≡ Some (WindowC 1000 1 8695250 5)
   pub window_b : form_of (codes "window b 1000 3 1 8695250 5") ≡ Some (WindowB 1000 3 1 8695250 5)
   pub device_a : form_of (codes "device 1 a 2 3 4 000102030405060708090a0b0c0d0e0f")
-      ≡ Some (Device 1 class.A 2 3 4 (0 ∷ 1 ∷ 2 ∷ 3 ∷ 4 ∷ 5 ∷ 6 ∷ 7 ∷ 8 ∷ 9 ∷ 10 ∷ 11 ∷ 12 ∷ 13 ∷ 14 ∷ 15 ∷ []) None false)
+      ≡ Some (Device 1 class.A 2 3 4 (0 ∷ 1 ∷ 2 ∷ 3 ∷ 4 ∷ 5 ∷ 6 ∷ 7 ∷ 8 ∷ 9 ∷ 10 ∷ 11 ∷ 12 ∷ 13 ∷ 14 ∷ 15 ∷ []) None false false)
   pub device_c : form_of (codes "device 2 c 2 3 4 000102030405060708090a0b0c0d0e0f 0000000a")
-      ≡ Some (Device 2 class.C 2 3 4 (0 ∷ 1 ∷ 2 ∷ 3 ∷ 4 ∷ 5 ∷ 6 ∷ 7 ∷ 8 ∷ 9 ∷ 10 ∷ 11 ∷ 12 ∷ 13 ∷ 14 ∷ 15 ∷ []) (Some 10) false)
+      ≡ Some (Device 2 class.C 2 3 4 (0 ∷ 1 ∷ 2 ∷ 3 ∷ 4 ∷ 5 ∷ 6 ∷ 7 ∷ 8 ∷ 9 ∷ 10 ∷ 11 ∷ 12 ∷ 13 ∷ 14 ∷ 15 ∷ []) (Some 10) false false)
   pub device_v1 : form_of (codes "device 2 c 2 3 4 000102030405060708090a0b0c0d0e0f v1")
-      ≡ Some (Device 2 class.C 2 3 4 (0 ∷ 1 ∷ 2 ∷ 3 ∷ 4 ∷ 5 ∷ 6 ∷ 7 ∷ 8 ∷ 9 ∷ 10 ∷ 11 ∷ 12 ∷ 13 ∷ 14 ∷ 15 ∷ []) None true)
+      ≡ Some (Device 2 class.C 2 3 4 (0 ∷ 1 ∷ 2 ∷ 3 ∷ 4 ∷ 5 ∷ 6 ∷ 7 ∷ 8 ∷ 9 ∷ 10 ∷ 11 ∷ 12 ∷ 13 ∷ 14 ∷ 15 ∷ []) None true false)
   pub device_with_both : form_of (codes "device 2 c 2 3 4 000102030405060708090a0b0c0d0e0f 0000000a v1")
-      ≡ Some (Device 2 class.C 2 3 4 (0 ∷ 1 ∷ 2 ∷ 3 ∷ 4 ∷ 5 ∷ 6 ∷ 7 ∷ 8 ∷ 9 ∷ 10 ∷ 11 ∷ 12 ∷ 13 ∷ 14 ∷ 15 ∷ []) (Some 10) true)
+      ≡ Some (Device 2 class.C 2 3 4 (0 ∷ 1 ∷ 2 ∷ 3 ∷ 4 ∷ 5 ∷ 6 ∷ 7 ∷ 8 ∷ 9 ∷ 10 ∷ 11 ∷ 12 ∷ 13 ∷ 14 ∷ 15 ∷ []) (Some 10) true false)
+  pub device_k11 : form_of (codes "device 2 c 2 3 4 000102030405060708090a0b0c0d0e0f k11")
+      ≡ Some (Device 2 class.C 2 3 4 (0 ∷ 1 ∷ 2 ∷ 3 ∷ 4 ∷ 5 ∷ 6 ∷ 7 ∷ 8 ∷ 9 ∷ 10 ∷ 11 ∷ 12 ∷ 13 ∷ 14 ∷ 15 ∷ []) None false true)
+  pub device_v1_k11 : form_of (codes "device 2 c 2 3 4 000102030405060708090a0b0c0d0e0f v1 k11")
+      ≡ Some (Device 2 class.C 2 3 4 (0 ∷ 1 ∷ 2 ∷ 3 ∷ 4 ∷ 5 ∷ 6 ∷ 7 ∷ 8 ∷ 9 ∷ 10 ∷ 11 ∷ 12 ∷ 13 ∷ 14 ∷ 15 ∷ []) None true true)
+  pub device_k11_behind_descriptor : form_of (codes "device 2 c 2 3 4 000102030405060708090a0b0c0d0e0f 0000000a k11")
+      ≡ Some (Device 2 class.C 2 3 4 (0 ∷ 1 ∷ 2 ∷ 3 ∷ 4 ∷ 5 ∷ 6 ∷ 7 ∷ 8 ∷ 9 ∷ 10 ∷ 11 ∷ 12 ∷ 13 ∷ 14 ∷ 15 ∷ []) (Some 10) false true)
+  pub device_with_all : form_of (codes "device 2 c 2 3 4 000102030405060708090a0b0c0d0e0f 0000000a v1 k11")
+      ≡ Some (Device 2 class.C 2 3 4 (0 ∷ 1 ∷ 2 ∷ 3 ∷ 4 ∷ 5 ∷ 6 ∷ 7 ∷ 8 ∷ 9 ∷ 10 ∷ 11 ∷ 12 ∷ 13 ∷ 14 ∷ 15 ∷ []) (Some 10) true true)
   pub at : form_of (codes "at 4294967295999") ≡ Some (At 4294967295999)
   pub wake : form_of (codes "wake 7") ≡ Some (Wake 7)
   pub migrate : form_of (codes "migrate 7") ≡ Some (Migrate 7)
@@ -50,6 +58,15 @@ pub record AreNone : Type 0 where
   pub class_b : form_of (codes "device 1 b 2 3 4 000102030405060708090a0b0c0d0e0f") ≡ None
   pub formats_first : form_of (codes "device 2 c 2 3 4 000102030405060708090a0b0c0d0e0f v1 0000000a") ≡ None
   pub other_formats : form_of (codes "device 2 c 2 3 4 000102030405060708090a0b0c0d0e0f v2") ≡ None
+  pub root_before_formats : form_of (codes "device 2 c 2 3 4 000102030405060708090a0b0c0d0e0f k11 v1") ≡ None
+  pub root_before_descriptor : form_of (codes "device 2 c 2 3 4 000102030405060708090a0b0c0d0e0f k11 0000000a") ≡ None
+  pub root_twice : form_of (codes "device 2 c 2 3 4 000102030405060708090a0b0c0d0e0f k11 k11") ≡ None
+  pub root_between : form_of (codes "device 2 c 2 3 4 000102030405060708090a0b0c0d0e0f 0000000a k11 v1") ≡ None
+  pub formats_twice : form_of (codes "device 2 c 2 3 4 000102030405060708090a0b0c0d0e0f v1 v1 k11") ≡ None
+  pub other_root : form_of (codes "device 2 c 2 3 4 000102030405060708090a0b0c0d0e0f k10") ≡ None
+  pub capital_root : form_of (codes "device 2 c 2 3 4 000102030405060708090a0b0c0d0e0f K11") ≡ None
+  pub behind_all : form_of (codes "device 2 c 2 3 4 000102030405060708090a0b0c0d0e0f 0000000a v1 k11 k11") ≡ None
+  pub root_for_key : form_of (codes "device 2 c 2 3 4 k11") ≡ None
   pub window_a : form_of (codes "window a 1000 1 8695250 5") ≡ None
   pub odd_hex : form_of (codes "raw 7 201 080") ≡ None
   pub no_hex : form_of (codes "raw 7 201 08g1") ≡ None

@@ -12,7 +12,7 @@ abbrev pub group : (min max : ℕ) → Form
 group min max = Group 0 (replicate 16 0) min max
 
 abbrev pub device : (id hw rows offset : ℕ) → Form
-device id hw rows offset = Device id class.A hw rows offset (replicate 16 0) None false
+device id hw rows offset = Device id class.A hw rows offset (replicate 16 0) None false false
 
 pub record AreRanges : Type 0 where
   -- image: FRAGSIZE 1 to 239, PARITY to 512

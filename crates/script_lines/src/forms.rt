@@ -47,8 +47,8 @@ pub enum Form<'a> {
         freq: u64,
         dr: u64,
     },
-    /// `device ID CLASS HW ROWS OFFSET KEY [DESCRIPTOR] [v1]`: OFFSET in seconds, KEY the GenAppKey; with `v1` it knows
-    /// image format 1 alone, else both.
+    /// `device ID CLASS HW ROWS OFFSET KEY [DESCRIPTOR] [v1] [k11]`: OFFSET in seconds; with `v1` it knows image format 1
+    /// alone, else both. KEY is the GenAppKey of LoRaWAN 1.0, with `k11` the AppKey of LoRaWAN 1.1.
     Device {
         id: u64,
         class: Class,
@@ -58,6 +58,7 @@ pub enum Form<'a> {
         key: Key,
         descriptor: Option<u32>,
         v1: bool,
+        k11: bool,
     },
     /// `at MS`: the time now, in milliseconds since the GPS epoch.
     At {

@@ -2,7 +2,7 @@
 
 ghost use Rattle.std.specs.Prelude.{◌≡◌};
 ghost use Rattle.std.specs.Str.{bytes_eq};
-ghost use Rattle.script_lines.specs.Forms.{form_of, alone, header_form, image_form, group_form, window_form, window_c_form, window_b_form, device_form, device_words, at_form, wake_form, migrate_form, ask_form, down_form, down_words, raw_form, raw_words, up_form, class_at};
+ghost use Rattle.script_lines.specs.Forms.{form_of, alone, header_form, image_form, group_form, window_form, window_c_form, window_b_form, device_form, device_of_words, device_words, at_form, wake_form, migrate_form, ask_form, down_form, down_words, raw_form, raw_words, up_form, class_at};
 
 use crate::forms::{Class, Form};
 use crate::hex_bytes::HexBytes;
@@ -188,28 +188,41 @@ fn window_b_form(line: &[u8]) -> Option<Form<'_>>
     })
 }
 
-/// `device ID CLASS HW ROWS OFFSET KEY [DESCRIPTOR] [v1]`
+/// `device ID CLASS HW ROWS OFFSET KEY [DESCRIPTOR] [v1] [k11]`
 #[inline(never)]
 fn device_form(line: &[u8]) -> Option<Form<'_>>
     ensures { result ≡ device_form line.now }
 {
-    match count_words(line) {
-        7 => device_words(line, None, false),
-        8 if is_word(line, 7, "v1") => device_words(line, None, true),
+    let count = count_words(line);
+    if 7 < count && is_word(line, count - 1, "k11") {
+        device_of_words(line, count - 1, true)
+    } else {
+        device_of_words(line, count, false)
+    }
+}
+
+/// The same in so many words, those before `k11`.
+#[inline(never)]
+fn device_of_words(line: &[u8], count: usize, k11: bool) -> Option<Form<'_>>
+    ensures { result ≡ device_of_words line.now count k11 }
+{
+    match count {
+        7 => device_words(line, None, false, k11),
+        8 if is_word(line, 7, "v1") => device_words(line, None, true, k11),
         8 => {
             let descriptor = hex_number(word(line, 7))?;
-            device_words(line, Some(descriptor), false)
+            device_words(line, Some(descriptor), false, k11)
         }
         9 if is_word(line, 8, "v1") => {
             let descriptor = hex_number(word(line, 7))?;
-            device_words(line, Some(descriptor), true)
+            device_words(line, Some(descriptor), true, k11)
         }
         _ => None,
     }
 }
 
-fn device_words(line: &[u8], descriptor: Option<u32>, v1: bool) -> Option<Form<'_>>
-    ensures { result ≡ device_words line.now descriptor v1 }
+fn device_words(line: &[u8], descriptor: Option<u32>, v1: bool, k11: bool) -> Option<Form<'_>>
+    ensures { result ≡ device_words line.now descriptor v1 k11 }
 {
     let id = decimal(word(line, 1))?;
     let class = class_at(line, 2)?;
@@ -226,6 +239,7 @@ fn device_words(line: &[u8], descriptor: Option<u32>, v1: bool) -> Option<Form<'
         key,
         descriptor,
         v1,
+        k11,
     })
 }
 
