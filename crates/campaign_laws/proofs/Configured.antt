@@ -47,15 +47,15 @@ with_form : (lines : List (List ℕ)) (w : WorldState) (form : Form) (line : Lis
     → numbered lines (w.lines + 1) ≡ Some line → form_of line ≡ Some form → AllConfigured lines w.devices
     → AllConfigured lines (w.devices ++ filter_map device_in (Some form ∷ []))
 unfolding in_range
-with_form lines w (Device name class hw rows offset key descriptor v1) line fine line_is form_is h id =
-    elim (numbered_push w.devices (device_of class hw rows offset key descriptor v1) id) [
+with_form lines w (Device name class hw rows offset key descriptor v1 k11) line fine line_is form_is h id =
+    elim (numbered_push w.devices (device_of class hw rows offset key descriptor v1 k11) id) [
       | inl same ↦ subst (λ (o : Option DeviceState). IfSome o (λ d. IsOfItsLine lines id d.config)) (sym same) (h id)
       | inr new ↦
           let both = and_parts _ (name == length w.devices + 1)
-          (passes w (Device name class hw rows offset key descriptor v1) fine).ranged in
+          (passes w (Device name class hw rows offset key descriptor v1 k11) fine).ranged in
           let next : name ≡ length w.devices + 1 = eqb-true _ _ both.1 in
           some_is (λ (d : DeviceState). IsOfItsLine lines id d.config) _
-          (device_of class hw rows offset key descriptor v1) new.1 (
+          (device_of class hw rows offset key descriptor v1 k11) new.1 (
             w.lines + 1,
             line,
             class,
@@ -65,10 +65,11 @@ with_form lines w (Device name class hw rows offset key descriptor v1) line fine
             key,
             descriptor,
             v1,
+            k11,
             record {
               line_is = line_is;
               form = form_is
-                  ∙ ap (λ (n : ℕ). Some (Device n class hw rows offset key descriptor v1)) (next ∙ sym new.2);
+                  ∙ ap (λ (n : ℕ). Some (Device n class hw rows offset key descriptor v1 k11)) (next ∙ sym new.2);
               class_is = class_same class;
               hw_is = refl;
               rows_are = refl;
@@ -76,6 +77,7 @@ with_form lines w (Device name class hw rows offset key descriptor v1) line fine
               key_is = refl;
               descriptor_is = refl;
               formats_are = refl;
+              root_is = refl;
               sessions_are = refl;
               groups_are = refl;
               area_is = refl;

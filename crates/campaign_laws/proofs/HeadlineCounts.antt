@@ -7,7 +7,6 @@ use Rattle.package_grammar.specs.declared.command.Command.{Command}
 use Rattle.package_grammar.specs.Reading.{Reading, reading_of}
 use Rattle.device_core.specs.Device.{DeviceState}
 use Rattle.device_core.specs.Events.{Event, event_step}
-use Rattle.mc_keys.specs.declared.root_kind.RootKind.TheVariants.{V10}
 use Rattle.campaign_server.specs.declared.stage.Stage.{Stage}
 use Rattle.campaign_server.specs.declared.stage.Stage.TheVariants.{At as AtRequest}
 use Rattle.campaign_server.specs.declared.stage.Request.TheVariants.{Version}
@@ -30,7 +29,7 @@ use Rattle.campaign_world.specs.declared.numbered.SentPayload.{SentPayload}
 use Rattle.campaign_world.specs.declared.numbered.MadeUplink.{MadeUplink}
 use Rattle.campaign_world.specs.World.{WorldState, first_world}
 use Rattle.campaign_world.specs.Causes.{is_event_or_end, may_come, form_cause, cause_of_form, cause_of}
-use Rattle.campaign_world.specs.Making.{with_sent, with_device, event_of, after_event_at, with_event_of, after_answer, after_up, at_events, after_form}
+use Rattle.campaign_world.specs.Making.{with_sent, with_device, event_of, after_event_at, with_event_of, after_answer, after_up, at_events, root_of, after_form}
 use Rattle.campaign_world.specs.Script.{after_form_of, after_line, line_result, read_line, read_lines, campaign_of}
 use Rattle.campaign_laws.specs.Lives.{HasItsDevices}
 use Rattle.campaign_world.proofs.FormCauses.{event_at, passes}
@@ -170,14 +169,14 @@ form_counted w (WindowB start periodicity timeout freq dr) fine k = record {
   some = tt;
   even = record { stages = planned_even w.server.plan _ k.even.planned; planned = k.even.planned };
 }
-form_counted w (Device id class hw rows offset key descriptor v1) fine k =
+form_counted w (Device id class hw rows offset key descriptor v1 k11) fine k =
     let more = length_push w.devices _ in
-    let planned : length (w.server.plan.devices ++ record { key = key; root = V10 } ∷ []) ≡ _ =
-    length_push w.server.plan.devices (record { key = key; root = V10 }) ∙ ap (λ (n : ℕ). n + 1) k.even.planned ∙ sym more in
+    let planned : length (w.server.plan.devices ++ record { key = key; root = root_of k11 } ∷ []) ≡ _ =
+    length_push w.server.plan.devices (record { key = key; root = root_of k11 }) ∙ ap (λ (n : ℕ). n + 1) k.even.planned ∙ sym more in
     record {
       some = omega (arith, more);
       even = record {
-        stages = length-replicate (length (w.server.plan.devices ++ record { key = key; root = V10 } ∷ [])) (AtRequest Version)
+        stages = length-replicate (length (w.server.plan.devices ++ record { key = key; root = root_of k11 } ∷ [])) (AtRequest Version)
             ∙ planned;
         planned = planned;
       };

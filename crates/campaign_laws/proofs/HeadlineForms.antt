@@ -379,14 +379,14 @@ form_turn image w (WindowB start periodicity timeout freq dr) bytes k fine hones
     (record { image_is = k.server.image_is; next = omega arith; few = k.server.few })
     (late_cut image w (WindowB start periodicity timeout freq dr) w.section refl
     (passes w (WindowB start periodicity timeout freq dr) fine).may k.stands) refl refl refl refl
-form_turn image w (Device id class hw rows offset key descriptor v1) bytes k fine honest =
-    let p = passes w (Device id class hw rows offset key descriptor v1) fine in
+form_turn image w (Device id class hw rows offset key descriptor v1 k11) bytes k fine honest =
+    let p = passes w (Device id class hw rows offset key descriptor v1 k11) fine in
     let both = and_parts (ranged id hw rows offset) (id == length w.devices + 1) p.ranged in
     let next : id ≡ length w.devices + 1 = eqb-true _ _ both.1 in
     record {
       lines = refl;
       server = record { image_is = k.server.image_is; next = omega arith; few = k.server.few };
-      stands = late_cut image w (Device id class hw rows offset key descriptor v1) w.section refl p.may k.stands;
+      stands = late_cut image w (Device id class hw rows offset key descriptor v1 k11) w.section refl p.may k.stands;
       how = inr (inr (inl (record {
         other = refl;
         cut = refl;
@@ -397,7 +397,8 @@ form_turn image w (Device id class hw rows offset key descriptor v1) bytes k fin
         key = key;
         descriptor = descriptor;
         v1 = v1;
-        form_is = ap (λ (n : ℕ). Device n class hw rows offset key descriptor v1) next;
+        k11 = k11;
+        form_is = ap (λ (n : ℕ). Device n class hw rows offset key descriptor v1 k11) next;
         few = few_rows id hw rows offset both.0;
         devices = refl;
         sent = refl;

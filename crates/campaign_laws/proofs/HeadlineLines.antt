@@ -348,7 +348,7 @@ turn_came image lines w v form line bytes k read turn line_is form_is h = elim t
       | inl j ↦ subst (λ (ss : List SentPayload). AllCame image lines ss (w.lines + 1) v.devices) (sym j.sent)
           (subst (AllCame image lines w.sent (w.lines + 1)) (sym j.devices)
           (joined_came image lines w.sent w.lines w.devices
-          (config_of j.class j.hw j.rows j.offset j.key j.descriptor j.v1) h))
+          (config_of j.class j.hw j.rows j.offset j.key j.descriptor j.v1 j.k11) h))
       | inr r ↦ subst (λ (ss : List SentPayload). AllCame image lines ss (w.lines + 1) v.devices) (sym r.sent)
           (subst (AllCame image lines w.sent (w.lines + 1)) (sym r.devices) (reached r))
     ]

@@ -103,9 +103,10 @@ pub record IsJoined (form : Form) (w v : WorldState) : Type 0 where
   pub key : List ℕ
   pub descriptor : Option ℕ
   pub v1 : Bool
-  pub form_is : form ≡ Device (length w.devices + 1) class hw rows offset key descriptor v1
+  pub k11 : Bool
+  pub form_is : form ≡ Device (length w.devices + 1) class hw rows offset key descriptor v1 k11
   pub few : rows ≤ max_rows
-  pub devices : v.devices ≡ w.devices ++ device_of class hw rows offset key descriptor v1 ∷ []
+  pub devices : v.devices ≡ w.devices ++ device_of class hw rows offset key descriptor v1 k11 ∷ []
   pub sent : v.sent ≡ w.sent
 
 -- a payload reaches a device
@@ -207,7 +208,7 @@ turn_keeps image form w v k turn = elim turn.how [
         devices = subst (λ (x : Cut). DevicesAre image x v.devices) (sym j.cut)
             (subst (DevicesAre image (cut_of w.server.plan)) (sym j.devices)
             (joined_devices image (cut_of w.server.plan) w.devices
-            (config_of j.class j.hw j.rows j.offset j.key j.descriptor j.v1)
+            (config_of j.class j.hw j.rows j.offset j.key j.descriptor j.v1 j.k11)
             (record { sessions = refl; area = refl; rows = j.few }) k.devices));
       }
       | inr r ↦

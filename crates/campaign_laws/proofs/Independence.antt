@@ -222,7 +222,7 @@ form_told id all w (WindowC start timeout freq dr) fine =
 form_told id all w (WindowB start periodicity timeout freq dr) fine =
     still_told id all w _ (WindowB start periodicity timeout freq dr)
     (same_still w _ refl refl refl refl) refl refl refl
-form_told id all w (Device name class hw rows offset key descriptor v1) fine = record {
+form_told id all w (Device name class hw rows offset key descriptor v1 k11) fine = record {
   lines = refl;
   time = refl;
   sent = same_sent w;

@@ -396,8 +396,8 @@ form_holds image w (Image frag_size parity) bytes is k h fine honest = plan_hold
 form_holds image w (Group addr key min max) bytes is k h fine honest = plan_holds image w _ _ h
 form_holds image w (WindowC start timeout freq dr) bytes is k h fine honest = plan_holds image w _ _ h
 form_holds image w (WindowB start periodicity timeout freq dr) bytes is k h fine honest = plan_holds image w _ _ h
-form_holds image w (Device id class hw rows offset key descriptor v1) bytes is k h fine honest =
-    let form : Form = Device id class hw rows offset key descriptor v1 in
+form_holds image w (Device id class hw rows offset key descriptor v1 k11) bytes is k h fine honest =
+    let form : Form = Device id class hw rows offset key descriptor v1 k11 in
     let both = and_parts (in_range form) (fits_script (length w.server.image) (length w.devices) form)
     (passes w form fine).ranged in
     let small : hw < 2 ^ 32 = ltb-true hw (2 ^ 32)

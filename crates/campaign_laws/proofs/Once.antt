@@ -140,8 +140,8 @@ form_goes w (Image frag_size parity) fine over = no_plan w (Image frag_size pari
 form_goes w (Group addr key min max) fine over = no_plan w (Group addr key min max) fine over (plan_at w.section (Group addr key min max) refl)
 form_goes w (WindowC start timeout freq dr) fine over = no_plan w (WindowC start timeout freq dr) fine over (plan_at w.section (WindowC start timeout freq dr) refl)
 form_goes w (WindowB start periodicity timeout freq dr) fine over = no_plan w (WindowB start periodicity timeout freq dr) fine over (plan_at w.section (WindowB start periodicity timeout freq dr) refl)
-form_goes w (Device id class hw rows offset key descriptor v1) fine over =
-    no_plan w (Device id class hw rows offset key descriptor v1) fine over (plan_at w.section (Device id class hw rows offset key descriptor v1) refl)
+form_goes w (Device id class hw rows offset key descriptor v1 k11) fine over =
+    no_plan w (Device id class hw rows offset key descriptor v1 k11) fine over (plan_at w.section (Device id class hw rows offset key descriptor v1 k11) refl)
 form_goes w (AtTime time) fine over = still w _ refl refl refl
 form_goes w (Wake n) fine over = form_event_goes w n (Wake n)
 form_goes w (Migrate n) fine over = form_event_goes w n (Migrate n)
@@ -218,7 +218,7 @@ form_image w (Image frag_size parity) = refl
 form_image w (Group addr key min max) = refl
 form_image w (WindowC start timeout freq dr) = refl
 form_image w (WindowB start periodicity timeout freq dr) = refl
-form_image w (Device id class hw rows offset key descriptor v1) = refl
+form_image w (Device id class hw rows offset key descriptor v1 k11) = refl
 form_image w (AtTime time) = refl
 form_image w (Wake n) = (form_event_goes w n (Wake n)).image
 form_image w (Migrate n) = (form_event_goes w n (Migrate n)).image

@@ -163,7 +163,7 @@ numbered_replicate count n x low high =
 
 -- another device may come
 abbrev pub TakesDevice : Section → Type 0
-TakesDevice here = (id hw rows offset : ℕ) (key : List ℕ) (descriptor : Option ℕ) (v1 : Bool) → may_come here (Device id class.C hw rows offset key descriptor v1) ≡ true
+TakesDevice here = (id hw rows offset : ℕ) (key : List ℕ) (descriptor : Option ℕ) (v1 k11 : Bool) → may_come here (Device id class.C hw rows offset key descriptor v1 k11) ≡ true
 
 -- so many devices have joined
 pub record Joined (image : List ℕ) (devices : ℕ) (w : WorldState) : Type 0 where
@@ -190,7 +190,7 @@ start image few =
       server = refl;
       plan = record { size = refl; parity = refl; group = refl };
       time = refl;
-      takes = λ id hw rows offset key descriptor v1. refl;
+      takes = λ id hw rows offset key descriptor v1 k11. refl;
       events = λ some. absurd (omega (arith, some));
       keys = refl;
       count = refl;
@@ -210,12 +210,12 @@ device_to : (image : List ℕ) (k g : ℕ) (w : WorldState) → k < 8 → Joined
 unfolding after_form in_range
 device_to image k g w few j =
     one w (device_form (k + 1) (drawn g)) (Joined image (k + 1))
-    (no_cause w (device_form (k + 1) (drawn g)) (record { comes = j.takes (k + 1) 1 64 (drawn g) (replicate 16 0) None false; ranges = ranged; fits = rw j.count same }) refl refl refl refl refl)
+    (no_cause w (device_form (k + 1) (drawn g)) (record { comes = j.takes (k + 1) 1 64 (drawn g) (replicate 16 0) None false false; ranges = ranged; fits = rw j.count same }) refl refl refl refl refl)
     (record {
       server = ap (λ (s : ServerState). first_server s.image plan') j.server;
       plan = record { size = j.plan.size; parity = j.plan.parity; group = j.plan.group };
       time = j.time;
-      takes = λ id hw rows offset key descriptor v1. refl;
+      takes = λ id hw rows offset key descriptor v1 k11. refl;
       events = λ some. takes_first_event;
       keys = rw length-append (ap (λ (i : ℕ). i + 1) j.keys);
       count = rw length-append (ap (λ (i : ℕ). i + 1) j.count);
@@ -240,7 +240,7 @@ device_to image k g w few j =
     same = grind arith
 
     new : DeviceState
-    new = device_of class.C 1 64 (drawn g) (replicate 16 0) None false
+    new = device_of class.C 1 64 (drawn g) (replicate 16 0) None false false
 
     each : (n : ℕ) → 1 ≤ n → n ≤ k + 1 → (d : DeviceState) × (numbered (w.devices ++ new ∷ []) n ≡ Some d) × IsNew d
     each n l h = by (n == k + 1) refl

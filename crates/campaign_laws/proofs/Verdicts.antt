@@ -139,9 +139,9 @@ history_fine lines sent id time k (line ∷ rest) d left h =
 fresh_by : (carries : ℕ → Command → Type 0) (forms : List (Option Form)) (n : ℕ) (d : DeviceState)
     → slice_get (filter_map device_in forms) n ≡ Some d → AreFine carries 0 d
 fresh_by carries [] n d is = absurd cc
-fresh_by carries (Some (Device id class hw rows offset key descriptor v1) ∷ forms) zero d is =
-    let same : device_of class hw rows offset key descriptor v1 ≡ d = cc in subst (AreFine carries 0) same (tt, tt, tt, tt)
-fresh_by carries (Some (Device id class hw rows offset key descriptor v1) ∷ forms) (suc n) d is = fresh_by carries forms n d is
+fresh_by carries (Some (Device id class hw rows offset key descriptor v1 k11) ∷ forms) zero d is =
+    let same : device_of class hw rows offset key descriptor v1 k11 ≡ d = cc in subst (AreFine carries 0) same (tt, tt, tt, tt)
+fresh_by carries (Some (Device id class hw rows offset key descriptor v1 k11) ∷ forms) (suc n) d is = fresh_by carries forms n d is
 fresh_by carries (form ∷ forms) n d is = fresh_by carries forms n d is
 
 fresh_at : (carries : ℕ → Command → Type 0) (forms : List (Option Form)) (n : ℕ) (d : DeviceState) (b : Bool)

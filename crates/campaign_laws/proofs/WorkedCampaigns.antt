@@ -82,6 +82,7 @@ reported_so = record {
   others = refl;
   ranged = refl;
   formats = refl;
+  roots = refl;
   group = refl;
   strangers = refl;
 }

@@ -21,7 +21,7 @@ use Rattle.device_core.specs.declared.config.Class.TheVariants as device_class
 use Rattle.device_core.specs.declared.config.DeviceConfig.{DeviceConfig}
 use Rattle.device_core.specs.SessionTable.{SessionTable}
 use Rattle.device_core.specs.Device.{DeviceState, max_area}
-use Rattle.campaign_world.specs.Making.{formats_of}
+use Rattle.campaign_world.specs.Making.{formats_of, root_of}
 use Rattle.device_core.specs.ClassSessions.{hears}
 use Rattle.device_core.specs.Firmware.{after_due_reboot}
 use Rattle.device_core.specs.Deliver.{via_of}
@@ -63,9 +63,9 @@ IsClass class.A k = k ≡ device_class.A
 IsClass class.C k = k ≡ device_class.C
 
 -- line n of the script is the line of device id, which says this configuration
-pub record IsConfigured (lines : List (List ℕ)) (id : ℕ) (config : DeviceConfig) (n : ℕ) (line : List ℕ) (class : Class) (hw rows offset : ℕ) (key : List ℕ) (descriptor : Option ℕ) (v1 : Bool) : Type 0 where
+pub record IsConfigured (lines : List (List ℕ)) (id : ℕ) (config : DeviceConfig) (n : ℕ) (line : List ℕ) (class : Class) (hw rows offset : ℕ) (key : List ℕ) (descriptor : Option ℕ) (v1 k11 : Bool) : Type 0 where
   pub line_is : numbered lines n ≡ Some line
-  pub form : form_of line ≡ Some (Device id class hw rows offset key descriptor v1)
+  pub form : form_of line ≡ Some (Device id class hw rows offset key descriptor v1 k11)
   pub class_is : IsClass class config.class
   pub hw_is : config.hw ≡ hw
   pub rows_are : config.rows ≡ rows
@@ -73,14 +73,15 @@ pub record IsConfigured (lines : List (List ℕ)) (id : ℕ) (config : DeviceCon
   pub key_is : config.key ≡ key
   pub descriptor_is : config.descriptor ≡ descriptor
   pub formats_are : config.formats ≡ formats_of v1
+  pub root_is : config.root ≡ root_of k11
   pub sessions_are : config.sessions ≡ 4
   pub groups_are : config.groups ≡ 4
   pub area_is : config.area ≡ max_area
 
 -- the configuration is that of the device's line
 abbrev pub IsOfItsLine : List (List ℕ) → (id : ℕ) → DeviceConfig → Type 0
-IsOfItsLine lines id config = (n : ℕ) × (line : List ℕ) × (class : Class) × (hw : ℕ) × (rows : ℕ) × (offset : ℕ) × (key : List ℕ) × (descriptor : Option ℕ) × (v1 : Bool)
-    × IsConfigured lines id config n line class hw rows offset key descriptor v1
+IsOfItsLine lines id config = (n : ℕ) × (line : List ℕ) × (class : Class) × (hw : ℕ) × (rows : ℕ) × (offset : ℕ) × (key : List ℕ) × (descriptor : Option ℕ) × (v1 : Bool) × (k11 : Bool)
+    × IsConfigured lines id config n line class hw rows offset key descriptor v1 k11
 
 -- the session is the one that the server sets up for the image on a device with so many rows, and hears nothing but the
 -- image's fragments

@@ -18,7 +18,8 @@ use Rattle.campaign_world.specs.Script.{campaign_of}
 
 -- a device line gives a device, as it is first
 abbrev pub device_in : Option Form → Option DeviceState
-device_in (Some (Device id class hw rows offset key descriptor v1)) = Some (device_of class hw rows offset key descriptor v1)
+device_in (Some (Device id class hw rows offset key descriptor v1 k11)) =
+    Some (device_of class hw rows offset key descriptor v1 k11)
 device_in form = None
 
 -- the devices of a script, in the order of their IDs, as they are first

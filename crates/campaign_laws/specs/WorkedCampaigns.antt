@@ -3,6 +3,8 @@ use Rattle.std.specs.Prelude.{◌≡◌, ℕ, ◌+◌, true, false, List, [], �
 use Rattle.frag_session.specs.declared.answers.Verdict.{Verdict}
 use Rattle.frag_session.specs.declared.answers.Verdict.TheVariants as verdict
 use Rattle.frag_session.specs.Session.{Session, Seen, view_of}
+use Rattle.mc_keys.specs.declared.root_kind.RootKind.{RootKind}
+use Rattle.mc_keys.specs.declared.root_kind.RootKind.TheVariants.{V10, V11}
 use Rattle.device_core.specs.Device.{DeviceState}
 use Rattle.campaign_server.specs.declared.stage.Stage.TheVariants.{At, Updated, Refused}
 use Rattle.campaign_server.specs.declared.stage.Request.TheVariants as request
@@ -46,6 +48,15 @@ formats_behind script = known_in (campaign_of worked_image script)
     known_in (Err fault) = []
     known_in (Ok world) = map (λ device. device.slots.formats) world.devices
 
+-- which kinds of root keys the plan has behind a script, and behind them those of the devices
+abbrev pub roots_behind : (script : List ℕ) → List RootKind
+roots_behind script = roots_in (campaign_of worked_image script)
+  where
+    roots_in : Result WorldState LineFault → List RootKind
+    roots_in (Err fault) = []
+    roots_in (Ok world) =
+        map (λ planned. planned.root) world.server.plan.devices ++ map (λ device. device.config.root) world.devices
+
 pub record AreReported : Type 0 where
   -- a device that wakes is set right once
   pub clock : told (one_device (codes "at 10000\nwake 1\nup 1\ndown 1 1\ndown 1 1\nend\n")) ≡ reported (codes
@@ -70,6 +81,10 @@ pub record AreReported : Type 0 where
   pub formats : formats_behind (codes
       "fuota 1\nimage 13 0\ndevice 1 c 1 0 0 00000000000000000000000000000000\ndevice 2 c 1 0 0 00000000000000000000000000000000 v1\ndevice 3 c 1 0 0 00000000000000000000000000000000 0000000a v1\nmigrate 3\nend\n")
       ≡ 2 ∷ 1 ∷ 2 ∷ []
+  -- the keys of two of three devices are AppKeys of LoRaWAN 1.1, for both ends
+  pub roots : roots_behind (codes
+      "fuota 1\nimage 13 0\ndevice 1 c 1 0 0 00000000000000000000000000000000\ndevice 2 c 1 0 0 00000000000000000000000000000000 k11\ndevice 3 c 1 0 0 00000000000000000000000000000000 0000000a v1 k11\nend\n")
+      ≡ V10 ∷ V11 ∷ V11 ∷ V10 ∷ V11 ∷ V11 ∷ []
   -- a device of a group is asked for it first, and is deaf to the group until it has its session
   pub group : told (codes
       "fuota 1\nimage 52 0\ngroup 11223344 00000000000000000000000000000000 0 10\nwindow c 1000 0 8695250 0\ndevice 1 c 1 0 0 00000000000000000000000000000000\nask 1\ndown 1 1\nup 1\nfrag\nstatus\ndown 2 1\ndown 3 1\nend\n")
@@ -158,7 +173,7 @@ heard_session = record {
 
 abbrev pub counted_device : Option Session → DeviceState
 counted_device session =
-    let device = device_of class.C 1 0 0 [] None false in
+    let device = device_of class.C 1 0 0 [] None false false in
     record device { sessions = record device.sessions { first = session } }
 
 -- what a session shows, with this verdict

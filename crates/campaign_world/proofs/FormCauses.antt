@@ -150,7 +150,7 @@ unmade_sends image section plan devices (form.Image frag_size parity) fine plann
 unmade_sends image section plan devices (form.Group addr key min max) fine planned comes = refl
 unmade_sends image section plan devices (form.WindowC start timeout freq dr) fine planned comes = refl
 unmade_sends image section plan devices (form.WindowB start periodicity timeout freq dr) fine planned comes = refl
-unmade_sends image section plan devices (form.Device id class hw rows offset key descriptor v1) fine planned comes = refl
+unmade_sends image section plan devices (form.Device id class hw rows offset key descriptor v1 k11) fine planned comes = refl
 unmade_sends image section plan devices (form.At time) fine planned comes = refl
 unmade_sends image section plan devices (form.Wake device) fine planned comes = refl
 unmade_sends image section plan devices (form.Migrate device) fine planned comes = refl
@@ -308,7 +308,7 @@ time_within f time ranges is = let fits : nat_le time max_time ≡ true = rw is 
 
 some_devices : (n : ℕ) → (ds : List DeviceState) × (length ds ≡ n)
 some_devices zero = ([], refl)
-some_devices (suc n) = let more = some_devices n in (device_of class.C 0 0 0 [] None false ∷ more.0, ap suc more.1)
+some_devices (suc n) = let more = some_devices n in (device_of class.C 0 0 0 [] None false false ∷ more.0, ap suc more.1)
 
 pub record Fine (held : HeldWorld) (form : Form) : Type 0 where
   pub comes : may_come held.section form ≡ true
@@ -350,7 +350,7 @@ event_at s (form.Image frag_size parity) event comes = absurd cc
 event_at s (form.Group addr key min max) event comes = absurd cc
 event_at s (form.WindowC start timeout freq dr) event comes = absurd cc
 event_at s (form.WindowB start periodicity timeout freq dr) event comes = absurd cc
-event_at s (form.Device id class hw rows offset key descriptor v1) event comes = absurd cc
+event_at s (form.Device id class hw rows offset key descriptor v1 k11) event comes = absurd cc
 event_at s (form.At time) event comes = at_events_only (λ (x : Section). may_come x (form.At time)) refl refl refl refl refl refl s comes
 event_at s (form.Wake device) event comes = at_events_only (λ (x : Section). may_come x (form.Wake device)) refl refl refl refl refl refl s comes
 event_at s (form.Migrate device) event comes = at_events_only (λ (x : Section). may_come x (form.Migrate device)) refl refl refl refl refl refl s comes
@@ -401,11 +401,11 @@ header_at s f is comes = by_section s (rw is at comes)
 alone : (plan : Plan) → plan.group ≡ None → plan.window ≡ None → IsWindowed plan
 alone plan no_group no_window = rw (no_group, no_window) refl
 
-pub joins_at : (image : List ℕ) (s : Section) (plan : Plan) (devices : List Late) (server : Option ServerState) (f : Form) (id hw rows offset : ℕ) (k : Class) (key : List ℕ) (descriptor : Option ℕ) (v1 : Bool)
-    → f ≡ form.Device id k hw rows offset key descriptor v1 → may_come s f ≡ true → IsPlanned image s plan devices server → IsSized image plan devices × IsWindowed plan × (server ≡ None)
-joins_at image s plan devices server f id hw rows offset k key descriptor v1 is comes planned = by_section s (rw is at comes) planned
+pub joins_at : (image : List ℕ) (s : Section) (plan : Plan) (devices : List Late) (server : Option ServerState) (f : Form) (id hw rows offset : ℕ) (k : Class) (key : List ℕ) (descriptor : Option ℕ) (v1 k11 : Bool)
+    → f ≡ form.Device id k hw rows offset key descriptor v1 k11 → may_come s f ≡ true → IsPlanned image s plan devices server → IsSized image plan devices × IsWindowed plan × (server ≡ None)
+joins_at image s plan devices server f id hw rows offset k key descriptor v1 k11 is comes planned = by_section s (rw is at comes) planned
   where
-    by_section : (s : Section) → may_come s (form.Device id k hw rows offset key descriptor v1) ≡ true → IsPlanned image s plan devices server → IsSized image plan devices × IsWindowed plan × (server ≡ None)
+    by_section : (s : Section) → may_come s (form.Device id k hw rows offset key descriptor v1 k11) ≡ true → IsPlanned image s plan devices server → IsSized image plan devices × IsWindowed plan × (server ≡ None)
     by_section place.Header comes planned = absurd cc
     by_section place.Image comes planned = absurd cc
     by_section place.Group comes planned = (planned.0, alone plan planned.1 planned.2, planned.3)
@@ -515,10 +515,10 @@ pub record Fitting (count id hw rows offset : ℕ) : Type 0 where
   pub offset_fits : offset < 2 ^ 32
   pub next : count < max_devices
 
-pub fitting : (len count : ℕ) (f : Form) (id hw rows offset : ℕ) (k : Class) (key : List ℕ) (descriptor : Option ℕ) (v1 : Bool) → f ≡ form.Device id k hw rows offset key descriptor v1 → in_range f ≡ true
+pub fitting : (len count : ℕ) (f : Form) (id hw rows offset : ℕ) (k : Class) (key : List ℕ) (descriptor : Option ℕ) (v1 k11 : Bool) → f ≡ form.Device id k hw rows offset key descriptor v1 k11 → in_range f ≡ true
     → fits_script len count f ≡ true → Fitting count id hw rows offset
 unfolding in_range
-fitting len count f id hw rows offset k key descriptor v1 is ranges fits =
+fitting len count f id hw rows offset k key descriptor v1 k11 is ranges fits =
     let all : (nat_le 1 id && nat_le id max_devices && nat_lt hw (2 ^ 32) && nat_le rows max_rows && nat_lt offset (2 ^ 32)) ≡ true = rw is at ranges in
     let a = and_parts (nat_le 1 id && nat_le id max_devices && nat_lt hw (2 ^ 32) && nat_le rows max_rows) (nat_lt offset (2 ^ 32)) all in
     let b = and_parts (nat_le 1 id && nat_le id max_devices && nat_lt hw (2 ^ 32)) (nat_le rows max_rows) a.0 in

@@ -28,7 +28,7 @@ is_event_or_end (Image frag_size parity) = false
 is_event_or_end (Group addr key min max) = false
 is_event_or_end (WindowC start timeout freq dr) = false
 is_event_or_end (WindowB start periodicity timeout freq dr) = false
-is_event_or_end (Device id class hw rows offset key descriptor v1) = false
+is_event_or_end (Device id class hw rows offset key descriptor v1 k11) = false
 is_event_or_end form = true
 
 -- the form may come here
@@ -36,11 +36,11 @@ abbrev pub may_come : Section → Form → Bool
 may_come section.Header Header = true
 may_come section.Image (Image frag_size parity) = true
 may_come section.Group (Group addr key min max) = true
-may_come section.Group (Device id class hw rows offset key descriptor v1) = true
+may_come section.Group (Device id class hw rows offset key descriptor v1 k11) = true
 may_come section.Window (WindowC start timeout freq dr) = true
 may_come section.Window (WindowB start periodicity timeout freq dr) = true
-may_come section.Device (Device id class hw rows offset key descriptor v1) = true
-may_come section.Devices (Device id class hw rows offset key descriptor v1) = true
+may_come section.Device (Device id class hw rows offset key descriptor v1 k11) = true
+may_come section.Devices (Device id class hw rows offset key descriptor v1 k11) = true
 may_come section.Devices form = is_event_or_end form
 may_come section.Events form = is_event_or_end form
 may_come here form = false
@@ -55,7 +55,7 @@ has_ended here = false
 -- an image of this length has at most 4,096 fragments; behind so many devices the ID is the next
 abbrev pub fits_script : (len count : ℕ) → Form → Bool
 fits_script len count (Image frag_size parity) = nat_le (nb_frag_of len frag_size) max_pieces
-fits_script len count (Device id class hw rows offset key descriptor v1) = id == count + 1
+fits_script len count (Device id class hw rows offset key descriptor v1 k11) = id == count + 1
 fits_script len count form = true
 
 -- ---- device, unsent, time

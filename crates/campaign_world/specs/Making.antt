@@ -4,7 +4,8 @@ use Rattle.std.specs.Result.{result_ok}
 use Rattle.wire_base.specs.declared.refusal.Refusal.{Refusal}
 use Rattle.package_grammar.specs.declared.downlink.Downlink.{Downlink}
 use Rattle.package_grammar.specs.declared.downlink.To.TheVariants.{Unicast}
-use Rattle.mc_keys.specs.declared.root_kind.RootKind.TheVariants.{V10}
+use Rattle.mc_keys.specs.declared.root_kind.RootKind.{RootKind}
+use Rattle.mc_keys.specs.declared.root_kind.RootKind.TheVariants.{V10, V11}
 use Rattle.device_core.specs.declared.config.Class.{Class as DeviceClass}
 use Rattle.device_core.specs.declared.config.Class.TheVariants as device_class
 use Rattle.device_core.specs.declared.config.DeviceConfig.{DeviceConfig}
@@ -48,24 +49,29 @@ abbrev pub formats_of : (v1 : Bool) → ℕ
 formats_of true = 1
 formats_of false = 2
 
--- a device is of LoRaWAN 1.0, and has 4 sessions, 4 groups, and an area for the largest file
-abbrev pub config_of : Class → (hw rows offset : ℕ) → (key : List ℕ) → (descriptor : Option ℕ) → (v1 : Bool) → DeviceConfig
-config_of class hw rows offset key descriptor v1 = record {
+-- the key is the AppKey of LoRaWAN 1.1, or the GenAppKey of LoRaWAN 1.0
+abbrev pub root_of : (k11 : Bool) → RootKind
+root_of true = V11
+root_of false = V10
+
+-- a device has 4 sessions, 4 groups, and an area for the largest file
+abbrev pub config_of : Class → (hw rows offset : ℕ) → (key : List ℕ) → (descriptor : Option ℕ) → (v1 k11 : Bool) → DeviceConfig
+config_of class hw rows offset key descriptor v1 k11 = record {
   class = class_of class;
   hw = hw;
   formats = formats_of v1;
   rows = rows;
   offset = offset;
   key = key;
-  root = V10;
+  root = root_of k11;
   descriptor = descriptor;
   sessions = 4;
   groups = 4;
   area = max_area;
 }
 
-abbrev pub device_of : Class → (hw rows offset : ℕ) → (key : List ℕ) → (descriptor : Option ℕ) → (v1 : Bool) → DeviceState
-device_of class hw rows offset key descriptor v1 = first_device (config_of class hw rows offset key descriptor v1)
+abbrev pub device_of : Class → (hw rows offset : ℕ) → (key : List ℕ) → (descriptor : Option ℕ) → (v1 k11 : Bool) → DeviceState
+device_of class hw rows offset key descriptor v1 k11 = first_device (config_of class hw rows offset key descriptor v1 k11)
 
 -- ---- what goes down
 
@@ -147,9 +153,9 @@ after_form world (WindowC start timeout freq dr) =
     with_plan world (with_window world.server.plan kind.C start timeout freq dr) section.Device
 after_form world (WindowB start periodicity timeout freq dr) =
     with_plan world (with_window world.server.plan (kind.B periodicity) start timeout freq dr) section.Device
-after_form world (Device id class hw rows offset key descriptor v1) =
-    let plan = record world.server.plan { devices = world.server.plan.devices ++ record { key = key; root = V10 } ∷ [] } in
-    with_plan (record world { devices = world.devices ++ device_of class hw rows offset key descriptor v1 ∷ [] }) plan section.Devices
+after_form world (Device id class hw rows offset key descriptor v1 k11) =
+    let plan = record world.server.plan { devices = world.server.plan.devices ++ record { key = key; root = root_of k11 } ∷ [] } in
+    with_plan (record world { devices = world.devices ++ device_of class hw rows offset key descriptor v1 k11 ∷ [] }) plan section.Devices
 after_form world (At time) = at_events (record world { time = time })
 after_form world (Wake device) = with_event_of world device (Wake device)
 after_form world (Migrate device) = with_event_of world device (Migrate device)

@@ -4,7 +4,7 @@ ghost use Rattle.std.specs.Prelude.{◌≡◌, ◌≤◌, ◌<◌, ◌++◌, ◌
 ghost use Rattle.campaign_server.specs.Plan.{is_frag_size, fits_bits};
 ghost use Rattle.campaign_world.specs.Causes.{is_event_or_end};
 ghost use Rattle.device_core.specs.Device.{is_config, first_device};
-ghost use Rattle.campaign_world.specs.Making.{with_plan, class_of, formats_of, after_form};
+ghost use Rattle.campaign_world.specs.Making.{with_plan, class_of, formats_of, root_of, after_form};
 ghost use Rattle.campaign_world.specs.declared.section.Section.TheVariants as section;
 
 use super::World;
@@ -101,6 +101,7 @@ impl World {
                 key,
                 descriptor,
                 v1,
+                k11,
                 ..
             } => {
                 let key = *key;
@@ -111,7 +112,7 @@ impl World {
                     rows: *rows as u16,
                     offset: *offset as u32,
                     key,
-                    root: RootKind::V10,
+                    root: root_of(*k11),
                     descriptor: *descriptor,
                     sessions: SESSIONS,
                     groups: GROUPS,
@@ -223,6 +224,13 @@ fn formats_of(v1: bool) -> u8
     ensures { result ≡ formats_of v1 }
 {
     if v1 { 1 } else { 2 }
+}
+
+/// The kind of root key that a device's key is: the AppKey of LoRaWAN 1.1, or the GenAppKey of LoRaWAN 1.0.
+fn root_of(k11: bool) -> RootKind
+    ensures { result ≡ root_of k11 }
+{
+    if k11 { RootKind::V11 } else { RootKind::V10 }
 }
 
 /// The class of a device.

@@ -37,20 +37,20 @@ pub cut-requires-clause-few : goal.cut-requires-clause-few
 cut-requires-clause-few c = let fine = causes.fine_of c.args.self.now c.args.form.now c.requires.fine in let fits = causes.fits_held c.args.self.now c.args.form.now (subst (λ (h : HeldWorld). ServerIs h.image h.devices h.server) c.self.view_is c.self.invariant.built) fine in let cuts = causes.cuts_well c.args.self.now.image (length c.args.self.now.devices) c.args.form.now c.in-Image.frag_size c.in-Image.parity c.in-Image.is fine.ranges fits in cuts.2
 
 pub overflow_cast-hw : goal.overflow_cast-hw
-overflow_cast-hw c = let fine = causes.fine_of c.args.self.now c.args.form.now c.requires.fine in let fits = causes.fits_held c.args.self.now c.args.form.now (subst (λ (h : HeldWorld). ServerIs h.image h.devices h.server) c.self.view_is c.self.invariant.built) fine in let fit = causes.fitting (length c.args.self.now.image) (length c.args.self.now.devices) c.args.form.now c.in-Device.id c.in-Device.hw c.in-Device.rows c.in-Device.offset c.in-Device.class c.in-Device.key c.in-Device.descriptor c.in-Device.v1 c.in-Device.is fine.ranges fits in omega (arith, fit.hw_fits)
+overflow_cast-hw c = let fine = causes.fine_of c.args.self.now c.args.form.now c.requires.fine in let fits = causes.fits_held c.args.self.now c.args.form.now (subst (λ (h : HeldWorld). ServerIs h.image h.devices h.server) c.self.view_is c.self.invariant.built) fine in let fit = causes.fitting (length c.args.self.now.image) (length c.args.self.now.devices) c.args.form.now c.in-Device.id c.in-Device.hw c.in-Device.rows c.in-Device.offset c.in-Device.class c.in-Device.key c.in-Device.descriptor c.in-Device.v1 c.in-Device.k11 c.in-Device.is fine.ranges fits in omega (arith, fit.hw_fits)
 
 pub overflow_cast-rows : goal.overflow_cast-rows
-overflow_cast-rows c = let fine = causes.fine_of c.args.self.now c.args.form.now c.requires.fine in let fits = causes.fits_held c.args.self.now c.args.form.now (subst (λ (h : HeldWorld). ServerIs h.image h.devices h.server) c.self.view_is c.self.invariant.built) fine in let fit = causes.fitting (length c.args.self.now.image) (length c.args.self.now.devices) c.args.form.now c.in-Device.id c.in-Device.hw c.in-Device.rows c.in-Device.offset c.in-Device.class c.in-Device.key c.in-Device.descriptor c.in-Device.v1 c.in-Device.is fine.ranges fits in omega (arith, fit.few)
+overflow_cast-rows c = let fine = causes.fine_of c.args.self.now c.args.form.now c.requires.fine in let fits = causes.fits_held c.args.self.now c.args.form.now (subst (λ (h : HeldWorld). ServerIs h.image h.devices h.server) c.self.view_is c.self.invariant.built) fine in let fit = causes.fitting (length c.args.self.now.image) (length c.args.self.now.devices) c.args.form.now c.in-Device.id c.in-Device.hw c.in-Device.rows c.in-Device.offset c.in-Device.class c.in-Device.key c.in-Device.descriptor c.in-Device.v1 c.in-Device.k11 c.in-Device.is fine.ranges fits in omega (arith, fit.few)
 
 pub overflow_cast-offset : goal.overflow_cast-offset
-overflow_cast-offset c = let fine = causes.fine_of c.args.self.now c.args.form.now c.requires.fine in let fits = causes.fits_held c.args.self.now c.args.form.now (subst (λ (h : HeldWorld). ServerIs h.image h.devices h.server) c.self.view_is c.self.invariant.built) fine in let fit = causes.fitting (length c.args.self.now.image) (length c.args.self.now.devices) c.args.form.now c.in-Device.id c.in-Device.hw c.in-Device.rows c.in-Device.offset c.in-Device.class c.in-Device.key c.in-Device.descriptor c.in-Device.v1 c.in-Device.is fine.ranges fits in omega (arith, fit.offset_fits)
+overflow_cast-offset c = let fine = causes.fine_of c.args.self.now c.args.form.now c.requires.fine in let fits = causes.fits_held c.args.self.now c.args.form.now (subst (λ (h : HeldWorld). ServerIs h.image h.devices h.server) c.self.view_is c.self.invariant.built) fine in let fit = causes.fitting (length c.args.self.now.image) (length c.args.self.now.devices) c.args.form.now c.in-Device.id c.in-Device.hw c.in-Device.rows c.in-Device.offset c.in-Device.class c.in-Device.key c.in-Device.descriptor c.in-Device.v1 c.in-Device.k11 c.in-Device.is fine.ranges fits in omega (arith, fit.offset_fits)
 
 pub add_device-requires-clause-fine : goal.add_device-requires-clause-fine
-add_device-requires-clause-fine c = let fine = causes.fine_of c.args.self.now c.args.form.now c.requires.fine in let fits = causes.fits_held c.args.self.now c.args.form.now (subst (λ (h : HeldWorld). ServerIs h.image h.devices h.server) c.self.view_is c.self.invariant.built) fine in let fit = causes.fitting (length c.args.self.now.image) (length c.args.self.now.devices) c.args.form.now c.in-Device.id c.in-Device.hw c.in-Device.rows c.in-Device.offset c.in-Device.class c.in-Device.key c.in-Device.descriptor c.in-Device.v1 c.in-Device.is fine.ranges fits in rw (le-leb c.in-Device.rows max_rows fit.few, c.formats_of.ensures, causes.known_formats c.in-Device.v1) refl
+add_device-requires-clause-fine c = let fine = causes.fine_of c.args.self.now c.args.form.now c.requires.fine in let fits = causes.fits_held c.args.self.now c.args.form.now (subst (λ (h : HeldWorld). ServerIs h.image h.devices h.server) c.self.view_is c.self.invariant.built) fine in let fit = causes.fitting (length c.args.self.now.image) (length c.args.self.now.devices) c.args.form.now c.in-Device.id c.in-Device.hw c.in-Device.rows c.in-Device.offset c.in-Device.class c.in-Device.key c.in-Device.descriptor c.in-Device.v1 c.in-Device.k11 c.in-Device.is fine.ranges fits in rw (le-leb c.in-Device.rows max_rows fit.few, c.formats_of.ensures, causes.known_formats c.in-Device.v1) refl
 
 pub add_device-requires-clause-planned : goal.add_device-requires-clause-planned
-add_device-requires-clause-planned c = let fine = causes.fine_of c.args.self.now c.args.form.now c.requires.fine in let fits = causes.fits_held c.args.self.now c.args.form.now (subst (λ (h : HeldWorld). ServerIs h.image h.devices h.server) c.self.view_is c.self.invariant.built) fine in let fit = causes.fitting (length c.args.self.now.image) (length c.args.self.now.devices) c.args.form.now c.in-Device.id c.in-Device.hw c.in-Device.rows c.in-Device.offset c.in-Device.class c.in-Device.key c.in-Device.descriptor c.in-Device.v1 c.in-Device.is fine.ranges fits in
-    let joins = causes.joins_at c.args.self.now.image c.args.self.now.section c.args.self.now.plan c.args.self.now.devices c.args.self.now.server c.args.form.now c.in-Device.id c.in-Device.hw c.in-Device.rows c.in-Device.offset c.in-Device.class c.in-Device.key c.in-Device.descriptor c.in-Device.v1 c.in-Device.is fine.comes (subst (λ (h : HeldWorld). IsPlanned h.image h.section h.plan h.devices h.server) c.self.view_is c.self.invariant.planned) in
+add_device-requires-clause-planned c = let fine = causes.fine_of c.args.self.now c.args.form.now c.requires.fine in let fits = causes.fits_held c.args.self.now c.args.form.now (subst (λ (h : HeldWorld). ServerIs h.image h.devices h.server) c.self.view_is c.self.invariant.built) fine in let fit = causes.fitting (length c.args.self.now.image) (length c.args.self.now.devices) c.args.form.now c.in-Device.id c.in-Device.hw c.in-Device.rows c.in-Device.offset c.in-Device.class c.in-Device.key c.in-Device.descriptor c.in-Device.v1 c.in-Device.k11 c.in-Device.is fine.ranges fits in
+    let joins = causes.joins_at c.args.self.now.image c.args.self.now.section c.args.self.now.plan c.args.self.now.devices c.args.self.now.server c.args.form.now c.in-Device.id c.in-Device.hw c.in-Device.rows c.in-Device.offset c.in-Device.class c.in-Device.key c.in-Device.descriptor c.in-Device.v1 c.in-Device.k11 c.in-Device.is fine.comes (subst (λ (h : HeldWorld). IsPlanned h.image h.section h.plan h.devices h.server) c.self.view_is c.self.invariant.planned) in
     record { sized = joins.0; windowed = joins.1; unmade = joins.2; room = fit.next }
 
 pub overflow_cast-min : goal.overflow_cast-min
