@@ -121,7 +121,7 @@ impl Encoder {
         ensures size { OnOk result (length out.new.items ≡ self.now.frag_size) }
         ensures piece { n ≤ nb_frag_of (length self.now.file) self.now.frag_size → OnOk result
             (out.new.items ≡ take self.now.frag_size
-                (drop ((n - 1) * self.now.frag_size) (filled self.now.file self.now.frag_size))) }
+            (drop ((n - 1) * self.now.frag_size) (filled self.now.file self.now.frag_size))) }
         ensures beyond { OnErr result (out.new ≡ out.old) }
     {
         let mut draws = Steps::<L>::new(no_draws);
@@ -144,7 +144,7 @@ impl Encoder {
         ensures size { OnOk result (length out.new.items ≡ self.now.frag_size) }
         ensures piece { n ≤ nb_frag_of (length self.now.file) self.now.frag_size → OnOk result
             (out.new.items ≡ take self.now.frag_size
-                (drop ((n - 1) * self.now.frag_size) (filled self.now.file self.now.frag_size))) }
+            (drop ((n - 1) * self.now.frag_size) (filled self.now.file self.now.frag_size))) }
         ensures beyond { OnErr result (out.new ≡ out.old) }
         ensures draws { OnOk result
             (draws.new ≡ draws.old + draws_of (nb_frag_of (length self.now.file) self.now.frag_size) n) }
