@@ -129,7 +129,7 @@ typedef struct fuota_config {
     uint8_t groups;      /* multicast groups, 1 to 4 */
     bool has_descriptor;
     bool is_class_c;     /* it always hears unicast payloads; else in the two windows behind its uplink */
-    uint8_t key[16];     /* GenAppKey, in the order of the standard's keys */
+    uint8_t key[16];     /* GenAppKey of LoRaWAN 1.0, in the order of the standard's keys */
 } fuota_config;
 
 /* When and how a payload comes. */

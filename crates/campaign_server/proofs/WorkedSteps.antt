@@ -15,6 +15,7 @@ use Rattle.campaign_server.specs.Answers.{stage_after, stage_after_all}
 use Rattle.campaign_server.specs.Fragments.{next_fragment, after_fragment, status_to_all, after_status_to_all}
 use Rattle.campaign_server.specs.Time.{time_answer}
 use Rattle.campaign_server.specs.Uplinks.{read_uplink, uplink_step}
+use Rattle.mc_keys.proofs.WorkedKeys.{session_keys as group_keys}
 use Rattle.campaign_server.specs.WorkedSteps.{AskSteps, AnswerSteps, TimeSteps, SendSteps, PlanSteps}
 
 pub asking : AskSteps
@@ -118,6 +119,7 @@ sending = record {
   uncounted = refl;
   counted = refl;
   no_status = refl;
+  keyed = rw (group_keys.app_s_key, group_keys.net_s_key) refl;
 }
 
 pub plans : PlanSteps

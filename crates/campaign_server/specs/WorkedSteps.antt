@@ -8,6 +8,7 @@ use Rattle.frag_encoder.specs.Encoding.{data_of}
 use Rattle.package_grammar.specs.declared.downlink.Downlink.{Downlink}
 use Rattle.package_grammar.specs.declared.downlink.To.TheVariants as to
 use Rattle.mc_keys.specs.declared.root_kind.RootKind.TheVariants.{V10}
+use Rattle.mc_keys.specs.WorkedKeys.{worked_key}
 use Rattle.campaign_server.specs.declared.plan.Kind.TheVariants as kind
 use Rattle.campaign_server.specs.declared.plan.Field.TheVariants as field
 use Rattle.campaign_server.specs.declared.plan.PlanGroup.{PlanGroup}
@@ -20,6 +21,7 @@ use Rattle.campaign_server.specs.Plan.{Plan, bad_field}
 use Rattle.campaign_server.specs.Server.{ServerState, first_server, ledger}
 use Rattle.campaign_server.specs.Asking.{group_request, request_of}
 use Rattle.campaign_server.specs.Fragments.{next_fragment, after_fragment, status_to_all, after_status_to_all}
+use Rattle.campaign_server.specs.Framing.{session_keys}
 use Rattle.campaign_server.specs.Sent.{down_of, result_of, answer_of}
 use Rattle.campaign_server.specs.Uplinks.{uplink_step}
 
@@ -200,6 +202,11 @@ pub record SendSteps : Type 0 where
   pub uncounted : after_status_to_all (first_server image alone) ≡ first_server image alone
   pub counted : after_status_to_all (first_server image grouped) ≡ record (first_server image grouped) { count = 6 }
   pub no_status : status_to_all (record (first_server image grouped) { count = 7 }) ≡ None
+  -- frames to the group are encrypted under McAppSKey, and signed under McNetSKey
+  pub keyed : session_keys (record worked_group { key = worked_key }) ≡ record {
+    app_s = 0x10 ∷ 0x76 ∷ 0xbb ∷ 0xc2 ∷ 0xea ∷ 0x64 ∷ 0xf6 ∷ 0xe7 ∷ 0x58 ∷ 0x05 ∷ 0x68 ∷ 0x87 ∷ 0x98 ∷ 0x92 ∷ 0x8a ∷ 0xba ∷ [];
+    net_s = 0x9f ∷ 0x04 ∷ 0x20 ∷ 0xfe ∷ 0xdd ∷ 0xea ∷ 0x37 ∷ 0xd9 ∷ 0xf0 ∷ 0x57 ∷ 0xe1 ∷ 0xa2 ∷ 0x1f ∷ 0x2c ∷ 0xd4 ∷ 0xca ∷ [];
+  }
 
 -- ---- which field of a plan is wrong, for a file of so many bytes: the first
 

@@ -176,7 +176,8 @@ impl Server {
         is_to_group(self.plan.group, down.to) && down.port > 0
     }
 
-    /// A payload to the plan's group as the frame that goes out, at most 255 bytes, under the group's session keys.
+    /// A payload to the plan's group, on a port that isn't 0 (`has_frame`), as the frame that goes out, at most 255 bytes,
+    /// under the group's session keys.
     pub fn frame(&self, down: &Downlink) -> Frame
         requires { has_frame self.now.plan.group down.now ≡ true }
         ensures { result.items ≡ frame_for self.now.plan.group down.now }

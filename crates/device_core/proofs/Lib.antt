@@ -2,6 +2,7 @@ pub mod Outboxes
 pub mod Deliveries
 pub mod Radio
 pub mod WholeFiles
+pub mod WorkedRoots
 pub mod WorkedSteps
 pub mod Sending
 pub mod Heard

@@ -19,6 +19,8 @@ use Rattle.class_windows.specs.Open.{is_after_uplink, is_running}
 use Rattle.class_windows.proofs.WorkedWindows.{ping_slot, no_ping_slot}
 use Rattle.mc_group.specs.declared.group.Group.{Group}
 use Rattle.mc_group.proofs.WorkedGroups.{setup}
+use Rattle.mc_keys.proofs.WorkedKeys.{session_keys as group_keys}
+use Rattle.device_core.proofs.WorkedRoots.{setup_1_1}
 use Rattle.device_core.specs.Answers.{after_answers}
 use Rattle.device_core.specs.Clock.{answer_step, periodicity_step, resync_step}
 use Rattle.device_core.specs.Fragments.{setup_step, delete_step, status_step, heard_step, fragment_step}
@@ -112,7 +114,11 @@ sessions = record {
 
 pub keys : KeySteps
 unfolding int_wrap delivery heard_delivery read_delivery message_delivery after_due_reboot after_swap after_delete hears is_after_uplink is_running reading_of read_from command_at named_at is_known stop_at sync.is_known sync.samples cast.is_known cast.samples number_at clock_down firmware_down group_down fragment_down after_commands step command_step after_answers answer_step periodicity_step resync_step waking time_asking groups_step group_setup_step group_delete_step class_session_step version_step upgrade_step delete_image_step reboot_time_step countdown_step setup_step delete_step status_step fragment_step heard_step setup_bits wrong_coding too_large other_descriptor has_room words_for new_session after_setup renewed same_setup excludes cause_of drop_cause followed after_fragment shape_of shown_verdict seen_of status_by status_in status_of verdict missing
-keys = record { key = ap (λ (group : Group). Some group ∷ []) setup.key }
+keys = record {
+  key = ap (λ (group : Group). Some group ∷ []) setup.key;
+  key_1_1 = ap (λ (group : Group). Some group ∷ []) setup_1_1;
+  sessions = rw (group_keys.app_s_key, group_keys.net_s_key) refl;
+}
 
 pub groups : GroupSteps
 unfolding int_wrap delivery heard_delivery read_delivery message_delivery after_due_reboot after_swap after_delete hears is_after_uplink is_running reading_of read_from command_at named_at is_known stop_at sync.is_known sync.samples cast.is_known cast.samples number_at clock_down firmware_down group_down fragment_down after_commands step command_step after_answers answer_step periodicity_step resync_step waking time_asking groups_step group_setup_step group_delete_step class_session_step version_step upgrade_step delete_image_step reboot_time_step countdown_step setup_step delete_step status_step fragment_step heard_step setup_bits wrong_coding too_large other_descriptor has_room words_for new_session after_setup renewed same_setup excludes cause_of drop_cause followed after_fragment shape_of shown_verdict seen_of status_by status_in status_of verdict missing

@@ -2,12 +2,13 @@
 use Rattle.std.specs.Prelude.{◌≡◌, ℕ, ◌-◌, ◌^◌, true, false, List, [], ◌∷◌, ◌++◌, length, map, Option, Some, None, replicate}
 use Rattle.wire_base.specs.declared.refusal.Why.TheVariants as why
 use Rattle.package_grammar.specs.declared.downlink.To.TheVariants.{Unicast, Group}
-use Rattle.mc_keys.specs.declared.root_kind.RootKind.TheVariants.{V10}
+use Rattle.mc_keys.specs.declared.root_kind.RootKind.TheVariants.{V10, V11}
 use Rattle.mc_keys.specs.WorkedKeys.{worked_gen_app_key, worked_wrapped, worked_key}
 use Rattle.frag_session.specs.declared.answers.Via.TheVariants as via
 use Rattle.frag_session.specs.declared.answers.StatusAns.{StatusAns}
 use Rattle.image_slots.specs.declared.view.ImageState.{ImageState}
 use Rattle.image_slots.specs.declared.view.ImageState.TheVariants as image
+use Rattle.device_core.specs.Radio.{session_keys}
 use Rattle.device_core.specs.declared.arrival.Arrival.{Arrival}
 use Rattle.device_core.specs.declared.class_session.ClassSession.{ClassSession}
 use Rattle.device_core.specs.declared.class_session.Kind.TheVariants.{ClassC, ClassB}
@@ -227,11 +228,24 @@ group_setup id a b c d = 0x02 ∷ id ∷ a ∷ b ∷ c ∷ d ∷ replicate 16 0 
 abbrev pub grouped : DeviceState
 grouped = taken (after 0 200 (group_setup 2 0x88 0x77 0x66 0x55 ++ group_setup 0 0x44 0x33 0x22 0x11) fresh)
 
+-- the same key as it is sent to a device of LoRaWAN 1.1 with the same 16 bytes as its AppKey
+abbrev pub worked_wrapped_1_1 : List ℕ
+worked_wrapped_1_1 = 0xb6 ∷ 0xb7 ∷ 0x15 ∷ 0xe2 ∷ 0x1b ∷ 0x8c ∷ 0x23 ∷ 0x12 ∷ 0xc3 ∷ 0xbb ∷ 0xe8 ∷ 0x86 ∷ 0xce ∷ 0xba ∷ 0xb6 ∷ 0x46 ∷ []
+
 -- the group's key is unwrapped under the device's own
 pub record KeySteps : Type 0 where
   pub key : (after 0 200 (0x02 ∷ 0x00 ∷ 0x44 ∷ 0x33 ∷ 0x22 ∷ 0x11 ∷ worked_wrapped ++ 0x03 ∷ 0x00 ∷ 0x00 ∷ 0x00 ∷ 0x0a ∷ 0x00 ∷ 0x00 ∷ 0x00 ∷ [])
       (first_device (record (worked_config C 0) { key = worked_gen_app_key; groups = 1 }))).groups
       ≡ Some (record { addr = 0x11223344; key = worked_key; min = 3; max = 10 }) ∷ []
+  -- of LoRaWAN 1.1 under its AppKey
+  pub key_1_1 : (after 0 200 (0x02 ∷ 0x00 ∷ 0x44 ∷ 0x33 ∷ 0x22 ∷ 0x11 ∷ worked_wrapped_1_1 ++ 0x03 ∷ 0x00 ∷ 0x00 ∷ 0x00 ∷ 0x0a ∷ 0x00 ∷ 0x00 ∷ 0x00 ∷ [])
+      (first_device (record (worked_config C 0) { key = worked_gen_app_key; root = V11; groups = 1 }))).groups
+      ≡ Some (record { addr = 0x11223344; key = worked_key; min = 3; max = 10 }) ∷ []
+  -- frames to the group are decrypted under McAppSKey, and checked under McNetSKey
+  pub sessions : session_keys (record { addr = 0x11223344; key = worked_key; min = 3; max = 10 }) ≡ record {
+    app_s = 0x10 ∷ 0x76 ∷ 0xbb ∷ 0xc2 ∷ 0xea ∷ 0x64 ∷ 0xf6 ∷ 0xe7 ∷ 0x58 ∷ 0x05 ∷ 0x68 ∷ 0x87 ∷ 0x98 ∷ 0x92 ∷ 0x8a ∷ 0xba ∷ [];
+    net_s = 0x9f ∷ 0x04 ∷ 0x20 ∷ 0xfe ∷ 0xdd ∷ 0xea ∷ 0x37 ∷ 0xd9 ∷ 0xf0 ∷ 0x57 ∷ 0xe1 ∷ 0xa2 ∷ 0x1f ∷ 0x2c ∷ 0xd4 ∷ 0xca ∷ [];
+  }
 
 -- a class C session of group 0 is asked for at 1,000 s: for one second from 1,010 s on
 abbrev pub session_request : List ℕ

@@ -180,9 +180,10 @@ impl Device {
         delivered
     }
 
-    /// Bytes that the radio heard come at `t` ms of true time. Where they are a frame of the class session's group, with a count
-    /// from its minMcFCount to below its maxMcFCount, their payload comes to that group as in `deliver`. Other bytes are
-    /// foreign: they change nothing but a reboot that is due and the deaf counter.
+    /// Bytes that the radio heard come at `t` ms of true time. Where they are a frame of the class session's group, with a
+    /// count from its minMcFCount to below its maxMcFCount, and one of the 65,536 from minMcFCount on, their payload comes
+    /// to that group as in `deliver`. Other bytes are foreign: they change nothing but a reboot that is due and the deaf
+    /// counter.
     #[tactic(auto, unfolding(crate::specs::Radio::radio))]
     pub fn radio(&mut self, t: u64, bytes: &[u8], word: u32, mark: u64) -> Aired
         requires { t ≤ max_moment }

@@ -40,7 +40,7 @@ pub struct ConfigFields {
     pub has_descriptor: bool,
     /// It always hears unicast payloads; else in the two windows behind its uplink.
     pub is_class_c: bool,
-    /// GenAppKey.
+    /// GenAppKey of LoRaWAN 1.0.
     pub key: [u8; 16],
 }
 

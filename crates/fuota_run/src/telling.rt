@@ -42,7 +42,8 @@ pub fn seed_answer(
 
 /// The summary of a campaign behind the lines that it has heard.
 fn summary_answer(alloc: Global, seed: u32, world: &World) -> Result<Answer, LineError>
-    ensures { (so_far : Result WorldState LineFault) → WorldIsIf world.now so_far → IsPlayed (summary_answer seed) (end_result so_far) (seen_answer result) }
+    ensures { (so_far : Result WorldState LineFault) → WorldIsIf world.now so_far
+        → IsPlayed (summary_answer seed) (end_result so_far) (seen_answer result) }
 {
     match world.summary(alloc) {
         Ok(summary) => match summary_text(alloc, seed, &summary) {
@@ -72,7 +73,8 @@ fn first_line_of(alloc: Global, seed: u32) -> Result<String, AllocError>
 
 /// What is told of a campaign behind the lines that it has heard.
 pub fn world_answer(alloc: Global, what: ScriptForm, world: &World) -> Result<Answer, LineError>
-    ensures { (so_far : Result WorldState LineFault) → WorldIsIf world.now so_far → IsPlayed (world_answer what) (end_result so_far) (seen_answer result) }
+    ensures { (so_far : Result WorldState LineFault) → WorldIsIf world.now so_far
+        → IsPlayed (world_answer what) (end_result so_far) (seen_answer result) }
 {
     match what {
         ScriptForm::Campaign => match world.report(alloc) {
@@ -91,7 +93,8 @@ pub fn world_answer(alloc: Global, what: ScriptForm, world: &World) -> Result<An
 
 /// The file that a device recovered, or how it stands.
 fn recovery(alloc: Global, device: u8, world: &World) -> Result<Answer, LineError>
-    ensures { (w : WorldState) → WorldStands world.now w → IsRecovery (recovered device (recovery w device)) (seen_answer result) }
+    ensures { (w : WorldState) → WorldStands world.now w
+        → IsRecovery (recovered device (recovery w device)) (seen_answer result) }
 {
     match world.recovered(device) {
         Ok(file) => match file.to_vec(alloc) {

@@ -57,7 +57,7 @@ const SOUND: Outside<'static, 'static> = Outside {
     room: 4096,
 };
 
-/// The two files, and an empty one under each other word.
+/// The two files, and behind them an empty one under each word, which is found where the two have other names.
 fn files(alloc: Global, words: &[&str], outside: &Outside) -> Result<MemFiles, Fail> {
     let script = format!(in alloc;
         "{}{}{}",

@@ -240,8 +240,8 @@ impl World {
         requires room { self.old.lines < max_lines }
         requires sent { (s : SentPayload) × (numbered self.old.sent number ≡ Some s) }
         requires begun { (s : ServerState) × (self.old.server ≡ Some s) }
-        ensures taken { OnOk result (WorldBecomes self.old self.new
-            (λ world. with_event world device (reception world.time word (world.lines + 1) (numbered world.sent number)))) }
+        ensures taken { OnOk result (WorldBecomes self.old self.new (λ world. with_event world device
+            (reception world.time word (world.lines + 1) (numbered world.sent number)))) }
         ensures kept { self.new.kept ≡ self.old.kept }
         ensures lines { self.new.lines ≡ self.old.lines }
         ensures ends { OnErr result (KeepsEnds self.old self.new) }

@@ -170,7 +170,9 @@ impl World {
         requires planned { IsToJoin self.old }
         ensures taken { OnOk result (WorldBecomes self.old self.new (λ world. with_plan
             (record world { devices = world.devices ++ first_device config ∷ [] })
-            (record world.server.plan { devices = world.server.plan.devices ++ record { key = config.key; root = config.root } ∷ [] })
+            (record world.server.plan {
+              devices = world.server.plan.devices ++ record { key = config.key; root = config.root } ∷ [];
+            })
             section.Devices)) }
         ensures kept { self.new.kept ≡ self.old.kept }
         ensures lines { self.new.lines ≡ self.old.lines }
