@@ -1,6 +1,6 @@
 //! Whole runs over files and a sink in memory, and the first steps over those of the system.
-ghost use Rattle.std.specs.Prelude.{Some, IsSome, IsTrue, map, string_bytes};
-ghost use Rattle.std.specs.List.{All};
+ghost use Rattle.std.specs.Prelude.{◌≡◌, Some, is_some, IsTrue, map, string_bytes};
+ghost use Rattle.std.specs.List.{list_all};
 ghost use Rattle.fuota_run.specs.Memory.{held_by};
 ghost use Rattle.fuota_run.specs.Ending.{HoldsForm};
 
@@ -87,7 +87,6 @@ fn run_held(
 }
 
 /// Whether there are files of all words, those of the names that are asked for among them.
-#[tactic(auto, using(crate::proofs::WordsHeld::holds_words))]
 fn all_held(files: &MemFiles, words: &[String]) -> bool
     ensures { IsTrue result → HoldsForm (Some (held_by files.now.files)) (map string_bytes words.now) }
 {
@@ -96,7 +95,7 @@ fn all_held(files: &MemFiles, words: &[String]) -> bool
 }
 
 fn are_held(files: &MemFiles, words: &[String]) -> bool
-    ensures { IsTrue result → All (λ word. IsSome (held_by files.now.files word)) (map string_bytes words.now) }
+    ensures { result ≡ list_all (λ word. is_some (held_by files.now.files (string_bytes word))) words.now }
 {
     words.iter().all(|word| files.holds(word))
 }
