@@ -5,7 +5,7 @@ use Rattle.aes_block.specs.Cipher.{sub_bytes, shift_rows, mixed, mix_columns, ad
 use Rattle.wire_base.specs.Numbers.{number_at}
 use Rattle.mc_frames.specs.Cmac.{xor_blocks, shifted, subkey, last_block, chained, cmac}
 use Rattle.mc_frames.specs.Frames.{stream_byte, ciphered, message_of, mic, frame_of}
-use Rattle.mc_frames.specs.Opening.{fault_of}
+use Rattle.mc_frames.specs.Opening.{fault_of, fault_without_group}
 use Rattle.mc_frames.specs.WorkedFrames.{worked_keys, worked_frame, pending_frame, WorkedCodes, WorkedFrames, WorkedFaults, WorkedOrder}
 
 pub codes : WorkedCodes
@@ -46,7 +46,7 @@ faults = record {
 }
 
 pub order : WorkedOrder
-unfolding number_at fault_of
+unfolding number_at fault_of fault_without_group
 order = record {
   short = refl;
   shortest = refl;
@@ -56,4 +56,8 @@ order = record {
   address = refl;
   port = refl;
   count = refl;
+  short_alone = refl;
+  long_alone = refl;
+  header_alone = refl;
+  alone = refl;
 }

@@ -4,7 +4,7 @@ use Rattle.mc_frames.specs.declared.session.Keys.{Keys}
 use Rattle.mc_frames.specs.declared.fault.FrameFault.TheVariants.{Short, Long, Header, Address, Port, Count, Mic}
 use Rattle.mc_frames.specs.Cmac.{cmac}
 use Rattle.mc_frames.specs.Frames.{stream_byte, frame_of}
-use Rattle.mc_frames.specs.Opening.{fault_of}
+use Rattle.mc_frames.specs.Opening.{fault_of, fault_without_group}
 
 -- the key of the examples of RFC 4493
 abbrev pub example_key : List ℕ
@@ -64,3 +64,7 @@ pub record WorkedOrder : Type 0 where
   pub address : fault_of worked_keys 0x11223345 2 70000 portless_frame ≡ Some Address
   pub port : fault_of worked_keys 0x11223344 2 65537 portless_frame ≡ Some Port
   pub count : fault_of worked_keys 0x11223344 2 65537 (worked_frame 0xed) ≡ Some Count
+  pub short_alone : fault_without_group (take 12 (worked_frame 0xec)) ≡ Short
+  pub long_alone : fault_without_group (replicate 256 0) ≡ Long
+  pub header_alone : fault_without_group (replicate 13 0) ≡ Header
+  pub alone : fault_without_group (worked_frame 0xec) ≡ Address
