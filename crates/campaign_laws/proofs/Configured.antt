@@ -93,15 +93,15 @@ form_configured : (lines : List (List ℕ)) (w : WorldState) (form : Form) (line
     → AllConfigured lines (after_form w form).devices
 form_configured lines w form line fine line_is form_is h id =
     let v : WorldState = after_form w form in
-    let t = form_told id w.sent w form fine in
+    let t = form_told id w.server.plan.group w.sent w form fine in
     let is : numbered v.devices id
-    ≡ folded (option_to_list (event_in id w.sent w.time (w.lines + 1) (Some form)) ++ [])
+    ≡ folded (option_to_list (event_in id w.server.plan.group w.sent w.time (w.lines + 1) (Some form)) ++ [])
     (numbered (w.devices ++ filter_map device_in (Some form ∷ [])) id) =
     ap (λ (ds : List DeviceState). numbered ds id) (sym (append-nil v.devices))
-    ∙ sym (unchanged (numbered (v.devices ++ []) id)) ∙ t.record_is (same_sent w) [] [] in
+    ∙ sym (unchanged (numbered (v.devices ++ []) id)) ∙ t.record_is (same_sent w) (λ airs. refl) [] [] in
     subst (λ (o : Option DeviceState). IfSome o (λ d. IsOfItsLine lines id d.config)) (sym is)
     (still_configured lines id (numbered (w.devices ++ filter_map device_in (Some form ∷ [])) id)
-    (option_to_list (event_in id w.sent w.time (w.lines + 1) (Some form)) ++ [])
+    (option_to_list (event_in id w.server.plan.group w.sent w.time (w.lines + 1) (Some form)) ++ [])
     (with_form lines w form line fine line_is form_is h id))
 
 line_configured : (lines : List (List ℕ)) (w : WorldState) (form : Option Form) (line : List ℕ)
@@ -110,7 +110,7 @@ line_configured : (lines : List (List ℕ)) (w : WorldState) (form : Option Form
     → AllConfigured lines (after_form_of w form).devices × ((after_form_of w form).lines ≡ w.lines + 1)
 line_configured lines w None line fine line_is form_is h = absurd cc
 line_configured lines w (Some form) line fine line_is form_is h =
-    (form_configured lines w form line fine line_is form_is h, ap (λ (n : ℕ). n + 1) (form_told 0 w.sent w form fine).lines)
+    (form_configured lines w form line fine line_is form_is h, ap (λ (n : ℕ). n + 1) (form_told 0 None w.sent w form fine).lines)
 
 all_configured : (lines : List (List ℕ)) (w end : WorldState) (rest : List (List ℕ)) → drop w.lines lines ≡ rest
     → read_lines (Ok w) rest ≡ Ok end → AllConfigured lines w.devices → AllConfigured lines end.devices

@@ -18,7 +18,7 @@ use Rattle.campaign_server.specs.Asking.{request_of}
 use Rattle.campaign_server.specs.Fragments.{after_count, next_fragment, after_fragment as server_after_fragment, status_to_all, after_status_to_all}
 use Rattle.campaign_server.specs.Uplinks.{with_answers, read_uplink, uplink_step}
 use Rattle.script_lines.specs.declared.forms.Form.{Form}
-use Rattle.script_lines.specs.declared.forms.Form.TheVariants.{Header, Image, Group, WindowC, WindowB, Device, At, Wake, Migrate, Ask, Frag, Status, Down, Raw, Up, End}
+use Rattle.script_lines.specs.declared.forms.Form.TheVariants.{Header, Image, Group, WindowC, WindowB, Device, At, Wake, Migrate, Ask, Frag, Status, Down, Raw, Air, RawAir, Up, End}
 use Rattle.script_lines.specs.Lines.{lines_of}
 use Rattle.script_lines.specs.Forms.{form_of}
 use Rattle.campaign_world.specs.declared.section.Section.{Section}
@@ -142,7 +142,7 @@ event_counted w v form event may k m = record {
 form_event_counted : (w : WorldState) (n : ℕ) (form : Form) → is_event_or_end form ≡ true → may_come w.section form ≡ true
     → IsCounted w → IsCounted (with_event_of w n form)
 form_event_counted w n form event may k =
-    let o = event_of w.sent w.time (w.lines + 1) form in
+    let o = event_of w.server.plan.group w.sent w.time (w.lines + 1) form in
     event_counted w (after_event_at w n (numbered w.devices n) o) form event may k (event_many w n (numbered w.devices n) o)
 
 -- a plan in which as many devices are planned as there are
@@ -205,6 +205,10 @@ form_counted w (Down number device word) fine k =
     let form : Form = Down number device word in form_event_counted w device form refl (passes w form fine).comes k
 form_counted w (Raw device port payload word) fine k =
     let form : Form = Raw device port payload word in form_event_counted w device form refl (passes w form fine).comes k
+form_counted w (Air number device word) fine k =
+    let form : Form = Air number device word in form_event_counted w device form refl (passes w form fine).comes k
+form_counted w (RawAir device bytes word) fine k =
+    let form : Form = RawAir device bytes word in form_event_counted w device form refl (passes w form fine).comes k
 form_counted w (Up number) fine k =
     event_counted w (after_up w (numbered w.uplinks number)) (Up number) refl (passes w (Up number) fine).comes k
     (up_many w (numbered w.uplinks number))

@@ -22,7 +22,7 @@ use Rattle.campaign_server.specs.Fragments.{next_fragment, after_fragment as ser
 use Rattle.campaign_server.specs.Time.{time_answer}
 use Rattle.campaign_server.specs.Uplinks.{with_answers, read_uplink, uplink_step}
 use Rattle.script_lines.specs.declared.forms.Form.{Form}
-use Rattle.script_lines.specs.declared.forms.Form.TheVariants.{Header, Image, Group, WindowC, WindowB, Device, At as Time, Wake, Migrate, Ask, Frag, Status, Down, Raw, Up, End}
+use Rattle.script_lines.specs.declared.forms.Form.TheVariants.{Header, Image, Group, WindowC, WindowB, Device, At as Time, Wake, Migrate, Ask, Frag, Status, Down, Raw, Air, RawAir, Up, End}
 use Rattle.script_lines.specs.Ranges.{in_range, is_device as ranged}
 use Rattle.campaign_world.specs.declared.section.Section.{Section}
 use Rattle.campaign_world.specs.declared.section.Section.TheVariants as section
@@ -30,7 +30,6 @@ use Rattle.report_lines.specs.declared.faults.LineWhy.{LineWhy}
 use Rattle.campaign_world.specs.declared.numbered.SentPayload.{SentPayload}
 use Rattle.campaign_world.specs.declared.numbered.MadeUplink.{MadeUplink}
 use Rattle.campaign_world.specs.World.{WorldState}
-use Rattle.campaign_world.specs.Honest.{is_raw}
 use Rattle.campaign_world.specs.Causes.{may_come, fits_script, is_device, names_device, may_reach, has_come, form_cause}
 use Rattle.campaign_world.specs.Making.{with_sent, with_device, with_event, with_event_of, after_answer, after_up, at_events, after_form}
 use Rattle.campaign_server.proofs.LineItems.{if_some, numbered_put, numbered_there}
@@ -98,24 +97,22 @@ at_group image w addr min max key section.Events may stands = absurd cc
 at_group image w addr min max key section.Ended may stands = absurd cc
 
 -- any other form comes behind the image's line
-is_early : Form → Bool
+abbrev pub is_early : Form → Bool
 is_early Header = true
 is_early (Image size parity) = true
 is_early form = false
 
 not_header : (form : Form) → is_early form ≡ false → may_come section.Header form ≡ true → ⊥
-unfolding is_early
 not_header Header late may = true≢false late
 not_header (Image size parity) late may = true≢false late
 not_header form late may = true≢false (sym may)
 
 not_image : (form : Form) → is_early form ≡ false → may_come section.Image form ≡ true → ⊥
-unfolding is_early
 not_image Header late may = true≢false late
 not_image (Image size parity) late may = true≢false late
 not_image form late may = true≢false (sym may)
 
-late_cut : (image : List ℕ) (w : WorldState) (form : Form) (here : Section) → is_early form ≡ false
+pub late_cut : (image : List ℕ) (w : WorldState) (form : Form) (here : Section) → is_early form ≡ false
     → may_come here form ≡ true → StandsIn image w here → IsCut image (cut_of w.server.plan)
 late_cut image w form section.Header late may stands = absurd (not_header form late may)
 late_cut image w form section.Image late may stands = absurd (not_image form late may)
@@ -186,7 +183,7 @@ up_turn image form w (Some made) other k cut =
     read_turn image form w made.device w.time (reading_of made.uplink.port direction.Up made.uplink.payload) other k cut
 
 -- a number that a device has
-number_there : (count n : ℕ) → is_device count n ≡ true → (1 ≤ n) × (n ≤ count)
+pub number_there : (count n : ℕ) → is_device count n ≡ true → (1 ≤ n) × (n ≤ count)
 number_there count n is = let parts =
     and_parts (nat_le 1 n) (nat_le n count) is in (leb-true _ _ parts.0, leb-true _ _ parts.1)
 
@@ -201,11 +198,11 @@ device_by ds n true is there = let none : n ≡ 0 = eqb-true _ _ is in absurd (o
 device_by ds n false is there = get_device ds (n - 1) (omega (arith, there.0, there.1))
 
 -- so it has one
-device_there : (ds : List DeviceState) (n : ℕ) → (1 ≤ n) × (n ≤ length ds)
+pub device_there : (ds : List DeviceState) (n : ℕ) → (1 ≤ n) × (n ≤ length ds)
     → (d : DeviceState) × (numbered ds n ≡ Some d)
 device_there ds n there = device_by ds n (n == 0) refl there
 
-payload_there : (device : ℕ) (o : Option SentPayload) → may_reach device o ≡ true → (p : SentPayload) × (o ≡ Some p)
+pub payload_there : (device : ℕ) (o : Option SentPayload) → may_reach device o ≡ true → (p : SentPayload) × (o ≡ Some p)
 payload_there device None may = absurd cc
 payload_there device (Some p) may = (p, refl)
 
@@ -220,7 +217,7 @@ all_by_test : {A : Type 0} (P : A → Type 0) (xs : List A) (b : Bool) (k : ℕ)
 all_by_test P xs true k x all is = absurd cc
 all_by_test P xs false k x all is = all_get P xs k x all is
 
-all_numbered : {A : Type 0} (P : A → Type 0) (xs : List A) (n : ℕ) (x : A) → AllByRecursion P xs
+pub all_numbered : {A : Type 0} (P : A → Type 0) (xs : List A) (n : ℕ) (x : A) → AllByRecursion P xs
     → numbered xs n ≡ Some x → P x
 all_numbered P xs n x all is = all_by_test P xs (n == 0) (n - 1) x all is
 
@@ -333,9 +330,16 @@ few_rows id hw rows offset all =
     let b = and_parts (nat_le 1 id && nat_le id max_devices && nat_lt hw (2 ^ 32)) (nat_le rows max_rows) a.0 in
     leb-true _ _ b.1
 
+-- the form brings what the server need not have sent, or a frame
+abbrev pub is_strange : Form → Bool
+is_strange (Raw device port payload word) = true
+is_strange (Air number device word) = true
+is_strange (RawAir device bytes word) = true
+is_strange form = false
+
 pub form_turn : (image : List ℕ) (w : WorldState) (form : Form) → All (λ b. b < 2 ^ 8) image → Keeps image w
-    → form_cause w form ≡ None → is_raw form ≡ false → Turns image form w (after_form w form)
-unfolding after_form is_early in_range
+    → form_cause w form ≡ None → is_strange form ≡ false → Turns image form w (after_form w form)
+unfolding after_form in_range
 form_turn image w Header bytes k fine honest =
     let was = at_header image w w.section (passes w Header fine).may k.stands in
     still_turn image Header w _ refl k.server was refl refl refl refl
@@ -441,6 +445,8 @@ form_turn image w (Down number device word) bytes k fine honest =
     reached_turn image w number device word d.0 s.0 bytes k
     (late_cut image w (Down number device word) w.section refl p.may k.stands) there.0 d.1 s.1
 form_turn image w (Raw device port payload word) bytes k fine honest = absurd (true≢false honest)
+form_turn image w (Air number device word) bytes k fine honest = absurd (true≢false honest)
+form_turn image w (RawAir device bytes word) all k fine honest = absurd (true≢false honest)
 form_turn image w (Up number) bytes k fine honest =
     up_turn image (Up number) w (numbered w.uplinks number) refl k.server
     (late_cut image w (Up number) w.section refl (passes w (Up number) fine).may k.stands)

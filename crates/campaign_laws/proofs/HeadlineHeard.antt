@@ -17,7 +17,7 @@ use Rattle.campaign_world.specs.declared.numbered.SentPayload.{SentPayload}
 use Rattle.campaign_world.specs.World.{WorldState, first_world}
 use Rattle.campaign_world.specs.Causes.{cause_of_form, cause_of}
 use Rattle.campaign_world.specs.Making.{device_of, after_form}
-use Rattle.campaign_world.specs.Script.{after_form_of, after_line, line_result, read_line, read_lines, campaign_of}
+use Rattle.campaign_world.specs.Script.{one_line_more, after_form_of, after_line, line_result, read_line, read_lines, campaign_of}
 use Rattle.campaign_world.specs.Honest.{is_raw, has_raw, IsHonest}
 use Rattle.campaign_laws.specs.Headline.{Brings, WasBrought}
 use Rattle.campaign_server.proofs.LineItems.{if_some, none_there, numbered_push, numbered_put, numbered_there, numbered_next, within}
@@ -25,7 +25,8 @@ use Rattle.campaign_laws.proofs.HeadlineCommands.{Cut, cut_of, setup_request}
 use Rattle.device_core.proofs.Stays.{stays}
 use Rattle.campaign_laws.proofs.HeadlineEnds.{IsDeviceFor}
 use Rattle.campaign_laws.proofs.HeadlineWorlds.{Keeps, HasStayed, IsReached, Turns}
-use Rattle.campaign_laws.proofs.HeadlineForms.{form_turn}
+use Rattle.campaign_laws.proofs.Airing.{heard_as}
+use Rattle.campaign_laws.proofs.HonestLines.{Says, goes_on_by}
 use Rattle.campaign_laws.proofs.Independence.{Grows, sent_grows}
 use Rattle.campaign_laws.proofs.HeadlineLines.{Reads, cause_by, line_reads, first_reads, end_is, campaign_reads}
 use Rattle.campaign_laws.proofs.HeadlineSessions.{NotYet, SessionHears, DeviceHears, not_yet_more, quiet, session_quiet, no_delivery, elsewhere, moved_hears, reached_hears}
@@ -100,19 +101,19 @@ joined_hear image cut lines sent id last ds d fresh none h = elim (numbered_push
 reached_hear : (image : List ℕ) (lines : List (List ℕ)) (sent more : List SentPayload) (w v : WorldState) (form : Form)
     (line : List ℕ) (r : IsReached image form w v) → All (λ b. b < 2 ^ 8) image
     → Keeps image w → read_lines (Ok (first_world image)) (take w.lines lines) ≡ Ok w → sent ≡ w.sent ++ more
-    → numbered lines (w.lines + 1) ≡ Some line → form_of line ≡ Some form
+    → numbered lines (w.lines + 1) ≡ Some line → Says (form_of line) form
     → ((id : ℕ) → DeviceHears image (cut_of w.server.plan) (Brings image lines sent id) w.lines (numbered w.devices id))
     → (id : ℕ)
     → DeviceHears image (cut_of w.server.plan) (Brings image lines sent id) (w.lines + 1)
     (numbered (slice_set w.devices (r.id - 1) r.new) id)
-reached_hear image lines sent more w v form line r bytes k read grown line_is form_is h id =
+reached_hear image lines sent more w v form line r bytes k read grown line_is says h id =
     let cut : Cut = cut_of w.server.plan in
     let its = if_some (IsDeviceFor image cut) (numbered w.devices r.id) r.old r.before (k.devices r.id) in
     let before : SessionHears image cut (Brings image lines sent r.id) w.lines r.old.config r.old.sessions.first =
     subst (DeviceHears image cut (Brings image lines sent r.id) w.lines) r.before (h r.id) in
     let behind : DeviceHears image cut (Brings image lines sent r.id) (w.lines + 1) (Some r.new) =
-    reached_hears image lines sent more w v form line r bytes read its grown line_is form_is before in
-    let down : form_of line ≡ Some (Down r.number r.id r.word) = form_is ∙ ap (λ (f : Form). Some f) r.form_is in
+    reached_hears image lines sent more w v form line r bytes read its grown line_is says before in
+    let down : Says (form_of line) (Down r.number r.id r.word) = subst (Says (form_of line)) r.form_is says in
     elim (cases_same id r.id) [
       | inl is ↦ subst (λ (n : ℕ). DeviceHears image cut (Brings image lines sent n) (w.lines + 1)
           (numbered (slice_set w.devices (r.id - 1) r.new) n)) (sym is)
@@ -128,17 +129,17 @@ reached_hear image lines sent more w v form line r bytes k read grown line_is fo
 turn_full : (image : List ℕ) (lines : List (List ℕ)) (sent more : List SentPayload) (w v : WorldState) (form : Form)
     (line : List ℕ) → All (λ b. b < 2 ^ 8) image → Keeps image w
     → read_lines (Ok (first_world image)) (take w.lines lines) ≡ Ok w → Turns image form w v
-    → sent ≡ w.sent ++ more → numbered lines (w.lines + 1) ≡ Some line → form_of line ≡ Some form
+    → sent ≡ w.sent ++ more → numbered lines (w.lines + 1) ≡ Some line → Says (form_of line) form
     → Full image lines sent w → AllHear image (cut_of v.server.plan) lines sent (w.lines + 1) v.devices
 unfolding AllHear
-turn_full image lines sent more w v form line bytes k read turn grown line_is form_is h = elim turn.how [
+turn_full image lines sent more w v form line bytes k read turn grown line_is says h = elim turn.how [
   | inl q ↦ λ id. subst (λ (x : Cut). DeviceHears image x (Brings image lines sent id) (w.lines + 1) (numbered v.devices id))
       (sym q.cut)
       (alike_hear image (cut_of w.server.plan) lines sent id w.lines (numbered w.devices id) (numbered v.devices id)
-      (no_delivery image lines sent id (w.lines + 1) line form line_is form_is q.other) (q.devices id) (h id))
+      (no_delivery image lines sent id (w.lines + 1) line form line_is says q.other) (q.devices id) (h id))
   | inr other ↦ elim other [
     | inl b ↦ λ id. begun_hear image (cut_of w.server.plan) (cut_of v.server.plan) lines sent id w.lines w.devices
-        v.devices b.before b.devices (no_delivery image lines sent id (w.lines + 1) line form line_is form_is b.other)
+        v.devices b.before b.devices (no_delivery image lines sent id (w.lines + 1) line form line_is says b.other)
         (h id)
     | inr another ↦ elim another [
       | inl j ↦ λ id. subst (λ (x : Cut). DeviceHears image x (Brings image lines sent id) (w.lines + 1)
@@ -146,12 +147,12 @@ turn_full image lines sent more w v form line bytes k read turn grown line_is fo
           (subst (λ (ds : List DeviceState). DeviceHears image (cut_of w.server.plan) (Brings image lines sent id)
           (w.lines + 1) (numbered ds id)) (sym j.devices)
           (joined_hear image (cut_of w.server.plan) lines sent id w.lines w.devices (device_of j.class j.hw j.rows j.offset j.key j.descriptor j.v1 j.k11) refl
-          (no_delivery image lines sent id (w.lines + 1) line form line_is form_is j.other) (h id)))
+          (no_delivery image lines sent id (w.lines + 1) line form line_is says j.other) (h id)))
       | inr r ↦ λ id. subst (λ (x : Cut). DeviceHears image x (Brings image lines sent id) (w.lines + 1)
           (numbered v.devices id)) (sym r.cut)
           (subst (λ (ds : List DeviceState). DeviceHears image (cut_of w.server.plan) (Brings image lines sent id)
           (w.lines + 1) (numbered ds id)) (sym r.devices)
-          (reached_hear image lines sent more w v form line r bytes k read grown line_is form_is h id))
+          (reached_hear image lines sent more w v form line r bytes k read grown line_is says h id))
     ]
   ]
 ]
@@ -160,16 +161,18 @@ turn_full image lines sent more w v form line bytes k read turn grown line_is fo
 
 form_full : (image : List ℕ) (lines : List (List ℕ)) (sent : List SentPayload) (w : WorldState) (line : List ℕ)
     (rest : List (List ℕ)) (form : Option Form) → All (λ b. b < 2 ^ 8) image → Reads image lines (line ∷ rest) w
-    → Full image lines sent w → Grows w.sent sent → form_of line ≡ form → cause_of_form w form ≡ None
-    → Full image lines sent (after_form_of w form)
-form_full image lines sent w line rest None bytes r h more is fine = absurd cc
-form_full image lines sent w line rest (Some form) bytes r h more is fine =
+    → Full image lines sent w → Grows w.sent sent → form_of line ≡ form → cause_of w line ≡ None
+    → cause_of_form w form ≡ None → Full image lines sent (after_form_of w form)
+form_full image lines sent w line rest None bytes r h more is none fine = absurd cc
+form_full image lines sent w line rest (Some form) bytes r h more is none fine =
     let mine : is_raw form ≡ false = ap has_raw (sym is) ∙ r.honest.0 in
-    let turn = form_turn image w form bytes r.keeps fine mine in
-    let after : WorldState = after_form w form in
-    subst (λ (n : ℕ). AllHear image (cut_of after.server.plan) lines sent (n + 1) after.devices) (sym turn.lines)
-    (turn_full image lines sent more.0 w after form line bytes r.keeps r.read turn more.1
-    (numbered_next lines w.lines line rest r.left).0 is h)
+    let on = goes_on_by image w line form bytes r.stands is none fine mine in
+    let after : WorldState = after_form w (heard_as form) in
+    let behind : Full image lines sent (one_line_more after) =
+    subst (λ (n : ℕ). AllHear image (cut_of after.server.plan) lines sent (n + 1) after.devices) (sym on.turn.lines)
+    (turn_full image lines sent more.0 w after (heard_as form) line bytes r.stands.keeps r.read on.turn more.1
+    (numbered_next lines w.lines line rest r.left).0 on.says h) in
+    subst (λ (u : WorldState). Full image lines sent (one_line_more u)) (sym on.heard.same) behind
 
 line_full : (image : List ℕ) (lines : List (List ℕ)) (sent : List SentPayload) (w : WorldState) (line : List ℕ)
     (rest : List (List ℕ)) (cause : Option LineWhy) → All (λ b. b < 2 ^ 8) image → Reads image lines (line ∷ rest) w
@@ -180,7 +183,7 @@ line_full image lines sent w line rest (Some why) bytes r h more is = tt
 line_full image lines sent w line rest None bytes r h more is = (
   line_reads image lines w line rest None bytes r is,
   form_full image lines sent w line rest
-      (form_of line) bytes r h more refl (cause_by _ _ _ is),
+      (form_of line) bytes r h more refl is (cause_by _ _ _ is),
 )
 
 all_full : (image : List ℕ) (lines : List (List ℕ)) (world : WorldState) (r : Result WorldState LineFault)

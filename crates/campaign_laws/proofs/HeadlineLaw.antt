@@ -96,7 +96,7 @@ set_for image script world id stage device session c =
 server_of : (image script : List ℕ) (world : WorldState) (id : ℕ) (stage : Stage) (device : DeviceState)
     (session : Session) → IsCampaign image script world id stage device session → IsServerOf image world.server
 server_of image script world id stage device session c =
-    (campaign_reads image script world c.bytes c.honest c.accepted).keeps.server
+    (campaign_reads image script world c.bytes c.honest c.accepted).stands.keeps.server
 
 session_rows : (image script : List ℕ) (world : WorldState) (id : ℕ) (stage : Stage) (device : DeviceState)
     (session : Session) → IsCampaign image script world id stage device session

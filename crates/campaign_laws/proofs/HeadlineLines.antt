@@ -35,16 +35,17 @@ use Rattle.campaign_world.specs.declared.numbered.SentPayload.{SentPayload}
 use Rattle.campaign_world.specs.World.{WorldState, first_world}
 use Rattle.campaign_world.specs.Causes.{cause_of_form, cause_of}
 use Rattle.campaign_world.specs.Making.{config_of, after_form}
-use Rattle.campaign_world.specs.Script.{after_form_of, after_line, line_result, read_line, read_lines, end_result_at, end_result, campaign_of}
+use Rattle.campaign_world.specs.Script.{one_line_more, after_form_of, after_line, line_result, read_line, read_lines, end_result_at, end_result, campaign_of}
 use Rattle.campaign_world.specs.Honest.{is_raw, has_raw, AreHonest, IsHonest}
-use Rattle.campaign_laws.specs.Headline.{Delivers, Listens, campaign_before, Brings, WasBrought, CameInOrder}
+use Rattle.campaign_laws.specs.Headline.{HandsOver, Delivers, Listens, campaign_before, Brings, WasBrought, CameInOrder}
 use Rattle.campaign_server.proofs.LineItems.{if_some, some_is, some_weaker, none_there, numbered_more, numbered_push, numbered_put, numbered_there, numbered_next, take_next}
 use Rattle.campaign_laws.proofs.HeadlineCommands.{Cut, cut_of, setup_req, command_of, setup_request, fragment_command, IsGood, setup_good, fragment_good}
 use Rattle.device_core.proofs.Stays.{Moves, stays}
 use Rattle.campaign_laws.proofs.HeadlinePayloads.{comes_to, way_of}
 use Rattle.campaign_laws.proofs.HeadlineEnds.{IsSetFor, IsDeviceFor}
 use Rattle.campaign_laws.proofs.HeadlineWorlds.{Keeps, first_keeps, HasStayed, IsQuiet, Turns, IsReached, turn_keeps}
-use Rattle.campaign_laws.proofs.HeadlineForms.{form_turn}
+use Rattle.campaign_laws.proofs.Airing.{heard_as}
+use Rattle.campaign_laws.proofs.HonestLines.{Says, says_down, Stands, first_stands, goes_on_by}
 
 -- ---- deliveries as the campaign goes on
 
@@ -197,7 +198,7 @@ fragment_came image lines sent id n (Some s) way number part f h =
 -- a payload that the server sent reaches the device by this line
 delivers : (lines : List (List ℕ)) (sent : List SentPayload) (id n : ℕ) (p : SentPayload) (down : DownlinkCommand)
     (c : Command) (line : List ℕ) (number word : ℕ) → numbered lines n ≡ Some line
-    → form_of line ≡ Some (Down number id word)
+    → HandsOver (form_of line) number id word
     → numbered sent number ≡ Some p → p.down ≡ downlink_of down → down.command ≡ c → IsGood c
     → Delivers lines sent id n (record { to = down.to; command = c })
 delivers lines sent id n p down c line number word line_is form got down_is is good = (
@@ -250,13 +251,14 @@ by_unicast mask t d = refl
 reached_came : (image : List ℕ) (lines : List (List ℕ)) (w v : WorldState) (form : Form) (line : List ℕ)
     (r : IsReached image form w v) → All (λ b. b < 2 ^ 8) image
     → read_lines (Ok (first_world image)) (take w.lines lines) ≡ Ok w
-    → numbered lines (w.lines + 1) ≡ Some line → form_of line ≡ Some form
+    → numbered lines (w.lines + 1) ≡ Some line → Says (form_of line) form
     → IsDeviceFor image (cut_of w.server.plan) r.old
     → DeviceCame image lines w.sent r.id w.lines r.old → DeviceCame image lines w.sent r.id (w.lines + 1) r.new
-reached_came image lines w v form line r bytes read line_is form_is its h =
+reached_came image lines w v form line r bytes read line_is says its h =
     let cut : Cut = cut_of w.server.plan in
     let n : ℕ = w.lines + 1 in
-    let down : form_of line ≡ Some (Down r.number r.id r.word) = form_is ∙ ap (λ (f : Form). Some f) r.form_is in
+    let down : HandsOver (form_of line) r.number r.id r.word =
+    says_down (form_of line) form r.number r.id r.word says r.form_is in
     let old : IfSome r.old.sessions.first (SessionCame image lines w.sent r.id n) =
     session_later image lines w.sent r.id w.lines r.old.sessions.first h in
     elim r.acts [
@@ -337,10 +339,10 @@ joined_came image lines sent n ds config h id = elim (numbered_push ds (first_de
 turn_came : (image : List ℕ) (lines : List (List ℕ)) (w v : WorldState) (form : Form) (line : List ℕ)
     → All (λ b. b < 2 ^ 8) image → Keeps image w
     → read_lines (Ok (first_world image)) (take w.lines lines) ≡ Ok w
-    → Turns image form w v → numbered lines (w.lines + 1) ≡ Some line → form_of line ≡ Some form
+    → Turns image form w v → numbered lines (w.lines + 1) ≡ Some line → Says (form_of line) form
     → AllCame image lines w.sent w.lines w.devices → AllCame image lines v.sent (w.lines + 1) v.devices
 unfolding AllCame
-turn_came image lines w v form line bytes k read turn line_is form_is h = elim turn.how [
+turn_came image lines w v form line bytes k read turn line_is says h = elim turn.how [
   | inl q ↦ subst (λ (ss : List SentPayload). AllCame image lines ss (w.lines + 1) v.devices) (sym q.sent) (quiet q)
   | inr other ↦ elim other [
     | inl b ↦ none_came image lines v.sent (w.lines + 1) v.devices b.devices
@@ -368,7 +370,7 @@ turn_came image lines w v form line bytes k read turn line_is form_is h = elim t
           (ap (λ (x : ℕ). numbered (slice_set w.devices (r.id - 1) r.new) x) is
           ∙ numbered_there w.devices r.id r.old r.new r.before)
           (subst (λ (x : ℕ). DeviceCame image lines w.sent x (w.lines + 1) r.new) (sym is)
-          (reached_came image lines w v form line r bytes read line_is form_is
+          (reached_came image lines w v form line r bytes read line_is says
           (if_some (IsDeviceFor image (cut_of w.server.plan)) (numbered w.devices r.id) r.old r.before (k.devices r.id))
           (if_some (DeviceCame image lines w.sent r.id w.lines) (numbered w.devices r.id) r.old r.before (h r.id))))
     ]
@@ -377,7 +379,7 @@ turn_came image lines w v form line bytes k read turn line_is form_is h = elim t
 
 -- what holds between two lines, with these lines left
 pub record Reads (image : List ℕ) (lines : List (List ℕ)) (rest : List (List ℕ)) (w : WorldState) : Type 0 where
-  pub keeps : Keeps image w
+  pub stands : Stands image w
   pub came : AllCame image lines w.sent w.lines w.devices
   pub left : drop w.lines lines ≡ rest
   pub read : read_lines (Ok (first_world image)) (take w.lines lines) ≡ Ok w
@@ -416,19 +418,20 @@ form_reads image lines w line rest None bytes r is none fine = absurd cc
 form_reads image lines w line rest (Some form) bytes r is none fine =
     let next = numbered_next lines w.lines line rest r.left in
     let mine : is_raw form ≡ false = ap has_raw (sym is) ∙ r.honest.0 in
-    let turn = form_turn image w form bytes r.keeps fine mine in
-    let keeps = turn_keeps image form w (after_form w form) r.keeps turn in
-    let came = turn_came image lines w (after_form w form) form line bytes r.keeps r.read turn next.0 is r.came in
-    let after : WorldState = after_form w form in
-    record {
-      keeps = record { server = keeps.server; stands = keeps.stands; sent = keeps.sent; devices = keeps.devices };
-      came = subst (λ (n : ℕ). AllCame image lines after.sent (n + 1) after.devices) (sym turn.lines) came;
-      left = ap (λ (n : ℕ). drop (n + 1) lines) turn.lines ∙ next.1;
+    let on = goes_on_by image w line form bytes r.stands is none fine mine in
+    let v : WorldState = after_form w (heard_as form) in
+    let came = turn_came image lines w v (heard_as form) line bytes r.stands.keeps r.read on.turn next.0 on.says r.came in
+    let behind : Reads image lines rest (one_line_more v) = record {
+      stands = on.stands;
+      came = subst (λ (n : ℕ). AllCame image lines v.sent (n + 1) v.devices) (sym on.turn.lines) came;
+      left = ap (λ (n : ℕ). drop (n + 1) lines) on.turn.lines ∙ next.1;
       honest = r.honest.1;
-      read = ap (λ (n : ℕ). read_lines (Ok (first_world image)) (take (n + 1) lines)) turn.lines
+      read = ap (λ (n : ℕ). read_lines (Ok (first_world image)) (take (n + 1) lines)) on.turn.lines
           ∙ read_next image lines w line rest r.read r.left none
-          ∙ ap (λ (f : Option Form). let o : Result WorldState LineFault = Ok (after_form_of w f) in o) is;
-    }
+          ∙ ap (λ (f : Option Form). let o : Result WorldState LineFault = Ok (after_form_of w f) in o) is
+          ∙ ap (λ (u : WorldState). let o : Result WorldState LineFault = Ok (one_line_more u) in o) on.heard.same;
+    } in
+    subst (λ (u : WorldState). Reads image lines rest (one_line_more u)) (sym on.heard.same) behind
 
 pub cause_by : (b : Bool) (why : LineWhy) (rest : Option LineWhy) → cond b (Some why) rest ≡ None → rest ≡ None
 cause_by true why rest is = absurd cc
@@ -458,7 +461,7 @@ all_read image lines (Ok w) (line ∷ rest) bytes h =
 pub first_reads : (image : List ℕ) (lines : List (List ℕ)) → AreHonest lines → Reads image lines lines (first_world image)
 unfolding read_lines
 first_reads image lines honest = record {
-  keeps = first_keeps image;
+  stands = first_stands image;
   came = none_came image lines [] 0 [] refl;
   left = refl;
   read = refl;
@@ -497,7 +500,7 @@ pub campaign_device : (image script : List ℕ) (world : WorldState) (id : ℕ) 
     → IsDeviceFor image (cut_of world.server.plan) device
 campaign_device image script world id device bytes honest is d =
     if_some (IsDeviceFor image (cut_of world.server.plan)) (numbered world.devices id) device d
-    ((campaign_reads image script world bytes honest is).keeps.devices id)
+    ((campaign_reads image script world bytes honest is).stands.keeps.devices id)
 
 -- and so is its session
 pub campaign_session : (image script : List ℕ) (world : WorldState) (id : ℕ) (device : DeviceState) (session : Session)

@@ -108,7 +108,7 @@ campaign_cut : (image script : List ℕ) (world : WorldState) → All (λ b. b <
 unfolding campaign_of
 campaign_cut image script world bytes honest is =
     subst (StandsIn image world) (ended (read_lines (Ok (first_world image)) (lines_of script)) world is)
-    (campaign_reads image script world bytes honest is).keeps.stands
+    (campaign_reads image script world bytes honest is).stands.keeps.stands
 
 -- ---- a session
 
@@ -132,4 +132,4 @@ live image script world id device n bytes fine honest is there takes b =
     (takes_setup image cut device.config fine (campaign_cut image script world bytes honest is)
     (campaign_device image script world id device bytes honest is there).bounds takes)
     all (omega (arith, left, inside, length-drop world.lines lines))
-    (subst (λ (x : Command). brings n x) (setup_is image world.server reads.keeps.server) b)
+    (subst (λ (x : Command). brings n x) (setup_is image world.server reads.stands.keeps.server) b)

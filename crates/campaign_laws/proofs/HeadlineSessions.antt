@@ -32,13 +32,14 @@ use Rattle.report_lines.specs.declared.faults.LineFault.{LineFault}
 use Rattle.campaign_world.specs.declared.numbered.SentPayload.{SentPayload}
 use Rattle.campaign_world.specs.World.{WorldState, first_world}
 use Rattle.campaign_world.specs.Script.{read_lines}
-use Rattle.campaign_laws.specs.Headline.{IsFragmentOf, Delivers, Listens, Brings}
+use Rattle.campaign_laws.specs.Headline.{IsFragmentOf, HandsOver, Delivers, Listens, Brings}
 use Rattle.campaign_server.proofs.LineItems.{numbered_more}
 use Rattle.campaign_laws.proofs.HeadlineCommands.{Cut, cut_of, setup_req, setup_request, fragment_command, IsOther, IsSentOf, IsCut, sent_same, fragment_sized}
 use Rattle.device_core.proofs.Stays.{Moves, stays}
 use Rattle.campaign_laws.proofs.HeadlinePayloads.{set_up, fed, comes_to, way_of}
 use Rattle.campaign_laws.proofs.HeadlineEnds.{IsSetFor, IsDeviceFor}
 use Rattle.campaign_laws.proofs.HeadlineWorlds.{is_down, IsReached}
+use Rattle.campaign_laws.proofs.HonestLines.{Says, hands_over_is}
 use Rattle.campaign_laws.proofs.HeadlineLines.{before_next}
 
 -- ---- what a session is to have heard
@@ -119,25 +120,31 @@ quiet image cut brings last (Some d) none h = session_quiet image cut brings las
 
 -- ---- what a line delivers
 
+-- a line that hands over says so
+handed_over : (its line : List ℕ) (form : Form) (n id word : ℕ) → its ≡ line → HandsOver (form_of its) n id word
+    → Says (form_of line) form → form ≡ Down n id word
+handed_over its line form n id word same over says =
+    hands_over_is (form_of line) form n id word (subst (λ (l : List ℕ). HandsOver (form_of l) n id word) same over) says
+
 -- a line of another form brings nothing
 pub no_delivery : (image : List ℕ) (lines : List (List ℕ)) (sent : List SentPayload) (id n : ℕ) (line : List ℕ)
-    (form : Form) → numbered lines n ≡ Some line → form_of line ≡ Some form → is_down form ≡ false
+    (form : Form) → numbered lines n ≡ Some line → Says (form_of line) form → is_down form ≡ false
     → (c : Command) → Brings image lines sent id n c → ⊥
-no_delivery image lines sent id n line form line_is form_is other c b =
+no_delivery image lines sent id n line form line_is says other c b =
     let d = b.3 in
     let same : d.0 ≡ line = (let e : Some d.0 ≡ Some line = sym d.4.line_is ∙ line_is in cc) in
-    let down : Some (Down d.1 id d.2) ≡ Some form = sym d.4.form ∙ ap form_of same ∙ form_is in
-    let it : Down d.1 id d.2 ≡ form = cc in
-    true≢false (ap is_down it ∙ other)
+    let it : form ≡ Down d.1 id d.2 = handed_over d.0 line form d.1 id d.2 same d.4.form says in
+    true≢false (ap is_down (sym it) ∙ other)
 
 -- nor does a down to another device
 pub elsewhere : (image : List ℕ) (lines : List (List ℕ)) (sent : List SentPayload) (id n number other word : ℕ)
-    (line : List ℕ) → numbered lines n ≡ Some line → form_of line ≡ Some (Down number other word) → (id ≡ other → ⊥)
+    (line : List ℕ) → numbered lines n ≡ Some line → Says (form_of line) (Down number other word) → (id ≡ other → ⊥)
     → (c : Command) → Brings image lines sent id n c → ⊥
-elsewhere image lines sent id n number other word line line_is form_is differs c b =
+elsewhere image lines sent id n number other word line line_is says differs c b =
     let d = b.3 in
     let same : d.0 ≡ line = (let e : Some d.0 ≡ Some line = sym d.4.line_is ∙ line_is in cc) in
-    let down : Some (Down d.1 id d.2) ≡ Some (Down number other word) = sym d.4.form ∙ ap form_of same ∙ form_is in
+    let down : Down number other word ≡ Down d.1 id d.2 =
+    handed_over d.0 line (Down number other word) d.1 id d.2 same d.4.form says in
     let it : id ≡ other = cc in
     differs it
 
@@ -149,13 +156,14 @@ record IsTheOne (to : To) (c : Command) (down : DownlinkCommand) : Type 0 where
 delivered_one : (image : List ℕ) (cut : Cut) (lines : List (List ℕ)) (sent : List SentPayload) (id n : ℕ)
     (line : List ℕ) (number word : ℕ) (p : SentPayload) (down : DownlinkCommand)
     → All (λ b. b < 2 ^ 8) image → IsCut image cut → IsSentOf image cut down → p.down ≡ downlink_of down
-    → numbered lines n ≡ Some line → form_of line ≡ Some (Down number id word) → numbered sent number ≡ Some p
+    → numbered lines n ≡ Some line → Says (form_of line) (Down number id word) → numbered sent number ≡ Some p
     → (to : To) (c : Command) → IsListed (row c) 201 direction.Down → port_of c ≡ 201
     → Delivers lines sent id n (record { to = to; command = c }) → IsTheOne to c down
-delivered_one image cut lines sent id n line number word p down bytes is_cut is_sent down_is line_is form_is got to c
+delivered_one image cut lines sent id n line number word p down bytes is_cut is_sent down_is line_is says got to c
     listed port d =
     let same : d.0 ≡ line = (let e : Some d.0 ≡ Some line = sym d.4.line_is ∙ line_is in cc) in
-    let at : Some (Down d.1 id d.2) ≡ Some (Down number id word) = sym d.4.form ∙ ap form_of same ∙ form_is in
+    let at : Down number id word ≡ Down d.1 id d.2 =
+    handed_over d.0 line (Down number id word) d.1 id d.2 same d.4.form says in
     let which : d.1 ≡ number = cc in
     let r : SentPayload = record { receiver = d.3; down = downlink_of (record { to = to; command = c }) } in
     let found : Some r ≡ Some p = sym d.4.payload_is ∙ ap (numbered sent) which ∙ got in
@@ -376,11 +384,11 @@ pub reached_hears : (image : List ℕ) (lines : List (List ℕ)) (sent more : Li
     (form : Form) (line : List ℕ) (r : IsReached image form w v) → All (λ b. b < 2 ^ 8) image
     → read_lines (Ok (first_world image)) (take w.lines lines) ≡ Ok w
     → IsDeviceFor image (cut_of w.server.plan) r.old → sent ≡ w.sent ++ more
-    → numbered lines (w.lines + 1) ≡ Some line → form_of line ≡ Some form
+    → numbered lines (w.lines + 1) ≡ Some line → Says (form_of line) form
     → SessionHears image (cut_of w.server.plan) (Brings image lines sent r.id) w.lines r.old.config r.old.sessions.first
     → SessionHears image (cut_of w.server.plan) (Brings image lines sent r.id) (w.lines + 1) r.new.config
     r.new.sessions.first
-reached_hears image lines sent more w v form line r bytes read k grown line_is form_is h =
+reached_hears image lines sent more w v form line r bytes read k grown line_is says h =
     let cut : Cut = cut_of w.server.plan in
     let last : ℕ = w.lines in
     let brings : ℕ → Command → Type 0 = Brings image lines sent r.id in
@@ -389,7 +397,7 @@ reached_hears image lines sent more w v form line r bytes read k grown line_is f
     let one : (c : Command) → IsListed (row c) 201 direction.Down → port_of c ≡ 201 → (b : brings (last + 1) c)
     → IsTheOne b.0 c r.down =
     λ c listed port b. delivered_one image cut lines sent r.id (last + 1) line r.number r.word r.payload r.down bytes
-    r.is_cut r.is_sent r.down_is line_is (form_is ∙ ap (λ (f : Form). Some f) r.form_is) got b.0 c listed port b.3 in
+    r.is_cut r.is_sent r.down_is line_is (subst (Says (form_of line)) r.form_is says) got b.0 c listed port b.3 in
     let listens : (c : Command) → IsListed (row c) 201 direction.Down → port_of c ≡ 201 → brings (last + 1) c
     → IsHeardIn r.down.to w r.old =
     λ c listed port b. subst (λ (to : To). IsHeardIn to w r.old) (one c listed port b).to_is

@@ -1,5 +1,5 @@
 -- Each device for itself.
-use Rattle.std.proofs.Common.{◌≡◌, inl, inr, ℕ, zero, suc, ◌+◌, ◌-◌, ◌<◌, ◌≤◌, Bool, true, false, cond, ◌==◌, nat_le, List, [], ◌∷◌, ◌++◌, length, map, fold, append-nil, append_assoc, slice_get, Option, None, Some, option_map, Ok, Err, refl, sym, ap, ◌∙◌, subst, arith, eqb-true}
+use Rattle.std.proofs.Common.{◌≡◌, ◌&&◌, inl, inr, ℕ, zero, suc, ◌+◌, ◌-◌, ◌<◌, ◌≤◌, Bool, true, false, cond, ◌==◌, nat_le, List, [], ◌∷◌, ◌++◌, length, map, fold, append-nil, append_assoc, slice_get, Option, None, Some, option_map, Ok, Err, refl, sym, ap, ◌∙◌, subst, arith, eqb-true}
 use Rattle.std.proofs.lemmas.Bool.{leb-true, and_parts}
 use Rattle.std.specs.Prelude.{filter_map, option_to_list}
 use Rattle.std.specs.List.{slice_set}
@@ -7,6 +7,8 @@ use Rattle.std.specs.Result.{result_ok}
 use Rattle.wire_base.specs.declared.refusal.Direction.TheVariants as direction
 use Rattle.package_grammar.specs.Reading.{Reading, reading_of}
 use Rattle.device_core.specs.Device.{DeviceState}
+use Rattle.campaign_server.specs.declared.plan.PlanGroup.{PlanGroup}
+use Rattle.campaign_server.specs.Plan.{Plan}
 use Rattle.campaign_server.specs.Server.{ServerState, DownlinkCommand, ledger}
 use Rattle.wire_base.specs.Numbered.{numbered}
 use Rattle.campaign_server.specs.Asking.{by_unicast, request_of}
@@ -14,7 +16,7 @@ use Rattle.campaign_server.specs.Fragments.{next_fragment, after_fragment, statu
 use Rattle.campaign_server.specs.Time.{time_answer}
 use Rattle.campaign_server.specs.Uplinks.{with_answers, read_uplink, uplink_step}
 use Rattle.script_lines.specs.declared.forms.Form.{Form}
-use Rattle.script_lines.specs.declared.forms.Form.TheVariants.{Header, Image, Group, WindowC, WindowB, Device, At, Wake, Migrate, Ask, Frag, Status, Down, Raw, Up, End}
+use Rattle.script_lines.specs.declared.forms.Form.TheVariants.{Header, Image, Group, WindowC, WindowB, Device, At, Wake, Migrate, Ask, Frag, Status, Down, Raw, Air, RawAir, Up, End}
 use Rattle.script_lines.specs.Lines.{lines_of}
 use Rattle.script_lines.specs.Forms.{form_of}
 use Rattle.report_lines.specs.declared.faults.LineWhy.{LineWhy}
@@ -22,14 +24,15 @@ use Rattle.report_lines.specs.declared.faults.LineFault.{LineFault}
 use Rattle.campaign_world.specs.declared.numbered.SentPayload.{SentPayload}
 use Rattle.campaign_world.specs.declared.numbered.MadeUplink.{MadeUplink}
 use Rattle.campaign_world.specs.World.{WorldState, first_world}
-use Rattle.campaign_world.specs.Causes.{is_device, may_reach, cause_of, cause_of_form, form_cause}
-use Rattle.campaign_world.specs.Making.{with_sent, with_device, raw_down, reception, with_event, with_event_of, after_answer, after_up, at_events, after_form}
+use Rattle.campaign_world.specs.Causes.{is_device, may_reach, goes_out, cause_of, cause_of_form, form_cause}
+use Rattle.campaign_world.specs.Making.{with_sent, with_device, raw_down, reception, sent_frame, hearing, with_event, with_event_of, after_answer, after_up, at_events, after_form}
 use Rattle.campaign_world.specs.Script.{after_form_of, after_line, line_result, read_line, read_lines, campaign_of}
-use Rattle.device_core.specs.Events.{Event, Wakes, Receives, Migrates, after_event}
+use Rattle.device_core.specs.Events.{Event, Wakes, Receives, HearsBytes, Migrates, after_event}
 use Rattle.campaign_laws.specs.Independence.{device_in, first_devices, time_after, event_in, history_of, DevicesAreIndependent}
 use Rattle.campaign_world.proofs.Steps.{reception_of}
 use Rattle.campaign_server.proofs.LineItems.{numbered_more, numbered_put, numbered_there}
 use Rattle.campaign_laws.proofs.HeadlineForms.{passes}
+use Rattle.campaign_laws.proofs.PlanGroups.{is_planning, form_settled, air_settled}
 use Rattle.campaign_laws.proofs.HeadlineLines.{cause_by, end_is}
 
 -- ---- lines that are read
@@ -148,25 +151,34 @@ up_still w (Some made) =
 abbrev pub folded : List Event → Option DeviceState → Option DeviceState
 folded events start = option_map (λ (first : DeviceState). fold after_event first events) start
 
+-- the form brings a frame
+abbrev airs : Form → Bool
+airs (Air number device word) = true
+airs form = false
+
+-- where it does, the plan's group is this one
+abbrev pub HasGroup : Form → WorldState → Option PlanGroup → Type 0
+HasGroup form w group = airs form ≡ true → w.server.plan.group ≡ group
+
 -- what holds behind a form that is not refused: the line's number, the time, what was sent, and the record of a device
 -- behind what the form tells of it, with these devices and events to come
-pub record IsTold (id : ℕ) (all : List SentPayload) (w v : WorldState) (form : Form) : Type 0 where
+pub record IsTold (id : ℕ) (group : Option PlanGroup) (all : List SentPayload) (w v : WorldState) (form : Form) : Type 0 where
   pub lines : v.lines ≡ w.lines
   pub time : v.time ≡ time_after w.time (Some form)
   pub sent : Grows w.sent v.sent
-  pub record_is : Grows w.sent all → (later : List (Option Form)) (events : List Event)
+  pub record_is : Grows w.sent all → HasGroup form w group → (later : List (Option Form)) (events : List Event)
       → folded events (numbered (v.devices ++ filter_map device_in later) id)
-      ≡ folded (option_to_list (event_in id all w.time (w.lines + 1) (Some form)) ++ events)
+      ≡ folded (option_to_list (event_in id group all w.time (w.lines + 1) (Some form)) ++ events)
       (numbered (w.devices ++ filter_map device_in (Some form ∷ later)) id)
 
-still_told : (id : ℕ) (all : List SentPayload) (w v : WorldState) (form : Form) → IsStill w v
-    → time_after w.time (Some form) ≡ w.time → event_in id all w.time (w.lines + 1) (Some form) ≡ None
-    → device_in (Some form) ≡ None → IsTold id all w v form
-still_told id all w v form s time event device = record {
+still_told : (id : ℕ) (group : Option PlanGroup) (all : List SentPayload) (w v : WorldState) (form : Form) → IsStill w v
+    → time_after w.time (Some form) ≡ w.time → event_in id group all w.time (w.lines + 1) (Some form) ≡ None
+    → device_in (Some form) ≡ None → IsTold id group all w v form
+still_told id group all w v form s time event device = record {
   lines = s.lines;
   time = s.time ∙ sym time;
   sent = s.sent;
-  record_is = λ grows later events. rw (event, device, s.devices) refl;
+  record_is = λ grows has later events. rw (event, device, s.devices) refl;
 }
 
 -- an event at device n
@@ -185,93 +197,131 @@ happened id n ds later d e events false is first there =
       | inr other ↦ rw (set_front ds later n d (after_event d e) there, other) refl
     ]
 
-event_told : (id n : ℕ) (all : List SentPayload) (w : WorldState) (form : Form) (d : DeviceState) (o : Option Event) (e : Event)
+event_told : (id n : ℕ) (group : Option PlanGroup) (all : List SentPayload) (w : WorldState) (form : Form) (d : DeviceState) (o : Option Event) (e : Event)
     → 1 ≤ n → numbered w.devices n ≡ Some d → o ≡ Some e → time_after w.time (Some form) ≡ w.time → device_in (Some form) ≡ None
-    → (Grows w.sent all → event_in id all w.time (w.lines + 1) (Some form) ≡ cond (n == id) (Some e) None)
-    → IsTold id all w (with_event w n o) form
+    → (Grows w.sent all → HasGroup form w group → event_in id group all w.time (w.lines + 1) (Some form) ≡ cond (n == id) (Some e) None)
+    → IsTold id group all w (with_event w n o) form
 unfolding with_device
-event_told id n all w form d o e first there is time device told = rw (is, there) (record {
+event_told id n group all w form d o e first there is time device told = rw (is, there) (record {
   lines = refl;
   time = sym time;
   sent = same_sent w;
-  record_is = λ grows later events. rw (told grows, device)
+  record_is = λ grows has later events. rw (told grows has, device)
       (happened id n w.devices (filter_map device_in later) d e events (n == id) refl first there);
 })
 
-reached_told : (id number n word : ℕ) (all : List SentPayload) (w : WorldState) (d : DeviceState) (p : SentPayload)
+reached_told : (id number n word : ℕ) (group : Option PlanGroup) (all : List SentPayload) (w : WorldState) (d : DeviceState) (p : SentPayload)
     → 1 ≤ n → numbered w.devices n ≡ Some d → numbered w.sent number ≡ Some p
-    → IsTold id all w (with_event_of w n (Down number n word)) (Down number n word)
-reached_told id number n word all w d p first there got =
-    event_told id n all w (Down number n word) d (reception w.time word (w.lines + 1) (numbered w.sent number))
+    → IsTold id group all w (with_event_of w n (Down number n word)) (Down number n word)
+reached_told id number n word group all w d p first there got =
+    event_told id n group all w (Down number n word) d (reception w.time word (w.lines + 1) (numbered w.sent number))
     (Receives w.time word (w.lines + 1) p.down) first there (reception_of w.time word (w.lines + 1) _ p got) refl refl
-    (λ grows.
+    (λ grows has.
     let late : numbered all number ≡ Some p = rw (grows.1) (numbered_more w.sent grows.0 number p got) in
     rw (late) refl)
 
-pub form_told : (id : ℕ) (all : List SentPayload) (w : WorldState) (form : Form) → form_cause w form ≡ None
-    → IsTold id all w (after_form w form) form
-unfolding after_form
-form_told id all w Header fine =
-    still_told id all w _ Header (same_still w _ refl refl refl refl) refl refl refl
-form_told id all w (Image frag_size parity) fine =
-    still_told id all w _ (Image frag_size parity) (same_still w _ refl refl refl refl) refl refl refl
-form_told id all w (Group addr key min max) fine =
-    still_told id all w _ (Group addr key min max) (same_still w _ refl refl refl refl) refl refl refl
-form_told id all w (WindowC start timeout freq dr) fine =
-    still_told id all w _ (WindowC start timeout freq dr) (same_still w _ refl refl refl refl) refl refl refl
-form_told id all w (WindowB start periodicity timeout freq dr) fine =
-    still_told id all w _ (WindowB start periodicity timeout freq dr)
-    (same_still w _ refl refl refl refl) refl refl refl
-form_told id all w (Device name class hw rows offset key descriptor v1 k11) fine = record {
+neither : {A : Type 0} (b : Bool) → cond {A = Option A} b None None ≡ None
+neither true = refl
+neither false = refl
+
+-- a frame, where the payload has one
+aired_told : (id number n word : ℕ) (group : Option PlanGroup) (all : List SentPayload) (w : WorldState) (d : DeviceState)
+    (p : SentPayload) (frame : Option (List ℕ)) → 1 ≤ n → numbered w.devices n ≡ Some d → numbered w.sent number ≡ Some p
+    → sent_frame w.server.plan.group (Some p) ≡ frame
+    → IsTold id group all w (with_event_of w n (Air number n word)) (Air number n word)
+aired_told id number n word group all w d p (Some bytes) first there got is =
+    event_told id n group all w (Air number n word) d
+    (hearing w.time word (w.lines + 1) (sent_frame w.server.plan.group (numbered w.sent number)))
+    (HearsBytes w.time word (w.lines + 1) bytes) first there (rw (got, is) refl) refl refl
+    (λ grows has.
+    let late : numbered all number ≡ Some p = rw (grows.1) (numbered_more w.sent grows.0 number p got) in
+    rw (late, ← has refl, is) refl)
+aired_told id number n word group all w d p None first there got is = rw (got, is, there) (record {
   lines = refl;
   time = refl;
   sent = same_sent w;
-  record_is = λ grows later events. ap (λ (ds : List DeviceState). folded events (numbered ds id))
+  record_is = λ grows has later events.
+      let late : numbered all number ≡ Some p = rw (grows.1) (numbered_more w.sent grows.0 number p got) in
+      rw (late, ← has refl, is, neither (n == id)) refl;
+})
+
+air_payload : (device : ℕ) (o : Option SentPayload) → (may_reach device o && goes_out o) ≡ true → (p : SentPayload) × (o ≡ Some p)
+air_payload device None may = absurd cc
+air_payload device (Some p) may = (p, refl)
+
+pub form_told : (id : ℕ) (group : Option PlanGroup) (all : List SentPayload) (w : WorldState) (form : Form) → form_cause w form ≡ None
+    → IsTold id group all w (after_form w form) form
+unfolding after_form
+form_told id group all w Header fine =
+    still_told id group all w _ Header (same_still w _ refl refl refl refl) refl refl refl
+form_told id group all w (Image frag_size parity) fine =
+    still_told id group all w _ (Image frag_size parity) (same_still w _ refl refl refl refl) refl refl refl
+form_told id group all w (Group addr key min max) fine =
+    still_told id group all w _ (Group addr key min max) (same_still w _ refl refl refl refl) refl refl refl
+form_told id group all w (WindowC start timeout freq dr) fine =
+    still_told id group all w _ (WindowC start timeout freq dr) (same_still w _ refl refl refl refl) refl refl refl
+form_told id group all w (WindowB start periodicity timeout freq dr) fine =
+    still_told id group all w _ (WindowB start periodicity timeout freq dr)
+    (same_still w _ refl refl refl refl) refl refl refl
+form_told id group all w (Device name class hw rows offset key descriptor v1 k11) fine = record {
+  lines = refl;
+  time = refl;
+  sent = same_sent w;
+  record_is = λ grows has later events. ap (λ (ds : List DeviceState). folded events (numbered ds id))
       (append_assoc w.devices (_ ∷ []) (filter_map device_in later));
 }
-form_told id all w (At time) fine = record {
+form_told id group all w (At time) fine = record {
   lines = refl;
   time = refl;
   sent = same_sent w;
-  record_is = λ grows later events. refl;
+  record_is = λ grows has later events. refl;
 }
-form_told id all w (Wake device) fine =
+form_told id group all w (Wake device) fine =
     let d = is_there w.devices device (passes w (Wake device) fine).names in
-    event_told id device all w (Wake device) d.1.0 (Some (Wakes w.time)) (Wakes w.time) d.0 d.1.1 refl refl refl
-    (λ grows. refl)
-form_told id all w (Migrate device) fine =
+    event_told id device group all w (Wake device) d.1.0 (Some (Wakes w.time)) (Wakes w.time) d.0 d.1.1 refl refl refl
+    (λ grows has. refl)
+form_told id group all w (Migrate device) fine =
     let d = is_there w.devices device (passes w (Migrate device) fine).names in
-    event_told id device all w (Migrate device) d.1.0 (Some Migrates) Migrates d.0 d.1.1 refl refl refl (λ grows. refl)
-form_told id all w (Ask device) fine =
+    event_told id device group all w (Migrate device) d.1.0 (Some Migrates) Migrates d.0 d.1.1 refl refl refl (λ grows has. refl)
+form_told id group all w (Ask device) fine =
     let s = sends_still w w.server (Some device) (request_of w.server device) in
-    still_told id all w _ (Ask device) (at_events_still w _ s) refl refl refl
-form_told id all w Frag fine =
+    still_told id group all w _ (Ask device) (at_events_still w _ s) refl refl refl
+form_told id group all w Frag fine =
     let s = sends_still w (after_fragment w.server) None (result_ok (next_fragment w.server)) in
-    still_told id all w _ Frag (at_events_still w _ s) refl refl refl
-form_told id all w Status fine =
+    still_told id group all w _ Frag (at_events_still w _ s) refl refl refl
+form_told id group all w Status fine =
     let s = sends_still w (after_status_to_all w.server) None (status_to_all w.server) in
-    still_told id all w _ Status (at_events_still w _ s) refl refl refl
-form_told id all w (Down number device word) fine =
+    still_told id group all w _ Status (at_events_still w _ s) refl refl refl
+form_told id group all w (Down number device word) fine =
     let p = passes w (Down number device word) fine in
     let d = is_there w.devices device p.names in
     let s = payload_there device (numbered w.sent number) p.come in
-    reached_told id number device word all w d.1.0 s.0 d.0 d.1.1 s.1
-form_told id all w (Raw device port payload word) fine =
+    reached_told id number device word group all w d.1.0 s.0 d.0 d.1.1 s.1
+form_told id group all w (Raw device port payload word) fine =
     let d = is_there w.devices device (passes w (Raw device port payload word) fine).names in
     let e : Event = Receives w.time word (w.lines + 1) (raw_down port payload) in
-    event_told id device all w (Raw device port payload word) d.1.0 (Some e) e d.0 d.1.1 refl refl refl (λ grows. refl)
-form_told id all w (Up number) fine =
+    event_told id device group all w (Raw device port payload word) d.1.0 (Some e) e d.0 d.1.1 refl refl refl (λ grows has. refl)
+form_told id group all w (Air number device word) fine =
+    let p = passes w (Air number device word) fine in
+    let d = is_there w.devices device p.names in
+    let s = air_payload device (numbered w.sent number) p.come in
+    aired_told id number device word group all w d.1.0 s.0 _ d.0 d.1.1 s.1 refl
+form_told id group all w (RawAir device bytes word) fine =
+    let d = is_there w.devices device (passes w (RawAir device bytes word) fine).names in
+    let e : Event = HearsBytes w.time word (w.lines + 1) bytes in
+    event_told id device group all w (RawAir device bytes word) d.1.0 (Some e) e d.0 d.1.1 refl refl refl (λ grows has. refl)
+form_told id group all w (Up number) fine =
     let s = up_still w (numbered w.uplinks number) in
-    still_told id all w _ (Up number) (at_events_still w _ s) refl refl refl
-form_told id all w End fine =
-    still_told id all w _ End (same_still w _ refl refl refl refl) refl refl refl
+    still_told id group all w _ (Up number) (at_events_still w _ s) refl refl refl
+form_told id group all w End fine =
+    still_told id group all w _ End (same_still w _ refl refl refl refl) refl refl refl
 
 -- ---- all lines
 
 form_grows : (w : WorldState) (form : Option Form) → cause_of_form w form ≡ None
     → Grows w.sent (after_form_of w form).sent
 form_grows w None fine = absurd cc
-form_grows w (Some form) fine = (form_told 0 [] w form fine).sent
+form_grows w (Some form) fine = (form_told 0 None [] w form fine).sent
 
 pub sent_grows : (w end : WorldState) (lines : List (List ℕ)) → read_lines (Ok w) lines ≡ Ok end → Grows w.sent end.sent
 unfolding read_lines after_line
@@ -285,29 +335,57 @@ sent_grows w end (line ∷ lines) is =
           ∙ append_assoc w.sent here.0 rest.0,
     )
 
+-- the plan's group stays behind the first event
+group_stays : (w end : WorldState) (lines : List (List ℕ)) → read_lines (Ok w) lines ≡ Ok end → is_planning w.section ≡ false
+    → w.server.plan.group ≡ end.server.plan.group
+unfolding read_lines after_line
+group_stays w end [] is over = let same : w ≡ end = cc in ap (λ (x : WorldState). x.server.plan.group) same
+group_stays w end (line ∷ lines) is over =
+    let first = read_first w end line lines is in
+    let here = form_stays w (form_of line) (line_fine w line first.0) over in
+    sym here.1 ∙ group_stays (after_form_of w (form_of line)) end lines first.1 here.0
+  where
+    form_stays : (w : WorldState) (form : Option Form) → cause_of_form w form ≡ None → is_planning w.section ≡ false
+        → (is_planning (after_form_of w form).section ≡ false)
+        × ((after_form_of w form).server.plan.group ≡ w.server.plan.group)
+    form_stays w None fine over = absurd cc
+    form_stays w (Some form) fine over =
+        let s = form_settled w form fine over in (s.over, ap (λ (p : Plan). p.group) s.plan)
+
+-- a frame comes behind the plan
+form_group : (w end : WorldState) (form : Form) (lines : List (List ℕ)) → read_lines (Ok (after_form_of w (Some form))) lines ≡ Ok end
+    → HasGroup form w end.server.plan.group
+form_group w end (Air number device word) lines is airs =
+    let s = air_settled w number device word in
+    ap (λ (p : Plan). p.group) (sym s.plan)
+    ∙ group_stays (after_form_of w (Some (Air number device word))) end lines is s.over
+form_group w end form lines is airs = absurd cc
+
 -- what is told from a line on is what it tells, and what is told behind it
-line_told : (id : ℕ) (all : List SentPayload) (w : WorldState) (form : Option Form) (rest : List (List ℕ))
-    → cause_of_form w form ≡ None → Grows w.sent all
-    → folded (history_of id all (after_form_of w form).time ((after_form_of w form).lines + 1) rest)
+line_told : (id : ℕ) (w end : WorldState) (form : Option Form) (rest : List (List ℕ))
+    → cause_of_form w form ≡ None → Grows w.sent end.sent → read_lines (Ok (after_form_of w form)) rest ≡ Ok end
+    → folded (history_of id end.server.plan.group end.sent (after_form_of w form).time ((after_form_of w form).lines + 1) rest)
     (numbered ((after_form_of w form).devices ++ first_devices rest) id)
-    ≡ folded (option_to_list (event_in id all w.time (w.lines + 1) form)
-    ++ history_of id all (time_after w.time form) (w.lines + 1 + 1) rest)
+    ≡ folded (option_to_list (event_in id end.server.plan.group end.sent w.time (w.lines + 1) form)
+    ++ history_of id end.server.plan.group end.sent (time_after w.time form) (w.lines + 1 + 1) rest)
     (numbered (w.devices ++ filter_map device_in (form ∷ map form_of rest)) id)
-line_told id all w None rest fine grows = absurd cc
-line_told id all w (Some form) rest fine grows =
-    let t = form_told id all w form fine in rw (t.lines, t.time) (t.record_is grows (map form_of rest) _)
+line_told id w end None rest fine grows is = absurd cc
+line_told id w end (Some form) rest fine grows is =
+    let t = form_told id end.server.plan.group end.sent w form fine in
+    rw (t.lines, t.time) (t.record_is grows (form_group w end form rest is) (map form_of rest) _)
 
 -- from any campaign on
 from_here : (id : ℕ) (w end : WorldState) (lines : List (List ℕ)) → read_lines (Ok w) lines ≡ Ok end
     → numbered end.devices id
-    ≡ folded (history_of id end.sent w.time (w.lines + 1) lines) (numbered (w.devices ++ first_devices lines) id)
+    ≡ folded (history_of id end.server.plan.group end.sent w.time (w.lines + 1) lines)
+    (numbered (w.devices ++ first_devices lines) id)
 unfolding read_lines after_line history_of
 from_here id w end [] is =
     let same : w ≡ end = cc in rw (← same, append-nil w.devices) (sym (unchanged (numbered w.devices id)))
 from_here id w end (line ∷ lines) is =
     let first = read_first w end line lines is in
     from_here id (after_form_of w (form_of line)) end lines first.1
-    ∙ line_told id end.sent w (form_of line) lines (line_fine w line first.0) (sent_grows w end (line ∷ lines) is)
+    ∙ line_told id w end (form_of line) lines (line_fine w line first.0) (sent_grows w end (line ∷ lines) is) first.1
 
 pub devices_are_independent : DevicesAreIndependent
 unfolding campaign_of

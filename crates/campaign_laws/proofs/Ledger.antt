@@ -25,7 +25,7 @@ use Rattle.campaign_server.specs.Time.{time_answer}
 use Rattle.campaign_server.specs.Answers.{stage_after_all}
 use Rattle.campaign_server.specs.Uplinks.{with_answers, read_uplink, uplink_step}
 use Rattle.script_lines.specs.declared.forms.Form.{Form}
-use Rattle.script_lines.specs.declared.forms.Form.TheVariants.{Header, Image, Group, WindowC, WindowB, Device, At, Wake, Migrate, Ask, Frag, Status, Down, Raw, Up, End}
+use Rattle.script_lines.specs.declared.forms.Form.TheVariants.{Header, Image, Group, WindowC, WindowB, Device, At, Wake, Migrate, Ask, Frag, Status, Down, Raw, Air, RawAir, Up, End}
 use Rattle.script_lines.specs.Lines.{lines_of}
 use Rattle.script_lines.specs.Forms.{form_of}
 use Rattle.script_lines.specs.Limits.{max_rows, max_devices}
@@ -34,16 +34,18 @@ use Rattle.campaign_world.specs.declared.section.Section.{Section}
 use Rattle.campaign_world.specs.declared.numbered.SentPayload.{SentPayload}
 use Rattle.campaign_world.specs.declared.numbered.MadeUplink.{MadeUplink}
 use Rattle.campaign_world.specs.World.{WorldState, first_world}
-use Rattle.campaign_world.specs.Causes.{cause_of_form, form_cause, fits_script}
+use Rattle.campaign_world.specs.Causes.{cause_of, cause_of_form, form_cause, fits_script}
 use Rattle.campaign_world.specs.Making.{with_plan, with_sent, made_by, with_device, with_event, with_event_of, after_answer, after_up, at_events, after_form}
-use Rattle.campaign_world.specs.Script.{after_form_of, after_line, read_lines, campaign_of}
-use Rattle.campaign_world.specs.Honest.{is_raw, has_raw, AreHonest}
+use Rattle.campaign_world.specs.Script.{one_line_more, after_form_of, after_line, read_lines, campaign_of}
+use Rattle.campaign_world.specs.Honest.{has_raw, AreHonest}
 use Rattle.campaign_laws.specs.Ledger.{IsRunning, Runs, TheLedgerIsTrue}
 use Rattle.campaign_server.proofs.LineItems.{if_some, numbered_more, numbered_push, numbered_put, numbered_there}
 use Rattle.campaign_laws.proofs.HeadlineCommands.{Cut, cut_of, IsCut}
 use Rattle.campaign_laws.proofs.HeadlineEnds.{IsDeviceFor}
-use Rattle.campaign_laws.proofs.HeadlineWorlds.{IsPayloadOf, Keeps, first_keeps, Turns, turn_keeps}
-use Rattle.campaign_laws.proofs.HeadlineForms.{passes, form_turn}
+use Rattle.campaign_laws.proofs.HeadlineWorlds.{IsPayloadOf, Keeps, Turns}
+use Rattle.campaign_laws.proofs.HeadlineForms.{passes, is_strange, form_turn}
+use Rattle.campaign_laws.proofs.Airing.{heard_as}
+use Rattle.campaign_laws.proofs.HonestLines.{Stands, first_stands, goes_on_by, line_stands}
 use Rattle.campaign_laws.proofs.HeadlineLines.{end_is}
 use Rattle.campaign_laws.proofs.Independence.{read_first, line_fine, is_there, payload_there}
 use Rattle.campaign_laws.proofs.LedgerDevices.{IsSound, Goes, ReadsAs, delivery_goes, waking_goes, migration_goes}
@@ -389,7 +391,7 @@ hw_small true false false d e is = absurd cc
 hw_small false b false d e is = absurd cc
 
 form_holds : (image : List ℕ) (w : WorldState) (form : Form) → All (λ b. b < 2 ^ 8) image → is_image image ≡ true
-    → Keeps image w → Holds image w → form_cause w form ≡ None → is_raw form ≡ false → Holds image (after_form w form)
+    → Keeps image w → Holds image w → form_cause w form ≡ None → is_strange form ≡ false → Holds image (after_form w form)
 unfolding after_form in_range
 form_holds image w Header bytes is k h fine honest = still_holds image w _ refl refl refl refl h
 form_holds image w (Image frag_size parity) bytes is k h fine honest = plan_holds image w _ _ h
@@ -429,34 +431,35 @@ form_holds image w (Down number device word) bytes is k h fine honest =
     let cut = reached_cut image w _ number device word (form_turn image w (Down number device word) bytes k fine refl) in
     reached_holds image w number device word d.1.0 s.0 bytes is cut k h d.1.1 s.1
 form_holds image w (Raw device port payload word) bytes is k h fine honest = absurd (true≢false honest)
+form_holds image w (Air number device word) bytes is k h fine honest = absurd (true≢false honest)
+form_holds image w (RawAir device bytes word) all is k h fine honest = absurd (true≢false honest)
 form_holds image w (Up number) bytes is k h fine honest = up_holds image w number
     (numbered w.uplinks number) refl k.server.image_is h
 form_holds image w End bytes is k h fine honest = still_holds image w _ refl refl refl refl h
 
 -- ---- all lines
 
-form_keeps : (image : List ℕ) (w : WorldState) (form : Option Form) → All (λ b. b < 2 ^ 8) image
-    → is_image image ≡ true
-    → Keeps image w → Holds image w → cause_of_form w form ≡ None → has_raw form ≡ false
-    → Keeps image (after_form_of w form) × Holds image (after_form_of w form)
-form_keeps image w None bytes is k h fine honest = absurd cc
-form_keeps image w (Some form) bytes is k h fine honest =
-    let v : WorldState = after_form w form in
-    let keeps = turn_keeps image form w v k (form_turn image w form bytes k fine honest) in
-    let holds = form_holds image w form bytes is k h fine honest in (
-      record { server = keeps.server; stands = keeps.stands; sent = keeps.sent; devices = keeps.devices },
-      record { devices = holds.devices; sent = holds.sent; uplinks = holds.uplinks; ledger = holds.ledger },
-    )
+line_holds : (image : List ℕ) (w : WorldState) (line : List ℕ) (form : Option Form) → All (λ b. b < 2 ^ 8) image
+    → is_image image ≡ true → Stands image w → Holds image w → form_of line ≡ form → cause_of w line ≡ None
+    → cause_of_form w form ≡ None → has_raw form ≡ false → Holds image (after_form_of w form)
+line_holds image w line None bytes is k h form_is none fine honest = absurd cc
+line_holds image w line (Some form) bytes is k h form_is none fine honest =
+    let on = goes_on_by image w line form bytes k form_is none fine honest in
+    let holds = form_holds image w (heard_as form) bytes is k.keeps h on.heard.fine on.heard.plain in
+    subst (λ (v : WorldState). Holds image (one_line_more v)) (sym on.heard.same)
+    (record { devices = holds.devices; sent = holds.sent; uplinks = holds.uplinks; ledger = holds.ledger })
 
 all_hold : (image : List ℕ) (w end : WorldState) (lines : List (List ℕ)) → All (λ b. b < 2 ^ 8) image
     → is_image image ≡ true
-    → Keeps image w → Holds image w → AreHonest lines → read_lines (Ok w) lines ≡ Ok end → Holds image end
+    → Stands image w → Holds image w → AreHonest lines → read_lines (Ok w) lines ≡ Ok end → Holds image end
 unfolding read_lines after_line
 all_hold image w end [] bytes is k h honest read = let same : w ≡ end = cc in subst (Holds image) same h
 all_hold image w end (line ∷ lines) bytes is k h honest read =
     let first = read_first w end line lines read in
-    let next = form_keeps image w (form_of line) bytes is k h (line_fine w line first.0) honest.0 in
-    all_hold image (after_form_of w (form_of line)) end lines bytes is next.0 next.1 honest.1 first.1
+    let fine = line_fine w line first.0 in
+    all_hold image (after_form_of w (form_of line)) end lines bytes is
+    (line_stands image w line (form_of line) bytes k refl first.0 fine honest.0)
+    (line_holds image w line (form_of line) bytes is k h refl first.0 fine honest.0) honest.1 first.1
 
 none_by : (d : DeviceState) (b : Bool) → cond b None None ≡ Some d → ⊥
 none_by d true is = cc
@@ -473,7 +476,7 @@ first_holds image = record {
 pub the_ledger_is_true : TheLedgerIsTrue
 unfolding campaign_of
 the_ledger_is_true image script world id bytes is honest accepted at =
-    (all_hold image (first_world image) world (lines_of script) bytes is (first_keeps image) (first_holds image) honest
+    (all_hold image (first_world image) world (lines_of script) bytes is (first_stands image) (first_holds image) honest
     (end_is (read_lines (Ok (first_world image)) (lines_of script)) world accepted)).ledger id at
 
 -- so it is with the uplinks that there are behind any lines
@@ -481,4 +484,4 @@ pub uplinks_are_true : (image : List ℕ) (w : WorldState) (lines : List (List �
     → is_image image ≡ true → AreHonest lines → read_lines (Ok (first_world image)) lines ≡ Ok w
     → AllByRecursion (MadeTruly image w.devices) w.uplinks
 uplinks_are_true image w lines bytes is honest read =
-    (all_hold image (first_world image) w lines bytes is (first_keeps image) (first_holds image) honest read).uplinks
+    (all_hold image (first_world image) w lines bytes is (first_stands image) (first_holds image) honest read).uplinks

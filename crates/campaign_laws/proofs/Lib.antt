@@ -16,6 +16,14 @@ pub mod HeadlineLives
 pub mod HeadlineCounts
 pub mod WorkedCampaigns
 pub mod IndependentExample
+pub mod PlanGroups
+pub mod Unwrapping
+pub mod FormBytes
+pub mod OwnGroups
+pub mod Keyed
+pub mod KeyedLines
+pub mod Airing
+pub mod HonestLines
 pub mod LedgerSlots
 pub mod LedgerDevices
 pub mod LedgerServers

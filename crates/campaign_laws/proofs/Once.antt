@@ -23,7 +23,7 @@ use Rattle.campaign_server.specs.Fragments.{next_fragment, after_fragment, after
 use Rattle.campaign_server.specs.Time.{time_answer}
 use Rattle.campaign_server.specs.Uplinks.{with_answers, read_uplink, uplink_step}
 use Rattle.script_lines.specs.declared.forms.Form.{Form}
-use Rattle.script_lines.specs.declared.forms.Form.TheVariants.{Header, Image, Group, WindowC, WindowB, Device, At as AtTime, Wake, Migrate, Ask, Frag, Status, Down, Raw, Up, End}
+use Rattle.script_lines.specs.declared.forms.Form.TheVariants.{Header, Image, Group, WindowC, WindowB, Device, At as AtTime, Wake, Migrate, Ask, Frag, Status, Down, Raw, Air, RawAir, Up, End}
 use Rattle.script_lines.specs.Forms.{form_of}
 use Rattle.campaign_world.specs.declared.numbered.SentPayload.{SentPayload}
 use Rattle.campaign_world.specs.declared.numbered.MadeUplink.{MadeUplink}
@@ -39,7 +39,8 @@ use Rattle.campaign_laws.proofs.Ledger.{MadeTruly, uplinks_are_true}
 use Rattle.campaign_laws.specs.Once.{rank, MovesOnce}
 use Rattle.campaign_laws.proofs.Stands.{put_cases}
 use Rattle.campaign_laws.proofs.Ranks.{ranks_up, moves_once}
-use Rattle.campaign_laws.proofs.Untouched.{is_planning, plan_at, number_first, get_all, fragment_same, status_same, Waits, waits_behind}
+use Rattle.campaign_laws.proofs.PlanGroups.{is_planning, plan_at, no_plan}
+use Rattle.campaign_laws.proofs.Untouched.{number_first, get_all, fragment_same, status_same, Waits, waits_behind}
 
 -- ---- campaigns go on
 
@@ -127,11 +128,8 @@ event_go w n (Some d) (Some e) = device_goes w n (event_step d e)
 
 -- what a form lets happen at a device
 form_event_goes : (w : WorldState) (n : ℕ) (form : Form) → Goes w (with_event_of w n form)
-form_event_goes w n form = event_go w n (numbered w.devices n) (event_of w.sent w.time (w.lines + 1) form)
-
--- no line of a plan comes any more
-no_plan : {X : Type 0} (w : WorldState) (form : Form) → form_cause w form ≡ None → is_planning w.section ≡ false → (may_come w.section form ≡ true → is_planning w.section ≡ true) → X
-no_plan w form fine over plan = absurd (let both : true ≡ false = sym (plan (passes w form fine).may) ∙ over in cc)
+form_event_goes w n form =
+    event_go w n (numbered w.devices n) (event_of w.server.plan.group w.sent w.time (w.lines + 1) form)
 
 form_goes : (w : WorldState) (form : Form) → form_cause w form ≡ None → is_planning w.section ≡ false → Goes w (after_form w form)
 unfolding after_form
@@ -150,6 +148,8 @@ form_goes w Frag fine over = sends_go w (after_fragment w.server) None (result_o
 form_goes w Status fine over = sends_go w (after_status_to_all w.server) None (status_to_all w.server) (status_on w.server)
 form_goes w (Down number n word) fine over = form_event_goes w n (Down number n word)
 form_goes w (Raw n port payload word) fine over = form_event_goes w n (Raw n port payload word)
+form_goes w (Air number n word) fine over = form_event_goes w n (Air number n word)
+form_goes w (RawAir n bytes word) fine over = form_event_goes w n (RawAir n bytes word)
 form_goes w (Up number) fine over = up_go w (numbered w.uplinks number)
 form_goes w End fine over = still w _ refl refl refl
 
@@ -227,6 +227,8 @@ form_image w Frag = (sends_go w (after_fragment w.server) None (result_ok (next_
 form_image w Status = (sends_go w (after_status_to_all w.server) None (status_to_all w.server) (status_on w.server)).image
 form_image w (Down number n word) = (form_event_goes w n (Down number n word)).image
 form_image w (Raw n port payload word) = (form_event_goes w n (Raw n port payload word)).image
+form_image w (Air number n word) = (form_event_goes w n (Air number n word)).image
+form_image w (RawAir n bytes word) = (form_event_goes w n (RawAir n bytes word)).image
 form_image w (Up number) = (up_go w (numbered w.uplinks number)).image
 form_image w End = refl
 
@@ -313,6 +315,6 @@ an_uplink_moves_once image line before between number world later made x bytes f
     let is : (after_up world (numbered world.uplinks number)).server.stages ≡ (with_answers world.server made.device (x ∷ []) (ledger world.server made.device)).stages =
     ap (λ (o : Option MadeUplink). (after_up world o).server.stages) there ∙ stages_are world made x single in
     ap (λ (o : Option MadeUplink). (after_up later o).server.stages) still
-    ∙ later_by image world later made x (ledger world.server made.device) file (waits_behind image world before honest read) truly wi li single refl
+    ∙ later_by image world later made x (ledger world.server made.device) file (waits_behind image world before bytes honest read) truly wi li single refl
     (subst (λ (xs : List Stage). (id : ℕ) (stage : Stage) → numbered xs id ≡ Some stage → (t : Stage) × (numbered later.server.stages id ≡ Some t) × (rank stage ≤ rank t)) is (λ id stage at. on.ranks id stage at))
     (subst (λ (xs : List Stage). xs ≢ world.server.stages) is moved)

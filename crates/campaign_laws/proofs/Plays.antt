@@ -13,7 +13,7 @@ use Rattle.campaign_server.specs.Fragments.{next_fragment, after_fragment, statu
 use Rattle.campaign_server.specs.Time.{time_answer}
 use Rattle.campaign_server.specs.Uplinks.{with_answers, read_uplink, uplink_step}
 use Rattle.script_lines.specs.declared.forms.Form.{Form}
-use Rattle.script_lines.specs.declared.forms.Form.TheVariants.{Header, Image, Group, WindowC, WindowB, Device, At, Wake, Migrate, Ask, Frag, Status, Down, Raw, Up, End}
+use Rattle.script_lines.specs.declared.forms.Form.TheVariants.{Header, Image, Group, WindowC, WindowB, Device, At, Wake, Migrate, Ask, Frag, Status, Down, Raw, Air, RawAir, Up, End}
 use Rattle.campaign_world.specs.declared.numbered.SentPayload.{SentPayload}
 use Rattle.campaign_world.specs.declared.numbered.MadeUplink.{MadeUplink}
 use Rattle.script_lines.specs.Forms.{form_of}
@@ -66,7 +66,8 @@ event_keeps w n (Some d) (Some e) = refl
 
 -- what a form lets happen at a device
 form_event_keeps : (w : WorldState) (n : ℕ) (form : Form) → (with_event_of w n form).lines ≡ w.lines
-form_event_keeps w n form = event_keeps w n (numbered w.devices n) (event_of w.sent w.time (w.lines + 1) form)
+form_event_keeps w n form =
+    event_keeps w n (numbered w.devices n) (event_of w.server.plan.group w.sent w.time (w.lines + 1) form)
 
 reading_keeps : (w : WorldState) (dev t : ℕ) (r : Reading) → (after_answer w dev (read_uplink w.server dev t r)).lines ≡ w.lines
 unfolding read_uplink
@@ -94,6 +95,8 @@ lines_kept w Frag = sent_keeps w (record w { server = after_fragment w.server })
 lines_kept w Status = sent_keeps w (record w { server = after_status_to_all w.server }) None (status_to_all w.server) refl
 lines_kept w (Down number device word) = form_event_keeps w device (Down number device word)
 lines_kept w (Raw device port payload word) = form_event_keeps w device (Raw device port payload word)
+lines_kept w (Air number device word) = form_event_keeps w device (Air number device word)
+lines_kept w (RawAir device bytes word) = form_event_keeps w device (RawAir device bytes word)
 lines_kept w (Up number) = up_keeps w (numbered w.uplinks number)
 lines_kept w End = refl
 

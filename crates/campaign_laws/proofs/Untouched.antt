@@ -1,5 +1,5 @@
 -- While the server has not asked a device for more than its version, the device runs no file.
-use Rattle.std.proofs.Common.{◌≡◌, inl, inr, ⊎_elim, ℕ, ◌+◌, ◌-◌, ◌/◌, ◌≤◌, ◌==◌, Bool, true, false, cond, List, [], ◌∷◌, ◌++◌, slice_get, zero, suc, Option, None, Some, IfSome, is_some, is_ok, Result, Ok, Err, refl, sym, ap, ◌∙◌, subst, arith, true≢false}
+use Rattle.std.proofs.Common.{◌≡◌, inl, inr, ⊎_elim, ℕ, ◌+◌, ◌-◌, ◌/◌, ◌^◌, ◌<◌, ◌≤◌, All, ◌==◌, Bool, true, false, cond, List, [], ◌∷◌, ◌++◌, slice_get, zero, suc, Option, None, Some, IfSome, is_some, is_ok, Result, Ok, Err, refl, sym, ap, ◌∙◌, subst, arith, true≢false}
 use Rattle.std.specs.List.{AllByRecursion}
 use Rattle.std.specs.Result.{result_ok}
 use Rattle.wire_base.specs.declared.refusal.Direction.TheVariants.{Up as Upwards}
@@ -28,42 +28,28 @@ use Rattle.campaign_server.specs.Fragments.{next_fragment, after_fragment, statu
 use Rattle.campaign_server.specs.Time.{time_answer_to, first_answer, time_answer}
 use Rattle.campaign_server.specs.Uplinks.{with_answers, read_uplink, uplink_step}
 use Rattle.script_lines.specs.declared.forms.Form.{Form}
-use Rattle.script_lines.specs.declared.forms.Form.TheVariants.{Header, Image, Group, WindowC, WindowB, Device, At as AtTime, Wake, Migrate, Ask, Frag, Status, Down, Raw, Up, End}
+use Rattle.script_lines.specs.declared.forms.Form.TheVariants.{Header, Image, Group, WindowC, WindowB, Device, At as AtTime, Wake, Migrate, Ask, Frag, Status, Down, Raw, Air, RawAir, Up, End}
 use Rattle.script_lines.specs.Forms.{form_of}
 use Rattle.campaign_world.specs.declared.section.Section.{Section}
 use Rattle.campaign_world.specs.declared.section.Section.TheVariants as section
 use Rattle.campaign_world.specs.declared.numbered.SentPayload.{SentPayload}
 use Rattle.campaign_world.specs.declared.numbered.MadeUplink.{MadeUplink}
 use Rattle.campaign_world.specs.World.{WorldState, first_world}
-use Rattle.campaign_world.specs.Honest.{is_raw, has_raw, AreHonest}
-use Rattle.campaign_world.specs.Causes.{is_event_or_end, may_come, may_reach, cause_of_form, form_cause}
+use Rattle.campaign_world.specs.Honest.{has_raw, AreHonest}
+use Rattle.campaign_world.specs.Causes.{is_event_or_end, may_come, may_reach, cause_of, cause_of_form, form_cause}
 use Rattle.campaign_world.specs.Making.{with_plan, with_sent, with_device, after_event_at, after_answer, after_up, at_events, device_of, after_form}
-use Rattle.campaign_world.specs.Script.{after_form_of, after_line, read_lines}
+use Rattle.campaign_world.specs.Script.{one_line_more, after_form_of, after_line, read_lines}
 use Rattle.campaign_server.proofs.LineItems.{numbered_push}
-use Rattle.campaign_laws.proofs.HeadlineForms.{passes}
+use Rattle.campaign_laws.proofs.HeadlineForms.{passes, is_strange}
+use Rattle.campaign_laws.proofs.Airing.{heard_as}
+use Rattle.campaign_laws.proofs.HonestLines.{Stands, first_stands, goes_on_by, line_stands}
+use Rattle.campaign_laws.proofs.Keyed.{time_port}
+use Rattle.campaign_laws.proofs.PlanGroups.{is_planning, plan_at}
 use Rattle.campaign_laws.proofs.Independence.{read_first, line_fine, is_there, payload_there}
 use Rattle.campaign_laws.specs.Once.{rank}
 use Rattle.campaign_laws.proofs.Stands.{put_cases}
 use Rattle.campaign_laws.proofs.Ranks.{ranks_up}
 use Rattle.campaign_laws.proofs.Calm.{IsUntouched, IsCalm, delivery_calm, waking_calm}
-
--- ---- sections
-
--- no event was yet
-abbrev pub is_planning : Section → Bool
-is_planning section.Events = false
-is_planning section.Ended = false
-is_planning here = true
-
-pub plan_at : (here : Section) (form : Form) → is_event_or_end form ≡ false → may_come here form ≡ true → is_planning here ≡ true
-plan_at section.Header form plan may = refl
-plan_at section.Image form plan may = refl
-plan_at section.Group form plan may = refl
-plan_at section.Window form plan may = refl
-plan_at section.Device form plan may = refl
-plan_at section.Devices form plan may = refl
-plan_at section.Events form plan may = absurd (let both : true ≡ false = sym may ∙ plan in cc)
-plan_at section.Ended form plan may = absurd cc
 
 -- ---- what holds after each line
 
@@ -223,26 +209,6 @@ answers_begin server dev cs (Some old) there id at =
     (λ other. sym other.1 ∙ at)
     (put_cases server.stages dev id old new (number_first server.stages dev old there) there)
 
-port_if : (b : Bool) (x : Command) → port_of x ≡ 202 → IfSome (cond b (Some x) None) (λ y. port_of y ≡ 202)
-port_if true x port = port
-port_if false x port = tt
-
-to_port : (t : ℕ) (x : Command) → IfSome (time_answer_to t x) (λ y. port_of y ≡ 202)
-to_port t (Sync (s.AppTimeReq time required token)) =
-    let correction = correction_of (t / 1000) time in
-    port_if (is_answer_needed required correction) (Sync (s.AppTimeAns correction token)) refl
-to_port t (Sync cmd) = tt
-to_port t (Cast cmd) = tt
-
-first_port : (one more : Option Command) → IfSome one (λ y. port_of y ≡ 202) → IfSome more (λ y. port_of y ≡ 202) → IfSome (first_answer one more) (λ y. port_of y ≡ 202)
-first_port None more one rest = rest
-first_port (Some x) more one rest = one
-
-time_port : (t : ℕ) (cs : List Command) → IfSome (time_answer t cs) (λ y. port_of y ≡ 202)
-unfolding time_answer
-time_port t [] = tt
-time_port t (x ∷ cs) = first_port (time_answer_to t x) (time_answer t cs) (to_port t x) (time_port t cs)
-
 time_calm : (stages : List Stage) (to : Option ℕ) (o : Option Command) → IfSome o (λ y. port_of y ≡ 202) → IfSome (by_unicast o) (λ x. IsFor stages (record { receiver = to; down = downlink_of x }))
 time_calm stages to None port = tt
 time_calm stages to (Some x) port = λ id may at. inl (λ same. omega (arith, same, port))
@@ -307,7 +273,7 @@ joins_wait w new plan here fresh k = record {
     everyone id d there = ⊎_elim (λ same. k.all here id d (sym same ∙ there))
         (λ last. let e : new ≡ d = (let y : Some new ≡ Some d = sym last.1 ∙ there in cc) in subst IsUntouched e fresh) (numbered_push w.devices new id)
 
-form_waits : (w : WorldState) (form : Form) → form_cause w form ≡ None → is_raw form ≡ false → Waits w → Waits (after_form w form)
+form_waits : (w : WorldState) (form : Form) → form_cause w form ≡ None → is_strange form ≡ false → Waits w → Waits (after_form w form)
 unfolding after_form
 form_waits w Header fine honest k =
     let here = plan_at w.section Header refl (passes w Header fine).may in
@@ -343,23 +309,33 @@ form_waits w (Down number n word) fine honest k =
     rw (there.1.1, got.1) (device_waits w n there.1.0 (delivery w.time word (w.lines + 1) got.0.down there.1.0).device there.1.1
     (λ at. delivery_calm w.time word (w.lines + 1) got.0.down there.1.0 (own n may at) (k.devices n there.1.0 there.1.1 at)) k)
 form_waits w (Raw n port payload word) fine honest k = absurd (true≢false honest)
+form_waits w (Air number n word) fine honest k = absurd (true≢false honest)
+form_waits w (RawAir n bytes word) fine honest k = absurd (true≢false honest)
 form_waits w (Up number) fine honest k = up_waits w (numbered w.uplinks number) k
 form_waits w End fine honest k = record { none_sent = λ plan. absurd cc; all = λ plan. absurd cc; devices = k.devices; sent = k.sent }
 
 -- ---- all lines
 
-line_waits : (w : WorldState) (form : Option Form) → cause_of_form w form ≡ None → has_raw form ≡ false → Waits w → Waits (after_form_of w form)
-line_waits w None fine honest k = absurd cc
-line_waits w (Some form) fine honest k =
-    let m = form_waits w form fine honest k in
-    record { none_sent = m.none_sent; all = m.all; devices = m.devices; sent = m.sent }
+line_waits : (image : List ℕ) (w : WorldState) (line : List ℕ) (form : Option Form) → All (λ b. b < 2 ^ 8) image → Stands image w
+    → form_of line ≡ form → cause_of w line ≡ None → cause_of_form w form ≡ None → has_raw form ≡ false → Waits w
+    → Waits (after_form_of w form)
+line_waits image w line None bytes s is none fine honest k = absurd cc
+line_waits image w line (Some form) bytes s is none fine honest k =
+    let on = goes_on_by image w line form bytes s is none fine honest in
+    let m = form_waits w (heard_as form) on.heard.fine on.heard.plain k in
+    subst (λ (v : WorldState). Waits (one_line_more v)) (sym on.heard.same)
+    (record { none_sent = m.none_sent; all = m.all; devices = m.devices; sent = m.sent })
 
-all_wait : (w end : WorldState) (lines : List (List ℕ)) → AreHonest lines → Waits w → read_lines (Ok w) lines ≡ Ok end → Waits end
+all_wait : (image : List ℕ) (w end : WorldState) (lines : List (List ℕ)) → All (λ b. b < 2 ^ 8) image → AreHonest lines
+    → Stands image w → Waits w → read_lines (Ok w) lines ≡ Ok end → Waits end
 unfolding read_lines after_line
-all_wait w end [] honest k read = let same : w ≡ end = cc in subst Waits same k
-all_wait w end (line ∷ lines) honest k read =
+all_wait image w end [] bytes honest s k read = let same : w ≡ end = cc in subst Waits same k
+all_wait image w end (line ∷ lines) bytes honest s k read =
     let first = read_first w end line lines read in
-    all_wait (after_form_of w (form_of line)) end lines honest.1 (line_waits w (form_of line) (line_fine w line first.0) honest.0 k) first.1
+    let fine = line_fine w line first.0 in
+    all_wait image (after_form_of w (form_of line)) end lines bytes honest.1
+    (line_stands image w line (form_of line) bytes s refl first.0 fine honest.0)
+    (line_waits image w line (form_of line) bytes s refl first.0 fine honest.0 k) first.1
 
 none_numbered : {A : Type 0} (n : ℕ) (x : A) → numbered {A = A} [] n ≡ Some x → ⊥
 none_numbered {A} n x is = by (n == 0) is
@@ -368,8 +344,8 @@ none_numbered {A} n x is = by (n == 0) is
     by true e = cc
     by false e = cc
 
-pub waits_behind : (image : List ℕ) (w : WorldState) (lines : List (List ℕ)) → AreHonest lines → read_lines (Ok (first_world image)) lines ≡ Ok w → Waits w
-waits_behind image w lines honest read = all_wait (first_world image) w lines honest (record {
+pub waits_behind : (image : List ℕ) (w : WorldState) (lines : List (List ℕ)) → All (λ b. b < 2 ^ 8) image → AreHonest lines → read_lines (Ok (first_world image)) lines ≡ Ok w → Waits w
+waits_behind image w lines bytes honest read = all_wait image (first_world image) w lines bytes honest (first_stands image) (record {
   none_sent = λ plan. refl;
   all = λ plan id d there. absurd (none_numbered id d there);
   devices = λ id d there at. absurd (none_numbered id d there);

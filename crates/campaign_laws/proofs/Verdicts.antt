@@ -1,6 +1,7 @@
 -- What a campaign says of each session, whoever sent what reached its device.
-use Rattle.std.proofs.Common.{◌≡◌, ◌<◌, ℕ, zero, suc, ◌+◌, ◌-◌, map, slice_get, Bool, true, false, cond, ◌==◌, min, List, [], ◌∷◌, ◌++◌, length, fold, drop, codes, Option, None, Some, IfSome, Ok, refl, sym, ap, ◌∙◌, subst, arith, bytes_eq}
-use Rattle.std.specs.Prelude.{filter_map, option_to_list}
+use Rattle.std.proofs.Common.{◌≡◌, inl, inr, ◌<◌, ◌≤◌, ℕ, zero, suc, ◌+◌, ◌-◌, map, slice_get, Bool, true, false, cond, ◌==◌, min, List, [], ◌∷◌, ◌++◌, length, fold, drop, codes, Option, None, Some, IfSome, Ok, refl, sym, ap, ◌∙◌, subst, arith, bytes_eq}
+use Rattle.std.proofs.lemmas.List.{length-take-le, append-nil, append_assoc}
+use Rattle.std.specs.Prelude.{filter_map, option_to_list, take}
 use Rattle.std.specs.Fmt.{decimal}
 use Rattle.frag_model.specs.Fragments.{Fragment}
 use Rattle.frag_session.specs.declared.answers.Verdict.{Verdict}
@@ -9,19 +10,22 @@ use Rattle.frag_session.specs.Session.{Session, Seen, shape_of, seen_of, view_of
 use Rattle.frag_session.specs.HeldHistory.{IsSetUp}
 use Rattle.frag_session.specs.FirstMoment.{MakesFile, IsWhole, FirstAt, IsDecidedAtFirst}
 use Rattle.frag_session.proofs.FirstMoments.{decided_at_first}
+use Rattle.cast_wire.specs.declared.cmd.Cmd.TheVariants.{DataFragment}
 use Rattle.package_grammar.specs.declared.command.Command.{Command}
+use Rattle.package_grammar.specs.declared.command.Command.TheVariants.{Cast}
 use Rattle.package_grammar.specs.declared.downlink.Downlink.{Downlink}
 use Rattle.device_core.specs.SessionTable.{session_at}
 use Rattle.device_core.specs.Device.{DeviceState}
 use Rattle.device_core.specs.Deliver.{waking}
 use Rattle.wire_base.specs.Numbered.{numbered}
 use Rattle.script_lines.specs.declared.forms.Form.{Form}
-use Rattle.script_lines.specs.declared.forms.Form.TheVariants.{Device, Wake, Migrate, Down, Raw}
+use Rattle.script_lines.specs.declared.forms.Form.TheVariants.{Device, Wake, Migrate, Down, Raw, Air, RawAir}
 use Rattle.script_lines.specs.Lines.{lines_of}
 use Rattle.script_lines.specs.Forms.{form_of}
 use Rattle.campaign_world.specs.declared.numbered.SentPayload.{SentPayload}
 use Rattle.campaign_world.specs.World.{WorldState}
-use Rattle.campaign_world.specs.Making.{raw_down, reception, device_of}
+use Rattle.campaign_server.specs.declared.plan.PlanGroup.{PlanGroup}
+use Rattle.campaign_world.specs.Making.{raw_down, reception, sent_frame, hearing, device_of}
 use Rattle.campaign_world.specs.Script.{campaign_of}
 use Rattle.campaign_server.specs.declared.stage.Stage.{Stage}
 use Rattle.campaign_server.specs.Server.{ledger}
@@ -30,61 +34,73 @@ use Rattle.campaign_world.specs.Report.{report_of}
 use Rattle.campaign_laws.specs.Told.{report_with_line}
 use Rattle.campaign_laws.proofs.Told.{line_parted}
 use Rattle.campaign_world.specs.Recovery.{file_by, file_of, recovery_by, recovery}
-use Rattle.device_core.specs.Events.{Event, Wakes, Receives, Migrates, after_event}
-use Rattle.campaign_laws.specs.Independence.{device_in, first_devices, time_after, event_in, history_of}
+use Rattle.device_core.specs.Events.{Event, Wakes, Receives, HearsBytes, Migrates, after_event}
+use Rattle.device_core.specs.Radio.{brought}
+use Rattle.campaign_laws.specs.Independence.{device_in, first_devices, time_after, event_in, history_of, record_behind}
 use Rattle.device_core.specs.Events.{CameInTurn}
 use Rattle.campaign_laws.specs.Verdicts.{Carries, IsToldOf, IsSessionOf, Verdicts}
 use Rattle.report_lines.specs.Sessions.{saying}
-use Rattle.campaign_server.proofs.LineItems.{if_some, numbered_next, within}
+use Rattle.campaign_server.proofs.LineItems.{if_some, numbered_next, take_next, within}
 use Rattle.campaign_laws.proofs.Independence.{devices_are_independent, folded}
 use Rattle.device_core.proofs.HeardSessions.{IsFine, of_one, AreFine, AreCarried, ComesAt, fine_later, event_fine}
 use Rattle.device_core.specs.Firmware.{after_migration}
 
 -- ---- what lines let happen
 
--- a payload comes at its line, and at the time then
+-- a payload, or bytes, come at their line, and at the time then
 abbrev IsAt : (time n t line : ℕ) → Type 0
 IsAt time n t line = (t ≡ time) × (line ≡ n)
 
-sent_at : (time word n t v l : ℕ) (down : Downlink) (o : Option SentPayload)
-    → reception time word n o ≡ Some (Receives t v l down) → IsAt time n t l
-sent_at time word n t v l down None is = absurd cc
-sent_at time word n t v l down (Some p) is = (cc, cc)
+-- when the event comes, and at which line; one that brings nothing, at any
+abbrev ComesThen : (time n : ℕ) → Event → Type 0
+ComesThen time n (Receives t v l down) = IsAt time n t l
+ComesThen time n (HearsBytes t v l bytes) = IsAt time n t l
+ComesThen time n event = Unit {0}
 
-raw_at : (time word n t v l : ℕ) (came down : Downlink) → Some (Receives time word n came) ≡ Some (Receives t v l down)
-    → IsAt time n t l
-raw_at time word n t v l came down is = (cc, cc)
+sent_then : (time word n : ℕ) (e : Event) (o : Option SentPayload) → reception time word n o ≡ Some e → ComesThen time n e
+sent_then time word n e None is = absurd cc
+sent_then time word n e (Some p) is =
+    let same : Receives time word n p.down ≡ e = cc in subst (ComesThen time n) same (refl, refl)
 
-by_test : (time n t v l : ℕ) (down : Downlink) (o : Option Event) (b : Bool)
-    → (o ≡ Some (Receives t v l down) → IsAt time n t l) → cond b o None ≡ Some (Receives t v l down) → IsAt time n t l
-by_test time n t v l down o true here is = here is
-by_test time n t v l down o false here is = absurd cc
+frame_then : (time word n : ℕ) (e : Event) (o : Option (List ℕ)) → hearing time word n o ≡ Some e → ComesThen time n e
+frame_then time word n e None is = absurd cc
+frame_then time word n e (Some bytes) is =
+    let same : HearsBytes time word n bytes ≡ e = cc in subst (ComesThen time n) same (refl, refl)
 
-no_waking : (time t v l : ℕ) (down : Downlink) (b : Bool) → cond b (Some (Wakes time)) None ≡ Some (Receives t v l down) → ⊥
-no_waking time t v l down true is = cc
-no_waking time t v l down false is = cc
+by_test : (time n : ℕ) (e : Event) (o : Option Event) (b : Bool) → (o ≡ Some e → ComesThen time n e) → cond b o None ≡ Some e
+    → ComesThen time n e
+by_test time n e o true here is = here is
+by_test time n e o false here is = absurd cc
 
-no_migration : (t v l : ℕ) (down : Downlink) (b : Bool) → cond b (Some Migrates) None ≡ Some (Receives t v l down) → ⊥
-no_migration t v l down true is = cc
-no_migration t v l down false is = cc
+this_then : (time n : ℕ) (e one : Event) → ComesThen time n one → Some one ≡ Some e → ComesThen time n e
+this_then time n e one then is = let same : one ≡ e = cc in subst (ComesThen time n) same then
 
-at_its_line : (id : ℕ) (sent : List SentPayload) (time n t v l : ℕ) (down : Downlink) (form : Option Form)
-    → event_in id sent time n form ≡ Some (Receives t v l down) → IsAt time n t l
-at_its_line id sent time n t v l down (Some (Wake device)) is = absurd (no_waking time t v l down (device == id) is)
-at_its_line id sent time n t v l down (Some (Migrate device)) is = absurd (no_migration t v l down (device == id) is)
-at_its_line id sent time n t v l down (Some (Down number device word)) is =
-    by_test time n t v l down (reception time word n (numbered sent number)) (device == id)
-    (sent_at time word n t v l down (numbered sent number)) is
-at_its_line id sent time n t v l down (Some (Raw device port payload word)) is =
-    by_test time n t v l down (Some (Receives time word n (raw_down port payload))) (device == id)
-    (raw_at time word n t v l (raw_down port payload) down) is
-at_its_line id sent time n t v l down form is = absurd cc
+at_its_line : (id : ℕ) (group : Option PlanGroup) (sent : List SentPayload) (time n : ℕ) (e : Event) (form : Option Form)
+    → event_in id group sent time n form ≡ Some e → ComesThen time n e
+at_its_line id group sent time n e (Some (Wake device)) is =
+    by_test time n e (Some (Wakes time)) (device == id) (this_then time n e (Wakes time) tt) is
+at_its_line id group sent time n e (Some (Migrate device)) is =
+    by_test time n e (Some Migrates) (device == id) (this_then time n e Migrates tt) is
+at_its_line id group sent time n e (Some (Down number device word)) is =
+    by_test time n e (reception time word n (numbered sent number)) (device == id)
+    (sent_then time word n e (numbered sent number)) is
+at_its_line id group sent time n e (Some (Raw device port payload word)) is =
+    let one : Event = Receives time word n (raw_down port payload) in
+    by_test time n e (Some one) (device == id) (this_then time n e one (refl, refl)) is
+at_its_line id group sent time n e (Some (Air number device word)) is =
+    let frame : Option (List ℕ) = sent_frame group (numbered sent number) in
+    by_test time n e (hearing time word n frame) (device == id) (frame_then time word n e frame) is
+at_its_line id group sent time n e (Some (RawAir device bytes word)) is =
+    let one : Event = HearsBytes time word n bytes in
+    by_test time n e (Some one) (device == id) (this_then time n e one (refl, refl)) is
+at_its_line id group sent time n e form is = absurd cc
 
 -- so its commands are carried by the line
-carried_by : (lines : List (List ℕ)) (sent : List SentPayload) (id time n t v l : ℕ) (down : Downlink) (line : List ℕ)
-    → numbered lines n ≡ Some line → event_in id sent time n (form_of line) ≡ Some (Receives t v l down) → IsAt time n t l
-    → AreCarried (Carries lines sent id) n down
-carried_by lines sent id time n t v l down line line_is is at cs message c among = (
+carried_by : (lines : List (List ℕ)) (group : Option PlanGroup) (sent : List SentPayload) (id time n t v l : ℕ) (down : Downlink)
+    (line : List ℕ) → numbered lines n ≡ Some line
+    → event_in id group sent time n (form_of line) ≡ Some (Receives t v l down) → IsAt time n t l
+    → AreCarried (Carries lines group sent id) n down
+carried_by lines group sent id time n t v l down line line_is is at cs message c among = inl (
   line,
   time,
   v,
@@ -98,42 +114,153 @@ carried_by lines sent id time n t v l down line line_is is at cs message c among
   },
 )
 
+-- and what is opened of its bytes
+opened_by : (lines : List (List ℕ)) (group : Option PlanGroup) (sent : List SentPayload) (id time n t v l : ℕ) (bytes : List ℕ)
+    (line : List ℕ) (d : DeviceState) → numbered lines n ≡ Some line
+    → event_in id group sent time n (form_of line) ≡ Some (HearsBytes t v l bytes) → IsAt time n t l
+    → record_behind lines (take (n - 1) lines) group sent id ≡ Some d
+    → (down : Downlink) → brought d bytes ≡ Ok down → AreCarried (Carries lines group sent id) n down
+opened_by lines group sent id time n t v l bytes line d line_is is at here down opened cs message c among = inr (
+  line,
+  time,
+  v,
+  bytes,
+  d,
+  down,
+  cs,
+  record {
+    line_is = line_is;
+    event = is ∙ ap (λ (x : ℕ). Some (HearsBytes x v l bytes)) at.0 ∙ ap (λ (x : ℕ). Some (HearsBytes time v x bytes)) at.1;
+    device_is = here;
+    opened = opened;
+    message = message;
+    among = among;
+  },
+)
+
 -- ---- a device behind its lines
 
-comes : (lines : List (List ℕ)) (sent : List SentPayload) (id time n : ℕ) (line : List ℕ) (e : Event) → numbered lines n ≡ Some line
-    → event_in id sent time n (form_of line) ≡ Some e → ComesAt (Carries lines sent id) n e
-comes lines sent id time n line (Wakes t) line_is is = tt
-comes lines sent id time n line Migrates line_is is = tt
-comes lines sent id time n line (Receives t v l down) line_is is =
-    let at = at_its_line id sent time n t v l down (form_of line) is in
-    (at.1, carried_by lines sent id time n t v l down line line_is is at)
+comes : (lines : List (List ℕ)) (group : Option PlanGroup) (sent : List SentPayload) (id time n : ℕ) (line : List ℕ)
+    (d : DeviceState) (e : Event) → numbered lines n ≡ Some line → event_in id group sent time n (form_of line) ≡ Some e
+    → record_behind lines (take (n - 1) lines) group sent id ≡ Some d → ComesAt (Carries lines group sent id) n d e
+comes lines group sent id time n line d (Wakes t) line_is is here = tt
+comes lines group sent id time n line d Migrates line_is is here = tt
+comes lines group sent id time n line d (Receives t v l down) line_is is here =
+    let at = at_its_line id group sent time n (Receives t v l down) (form_of line) is in
+    (at.1, carried_by lines group sent id time n t v l down line line_is is at)
+comes lines group sent id time n line d (HearsBytes t v l bytes) line_is is here =
+    let at = at_its_line id group sent time n (HearsBytes t v l bytes) (form_of line) is in
+    (at.1, opened_by lines group sent id time n t v l bytes line d line_is is at here)
 
-happens : (lines : List (List ℕ)) (sent : List SentPayload) (id time k : ℕ) (line : List ℕ) (d : DeviceState) (e : Event)
-    → numbered lines (k + 1) ≡ Some line → event_in id sent time (k + 1) (form_of line) ≡ Some e
-    → AreFine (Carries lines sent id) k d → AreFine (Carries lines sent id) (k + 1) (after_event d e)
-happens lines sent id time k line d e line_is is h =
-    event_fine (Carries lines sent id) k (k + 1) d e (omega arith) (comes lines sent id time (k + 1) line e line_is is) h
+happens : (lines : List (List ℕ)) (group : Option PlanGroup) (sent : List SentPayload) (id time k : ℕ) (line : List ℕ)
+    (d : DeviceState) (e : Event) → numbered lines (k + 1) ≡ Some line
+    → event_in id group sent time (k + 1) (form_of line) ≡ Some e
+    → record_behind lines (take (k + 1 - 1) lines) group sent id ≡ Some d → AreFine (Carries lines group sent id) k d
+    → AreFine (Carries lines group sent id) (k + 1) (after_event d e)
+happens lines group sent id time k line d e line_is is here h =
+    event_fine (Carries lines group sent id) k (k + 1) d e (omega arith)
+    (comes lines group sent id time (k + 1) line d e line_is is here) h
 
--- what comes of a line, and then of those behind it
-goes_on : (carries : ℕ → Command → Type 0) (k : ℕ) (d : DeviceState) (o : Option Event) (more : List Event) → AreFine carries k d
-    → ((e : Event) → o ≡ Some e → AreFine carries k (after_event d e))
-    → ((x : DeviceState) → AreFine carries k x → (last : ℕ) × AreFine carries last (fold after_event x more))
-    → (last : ℕ) × AreFine carries last (fold after_event d (option_to_list o ++ more))
-goes_on carries k d None more still here rest = rest d still
-goes_on carries k d (Some e) more still here rest = rest (after_event d e) (here e refl)
+-- ---- what lines let happen, one line more
 
-history_fine : (lines : List (List ℕ)) (sent : List SentPayload) (id time k : ℕ) (rest : List (List ℕ)) (d : DeviceState)
-    → drop k lines ≡ rest → AreFine (Carries lines sent id) k d
-    → (last : ℕ) × AreFine (Carries lines sent id) last (fold after_event d (history_of id sent time (k + 1) rest))
-unfolding history_of
-history_fine lines sent id time k [] d left h = (k, h)
-history_fine lines sent id time k (line ∷ rest) d left h =
+-- the time behind lines
+times : (time : ℕ) → (lines : List (List ℕ)) → ℕ
+times time [] = time
+times time (line ∷ lines) = times (time_after time (form_of line)) lines
+
+history_on : (id : ℕ) (group : Option PlanGroup) (sent : List SentPayload) (time n m : ℕ) (lines : List (List ℕ)) (line : List ℕ)
+    → n + length lines ≡ m
+    → history_of id group sent time n (lines ++ line ∷ [])
+    ≡ history_of id group sent time n lines ++ option_to_list (event_in id group sent (times time lines) m (form_of line))
+unfolding history_of times
+history_on id group sent time n m [] line is =
+    let same : n ≡ m = omega (arith, is) in
+    append-nil _ ∙ ap (λ (k : ℕ). option_to_list (event_in id group sent time k (form_of line))) same
+history_on id group sent time n m (x ∷ xs) line is =
+    let rest = history_on id group sent (time_after time (form_of x)) (n + 1) m xs line (omega (arith, is)) in
+    ap (λ (events : List Event). option_to_list (event_in id group sent time n (form_of x)) ++ events) rest
+    ∙ sym (append_assoc (option_to_list (event_in id group sent time n (form_of x)))
+    (history_of id group sent (time_after time (form_of x)) (n + 1) xs) _)
+
+times_on : (time : ℕ) (lines : List (List ℕ)) (line : List ℕ)
+    → times time (lines ++ line ∷ []) ≡ time_after (times time lines) (form_of line)
+unfolding times
+times_on time [] line = refl
+times_on time (x ∷ xs) line = times_on (time_after time (form_of x)) xs line
+
+-- a device behind so many lines
+record IsBehind (lines : List (List ℕ)) (group : Option PlanGroup) (sent : List SentPayload) (id time k : ℕ) (d : DeviceState) : Type 0 where
+  inside : k ≤ length lines
+  time_is : time ≡ times 0 (take k lines)
+  device_is : record_behind lines (take k lines) group sent id ≡ Some d
+  fine : AreFine (Carries lines group sent id) k d
+
+folds_on : (xs ys : List Event) (o : Option DeviceState) (d : DeviceState) → folded xs o ≡ Some d
+    → folded (xs ++ ys) o ≡ Some (fold after_event d ys)
+folds_on xs ys None d is = absurd cc
+folds_on xs ys (Some x) d is =
+    let here : fold after_event x xs ≡ d = cc in
+    ap (λ (e : DeviceState). Some e) (fold_append xs ys x ∙ ap (λ (e : DeviceState). fold after_event e ys) here)
+  where
+    fold_append : (xs ys : List Event) (x : DeviceState)
+        → fold after_event x (xs ++ ys) ≡ fold after_event (fold after_event x xs) ys
+    fold_append [] ys x = refl
+    fold_append (e ∷ xs) ys x = fold_append xs ys (after_event x e)
+
+-- what comes of a line
+line_fine_on : (lines : List (List ℕ)) (group : Option PlanGroup) (sent : List SentPayload) (id time k : ℕ) (line : List ℕ)
+    (rest : List (List ℕ)) (d : DeviceState) (o : Option Event) → drop k lines ≡ line ∷ rest
+    → event_in id group sent time (k + 1) (form_of line) ≡ o → IsBehind lines group sent id time k d
+    → IsBehind lines group sent id (time_after time (form_of line)) (k + 1) (fold after_event d (option_to_list o))
+line_fine_on lines group sent id time k line rest d o left is b =
     let next = numbered_next lines k line rest left in
-    goes_on (Carries lines sent id) (k + 1) d (event_in id sent time (k + 1) (form_of line))
-    (history_of id sent (time_after time (form_of line)) (k + 1 + 1) rest)
-    (fine_later (Carries lines sent id) k (k + 1) d (omega arith) h)
-    (λ e is. happens lines sent id time k line d e next.0 is h)
-    (λ x fine. history_fine lines sent id (time_after time (form_of line)) (k + 1) rest x next.1 fine)
+    let more : take (k + 1) lines ≡ take k lines ++ line ∷ [] =
+    ap (λ (j : ℕ). take j lines) (let one : k + 1 ≡ suc k = omega arith in one) ∙ take_next lines k line rest left in
+    let long : 1 + length (take k lines) ≡ k + 1 = taken_long lines k b.inside in
+    let grown : history_of id group sent 0 1 (take (k + 1) lines)
+    ≡ history_of id group sent 0 1 (take k lines) ++ option_to_list o =
+    ap (λ (ls : List (List ℕ)). history_of id group sent 0 1 ls) more
+    ∙ history_on id group sent 0 1 (k + 1) (take k lines) line long
+    ∙ ap (λ (t : ℕ). history_of id group sent 0 1 (take k lines) ++ option_to_list (event_in id group sent t (k + 1) (form_of line))) (sym b.time_is)
+    ∙ ap (λ (x : Option Event). history_of id group sent 0 1 (take k lines) ++ option_to_list x) is in
+    record {
+      inside = within lines (k + 1) line next.0;
+      time_is = ap (λ (t : ℕ). time_after t (form_of line)) b.time_is ∙ sym (times_on 0 (take k lines) line)
+          ∙ ap (λ (ls : List (List ℕ)). times 0 ls) (sym more);
+      device_is = ap (λ (events : List Event). folded events (numbered (first_devices lines) id)) grown
+          ∙ folds_on (history_of id group sent 0 1 (take k lines)) (option_to_list o) (numbered (first_devices lines) id) d b.device_is;
+      fine = event_by o is;
+    }
+  where
+    taken_long : (ls : List (List ℕ)) (j : ℕ) → j ≤ length ls → 1 + length (take j ls) ≡ j + 1
+    taken_long ls j le = let is = length-take-le j ls le in omega (arith, is)
+
+    event_by : (o : Option Event) → event_in id group sent time (k + 1) (form_of line) ≡ o
+        → AreFine (Carries lines group sent id) (k + 1) (fold after_event d (option_to_list o))
+    event_by None none = fine_later (Carries lines group sent id) k (k + 1) d (omega arith) b.fine
+    event_by (Some e) some =
+        happens lines group sent id time k line d e (numbered_next lines k line rest left).0 some
+        (ap (λ (j : ℕ). record_behind lines (take j lines) group sent id) (let one : k + 1 - 1 ≡ k = omega arith in one) ∙ b.device_is)
+        b.fine
+
+history_fine : (lines : List (List ℕ)) (group : Option PlanGroup) (sent : List SentPayload) (id time k : ℕ)
+    (rest : List (List ℕ)) (d : DeviceState) → drop k lines ≡ rest → IsBehind lines group sent id time k d
+    → (last : ℕ) × AreFine (Carries lines group sent id) last (fold after_event d (history_of id group sent time (k + 1) rest))
+unfolding history_of
+history_fine lines group sent id time k [] d left b = (k, b.fine)
+history_fine lines group sent id time k (line ∷ rest) d left b =
+    let o : Option Event = event_in id group sent time (k + 1) (form_of line) in
+    let next = numbered_next lines k line rest left in
+    let later : List Event = history_of id group sent (time_after time (form_of line)) (k + 1 + 1) rest in
+    let e : DeviceState = fold after_event d (option_to_list o) in
+    let all = history_fine lines group sent id (time_after time (form_of line)) (k + 1) rest e next.1
+    (line_fine_on lines group sent id time k line rest d o left refl b) in
+    (all.0, subst (AreFine (Carries lines group sent id) all.0) (sym (fold_on o later)) all.1)
+  where
+    fold_on : (o : Option Event) (later : List Event)
+        → fold after_event d (option_to_list o ++ later) ≡ fold after_event (fold after_event d (option_to_list o)) later
+    fold_on None later = refl
+    fold_on (Some e) later = refl
 
 -- a device at its start has no session
 fresh_by : (carries : ℕ → Command → Type 0) (forms : List (Option Form)) (n : ℕ) (d : DeviceState)
@@ -149,28 +276,40 @@ fresh_at : (carries : ℕ → Command → Type 0) (forms : List (Option Form)) (
 fresh_at carries forms n d true is = absurd cc
 fresh_at carries forms n d false is = fresh_by carries forms n d is
 
-own_fine : (lines : List (List ℕ)) (sent : List SentPayload) (id : ℕ) (o : Option DeviceState) (device : DeviceState)
-    → ((d : DeviceState) → o ≡ Some d → AreFine (Carries lines sent id) 0 d)
-    → folded (history_of id sent 0 1 lines) o ≡ Some device → (last : ℕ) × AreFine (Carries lines sent id) last device
-own_fine lines sent id None device first is = absurd cc
-own_fine lines sent id (Some d) device first is =
-    let all = history_fine lines sent id 0 0 lines d refl (first d refl) in
-    let same : fold after_event d (history_of id sent 0 1 lines) ≡ device = cc in
-    (all.0, subst (AreFine (Carries lines sent id) all.0) same all.1)
+own_fine : (lines : List (List ℕ)) (group : Option PlanGroup) (sent : List SentPayload) (id : ℕ) (o : Option DeviceState)
+    (device : DeviceState) → numbered (first_devices lines) id ≡ o
+    → ((d : DeviceState) → o ≡ Some d → AreFine (Carries lines group sent id) 0 d)
+    → folded (history_of id group sent 0 1 lines) o ≡ Some device
+    → (last : ℕ) × AreFine (Carries lines group sent id) last device
+unfolding history_of times
+own_fine lines group sent id None device there first is = absurd cc
+own_fine lines group sent id (Some d) device there first is =
+    let all = history_fine lines group sent id 0 0 lines d refl (record {
+      inside = omega arith;
+      time_is = refl;
+      device_is = ap (λ (x : Option DeviceState). folded [] x) there;
+      fine = first d refl;
+    }) in
+    let same : fold after_event d (history_of id group sent 0 1 lines) ≡ device = cc in
+    (all.0, subst (AreFine (Carries lines group sent id) all.0) same all.1)
+
+-- what lines of a campaign carry to a device
+abbrev CarriesIn : (script : List ℕ) → WorldState → (id : ℕ) → (ℕ → Command → Type 0)
+CarriesIn script world id = Carries (lines_of script) world.server.plan.group world.sent id
 
 device_fine : (image script : List ℕ) (world : WorldState) (id : ℕ) (device : DeviceState)
     → campaign_of image script ≡ Ok world → numbered world.devices id ≡ Some device
-    → (last : ℕ) × AreFine (Carries (lines_of script) world.sent id) last device
+    → (last : ℕ) × AreFine (CarriesIn script world id) last device
 device_fine image script world id device accepted there =
-    own_fine (lines_of script) world.sent id (numbered (first_devices (lines_of script)) id) device
-    (λ d is. fresh_at (Carries (lines_of script) world.sent id) (map form_of (lines_of script)) (id - 1) d (id == 0) is)
+    own_fine (lines_of script) world.server.plan.group world.sent id (numbered (first_devices (lines_of script)) id) device refl
+    (λ d is. fresh_at (CarriesIn script world id) (map form_of (lines_of script)) (id - 1) d (id == 0) is)
     (sym (devices_are_independent image script world id accepted) ∙ there)
 
 session_fine : (image script : List ℕ) (world : WorldState) (id : ℕ) (device : DeviceState) (index : ℕ) (s : Session)
     → IsSessionOf image script world id device index s
-    → (last : ℕ) × IsFine (Carries (lines_of script) world.sent id) last index s
+    → (last : ℕ) × IsFine (CarriesIn script world id) last index s
 session_fine image script world id device index s r =
-    let carries : ℕ → Command → Type 0 = Carries (lines_of script) world.sent id in
+    let carries : ℕ → Command → Type 0 = CarriesIn script world id in
     let fine = device_fine image script world id device r.accepted r.device_is in
     let here : min index 3 ≡ index = omega (arith, r.index_is) in
     let its : IfSome (session_at device.sessions index) (IsFine carries fine.0 (min index 3)) =
@@ -180,12 +319,19 @@ session_fine image script world id device index s r =
           (if_some (IsFine carries fine.0 (min index 3)) (session_at device.sessions index) s r.session_is its),
     )
 
+-- a line that carries something is one of the script
+carried_within : (lines : List (List ℕ)) (group : Option PlanGroup) (sent : List SentPayload) (id n : ℕ) (c : Command)
+    → Carries lines group sent id n c → n ≤ length lines
+carried_within lines group sent id n c (inl came) = within lines n came.0 came.5.line_is
+carried_within lines group sent id n c (inr came) = within lines n came.0 came.7.line_is
+
 -- the last fragment came with one of the lines
-in_the_script : (lines : List (List ℕ)) (sent : List SentPayload) (id index last : ℕ) (heard : List Fragment)
-    → CameInTurn (Carries lines sent id) index last heard → CameInTurn (Carries lines sent id) index (length lines) heard
-in_the_script lines sent id index last [] came = tt
-in_the_script lines sent id index last (f ∷ older) came =
-    (within lines f.mark came.1.0 came.1.5.line_is, came.1, came.2)
+in_the_script : (lines : List (List ℕ)) (group : Option PlanGroup) (sent : List SentPayload) (id index last : ℕ)
+    (heard : List Fragment) → CameInTurn (Carries lines group sent id) index last heard
+    → CameInTurn (Carries lines group sent id) index (length lines) heard
+in_the_script lines group sent id index last [] came = tt
+in_the_script lines group sent id index last (f ∷ older) came =
+    (carried_within lines group sent id f.mark (Cast (DataFragment index f.number f.part)) came.1, came.1, came.2)
 
 makes_file : (s : Session) → IsSetUp s.setup → MakesFile (shape_of s) s.setup.padding
 unfolding shape_of
@@ -266,7 +412,7 @@ pub verdicts : Verdicts
 verdicts = record {
   heard = λ image script world id device index s r.
       let fine = session_fine image script world id device index s r in
-      in_the_script (lines_of script) world.sent id index fine.0 s.heard fine.1.came;
+      in_the_script (lines_of script) world.server.plan.group world.sent id index fine.0 s.heard fine.1.came;
   decided = decided;
   told = λ image script world id stage device index s r stage_is.
       told_of world id stage device index s stage_is r.device_is r.index_is r.session_is (decided image script world id device index s r);

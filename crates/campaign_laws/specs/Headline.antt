@@ -29,9 +29,10 @@ use Rattle.campaign_server.specs.declared.stage.Stage.{Stage}
 use Rattle.campaign_server.specs.Server.{ServerState, DownlinkCommand, ledger, downlink_of}
 use Rattle.wire_base.specs.Numbered.{numbered}
 use Rattle.campaign_server.specs.Asking.{mask_of, fragments_request}
+use Rattle.script_lines.specs.declared.forms.Form.{Form}
 use Rattle.script_lines.specs.declared.forms.Class.{Class}
 use Rattle.script_lines.specs.declared.forms.Class.TheVariants as class
-use Rattle.script_lines.specs.declared.forms.Form.TheVariants.{Device, Down}
+use Rattle.script_lines.specs.declared.forms.Form.TheVariants.{Device, Down, Air}
 use Rattle.script_lines.specs.Lines.{lines_of}
 use Rattle.script_lines.specs.Forms.{form_of}
 use Rattle.campaign_world.specs.declared.numbered.SentPayload.{SentPayload}
@@ -93,10 +94,14 @@ pub record IsServed (image : List ℕ) (server : ServerState) (rows : ℕ) (sess
   pub rows_are : session.rows ≡ min rows (nb_frag_of (length image) server.plan.frag_size)
   pub heard : AllByRecursion (IsFragmentOf image server.plan.frag_size) session.heard
 
--- line n of the script is a down to device id, and the server sent this valid command as the payload that it names
+-- a form hands this sent payload to the device: as it is, or as a frame in the air
+abbrev pub HandsOver : Option Form → (number id word : ℕ) → Type 0
+HandsOver form number id word = (form ≡ Some (Down number id word)) ⊎ (form ≡ Some (Air number id word))
+
+-- line n of the script hands device id the payload that it names, and the server sent this valid command as that
 pub record IsDelivery (lines : List (List ℕ)) (sent : List SentPayload) (id n : ℕ) (down : DownlinkCommand) (line : List ℕ) (number word : ℕ) (receiver : Option ℕ) : Type 0 where
   pub line_is : numbered lines n ≡ Some line
-  pub form : form_of line ≡ Some (Down number id word)
+  pub form : HandsOver (form_of line) number id word
   pub payload_is : numbered sent number ≡ Some (record { receiver = receiver; down = downlink_of down })
   pub valid : IsValid down.command
 

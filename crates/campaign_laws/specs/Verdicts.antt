@@ -1,6 +1,6 @@
 -- What a campaign says of each session, whoever sent what reached its device: each is decided at its first moment, over what
 -- its lines brought. (TS004-1.0.0 leaves recovery to the device; when it ends, and how, is this project's profile.)
-use Rattle.std.specs.Prelude.{◌≡◌, ℕ, ◌<◌, List, ◌++◌, length, codes, Some, Ok}
+use Rattle.std.specs.Prelude.{◌≡◌, ℕ, ◌-◌, ◌<◌, ◌⊎◌, List, ◌++◌, length, take, codes, Option, Some, Ok}
 use Rattle.std.specs.Str.{bytes_eq}
 use Rattle.std.specs.Fmt.{decimal}
 use Rattle.wire_base.specs.declared.refusal.Direction.TheVariants.{Down as Downwards}
@@ -12,7 +12,8 @@ use Rattle.package_grammar.specs.declared.downlink.Downlink.{Downlink}
 use Rattle.package_grammar.specs.Grammar.{IsMessage}
 use Rattle.device_core.specs.SessionTable.{session_at}
 use Rattle.device_core.specs.Device.{DeviceState}
-use Rattle.device_core.specs.Events.{Receives, CameInTurn}
+use Rattle.device_core.specs.Radio.{brought}
+use Rattle.device_core.specs.Events.{Receives, HearsBytes, CameInTurn}
 use Rattle.campaign_server.specs.declared.stage.Stage.{Stage}
 use Rattle.campaign_server.specs.Server.{ledger}
 use Rattle.wire_base.specs.Numbered.{numbered}
@@ -25,20 +26,34 @@ use Rattle.report_lines.specs.Sessions.{same_word, saying}
 use Rattle.campaign_world.specs.Report.{report_of}
 use Rattle.campaign_world.specs.Recovery.{recovery}
 use Rattle.campaign_laws.specs.Told.{report_with_line}
-use Rattle.campaign_laws.specs.Independence.{event_in}
+use Rattle.campaign_server.specs.declared.plan.PlanGroup.{PlanGroup}
+use Rattle.campaign_laws.specs.Independence.{event_in, record_behind}
 
 -- ---- what a session heard
 
 -- line n of the script brings device id a payload, one that was sent or anybody's, and this command is among its own
-pub record IsCarried (lines : List (List ℕ)) (sent : List SentPayload) (id n : ℕ) (c : Command) (line : List ℕ) (time word : ℕ) (down : Downlink) (cs : List Command) : Type 0 where
+pub record IsCarried (lines : List (List ℕ)) (group : Option PlanGroup) (sent : List SentPayload) (id n : ℕ) (c : Command) (line : List ℕ) (time word : ℕ) (down : Downlink) (cs : List Command) : Type 0 where
   pub line_is : numbered lines n ≡ Some line
-  pub event : event_in id sent time n (form_of line) ≡ Some (Receives time word n down)
+  pub event : event_in id group sent time n (form_of line) ≡ Some (Receives time word n down)
   pub message : IsMessage cs down.port Downwards down.payload
   pub among : In c cs
 
-abbrev pub Carries : List (List ℕ) → List SentPayload → (id n : ℕ) → Command → Type 0
-Carries lines sent id n c = (line : List ℕ) × (time : ℕ) × (word : ℕ) × (down : Downlink) × (cs : List Command)
-    × IsCarried lines sent id n c line time word down cs
+-- line n of the script brings the radio of device id bytes, which the device as it is before that line opens to a payload,
+-- and this command is among its own
+pub record IsOpened (lines : List (List ℕ)) (group : Option PlanGroup) (sent : List SentPayload) (id n : ℕ) (c : Command) (line : List ℕ) (time word : ℕ) (bytes : List ℕ) (device : DeviceState) (down : Downlink) (cs : List Command) : Type 0 where
+  pub line_is : numbered lines n ≡ Some line
+  pub event : event_in id group sent time n (form_of line) ≡ Some (HearsBytes time word n bytes)
+  pub device_is : record_behind lines (take (n - 1) lines) group sent id ≡ Some device
+  pub opened : brought device bytes ≡ Ok down
+  pub message : IsMessage cs down.port Downwards down.payload
+  pub among : In c cs
+
+abbrev pub Carries : List (List ℕ) → Option PlanGroup → List SentPayload → (id n : ℕ) → Command → Type 0
+Carries lines group sent id n c =
+    ((line : List ℕ) × (time : ℕ) × (word : ℕ) × (down : Downlink) × (cs : List Command)
+    × IsCarried lines group sent id n c line time word down cs)
+    ⊎ ((line : List ℕ) × (time : ℕ) × (word : ℕ) × (bytes : List ℕ) × (device : DeviceState) × (down : Downlink) × (cs : List Command)
+    × IsOpened lines group sent id n c line time word bytes device down cs)
 
 -- ---- what the report says of it
 
@@ -72,7 +87,7 @@ pub record Verdicts : Type 0 where
   -- a session hears nothing but what the lines bring its device, each fragment at its line
   pub heard : (image script : List ℕ) (world : WorldState) (id : ℕ) (device : DeviceState) (index : ℕ) (s : Session)
       → IsSessionOf image script world id device index s
-      → CameInTurn (Carries (lines_of script) world.sent id) index (length (lines_of script)) s.heard
+      → CameInTurn (Carries (lines_of script) world.server.plan.group world.sent id) index (length (lines_of script)) s.heard
   -- it is decided at the first fragment after which its file is no longer open
   pub decided : (image script : List ℕ) (world : WorldState) (id : ℕ) (device : DeviceState) (index : ℕ) (s : Session)
       → IsSessionOf image script world id device index s → IsDecidedAtFirst s

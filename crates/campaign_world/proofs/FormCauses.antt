@@ -156,6 +156,8 @@ unmade_sends image section plan devices (form.Wake device) fine planned comes = 
 unmade_sends image section plan devices (form.Migrate device) fine planned comes = refl
 unmade_sends image section plan devices (form.Down number device word) fine planned comes = refl
 unmade_sends image section plan devices (form.Raw device port payload word) fine planned comes = refl
+unmade_sends image section plan devices (form.Air number device word) fine planned comes = refl
+unmade_sends image section plan devices (form.RawAir device bytes word) fine planned comes = refl
 unmade_sends image section plan devices (form.Up number) fine planned comes = refl
 unmade_sends image section plan devices form.End fine planned comes = refl
 
@@ -296,6 +298,17 @@ striking f device port payload word ranges is =
     let both = and_parts (nat_le port 255) (nat_lt word (2 ^ 32)) all in
     record { port_fits = leb-true _ _ both.0; word_fits = ltb-true _ _ both.1 }
 
+pub air_word_within : (f : Form) (number device word : ℕ) → in_range f ≡ true → f ≡ form.Air number device word → word < 2 ^ 32
+unfolding in_range
+air_word_within f number device word ranges is =
+    let fits : nat_lt word (2 ^ 32) ≡ true = rw is at ranges in ltb-true _ _ fits
+
+pub raw_air_word_within : (f : Form) (device : ℕ) (bytes : List ℕ) (word : ℕ) → in_range f ≡ true
+    → f ≡ form.RawAir device bytes word → word < 2 ^ 32
+unfolding in_range
+raw_air_word_within f device bytes word ranges is =
+    let fits : nat_lt word (2 ^ 32) ≡ true = rw is at ranges in ltb-true _ _ fits
+
 pub payload_within : (f : Form) (device port : ℕ) (payload : List ℕ) (word : ℕ) → fits_payload f ≡ true → f ≡ form.Raw device port payload word
     → length payload ≤ 242
 payload_within f device port payload word short is = let fits : nat_le (length payload) 242 ≡ true = rw is at short in leb-true _ _ fits
@@ -359,6 +372,10 @@ event_at s form.Frag event comes = at_events_only (λ (x : Section). may_come x 
 event_at s form.Status event comes = at_events_only (λ (x : Section). may_come x form.Status) refl refl refl refl refl refl s comes
 event_at s (form.Down number device word) event comes = at_events_only (λ (x : Section). may_come x (form.Down number device word)) refl refl refl refl refl refl s comes
 event_at s (form.Raw device port payload word) event comes = at_events_only (λ (x : Section). may_come x (form.Raw device port payload word)) refl refl refl refl refl refl s comes
+event_at s (form.Air number device word) event comes =
+    at_events_only (λ (x : Section). may_come x (form.Air number device word)) refl refl refl refl refl refl s comes
+event_at s (form.RawAir device bytes word) event comes =
+    at_events_only (λ (x : Section). may_come x (form.RawAir device bytes word)) refl refl refl refl refl refl s comes
 event_at s (form.Up number) event comes = at_events_only (λ (x : Section). may_come x (form.Up number)) refl refl refl refl refl refl s comes
 event_at s form.End event comes = at_events_only (λ (x : Section). may_come x form.End) refl refl refl refl refl refl s comes
 

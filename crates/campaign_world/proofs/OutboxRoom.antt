@@ -1,5 +1,5 @@
 -- An event at a device that rests leaves at most eight uplinks in its outbox.
-use Rattle.std.proofs.Common.{◌≡◌, ℕ, ◌≤◌, ◌+◌, Bool, true, false, cond, nat_lt, nat_le, List, [], ◌∷◌, length, map, replicate, get_or, is_none, Option, Some, None, Ok, Err, refl, ap, ◌∙◌, subst, arith}
+use Rattle.std.proofs.Common.{◌≡◌, ℕ, ◌≤◌, ◌+◌, Bool, true, false, cond, nat_lt, nat_le, List, [], ◌∷◌, length, map, replicate, get_or, is_none, Option, Some, None, Result, Ok, Err, refl, ap, ◌∙◌, subst, arith}
 use Rattle.std.proofs.lemmas.Bool.Decides.{nat_tests}
 use Rattle.std.proofs.lemmas.List.{length-append, length-map, length-replicate}
 use Rattle.package_grammar.specs.declared.command.Command.{Command}
@@ -11,7 +11,9 @@ use Rattle.sync_wire.specs.declared.cmd.Cmd.TheVariants as s
 use Rattle.cast_wire.specs.declared.cmd.Cmd.{Cmd as CastCmd}
 use Rattle.cast_wire.specs.declared.cmd.Cmd.TheVariants as c
 use Rattle.frag_session.specs.declared.answers.StatusAns.{StatusAns}
+use Rattle.mc_frames.specs.declared.fault.FrameFault.{FrameFault}
 use Rattle.device_core.specs.Device.{DeviceState}
+use Rattle.device_core.specs.Radio.{brought, after_frame, radio}
 use Rattle.device_core.specs.declared.uplink.Uplink.{Uplink}
 use Rattle.device_core.specs.declared.uplink.UplinkCommand.{UplinkCommand}
 use Rattle.device_core.specs.declared.arrival.Arrival.{Arrival}
@@ -148,6 +150,17 @@ delivered_few t word mark down d empty =
       ap length (reboot_outbox t (heard_delivery t word mark down (after_due_reboot t d)).device),
       heard_few t word mark down (after_due_reboot t d) few,
     )
+
+-- or behind bytes that its radio heard
+frame_few : (t word mark : ℕ) (o : Result Downlink FrameFault) (d : DeviceState) → d.outbox ≡ []
+    → length (after_frame t word mark o d).device.outbox ≤ 8
+frame_few t word mark (Ok down) d empty = delivered_few t word mark down d empty
+frame_few t word mark (Err fault) d empty = omega (arith, ap length (reboot_outbox t d), ap length empty)
+
+pub aired_few : (t word mark : ℕ) (bytes : List ℕ) (d : DeviceState) → d.outbox ≡ []
+    → length (radio t word mark bytes d).device.outbox ≤ 8
+unfolding radio
+aired_few t word mark bytes d empty = frame_few t word mark (brought d bytes) d empty
 
 asked_few : (t : ℕ) (d : DeviceState) → d.outbox ≡ [] → length (time_asking t d).device.outbox ≤ 8
 unfolding time_asking after_answers

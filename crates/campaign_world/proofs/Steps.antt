@@ -206,6 +206,8 @@ event_alike world form.Frag event = sent_alike world (after_fragment world.serve
 event_alike world form.Status event = sent_alike world (after_status_to_all world.server) None (status_to_all world.server)
 event_alike world (form.Down number device word) event = at_device_alike world device (numbered world.devices device) _
 event_alike world (form.Raw device port payload word) event = at_device_alike world device (numbered world.devices device) _
+event_alike world (form.Air number device word) event = at_device_alike world device (numbered world.devices device) _
+event_alike world (form.RawAir device bytes word) event = at_device_alike world device (numbered world.devices device) _
 event_alike world (form.Up number) event = up_alike world (numbered world.uplinks number)
 event_alike world form.End event = refl
 

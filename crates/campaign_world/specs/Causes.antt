@@ -1,13 +1,15 @@
 -- When a line is refused (this project's profile): the causes in their order, tried after the lines before it.
 use Rattle.std.specs.Prelude.{ℕ, ◌+◌, Bool, true, false, ◌&&◌, ◌||◌, not, ◌==◌, nat_lt, nat_le, if◌then◌else◌, List, length, Option, Some, None, is_some, is_ok}
 use Rattle.wire_base.specs.Payload.{max_payload}
+use Rattle.package_grammar.specs.declared.downlink.To.{To}
+use Rattle.package_grammar.specs.declared.downlink.To.TheVariants as to
 use Rattle.frag_model.specs.Limits.{max_pieces}
 use Rattle.frag_encoder.specs.Encoding.{nb_frag_of}
 use Rattle.campaign_server.specs.Server.{ServerState}
 use Rattle.wire_base.specs.Numbered.{numbered}
 use Rattle.campaign_server.specs.Fragments.{next_fragment, status_to_all}
 use Rattle.script_lines.specs.declared.forms.Form.{Form}
-use Rattle.script_lines.specs.declared.forms.Form.TheVariants.{Header, Image, Group, WindowC, WindowB, Device, At, Wake, Migrate, Ask, Frag, Status, Down, Raw, Up}
+use Rattle.script_lines.specs.declared.forms.Form.TheVariants.{Header, Image, Group, WindowC, WindowB, Device, At, Wake, Migrate, Ask, Frag, Status, Down, Raw, Air, RawAir, Up}
 use Rattle.report_lines.specs.declared.faults.LineWhy.{LineWhy}
 use Rattle.report_lines.specs.declared.faults.LineWhy.TheVariants as why
 use Rattle.campaign_world.specs.declared.section.Section.{Section}
@@ -70,6 +72,8 @@ names_device count (Migrate device) = is_device count device
 names_device count (Ask device) = is_device count device
 names_device count (Down number device word) = is_device count device
 names_device count (Raw device port payload word) = is_device count device
+names_device count (Air number device word) = is_device count device
+names_device count (RawAir device bytes word) = is_device count device
 names_device count form = true
 
 -- the payload was sent, to this device or to any
@@ -81,6 +85,15 @@ may_reach device (Some sent) = is_for sent.receiver
     is_for None = true
     is_for (Some receiver) = receiver == device
 
+-- a payload to a group goes out as a frame
+abbrev pub is_to_group : To → Bool
+is_to_group to.Unicast = false
+is_to_group (to.Group addr count) = true
+
+abbrev pub goes_out : Option SentPayload → Bool
+goes_out None = false
+goes_out (Some sent) = is_to_group sent.down.to
+
 -- the uplink was made, and is due by now
 abbrev pub is_due_by : (now : ℕ) → Option MadeUplink → Bool
 is_due_by now None = false
@@ -88,6 +101,8 @@ is_due_by now (Some made) = nat_le made.uplink.due now
 
 abbrev pub has_come : List SentPayload → List MadeUplink → (now : ℕ) → Form → Bool
 has_come sent uplinks now (Down number device word) = may_reach device (numbered sent number)
+has_come sent uplinks now (Air number device word) =
+    may_reach device (numbered sent number) && goes_out (numbered sent number)
 has_come sent uplinks now (Up number) = is_due_by now (numbered uplinks number)
 has_come sent uplinks now form = true
 

@@ -2,13 +2,14 @@
 use Rattle.std.specs.Prelude.{◌≡◌, ℕ, Bool, true, false, List, Option, Some, None}
 use Rattle.std.specs.List.{AllByRecursion}
 use Rattle.script_lines.specs.declared.forms.Form.{Form}
-use Rattle.script_lines.specs.declared.forms.Form.TheVariants.{Raw}
+use Rattle.script_lines.specs.declared.forms.Form.TheVariants.{Raw, RawAir}
 use Rattle.script_lines.specs.Lines.{lines_of}
 use Rattle.script_lines.specs.Forms.{form_of}
 
--- the form brings a payload that the server need not have sent
+-- the form brings a payload, or bytes, that the server need not have sent
 abbrev pub is_raw : Form → Bool
 is_raw (Raw device port payload word) = true
+is_raw (RawAir device bytes word) = true
 is_raw form = false
 
 -- so does this line

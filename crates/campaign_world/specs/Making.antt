@@ -1,5 +1,5 @@
 -- What a form that is not refused makes of a campaign (this project's profile).
-use Rattle.std.specs.Prelude.{ℕ, ◌+◌, ◌-◌, Bool, true, false, List, [], ◌∷◌, ◌++◌, map, slice_set, Option, Some, None, option_map, Result, Ok, Err}
+use Rattle.std.specs.Prelude.{ℕ, ◌+◌, ◌-◌, Bool, true, false, List, [], ◌∷◌, ◌++◌, map, slice_set, if◌then◌else◌, Option, Some, None, option_map, Result, Ok, Err}
 use Rattle.std.specs.Result.{result_ok}
 use Rattle.wire_base.specs.declared.refusal.Refusal.{Refusal}
 use Rattle.package_grammar.specs.declared.downlink.Downlink.{Downlink}
@@ -11,7 +11,9 @@ use Rattle.device_core.specs.declared.config.Class.TheVariants as device_class
 use Rattle.device_core.specs.declared.config.DeviceConfig.{DeviceConfig}
 use Rattle.device_core.specs.declared.uplink.Uplink.{Uplink}
 use Rattle.device_core.specs.Device.{DeviceState, first_device, max_area}
-use Rattle.device_core.specs.Events.{Event, Wakes, Receives, Migrates, event_step, uplinks_taken}
+use Rattle.device_core.specs.Events.{Event, Wakes, Receives, HearsBytes, Migrates, event_step, uplinks_taken}
+use Rattle.campaign_server.specs.Framing.{has_frame, frame_for}
+use Rattle.campaign_server.specs.declared.plan.PlanGroup.{PlanGroup}
 use Rattle.campaign_server.specs.declared.plan.Kind.{Kind}
 use Rattle.campaign_server.specs.declared.plan.Kind.TheVariants as kind
 use Rattle.campaign_server.specs.Plan.{Plan}
@@ -23,7 +25,7 @@ use Rattle.campaign_server.specs.Uplinks.{UplinkStep, uplink_step}
 use Rattle.script_lines.specs.declared.forms.Class.{Class}
 use Rattle.script_lines.specs.declared.forms.Class.TheVariants as class
 use Rattle.script_lines.specs.declared.forms.Form.{Form}
-use Rattle.script_lines.specs.declared.forms.Form.TheVariants.{Header, Image, Group, WindowC, WindowB, Device, At, Wake, Migrate, Ask, Frag, Status, Down, Raw, Up, End}
+use Rattle.script_lines.specs.declared.forms.Form.TheVariants.{Header, Image, Group, WindowC, WindowB, Device, At, Wake, Migrate, Ask, Frag, Status, Down, Raw, Air, RawAir, Up, End}
 use Rattle.campaign_world.specs.declared.section.Section.{Section}
 use Rattle.campaign_world.specs.declared.section.Section.TheVariants as section
 use Rattle.campaign_world.specs.declared.numbered.SentPayload.{SentPayload}
@@ -103,13 +105,24 @@ raw_down port payload = record { to = Unicast; port = port; payload = payload }
 abbrev pub reception : (time word line : ℕ) → Option SentPayload → Option Event
 reception time word line sent = option_map (λ payload. Receives time word line payload.down) sent
 
--- what a line with this number lets happen at a device, at the time now
-abbrev pub event_of : List SentPayload → (time line : ℕ) → Form → Option Event
-event_of sent time line (Wake device) = Some (Wakes time)
-event_of sent time line (Migrate device) = Some Migrates
-event_of sent time line (Down number device word) = reception time word line (numbered sent number)
-event_of sent time line (Raw device port payload word) = Some (Receives time word line (raw_down port payload))
-event_of sent time line form = None
+-- the frame of a sent payload, where it has one
+abbrev pub sent_frame : Option PlanGroup → Option SentPayload → Option (List ℕ)
+sent_frame group None = None
+sent_frame group (Some payload) = if has_frame group payload.down then Some (frame_for group payload.down) else None
+
+-- bytes reach the radio of a device; the mark is the line
+abbrev pub hearing : (time word line : ℕ) → Option (List ℕ) → Option Event
+hearing time word line frame = option_map (λ bytes. HearsBytes time word line bytes) frame
+
+-- what a line with this number lets happen at a device, at the time now, where this is the plan's group
+abbrev pub event_of : Option PlanGroup → List SentPayload → (time line : ℕ) → Form → Option Event
+event_of group sent time line (Wake device) = Some (Wakes time)
+event_of group sent time line (Migrate device) = Some Migrates
+event_of group sent time line (Down number device word) = reception time word line (numbered sent number)
+event_of group sent time line (Raw device port payload word) = Some (Receives time word line (raw_down port payload))
+event_of group sent time line (Air number device word) = hearing time word line (sent_frame group (numbered sent number))
+event_of group sent time line (RawAir device bytes word) = Some (HearsBytes time word line bytes)
+event_of group sent time line form = None
 
 -- an event at a device, where there are both
 abbrev pub after_event_at : WorldState → (n : ℕ) → Option DeviceState → Option Event → WorldState
@@ -138,7 +151,8 @@ with_event world n event = at_events (after_event_at world n (numbered world.dev
 
 -- the device with a number, behind what the next line lets happen
 abbrev pub with_event_of : WorldState → (n : ℕ) → Form → WorldState
-with_event_of world n form = with_event world n (event_of world.sent world.time (world.lines + 1) form)
+with_event_of world n form =
+    with_event world n (event_of world.server.plan.group world.sent world.time (world.lines + 1) form)
 
 -- ---- the table
 
@@ -166,5 +180,7 @@ after_form world Status =
     at_events (with_sent (record world { server = after_status_to_all world.server }) None (status_to_all world.server))
 after_form world (Down number device word) = with_event_of world device (Down number device word)
 after_form world (Raw device port payload word) = with_event_of world device (Raw device port payload word)
+after_form world (Air number device word) = with_event_of world device (Air number device word)
+after_form world (RawAir device bytes word) = with_event_of world device (RawAir device bytes word)
 after_form world (Up number) = at_events (after_up world (numbered world.uplinks number))
 after_form world End = record world { section = section.Ended }

@@ -3,6 +3,7 @@
 ghost use Rattle.std.specs.Prelude.{◌≡◌, ◌≤◌, ◌+◌, length, vec_len, vec_capacity};
 ghost use Rattle.device_core.specs.Device.{DeviceState, max_moment, outbox_size};
 ghost use Rattle.device_core.specs.Deliver.{delivery, waking};
+ghost use Rattle.device_core.specs.Radio.{radio};
 ghost use Rattle.device_core.specs.Firmware.{after_migration};
 ghost use Rattle.device_core.specs.HeldDevice.{DeviceStands};
 ghost use Rattle.campaign_world.specs.HeldWorld.{resting, numbered_behind, ComesToRest, AreNumbered};
@@ -34,6 +35,27 @@ pub fn reach_device(
         device.old id uplinks.old.items uplinks.new.items }
 {
     let _delivered = device.deliver(coming.t, down, coming.word, coming.mark);
+    take_uplinks(id, device, uplinks);
+}
+
+/// Bytes reach the radio of a device, whose uplinks are taken.
+pub fn air_device(
+    device: &mut Device,
+    uplinks: &mut Vec<MadeUplink>,
+    id: u8,
+    bytes: &[u8],
+    coming: Moment,
+)
+    requires first { 1 ≤ id }
+    requires moment { coming.t ≤ max_moment }
+    requires room { vec_len uplinks.old + outbox_size ≤ vec_capacity uplinks.old }
+    ensures made { StayMade id uplinks.old.items uplinks.new.items }
+    ensures rests { ComesToRest HeldRests (λ d. (radio coming.t coming.word coming.mark bytes.now d).device)
+        device.old device.new }
+    ensures uplinks { AreNumbered HeldRests (λ d. (radio coming.t coming.word coming.mark bytes.now d).device)
+        device.old id uplinks.old.items uplinks.new.items }
+{
+    let _heard = device.radio(coming.t, bytes, coming.word, coming.mark);
     take_uplinks(id, device, uplinks);
 }
 

@@ -3,12 +3,13 @@
 ghost use Rattle.std.specs.Prelude.{◌≡◌, ◌≤◌, ◌<◌, ◌^◌, ℕ, length};
 ghost use Rattle.script_lines.specs.declared.forms.Form.TheVariants.{Image};
 ghost use Rattle.image_slots.specs.Image.{max_image};
-ghost use Rattle.campaign_world.specs.Causes.{is_event_or_end, may_come, has_ended, fits_script, is_device, names_device, may_reach, is_due_by, has_come, is_to_come, fits_payload};
+ghost use Rattle.campaign_world.specs.Causes.{is_event_or_end, may_come, has_ended, fits_script, is_device, names_device, may_reach, is_to_group, goes_out, is_due_by, has_come, is_to_come, fits_payload};
 ghost use Rattle.wire_base.specs.Numbered.{numbered};
 
 use crate::numbered::{MadeUplink, SentPayload, numbered};
 use crate::section::Section;
 use frag_model::lines::MAX_PIECES;
+use package_grammar::To;
 use script_lines::Form;
 use wire_base::MAX_PAYLOAD;
 
@@ -82,11 +83,14 @@ pub fn names_device(count: usize, form: &Form) -> bool
         Form::Ask { device } => is_device(count, *device),
         Form::Down { device, .. } => is_device(count, *device),
         Form::Raw { device, .. } => is_device(count, *device),
+        Form::Air { device, .. } => is_device(count, *device),
+        Form::RawAir { device, .. } => is_device(count, *device),
         _ => true,
     }
 }
 
-/// Whether the payload of a `down` was sent and may reach its device, and the uplink of an `up` was made and is due.
+/// Whether the payload of a `down` was sent and may reach its device, that of an `air` goes out as a frame too, and the uplink
+/// of an `up` was made and is due.
 pub fn has_come(sent: &[SentPayload], uplinks: &[MadeUplink], now: u64, form: &Form) -> bool
     requires sent { length sent.now < 2 ^ 63 }
     requires uplinks { length uplinks.now < 2 ^ 63 }
@@ -94,6 +98,9 @@ pub fn has_come(sent: &[SentPayload], uplinks: &[MadeUplink], now: u64, form: &F
 {
     match form {
         Form::Down { number, device, .. } => may_reach(*device, sent, *number),
+        Form::Air { number, device, .. } => {
+            may_reach(*device, sent, *number) && goes_out(sent, *number)
+        }
         Form::Up { number } => is_due_by(now, uplinks, *number),
         _ => true,
     }
@@ -109,6 +116,26 @@ fn may_reach(device: u64, sent: &[SentPayload], number: u64) -> bool
             None => true,
         },
         None => false,
+    }
+}
+
+/// Whether a sent payload goes out as a frame: it is to a group.
+fn goes_out(sent: &[SentPayload], number: u64) -> bool
+    requires { length sent.now < 2 ^ 63 }
+    ensures { result ≡ goes_out (numbered sent.now number) }
+{
+    match numbered(sent, number) {
+        Some(found) => is_to_group(found.down.to),
+        None => false,
+    }
+}
+
+fn is_to_group(to: To) -> bool
+    ensures { result ≡ is_to_group to }
+{
+    match to {
+        To::Unicast => false,
+        To::Group { .. } => true,
     }
 }
 

@@ -1,14 +1,15 @@
-//! Events at devices: a payload that reaches one, and one that wakes. Its uplinks are then taken.
+//! Events at devices: a payload or bytes of the air that reach one, and one that wakes. Its uplinks are then taken.
 
 ghost use Rattle.std.specs.Prelude.{◌≡◌, ◌≤◌, ◌+◌, length, OnOk, OnErr, vec_len, vec_capacity};
 ghost use Rattle.device_core.specs.Device.{max_moment, outbox_size};
 ghost use Rattle.device_core.specs.Deliver.{delivery, waking};
+ghost use Rattle.device_core.specs.Radio.{radio};
 ghost use Rattle.device_core.specs.Firmware.{after_migration};
 ghost use Rattle.campaign_world.specs.HeldWorld.{OneComesToRest, OnesAreNumbered};
 ghost use Rattle.campaign_world.specs.WorldInside.{StayMade};
 
 use crate::calls::OUTBOX;
-use crate::late::{LateDevice, raise, reach, rouse};
+use crate::late::{LateDevice, air, raise, reach, rouse};
 use crate::numbered::MadeUplink;
 use device_core::Moment;
 use package_grammar::Downlink;
@@ -50,6 +51,35 @@ pub fn deliver(
     }
     let device = &mut devices[id as usize - 1];
     reach(device, alloc, uplinks, id, down, coming)
+}
+
+/// Bytes reach the radio of the device with a number, whose uplinks are taken, oldest first. Where there is no memory for them
+/// the device is not called.
+pub fn hear_bytes(
+    devices: &mut Vec<LateDevice>,
+    alloc: Global,
+    uplinks: &mut Vec<MadeUplink>,
+    id: u8,
+    bytes: &[u8],
+    coming: Moment,
+) -> Result<(), AllocError>
+    requires first { 1 ≤ id }
+    requires last { id ≤ length devices.old.items }
+    requires moment { coming.t ≤ max_moment }
+    ensures count { length devices.new.items ≡ length devices.old.items }
+    ensures made { StayMade id uplinks.old.items uplinks.new.items }
+    ensures devices { OnOk result (OneComesToRest (λ d. (radio coming.t coming.word coming.mark bytes.now d).device) id
+        devices.old.items devices.new.items) }
+    ensures uplinks { OnOk result (OnesAreNumbered (λ d. (radio coming.t coming.word coming.mark bytes.now d).device)
+        devices.old.items id uplinks.old.items uplinks.new.items) }
+    ensures same { OnErr result (devices.new.items ≡ devices.old.items) }
+{
+    match make_room(uplinks) {
+        Ok(()) => {}
+        Err(error) => return Err(error),
+    }
+    let device = &mut devices[id as usize - 1];
+    air(device, alloc, uplinks, id, bytes, coming)
 }
 
 /// The device with a number wakes, and its uplinks are taken, oldest first. Where there is no memory for them the device

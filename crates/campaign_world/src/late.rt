@@ -4,12 +4,13 @@ ghost use Rattle.std.specs.Prelude.{◌≡◌, ◌≤◌, ◌+◌, true, None, O
 ghost use Rattle.device_core.specs.Device.{DeviceState, first_device, is_config, max_moment, outbox_size};
 ghost use Rattle.device_core.specs.HeldDevice.{DeviceStands};
 ghost use Rattle.device_core.specs.Deliver.{delivery, waking};
+ghost use Rattle.device_core.specs.Radio.{radio};
 ghost use Rattle.device_core.specs.Firmware.{after_migration};
 ghost use Rattle.campaign_world.specs.HeldWorld.{ComesToRest, AreNumbered};
 ghost use Rattle.campaign_world.specs.HeldLate.{IsHere, DeviceRests};
 ghost use Rattle.campaign_world.specs.WorldInside.{StayMade};
 
-use crate::calls::{raise_device, reach_device, rouse_device};
+use crate::calls::{air_device, raise_device, reach_device, rouse_device};
 use crate::numbered::MadeUplink;
 use device_core::{Device, DeviceConfig, Moment, ReserveError};
 use package_grammar::Downlink;
@@ -128,6 +129,37 @@ pub fn reach(
         unreachable!()
     };
     reach_device(device, uplinks, id, down, coming);
+    Ok(())
+}
+
+/// Bytes reach the radio of a device, whose uplinks are taken. Where there is no memory for the device nothing happened.
+pub fn air(
+    late: &mut LateDevice,
+    alloc: Global,
+    uplinks: &mut Vec<MadeUplink>,
+    id: u8,
+    bytes: &[u8],
+    coming: Moment,
+) -> Result<(), AllocError>
+    requires first { 1 ≤ id }
+    requires moment { coming.t ≤ max_moment }
+    requires room { vec_len uplinks.old + outbox_size ≤ vec_capacity uplinks.old }
+    ensures made { StayMade id uplinks.old.items uplinks.new.items }
+    ensures rests { OnOk result (ComesToRest DeviceRests
+        (λ d. (radio coming.t coming.word coming.mark bytes.now d).device) late.old late.new) }
+    ensures uplinks { OnOk result (AreNumbered DeviceRests
+        (λ d. (radio coming.t coming.word coming.mark bytes.now d).device) late.old id
+        uplinks.old.items uplinks.new.items) }
+    ensures same { OnErr result (late.new ≡ late.old) }
+{
+    match late.come(alloc) {
+        Ok(()) => {}
+        Err(error) => return Err(error),
+    }
+    let Some(device) = &mut late.came else {
+        unreachable!()
+    };
+    air_device(device, uplinks, id, bytes, coming);
     Ok(())
 }
 

@@ -1,6 +1,6 @@
 -- What holds of the sessions of a device that hears payloads, whoever sent them: each was set up so that there is a file, and
 -- hears what the payloads carry. And a device stays configured as it is.
-use Rattle.std.proofs.Common.{◌≡◌, ℕ, ◌<◌, ◌≤◌, Bool, true, false, cond, ◌==◌, min, List, [], ◌∷◌, length, Option, None, Some, IfSome, is_none, Ok, Err, refl, sym, ◌∙◌, subst, inl, inr, arith, eqb-true}
+use Rattle.std.proofs.Common.{◌≡◌, ℕ, ◌<◌, ◌≤◌, Bool, true, false, cond, ◌==◌, min, List, [], ◌∷◌, length, Option, None, Some, Result, IfSome, is_none, Ok, Err, refl, sym, ◌∙◌, subst, inl, inr, arith, eqb-true}
 use Rattle.std.proofs.lemmas.Bool.{eqb-false}
 use Rattle.wire_base.specs.declared.refusal.Direction.{Direction}
 use Rattle.wire_base.specs.declared.refusal.Direction.TheVariants.{Down}
@@ -19,6 +19,7 @@ use Rattle.frag_session.specs.declared.setups.SetupReq.{SetupReq}
 use Rattle.frag_session.specs.declared.setups.Limits.{Limits}
 use Rattle.frag_session.specs.Session.{Session, new_session, followed, after_fragment, drop_cause}
 use Rattle.frag_session.specs.HeldHistory.{IsSetUp}
+use Rattle.mc_frames.specs.declared.fault.FrameFault.{FrameFault}
 use Rattle.device_core.specs.declared.arrival.Arrival.{Arrival}
 use Rattle.device_core.specs.declared.config.DeviceConfig.{DeviceConfig}
 use Rattle.device_core.specs.declared.delivered.Delivered.{Delivered}
@@ -32,8 +33,8 @@ use Rattle.device_core.specs.Firmware.{version_step, upgrade_step, delete_image_
 use Rattle.device_core.specs.Fragments.{setup_of, setup_step, delete_step, status_step, heard_step, fragment_step}
 use Rattle.device_core.specs.Step.{command_step, acts, step, after_commands}
 use Rattle.device_core.specs.Deliver.{Outcome, message_delivery, read_delivery, arrival, heard_delivery, delivery, waking}
-use Rattle.device_core.specs.Events.{CameInTurn}
-use Rattle.device_core.specs.Events.{Event, Wakes, Receives, Migrates, after_event}
+use Rattle.device_core.specs.Radio.{brought, after_frame, radio}
+use Rattle.device_core.specs.Events.{CameInTurn, Event, Wakes, Receives, HearsBytes, Migrates, after_event}
 use Rattle.device_core.proofs.SessionSteps.{setup_keeps, fragment_keeps}
 use Rattle.device_core.proofs.Stays.{waking_stays}
 
@@ -293,14 +294,30 @@ migration_fine : (carries : ℕ → Command → Type 0) (last : ℕ) (d : Device
 unfolding after_migration
 migration_fine carries last d h = (h.0, h.1, h.2, h.3)
 
--- what a payload carries comes with the line whose number is its mark
-abbrev pub ComesAt : (carries : ℕ → Command → Type 0) → (line : ℕ) → Event → Type 0
-ComesAt carries line (Receives t word mark down) = (mark ≡ line) × AreCarried carries line down
-ComesAt carries line event = Unit {0}
+-- bytes reach its radio: they bring a payload, or are counted
+frame_fine : (carries : ℕ → Command → Type 0) (last more t word : ℕ) (o : Result Downlink FrameFault) (d : DeviceState) → last ≤ more
+    → ((down : Downlink) → o ≡ Ok down → AreCarried carries more down) → AreFine carries last d
+    → AreFine carries more (after_frame t word more o d).device
+frame_fine carries last more t word (Ok down) d le its h = delivery_fine carries last more t word down d le (its down refl) h
+frame_fine carries last more t word (Err fault) d le its h = reboot_fine carries more t d (fine_later carries last more d le h)
+
+radio_fine : (carries : ℕ → Command → Type 0) (last more t word : ℕ) (bytes : List ℕ) (d : DeviceState) → last ≤ more
+    → ((down : Downlink) → brought d bytes ≡ Ok down → AreCarried carries more down) → AreFine carries last d
+    → AreFine carries more (radio t word more bytes d).device
+unfolding radio
+radio_fine carries last more t word bytes d le its h = frame_fine carries last more t word (brought d bytes) d le its h
+
+-- what a payload carries comes with the line whose number is its mark; so does what is opened of bytes, with the keys that
+-- the device has then
+abbrev pub ComesAt : (carries : ℕ → Command → Type 0) → (line : ℕ) → DeviceState → Event → Type 0
+ComesAt carries line device (Receives t word mark down) = (mark ≡ line) × AreCarried carries line down
+ComesAt carries line device (HearsBytes t word mark bytes) =
+    (mark ≡ line) × ((down : Downlink) → brought device bytes ≡ Ok down → AreCarried carries line down)
+ComesAt carries line device event = Unit {0}
 
 -- and it still holds behind any event at a later line
 pub event_fine : (carries : ℕ → Command → Type 0) (last line : ℕ) (d : DeviceState) (e : Event) → last ≤ line
-    → ComesAt carries line e → AreFine carries last d → AreFine carries line (after_event d e)
+    → ComesAt carries line d e → AreFine carries last d → AreFine carries line (after_event d e)
 event_fine carries last line d (Wakes t) le comes h =
     fine_later carries last line (after_event d (Wakes t)) le (waking_fine carries last t d h)
 event_fine carries last line d Migrates le comes h =
@@ -308,6 +325,9 @@ event_fine carries last line d Migrates le comes h =
 event_fine carries last line d (Receives t word mark down) le comes h =
     subst (λ (m : ℕ). AreFine carries line (after_event d (Receives t word m down))) (sym comes.0)
     (delivery_fine carries last line t word down d le comes.1 h)
+event_fine carries last line d (HearsBytes t word mark bytes) le comes h =
+    subst (λ (m : ℕ). AreFine carries line (after_event d (HearsBytes t word m bytes))) (sym comes.0)
+    (radio_fine carries last line t word bytes d le comes.1 h)
 
 -- ---- the configuration stays
 
@@ -372,7 +392,16 @@ migration_config : (d : DeviceState) → (after_migration d).config ≡ d.config
 unfolding after_migration
 migration_config d = refl
 
+frame_config : (t word mark : ℕ) (o : Result Downlink FrameFault) (d : DeviceState) → (after_frame t word mark o d).device.config ≡ d.config
+frame_config t word mark (Ok down) d = delivery_config t word mark down d
+frame_config t word mark (Err fault) d = reboot_config t d
+
+radio_config : (t word mark : ℕ) (bytes : List ℕ) (d : DeviceState) → (radio t word mark bytes d).device.config ≡ d.config
+unfolding radio
+radio_config t word mark bytes d = frame_config t word mark (brought d bytes) d
+
 pub event_config : (d : DeviceState) (e : Event) → (after_event d e).config ≡ d.config
 event_config d (Wakes time) = (waking_stays time d).config
 event_config d Migrates = migration_config d
 event_config d (Receives time word line down) = delivery_config time word line down d
+event_config d (HearsBytes time word line bytes) = radio_config time word line bytes d

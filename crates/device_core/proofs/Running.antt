@@ -32,7 +32,7 @@ use Rattle.device_core.specs.Firmware.{version_step, upgrade_step, delete_image_
 use Rattle.device_core.specs.Step.{acts, command_step, step, after_commands}
 use Rattle.device_core.specs.Deliver.{Outcome, arrival, message_delivery, read_delivery, heard_delivery, delivery, time_asking, waking, with_due_reboot, taking}
 use Rattle.device_core.specs.Radio.{brought, after_frame, radio}
-use Rattle.device_core.specs.Events.{Event, after_event, Wakes, Receives, Migrates}
+use Rattle.device_core.specs.Events.{Event, after_event, Wakes, Receives, HearsBytes, Migrates}
 use Rattle.device_core.specs.Running.{Call, Delivers, Airs, Wakes as Awakes, Takes, Raises, after_call, after_calls, after_events, RunsNone, RunsImage, RunsImagesAlone}
 
 -- ---- the two slots
@@ -278,6 +278,7 @@ event_keeps : (d : DeviceState) (event : Event) → Keeps d (after_event d event
 event_keeps d Migrates = emptied d _ (migration_keeps d)
 event_keeps d (Wakes time) = emptied d _ (waking_keeps time d)
 event_keeps d (Receives time word line down) = emptied d _ (delivery_keeps time word line down d)
+event_keeps d (HearsBytes time word line bytes) = emptied d _ (radio_keeps time word line bytes d)
 
 events_keep : (d : DeviceState) (events : List Event) → Keeps d (after_events d events)
 events_keep d [] = same d d refl refl

@@ -1,5 +1,5 @@
--- What happens at a device, whoever brings it about (this project's profile): it wakes, a payload reaches it, or it learns
--- an image format; and when what a session heard came in turn.
+-- What happens at a device, whoever brings it about (this project's profile): it wakes, a payload or bytes of the air reach
+-- it, or it learns an image format; and when what a session heard came in turn.
 use Rattle.std.specs.Prelude.{ℕ, ◌≤◌, List, [], ◌∷◌}
 use Rattle.frag_model.specs.Fragments.{Fragment}
 use Rattle.cast_wire.specs.declared.cmd.Cmd.TheVariants.{DataFragment}
@@ -9,12 +9,14 @@ use Rattle.package_grammar.specs.declared.downlink.Downlink.{Downlink}
 use Rattle.device_core.specs.Device.{DeviceState}
 use Rattle.device_core.specs.Deliver.{delivery, waking}
 use Rattle.device_core.specs.Firmware.{after_migration}
+use Rattle.device_core.specs.Radio.{radio}
 
--- at a time in ms it wakes, or a payload reaches it, with a random word and at a line of the script; or it knows both image
--- formats from now on
+-- at a time in ms it wakes, or a payload reaches it, or bytes reach its radio, with a random word and at a line of the script;
+-- or it knows both image formats from now on
 pub data Event : Type 0 where
   Wakes : (time : ℕ) → Event
   Receives : (time word line : ℕ) → Downlink → Event
+  HearsBytes : (time word line : ℕ) → (bytes : List ℕ) → Event
   Migrates : Event
 
 -- the device behind an event, its uplinks in its outbox
@@ -22,6 +24,7 @@ abbrev pub event_step : DeviceState → Event → DeviceState
 event_step device Migrates = after_migration device
 event_step device (Wakes time) = (waking time device).device
 event_step device (Receives time word line down) = (delivery time word line down device).device
+event_step device (HearsBytes time word line bytes) = (radio time word line bytes device).device
 
 -- behind each event all its uplinks are taken
 abbrev pub uplinks_taken : DeviceState → DeviceState

@@ -33,6 +33,11 @@ forms = record {
   raw = refl;
   raw_with_word = refl;
   raw_of_nothing = refl;
+  air = refl;
+  air_with_word = refl;
+  raw_air = refl;
+  raw_air_with_word = refl;
+  raw_air_of_nothing = refl;
   up = refl;
   end = refl;
 }

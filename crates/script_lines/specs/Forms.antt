@@ -3,7 +3,7 @@ use Rattle.std.specs.Prelude.{ℕ, ◌-◌, Bool, true, false, ◌&&◌, ◌==�
 use Rattle.script_lines.specs.declared.forms.Class.{Class}
 use Rattle.script_lines.specs.declared.forms.Class.TheVariants as class
 use Rattle.script_lines.specs.declared.forms.Form.{Form}
-use Rattle.script_lines.specs.declared.forms.Form.TheVariants.{Header, Image, Group, WindowC, WindowB, Device, At, Wake, Migrate, Ask, Frag, Status, Down, Raw, Up, End}
+use Rattle.script_lines.specs.declared.forms.Form.TheVariants.{Header, Image, Group, WindowC, WindowB, Device, At, Wake, Migrate, Ask, Frag, Status, Down, Raw, Air, RawAir, Up, End}
 use Rattle.script_lines.specs.Lines.{words_of, word, is_word}
 use Rattle.script_lines.specs.Numbers.{decimal_of, key_of, hex_number_of, hex_bytes_of, ◌>>=◌}
 
@@ -162,6 +162,27 @@ raw_form line =
     else if count_of line == 5 then decimal_at line 4 >>= (λ random. raw_words line random)
     else None
 
+-- air S D [WORD], as down has it
+abbrev pub in_the_air : Option Form → Option Form
+in_the_air (Some (Down number device random)) = Some (Air number device random)
+in_the_air form = None
+
+abbrev pub air_form : List ℕ → Option Form
+air_form line = in_the_air (down_form line)
+
+-- rawair D HEX, with WORD behind it or none, which is 0
+abbrev pub raw_air_words : List ℕ → ℕ → Option Form
+raw_air_words line random = do
+  device ← decimal_at line 1
+  bytes ← bytes_at line 2
+  Some (RawAir device bytes random)
+
+abbrev pub raw_air_form : List ℕ → Option Form
+raw_air_form line =
+    if count_of line == 3 then raw_air_words line 0
+    else if count_of line == 4 then decimal_at line 3 >>= (λ random. raw_air_words line random)
+    else None
+
 -- ---- the form that a line spells, if any
 
 unfoldable pub form_of : List ℕ → Option Form
@@ -179,6 +200,8 @@ form_of line =
     else if is_word line 0 (codes "status") then alone line Status
     else if is_word line 0 (codes "down") then down_form line
     else if is_word line 0 (codes "raw") then raw_form line
+    else if is_word line 0 (codes "air") then air_form line
+    else if is_word line 0 (codes "rawair") then raw_air_form line
     else if is_word line 0 (codes "up") then up_form line
     else if is_word line 0 (codes "end") then alone line End
     else None

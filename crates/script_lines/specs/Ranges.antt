@@ -1,7 +1,7 @@
 -- The ranges of a form's numbers, but for what depends on the image or on the lines before (this project's profile).
 use Rattle.std.specs.Prelude.{ℕ, ◌^◌, Bool, true, ◌&&◌, nat_le, nat_lt}
 use Rattle.script_lines.specs.declared.forms.Form.{Form}
-use Rattle.script_lines.specs.declared.forms.Form.TheVariants.{Image, Group, WindowC, WindowB, Device, At, Down, Raw}
+use Rattle.script_lines.specs.declared.forms.Form.TheVariants.{Image, Group, WindowC, WindowB, Device, At, Down, Raw, Air, RawAir}
 use Rattle.script_lines.specs.Limits.{max_time, max_frag_size, max_parity, max_rows, max_devices}
 
 -- a number below 2^32
@@ -24,4 +24,6 @@ in_range (Device id class hw rows offset key descriptor v1 k11) = is_device id h
 in_range (At time) = nat_le time max_time
 in_range (Down number device word) = is_u32 word
 in_range (Raw device port payload word) = nat_le port 255 && is_u32 word
+in_range (Air number device word) = is_u32 word
+in_range (RawAir device bytes word) = is_u32 word
 in_range form = true

@@ -1,7 +1,7 @@
 -- Lines of a script, each with the form that it spells, or with none.
 use Rattle.std.specs.Prelude.{◌≡◌, ◌-◌, ◌^◌, true, false, [], ◌∷◌, codes, Some, None}
 use Rattle.script_lines.specs.declared.forms.Class.TheVariants as class
-use Rattle.script_lines.specs.declared.forms.Form.TheVariants.{Header, Image, Group, WindowC, WindowB, Device, At, Wake, Migrate, Ask, Frag, Status, Down, Raw, Up, End}
+use Rattle.script_lines.specs.declared.forms.Form.TheVariants.{Header, Image, Group, WindowC, WindowB, Device, At, Wake, Migrate, Ask, Frag, Status, Down, Raw, Air, RawAir, Up, End}
 use Rattle.script_lines.specs.Lines.{lines_of, words_of}
 use Rattle.script_lines.specs.Numbers.{decimal_of, hex_number_of}
 use Rattle.script_lines.specs.Forms.{form_of}
@@ -40,6 +40,11 @@ pub record AreForms : Type 0 where
   pub raw : form_of (codes "raw 7 201 0801") ≡ Some (Raw 7 201 (8 ∷ 1 ∷ []) 0)
   pub raw_with_word : form_of (codes "raw 7 255 0a0B 12") ≡ Some (Raw 7 255 (10 ∷ 11 ∷ []) 12)
   pub raw_of_nothing : form_of (codes "raw 7 204 -") ≡ Some (Raw 7 204 [] 0)
+  pub air : form_of (codes "air 3 7") ≡ Some (Air 3 7 0)
+  pub air_with_word : form_of (codes "air 3 7 12") ≡ Some (Air 3 7 12)
+  pub raw_air : form_of (codes "rawair 7 60fF") ≡ Some (RawAir 7 (0x60 ∷ 0xff ∷ []) 0)
+  pub raw_air_with_word : form_of (codes "rawair 7 60 12") ≡ Some (RawAir 7 (0x60 ∷ []) 12)
+  pub raw_air_of_nothing : form_of (codes "rawair 7 -") ≡ Some (RawAir 7 [] 0)
   pub up : form_of (codes "up 3") ≡ Some (Up 3)
   pub end : form_of (codes "end") ≡ Some End
 

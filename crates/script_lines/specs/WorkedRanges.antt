@@ -2,7 +2,7 @@
 use Rattle.std.specs.Prelude.{◌≡◌, ℕ, ◌+◌, ◌-◌, ◌^◌, true, false, [], length, replicate, Some, None}
 use Rattle.script_lines.specs.declared.forms.Class.TheVariants as class
 use Rattle.script_lines.specs.declared.forms.Form.{Form}
-use Rattle.script_lines.specs.declared.forms.Form.TheVariants.{Header, Image, Group, WindowC, WindowB, Device, At, Wake, Migrate, Ask, Frag, Status, Down, Raw, Up, End}
+use Rattle.script_lines.specs.declared.forms.Form.TheVariants.{Header, Image, Group, WindowC, WindowB, Device, At, Wake, Migrate, Ask, Frag, Status, Down, Raw, Air, RawAir, Up, End}
 use Rattle.script_lines.specs.Limits.{max_lines}
 use Rattle.script_lines.specs.Numbers.{hex_bytes_of}
 use Rattle.script_lines.specs.Pieces.{cut}
@@ -75,6 +75,10 @@ pub record AreRanges : Type 0 where
   pub port_beyond : in_range (Raw 1 256 [] 0) ≡ false
   pub last_raw_word : in_range (Raw 1 0 [] (2 ^ 32 - 1)) ≡ true
   pub raw_word_beyond : in_range (Raw 1 0 [] (2 ^ 32)) ≡ false
+  pub last_air_word : in_range (Air 1 1 (2 ^ 32 - 1)) ≡ true
+  pub air_word_beyond : in_range (Air 1 1 (2 ^ 32)) ≡ false
+  pub last_raw_air_word : in_range (RawAir 1 [] (2 ^ 32 - 1)) ≡ true
+  pub raw_air_word_beyond : in_range (RawAir 1 [] (2 ^ 32)) ≡ false
   -- which device, payload or uplink a line names is looked at elsewhere, and a keyword alone has no number
   pub header : in_range Header ≡ true
   pub any_wake : in_range (Wake (2 ^ 64 - 1)) ≡ true
@@ -84,6 +88,8 @@ pub record AreRanges : Type 0 where
   pub status : in_range Status ≡ true
   pub any_down : in_range (Down (2 ^ 64 - 1) (2 ^ 64 - 1) 0) ≡ true
   pub any_raw : in_range (Raw (2 ^ 64 - 1) 0 [] 0) ≡ true
+  pub any_air : in_range (Air (2 ^ 64 - 1) (2 ^ 64 - 1) 0) ≡ true
+  pub any_raw_air : in_range (RawAir (2 ^ 64 - 1) [] 0) ≡ true
   pub any_up : in_range (Up (2 ^ 64 - 1)) ≡ true
   pub end : in_range End ≡ true
 

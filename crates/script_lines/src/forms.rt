@@ -94,6 +94,20 @@ pub enum Form<'a> {
         payload: HexBytes<'a>,
         word: u64,
     },
+    /// `air S D [WORD]`: sent payload S, one to the group, reaches the radio of device D as its frame, with a random word that is
+    /// 0 where it is left out.
+    Air {
+        number: u64,
+        device: u64,
+        word: u64,
+    },
+    /// `rawair D HEX [WORD]`: these bytes, whoever made them, reach the radio of device D, with a random word that is 0 where it
+    /// is left out.
+    RawAir {
+        device: u64,
+        bytes: HexBytes<'a>,
+        word: u64,
+    },
     /// `up U`: uplink U reaches the server.
     Up {
         number: u64,

@@ -24,7 +24,6 @@ pub use forms::{Class, Form, Key};
 pub use hearing::{HearsLine, hear_last, hear_piece};
 pub use hex_bytes::{HexBytes, MAX_HEX_BYTES};
 pub use laws::{worked_lines, worked_ranges};
-pub use lines::first_line;
 pub use numbers::decimal;
 pub use pieces::{Cut, Lines};
 pub use ranges::in_range;

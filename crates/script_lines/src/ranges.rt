@@ -57,6 +57,8 @@ pub fn in_range(form: &Form) -> bool
         Form::At { time } => time <= MAX_TIME,
         Form::Down { word, .. } => is_u32(word),
         Form::Raw { port, word, .. } => port <= MAX_PORT && is_u32(word),
+        Form::Air { word, .. } => is_u32(word),
+        Form::RawAir { word, .. } => is_u32(word),
         _ => true,
     }
 }

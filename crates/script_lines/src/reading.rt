@@ -2,7 +2,7 @@
 
 ghost use Rattle.std.specs.Prelude.{◌≡◌};
 ghost use Rattle.std.specs.Str.{bytes_eq};
-ghost use Rattle.script_lines.specs.Forms.{form_of, alone, header_form, image_form, group_form, window_form, window_c_form, window_b_form, device_form, device_of_words, device_words, at_form, wake_form, migrate_form, ask_form, down_form, down_words, raw_form, raw_words, up_form, class_at};
+ghost use Rattle.script_lines.specs.Forms.{form_of, alone, header_form, image_form, group_form, window_form, window_c_form, window_b_form, device_form, device_of_words, device_words, at_form, wake_form, migrate_form, ask_form, down_form, down_words, raw_form, raw_words, air_form, raw_air_form, raw_air_words, up_form, class_at};
 
 use crate::forms::{Class, Form};
 use crate::hex_bytes::HexBytes;
@@ -66,6 +66,10 @@ fn any_form(line: &[u8]) -> Option<Form<'_>>
         down_form(line)
     } else if is_keyword(keyword, "raw") {
         raw_form(line)
+    } else if is_keyword(keyword, "air") {
+        air_form(line)
+    } else if is_keyword(keyword, "rawair") {
+        raw_air_form(line)
     } else if is_keyword(keyword, "up") {
         up_form(line)
     } else if is_keyword(keyword, "end") {
@@ -356,6 +360,54 @@ fn raw_words(line: &[u8], random: u64) -> Option<Form<'_>>
         device,
         port,
         payload,
+        word: random,
+    })
+}
+
+/// `air S D [WORD]`
+#[inline(never)]
+fn air_form(line: &[u8]) -> Option<Form<'_>>
+    ensures { result ≡ air_form line.now }
+{
+    match down_form(line) {
+        Some(
+            Form::Down {
+                number,
+                device,
+                word,
+            },
+        ) => Some(Form::Air {
+            number,
+            device,
+            word,
+        }),
+        _ => None,
+    }
+}
+
+/// `rawair D HEX [WORD]`
+#[inline(never)]
+fn raw_air_form(line: &[u8]) -> Option<Form<'_>>
+    ensures { result ≡ raw_air_form line.now }
+{
+    match count_words(line) {
+        3 => raw_air_words(line, 0),
+        4 => {
+            let random = decimal(word(line, 3))?;
+            raw_air_words(line, random)
+        }
+        _ => None,
+    }
+}
+
+fn raw_air_words(line: &[u8], random: u64) -> Option<Form<'_>>
+    ensures { result ≡ raw_air_words line.now random }
+{
+    let device = decimal(word(line, 1))?;
+    let bytes = HexBytes::read(word(line, 2))?;
+    Some(Form::RawAir {
+        device,
+        bytes,
         word: random,
     })
 }

@@ -1,6 +1,6 @@
 //! Events, over the server that the plan's end made.
 
-ghost use Rattle.std.specs.Prelude.{◌≡◌, ◌≤◌, ◌<◌, ◌+◌, ◌-◌, ◌++◌, true, length, None, Some, Ok, Err, IfOk, OnOk, OnErr, vec_len, vec_capacity};
+ghost use Rattle.std.specs.Prelude.{◌≡◌, ◌≤◌, ◌<◌, ◌+◌, ◌-◌, ◌++◌, ◌^◌, true, length, None, Some, Ok, Err, IfOk, OnOk, OnErr, option_map, vec_len, vec_capacity};
 ghost use Rattle.campaign_server.specs.Server.{ServerState};
 ghost use Rattle.wire_base.specs.Numbered.{numbered};
 ghost use Rattle.script_lines.specs.Limits.{max_lines};
@@ -11,18 +11,19 @@ ghost use Rattle.campaign_server.specs.Asking.{request_of};
 ghost use Rattle.campaign_server.specs.Fragments.{next_fragment, after_fragment, status_to_all, after_status_to_all};
 ghost use Rattle.campaign_server.specs.Uplinks.{uplink_step};
 ghost use Rattle.campaign_server.specs.Sent.{down_of};
-ghost use Rattle.campaign_world.specs.Making.{with_sent, with_event, reception, raw_down, after_up, at_events, after_form};
-ghost use Rattle.device_core.specs.Events.{Wakes, Receives, Migrates};
+ghost use Rattle.campaign_world.specs.Making.{with_sent, with_event, reception, raw_down, sent_frame, hearing, after_up, at_events, after_form};
+ghost use Rattle.device_core.specs.Events.{Wakes, Receives, HearsBytes, Migrates};
 ghost use Rattle.campaign_world.specs.HeldWorld.{sent_by, answered};
 ghost use Rattle.campaign_world.specs.declared.numbered.SentPayload.{SentPayload};
 ghost use Rattle.campaign_world.specs.declared.numbered.MadeUplink.{MadeUplink};
 
 use super::World;
-use crate::deliveries::{deliver, migrate, wake};
+use crate::deliveries::{deliver, hear_bytes, migrate, wake};
 use crate::numbered::{MadeUplink, SentPayload, numbered};
 use crate::section::Section;
 use campaign_server::{Plan, Server, ServerError};
 use device_core::Moment;
+use mc_frames::Frame;
 use package_grammar::{Downlink, To};
 use script_lines::{Form, HexBytes, MAX_HEX_BYTES};
 use std::alloc::{AllocError, Global};
@@ -120,6 +121,16 @@ impl World {
                 payload,
                 word,
             } => self.raw(*device as u8, &raw_down(*port as u8, payload), *word as u32),
+            Form::Air {
+                number,
+                device,
+                word,
+            } => self.air(*number, *device as u8, *word as u32),
+            Form::RawAir {
+                device,
+                bytes,
+                word,
+            } => self.raw_air(*device as u8, bytes, *word as u32),
             Form::Up { number } => self.up(*number),
             Form::End => {
                 self.section = Section::Ended;
@@ -296,6 +307,77 @@ impl World {
         )
     }
 
+    /// Sent payload S reaches the radio of a device as its frame, and its uplinks are then numbered, oldest first.
+    fn air(&mut self, number: u64, device: u8, word: u32) -> Result<(), AllocError>
+        requires first { 1 ≤ device }
+        requires last { device ≤ length self.old.devices }
+        requires room { self.old.lines < max_lines }
+        requires begun { (s : ServerState) × (self.old.server ≡ Some s) }
+        ensures taken { OnOk result (WorldBecomes self.old self.new (λ world. with_event world device
+            (hearing world.time word (world.lines + 1)
+            (sent_frame world.server.plan.group (numbered world.sent number))))) }
+        ensures kept { self.new.kept ≡ self.old.kept }
+        ensures lines { self.new.lines ≡ self.old.lines }
+        ensures ends { OnErr result (KeepsEnds self.old self.new) }
+    {
+        let Some(server) = &self.server else {
+            unreachable!()
+        };
+        match sent_frame(server, &self.sent, number) {
+            Some(frame) => self.hear(device, &frame, word),
+            None => {
+                self.section = Section::Events;
+                Ok(())
+            }
+        }
+    }
+
+    /// Anybody's bytes reach the radio of a device.
+    fn raw_air(&mut self, device: u8, bytes: &HexBytes, word: u32) -> Result<(), AllocError>
+        requires first { 1 ≤ device }
+        requires last { device ≤ length self.old.devices }
+        requires room { self.old.lines < max_lines }
+        requires begun { (s : ServerState) × (self.old.server ≡ Some s) }
+        ensures taken { OnOk result (WorldBecomes self.old self.new
+            (λ world. with_event world device (Some (HearsBytes world.time word (world.lines + 1) bytes.now)))) }
+        ensures kept { self.new.kept ≡ self.old.kept }
+        ensures lines { self.new.lines ≡ self.old.lines }
+        ensures ends { OnErr result (KeepsEnds self.old self.new) }
+    {
+        let mut spelled = [0; MAX_HEX_BYTES];
+        let count = bytes.put(&mut spelled);
+        self.hear(device, &spelled[..count], word)
+    }
+
+    /// Bytes reach the radio of a device, whose uplinks are then numbered, oldest first.
+    fn hear(&mut self, device: u8, bytes: &[u8], word: u32) -> Result<(), AllocError>
+        requires first { 1 ≤ device }
+        requires last { device ≤ length self.old.devices }
+        requires room { self.old.lines < max_lines }
+        requires begun { (s : ServerState) × (self.old.server ≡ Some s) }
+        ensures taken { OnOk result (WorldBecomes self.old self.new
+            (λ world. with_event world device (Some (HearsBytes world.time word (world.lines + 1) bytes.now)))) }
+        ensures kept { self.new.kept ≡ self.old.kept }
+        ensures lines { self.new.lines ≡ self.old.lines }
+        ensures ends { OnErr result (KeepsEnds self.old self.new) }
+    {
+        self.section = Section::Events;
+        let mark = mark_behind(self.lines);
+        let coming = Moment {
+            t: self.time,
+            word,
+            mark,
+        };
+        hear_bytes(
+            &mut self.devices,
+            self.alloc,
+            &mut self.uplinks,
+            device,
+            bytes,
+            coming,
+        )
+    }
+
     /// Uplink U reaches the server, which may answer.
     fn up(&mut self, number: u64) -> Result<(), AllocError>
         requires made { (m : MadeUplink) × (numbered self.old.uplinks number ≡ Some m) }
@@ -336,6 +418,18 @@ fn copy_of(alloc: Global, plan: &Plan) -> Result<Plan, AllocError>
             devices,
         }),
         Err(error) => Err(error),
+    }
+}
+
+/// The frame of a sent payload, where it has one.
+fn sent_frame(server: &Server, sent: &[SentPayload], number: u64) -> Option<Frame>
+    requires { length sent.now < 2 ^ 63 }
+    ensures { option_map (λ frame. frame.items) result
+        ≡ sent_frame server.now.plan.group (numbered sent.now number) }
+{
+    match numbered(sent, number) {
+        Some(found) if server.has_frame(&found.down) => Some(server.frame(&found.down)),
+        _ => None,
     }
 }
 

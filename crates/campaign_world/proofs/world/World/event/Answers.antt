@@ -1,7 +1,7 @@
 use Rattle.std.proofs.Common.{◌≡◌, Some, arith, sym, subst}
 use Rattle.campaign_server.specs.Server.{ServerState}
 use Rattle.campaign_world.specs.HeldWorld.{HeldWorld}
-use Rattle.campaign_world.proofs.FormCauses.{woken_within, migrated_within, asked_within, reached_within, struck_within, striking, payload_within, word_within, time_within}
+use Rattle.campaign_world.proofs.FormCauses.{woken_within, migrated_within, asked_within, reached_within, struck_within, striking, payload_within, word_within, air_word_within, raw_air_word_within, time_within}
 use Rattle.campaign_world.proofs.world.World.event.Goals as goal
 
 pub invariant_of-self : goal.invariant_of-self
@@ -41,3 +41,9 @@ overflow_cast-word-in-Raw c = let fits = striking _ _ _ _ _ c.requires.ranges c.
 
 pub raw_down-requires : goal.raw_down-requires
 raw_down-requires c = payload_within _ _ _ _ _ c.requires.fits c.in-Raw.is
+
+pub overflow_cast-word-in-Air : goal.overflow_cast-word-in-Air
+overflow_cast-word-in-Air c = let small = air_word_within _ _ _ _ c.requires.ranges c.in-Air.is in omega (arith, small)
+
+pub overflow_cast-word-in-RawAir : goal.overflow_cast-word-in-RawAir
+overflow_cast-word-in-RawAir c = let small = raw_air_word_within _ _ _ _ c.requires.ranges c.in-RawAir.is in omega (arith, small)

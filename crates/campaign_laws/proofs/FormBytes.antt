@@ -1,0 +1,168 @@
+-- The keys and addresses that the words of a line spell fit their fields.
+use Rattle.std.proofs.Common.{◌≡◌, ℕ, ◌+◌, ◌*◌, ◌-◌, ◌/◌, ◌%◌, ◌^◌, ◌<◌, ◌==◌, Bool, true, false, cond, List, [], ◌∷◌, length, get_or, codes, Option, None, Some, IfSome, Result, Ok, Err, refl, sym, ap, ◌∙◌, subst, arith, eqb-true}
+use Rattle.std.specs.Int.{w32, from_be_bytes}
+use Rattle.hex.specs.declared.error.FromHexError.{FromHexError}
+use Rattle.hex.specs.declared.error.FromHexError.TheVariants.{OddLength, InvalidStringLength}
+use Rattle.hex.specs.Hex.{decode_pairs}
+use Rattle.hex.proofs.HexLemmas.{decode_pairs-ok}
+use Rattle.aes_block.specs.Cipher.{IsBlock}
+use Rattle.script_lines.specs.declared.forms.Form.{Form}
+use Rattle.script_lines.specs.declared.forms.Form.TheVariants.{Header, Image, Group, WindowC, WindowB, Device, At, Wake, Migrate, Ask, Frag, Status, Down, Raw, Air, RawAir, Up, End}
+use Rattle.script_lines.specs.Lines.{word}
+use Rattle.script_lines.specs.Numbers.{key_of, hex_number_of, read_part, ◌>>=◌}
+use Rattle.script_lines.specs.Forms.{decimal_at, hex_at, key_at, bytes_at, class_at, header_form, image_form, group_form, window_form, device_words, device_of_words, device_form, down_form, raw_words, raw_form, in_the_air, air_form, raw_air_words, raw_air_form, form_of}
+
+-- ---- what hex digits spell
+
+record AreSized (n : ℕ) (bytes : List ℕ) : Type 0 where
+  long : length bytes ≡ n
+  fit : (i : ℕ) → get_or bytes i 0 < 256
+
+pairs_sized : (n : ℕ) (digits : List ℕ) (r : Result (List ℕ) FromHexError) → decode_pairs 0 digits ≡ r → length digits / 2 ≡ n
+    → IfSome (read_part r) (AreSized n)
+pairs_sized n digits (Err e) is half = tt
+pairs_sized n digits (Ok bytes) is half =
+    let p = decode_pairs-ok 0 digits bytes is in
+    record { long = omega (arith, p.1, half); fit = p.2 }
+
+sized : (n : ℕ) (digits : List ℕ) (a b : Bool) → (length digits / 2 == n) ≡ b
+    → IfSome (read_part (cond {A = Result (List ℕ) FromHexError} a (Err OddLength)
+    (cond b (decode_pairs 0 digits) (Err InvalidStringLength)))) (AreSized n)
+sized n digits true b is = tt
+sized n digits false true is = pairs_sized n digits (decode_pairs 0 digits) refl (eqb-true _ _ is)
+sized n digits false false is = tt
+
+-- a key of 16 bytes
+block_by : (o : Option (List ℕ)) → IfSome o (AreSized 16) → IfSome o IsBlock
+block_by None s = tt
+block_by (Some bytes) s = record { len = s.long; bytes_fit = s.fit }
+
+key_block : (digits : List ℕ) → IfSome (key_of digits) IsBlock
+unfolding key_of
+key_block digits = block_by _ (sized 16 digits _ _ refl)
+
+-- a number of 4 bytes
+number_small : (bytes : List ℕ) → AreSized 4 bytes → from_be_bytes w32 bytes < 2 ^ 32
+number_small (a ∷ b ∷ c ∷ d ∷ []) s =
+    omega (arith, s.fit 0, s.fit 1, s.fit 2, s.fit 3)
+number_small [] s = absurd (omega (arith, s.long))
+number_small (a ∷ []) s = absurd (omega (arith, s.long))
+number_small (a ∷ b ∷ []) s = absurd (omega (arith, s.long))
+number_small (a ∷ b ∷ c ∷ []) s = absurd (omega (arith, s.long))
+number_small (a ∷ b ∷ c ∷ d ∷ e ∷ more) s = absurd (omega (arith, s.long))
+
+small_by : (o : Option (List ℕ)) → IfSome o (AreSized 4) → IfSome (o >>= (λ bytes. Some (from_be_bytes w32 bytes))) (λ n. n < 2 ^ 32)
+small_by None s = tt
+small_by (Some bytes) s = number_small bytes s
+
+hex_small : (digits : List ℕ) → IfSome (hex_number_of digits) (λ n. n < 2 ^ 32)
+unfolding hex_number_of
+hex_small digits = small_by _ (sized 4 digits _ _ refl)
+
+-- ---- forms
+
+-- the key and the address of a form fit
+abbrev pub HasBytes : Form → Type 0
+HasBytes (Group addr key min max) = (addr < 2 ^ 32) × IsBlock key
+HasBytes (Device id class hw rows offset key descriptor v1 k11) = IsBlock key
+HasBytes form = Unit {0}
+
+abbrev Fits : Option Form → Type 0
+Fits o = IfSome o HasBytes
+
+either : (b : Bool) (one other : Option Form) → Fits one → Fits other → Fits (cond b one other)
+either true one other k l = k
+either false one other k l = l
+
+behind : {A : Type 0} (o : Option A) (f : A → Option Form) → ((x : A) → o ≡ Some x → Fits (f x)) → Fits (o >>= f)
+behind None f h = tt
+behind (Some x) f h = h x refl
+
+at_some : {A : Type 0} (P : A → Type 0) (o : Option A) (x : A) → IfSome o P → o ≡ Some x → P x
+at_some P o x k is = let here : IfSome (Some x) P = subst (λ (y : Option A). IfSome y P) is k in here
+
+group_fits : (line : List ℕ) → Fits (group_form line)
+group_fits line = either _ _ None
+    (behind (hex_at line 1) _ (λ addr addr_is. behind (key_at line 2) _ (λ key key_is. behind (decimal_at line 3) _ (λ min min_is.
+    behind (decimal_at line 4) _ (λ max max_is. (
+      at_some (λ (n : ℕ). n < 2 ^ 32) (hex_at line 1) addr (hex_small (word line 1)) addr_is,
+      at_some IsBlock (key_at line 2) key (key_block (word line 2)) key_is,
+    )))))) tt
+
+device_words_fit : (line : List ℕ) (descriptor : Option ℕ) (v1 k11 : Bool) → Fits (device_words line descriptor v1 k11)
+device_words_fit line descriptor v1 k11 =
+    behind (decimal_at line 1) _ (λ id id_is. behind (class_at line 2) _ (λ class class_is. behind (decimal_at line 3) _ (λ hw hw_is.
+    behind (decimal_at line 4) _ (λ rows rows_are. behind (decimal_at line 5) _ (λ offset offset_is.
+    behind (key_at line 6) _ (λ key key_is. at_some IsBlock (key_at line 6) key (key_block (word line 6)) key_is))))))
+
+device_of_words_fit : (line : List ℕ) (count : ℕ) (k11 : Bool) → Fits (device_of_words line count k11)
+device_of_words_fit line count k11 =
+    either _ _ _ (device_words_fit line None false k11)
+    (either _ _ _ (device_words_fit line None true k11)
+    (either _ _ _ (behind (hex_at line 7) _ (λ d is. device_words_fit line (Some d) false k11))
+    (either _ _ None (behind (hex_at line 7) _ (λ d is. device_words_fit line (Some d) true k11)) tt)))
+
+device_fits : (line : List ℕ) → Fits (device_form line)
+device_fits line = either _ _ _ (device_of_words_fit line _ true) (device_of_words_fit line _ false)
+
+image_fits : (line : List ℕ) → Fits (image_form line)
+image_fits line = either _ _ None (behind (decimal_at line 1) _ (λ size is. behind (decimal_at line 2) _ (λ parity parity_is. tt))) tt
+
+window_fits : (line : List ℕ) → Fits (window_form line)
+window_fits line = either _ _ _
+    (behind (decimal_at line 2) _ (λ a ai. behind (decimal_at line 3) _ (λ b bi. behind (decimal_at line 4) _ (λ c ci.
+    behind (decimal_at line 5) _ (λ d di. tt)))))
+    (either _ _ None (behind (decimal_at line 2) _ (λ a ai. behind (decimal_at line 3) _ (λ b bi. behind (decimal_at line 4) _ (λ c ci.
+    behind (decimal_at line 5) _ (λ d di. behind (decimal_at line 6) _ (λ e ei. tt)))))) tt)
+
+lone_fits : (line : List ℕ) (b : Bool) (form : ℕ → Form) → ((n : ℕ) → HasBytes (form n))
+    → Fits (cond b (decimal_at line 1 >>= (λ n. Some (form n))) None)
+lone_fits line b form h = either b _ None (behind (decimal_at line 1) _ (λ n is. h n)) tt
+
+alone_fits : (b : Bool) (form : Form) → HasBytes form → Fits (cond b (Some form) None)
+alone_fits b form h = either b _ None h tt
+
+air_fits : (o : Option Form) → Fits (in_the_air o)
+air_fits None = tt
+air_fits (Some (Down number device random)) = tt
+air_fits (Some form) = tt
+
+down_fits : (line : List ℕ) → Fits (down_form line)
+down_fits line =
+    either _ _ _ (behind (decimal_at line 1) _ (λ n is. behind (decimal_at line 2) _ (λ d di. tt)))
+    (either _ _ None (behind (decimal_at line 3) _ (λ r ri. behind (decimal_at line 1) _ (λ n is. behind (decimal_at line 2) _ (λ d di. tt)))) tt)
+
+raw_fits : (line : List ℕ) → Fits (raw_form line)
+raw_fits line =
+    either _ _ _ (words 0) (either _ _ None (behind (decimal_at line 4) _ (λ r ri. words r)) tt)
+  where
+    words : (random : ℕ) → Fits (raw_words line random)
+    words random = behind (decimal_at line 1) _ (λ d di. behind (decimal_at line 2) _ (λ p pi. behind (bytes_at line 3) _ (λ b bi. tt)))
+
+raw_air_fits : (line : List ℕ) → Fits (raw_air_form line)
+raw_air_fits line =
+    either _ _ _ (words 0) (either _ _ None (behind (decimal_at line 3) _ (λ r ri. words r)) tt)
+  where
+    words : (random : ℕ) → Fits (raw_air_words line random)
+    words random = behind (decimal_at line 1) _ (λ d di. behind (bytes_at line 2) _ (λ b bi. tt))
+
+pub form_fits : (line : List ℕ) → Fits (form_of line)
+unfolding form_of
+form_fits line =
+    either _ (header_form line) _ (alone_fits _ Header tt)
+    (either _ (image_form line) _ (image_fits line)
+    (either _ (group_form line) _ (group_fits line)
+    (either _ (window_form line) _ (window_fits line)
+    (either _ (device_form line) _ (device_fits line)
+    (either _ _ _ (lone_fits line _ (λ n. At n) (λ n. tt))
+    (either _ _ _ (lone_fits line _ (λ n. Wake n) (λ n. tt))
+    (either _ _ _ (lone_fits line _ (λ n. Migrate n) (λ n. tt))
+    (either _ _ _ (lone_fits line _ (λ n. Ask n) (λ n. tt))
+    (either _ _ _ (alone_fits _ Frag tt)
+    (either _ _ _ (alone_fits _ Status tt)
+    (either _ (down_form line) _ (down_fits line)
+    (either _ (raw_form line) _ (raw_fits line)
+    (either _ (air_form line) _ (air_fits (down_form line))
+    (either _ (raw_air_form line) _ (raw_air_fits line)
+    (either _ _ _ (lone_fits line _ (λ n. Up n) (λ n. tt))
+    (either _ _ None (alone_fits _ End tt) tt))))))))))))))))
