@@ -34,6 +34,8 @@ use Rattle.script_lines.specs.Ranges.{in_range}
 use Rattle.script_lines.specs.Forms.{form_of}
 use Rattle.report_lines.specs.declared.faults.LineWhy.{LineWhy}
 use Rattle.report_lines.specs.declared.faults.LineWhy.TheVariants as why
+use Rattle.campaign_world.specs.declared.section.Section.{Section}
+use Rattle.campaign_world.specs.declared.section.Section.TheVariants as section
 use Rattle.campaign_world.specs.declared.numbered.SentPayload.{SentPayload}
 use Rattle.campaign_world.specs.World.{WorldState, first_world}
 use Rattle.campaign_world.specs.Honest.{is_raw}
@@ -197,7 +199,7 @@ by_way : (image : List ℕ) (w : WorldState) (number n word : ℕ) (way : To) (d
 by_way image w number n word to.Unicast d p bytes cut k there got is out sent =
     absurd (true≢false (sym out ∙ ap is_to_group is))
 by_way image w number n word (to.Group addr count) d p bytes cut k there got is out sent =
-    let framed = (all_numbered (IsKept w.server.plan) w.sent number p k.sent got).framed addr count is in
+    let framed = (all_numbered (IsKept w.server.plan) w.sent number p k.kept got).framed addr count is in
     by_group image w number n word addr count w.server.plan.group d p bytes cut refl (k.own n d there) k.fit.group there got is
     framed.0 framed.1 sent
 
@@ -222,22 +224,39 @@ second_of : (a b : Bool) → (a && b) ≡ true → b ≡ true
 second_of true b is = is
 second_of false b is = absurd cc
 
+may_alike : (here : Section) (number n word : ℕ) → may_come here (Air number n word) ≡ may_come here (Down number n word)
+may_alike section.Header number n word = refl
+may_alike section.Image number n word = refl
+may_alike section.Group number n word = refl
+may_alike section.Window number n word = refl
+may_alike section.Device number n word = refl
+may_alike section.Devices number n word = refl
+may_alike section.Events number n word = refl
+may_alike section.Ended number n word = refl
+
+-- the causes up to that of what was not sent
+abbrev up_to_sent : (may ranged names sent : Bool) → Option LineWhy
+up_to_sent may ranged names sent =
+    cond (not may) (Some why.Order) (cond (not ranged) (Some why.Range) (cond (not names) (Some why.Device)
+    (cond (not sent) (Some why.Unsent) None)))
+
+less_sent : (may ranged names one more : Bool) → up_to_sent may ranged names (one && more) ≡ None → up_to_sent may ranged names one ≡ None
+less_sent true true true true more is = refl
+less_sent true true true false more is = absurd cc
+less_sent true true false one more is = absurd cc
+less_sent true false names one more is = absurd cc
+less_sent false ranged names one more is = absurd cc
+
 pub down_fine : (w : WorldState) (number n word : ℕ) → form_cause w (Air number n word) ≡ None
     → form_cause w (Down number n word) ≡ None
 unfolding form_cause in_range
 down_fine w number n word fine =
-    by (may_come w.section (Air number n word)) (in_range (Air number n word) && true) (names_device (length w.devices) (Air number n word))
-    (may_reach n (numbered w.sent number)) (goes_out (numbered w.sent number)) fine
-  where
-    by : (a b c d e : Bool) → cond (not a) (Some why.Order) (cond (not b) (Some why.Range) (cond (not c) (Some why.Device)
-        (cond (not (d && e)) (Some why.Unsent) None))) ≡ None
-        → cond (not a) (Some why.Order) (cond (not b) (Some why.Range) (cond (not c) (Some why.Device)
-        (cond (not d) (Some why.Unsent) None))) ≡ None
-    by true true true true e is = refl
-    by true true true false e is = absurd cc
-    by true true false d e is = absurd cc
-    by true false c d e is = absurd cc
-    by false b c d e is = absurd cc
+    let ranged : Bool = in_range (Down number n word) && true in
+    let names : Bool = names_device (length w.devices) (Down number n word) in
+    let one : Bool = may_reach n (numbered w.sent number) in
+    let more : Bool = goes_out (numbered w.sent number) in
+    less_sent (may_come w.section (Down number n word)) ranged names one more
+    (subst (λ (may : Bool). up_to_sent may ranged names (one && more) ≡ None) (may_alike w.section number n word) fine)
 
 air_there : (o : Option SentPayload) (n : ℕ) → (may_reach n o && goes_out o) ≡ true → (p : SentPayload) × (o ≡ Some p) × (goes_out (Some p) ≡ true)
 air_there None n is = absurd cc

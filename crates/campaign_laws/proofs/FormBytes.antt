@@ -1,5 +1,5 @@
 -- The keys and addresses that the words of a line spell fit their fields.
-use Rattle.std.proofs.Common.{◌≡◌, ℕ, ◌+◌, ◌*◌, ◌-◌, ◌/◌, ◌%◌, ◌^◌, ◌<◌, ◌==◌, Bool, true, false, cond, List, [], ◌∷◌, length, get_or, codes, Option, None, Some, IfSome, Result, Ok, Err, refl, sym, ap, ◌∙◌, subst, arith, eqb-true}
+use Rattle.std.proofs.Common.{◌≡◌, ℕ, ◌+◌, ◌*◌, ◌-◌, ◌/◌, ◌%◌, ◌^◌, ◌<◌, ◌==◌, ◌&&◌, Bool, true, false, cond, List, [], ◌∷◌, length, get_or, codes, Option, None, Some, IfSome, Result, Ok, Err, refl, sym, ap, ◌∙◌, subst, arith, eqb-true}
 use Rattle.std.specs.Int.{w32, from_be_bytes}
 use Rattle.hex.specs.declared.error.FromHexError.{FromHexError}
 use Rattle.hex.specs.declared.error.FromHexError.TheVariants.{OddLength, InvalidStringLength}
@@ -8,9 +8,9 @@ use Rattle.hex.proofs.HexLemmas.{decode_pairs-ok}
 use Rattle.aes_block.specs.Cipher.{IsBlock}
 use Rattle.script_lines.specs.declared.forms.Form.{Form}
 use Rattle.script_lines.specs.declared.forms.Form.TheVariants.{Header, Image, Group, WindowC, WindowB, Device, At, Wake, Migrate, Ask, Frag, Status, Down, Raw, Air, RawAir, Up, End}
-use Rattle.script_lines.specs.Lines.{word}
+use Rattle.script_lines.specs.Lines.{word, is_word}
 use Rattle.script_lines.specs.Numbers.{key_of, hex_number_of, read_part, ◌>>=◌}
-use Rattle.script_lines.specs.Forms.{decimal_at, hex_at, key_at, bytes_at, class_at, header_form, image_form, group_form, window_form, device_words, device_of_words, device_form, down_form, raw_words, raw_form, in_the_air, air_form, raw_air_words, raw_air_form, form_of}
+use Rattle.script_lines.specs.Forms.{count_of, alone, at_form, wake_form, migrate_form, ask_form, up_form, decimal_at, hex_at, key_at, bytes_at, class_at, header_form, image_form, group_form, window_form, device_words, device_of_words, device_form, down_words, down_form, raw_words, raw_form, in_the_air, air_form, raw_air_words, raw_air_form, form_of}
 
 -- ---- what hex digits spell
 
@@ -67,102 +67,122 @@ HasBytes (Group addr key min max) = (addr < 2 ^ 32) × IsBlock key
 HasBytes (Device id class hw rows offset key descriptor v1 k11) = IsBlock key
 HasBytes form = Unit {0}
 
-abbrev Fits : Option Form → Type 0
-Fits o = IfSome o HasBytes
+record Fits (o : Option Form) : Type 0 where
+  its : IfSome o HasBytes
+
+leaf : (form : Form) → HasBytes form → Fits (Some form)
+leaf form fits = record { its = fits }
+
+nothing : Fits None
+nothing = record { its = tt }
 
 either : (b : Bool) (one other : Option Form) → Fits one → Fits other → Fits (cond b one other)
 either true one other k l = k
 either false one other k l = l
 
 behind : {A : Type 0} (o : Option A) (f : A → Option Form) → ((x : A) → o ≡ Some x → Fits (f x)) → Fits (o >>= f)
-behind None f h = tt
+behind None f h = nothing
 behind (Some x) f h = h x refl
 
 at_some : {A : Type 0} (P : A → Type 0) (o : Option A) (x : A) → IfSome o P → o ≡ Some x → P x
-at_some P o x k is = let here : IfSome (Some x) P = subst (λ (y : Option A). IfSome y P) is k in here
+at_some P None x k is = absurd cc
+at_some P (Some y) x k is = let same : y ≡ x = cc in subst P same k
 
 group_fits : (line : List ℕ) → Fits (group_form line)
 group_fits line = either _ _ None
     (behind (hex_at line 1) _ (λ addr addr_is. behind (key_at line 2) _ (λ key key_is. behind (decimal_at line 3) _ (λ min min_is.
-    behind (decimal_at line 4) _ (λ max max_is. (
+    behind (decimal_at line 4) _ (λ max max_is. leaf (Group addr key min max) (
       at_some (λ (n : ℕ). n < 2 ^ 32) (hex_at line 1) addr (hex_small (word line 1)) addr_is,
       at_some IsBlock (key_at line 2) key (key_block (word line 2)) key_is,
-    )))))) tt
+    )))))) nothing
 
 device_words_fit : (line : List ℕ) (descriptor : Option ℕ) (v1 k11 : Bool) → Fits (device_words line descriptor v1 k11)
 device_words_fit line descriptor v1 k11 =
     behind (decimal_at line 1) _ (λ id id_is. behind (class_at line 2) _ (λ class class_is. behind (decimal_at line 3) _ (λ hw hw_is.
     behind (decimal_at line 4) _ (λ rows rows_are. behind (decimal_at line 5) _ (λ offset offset_is.
-    behind (key_at line 6) _ (λ key key_is. at_some IsBlock (key_at line 6) key (key_block (word line 6)) key_is))))))
+    behind (key_at line 6) _ (λ key key_is. leaf (Device id class hw rows offset key descriptor v1 k11) (at_some IsBlock (key_at line 6) key (key_block (word line 6)) key_is)))))))
 
 device_of_words_fit : (line : List ℕ) (count : ℕ) (k11 : Bool) → Fits (device_of_words line count k11)
 device_of_words_fit line count k11 =
     either _ _ _ (device_words_fit line None false k11)
     (either _ _ _ (device_words_fit line None true k11)
     (either _ _ _ (behind (hex_at line 7) _ (λ d is. device_words_fit line (Some d) false k11))
-    (either _ _ None (behind (hex_at line 7) _ (λ d is. device_words_fit line (Some d) true k11)) tt)))
+    (either _ _ None (behind (hex_at line 7) _ (λ d is. device_words_fit line (Some d) true k11)) nothing)))
 
 device_fits : (line : List ℕ) → Fits (device_form line)
-device_fits line = either _ _ _ (device_of_words_fit line _ true) (device_of_words_fit line _ false)
+device_fits line =
+    either _ _ _ (device_of_words_fit line (count_of line - 1) true) (device_of_words_fit line (count_of line) false)
 
 image_fits : (line : List ℕ) → Fits (image_form line)
-image_fits line = either _ _ None (behind (decimal_at line 1) _ (λ size is. behind (decimal_at line 2) _ (λ parity parity_is. tt))) tt
+image_fits line = either _ _ None (behind (decimal_at line 1) _ (λ size is. behind (decimal_at line 2) _ (λ parity parity_is. leaf (Image size parity) tt))) nothing
 
 window_fits : (line : List ℕ) → Fits (window_form line)
 window_fits line = either _ _ _
     (behind (decimal_at line 2) _ (λ a ai. behind (decimal_at line 3) _ (λ b bi. behind (decimal_at line 4) _ (λ c ci.
-    behind (decimal_at line 5) _ (λ d di. tt)))))
+    behind (decimal_at line 5) _ (λ d di. leaf (WindowC a b c d) tt)))))
     (either _ _ None (behind (decimal_at line 2) _ (λ a ai. behind (decimal_at line 3) _ (λ b bi. behind (decimal_at line 4) _ (λ c ci.
-    behind (decimal_at line 5) _ (λ d di. behind (decimal_at line 6) _ (λ e ei. tt)))))) tt)
+    behind (decimal_at line 5) _ (λ d di. behind (decimal_at line 6) _ (λ e ei. leaf (WindowB a b c d e) tt)))))) nothing)
 
 lone_fits : (line : List ℕ) (b : Bool) (form : ℕ → Form) → ((n : ℕ) → HasBytes (form n))
     → Fits (cond b (decimal_at line 1 >>= (λ n. Some (form n))) None)
-lone_fits line b form h = either b _ None (behind (decimal_at line 1) _ (λ n is. h n)) tt
+lone_fits line b form h = either b _ None (behind (decimal_at line 1) _ (λ n is. leaf (form n) (h n))) nothing
 
 alone_fits : (b : Bool) (form : Form) → HasBytes form → Fits (cond b (Some form) None)
-alone_fits b form h = either b _ None h tt
+alone_fits b form h = either b (Some form) None (leaf form h) nothing
 
 air_fits : (o : Option Form) → Fits (in_the_air o)
-air_fits None = tt
-air_fits (Some (Down number device random)) = tt
-air_fits (Some form) = tt
+air_fits None = nothing
+air_fits (Some (Down number device random)) = leaf (Air number device random) tt
+air_fits (Some form) = nothing
+
+down_words_fit : (line : List ℕ) (random : ℕ) → Fits (down_words line random)
+down_words_fit line random =
+    behind (decimal_at line 1) _ (λ n is. behind (decimal_at line 2) _ (λ d di. leaf (Down n d random) tt))
 
 down_fits : (line : List ℕ) → Fits (down_form line)
 down_fits line =
-    either _ _ _ (behind (decimal_at line 1) _ (λ n is. behind (decimal_at line 2) _ (λ d di. tt)))
-    (either _ _ None (behind (decimal_at line 3) _ (λ r ri. behind (decimal_at line 1) _ (λ n is. behind (decimal_at line 2) _ (λ d di. tt)))) tt)
+    either _ (down_words line 0) _ (down_words_fit line 0)
+    (either _ _ None (behind (decimal_at line 3) _ (λ r ri. down_words_fit line r)) nothing)
+
+raw_words_fit : (line : List ℕ) (random : ℕ) → Fits (raw_words line random)
+raw_words_fit line random =
+    behind (decimal_at line 1) _ (λ d di. behind (decimal_at line 2) _ (λ p pi. behind (bytes_at line 3) _ (λ b bi.
+    leaf (Raw d p b random) tt)))
 
 raw_fits : (line : List ℕ) → Fits (raw_form line)
 raw_fits line =
-    either _ _ _ (words 0) (either _ _ None (behind (decimal_at line 4) _ (λ r ri. words r)) tt)
-  where
-    words : (random : ℕ) → Fits (raw_words line random)
-    words random = behind (decimal_at line 1) _ (λ d di. behind (decimal_at line 2) _ (λ p pi. behind (bytes_at line 3) _ (λ b bi. tt)))
+    either _ (raw_words line 0) _ (raw_words_fit line 0)
+    (either _ _ None (behind (decimal_at line 4) _ (λ r ri. raw_words_fit line r)) nothing)
+
+raw_air_words_fit : (line : List ℕ) (random : ℕ) → Fits (raw_air_words line random)
+raw_air_words_fit line random =
+    behind (decimal_at line 1) _ (λ d di. behind (bytes_at line 2) _ (λ b bi. leaf (RawAir d b random) tt))
 
 raw_air_fits : (line : List ℕ) → Fits (raw_air_form line)
 raw_air_fits line =
-    either _ _ _ (words 0) (either _ _ None (behind (decimal_at line 3) _ (λ r ri. words r)) tt)
-  where
-    words : (random : ℕ) → Fits (raw_air_words line random)
-    words random = behind (decimal_at line 1) _ (λ d di. behind (bytes_at line 2) _ (λ b bi. tt))
+    either _ (raw_air_words line 0) _ (raw_air_words_fit line 0)
+    (either _ _ None (behind (decimal_at line 3) _ (λ r ri. raw_air_words_fit line r)) nothing)
 
-pub form_fits : (line : List ℕ) → Fits (form_of line)
+all_fit : (line : List ℕ) → Fits (form_of line)
 unfolding form_of
-form_fits line =
-    either _ (header_form line) _ (alone_fits _ Header tt)
-    (either _ (image_form line) _ (image_fits line)
-    (either _ (group_form line) _ (group_fits line)
-    (either _ (window_form line) _ (window_fits line)
-    (either _ (device_form line) _ (device_fits line)
-    (either _ _ _ (lone_fits line _ (λ n. At n) (λ n. tt))
-    (either _ _ _ (lone_fits line _ (λ n. Wake n) (λ n. tt))
-    (either _ _ _ (lone_fits line _ (λ n. Migrate n) (λ n. tt))
-    (either _ _ _ (lone_fits line _ (λ n. Ask n) (λ n. tt))
-    (either _ _ _ (alone_fits _ Frag tt)
-    (either _ _ _ (alone_fits _ Status tt)
-    (either _ (down_form line) _ (down_fits line)
-    (either _ (raw_form line) _ (raw_fits line)
-    (either _ (air_form line) _ (air_fits (down_form line))
-    (either _ (raw_air_form line) _ (raw_air_fits line)
-    (either _ _ _ (lone_fits line _ (λ n. Up n) (λ n. tt))
-    (either _ _ None (alone_fits _ End tt) tt))))))))))))))))
+all_fit line =
+    either (is_word line 0 (codes "fuota")) (header_form line) _ (alone_fits (count_of line == 2 && is_word line 1 (codes "1")) Header tt)
+    (either (is_word line 0 (codes "image")) (image_form line) _ (image_fits line)
+    (either (is_word line 0 (codes "group")) (group_form line) _ (group_fits line)
+    (either (is_word line 0 (codes "window")) (window_form line) _ (window_fits line)
+    (either (is_word line 0 (codes "device")) (device_form line) _ (device_fits line)
+    (either (is_word line 0 (codes "at")) (at_form line) _ (lone_fits line (count_of line == 2) (λ n. At n) (λ n. tt))
+    (either (is_word line 0 (codes "wake")) (wake_form line) _ (lone_fits line (count_of line == 2) (λ n. Wake n) (λ n. tt))
+    (either (is_word line 0 (codes "migrate")) (migrate_form line) _ (lone_fits line (count_of line == 2) (λ n. Migrate n) (λ n. tt))
+    (either (is_word line 0 (codes "ask")) (ask_form line) _ (lone_fits line (count_of line == 2) (λ n. Ask n) (λ n. tt))
+    (either (is_word line 0 (codes "frag")) (alone line Frag) _ (alone_fits (count_of line == 1) Frag tt)
+    (either (is_word line 0 (codes "status")) (alone line Status) _ (alone_fits (count_of line == 1) Status tt)
+    (either (is_word line 0 (codes "down")) (down_form line) _ (down_fits line)
+    (either (is_word line 0 (codes "raw")) (raw_form line) _ (raw_fits line)
+    (either (is_word line 0 (codes "air")) (air_form line) _ (air_fits (down_form line))
+    (either (is_word line 0 (codes "rawair")) (raw_air_form line) _ (raw_air_fits line)
+    (either (is_word line 0 (codes "up")) (up_form line) _ (lone_fits line (count_of line == 2) (λ n. Up n) (λ n. tt))
+    (either (is_word line 0 (codes "end")) (alone line End) _ (alone_fits (count_of line == 1) End tt) nothing))))))))))))))))
+
+pub form_fits : (line : List ℕ) → IfSome (form_of line) HasBytes
+form_fits line = (all_fit line).its

@@ -35,10 +35,10 @@ use Rattle.campaign_server.specs.declared.stage.Stage.TheVariants.{At, Updated, 
 use Rattle.campaign_server.specs.declared.stage.Request.TheVariants as request
 use Rattle.campaign_server.specs.declared.fragments.Spent.{Spent}
 use Rattle.campaign_server.specs.declared.fragments.Spent.TheVariants.{Fragments, Counts}
-use Rattle.campaign_server.specs.Plan.{Plan, fits_bits, own_id}
+use Rattle.campaign_server.specs.Plan.{Plan, fits_bits, own_id, session_index}
 use Rattle.campaign_server.specs.Server.{ServerState, DownlinkCommand, first_count, port_of, downlink_of, ledger}
 use Rattle.campaign_server.specs.Wrapping.{wrapped_key}
-use Rattle.campaign_server.specs.Asking.{cast_of, group_request, window_request_of, window_request, request_at, command_for, by_unicast, request_of}
+use Rattle.campaign_server.specs.Asking.{cast_of, group_request, fragments_request, window_request_of, window_request, request_at, command_for, by_unicast, request_of}
 use Rattle.campaign_server.specs.Fragments.{receivers, has_no_count, next_count, after_count, next_fragment, after_fragment, status_to_all, after_status_to_all}
 use Rattle.campaign_server.specs.Time.{time_answer_to, first_answer, time_answer}
 use Rattle.campaign_server.specs.Uplinks.{with_answers}
@@ -281,10 +281,11 @@ request_kept : (plan : Plan) (image : List ℕ) (n : ℕ) (k : PlanDevice) (stag
 unfolding request_at
 request_kept plan image n k (At request.Version) fit at = sync_kept plan (Some n) s.DevVersionReq
 request_kept plan image n k (At request.Group) fit at = group_kept plan n k plan.group refl fit.group at
-request_kept plan image n k (At request.Fragments) fit at = away_kept plan (Some n) _ (inl refl)
+request_kept plan image n k (At request.Fragments) fit at = away_kept plan (Some n) (Cast (fragments_request plan image)) (inl refl)
 request_kept plan image n k (At request.Window) fit at =
     window_kept plan n (own_id plan.group) plan.window (own_is plan.group) fit.window
-request_kept plan image n k (At request.Status) fit at = away_kept plan (Some n) _ (inl refl)
+request_kept plan image n k (At request.Status) fit at =
+    away_kept plan (Some n) (Cast (FragSessionStatusReq (session_index plan) true)) (inl refl)
 request_kept plan image n k (At request.Image) fit at = sync_kept plan (Some n) s.DevUpgradeImageReq
 request_kept plan image n k (At request.Reboot) fit at = sync_kept plan (Some n) (s.DevRebootCountdownReq 0)
 request_kept plan image n k (At request.Check) fit at = sync_kept plan (Some n) s.DevVersionReq
@@ -393,5 +394,5 @@ pub record IsKeyed (lines : ℕ) (here : Section) (server : ServerState) (ds : L
   pub fresh : is_planning here ≡ true → (id : ℕ) (d : DeviceState) → numbered ds id ≡ Some d → (k : ℕ) → group_at d.groups k ≡ None
   pub own : (id : ℕ) (d : DeviceState) → numbered ds id ≡ Some d → HasOwn server.plan.group d.groups
   pub planned : (id : ℕ) (d : DeviceState) → numbered ds id ≡ Some d → IsPlanned server.plan id d.config × IsBlock d.config.key
-  pub sent : AllByRecursion (IsKept server.plan) sent
+  pub kept : AllByRecursion (IsKept server.plan) sent
   pub next : IsNext server.plan.group server.count lines

@@ -76,7 +76,7 @@ plan_keyed w plan next here fit devices k = record {
   planned = λ id d there.
       let its = k.planned id d there in
       (subst (λ (ds : List PlanDevice). numbered ds id ≡ Some (record { key = d.config.key; root = d.config.root })) (sym devices) its.0, its.1);
-  sent = subst (AllByRecursion (IsKept plan)) (sym (k.none_sent here)) tt;
+  kept = subst (AllByRecursion (IsKept plan)) (sym (k.none_sent here)) tt;
   next = first_next plan.group (w.lines + 1) fit.group;
 }
 
@@ -101,7 +101,7 @@ joined_keyed w config here key k = record {
   fresh = λ still. unset;
   own = λ id d there i g is. let none : Path (Option _) None (Some g) = sym (unset id d there i) ∙ is in absurd cc;
   planned = both;
-  sent = subst (AllByRecursion (IsKept _)) (sym (k.none_sent here)) tt;
+  kept = subst (AllByRecursion (IsKept _)) (sym (k.none_sent here)) tt;
   next = first_next w.server.plan.group (w.lines + 1) k.fit.group;
 }
   where
@@ -126,7 +126,9 @@ joined_keyed w config here key k = record {
       | inr last ↦
           let is : new ≡ d = (let e : Some new ≡ Some d = sym last.1 ∙ there in cc) in
           let at : id ≡ length w.server.plan.devices + 1 = last.2 ∙ ap (λ (n : ℕ). n + 1) (sym k.even) in
-          subst (λ (x : DeviceState). IsPlanned _ id x.config × IsBlock x.config.key) is (pushed id at, key)
+          subst (λ (x : DeviceState). IsPlanned
+          (record w.server.plan { devices = w.server.plan.devices ++ record { key = config.key; root = config.root } ∷ [] }) id x.config
+          × IsBlock x.config.key) is (pushed id at, key)
     ]
       where
         pushed : (id : ℕ) → id ≡ length w.server.plan.devices + 1
@@ -148,7 +150,7 @@ still_keyed lines here next server ds sent early k = record {
   fresh = λ plan. k.fresh (early plan);
   own = k.own;
   planned = k.planned;
-  sent = k.sent;
+  kept = k.kept;
   next = next_later server.plan.group server.count lines k.next;
 }
 
@@ -174,7 +176,7 @@ device_keyed w n d e first there own k = record {
         (subst (λ (c : DeviceConfig). IsPlanned w.server.plan n c × IsBlock c.key) (sym (event_config d e)) its))
     | inr other ↦ k.planned id x (sym other ∙ is)
   ];
-  sent = k.sent;
+  kept = k.kept;
   next = next_later w.server.plan.group w.server.count w.lines k.next;
 }
   where
@@ -203,7 +205,7 @@ sends_keyed w s to None same next kept k = record {
   fresh = λ plan. absurd (true≢false (sym plan));
   own = λ id d there. subst (λ (p : Plan). HasOwn p.group d.groups) (sym same) (k.own id d there);
   planned = λ id d there. subst (λ (p : Plan). IsPlanned p id d.config × IsBlock d.config.key) (sym same) (k.planned id d there);
-  sent = subst (λ (p : Plan). AllByRecursion (IsKept p) w.sent) (sym same) k.sent;
+  kept = subst (λ (p : Plan). AllByRecursion (IsKept p) w.sent) (sym same) k.kept;
   next = next;
 }
 sends_keyed w s to (Some down) same next kept k = record {
@@ -213,8 +215,8 @@ sends_keyed w s to (Some down) same next kept k = record {
   fresh = λ plan. absurd (true≢false (sym plan));
   own = λ id d there. subst (λ (p : Plan). HasOwn p.group d.groups) (sym same) (k.own id d there);
   planned = λ id d there. subst (λ (p : Plan). IsPlanned p id d.config × IsBlock d.config.key) (sym same) (k.planned id d there);
-  sent = subst (λ (p : Plan). AllByRecursion (IsKept p) (w.sent ++ record { receiver = to; down = downlink_of down } ∷ [])) (sym same)
-      (more_kept w.server.plan w.sent _ k.sent kept);
+  kept = subst (λ (p : Plan). AllByRecursion (IsKept p) (w.sent ++ record { receiver = to; down = downlink_of down } ∷ [])) (sym same)
+      (more_kept w.server.plan w.sent _ k.kept kept);
   next = next;
 }
 
@@ -240,7 +242,7 @@ reached_keyed : (w : WorldState) (number n word : ℕ) (d : DeviceState) (p : Se
 reached_keyed w number n word d p first there got may k =
     let e : Event = Receives w.time word (w.lines + 1) p.down in
     let its = k.planned n d there in
-    let kept = all_numbered (IsKept w.server.plan) w.sent number p k.sent got in
+    let kept = all_numbered (IsKept w.server.plan) w.sent number p k.kept got in
     let own = delivery_own w.server.plan.group w.time word (w.lines + 1) p.down d (kept.own n d.config may its.0 its.1)
     (k.own n d there) in
     rw (there, got) (device_keyed w n d e first there own k)
@@ -356,6 +358,6 @@ first_keyed image = record {
   fresh = λ plan id d there. absurd (nobody_there id d there);
   own = λ id d there. absurd (nobody_there id d there);
   planned = λ id d there. absurd (nobody_there id d there);
-  sent = tt;
+  kept = tt;
   next = tt;
 }

@@ -5,7 +5,7 @@ use Rattle.wire_base.specs.declared.refusal.Direction.TheVariants.{Down}
 use Rattle.wire_base.specs.Rows.{IsListed}
 use Rattle.cast_wire.specs.declared.cmd.Cmd.{Cmd as CastCmd}
 use Rattle.cast_wire.specs.declared.cmd.Cmd.TheVariants as c
-use Rattle.sync_wire.specs.declared.cmd.Cmd.{Cmd as SyncCmd}
+use Rattle.sync_wire.specs.declared.cmd.Cmd.TheVariants as s
 use Rattle.package_grammar.specs.declared.command.Command.{Command}
 use Rattle.package_grammar.specs.declared.command.Command.TheVariants.{Sync, Cast}
 use Rattle.package_grammar.specs.declared.downlink.Downlink.{Downlink}
@@ -103,6 +103,7 @@ command_mild own at m (Cast (c.McGroupDeleteReq id)) mild h = delete_mild own at
 command_mild own at m (Cast (c.FragSessionSetupReq index mask nb_frag frag_size algo delay padding descriptor)) mild h = h
 command_mild own at m (Cast (c.FragSessionDeleteReq index)) mild h = h
 command_mild own at m (Cast (c.DataFragment index n part)) mild h = device_either own _ _ _ h h
+command_mild own at m (Sync s.DevVersionReq) mild h = h
 command_mild own at m x mild h = h
 
 step_mild : (own : Option PlanGroup) (at : Arrival) (m : DeviceState) (x : Command) → IsMild own m.config x → HasOwn own m.groups
@@ -135,7 +136,7 @@ room_own own m e n true k l = k
 room_own own m e n false k l = l
 
 -- what is read of a payload
-abbrev IsMildReading : Option PlanGroup → DeviceConfig → Reading → Type 0
+abbrev pub IsMildReading : Option PlanGroup → DeviceConfig → Reading → Type 0
 IsMildReading own config (Ok []) = Unit {0}
 IsMildReading own config (Ok (x ∷ [])) = IsMild own config x
 IsMildReading own config (Ok xs) = AllByRecursion IsNoSetup xs

@@ -1,5 +1,5 @@
 -- Behind the first event the plan's group stays.
-use Rattle.std.proofs.Common.{◌≡◌, ℕ, ◌+◌, Bool, true, false, cond, Option, None, Some, is_ok, is_some, Result, Ok, Err, refl, sym, ap, ◌∙◌}
+use Rattle.std.proofs.Common.{◌≡◌, ℕ, ◌+◌, Bool, true, false, cond, List, Option, None, Some, is_ok, is_some, Result, Ok, Err, refl, sym, ap, ◌∙◌}
 use Rattle.std.specs.Result.{result_ok}
 use Rattle.wire_base.specs.declared.refusal.Direction.TheVariants.{Up as Upwards}
 use Rattle.package_grammar.specs.declared.command.Command.{Command}
@@ -51,24 +51,24 @@ plan_by : (s counted : ServerState) (b : Bool) → counted.plan ≡ s.plan → (
 plan_by s counted true same = same
 plan_by s counted false same = refl
 
-fragment_plan : (s : ServerState) → (after_fragment s).plan ≡ s.plan
+pub fragment_plan : (s : ServerState) → (after_fragment s).plan ≡ s.plan
 unfolding after_fragment
 fragment_plan s = plan_by s _ (is_ok (next_fragment s)) refl
 
-status_plan : (s : ServerState) → (after_status_to_all s).plan ≡ s.plan
+pub status_plan : (s : ServerState) → (after_status_to_all s).plan ≡ s.plan
 unfolding after_status_to_all
 status_plan s = plan_by s _ (is_some (status_to_all s)) refl
 
-answers_plan : (s : ServerState) (dev : ℕ) (cs : List Command) (stage : Option Stage) → (with_answers s dev cs stage).plan ≡ s.plan
+pub answers_plan : (s : ServerState) (dev : ℕ) (cs : List Command) (stage : Option Stage) → (with_answers s dev cs stage).plan ≡ s.plan
 answers_plan s dev cs None = refl
 answers_plan s dev cs (Some stage) = refl
 
 -- ---- what stays
 
 -- behind an event the plan is what it was
-record IsSettled (w v : WorldState) : Type 0 where
-  over : is_planning v.section ≡ false
-  plan : v.server.plan ≡ w.server.plan
+pub record IsSettled (w v : WorldState) : Type 0 where
+  pub over : is_planning v.section ≡ false
+  pub plan : v.server.plan ≡ w.server.plan
 
 abbrev same_server : (w v : WorldState) → v.server ≡ w.server → v.server.plan ≡ w.server.plan
 same_server w v same = ap (λ (s : ServerState). s.plan) same

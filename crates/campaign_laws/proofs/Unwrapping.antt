@@ -104,25 +104,17 @@ cipher_block key x key_is is =
     add_round_key-block _ (round_key key 10) (shift_rows-block _ (sub_bytes-block _ (round_block key x 9 key_is is)))
     (words_from-block key 40 key_is)
 
-zeros : IsBlock (replicate 16 0)
-zeros = record { len = refl; bytes_fit = nought }
-  where
-    nought : (i : ℕ) → get_or (replicate 16 0) i 0 < 256
-    nought i = none_above 16 i
+none_above : (n i : ℕ) → get_or (replicate n 0) i 0 < 256
+none_above zero i = omega arith
+none_above (suc n) zero = omega arith
+none_above (suc n) (suc i) = none_above n i
 
-    none_above : (n i : ℕ) → get_or (replicate n 0) i 0 < 256
-    none_above zero i = omega arith
-    none_above (suc n) zero = omega arith
-    none_above (suc n) (suc i) = none_above n i
+zeros : IsBlock (replicate 16 0)
+zeros = record { len = refl; bytes_fit = λ i. none_above 16 i }
 
 root_block : IsBlock (0x20 ∷ replicate 15 0)
 root_block = record { len = refl; bytes_fit = small }
   where
-    none_above : (n i : ℕ) → get_or (replicate n 0) i 0 < 256
-    none_above zero i = omega arith
-    none_above (suc n) zero = omega arith
-    none_above (suc n) (suc i) = none_above n i
-
     small : (i : ℕ) → get_or (0x20 ∷ replicate 15 0) i 0 < 256
     small zero = omega arith
     small (suc i) = none_above 15 i
