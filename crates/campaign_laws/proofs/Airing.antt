@@ -224,7 +224,7 @@ second_of : (a b : Bool) → (a && b) ≡ true → b ≡ true
 second_of true b is = is
 second_of false b is = absurd cc
 
-may_alike : (here : Section) (number n word : ℕ) → may_come here (Air number n word) ≡ may_come here (Down number n word)
+pub may_alike : (here : Section) (number n word : ℕ) → may_come here (Air number n word) ≡ may_come here (Down number n word)
 may_alike section.Header number n word = refl
 may_alike section.Image number n word = refl
 may_alike section.Group number n word = refl
@@ -235,7 +235,7 @@ may_alike section.Events number n word = refl
 may_alike section.Ended number n word = refl
 
 -- the causes up to that of what was not sent
-abbrev up_to_sent : (may ranged names sent : Bool) → Option LineWhy
+abbrev pub up_to_sent : (may ranged names sent : Bool) → Option LineWhy
 up_to_sent may ranged names sent =
     cond (not may) (Some why.Order) (cond (not ranged) (Some why.Range) (cond (not names) (Some why.Device)
     (cond (not sent) (Some why.Unsent) None)))

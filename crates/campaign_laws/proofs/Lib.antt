@@ -24,6 +24,7 @@ pub mod Keyed
 pub mod KeyedLines
 pub mod Airing
 pub mod HonestLines
+pub mod AirLaw
 pub mod LedgerSlots
 pub mod LedgerDevices
 pub mod LedgerServers

@@ -9,3 +9,4 @@ pub mod Recovers
 pub mod Accepted
 pub mod Once
 pub mod OnceInWorld
+pub mod Airing

@@ -9,6 +9,7 @@ ghost use Rattle.campaign_laws.specs.Verdicts.{Verdicts};
 ghost use Rattle.campaign_laws.specs.WorkedCampaigns.{AreCauses, AreCounted, AreRefused, AreReported, AreSessions};
 ghost use Rattle.campaign_laws.specs.Accepted.{AllSeedsHaveCampaigns};
 ghost use Rattle.campaign_laws.specs.Once.{MovesOnce, PastMovesNone};
+ghost use Rattle.campaign_laws.specs.Airing.{AirIsDown};
 
 /// Whatever image and accepted honest script there are: the session of each device hears what the script brings, it is complete from
 /// the first heard fragment on after which one file alone fits, that file is the server's image, and the report says so.
@@ -78,4 +79,11 @@ pub fn a_past_answer_moves_none()
 /// before it are honest.
 pub fn an_uplink_moves_once()
     ensures { MovesOnce }
+{}
+
+/// Whatever image and accepted honest script there are: `air` in the place of `down`, at payloads to the group, leaves the campaign
+/// as it is, and so its report.
+#[tactic(auto, using(crate::proofs::AirLaw::air_is_down))]
+pub fn air_is_down()
+    ensures { AirIsDown }
 {}
