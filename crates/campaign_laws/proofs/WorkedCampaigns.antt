@@ -37,11 +37,13 @@ use Rattle.frag_model.specs.Verdict.{verdict, missing}
 use Rattle.frag_session.specs.Setup.{setup_bits, wrong_coding, too_large, other_descriptor, same_setup, lives}
 use Rattle.frag_session.specs.Session.{new_session, renewed, after_setup, excludes, cause_of as session_cause, drop_cause, followed, after_fragment as session_after_fragment, shape_of, shown_verdict, shown_file, seen_of}
 use Rattle.device_core.specs.Fragments.{setup_step, fragment_step, heard_step}
+use Rattle.device_core.specs.Radio.{brought, radio}
+use Rattle.mc_frames.specs.Opening.{fault_without_group}
 use Rattle.campaign_world.specs.Summary.{with_device as with_counted, totals_from}
 use Rattle.campaign_laws.specs.WorkedCampaigns.{AreReported, AreRefused, AreCauses, AreSessions, AreCounted}
 
 pub refused_so : AreRefused
-unfolding campaign_of read_lines read_line after_line cause_of form_cause in_range after_form with_device lines_of words_of word decimal_of key_of hex_number_of hex_bytes_of decode_pairs form_of next_fragment after_fragment status_to_all after_status_to_all request_of request_at
+unfolding campaign_of read_lines read_line after_line cause_of form_cause in_range after_form with_device lines_of words_of word decimal_of key_of hex_number_of hex_bytes_of decode_pairs form_of next_fragment after_fragment status_to_all after_status_to_all request_of request_at radio brought fault_without_group after_due_reboot
 refused_so = record {
   no_end = refl;
   no_end_behind_events = refl;
@@ -69,12 +71,21 @@ refused_so = record {
   long_payload = refl;
   longest_payload = refl;
   no_number = refl;
+  air_word = refl;
+  air_device = refl;
+  air_of_nothing = refl;
+  air_of_unicast = refl;
+  air_without_group = refl;
+  odd_bytes = refl;
+  bytes_word = refl;
+  bytes_device = refl;
+  long_bytes = refl;
   due = refl;
   not_due = refl;
 }
 
 pub reported_so : AreReported
-unfolding digits int_wrap campaign_of read_lines read_line after_line cause_of form_cause in_range after_form with_device report_of device_parts view_of lines_of words_of word decimal_of key_of hex_number_of hex_bytes_of decode_pairs form_of next_fragment after_fragment status_to_all after_status_to_all request_of request_at is_for lowest_of highest_of further format_of firmware_of number_at uplink_step read_uplink reading_of read_from command_at named_at stop_at is_known sync.is_known sync.samples cast.is_known cast.samples clock_up clock_down firmware_up firmware_down fragment_up fragment_down group_up group_down stage_after_all stage_after time_answer delivery heard_delivery read_delivery message_delivery after_due_reboot after_migration after_raise after_swap hears is_after_uplink after_commands step command_step after_answers answer_step version_step waking time_asking
+unfolding digits int_wrap campaign_of read_lines read_line after_line cause_of form_cause in_range after_form with_device report_of device_parts view_of lines_of words_of word decimal_of key_of hex_number_of hex_bytes_of decode_pairs form_of next_fragment after_fragment status_to_all after_status_to_all request_of request_at is_for lowest_of highest_of further format_of firmware_of number_at uplink_step read_uplink reading_of read_from command_at named_at stop_at is_known sync.is_known sync.samples cast.is_known cast.samples clock_up clock_down firmware_up firmware_down fragment_up fragment_down group_up group_down stage_after_all stage_after time_answer delivery heard_delivery read_delivery message_delivery after_due_reboot after_migration after_raise after_swap hears is_after_uplink after_commands step command_step after_answers answer_step version_step waking time_asking radio brought fault_without_group
 reported_so = record {
   clock = refl;
   version = refl;
@@ -85,6 +96,7 @@ reported_so = record {
   roots = refl;
   group = refl;
   strangers = refl;
+  strangers_bytes = refl;
 }
 
 pub causes_so : AreCauses

@@ -93,6 +93,9 @@ pub record AreReported : Type 0 where
   -- anybody's payloads: two that the device refuses, and a request whose answer leads the server on
   pub strangers : told (one_device (codes "raw 1 201 0801\nraw 1 204 -\nraw 1 203 01\nup 1\nend\n")) ≡ reported (codes
       "fuota report 1\nimage 52 fragments 4 size 13 padding 0 parity 0\ndevice 1 fragments clock 5 token 0 running 0 next none\ncounts deaf 0 refused 2 full 0 dropped 0\nend\n")
+  -- bytes of the air that are no frame are not heard: none, and 13 of a device that has no group
+  pub strangers_bytes : told (one_device (codes "rawair 1 -\nrawair 1 60443322110001000000000000\nend\n")) ≡ reported (codes
+      "fuota report 1\nimage 52 fragments 4 size 13 padding 0 parity 0\ndevice 1 version clock 5 token 0 running 0 next none\ncounts deaf 2 refused 0 full 0 dropped 0\nend\n")
 
 pub record AreRefused : Type 0 where
   pub no_end : told (one_device []) ≡ refused 4 why.Syntax
@@ -134,6 +137,19 @@ pub record AreRefused : Type 0 where
   pub longest_payload : told (one_device (codes "raw 1 201 " ++ (replicate 484 48 ++ codes "\n"))) ≡ refused 5 why.Syntax
   -- it is no sent payload, and has no number
   pub no_number : told (one_device (codes "raw 1 201 00\ndown 1 1\n")) ≡ refused 5 why.Unsent
+  -- a frame: its word, its device, its payload, and that this one is to the group
+  pub air_word : told (one_device (codes "air 1 2 4294967296\n")) ≡ refused 4 why.Range
+  pub air_device : told (one_device (codes "air 1 2 4294967295\n")) ≡ refused 4 why.Device
+  pub air_of_nothing : told (one_device (codes "air 1 1\n")) ≡ refused 4 why.Unsent
+  pub air_of_unicast : told (one_device (codes "ask 1\nair 1 1\n")) ≡ refused 5 why.Unsent
+  -- without a group a fragment is no payload to one
+  pub air_without_group : told (one_device (codes "frag\nair 1 1\n")) ≡ refused 5 why.Unsent
+  -- anybody's bytes: their spelling, the word and the device
+  pub odd_bytes : told (one_device (codes "rawair 2 000 4294967296\n")) ≡ refused 4 why.Syntax
+  pub bytes_word : told (one_device (codes "rawair 2 00 4294967296\n")) ≡ refused 4 why.Range
+  pub bytes_device : told (one_device (codes "rawair 2 00 4294967295\n")) ≡ refused 4 why.Device
+  -- as many as a line holds, and no number
+  pub long_bytes : told (one_device (codes "rawair 1 " ++ (replicate 590 48 ++ codes "\nair 1 1\n"))) ≡ refused 5 why.Unsent
   -- an uplink comes when it is due, and not before
   pub due : is_due_by 6 (Some (record { device = 1; uplink = record { due = 6; port = 202; payload = [] } })) ≡ true
   pub not_due : is_due_by 5 (Some (record { device = 1; uplink = record { due = 6; port = 202; payload = [] } })) ≡ false

@@ -293,6 +293,62 @@ fn raw_lines_are_read(rt: HostRuntime) {
     }
 }
 
+/// Frames and bytes of the air: `air` is read as `down` is, and the bytes of `rawair` as those of `raw`.
+#[test]
+fn lines_of_the_air_are_read(rt: HostRuntime) -> Result<(), Fail> {
+    let airs = [
+        ("air 3 1", 0, true),
+        ("air 3 1 7", 7, true),
+        ("air 3 1 4294967296", 1 << 32, false),
+    ];
+    for (line, random, ranged) in airs {
+        match form(line.as_bytes()) {
+            Some(found) => {
+                assert!(rt; in_range(&found) == ranged);
+                assert!(rt;
+                    matches!(found, Form::Air { number: 3, device: 1, word } if word == random)
+                );
+            }
+            None => assert!(rt; false),
+        }
+    }
+    let bytes: [(&str, &[u8], u64); 3] = [
+        ("rawair 1 60fF", &[0x60, 0xff], 0),
+        ("rawair 1 -", &[], 0),
+        ("rawair 1 60 9", &[0x60], 9),
+    ];
+    for (line, wanted, random) in bytes {
+        match form(line.as_bytes()) {
+            Some(
+                Form::RawAir {
+                    device,
+                    bytes,
+                    word,
+                },
+            ) => {
+                let mut spelled = [0; MAX_HEX_BYTES];
+                let count = bytes.put(&mut spelled);
+                assert!(rt; device == 1 && word == random && &spelled[..count] == wanted);
+            }
+            _ => assert!(rt; false),
+        }
+    }
+    let none = [
+        "air 3",
+        "air 3 1 0 0",
+        "air -3 1",
+        "Air 3 1",
+        "rawair 1",
+        "rawair 1 600",
+        "rawair 1 60 0 0",
+        "rawair 1 201 60",
+    ];
+    for line in none {
+        assert!(rt; form(line.as_bytes()).is_none());
+    }
+    Ok(())
+}
+
 /// Of 600 digits there are 300 bytes; two more are longer than a line.
 #[test]
 fn long_hex_words_are_read(rt: HostRuntime) {

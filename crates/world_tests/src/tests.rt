@@ -72,6 +72,65 @@ fn a_campaign_is_reported(rt: HostRuntime) -> Result<(), Fail> {
     Ok(())
 }
 
+/// A fragment to a group comes as a frame: before and behind its window it is not heard, in it it makes the file whole, and
+/// with one bit turned it is no frame. What goes by unicast has none.
+#[test]
+fn frames_are_heard_in_the_window(rt: HostRuntime) -> Result<(), Fail> {
+    let lines = [
+        "fuota 1",
+        "image 52 0",
+        "group 11223344 00000000000000000000000000000000 0 10",
+        "window c 1000 0 8695250 0",
+        DEVICE,
+        "ask 1",
+        "down 1 1",
+        "up 1",
+        "ask 1",
+        "down 2 1",
+        "up 2",
+        "ask 1",
+        "down 3 1",
+        "up 3",
+        "ask 1",
+        "down 4 1",
+        "up 4",
+        "frag",
+        "at 999999",
+        "air 5 1",
+        "at 1000000",
+        "rawair 1 6044332211100200c937bf2ed663b3",
+        "air 5 1",
+        "rawair 1 6044332211100200c937bf2ed663b2",
+        "at 1001000",
+        "air 5 1",
+        "end",
+    ];
+    assert!(rt; is_image(&IMAGE));
+    let mut world = World::new(rt.alloc(), &IMAGE)?;
+    for line in lines {
+        assert!(rt; world.line(line.as_bytes()) == Ok(()));
+    }
+    // the frame with FCtrl 10 asks for the status
+    assert!(rt; world.uplink(5).is_some() && world.uplink(6).is_none());
+    match world.report(rt.alloc()) {
+        Ok(text) => assert!(rt;
+            text.as_slice()
+                == b"fuota report 1\nimage 52 fragments 1 size 52 padding 0 parity 0\ndevice 1 status clock 0 token 0 running 0 next valid 2\ncounts deaf 3 refused 0 full 0 dropped 0\nsession 0 received 1 missing 0 complete at 23 same\nend\n".as_slice()
+        ),
+        Err(_) => assert!(rt; false),
+    }
+    let mut other = World::new(rt.alloc(), &IMAGE)?;
+    for line in ["fuota 1", "image 13 0", DEVICE, "ask 1"] {
+        assert!(rt; other.line(line.as_bytes()) == Ok(()));
+    }
+    let fault = LineError::Line(LineFault {
+        line: 5,
+        why: LineWhy::Unsent,
+    });
+    assert!(rt; other.line(b"air 1 1") == Err(fault));
+    Ok(())
+}
+
 /// Lines behind a plan with one device, each refused for another cause, and none of them changes what comes then.
 #[test]
 fn lines_are_refused(rt: HostRuntime) -> Result<(), Fail> {
@@ -96,6 +155,12 @@ fn lines_are_refused(rt: HostRuntime) -> Result<(), Fail> {
         ("raw 1 201 00 4294967296", LineWhy::Range),
         ("raw 0 201 -", LineWhy::Device),
         ("raw 2 201 -", LineWhy::Device),
+        ("air 1 1", LineWhy::Unsent),
+        ("air 1 2", LineWhy::Device),
+        ("air 1 2 4294967296", LineWhy::Range),
+        ("rawair 2 -", LineWhy::Device),
+        ("rawair 2 60 4294967296", LineWhy::Range),
+        ("rawair 1 600", LineWhy::Syntax),
     ];
     assert!(rt; is_image(&IMAGE));
     for (line, why) in cases {
