@@ -5,6 +5,8 @@ ghost use Rattle.std.specs.List.{position};
 ghost use Rattle.script_lines.specs.Lines.{is_feed, lines_of};
 ghost use Rattle.script_lines.specs.HeldLines.{IsLastFeed};
 
+use memchr::{memchr, memrchr};
+
 /// The first line of the bytes, without its line feed, and what stands behind it.
 pub fn first_line(bytes: &[u8]) -> (&[u8], &[u8])
     requires { 0 < length bytes.now }
@@ -21,7 +23,7 @@ pub fn first_line(bytes: &[u8]) -> (&[u8], &[u8])
 pub(crate) fn line_feed(bytes: &[u8]) -> Option<usize>
     ensures { result ≡ position is_feed bytes.now }
 {
-    bytes.iter().position(|b| *b == b'\n')
+    memchr(b'\n', bytes)
 }
 
 /// The place of the last line feed.
@@ -29,12 +31,5 @@ pub(crate) fn last_feed(bytes: &[u8]) -> Option<usize>
     ensures some { IfSome result (λ end. IsLastFeed bytes.now end) }
     ensures none { result ≡ None → All (λ b. is_feed b ≡ false) bytes.now }
 {
-    let mut end = bytes.len();
-    while end > 0 {
-        end -= 1;
-        if bytes[end] == b'\n' {
-            return Some(end);
-        }
-    }
-    None
+    memrchr(b'\n', bytes)
 }
