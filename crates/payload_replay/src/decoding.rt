@@ -18,9 +18,6 @@ use std::alloc::{AllocError, Global};
 use std::marker::Model;
 use wire_base::{Direction, Why};
 
-/// The bytes of the longest line's head, with a number of ten digits.
-const HEAD_ROOM: usize = 16;
-
 /// The text of captured payloads that went in one direction on one port (0 to 255; 200 to 203 have commands), as the lines
 /// of their file are heard: of each line its number, counted from 1, and its commands, each on a line, or the byte at which
 /// reading stops, counted from 0, and why.
@@ -36,6 +33,14 @@ pub struct Decoding {
     lines: u32,
     text: Vec<u8>,
     kept: Option<LineError>,
+    room: Room,
+}
+
+/// Room for the bytes of a line, and for the text of its number. It is kept, so that no line makes it anew.
+#[derive(Drop)]
+struct Room {
+    bytes: [u8; MAX_HEX_BYTES],
+    head: String,
 }
 
 impl Model for Decoding {
@@ -81,6 +86,10 @@ impl Decoding {
             lines: 0,
             text: Vec::new(alloc),
             kept: None,
+            room: Room {
+                bytes: [0; MAX_HEX_BYTES],
+                head: String::new(alloc),
+            },
         }
     }
 
@@ -96,6 +105,7 @@ impl Decoding {
                 self.dir,
                 self.lines,
                 line,
+                &mut self.room,
                 &mut self.text,
             ) {
                 Ok(()) => self.lines += 1,
@@ -144,6 +154,7 @@ fn decode_line(
     dir: Direction,
     lines: u32,
     line: &[u8],
+    room: &mut Room,
     text: &mut Vec<u8>,
 ) -> Result<(), LineError>
     requires { lines ≤ 20000 }
@@ -152,12 +163,19 @@ fn decode_line(
     ensures few { OnOk result (lines < 20000) }
     ensures refused { IfErr result (IsLineRefused payload_of lines line.now) }
 {
-    let mut bytes = [0; MAX_HEX_BYTES];
-    let count = match read_payload(lines, line, &mut bytes) {
+    let count = match read_payload(lines, line, &mut room.bytes) {
         Ok(count) => count,
         Err(error) => return Err(error),
     };
-    match show_numbered(alloc, port, dir, lines + 1, &bytes[..count], text) {
+    match show_numbered(
+        alloc,
+        port,
+        dir,
+        lines + 1,
+        &room.bytes[..count],
+        &mut room.head,
+        text,
+    ) {
         Ok(()) => Ok(()),
         Err(_) => Err(LineError::Memory),
     }
@@ -170,22 +188,23 @@ fn show_numbered(
     dir: Direction,
     number: u32,
     payload: &[u8],
+    head: &mut String,
     text: &mut Vec<u8>,
 ) -> Result<(), AllocError>
     ensures { OnOk result (Writes port dir number payload.now text.old.items text.new.items) }
 {
-    let head = line_head(alloc, number)?;
+    set_line_head(number, head)?;
     text.extend_from_slice(head.as_bytes())?;
     show_payload(alloc, port, dir, payload, text)
 }
 
-/// The line that gives a line's number.
-fn line_head(alloc: Global, number: u32) -> Result<String, AllocError>
-    ensures { IfOk result (λ head. string_bytes head ≡ codes "line " ++ (decimal number ++ codes "\n")) }
+/// Makes the line that gives a line's number.
+fn set_line_head(number: u32, head: &mut String) -> Result<(), AllocError>
+    ensures { OnOk result (string_bytes head.new ≡ codes "line " ++ (decimal number ++ codes "\n")) }
 {
-    let mut head = String::with_capacity(alloc, HEAD_ROOM)?;
+    head.clear();
     write!(head, "line {number}\n")?;
-    Ok(head)
+    Ok(())
 }
 
 /// Writes what a payload says: its commands, or where and why reading stops.

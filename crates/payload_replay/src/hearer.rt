@@ -82,11 +82,12 @@ pub fn hear(device: &mut Device, payload: &[u8], mark: u64)
     requires { length payload.now ≤ max_payload }
     ensures { Becomes device.old device.new (λ before. after_payload mark payload.now before) }
 {
-    let down = Downlink {
+    let mut down = Downlink {
         to: To::Unicast,
         port: FRAGMENT_PORT,
-        payload: Payload::from_slice(payload),
+        payload: Payload::new(),
     };
+    let _fits = down.payload.append(payload);
     let _delivered = device.deliver(0, &down, 0, mark);
     throw_away(device);
 }

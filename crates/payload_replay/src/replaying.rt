@@ -31,6 +31,8 @@ pub struct Replaying {
     lines: u32,
     device: Option<Device>,
     kept: Option<LineError>,
+    /// Room for the bytes of a line, kept so that no line clears it.
+    room: [u8; MAX_HEX_BYTES],
 }
 
 impl Model for Replaying {
@@ -69,6 +71,7 @@ impl Replaying {
             lines: 0,
             device: None,
             kept: None,
+            room: [0; MAX_HEX_BYTES],
         }
     }
 
@@ -79,7 +82,7 @@ impl Replaying {
         match self.kept {
             Some(_) => {}
             None => match &mut self.device {
-                Some(device) => match hear_line(device, self.lines, line) {
+                Some(device) => match hear_line(device, self.lines, line, &mut self.room) {
                     Ok(()) => self.lines += 1,
                     Err(error) => self.kept = Some(error),
                 },
@@ -132,17 +135,21 @@ impl Replaying {
 }
 
 /// The device hears the payload of a line that comes after so many; or the line is refused.
-fn hear_line(device: &mut Device, lines: u32, line: &[u8]) -> Result<(), LineError>
+fn hear_line(
+    device: &mut Device,
+    lines: u32,
+    line: &[u8],
+    room: &mut [u8; MAX_HEX_BYTES],
+) -> Result<(), LineError>
     requires { lines ≤ 20000 }
     ensures heard { OnOk result ((payload : List ℕ) × (payload_of lines line.now ≡ Ok payload)
         × Becomes device.old device.new (λ before. after_payload (lines + 1) payload before)) }
     ensures few { OnOk result (lines < 20000) }
     ensures refused { IfErr result (IsLineRefused payload_of lines line.now) }
 {
-    let mut bytes = [0; MAX_HEX_BYTES];
-    match read_payload(lines, line, &mut bytes) {
+    match read_payload(lines, line, room) {
         Ok(count) => {
-            hear(device, &bytes[..count], u64::from(lines + 1));
+            hear(device, &room[..count], u64::from(lines + 1));
             Ok(())
         }
         Err(error) => Err(error),

@@ -1,10 +1,12 @@
 -- A consumer that has heard the lines so far hears one more.
-use Rattle.std.proofs.Common.{◌≡◌, ℕ, List, [], ◌∷◌, ◌++◌, Option, Some, refl, sym, ap, subst, append-nil, append_assoc, true}
+use Rattle.std.proofs.Common.{◌≡◌, ℕ, ◌+◌, List, [], ◌∷◌, ◌++◌, take, Option, Some, refl, sym, ap, subst, ◌∙◌, append-nil, append_assoc, true, false, arith}
+use Rattle.std.proofs.lemmas.List.{take_all, length-take}
 use Rattle.script_lines.specs.declared.pieces.Cut.TheVariants.{More, Line}
 use Rattle.script_lines.specs.Lines.{lines_of}
 use Rattle.script_lines.specs.Pieces.{ended_of, cut, cut_lines}
-use Rattle.script_lines.specs.HeldLines.{HeldLines, LinesStand, GoesOn, Ends}
+use Rattle.script_lines.specs.HeldLines.{HeldLines, LinesStand, GoesOn, Ends, IsWholeLine, held_as}
 use Rattle.script_lines.specs.Hearing.{HearsAll, HasHeard, HearsLines, Hears}
+use Rattle.script_lines.proofs.CutLines.{ends_line}
 use Rattle.script_lines.proofs.Stretches.{ended_more}
 
 hears_more : {W : Type 0} (Step : W → List ℕ → W → Type 0) (lines : List (List ℕ)) (line : List ℕ) (old now new : W) → HearsAll Step old lines now → Step now line new → HearsAll Step old (lines ++ line ∷ []) new
@@ -31,6 +33,17 @@ heard_line Step first now next old new stream bytes line so_far on told step = r
   stands = on.stands;
   heard = hears_line Step (ended_of stream) (ended_of (stream ++ bytes)) on.lines.0 line new.line first now next so_far.heard on.lines.1 on.lines.2 told step;
 }
+
+-- a line that is handed out where it lies
+pub heard_whole : {W : Type 0} (Step : W → List ℕ → W → Type 0) (first now next : W) (held : HeldLines) (stream piece : List ℕ) (end : ℕ)
+    → HasHeard Step first held now stream → IsWholeLine held piece end → Step now (take end piece) next → HasHeard Step first held next (stream ++ take (end + 1) piece)
+heard_whole Step first now next held stream piece end so_far whole step =
+    let line = take end piece in
+    let fresh = held_as [] false in
+    let before : HasHeard Step first fresh now stream = record { stands = sym whole.fresh ∙ so_far.stands; heard = so_far.heard } in
+    let on = ends_line fresh [] line piece false end refl (sym (take_all 601 line (omega (arith, whole.fits, length-take end piece)))) whole.feed stream before.stands in
+    let behind = heard_line Step first now next fresh (held_as line true) stream (take (end + 1) piece) line before on refl step in
+    record { stands = whole.fresh ∙ behind.stands; heard = behind.heard }
 
 pub heard_more : {W : Type 0} (Step : W → List ℕ → W → Type 0) (first now : W) (old new : HeldLines) (stream bytes : List ℕ)
     → HasHeard Step first old now stream → GoesOn old new bytes More stream → HasHeard Step first new now (stream ++ bytes)

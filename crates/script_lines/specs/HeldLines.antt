@@ -1,7 +1,8 @@
 -- What is kept of a stream between its pieces, and what a piece makes of it.
-use Rattle.std.specs.Prelude.{◌≡◌, ◌<◌, ℕ, ◌+◌, Bool, true, false, List, [], ◌∷◌, ◌++◌, All, length, drop, get_or, position, Option, Some, None}
+use Rattle.std.specs.Prelude.{◌≡◌, ◌<◌, ◌≤◌, ℕ, ◌+◌, Bool, true, false, List, [], ◌∷◌, ◌++◌, All, length, drop, get_or, position, Option, Some, None}
 use Rattle.script_lines.specs.declared.pieces.Cut.{Cut}
 use Rattle.script_lines.specs.declared.pieces.Cut.TheVariants.{More, Line}
+use Rattle.script_lines.specs.Limits.{max_line}
 use Rattle.script_lines.specs.Lines.{is_feed, lines_of}
 use Rattle.script_lines.specs.Pieces.{ended_of, open_of, cut}
 
@@ -54,3 +55,9 @@ pub record IsLastFeed (piece : List ℕ) (end : ℕ) : Type 0 where
   pub inside : end < length piece
   pub feed : is_feed (get_or piece end 0) ≡ true
   pub none : All (λ b. is_feed b ≡ false) (drop (end + 1) piece)
+
+-- a line of a piece that begins where no line is open ends at this place, and all of it is handed out
+pub record IsWholeLine (held : HeldLines) (piece : List ℕ) (end : ℕ) : Type 0 where
+  pub fresh : held.open_line ≡ []
+  pub feed : position is_feed piece ≡ Some end
+  pub fits : end ≤ max_line + 1

@@ -40,6 +40,10 @@ fn hear_next<W: HearsLine>(lines: &mut Lines, piece: &[u8], hearer: &mut W) -> u
     ensures within { result ≤ length piece.now }
     ensures moves { 0 < length piece.now → 0 < result }
 {
+    if let Some(end) = lines.whole_line(piece) {
+        hearer.line(&piece[..end]);
+        return end + 1;
+    }
     match lines.take(piece) {
         (used, Cut::Line) => {
             hearer.line(lines.line());

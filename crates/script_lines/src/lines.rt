@@ -5,11 +5,13 @@ ghost use Rattle.std.specs.List.{position};
 ghost use Rattle.script_lines.specs.Lines.{is_feed};
 ghost use Rattle.script_lines.specs.HeldLines.{IsLastFeed};
 
+use memchr::{memchr, memrchr};
+
 /// The place of the first line feed.
 pub(crate) fn line_feed(bytes: &[u8]) -> Option<usize>
     ensures { result ≡ position is_feed bytes.now }
 {
-    bytes.iter().position(|b| *b == b'\n')
+    memchr(b'\n', bytes)
 }
 
 /// The place of the last line feed.
@@ -17,12 +19,5 @@ pub(crate) fn last_feed(bytes: &[u8]) -> Option<usize>
     ensures some { IfSome result (λ end. IsLastFeed bytes.now end) }
     ensures none { result ≡ None → All (λ b. is_feed b ≡ false) bytes.now }
 {
-    let mut end = bytes.len();
-    while end > 0 {
-        end -= 1;
-        if bytes[end] == b'\n' {
-            return Some(end);
-        }
-    }
-    None
+    memrchr(b'\n', bytes)
 }

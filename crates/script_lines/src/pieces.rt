@@ -1,8 +1,8 @@
 //! The lines of a stream that comes in pieces.
 
-ghost use Rattle.std.specs.Prelude.{◌≡◌, ◌≢◌, ◌<◌, ◌≤◌, ◌↔◌, ℕ, List, [], ◌++◌, length, take, Some, IsSome, IsTrue};
+ghost use Rattle.std.specs.Prelude.{◌≡◌, ◌≢◌, ◌<◌, ◌≤◌, ◌↔◌, ℕ, List, [], ◌++◌, length, take, Some, IfSome, IsSome, IsTrue};
 ghost use Rattle.script_lines.specs.Pieces.{cut};
-ghost use Rattle.script_lines.specs.HeldLines.{LinesStand, used_of, open_in, GoesOn, Ends};
+ghost use Rattle.script_lines.specs.HeldLines.{LinesStand, used_of, open_in, GoesOn, Ends, IsWholeLine};
 
 use crate::lines::{last_feed, line_feed};
 use arrayvec::ArrayVec;
@@ -72,6 +72,20 @@ impl Lines {
                 self.ended = false;
                 (piece.len(), Cut::More)
             }
+        }
+    }
+
+    /// Where no line is open and a whole one begins a piece, of no more bytes than are held: the place of its line feed. Such
+    /// a line may be handed out where it lies, and then `self` stands behind it as it is.
+    pub(crate) fn whole_line(&self, piece: &[u8]) -> Option<usize>
+        ensures { IfSome result (λ end. IsWholeLine self.now piece.now end) }
+    {
+        if !self.ended && !self.held.is_empty() {
+            return None;
+        }
+        match line_feed(piece) {
+            Some(end) if end <= HELD => Some(end),
+            _ => None,
         }
     }
 

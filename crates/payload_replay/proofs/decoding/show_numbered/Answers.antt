@@ -11,4 +11,4 @@ returns c = on_ok c.show_payload.result (λ ok.
     on_ok_then c.show_payload.result ok c.show_payload.ensures
     ∙ ap (λ (w : List ℕ). w ++ shown) (c.in_ok-extend_from_slice.ensures.items
     ∙ ap (λ (w : List ℕ). c.args.text.now.items ++ w) c.as_bytes.ensures.value)
-    ∙ numbered_on c.args.text.now.items _ shown c.args.number c.in_ok-head.ensures)
+    ∙ numbered_on c.args.text.now.items _ shown c.args.number c.in_ok-set_line_head.ensures)
