@@ -111,7 +111,8 @@ pub record IsHeadline (image script : List ℕ) (world : WorldState) (id : ℕ) 
 
 -- what is said of each session of a device, whoever sent what reached it
 pub record IsVerdict (image script : List ℕ) (world : WorldState) (id : ℕ) (device : DeviceState) (index : ℕ) (s : Session) : Type 0 where
-  pub heard : CameInTurn (Carries (lines_of script) world.sent id) index (length (lines_of script)) s.heard
+  pub heard : CameInTurn (Carries (lines_of script) world.server.plan.group world.sent id) index (length (lines_of script))
+      s.heard
   pub decided : IsDecidedAtFirst s
   pub told : (stage : Stage) → ledger world.server id ≡ Some stage → IsToldOf world id stage device index s
 
