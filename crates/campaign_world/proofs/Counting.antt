@@ -30,13 +30,13 @@ one_counted totals new all id i stages ds stage d id_is staged there new_is so_f
 
 -- ---- the summary of a world that stands for a campaign
 
-told_of_held : (held : HeldWorld) (ds : List DeviceState) (server : ServerState) (text : List ℕ) → held.server ≡ Some server
+told_of_held : (held : HeldWorld) (ds : List DeviceState) (server : ServerState) (text : List ℕ) → server ≡ held.server
     → text ≡ summary_with server (length held.sent) ds → text ≡ summary_of (world_of held ds)
 unfolding summary_of
-told_of_held held ds server text there is = rw (there) is
+told_of_held held ds server text same is = rw (← same) is
 
-pub summary_told : (held : HeldWorld) (world : WorldState) (server : ServerState) (sent : ℕ) (text : List ℕ) → WorldStands held world → held.server ≡ Some server
+pub summary_told : (held : HeldWorld) (world : WorldState) (server : ServerState) (sent : ℕ) (text : List ℕ) → WorldStands held world → server ≡ held.server
     → sent ≡ length held.sent → text ≡ summary_with server sent world.devices → text ≡ summary_of world
-summary_told held world server sent text stands there many is =
+summary_told held world server sent text stands same many is =
     subst (λ (w : WorldState). text ≡ summary_of w) (sym stands.rest)
-    (told_of_held held world.devices server text there (is ∙ ap (λ (n : ℕ). summary_with server n world.devices) many))
+    (told_of_held held world.devices server text same (is ∙ ap (λ (n : ℕ). summary_with server n world.devices) many))

@@ -1,5 +1,5 @@
 -- The first cause for which a form is refused, test by test.
-use Rattle.std.proofs.Common.{◌≡◌, ℕ, ◌≤◌, ◌<◌, ◌*◌, ◌^◌, ◌+◌, zero, suc, Bool, true, false, not, cond, ◌==◌, ◌&&◌, List, [], ◌∷◌, length, nat_lt, nat_le, Option, Some, None, refl, sym, ap, ◌∙◌, arith, is_ok, subst, inl, inr, ◌⊎◌, is_some, ne_eqb}
+use Rattle.std.proofs.Common.{◌≡◌, ℕ, ◌≤◌, ◌<◌, ◌*◌, ◌^◌, ◌+◌, zero, suc, Bool, true, false, not, cond, ◌==◌, ◌&&◌, List, [], ◌∷◌, length, nat_lt, nat_le, Option, Some, None, refl, sym, ap, arith, is_ok, subst, inl, inr, ◌⊎◌, is_some, ne_eqb}
 use Rattle.std.proofs.lemmas.Grind.{div_ceil_times}
 use Rattle.std.proofs.Math.Bool.{or-true}
 use Rattle.std.proofs.lemmas.Bool.{leb-true, le-leb, ltb-true, lt-ltb, and_parts}
@@ -11,7 +11,7 @@ use Rattle.device_core.specs.Device.{DeviceState, max_formats}
 use Rattle.campaign_server.specs.declared.plan.PlanGroup.{PlanGroup}
 use Rattle.campaign_server.specs.Plan.{Plan, is_frag_size, is_group, bad_field}
 use Rattle.campaign_server.specs.declared.plan.Field.{Field}
-use Rattle.campaign_server.specs.Server.{ServerState, first_count, first_server}
+use Rattle.campaign_server.specs.Server.{first_count, first_server}
 use Rattle.campaign_server.specs.Fragments.{next_fragment, last_fragment, has_no_count, status_to_all}
 use Rattle.script_lines.specs.declared.forms.Form.{Form}
 use Rattle.script_lines.specs.declared.forms.Form.TheVariants as form
@@ -21,18 +21,23 @@ use Rattle.report_lines.specs.declared.faults.LineWhy.TheVariants as why
 use Rattle.campaign_world.specs.declared.section.Section.{Section}
 use Rattle.campaign_world.specs.declared.section.Section.TheVariants as place
 use Rattle.campaign_world.specs.World.{WorldState}
-use Rattle.campaign_world.specs.declared.numbered.SentPayload.{SentPayload}
-use Rattle.campaign_world.specs.declared.numbered.MadeUplink.{MadeUplink}
 use Rattle.campaign_world.specs.Causes.{is_device, is_event_or_end, may_come, fits_script, names_device, has_come, is_to_come, fits_payload, has_more, form_cause, cause_of, cause_of_form}
 use Rattle.script_lines.specs.Forms.{form_of}
+use Rattle.campaign_world.specs.declared.numbered.SentPayload.{SentPayload}
+use Rattle.campaign_world.specs.declared.numbered.MadeUplink.{MadeUplink}
 use Rattle.script_lines.specs.Limits.{max_lines, max_line, max_time, max_rows, max_devices}
 use Rattle.frag_model.specs.Limits.{max_pieces}
 use Rattle.campaign_world.specs.HeldLate.{Late}
-use Rattle.campaign_world.specs.HeldWorld.{HeldWorld, server_of, world_of, IsFine}
+use Rattle.campaign_world.specs.HeldWorld.{HeldCampaign, held_with, world_of, IsFine, IsTested}
+use Rattle.campaign_world.specs.declared.world.planning.Planning.{Planning}
+use Rattle.campaign_world.specs.declared.world.phase.Phase.{Phase}
+use Rattle.campaign_world.specs.declared.world.phase.Phase.TheVariants as phases
+use Rattle.campaign_world.specs.PhaseInside.{IsPhase, IsPlanningOf, held_of, section_of, section_by}
+use Rattle.report_lines.specs.declared.faults.LineError.{LineError}
 use Rattle.campaign_world.specs.Making.{device_of, formats_of}
 use Rattle.script_lines.specs.declared.forms.Class.{Class}
 use Rattle.script_lines.specs.declared.forms.Class.TheVariants as class
-use Rattle.campaign_world.specs.WorldInside.{IsPlanned, IsSized, IsWindowed, ServerIs, IsToBegin}
+use Rattle.campaign_world.specs.WorldInside.{IsPlanned, IsPlanning, IsSized, IsWindowed, IsToBegin}
 
 pub order : (world : WorldState) (form : Form) → may_come world.section form ≡ false → form_cause world form ≡ Some why.Order
 unfolding form_cause
@@ -118,32 +123,32 @@ first_status image plan grouped = rw (counts_left plan.group grouped) refl
 
 -- before the first event something is left to send for each form that may come
 pub unmade_sends : (image : List ℕ) (section : Section) (plan : Plan) (devices : List Late) (form : Form) → is_image image ≡ true
-    → IsPlanned image section plan devices None → may_come section form ≡ true → has_more (first_server image plan) form ≡ true
+    → IsPlanned image section plan devices → may_come section form ≡ true → has_more (first_server image plan) form ≡ true
 unmade_sends image section plan devices form.Frag fine planned comes = by_section section planned comes
   where
     sized : IsSized image plan devices → is_ok (next_fragment (first_server image plan)) ≡ true
     sized is = first_fragment image plan fine (leb-true _ _ (and_parts _ _ (and_parts _ _ is.size).0).0) is.grouped
 
-    by_section : (section : Section) → IsPlanned image section plan devices None → may_come section form.Frag ≡ true → is_ok (next_fragment (first_server image plan)) ≡ true
+    by_section : (section : Section) → IsPlanned image section plan devices → may_come section form.Frag ≡ true → is_ok (next_fragment (first_server image plan)) ≡ true
     by_section place.Header planned comes = absurd cc
     by_section place.Image planned comes = absurd cc
     by_section place.Group planned comes = absurd cc
     by_section place.Window planned comes = absurd cc
     by_section place.Device planned comes = absurd cc
     by_section place.Devices planned comes = sized planned.0
-    by_section place.Events planned comes = absurd cc
+    by_section place.Events planned comes = absurd planned
     by_section place.Ended planned comes = absurd cc
 unmade_sends image section plan devices (form.Ask device) fine planned comes = refl
 unmade_sends image section plan devices form.Status fine planned comes = by_section section planned comes
   where
-    by_section : (section : Section) → IsPlanned image section plan devices None → may_come section form.Status ≡ true → is_some (status_to_all (first_server image plan)) ≡ true
+    by_section : (section : Section) → IsPlanned image section plan devices → may_come section form.Status ≡ true → is_some (status_to_all (first_server image plan)) ≡ true
     by_section place.Header planned comes = absurd cc
     by_section place.Image planned comes = absurd cc
     by_section place.Group planned comes = absurd cc
     by_section place.Window planned comes = absurd cc
     by_section place.Device planned comes = absurd cc
     by_section place.Devices planned comes = first_status image plan planned.0.grouped
-    by_section place.Events planned comes = absurd cc
+    by_section place.Events planned comes = absurd planned
     by_section place.Ended planned comes = absurd cc
 unmade_sends image section plan devices form.Header fine planned comes = refl
 unmade_sends image section plan devices (form.Image frag_size parity) fine planned comes = refl
@@ -161,15 +166,34 @@ unmade_sends image section plan devices (form.RawAir device bytes word) fine pla
 unmade_sends image section plan devices (form.Up number) fine planned comes = refl
 unmade_sends image section plan devices form.End fine planned comes = refl
 
--- ---- the image is the one that is held
+-- so it is where a plan is told
+pub planned_from : (phase : Phase) (planning : Planning) (form : Form) → phase ≡ phases.Planning planning → IsPhase phase → may_come (section_of phase) form ≡ true
+    → has_more (held_of phase).server form ≡ true
+planned_from phase planning form is planned comes =
+    let here : IsPlanningOf planning = rw is at planned in
+    rw (is) (unmade_sends planning.image.items planning.section planning.plan planning.devices.items form here.image_is here.planned (rw is at comes))
 
-pub image_held : (image : List ℕ) (plan : Plan) (devices : List Late) (server : Option ServerState) → ServerIs image devices server
-    → (server_of image plan server).image ≡ image
-image_held image plan devices None built = refl
-image_held image plan devices (Some server) built = built.image_is
+-- ---- what the tests of the code say, of the campaign that is stood for
 
-pub numbered_alike : (image : List ℕ) (devices : List Late) (server : ServerState) (count : ℕ) → ServerIs image devices (Some server) → count ≡ length devices → length server.plan.devices ≡ count
-numbered_alike image devices server count built is = built.numbers ∙ sym is
+pub played_from : (phase : Phase) (campaign : HeldCampaign) (has_ended : Bool) (f : Form) (test : Bool) → phase ≡ phases.Playing campaign has_ended
+    → test ≡ has_more campaign.server f → has_more (held_of phase).server f ≡ test
+played_from phase campaign has_ended f test is gives = rw (is) (sym gives)
+
+pub fits_in : (image : List ℕ) (held : List Late) (devices : List DeviceState) (f : Form) (test : Bool) (size count : ℕ)
+    → size ≡ length image → count ≡ length held → length devices ≡ length held → test ≡ fits_script size count f
+    → fits_script (length image) (length devices) f ≡ test
+fits_in image held devices f test size count size_is count_is long is = rw (long, ← count_is, ← size_is) (sym is)
+
+pub names_in : (held : List Late) (devices : List DeviceState) (f : Form) (test : Bool) (count : ℕ)
+    → count ≡ length held → length devices ≡ length held → test ≡ names_device count f → names_device (length devices) f ≡ test
+names_in held devices f test count count_is long is = rw (long, ← count_is) (sym is)
+
+pub come_in : (sent : List SentPayload) (uplinks : List MadeUplink) (now : ℕ) (f : Form) (test : Bool) (ss : List SentPayload) (us : List MadeUplink) (t : ℕ)
+    → ss ≡ sent → us ≡ uplinks → t ≡ now → test ≡ has_come ss us t f → has_come sent uplinks now f ≡ test
+come_in sent uplinks now f test ss us t sent_is uplinks_are now_is is = rw (← sent_is, ← uplinks_are, ← now_is) (sym is)
+
+pub timed_in : (now : ℕ) (f : Form) (test : Bool) (t : ℕ) → t ≡ now → test ≡ is_to_come t f → is_to_come now f ≡ test
+timed_in now f test t now_is is = rw (← now_is) (sym is)
 
 -- an image line that is in range has a fragment size from 1 to 239
 pub size_in_range : (f : Form) → in_range f ≡ true → (frag_size parity : ℕ) → f ≡ form.Image frag_size parity → (1 ≤ frag_size) × (frag_size ≤ 239)
@@ -178,30 +202,6 @@ size_in_range f ranges frag_size parity is =
     let both : (nat_le 1 frag_size && nat_le frag_size 239 && nat_le parity 512) ≡ true = rw is at ranges in
     let first = (and_parts _ _ both).0 in
     (leb-true _ _ (and_parts _ _ first).0, leb-true _ _ (and_parts _ _ first).1)
-
--- ---- what the tests of the code say, of the campaign that is stood for
-
-pub fits_from : (image : List ℕ) (plan : Plan) (held : List Late) (server : Option ServerState) (devices : List DeviceState) (f : Form) (test : Bool) (img : List ℕ) (hd : List Late)
-    → ServerIs image held server → length devices ≡ length held → img ≡ image → hd ≡ held → test ≡ fits_script (length img) (length hd) f
-    → fits_script (length (server_of image plan server).image) (length devices) f ≡ test
-fits_from image plan held server devices f test img hd built count img_is hd_is is = rw (image_held image plan held server built, count, ← img_is, ← hd_is) (sym is)
-
-pub names_from : (held : List Late) (devices : List DeviceState) (f : Form) (test : Bool) (hd : List Late)
-    → length devices ≡ length held → hd ≡ held → test ≡ names_device (length hd) f → names_device (length devices) f ≡ test
-names_from held devices f test hd count hd_is is = rw (count, ← hd_is) (sym is)
-
-pub come_from : (sent : List SentPayload) (uplinks : List MadeUplink) (now : ℕ) (f : Form) (test : Bool) (ss : List SentPayload) (us : List MadeUplink)
-    → ss ≡ sent → us ≡ uplinks → test ≡ has_come ss us now f → has_come sent uplinks now f ≡ test
-come_from sent uplinks now f test ss us ss_is us_is is = rw (← ss_is, ← us_is) (sym is)
-
-pub more_from : (image : List ℕ) (plan : Plan) (server : Option ServerState) (s : ServerState) (f : Form) (test : Bool)
-    → server ≡ Some s → test ≡ has_more s f → has_more (server_of image plan server) f ≡ test
-more_from image plan server s f test there is = rw (there) (sym is)
-
-pub unmade_from : (image : List ℕ) (section : Section) (plan : Plan) (devices : List Late) (server : Option ServerState) (f : Form) → is_image image ≡ true
-    → server ≡ None → IsPlanned image section plan devices server → may_come section f ≡ true → has_more (server_of image plan server) f ≡ true
-unmade_from image section plan devices server f fine none planned comes =
-    rw (none) (unmade_sends image section plan devices f fine (rw none at planned) comes)
 
 -- ---- the causes of a line
 
@@ -298,10 +298,18 @@ striking f device port payload word ranges is =
     let both = and_parts (nat_le port 255) (nat_lt word (2 ^ 32)) all in
     record { port_fits = leb-true _ _ both.0; word_fits = ltb-true _ _ both.1 }
 
+pub aired_within : (count : ℕ) (f : Form) (number device word : ℕ) → names_device count f ≡ true → f ≡ form.Air number device word
+    → (1 ≤ device) × (device ≤ count)
+aired_within count f number device word names is = named_within count device (rw is at names)
+
 pub air_word_within : (f : Form) (number device word : ℕ) → in_range f ≡ true → f ≡ form.Air number device word → word < 2 ^ 32
 unfolding in_range
 air_word_within f number device word ranges is =
     let fits : nat_lt word (2 ^ 32) ≡ true = rw is at ranges in ltb-true _ _ fits
+
+pub heard_within : (count : ℕ) (f : Form) (device : ℕ) (bytes : List ℕ) (word : ℕ) → names_device count f ≡ true
+    → f ≡ form.RawAir device bytes word → (1 ≤ device) × (device ≤ count)
+heard_within count f device bytes word names is = named_within count device (rw is at names)
 
 pub raw_air_word_within : (f : Form) (device : ℕ) (bytes : List ℕ) (word : ℕ) → in_range f ≡ true
     → f ≡ form.RawAir device bytes word → word < 2 ^ 32
@@ -323,26 +331,20 @@ some_devices : (n : ℕ) → (ds : List DeviceState) × (length ds ≡ n)
 some_devices zero = ([], refl)
 some_devices (suc n) = let more = some_devices n in (device_of class.C 0 0 0 [] None false false ∷ more.0, ap suc more.1)
 
-pub record Fine (held : HeldWorld) (form : Form) : Type 0 where
-  pub comes : may_come held.section form ≡ true
-  pub ranges : in_range form ≡ true
-  pub fits : fits_script (length (server_of held.image held.plan held.server).image) (length held.devices) form ≡ true
-  pub names : names_device (length held.devices) form ≡ true
-  pub come : has_come held.sent held.uplinks held.time form ≡ true
-  pub short : fits_payload form ≡ true
-
-pub fine_of : (held : HeldWorld) (form : Form) → IsFine held form → Fine held form
-fine_of held form fine =
+pub fine_of : (lines : ℕ) (section : Section) (kept : Option LineError) (held : HeldCampaign) (form : Form)
+    → IsFine (held_with lines section kept held) form → (may_come section form ≡ true) × IsTested held form
+fine_of lines section kept held form fine =
     let some = some_devices (length held.devices) in
-    let all = passes (world_of held some.0) form (fine some.0 some.1) in
-    record {
-      comes = all.comes;
-      ranges = all.ranges;
-      fits = subst (λ (n : ℕ). fits_script (length (server_of held.image held.plan held.server).image) n form ≡ true) some.1 all.fits;
-      names = subst (λ (n : ℕ). names_device n form ≡ true) some.1 all.names;
-      come = all.come;
-      short = all.short;
-    }
+    let all = passes (world_of (held_with lines section kept held) some.0) form (fine some.0 some.1) in (
+      all.comes,
+      record {
+        ranges = all.ranges;
+        fits = subst (λ (n : ℕ). fits_script (length held.server.image) n form ≡ true) some.1 all.fits;
+        names = subst (λ (n : ℕ). names_device n form ≡ true) some.1 all.names;
+        come = all.come;
+        short = all.short;
+      },
+    )
 
 -- ---- where a form may come
 
@@ -379,14 +381,21 @@ event_at s (form.RawAir device bytes word) event comes =
 event_at s (form.Up number) event comes = at_events_only (λ (x : Section). may_come x (form.Up number)) refl refl refl refl refl refl s comes
 event_at s form.End event comes = at_events_only (λ (x : Section). may_come x form.End) refl refl refl refl refl refl s comes
 
--- what a world holds where an event may come
-pub begins_at : (held : HeldWorld) (f : Form) → is_event_or_end f ≡ true → may_come held.section f ≡ true
-    → IsPlanned held.image held.section held.plan held.devices held.server → IsToBegin held
-begins_at held f event comes planned = by_section (event_at held.section f event comes)
+-- a plan behind which an event may come begins
+pub begins_at : (image : List ℕ) (s : Section) (plan : Plan) (devices : List Late) (f : Form) → is_event_or_end f ≡ true → may_come s f ≡ true
+    → IsPlanning image s plan devices → IsToBegin image plan devices
+begins_at image s plan devices f event comes is = by_section (event_at s f event comes)
   where
-    by_section : (held.section ≡ place.Devices) ⊎ (held.section ≡ place.Events) → IsToBegin held
-    by_section (inl is) = let there = subst (λ (s : Section). IsPlanned held.image s held.plan held.devices held.server) is planned in inr (there.0, there.1, there.2)
-    by_section (inr is) = inl (subst (λ (s : Section). IsPlanned held.image s held.plan held.devices held.server) is planned)
+    by_section : (s ≡ place.Devices) ⊎ (s ≡ place.Events) → IsToBegin image plan devices
+    by_section (inl here) =
+        let there = subst (λ (x : Section). IsPlanned image x plan devices) here is.planned in
+        record { image_is = is.image_is; sized = there.0; windowed = there.1; some = there.2 }
+    by_section (inr here) = absurd (subst (λ (x : Section). IsPlanned image x plan devices) here is.planned)
+
+-- what comes where a campaign plays is an event, or the end
+pub event_comes : (has_ended : Bool) (f : Form) → may_come (section_by has_ended) f ≡ true → is_event_or_end f ≡ true
+event_comes false f comes = comes
+event_comes true f comes = absurd cc
 
 pub image_at : (s : Section) (f : Form) (frag_size parity : ℕ) → f ≡ form.Image frag_size parity → may_come s f ≡ true → s ≡ place.Image
 image_at s f frag_size parity is comes = by_section s (rw is at comes)
@@ -418,17 +427,17 @@ header_at s f is comes = by_section s (rw is at comes)
 alone : (plan : Plan) → plan.group ≡ None → plan.window ≡ None → IsWindowed plan
 alone plan no_group no_window = rw (no_group, no_window) refl
 
-pub joins_at : (image : List ℕ) (s : Section) (plan : Plan) (devices : List Late) (server : Option ServerState) (f : Form) (id hw rows offset : ℕ) (k : Class) (key : List ℕ) (descriptor : Option ℕ) (v1 k11 : Bool)
-    → f ≡ form.Device id k hw rows offset key descriptor v1 k11 → may_come s f ≡ true → IsPlanned image s plan devices server → IsSized image plan devices × IsWindowed plan × (server ≡ None)
-joins_at image s plan devices server f id hw rows offset k key descriptor v1 k11 is comes planned = by_section s (rw is at comes) planned
+pub joins_at : (image : List ℕ) (s : Section) (plan : Plan) (devices : List Late) (f : Form) (id hw rows offset : ℕ) (k : Class) (key : List ℕ) (descriptor : Option ℕ) (v1 k11 : Bool)
+    → f ≡ form.Device id k hw rows offset key descriptor v1 k11 → may_come s f ≡ true → IsPlanned image s plan devices → IsSized image plan devices × IsWindowed plan
+joins_at image s plan devices f id hw rows offset k key descriptor v1 k11 is comes planned = by_section s (rw is at comes) planned
   where
-    by_section : (s : Section) → may_come s (form.Device id k hw rows offset key descriptor v1 k11) ≡ true → IsPlanned image s plan devices server → IsSized image plan devices × IsWindowed plan × (server ≡ None)
+    by_section : (s : Section) → may_come s (form.Device id k hw rows offset key descriptor v1 k11) ≡ true → IsPlanned image s plan devices → IsSized image plan devices × IsWindowed plan
     by_section place.Header comes planned = absurd cc
     by_section place.Image comes planned = absurd cc
-    by_section place.Group comes planned = (planned.0, alone plan planned.1 planned.2, planned.3)
+    by_section place.Group comes planned = (planned.0, alone plan planned.1 planned.2)
     by_section place.Window comes planned = absurd cc
     by_section place.Device comes planned = planned
-    by_section place.Devices comes planned = (planned.0, planned.1, planned.3)
+    by_section place.Devices comes planned = (planned.0, planned.1)
     by_section place.Events comes planned = absurd cc
     by_section place.Ended comes planned = absurd cc
 
@@ -550,10 +559,6 @@ fitting len count f id hw rows offset k key descriptor v1 k11 is ranges fits =
       next = omega (arith, is_next, leb-true id max_devices d.1);
     }
 
--- the script's image is the one that is held
-pub fits_held : (held : HeldWorld) (f : Form) → ServerIs held.image held.devices held.server → Fine held f → fits_script (length held.image) (length held.devices) f ≡ true
-fits_held held f built fine = subst (λ (i : List ℕ). fits_script (length i) (length held.devices) f ≡ true) (image_held held.image held.plan held.devices held.server built) fine.fits
-
 -- ---- the plan behind the devices has no wrong field
 
 pub plans_well : (image : List ℕ) (plan : Plan) (devices : List Late) → IsSized image plan devices → IsWindowed plan → 1 ≤ length devices → bad_field (length image) plan ≡ None
@@ -564,9 +569,6 @@ plans_well image plan devices sized windowed some =
     rw (sized.size, not_lt 512 plan.parity sized.few, sized.grouped, windowed, le-leb 1 (length plan.devices) first, le-leb (length plan.devices) 64 last) refl
 
 -- so a server that is to begin is made
-pub begins_well : (held : HeldWorld) (field : Field) → IsToBegin held → is_some held.server ≡ false → bad_field (length held.image) held.plan ≡ Some field → ⊥
-begins_well held field begins unmade bad = by_begun begins
-  where
-    by_begun : IsToBegin held → ⊥
-    by_begun (inl made) = let there = made.1 in absurd cc
-    by_begun (inr planned) = let fine = plans_well held.image held.plan held.devices planned.0 planned.1 planned.2 in absurd cc
+pub begins_well : (image : List ℕ) (plan : Plan) (devices : List Late) (field : Field) → IsToBegin image plan devices
+    → bad_field (length image) plan ≡ Some field → ⊥
+begins_well image plan devices field begins bad = let fine = plans_well image plan devices begins.sized begins.windowed begins.some in absurd cc

@@ -53,14 +53,14 @@ ended world is = rw (is) refl
 pub section_stands : (held : HeldWorld) (world : WorldState) → WorldStands held world → world.section ≡ held.section
 section_stands held world stands = ap (λ (w : WorldState). w.section) stands.rest
 
-told_of_held : (held : HeldWorld) (ds : List DeviceState) (server : ServerState) (text : List ℕ) → held.server ≡ Some server
+told_of_held : (held : HeldWorld) (ds : List DeviceState) (server : ServerState) (text : List ℕ) → server ≡ held.server
     → text ≡ report_with server ds → text ≡ report_of (world_of held ds)
 unfolding report_of
-told_of_held held ds server text there is = rw (there) is
+told_of_held held ds server text same is = rw (← same) is
 
-pub told : (held : HeldWorld) (world : WorldState) (server : ServerState) (text : List ℕ) → WorldStands held world → held.server ≡ Some server
+pub told : (held : HeldWorld) (world : WorldState) (server : ServerState) (text : List ℕ) → WorldStands held world → server ≡ held.server
     → text ≡ report_with server world.devices → text ≡ report_of world
-told held world server text stands there is = subst (λ (w : WorldState). text ≡ report_of w) (sym stands.rest) (told_of_held held world.devices server text there is)
+told held world server text stands same is = subst (λ (w : WorldState). text ≡ report_of w) (sym stands.rest) (told_of_held held world.devices server text same is)
 
 -- ---- the parts of its devices
 

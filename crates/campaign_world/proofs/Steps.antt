@@ -2,40 +2,38 @@
 use Rattle.std.proofs.Common.{◌≡◌, ℕ, ◌≤◌, ◌+◌, ◌-◌, Bool, true, false, cond, ◌==◌, List, [], ◌∷◌, ◌++◌, length, slice_get, Option, Some, None, Result, Ok, Err, is_ok, is_some, refl, sym, ap, ◌∙◌, subst, append-nil, arith}
 use Rattle.std.proofs.lemmas.Bool.Decides.{nat_tests}
 use Rattle.std.specs.Option.{option_map}
+use Rattle.std.specs.declared.alloc.AllocError.{AllocError}
 use Rattle.device_core.specs.Device.{DeviceState, first_device}
 use Rattle.device_core.specs.Events.{Event, Receives, Migrates, event_step}
 use Rattle.device_core.specs.Firmware.{after_migration}
 use Rattle.device_core.specs.declared.config.DeviceConfig.{DeviceConfig}
 use Rattle.campaign_server.specs.Plan.{Plan}
-use Rattle.campaign_server.specs.Server.{ServerState, DownlinkCommand, ledger}
+use Rattle.campaign_server.specs.Server.{ServerState, first_server, ledger}
 use Rattle.wire_base.specs.Numbered.{numbered}
 use Rattle.campaign_server.specs.Fragments.{next_fragment, after_fragment, after_count, status_to_all, after_status_to_all}
-use Rattle.campaign_server.specs.Uplinks.{UplinkStep, with_answers, read_uplink, uplink_step}
+use Rattle.campaign_server.specs.Uplinks.{with_answers, read_uplink, uplink_step}
 use Rattle.campaign_server.specs.declared.stage.Stage.{Stage}
 use Rattle.package_grammar.specs.declared.command.Command.{Command}
 use Rattle.package_grammar.specs.Reading.{Reading, reading_of}
 use Rattle.wire_base.specs.declared.refusal.Direction.TheVariants.{Up}
+use Rattle.report_lines.specs.declared.faults.LineError.{LineError}
+use Rattle.report_lines.proofs.Outcomes.{on_ok, on_ok_then}
 use Rattle.campaign_world.specs.declared.numbered.SentPayload.{SentPayload}
 use Rattle.campaign_world.specs.declared.numbered.MadeUplink.{MadeUplink}
+use Rattle.campaign_world.specs.declared.section.Section.{Section}
 use Rattle.campaign_world.specs.declared.section.Section.TheVariants as section
-use Rattle.campaign_server.specs.Asking.{request_of}
-use Rattle.std.specs.Result.{result_ok}
-use Rattle.wire_base.specs.declared.refusal.Refusal.{Refusal}
 use Rattle.script_lines.specs.declared.forms.Form.{Form}
 use Rattle.script_lines.specs.declared.forms.Form.TheVariants as form
 use Rattle.campaign_world.specs.Causes.{is_event_or_end}
 use Rattle.campaign_world.specs.World.{WorldState}
-use Rattle.campaign_world.specs.Making.{with_plan, with_sent, with_device, after_answer, after_up, after_form, reception, after_event_at, with_event, at_events}
-use Rattle.campaign_world.specs.HeldWorld.{HeldWorld, WorldStands, KeepsEnds, DevicesRest, OneComesToRest, OnesAreNumbered, world_of, server_of}
+use Rattle.campaign_world.specs.Making.{with_plan, with_device, after_form, reception, with_event, at_events}
+use Rattle.campaign_world.specs.Script.{one_line_more}
+use Rattle.campaign_world.specs.HeldWorld.{HeldCampaign, HeldWorld, WorldStands, KeepsEnds, Becomes, Plays, DevicesRest, OneComesToRest, OnesAreNumbered, held_with, world_of}
 use Rattle.campaign_world.specs.HeldLate.{Late, DeviceRests}
-use Rattle.campaign_world.specs.WorldInside.{ServerIs, IsBuilt}
+use Rattle.campaign_world.specs.WorldInside.{IsCampaign, StayMade}
+use Rattle.campaign_world.specs.PhaseInside.{is_end, section_by}
 use Rattle.campaign_world.proofs.Lateness.{rests_empty}
 use Rattle.campaign_world.proofs.Zips.{zip_some, zip_more, zip_back}
-
--- only the number of devices counts for a server
-pub built_alike : (image : List ℕ) (old new : List Late) (server : Option ServerState) → length new ≡ length old → ServerIs image old server → ServerIs image new server
-built_alike image old new None long built = tt
-built_alike image old new (Some server) long built = record { image_is = built.image_is; numbers = built.numbers ∙ sym long }
 
 -- what was found
 pub some_now : {X A : Type 0} (now : X → A) (found : Option X) (item : Option A) (x : X) → option_map now found ≡ item → found ≡ Some x → item ≡ Some (now x)
@@ -105,125 +103,138 @@ pub reception_of : (time word line : ℕ) (o : Option SentPayload) (sent : SentP
     → reception time word line o ≡ Some (Receives time word line sent.down)
 reception_of time word line o sent is = rw (is) refl
 
--- ---- what server and image keep
+-- ---- what a server keeps
 
-kept_after_fragment : (image : List ℕ) (devices : List Late) (server : ServerState) (test : Bool) → IsBuilt image devices server
-    → IsBuilt image devices (cond test (after_count (record server { next = server.next + 1 })) server)
-kept_after_fragment image devices server true built = record { image_is = built.image_is; numbers = built.numbers }
-kept_after_fragment image devices server false built = built
+pub record KeepsPlan (old new : ServerState) : Type 0 where
+  pub image : new.image ≡ old.image
+  pub plan : new.plan ≡ old.plan
 
-pub built_after_fragment : (image : List ℕ) (devices : List Late) (server : ServerState) → IsBuilt image devices server → IsBuilt image devices (after_fragment server)
+counted_or_not : (server counted : ServerState) (test : Bool) → KeepsPlan server counted → KeepsPlan server (cond test counted server)
+counted_or_not server counted true keeps = keeps
+counted_or_not server counted false keeps = record { image = refl; plan = refl }
+
+pub kept_after_fragment : (server : ServerState) → KeepsPlan server (after_fragment server)
 unfolding after_fragment
-built_after_fragment image devices server built = kept_after_fragment image devices server (is_ok (next_fragment server)) built
+kept_after_fragment server =
+    counted_or_not server (after_count (record server { next = server.next + 1 })) (is_ok (next_fragment server)) (record { image = refl; plan = refl })
 
-counted_by_test : (image : List ℕ) (devices : List Late) (server : ServerState) (test : Bool) → IsBuilt image devices server
-    → IsBuilt image devices (cond test (after_count server) server)
-counted_by_test image devices server true built = record { image_is = built.image_is; numbers = built.numbers }
-counted_by_test image devices server false built = built
-
-pub built_after_status : (image : List ℕ) (devices : List Late) (server : ServerState) → IsBuilt image devices server → IsBuilt image devices (after_status_to_all server)
+pub kept_after_status : (server : ServerState) → KeepsPlan server (after_status_to_all server)
 unfolding after_status_to_all
-built_after_status image devices server built = counted_by_test image devices server (is_some (status_to_all server)) built
+kept_after_status server = counted_or_not server (after_count server) (is_some (status_to_all server)) (record { image = refl; plan = refl })
 
-kept_with_answers : (image : List ℕ) (devices : List Late) (server : ServerState) (dev : ℕ) (cs : List Command) (stage : Option Stage) → IsBuilt image devices server
-    → IsBuilt image devices (with_answers server dev cs stage)
-kept_with_answers image devices server dev cs None built = built
-kept_with_answers image devices server dev cs (Some stage) built = record { image_is = built.image_is; numbers = built.numbers }
+kept_with_answers : (server : ServerState) (dev : ℕ) (cs : List Command) (stage : Option Stage) → KeepsPlan server (with_answers server dev cs stage)
+kept_with_answers server dev cs None = record { image = refl; plan = refl }
+kept_with_answers server dev cs (Some stage) = record { image = refl; plan = refl }
 
-kept_by_reading : (image : List ℕ) (devices : List Late) (server : ServerState) (dev t : ℕ) (reading : Reading) → IsBuilt image devices server
-    → IsBuilt image devices (read_uplink server dev t reading).server
+kept_by_reading : (server : ServerState) (dev t : ℕ) (reading : Reading) → KeepsPlan server (read_uplink server dev t reading).server
 unfolding read_uplink
-kept_by_reading image devices server dev t (Ok cs) built = kept_with_answers image devices server dev cs (ledger server dev) built
-kept_by_reading image devices server dev t (Err refusal) built = built
+kept_by_reading server dev t (Ok cs) = kept_with_answers server dev cs (ledger server dev)
+kept_by_reading server dev t (Err refusal) = record { image = refl; plan = refl }
 
-pub built_after_uplink : (image : List ℕ) (devices : List Late) (server : ServerState) (dev port : ℕ) (payload : List ℕ) (t : ℕ) → IsBuilt image devices server
-    → IsBuilt image devices (uplink_step server dev port payload t).server
+pub kept_after_uplink : (server : ServerState) (dev port : ℕ) (payload : List ℕ) (t : ℕ) → KeepsPlan server (uplink_step server dev port payload t).server
 unfolding uplink_step
-built_after_uplink image devices server dev port payload t built = kept_by_reading image devices server dev t (reading_of port Up payload) built
+kept_after_uplink server dev port payload t = kept_by_reading server dev t (reading_of port Up payload)
 
-pub built_of : (image : List ℕ) (devices : List Late) (server : Option ServerState) (s : ServerState) → server ≡ Some s → ServerIs image devices server → IsBuilt image devices s
-built_of image devices server s is built = rw is at built
+-- so a campaign stays one
+pub stays_campaign : (time : ℕ) (old new : ServerState) (devices : List Late) (uplinks : List MadeUplink) → KeepsPlan old new
+    → IsCampaign time old devices uplinks → IsCampaign time new devices uplinks
+stays_campaign time old new devices uplinks keeps is = record {
+  image_is = rw (keeps.image) is.image_is;
+  timed = is.timed;
+  few = is.few;
+  numbers = rw (keeps.plan) is.numbers;
+  made = is.made;
+}
+
+-- and so it does behind an event at a device
+pub stays_reached : (time : ℕ) (server : ServerState) (old new : List Late) (uplinks new_uplinks : List MadeUplink) (id : ℕ)
+    → length new ≡ length old → StayMade id uplinks new_uplinks → id ≤ length old
+    → IsCampaign time server old uplinks → IsCampaign time server new new_uplinks
+stays_reached time server old new uplinks new_uplinks id long stay last is = record {
+  image_is = is.image_is;
+  timed = is.timed;
+  few = rw (long) is.few;
+  numbers = is.numbers ∙ sym long;
+  made = rw (long) (stay (length old) last is.made);
+}
 
 -- ---- a device joins
 
-join_held : (held : HeldWorld) (ds : List DeviceState) (new_plan : Plan) (new_devices : List Late) (config : DeviceConfig) (device : Late)
-    → DevicesRest held.devices ds → new_plan ≡ record held.plan { devices = held.plan.devices ++ record { key = config.key; root = config.root } ∷ [] }
-    → new_devices ≡ held.devices ++ device ∷ [] → DeviceRests device (first_device config) → (server : Option ServerState) → server ≡ None
-    → WorldStands (record held { section = section.Devices; plan = new_plan; devices = new_devices; server = server })
-    (with_plan (record (world_of (record held { server = server }) ds) { devices = ds ++ first_device config ∷ [] })
-    (record (server_of held.image held.plan server).plan { devices = (server_of held.image held.plan server).plan.devices ++ record { key = config.key; root = config.root } ∷ [] }) section.Devices)
-join_held held ds new_plan new_devices config device all plan_is devices_are joins server none =
-    rw (none, plan_is, devices_are) (record { devices = zip_more DeviceRests held.devices ds device (first_device config) all joins; rest = refl })
+-- what a plan holds
+abbrev Planned : (image : List ℕ) → Plan → List Late → HeldCampaign
+Planned image plan devices = record { time = 0; server = first_server image plan; devices = devices; sent = []; uplinks = [] }
 
-pub join_step : (held : HeldWorld) (world : WorldState) (new_plan : Plan) (new_devices : List Late) (config : DeviceConfig) (device : Late)
-    → WorldStands held world → new_plan ≡ record held.plan { devices = held.plan.devices ++ record { key = config.key; root = config.root } ∷ [] }
-    → new_devices ≡ held.devices ++ device ∷ [] → DeviceRests device (first_device config) → held.server ≡ None
-    → WorldStands (record held { section = section.Devices; plan = new_plan; devices = new_devices })
+join_held : (lines : ℕ) (here : Section) (kept : Option LineError) (image : List ℕ) (plan new_plan : Plan) (devices new_devices : List Late)
+    (ds : List DeviceState) (config : DeviceConfig) (device : Late) → DevicesRest devices ds
+    → new_plan ≡ record plan { devices = plan.devices ++ record { key = config.key; root = config.root } ∷ [] }
+    → new_devices ≡ devices ++ device ∷ [] → DeviceRests device (first_device config)
+    → WorldStands (held_with lines section.Devices kept (Planned image new_plan new_devices))
+    (with_plan (record (world_of (held_with lines here kept (Planned image plan devices)) ds) { devices = ds ++ first_device config ∷ [] })
+    (record plan { devices = plan.devices ++ record { key = config.key; root = config.root } ∷ [] }) section.Devices)
+join_held lines here kept image plan new_plan devices new_devices ds config device all plan_is devices_are joins =
+    rw (plan_is, devices_are) (record { devices = zip_more DeviceRests devices ds device (first_device config) all joins; rest = refl })
+
+pub join_step : (lines : ℕ) (here : Section) (kept : Option LineError) (image : List ℕ) (plan new_plan : Plan) (devices new_devices : List Late)
+    (world : WorldState) (config : DeviceConfig) (device : Late) → WorldStands (held_with lines here kept (Planned image plan devices)) world
+    → new_plan ≡ record plan { devices = plan.devices ++ record { key = config.key; root = config.root } ∷ [] }
+    → new_devices ≡ devices ++ device ∷ [] → DeviceRests device (first_device config)
+    → WorldStands (held_with lines section.Devices kept (Planned image new_plan new_devices))
     (with_plan (record world { devices = world.devices ++ first_device config ∷ [] })
     (record world.server.plan { devices = world.server.plan.devices ++ record { key = config.key; root = config.root } ∷ [] }) section.Devices)
-join_step held world new_plan new_devices config device stands plan_is devices_are joins none =
-    subst (λ (w : WorldState). WorldStands (record held { section = section.Devices; plan = new_plan; devices = new_devices })
+join_step lines here kept image plan new_plan devices new_devices world config device stands plan_is devices_are joins =
+    subst (λ (w : WorldState). WorldStands (held_with lines section.Devices kept (Planned image new_plan new_devices))
     (with_plan (record w { devices = w.devices ++ first_device config ∷ [] })
     (record w.server.plan { devices = w.server.plan.devices ++ record { key = config.key; root = config.root } ∷ [] }) section.Devices)) (sym stands.rest)
-    (join_held held world.devices new_plan new_devices config device stands.devices plan_is devices_are joins held.server none)
+    (join_held lines here kept image plan new_plan devices new_devices world.devices config device stands.devices plan_is devices_are joins)
 
--- ---- an event is the same behind the plan
+-- ---- an event, and the end
 
-at_device_alike : (world : WorldState) (n : ℕ) (d : Option DeviceState) (o : Option Event)
-    → at_events (after_event_at (at_events world) n d o) ≡ at_events (after_event_at world n d o)
-unfolding with_device
-at_device_alike world n None o = refl
-at_device_alike world n (Some d) None = refl
-at_device_alike world n (Some d) (Some event) = refl
-
-sent_alike : (world : WorldState) (server : ServerState) (receiver : Option ℕ) (down : Option DownlinkCommand)
-    → at_events (with_sent (record (at_events world) { server = server }) receiver down) ≡ at_events (with_sent (record world { server = server }) receiver down)
-sent_alike world server receiver None = refl
-sent_alike world server receiver (Some down) = refl
-
-answer_alike : (world : WorldState) (device : ℕ) (step : UplinkStep) (answer : Result (Option DownlinkCommand) Refusal) → step.answer ≡ answer
-    → at_events (after_answer (at_events world) device step) ≡ at_events (after_answer world device step)
-answer_alike world device step (Ok down) is = rw (is) (sent_alike world step.server (Some device) down)
-answer_alike world device step (Err refusal) is = rw (is) refl
-
-up_alike : (world : WorldState) (made : Option MadeUplink) → at_events (after_up (at_events world) made) ≡ at_events (after_up world made)
-up_alike world None = refl
-up_alike world (Some made) = answer_alike world made.device (uplink_step world.server made.device made.uplink.port made.uplink.payload world.time) _ refl
-
-pub event_alike : (world : WorldState) (f : Form) → is_event_or_end f ≡ true → after_form (at_events world) f ≡ after_form world f
+-- behind an event more of them come, and behind the end none
+event_section : (world : WorldState) (f : Form) → is_event_or_end f ≡ true
+    → after_form world f ≡ record (at_events (after_form world f)) { section = section_by (is_end f) }
 unfolding after_form
-event_alike world form.Header event = absurd cc
-event_alike world (form.Image frag_size parity) event = absurd cc
-event_alike world (form.Group addr key min max) event = absurd cc
-event_alike world (form.WindowC start timeout freq dr) event = absurd cc
-event_alike world (form.WindowB start periodicity timeout freq dr) event = absurd cc
-event_alike world (form.Device id class hw rows offset key descriptor v1 k11) event = absurd cc
-event_alike world (form.At time) event = refl
-event_alike world (form.Wake device) event = at_device_alike world device (numbered world.devices device) _
-event_alike world (form.Migrate device) event = at_device_alike world device (numbered world.devices device) _
-event_alike world (form.Ask device) event = sent_alike world world.server (Some device) (request_of world.server device)
-event_alike world form.Frag event = sent_alike world (after_fragment world.server) None (result_ok (next_fragment world.server))
-event_alike world form.Status event = sent_alike world (after_status_to_all world.server) None (status_to_all world.server)
-event_alike world (form.Down number device word) event = at_device_alike world device (numbered world.devices device) _
-event_alike world (form.Raw device port payload word) event = at_device_alike world device (numbered world.devices device) _
-event_alike world (form.Air number device word) event = at_device_alike world device (numbered world.devices device) _
-event_alike world (form.RawAir device bytes word) event = at_device_alike world device (numbered world.devices device) _
-event_alike world (form.Up number) event = up_alike world (numbered world.uplinks number)
-event_alike world form.End event = refl
+event_section world form.Header event = absurd cc
+event_section world (form.Image frag_size parity) event = absurd cc
+event_section world (form.Group addr key min max) event = absurd cc
+event_section world (form.WindowC start timeout freq dr) event = absurd cc
+event_section world (form.WindowB start periodicity timeout freq dr) event = absurd cc
+event_section world (form.Device id class hw rows offset key descriptor v1 k11) event = absurd cc
+event_section world (form.At time) event = refl
+event_section world (form.Wake device) event = refl
+event_section world (form.Migrate device) event = refl
+event_section world (form.Ask device) event = refl
+event_section world form.Frag event = refl
+event_section world form.Status event = refl
+event_section world (form.Down number device word) event = refl
+event_section world (form.Raw device port payload word) event = refl
+event_section world (form.Air number device word) event = refl
+event_section world (form.RawAir device bytes word) event = refl
+event_section world (form.Up number) event = refl
+event_section world form.End event = refl
+
+section_stands : (lines : ℕ) (kept : Option LineError) (held : HeldCampaign) (world : WorldState) (f : Form) → is_event_or_end f ≡ true
+    → WorldStands (held_with lines section.Events kept held) (at_events (after_form world f))
+    → WorldStands (held_with lines (section_by (is_end f)) kept held) (after_form world f)
+section_stands lines kept held world f event stands =
+    subst (λ (w : WorldState). WorldStands (held_with lines (section_by (is_end f)) kept held) w) (sym (event_section world f event))
+    (record { devices = stands.devices; rest = ap (λ (w : WorldState). record w { section = section_by (is_end f) }) stands.rest })
+
+-- what a campaign makes of an event is what the form makes of it
+pub played_step : (lines : ℕ) (here : Section) (old new : HeldCampaign) (r : Result (Unit {0}) AllocError) (f : Form) → is_event_or_end f ≡ true
+    → Plays lines old new r (λ world. at_events (after_form world f)) → Becomes lines here (section_by (is_end f)) old new r (λ world. after_form world f)
+played_step lines here old new r f event plays kept =
+    on_ok r (λ ok. λ world stands. section_stands lines kept new world f event (on_ok_then r ok (plays here kept) world stands))
+
+-- behind its line there is one line more
+pub one_more_stands : (held : HeldWorld) (world : WorldState) → WorldStands held world
+    → WorldStands (record held { lines = held.lines + 1 }) (one_line_more world)
+one_more_stands held world stands = record { devices = stands.devices; rest = ap one_line_more stands.rest }
 
 -- ---- what stays where memory is wanting
 
 -- devices and server are as they were
-pub ends_alike : (old new : HeldWorld) → new.devices ≡ old.devices
-    → server_of new.image new.plan new.server ≡ server_of old.image old.plan old.server → KeepsEnds old new
+pub ends_alike : (old new : HeldWorld) → new.devices ≡ old.devices → new.server ≡ old.server → KeepsEnds old new
 ends_alike old new devices server world stands = record {
   devices = rw (devices) stands.devices;
   server = ap (λ (w : WorldState). w.server) stands.rest ∙ sym server;
 }
-
--- the server was made, and then they are
-pub ends_begun : (old middle new : HeldWorld) → ((world : WorldState) → WorldStands old world → WorldStands middle (at_events world))
-    → KeepsEnds middle new → KeepsEnds old new
-ends_begun old middle new begun keeps world stands =
-    let kept = keeps (at_events world) (begun world stands) in
-    record { devices = kept.devices; server = kept.server }

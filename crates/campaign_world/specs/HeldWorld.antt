@@ -1,43 +1,58 @@
 -- What a world holds, for which campaigns it stands, and what it answers.
-use Rattle.std.specs.Prelude.{◌≡◌, ℕ, ◌+◌, ◌-◌, List, [], ◌∷◌, ◌++◌, length, map, slice_get, slice_set, Option, Some, None, Result, Ok, Err}
+use Rattle.std.specs.Prelude.{◌≡◌, ℕ, ◌+◌, ◌-◌, List, [], ◌∷◌, ◌++◌, length, map, slice_get, slice_set, Option, Some, None, Result, Ok, Err, OnOk, true}
 use Rattle.std.specs.List.{AllZip}
 use Rattle.device_core.specs.Device.{DeviceState}
 use Rattle.device_core.specs.declared.uplink.Uplink.{Uplink}
-use Rattle.campaign_server.specs.Plan.{Plan}
-use Rattle.campaign_server.specs.Server.{ServerState, first_server}
+use Rattle.campaign_server.specs.Server.{ServerState}
 use Rattle.report_lines.specs.declared.faults.LineError.{LineError}
 use Rattle.report_lines.specs.declared.faults.LineError.TheVariants as error
 use Rattle.campaign_world.specs.declared.numbered.SentPayload.{SentPayload}
 use Rattle.campaign_world.specs.declared.numbered.MadeUplink.{MadeUplink}
 use Rattle.campaign_world.specs.declared.section.Section.{Section}
+use Rattle.campaign_world.specs.declared.section.Section.TheVariants as section
 use Rattle.campaign_world.specs.World.{WorldState}
 use Rattle.campaign_world.specs.HeldLate.{Late, DeviceRests}
 use Rattle.package_grammar.specs.declared.downlink.Downlink.{Downlink}
 use Rattle.script_lines.specs.declared.forms.Form.{Form}
 use Rattle.report_lines.specs.declared.faults.LineWhy.{LineWhy}
-use Rattle.campaign_world.specs.Causes.{form_cause, cause_of}
+use Rattle.script_lines.specs.Ranges.{in_range}
+use Rattle.campaign_world.specs.Causes.{fits_script, names_device, has_come, fits_payload, form_cause, cause_of}
 use Rattle.campaign_world.specs.Making.{made_by}
 use Rattle.campaign_world.specs.Script.{after_line, end_result}
 use Rattle.campaign_world.specs.Report.{report_of}
 use Rattle.campaign_world.specs.Summary.{summary_of}
 
--- a world without the histories of its devices; the server is made at the first event
+-- a campaign without the histories of its devices, whether it is planned or plays
+pub record HeldCampaign : Type 0 where
+  pub time : ℕ
+  pub server : ServerState
+  pub devices : List Late
+  pub sent : List SentPayload
+  pub uplinks : List MadeUplink
+
+-- a world without them
 pub record HeldWorld : Type 0 where
-  pub image : List ℕ
   pub lines : ℕ
   pub section : Section
   pub time : ℕ
-  pub plan : Plan
-  pub server : Option ServerState
+  pub server : ServerState
   pub devices : List Late
   pub sent : List SentPayload
   pub uplinks : List MadeUplink
   pub kept : Option LineError
 
--- until it is made the server is the first one of the plan so far
-abbrev pub server_of : (image : List ℕ) → Plan → Option ServerState → ServerState
-server_of image plan None = first_server image plan
-server_of image plan (Some server) = server
+-- the world behind so many lines, at a section, that holds this campaign
+abbrev pub held_with : (lines : ℕ) → Section → (kept : Option LineError) → HeldCampaign → HeldWorld
+held_with lines section kept held = record {
+  lines = lines;
+  section = section;
+  time = held.time;
+  server = held.server;
+  devices = held.devices;
+  sent = held.sent;
+  uplinks = held.uplinks;
+  kept = kept;
+}
 
 -- the campaign that it stands for, with these devices
 abbrev pub world_of : HeldWorld → List DeviceState → WorldState
@@ -45,7 +60,7 @@ world_of held devices = record {
   lines = held.lines;
   section = held.section;
   time = held.time;
-  server = server_of held.image held.plan held.server;
+  server = held.server;
   devices = devices;
   sent = held.sent;
   uplinks = held.uplinks;
@@ -99,7 +114,7 @@ WorldBecomes old new after = (world : WorldState) → WorldStands old world → 
 -- both ends stand for the campaign's
 pub record EndsStand (held : HeldWorld) (world : WorldState) : Type 0 where
   pub devices : DevicesRest held.devices world.devices
-  pub server : world.server ≡ server_of held.image held.plan held.server
+  pub server : world.server ≡ held.server
 
 -- whatever campaign was stood for, its devices and its server are stood for now
 abbrev pub KeepsEnds : (old new : HeldWorld) → Type 0
@@ -131,6 +146,12 @@ IsEnded world (Err error.Memory) = ⊥
 
 -- ---- what its private calls ask and answer
 
+-- the same of any answer to that
+abbrev pub IsOver : {A : Type 0} → WorldState → Result A LineError → Type 0
+IsOver world (Ok answer) = end_result (Ok world) ≡ Ok world
+IsOver world (Err (error.Line fault)) = end_result (Ok world) ≡ Err fault
+IsOver world (Err error.Memory) = ⊥
+
 -- no cause holds of the form, whatever it stands for
 abbrev pub IsFine : HeldWorld → Form → Type 0
 IsFine held form = (devices : List DeviceState) → length devices ≡ length held.devices → form_cause (world_of held devices) form ≡ None
@@ -149,9 +170,25 @@ abbrev pub answered : {A E : Type 0} → Result (Option A) E → Option A
 answered (Ok answer) = answer
 answered (Err refusal) = None
 
--- the server is made, and all else stays but for the section
-pub record HasBegun (old new : HeldWorld) : Type 0 where
+-- what was tested of a form before it is carried out, but for whether it may come
+pub record IsTested (held : HeldCampaign) (form : Form) : Type 0 where
+  pub ranges : in_range form ≡ true
+  pub fits : fits_script (length held.server.image) (length held.devices) form ≡ true
+  pub names : names_device (length held.devices) form ≡ true
+  pub come : has_come held.sent held.uplinks held.time form ≡ true
+  pub short : fits_payload form ≡ true
+
+-- where it is Ok, whatever world held the campaign becomes this, from one section to another
+abbrev pub Becomes : (lines : ℕ) → (here there : Section) → (old new : HeldCampaign) → {E : Type 0} → Result (Unit {0}) E
+    → (WorldState → WorldState) → Type 0
+Becomes lines here there old new result after =
+    (kept : Option LineError) → OnOk result (WorldBecomes (held_with lines here kept old) (held_with lines there kept new) after)
+
+-- so does one that plays, from whatever section
+abbrev pub Plays : (lines : ℕ) → (old new : HeldCampaign) → {E : Type 0} → Result (Unit {0}) E → (WorldState → WorldState) → Type 0
+Plays lines old new result after = (here : Section) → Becomes lines here section.Events old new result after
+
+-- devices and server are as they were
+pub record SameEnds (old new : HeldCampaign) : Type 0 where
   pub devices : new.devices ≡ old.devices
-  pub sent : new.sent ≡ old.sent
-  pub uplinks : new.uplinks ≡ old.uplinks
-  pub time : new.time ≡ old.time
+  pub server : new.server ≡ old.server

@@ -10,3 +10,4 @@ pub mod HeldLate
 pub mod HeldWorld
 pub mod HeardWorld
 pub mod WorldInside
+pub mod PhaseInside

@@ -1,13 +1,12 @@
--- What a world's fields keep true.
-use Rattle.std.specs.Prelude.{◌≡◌, ℕ, ◌≤◌, ◌<◌, true, ◌⊎◌, List, [], length, Option, Some, None, is_some}
+-- What the fields of a world's phases keep true.
+use Rattle.std.specs.Prelude.{◌≡◌, ℕ, ◌≤◌, true, List, [], length, None, is_some}
 use Rattle.std.specs.List.{AllByRecursion}
 use Rattle.image_slots.specs.Image.{is_image}
 use Rattle.device_core.specs.Sendable.{IsUplink}
 use Rattle.campaign_server.specs.Plan.{Plan, is_frag_size, is_group, is_window, max_parity, max_devices}
 use Rattle.campaign_server.specs.Server.{ServerState}
-use Rattle.script_lines.specs.Limits.{max_lines, max_time}
+use Rattle.script_lines.specs.Limits.{max_time}
 use Rattle.campaign_world.specs.HeldLate.{Late}
-use Rattle.campaign_world.specs.HeldWorld.{HeldWorld}
 use Rattle.campaign_world.specs.declared.numbered.MadeUplink.{MadeUplink}
 use Rattle.campaign_world.specs.declared.section.Section.{Section}
 use Rattle.campaign_world.specs.declared.section.Section.TheVariants as section
@@ -20,31 +19,34 @@ pub record IsSized (image : List ℕ) (plan : Plan) (devices : List Late) : Type
   pub numbers : length plan.devices ≡ length devices
   pub count : length devices ≤ max_devices
 
--- the server sends the image to the devices
-pub record IsBuilt (image : List ℕ) (devices : List Late) (server : ServerState) : Type 0 where
-  pub image_is : server.image ≡ image
-  pub numbers : length server.plan.devices ≡ length devices
-
-abbrev pub ServerIs : List ℕ → List Late → Option ServerState → Type 0
-ServerIs image devices None = Unit {0}
-ServerIs image devices (Some server) = IsBuilt image devices server
-
 -- a group has its window
 abbrev pub IsWindowed : Plan → Type 0
 IsWindowed plan = is_window plan.group plan.window ≡ true
 
--- nothing is planned before the image's line
-abbrev pub IsPlanned : (image : List ℕ) → Section → Plan → List Late → Option ServerState → Type 0
-IsPlanned image section.Header plan devices server = (plan.group ≡ None) × (plan.window ≡ None) × (plan.devices ≡ []) × (devices ≡ []) × (server ≡ None)
-IsPlanned image section.Image plan devices server = (plan.group ≡ None) × (plan.window ≡ None) × (plan.devices ≡ []) × (devices ≡ []) × (server ≡ None)
-IsPlanned image section.Group plan devices server = IsSized image plan devices × (plan.group ≡ None) × (plan.window ≡ None) × (server ≡ None)
+-- nothing is planned before the image's line, and events are none of the plan's
+abbrev pub IsPlanned : (image : List ℕ) → Section → Plan → List Late → Type 0
+IsPlanned image section.Header plan devices = (plan.group ≡ None) × (plan.window ≡ None) × (plan.devices ≡ []) × (devices ≡ [])
+IsPlanned image section.Image plan devices = (plan.group ≡ None) × (plan.window ≡ None) × (plan.devices ≡ []) × (devices ≡ [])
+IsPlanned image section.Group plan devices = IsSized image plan devices × (plan.group ≡ None) × (plan.window ≡ None)
 -- behind a group its window is to come
-IsPlanned image section.Window plan devices server = IsSized image plan devices × (is_some plan.group ≡ true) × (server ≡ None)
-IsPlanned image section.Device plan devices server = IsSized image plan devices × IsWindowed plan × (server ≡ None)
-IsPlanned image section.Devices plan devices server = IsSized image plan devices × IsWindowed plan × (1 ≤ length devices) × (server ≡ None)
-IsPlanned image section.Events plan devices server = (s : ServerState) × (server ≡ Some s)
--- behind the end, and behind want of memory
-IsPlanned image section.Ended plan devices server = Unit {0}
+IsPlanned image section.Window plan devices = IsSized image plan devices × (is_some plan.group ≡ true)
+IsPlanned image section.Device plan devices = IsSized image plan devices × IsWindowed plan
+IsPlanned image section.Devices plan devices = IsSized image plan devices × IsWindowed plan × (1 ≤ length devices)
+IsPlanned image section.Events plan devices = ⊥
+IsPlanned image section.Ended plan devices = ⊥
+
+-- what is being planned
+pub record IsPlanning (image : List ℕ) (section : Section) (plan : Plan) (devices : List Late) : Type 0 where
+  pub image_is : is_image image ≡ true
+  pub few : length devices ≤ max_devices
+  pub planned : IsPlanned image section plan devices
+
+-- when its server is made
+pub record IsToBegin (image : List ℕ) (plan : Plan) (devices : List Late) : Type 0 where
+  pub image_is : is_image image ≡ true
+  pub sized : IsSized image plan devices
+  pub windowed : IsWindowed plan
+  pub some : 1 ≤ length devices
 
 -- an uplink is one of a device that there is, and one command in its canonical spelling
 pub record IsMadeBy (count : ℕ) (made : MadeUplink) : Type 0 where
@@ -60,22 +62,10 @@ AreMadeBy count uplinks = AllByRecursion (IsMadeBy count) uplinks
 abbrev pub StayMade : (id : ℕ) → (old new : List MadeUplink) → Type 0
 StayMade id old new = (count : ℕ) → id ≤ count → AreMadeBy count old → AreMadeBy count new
 
-pub record IsWorld (image : List ℕ) (lines : ℕ) (section : Section) (time : ℕ) (plan : Plan) (server : Option ServerState) (devices : List Late) (uplinks : List MadeUplink) : Type 0 where
-  pub image_is : is_image image ≡ true
-  pub counted : lines ≤ max_lines
+-- what plays
+pub record IsCampaign (time : ℕ) (server : ServerState) (devices : List Late) (uplinks : List MadeUplink) : Type 0 where
+  pub image_is : is_image server.image ≡ true
   pub timed : time ≤ max_time
   pub few : length devices ≤ max_devices
-  pub built : ServerIs image devices server
-  pub planned : IsPlanned image section plan devices server
+  pub numbers : length server.plan.devices ≡ length devices
   pub made : AreMadeBy (length devices) uplinks
-
--- what a world holds when a device joins
-pub record IsToJoin (held : HeldWorld) : Type 0 where
-  pub sized : IsSized held.image held.plan held.devices
-  pub windowed : IsWindowed held.plan
-  pub unmade : held.server ≡ None
-  pub room : length held.devices < max_devices
-
--- what it holds when its server is made, or is there
-abbrev pub IsToBegin : HeldWorld → Type 0
-IsToBegin held = ((s : ServerState) × (held.server ≡ Some s)) ⊎ (IsSized held.image held.plan held.devices × IsWindowed held.plan × (1 ≤ length held.devices))

@@ -3,7 +3,7 @@
 ghost use Rattle.std.specs.Prelude.{◌≡◌, ◌≤◌, ◌<◌, ◌^◌, ℕ, length};
 ghost use Rattle.script_lines.specs.declared.forms.Form.TheVariants.{Image};
 ghost use Rattle.image_slots.specs.Image.{max_image};
-ghost use Rattle.campaign_world.specs.Causes.{is_event_or_end, may_come, has_ended, fits_script, is_device, names_device, may_reach, is_to_group, goes_out, is_due_by, has_come, is_to_come, fits_payload};
+ghost use Rattle.campaign_world.specs.Causes.{is_event_or_end, may_come, fits_script, is_device, names_device, may_reach, is_to_group, goes_out, is_due_by, has_come, is_to_come, fits_payload};
 ghost use Rattle.wire_base.specs.Numbered.{numbered};
 
 use crate::numbered::{MadeUplink, SentPayload, numbered};
@@ -42,13 +42,6 @@ pub fn may_come(section: Section, form: &Form) -> bool
         Section::Events => is_event_or_end(form),
         Section::Ended => false,
     }
-}
-
-/// Whether the script has ended.
-pub fn has_ended(section: Section) -> bool
-    ensures { result ≡ has_ended section }
-{
-    matches!(section, Section::Ended)
 }
 
 /// Whether an image of this length has at most 4,096 fragments, and the device's ID is the next behind so many.

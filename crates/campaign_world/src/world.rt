@@ -1,33 +1,28 @@
 //! A campaign as its script tells it, line by line: what was sent, what was heard, and where each end stands.
 
-ghost use Rattle.std.specs.Prelude.{◌≡◌, ◌<◌, ◌+◌, ◌-◌, true, List, length, None, Some, Ok, Err, IfOk, IfErr, IfSome, OnOk, OnErr, is_some, option_map};
+ghost use Rattle.std.specs.Prelude.{◌≡◌, ◌<◌, ◌+◌, true, List, length, None, Some, Ok, Err, IfOk, IfErr, IfSome, OnOk, OnErr, is_some, option_map};
 ghost use Rattle.image_slots.specs.Image.{is_image};
 ghost use Rattle.device_core.specs.Device.{DeviceState};
 ghost use Rattle.device_core.specs.Sendable.{IsUplink};
 ghost use Rattle.wire_base.specs.Numbered.{numbered};
 ghost use Rattle.script_lines.specs.Limits.{max_lines};
 ghost use Rattle.script_lines.specs.Forms.{form_of};
-ghost use Rattle.script_lines.specs.Ranges.{in_range};
-ghost use Rattle.campaign_world.specs.World.{WorldState, first_plan, first_world};
-ghost use Rattle.campaign_world.specs.Causes.{is_event_or_end, names_device, has_come, fits_payload, has_more, form_cause};
+ghost use Rattle.campaign_world.specs.World.{WorldState, first_world};
+ghost use Rattle.campaign_world.specs.Causes.{form_cause};
 ghost use Rattle.campaign_world.specs.Script.{one_line_more};
 ghost use Rattle.campaign_world.specs.Making.{after_form};
 ghost use Rattle.campaign_world.specs.Recovery.{recovery};
 
 mod events;
+mod phase;
 mod planning;
 
-use crate::causes::{
-    fits_payload, fits_script, has_come, has_ended, is_event_or_end, is_to_come, may_come,
-    names_device,
-};
-use crate::late::LateDevice;
-use crate::numbered::{MadeUplink, SentPayload, numbered};
+use self::events::Campaign;
+use self::phase::Phase;
+use self::planning::Planning;
+use crate::causes::{fits_payload, fits_script, has_come, is_to_come, may_come, names_device};
+use crate::numbered::numbered;
 use crate::recovery::{NoFile, recovered_by};
-use crate::report::report;
-use crate::section::Section;
-use crate::summary::summary;
-use campaign_server::{Plan, Server};
 use device_core::Uplink;
 use report_lines::{LineError, LineWhy, MAX_LINE, MAX_LINES, refused_behind};
 use script_lines::{Form, form, in_range};
@@ -38,44 +33,27 @@ use std::marker::Model;
 #[derive(Drop)]
 pub struct World {
     alloc: Global,
-    image: Vec<u8>,
     lines: u32,
-    section: Section,
-    time: u64,
-    plan: Plan,
-    server: Option<Server>,
-    devices: Vec<LateDevice>,
-    sent: Vec<SentPayload>,
-    uplinks: Vec<MadeUplink>,
+    phase: Phase,
     kept: Option<LineError>,
 }
 
 impl Model for World {
     ghost use Rattle.campaign_world.specs.HeldWorld.{HeldWorld};
-    ghost use Rattle.campaign_world.specs.WorldInside.{IsWorld};
 
     ghost Value = { HeldWorld };
 
-    ghost view = { λ w. record {
-      image = w.image.items;
-      lines = w.lines;
-      section = w.section;
-      time = w.time;
-      plan = w.plan;
-      server = w.server;
-      devices = w.devices.items;
-      sent = w.sent.items;
-      uplinks = w.uplinks.items;
-      kept = w.kept;
-    } };
+    ghost use Rattle.campaign_world.specs.HeldWorld.{held_with};
+    ghost use Rattle.campaign_world.specs.PhaseInside.{IsWorld, held_of, section_of};
 
-    ghost invariant = { λ w. IsWorld w.image.items w.lines w.section w.time w.plan w.server w.devices.items w.uplinks.items };
+    ghost view = { λ w. held_with w.lines (section_of w.phase) w.kept (held_of w.phase) };
+
+    ghost invariant = { λ w. IsWorld w.lines w.phase };
 }
 
 impl World {
     ghost use Rattle.report_lines.specs.declared.faults.LineError.{LineError};
-    ghost use Rattle.campaign_world.specs.HeldWorld.{WorldStands, WorldBecomes, KeepsEnds, IsLineAnswer, IsReport, IsSummary, IsEnded, IsFine, IsCauseOf, HasBegun, world_of};
-    ghost use Rattle.campaign_world.specs.WorldInside.{IsToJoin, IsToBegin};
+    ghost use Rattle.campaign_world.specs.HeldWorld.{WorldStands, WorldBecomes, KeepsEnds, IsLineAnswer, IsReport, IsSummary, IsEnded, IsOver, IsFine, IsCauseOf, world_of};
     ghost use Rattle.report_lines.specs.Texts.{seen_text};
 
     /// A world in which nothing happened yet, around an image file.
@@ -84,17 +62,11 @@ impl World {
         ensures stands { IfOk result (λ w. WorldStands w (first_world image.now)) }
         ensures fresh { IfOk result (λ w. w.kept ≡ None) }
     {
+        let bytes = image.to_vec(alloc)?;
         Ok(World {
             alloc,
-            image: image.to_vec(alloc)?,
             lines: 0,
-            section: Section::Header,
-            time: 0,
-            plan: first_plan(alloc),
-            server: None,
-            devices: Vec::new(alloc),
-            sent: Vec::new(alloc),
-            uplinks: Vec::new(alloc),
+            phase: Phase::Planning(Planning::new(alloc, bytes)),
             kept: None,
         })
     }
@@ -128,17 +100,13 @@ impl World {
             → IsReport world (seen_text result) }
         ensures same { (e : LineError) → self.now.kept ≡ Some e → result ≡ Err e }
     {
-        match self.ended() {
-            Ok(()) => {}
+        let campaign = match self.played() {
+            Ok(campaign) => campaign,
             Err(error) => return Err(error),
-        }
-        match &self.server {
-            Some(server) => match report(alloc, server, &self.devices) {
-                Ok(text) => Ok(text),
-                Err(_) => Err(LineError::Memory),
-            },
-            // no script ends without one, but where memory was wanting
-            None => Err(LineError::Memory),
+        };
+        match campaign.report(alloc) {
+            Ok(text) => Ok(text),
+            Err(_) => Err(LineError::Memory),
         }
     }
 
@@ -148,16 +116,13 @@ impl World {
             → IsSummary world (seen_text result) }
         ensures same { (e : LineError) → self.now.kept ≡ Some e → result ≡ Err e }
     {
-        match self.ended() {
-            Ok(()) => {}
+        let campaign = match self.played() {
+            Ok(campaign) => campaign,
             Err(error) => return Err(error),
-        }
-        match &self.server {
-            Some(server) => match summary(alloc, server, self.sent.len(), &self.devices) {
-                Ok(text) => Ok(text),
-                Err(_) => Err(LineError::Memory),
-            },
-            None => Err(LineError::Memory),
+        };
+        match campaign.summary(alloc) {
+            Ok(text) => Ok(text),
+            Err(_) => Err(LineError::Memory),
         }
     }
 
@@ -166,13 +131,9 @@ impl World {
         ensures ended { (world : WorldState) → WorldStands self.now world → self.now.kept ≡ None → IsEnded world result }
         ensures same { (e : LineError) → self.now.kept ≡ Some e → result ≡ Err e }
     {
-        if let Some(kept) = self.kept {
-            return Err(kept);
-        }
-        if has_ended(self.section) {
-            Ok(())
-        } else {
-            Err(self.fault(LineWhy::Syntax))
+        match self.played() {
+            Ok(_) => Ok(()),
+            Err(error) => Err(error),
         }
     }
 
@@ -181,7 +142,7 @@ impl World {
         ensures file { (world : WorldState) → WorldStands self.now world → IfOk result (λ file. recovery world device ≡ Ok file.now) }
         ensures why { (world : WorldState) → WorldStands self.now world → IfErr result (λ why. recovery world device ≡ Err why) }
     {
-        match numbered(&self.devices, u64::from(device)) {
+        match numbered(self.phase.devices(), u64::from(device)) {
             Some(found) => recovered_by(found),
             None => Err(NoFile::None),
         }
@@ -193,9 +154,9 @@ impl World {
             ≡ option_map (λ made. made.uplink) (numbered self.now.uplinks number) }
         ensures single { IfSome result (λ uplink. IsUplink uplink.now) }
     {
-        match numbered(&self.uplinks, number) {
-            Some(made) => Some(&made.uplink),
-            None => None,
+        match &self.phase {
+            Phase::Planning(_) => None,
+            Phase::Playing { campaign, .. } => campaign.uplink(number),
         }
     }
 
@@ -204,6 +165,26 @@ impl World {
         ensures { result ≡ is_some self.now.kept }
     {
         self.kept.is_some()
+    }
+
+    /// The campaign that was played to its end, or the fault of the line that is missing.
+    fn played(&self) -> Result<&Campaign, LineError>
+        ensures ended { (world : WorldState) → WorldStands self.now world → self.now.kept ≡ None → IsOver world result }
+        ensures same { (e : LineError) → self.now.kept ≡ Some e → result ≡ Err e }
+        ensures devices { IfOk result (λ campaign. campaign.now.devices ≡ self.now.devices) }
+        ensures server { IfOk result (λ campaign. campaign.now.server ≡ self.now.server) }
+        ensures sent { IfOk result (λ campaign. campaign.now.sent ≡ self.now.sent) }
+    {
+        if let Some(kept) = self.kept {
+            return Err(kept);
+        }
+        match &self.phase {
+            Phase::Playing {
+                campaign,
+                has_ended: true,
+            } => Ok(campaign),
+            _ => Err(self.fault(LineWhy::Syntax)),
+        }
     }
 
     /// The form of the next line, or the first cause for which it is refused.
@@ -233,33 +214,37 @@ impl World {
         ensures { (devices : List DeviceState) → length devices ≡ length self.now.devices
             → result ≡ form_cause (world_of self.now devices) form.now }
     {
-        if !may_come(self.section, form) {
+        let stand = self.phase.stand();
+        if !may_come(stand.section, form) {
             return Some(LineWhy::Order);
         }
         if !in_range(form) {
             return Some(LineWhy::Range);
         }
-        let image: &[u8] = &self.image;
-        let devices: &[LateDevice] = &self.devices;
-        let count = devices.len();
-        if !fits_script(image.len(), count, form) {
+        if !fits_script(stand.size, stand.count, form) {
             return Some(LineWhy::Range);
         }
-        if !names_device(count, form) {
+        if !names_device(stand.count, form) {
             return Some(LineWhy::Device);
         }
-        if !has_come(&self.sent, &self.uplinks, self.time, form) {
+        if !has_come(stand.sent, stand.uplinks, stand.time, form) {
             return Some(LineWhy::Unsent);
         }
-        if !is_to_come(self.time, form) {
+        if !is_to_come(stand.time, form) {
             return Some(LineWhy::Time);
         }
         if !fits_payload(form) {
             return Some(LineWhy::Limit);
         }
-        match &self.server {
-            Some(server) if !has_more(server, form) => Some(LineWhy::Limit),
-            _ => None,
+        match &self.phase {
+            Phase::Planning(_) => None,
+            Phase::Playing { campaign, .. } => {
+                if campaign.has_more(form) {
+                    None
+                } else {
+                    Some(LineWhy::Limit)
+                }
+            }
         }
     }
 
@@ -280,7 +265,7 @@ impl World {
         ensures keeps { IfErr result (λ e. self.new.kept ≡ Some e) }
         ensures ends { OnErr result (KeepsEnds self.old self.new) }
     {
-        match self.carry_out(form) {
+        match self.phase.take(self.alloc, self.lines, form) {
             Ok(()) => {
                 self.lines += 1;
                 Ok(())
@@ -290,46 +275,5 @@ impl World {
                 Err(LineError::Memory)
             }
         }
-    }
-
-    /// Carries out a form: a line of the plan, or an event behind it.
-    fn carry_out(&mut self, form: &Form) -> Result<(), AllocError>
-        requires fine { IsFine self.old form.now }
-        requires room { self.old.lines < max_lines }
-        ensures taken { OnOk result (WorldBecomes self.old self.new (λ world. after_form world form.now)) }
-        ensures kept { self.new.kept ≡ self.old.kept }
-        ensures lines { self.new.lines ≡ self.old.lines }
-        ensures ends { OnErr result (KeepsEnds self.old self.new) }
-    {
-        let _ = &self.alloc;
-        if is_event_or_end(form) {
-            self.play(form)
-        } else {
-            self.plan_line(form)
-        }
-    }
-}
-
-/// Nothing is planned.
-fn first_plan(alloc: Global) -> Plan
-    ensures { result ≡ first_plan }
-{
-    Plan {
-        frag_size: 0,
-        parity: 0,
-        group: None,
-        window: None,
-        devices: Vec::new(alloc),
-    }
-}
-
-/// Whether something is left to send for the form.
-fn has_more(server: &Server, form: &Form) -> bool
-    ensures { result ≡ has_more server.now form.now }
-{
-    match form {
-        Form::Frag => server.has_fragment(),
-        Form::Status => server.has_status(),
-        _ => true,
     }
 }

@@ -1,107 +1,107 @@
-//! Events, over the server that the plan's end made.
+//! A campaign that plays, and its events.
 
-ghost use Rattle.std.specs.Prelude.{◌≡◌, ◌≤◌, ◌<◌, ◌+◌, ◌-◌, ◌++◌, ◌^◌, true, length, None, Some, Ok, Err, IfOk, OnOk, OnErr, option_map, vec_len, vec_capacity};
-ghost use Rattle.campaign_server.specs.Server.{ServerState};
-ghost use Rattle.wire_base.specs.Numbered.{numbered};
-ghost use Rattle.script_lines.specs.Limits.{max_lines};
-ghost use Rattle.script_lines.specs.Ranges.{in_range};
-ghost use Rattle.campaign_world.specs.Causes.{is_event_or_end, names_device, has_come, fits_payload};
+ghost use Rattle.std.specs.Prelude.{◌≡◌, ◌≤◌, ◌<◌, ◌+◌, ◌++◌, ◌^◌, ℕ, true, List, [], length, None, Some, IfOk, IfSome, OnOk, OnErr, option_map, vec_len, vec_capacity};
 ghost use Rattle.std.specs.Result.{result_ok};
+ghost use Rattle.wire_base.specs.Numbered.{numbered};
+ghost use Rattle.image_slots.specs.Image.{is_image};
+ghost use Rattle.script_lines.specs.Limits.{max_lines};
+ghost use Rattle.device_core.specs.Device.{DeviceState};
+ghost use Rattle.device_core.specs.Events.{Wakes, Receives, HearsBytes, Migrates};
+ghost use Rattle.device_core.specs.Sendable.{IsUplink};
+ghost use Rattle.campaign_server.specs.Plan.{max_devices};
 ghost use Rattle.campaign_server.specs.Asking.{request_of};
 ghost use Rattle.campaign_server.specs.Fragments.{next_fragment, after_fragment, status_to_all, after_status_to_all};
 ghost use Rattle.campaign_server.specs.Uplinks.{uplink_step};
 ghost use Rattle.campaign_server.specs.Sent.{down_of};
+ghost use Rattle.campaign_world.specs.Causes.{is_event_or_end, has_more};
 ghost use Rattle.campaign_world.specs.Making.{with_sent, with_event, reception, raw_down, sent_frame, hearing, after_up, at_events, after_form};
-ghost use Rattle.device_core.specs.Events.{Wakes, Receives, HearsBytes, Migrates};
+ghost use Rattle.campaign_world.specs.Report.{report_with};
+ghost use Rattle.campaign_world.specs.Summary.{summary_with};
 ghost use Rattle.campaign_world.specs.HeldWorld.{sent_by, answered};
 ghost use Rattle.campaign_world.specs.declared.numbered.SentPayload.{SentPayload};
 ghost use Rattle.campaign_world.specs.declared.numbered.MadeUplink.{MadeUplink};
 
-use super::World;
 use crate::deliveries::{deliver, hear_bytes, migrate, wake};
+use crate::late::LateDevice;
 use crate::numbered::{MadeUplink, SentPayload, numbered};
-use crate::section::Section;
-use campaign_server::{Plan, Server, ServerError};
-use device_core::Moment;
+use crate::report::report;
+use crate::summary::summary;
+use campaign_server::Server;
+use device_core::{Moment, Uplink};
 use mc_frames::Frame;
 use package_grammar::{Downlink, To};
 use script_lines::{Form, HexBytes, MAX_HEX_BYTES};
 use std::alloc::{AllocError, Global};
+use std::marker::Model;
 use wire_base::Payload;
 
-impl World {
-    ghost use Rattle.campaign_world.specs.HeldWorld.{WorldBecomes, KeepsEnds, HasBegun};
-    ghost use Rattle.campaign_world.specs.WorldInside.{IsToBegin};
+/// A campaign that plays: its server and its devices, what was sent, and what came up.
+#[derive(Drop)]
+pub struct Campaign {
+    alloc: Global,
+    /// In ms.
+    pub(super) time: u64,
+    pub(super) server: Server,
+    pub(super) devices: Vec<LateDevice>,
+    pub(super) sent: Vec<SentPayload>,
+    pub(super) uplinks: Vec<MadeUplink>,
+}
 
-    /// An event, or the end, behind which the plan stands.
-    pub(super) fn play(&mut self, form: &Form) -> Result<(), AllocError>
-        requires event { is_event_or_end form.now ≡ true }
-        requires begins { IsToBegin self.old }
-        requires few { length self.old.devices ≤ 64 }
-        requires ranges { in_range form.now ≡ true }
-        requires names { names_device (length self.old.devices) form.now ≡ true }
-        requires come { has_come self.old.sent self.old.uplinks self.old.time form.now ≡ true }
-        requires fits { fits_payload form.now ≡ true }
-        requires room { self.old.lines < max_lines }
-        ensures taken { OnOk result (WorldBecomes self.old self.new (λ world. after_form world form.now)) }
-        ensures kept { self.new.kept ≡ self.old.kept }
-        ensures lines { self.new.lines ≡ self.old.lines }
-        ensures ends { OnErr result (KeepsEnds self.old self.new) }
+impl Model for Campaign {
+    ghost use Rattle.campaign_world.specs.HeldWorld.{HeldCampaign};
+    ghost use Rattle.campaign_world.specs.WorldInside.{IsCampaign};
+
+    ghost Value = { HeldCampaign };
+
+    ghost view = { λ c. record {
+      time = c.time;
+      server = c.server;
+      devices = c.devices.items;
+      sent = c.sent.items;
+      uplinks = c.uplinks.items;
+    } };
+
+    ghost invariant = { λ c. IsCampaign c.time c.server c.devices.items c.uplinks.items };
+}
+
+impl Campaign {
+    ghost use Rattle.campaign_world.specs.HeldWorld.{DevicesRest, Plays, SameEnds, IsTested};
+
+    /// A campaign in which no event came yet.
+    pub fn new(alloc: Global, server: Server, devices: Vec<LateDevice>) -> Self
+        requires image { is_image server.image ≡ true }
+        requires few { length devices.items ≤ max_devices }
+        requires numbers { length server.plan.devices ≡ length devices.items }
+        ensures { result ≡ record {
+          time = 0;
+          server = server;
+          devices = devices.items;
+          sent = [];
+          uplinks = [];
+        } }
     {
-        match self.begin() {
-            Ok(()) => self.event(form),
-            Err(error) => Err(error),
+        Campaign {
+            alloc,
+            time: 0,
+            server,
+            devices,
+            sent: Vec::new(alloc),
+            uplinks: Vec::new(alloc),
         }
     }
 
-    /// Makes the server of the plan, where there is none yet. Events follow.
-    fn begin(&mut self) -> Result<(), AllocError>
-        requires { IsToBegin self.old }
-        ensures taken { OnOk result (WorldBecomes self.old self.new at_events) }
-        ensures server { OnOk result ((s : ServerState) × (self.new.server ≡ Some s)) }
-        ensures rest { OnOk result (HasBegun self.old self.new) }
-        ensures kept { self.new.kept ≡ self.old.kept }
-        ensures lines { self.new.lines ≡ self.old.lines }
-        ensures ends { OnErr result (KeepsEnds self.old self.new) }
-    {
-        if self.server.is_some() {
-            self.section = Section::Events;
-            return Ok(());
-        }
-        let plan = match copy_of(self.alloc, &self.plan) {
-            Ok(plan) => plan,
-            Err(error) => return Err(error),
-        };
-        match Server::new(self.alloc, plan, &self.image) {
-            Ok(server) => {
-                self.server = Some(server);
-                self.section = Section::Events;
-                Ok(())
-            }
-            Err(ServerError::Memory) => Err(AllocError),
-            Err(ServerError::BadPlan(_)) => unreachable!(),
-        }
-    }
-
-    /// Carries out an event, or the end.
+    /// Carries out an event, behind so many lines. The end changes nothing of what is held.
     #[tactic(auto, unfolding(crate::specs::Making::after_form))]
-    fn event(&mut self, form: &Form) -> Result<(), AllocError>
+    pub fn event(&mut self, lines: u32, form: &Form) -> Result<(), AllocError>
         requires event { is_event_or_end form.now ≡ true }
-        requires ranges { in_range form.now ≡ true }
-        requires names { names_device (length self.old.devices) form.now ≡ true }
-        requires come { has_come self.old.sent self.old.uplinks self.old.time form.now ≡ true }
-        requires fits { fits_payload form.now ≡ true }
-        requires begun { (s : ServerState) × (self.old.server ≡ Some s) }
-        requires few { length self.old.devices ≤ 64 }
-        requires room { self.old.lines < max_lines }
-        ensures taken { OnOk result (WorldBecomes self.old self.new (λ world. after_form world form.now)) }
-        ensures kept { self.new.kept ≡ self.old.kept }
-        ensures lines { self.new.lines ≡ self.old.lines }
-        ensures ends { OnErr result (KeepsEnds self.old self.new) }
+        requires tested { IsTested self.old form.now }
+        requires room { lines < max_lines }
+        ensures taken { Plays lines self.old self.new result (λ world. at_events (after_form world form.now)) }
+        ensures ends { OnErr result (SameEnds self.old self.new) }
     {
+        let _ = &self.alloc;
         match form {
             Form::At { time } => {
-                self.section = Section::Events;
                 self.time = *time;
                 Ok(())
             }
@@ -114,28 +114,29 @@ impl World {
                 number,
                 device,
                 word,
-            } => self.down(*number, *device as u8, *word as u32),
+            } => self.down(lines, *number, *device as u8, *word as u32),
             Form::Raw {
                 device,
                 port,
                 payload,
                 word,
-            } => self.raw(*device as u8, &raw_down(*port as u8, payload), *word as u32),
+            } => self.raw(
+                lines,
+                *device as u8,
+                &raw_down(*port as u8, payload),
+                *word as u32,
+            ),
             Form::Air {
                 number,
                 device,
                 word,
-            } => self.air(*number, *device as u8, *word as u32),
+            } => self.air(lines, *number, *device as u8, *word as u32),
             Form::RawAir {
                 device,
                 bytes,
                 word,
-            } => self.raw_air(*device as u8, bytes, *word as u32),
+            } => self.raw_air(lines, *device as u8, bytes, *word as u32),
             Form::Up { number } => self.up(*number),
-            Form::End => {
-                self.section = Section::Ended;
-                Ok(())
-            }
             _ => Ok(()),
         }
     }
@@ -144,66 +145,47 @@ impl World {
     fn ask(&mut self, device: u8) -> Result<(), AllocError>
         requires first { 1 ≤ device }
         requires last { device ≤ length self.old.devices }
-        requires begun { (s : ServerState) × (self.old.server ≡ Some s) }
-        ensures taken { OnOk result (WorldBecomes self.old self.new
-            (λ world. at_events (with_sent world (Some device) (request_of world.server device)))) }
-        ensures kept { self.new.kept ≡ self.old.kept }
-        ensures lines { self.new.lines ≡ self.old.lines }
-        ensures ends { OnErr result (KeepsEnds self.old self.new) }
+        ensures taken { (lines : ℕ) → Plays lines self.old self.new result
+            (λ world. at_events (with_sent world (Some device) (request_of world.server device))) }
+        ensures ends { OnErr result (SameEnds self.old self.new) }
     {
         match make_line(&mut self.sent) {
             Ok(()) => {}
             Err(error) => return Err(error),
         }
-        self.section = Section::Events;
-        let Some(server) = &self.server else {
-            unreachable!()
-        };
-        let down = server.ask(device);
+        let down = self.server.ask(device);
         send(&mut self.sent, Some(device), down);
         Ok(())
     }
 
     /// The server sends the next fragment, to any device.
     fn frag(&mut self) -> Result<(), AllocError>
-        requires begun { (s : ServerState) × (self.old.server ≡ Some s) }
-        ensures taken { OnOk result (WorldBecomes self.old self.new
-            (λ world. at_events (with_sent (record world { server = after_fragment world.server }) None (result_ok (next_fragment world.server))))) }
-        ensures kept { self.new.kept ≡ self.old.kept }
-        ensures lines { self.new.lines ≡ self.old.lines }
-        ensures ends { OnErr result (KeepsEnds self.old self.new) }
+        ensures taken { (lines : ℕ) → Plays lines self.old self.new result
+            (λ world. at_events (with_sent (record world { server = after_fragment world.server }) None
+            (result_ok (next_fragment world.server)))) }
+        ensures ends { OnErr result (SameEnds self.old self.new) }
     {
         match make_line(&mut self.sent) {
             Ok(()) => {}
             Err(error) => return Err(error),
         }
-        self.section = Section::Events;
-        let Some(server) = &mut self.server else {
-            unreachable!()
-        };
-        let down = fragment(server);
+        let down = fragment(&mut self.server);
         send(&mut self.sent, None, down);
         Ok(())
     }
 
     /// The server asks all devices for their status.
     fn status(&mut self) -> Result<(), AllocError>
-        requires begun { (s : ServerState) × (self.old.server ≡ Some s) }
-        ensures taken { OnOk result (WorldBecomes self.old self.new
-            (λ world. at_events (with_sent (record world { server = after_status_to_all world.server }) None (status_to_all world.server)))) }
-        ensures kept { self.new.kept ≡ self.old.kept }
-        ensures lines { self.new.lines ≡ self.old.lines }
-        ensures ends { OnErr result (KeepsEnds self.old self.new) }
+        ensures taken { (lines : ℕ) → Plays lines self.old self.new result
+            (λ world. at_events (with_sent (record world { server = after_status_to_all world.server }) None
+            (status_to_all world.server))) }
+        ensures ends { OnErr result (SameEnds self.old self.new) }
     {
         match make_line(&mut self.sent) {
             Ok(()) => {}
             Err(error) => return Err(error),
         }
-        self.section = Section::Events;
-        let Some(server) = &mut self.server else {
-            unreachable!()
-        };
-        let down = server.status_all();
+        let down = self.server.status_all();
         send(&mut self.sent, None, down);
         Ok(())
     }
@@ -212,14 +194,10 @@ impl World {
     fn wake(&mut self, device: u8) -> Result<(), AllocError>
         requires first { 1 ≤ device }
         requires last { device ≤ length self.old.devices }
-        requires begun { (s : ServerState) × (self.old.server ≡ Some s) }
-        ensures taken { OnOk result (WorldBecomes self.old self.new
-            (λ world. with_event world device (Some (Wakes world.time)))) }
-        ensures kept { self.new.kept ≡ self.old.kept }
-        ensures lines { self.new.lines ≡ self.old.lines }
-        ensures ends { OnErr result (KeepsEnds self.old self.new) }
+        ensures taken { (lines : ℕ) → Plays lines self.old self.new result
+            (λ world. with_event world device (Some (Wakes world.time))) }
+        ensures ends { OnErr result (SameEnds self.old self.new) }
     {
-        self.section = Section::Events;
         wake(
             &mut self.devices,
             self.alloc,
@@ -233,32 +211,24 @@ impl World {
     fn migrate(&mut self, device: u8) -> Result<(), AllocError>
         requires first { 1 ≤ device }
         requires last { device ≤ length self.old.devices }
-        requires begun { (s : ServerState) × (self.old.server ≡ Some s) }
-        ensures taken { OnOk result (WorldBecomes self.old self.new
-            (λ world. with_event world device (Some Migrates))) }
-        ensures kept { self.new.kept ≡ self.old.kept }
-        ensures lines { self.new.lines ≡ self.old.lines }
-        ensures ends { OnErr result (KeepsEnds self.old self.new) }
+        ensures taken { (lines : ℕ) → Plays lines self.old self.new result
+            (λ world. with_event world device (Some Migrates)) }
+        ensures ends { OnErr result (SameEnds self.old self.new) }
     {
-        self.section = Section::Events;
         migrate(&mut self.devices, self.alloc, device)
     }
 
     /// Payload S reaches a device, whose uplinks are then numbered, oldest first.
-    fn down(&mut self, number: u64, device: u8, word: u32) -> Result<(), AllocError>
+    fn down(&mut self, lines: u32, number: u64, device: u8, word: u32) -> Result<(), AllocError>
         requires first { 1 ≤ device }
         requires last { device ≤ length self.old.devices }
-        requires room { self.old.lines < max_lines }
+        requires room { lines < max_lines }
         requires sent { (s : SentPayload) × (numbered self.old.sent number ≡ Some s) }
-        requires begun { (s : ServerState) × (self.old.server ≡ Some s) }
-        ensures taken { OnOk result (WorldBecomes self.old self.new (λ world. with_event world device
-            (reception world.time word (world.lines + 1) (numbered world.sent number)))) }
-        ensures kept { self.new.kept ≡ self.old.kept }
-        ensures lines { self.new.lines ≡ self.old.lines }
-        ensures ends { OnErr result (KeepsEnds self.old self.new) }
+        ensures taken { Plays lines self.old self.new result (λ world. with_event world device
+            (reception world.time word (world.lines + 1) (numbered world.sent number))) }
+        ensures ends { OnErr result (SameEnds self.old self.new) }
     {
-        self.section = Section::Events;
-        let mark = mark_behind(self.lines);
+        let mark = mark_behind(lines);
         let coming = Moment {
             t: self.time,
             word,
@@ -279,19 +249,15 @@ impl World {
 
     /// Anybody's payload reaches a device, whose uplinks are then numbered, oldest first. It is no sent payload, and has no
     /// number.
-    fn raw(&mut self, device: u8, down: &Downlink, word: u32) -> Result<(), AllocError>
+    fn raw(&mut self, lines: u32, device: u8, down: &Downlink, word: u32) -> Result<(), AllocError>
         requires first { 1 ≤ device }
         requires last { device ≤ length self.old.devices }
-        requires room { self.old.lines < max_lines }
-        requires begun { (s : ServerState) × (self.old.server ≡ Some s) }
-        ensures taken { OnOk result (WorldBecomes self.old self.new
-            (λ world. with_event world device (Some (Receives world.time word (world.lines + 1) down.now)))) }
-        ensures kept { self.new.kept ≡ self.old.kept }
-        ensures lines { self.new.lines ≡ self.old.lines }
-        ensures ends { OnErr result (KeepsEnds self.old self.new) }
+        requires room { lines < max_lines }
+        ensures taken { Plays lines self.old self.new result
+            (λ world. with_event world device (Some (Receives world.time word (world.lines + 1) down.now))) }
+        ensures ends { OnErr result (SameEnds self.old self.new) }
     {
-        self.section = Section::Events;
-        let mark = mark_behind(self.lines);
+        let mark = mark_behind(lines);
         let coming = Moment {
             t: self.time,
             word,
@@ -308,61 +274,51 @@ impl World {
     }
 
     /// Sent payload S reaches the radio of a device as its frame, and its uplinks are then numbered, oldest first.
-    fn air(&mut self, number: u64, device: u8, word: u32) -> Result<(), AllocError>
+    fn air(&mut self, lines: u32, number: u64, device: u8, word: u32) -> Result<(), AllocError>
         requires first { 1 ≤ device }
         requires last { device ≤ length self.old.devices }
-        requires room { self.old.lines < max_lines }
-        requires begun { (s : ServerState) × (self.old.server ≡ Some s) }
-        ensures taken { OnOk result (WorldBecomes self.old self.new (λ world. with_event world device
+        requires room { lines < max_lines }
+        ensures taken { Plays lines self.old self.new result (λ world. with_event world device
             (hearing world.time word (world.lines + 1)
-            (sent_frame world.server.plan.group (numbered world.sent number))))) }
-        ensures kept { self.new.kept ≡ self.old.kept }
-        ensures lines { self.new.lines ≡ self.old.lines }
-        ensures ends { OnErr result (KeepsEnds self.old self.new) }
+            (sent_frame world.server.plan.group (numbered world.sent number)))) }
+        ensures ends { OnErr result (SameEnds self.old self.new) }
     {
-        let Some(server) = &self.server else {
-            unreachable!()
-        };
-        match sent_frame(server, &self.sent, number) {
-            Some(frame) => self.hear(device, &frame, word),
-            None => {
-                self.section = Section::Events;
-                Ok(())
-            }
+        match sent_frame(&self.server, &self.sent, number) {
+            Some(frame) => self.hear(lines, device, &frame, word),
+            None => Ok(()),
         }
     }
 
     /// Anybody's bytes reach the radio of a device.
-    fn raw_air(&mut self, device: u8, bytes: &HexBytes, word: u32) -> Result<(), AllocError>
+    fn raw_air(
+        &mut self,
+        lines: u32,
+        device: u8,
+        bytes: &HexBytes,
+        word: u32,
+    ) -> Result<(), AllocError>
         requires first { 1 ≤ device }
         requires last { device ≤ length self.old.devices }
-        requires room { self.old.lines < max_lines }
-        requires begun { (s : ServerState) × (self.old.server ≡ Some s) }
-        ensures taken { OnOk result (WorldBecomes self.old self.new
-            (λ world. with_event world device (Some (HearsBytes world.time word (world.lines + 1) bytes.now)))) }
-        ensures kept { self.new.kept ≡ self.old.kept }
-        ensures lines { self.new.lines ≡ self.old.lines }
-        ensures ends { OnErr result (KeepsEnds self.old self.new) }
+        requires room { lines < max_lines }
+        ensures taken { Plays lines self.old self.new result
+            (λ world. with_event world device (Some (HearsBytes world.time word (world.lines + 1) bytes.now))) }
+        ensures ends { OnErr result (SameEnds self.old self.new) }
     {
         let mut spelled = [0; MAX_HEX_BYTES];
         let count = bytes.put(&mut spelled);
-        self.hear(device, &spelled[..count], word)
+        self.hear(lines, device, &spelled[..count], word)
     }
 
     /// Bytes reach the radio of a device, whose uplinks are then numbered, oldest first.
-    fn hear(&mut self, device: u8, bytes: &[u8], word: u32) -> Result<(), AllocError>
+    fn hear(&mut self, lines: u32, device: u8, bytes: &[u8], word: u32) -> Result<(), AllocError>
         requires first { 1 ≤ device }
         requires last { device ≤ length self.old.devices }
-        requires room { self.old.lines < max_lines }
-        requires begun { (s : ServerState) × (self.old.server ≡ Some s) }
-        ensures taken { OnOk result (WorldBecomes self.old self.new
-            (λ world. with_event world device (Some (HearsBytes world.time word (world.lines + 1) bytes.now)))) }
-        ensures kept { self.new.kept ≡ self.old.kept }
-        ensures lines { self.new.lines ≡ self.old.lines }
-        ensures ends { OnErr result (KeepsEnds self.old self.new) }
+        requires room { lines < max_lines }
+        ensures taken { Plays lines self.old self.new result
+            (λ world. with_event world device (Some (HearsBytes world.time word (world.lines + 1) bytes.now))) }
+        ensures ends { OnErr result (SameEnds self.old self.new) }
     {
-        self.section = Section::Events;
-        let mark = mark_behind(self.lines);
+        let mark = mark_behind(lines);
         let coming = Moment {
             t: self.time,
             word,
@@ -381,43 +337,59 @@ impl World {
     /// Uplink U reaches the server, which may answer.
     fn up(&mut self, number: u64) -> Result<(), AllocError>
         requires made { (m : MadeUplink) × (numbered self.old.uplinks number ≡ Some m) }
-        requires begun { (s : ServerState) × (self.old.server ≡ Some s) }
-        ensures taken { OnOk result (WorldBecomes self.old self.new
-            (λ world. at_events (after_up world (numbered world.uplinks number)))) }
-        ensures kept { self.new.kept ≡ self.old.kept }
-        ensures lines { self.new.lines ≡ self.old.lines }
-        ensures ends { OnErr result (KeepsEnds self.old self.new) }
+        ensures taken { (lines : ℕ) → Plays lines self.old self.new result
+            (λ world. at_events (after_up world (numbered world.uplinks number))) }
+        ensures ends { OnErr result (SameEnds self.old self.new) }
     {
         match make_line(&mut self.sent) {
             Ok(()) => {}
             Err(error) => return Err(error),
         }
-        self.section = Section::Events;
-        let Some(server) = &mut self.server else {
-            unreachable!()
-        };
         let Some(made) = numbered(&self.uplinks, number) else {
             unreachable!()
         };
-        let answer = answer_of(server, made, self.time);
+        let answer = answer_of(&mut self.server, made, self.time);
         send(&mut self.sent, Some(made.device), answer);
         Ok(())
     }
-}
 
-/// A plan equal to this one.
-fn copy_of(alloc: Global, plan: &Plan) -> Result<Plan, AllocError>
-    ensures { IfOk result (λ copy. copy ≡ plan.now) }
-{
-    match Vec::from_slice(alloc, &plan.devices) {
-        Ok(devices) => Ok(Plan {
-            frag_size: plan.frag_size,
-            parity: plan.parity,
-            group: plan.group,
-            window: plan.window,
-            devices,
-        }),
-        Err(error) => Err(error),
+    /// Whether something is left to send for the form.
+    pub fn has_more(&self, form: &Form) -> bool
+        ensures { result ≡ has_more self.now.server form.now }
+    {
+        match form {
+            Form::Frag => self.server.has_fragment(),
+            Form::Status => self.server.has_status(),
+            _ => true,
+        }
+    }
+
+    /// The uplink with a number, counted from 1; None where none has it.
+    pub fn uplink(&self, number: u64) -> Option<&Uplink>
+        ensures found { option_map (λ uplink. uplink.now) result
+            ≡ option_map (λ made. made.uplink) (numbered self.now.uplinks number) }
+        ensures single { IfSome result (λ uplink. IsUplink uplink.now) }
+    {
+        match numbered(&self.uplinks, number) {
+            Some(made) => Some(&made.uplink),
+            None => None,
+        }
+    }
+
+    /// The report of what was played.
+    pub fn report(&self, alloc: Global) -> Result<Vec<u8>, AllocError>
+        ensures { (ds : List DeviceState) → DevicesRest self.now.devices ds
+            → IfOk result (λ text. text.items ≡ report_with self.now.server ds) }
+    {
+        report(alloc, &self.server, &self.devices)
+    }
+
+    /// The summary of what was played.
+    pub fn summary(&self, alloc: Global) -> Result<Vec<u8>, AllocError>
+        ensures { (ds : List DeviceState) → DevicesRest self.now.devices ds
+            → IfOk result (λ text. text.items ≡ summary_with self.now.server (length self.now.sent) ds) }
+    {
+        summary(alloc, &self.server, self.sent.len(), &self.devices)
     }
 }
 

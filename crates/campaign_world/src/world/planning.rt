@@ -1,41 +1,77 @@
-//! The lines of the plan: the image's, the group's with its window, and the devices'.
+//! What is being planned, by the lines of the image, of the group with its window, and of the devices.
 
-ghost use Rattle.std.specs.Prelude.{◌≡◌, ◌≤◌, ◌<◌, ◌++◌, ◌∷◌, [], true, false, length, Some, OnOk, OnErr};
-ghost use Rattle.campaign_server.specs.Plan.{is_frag_size, fits_bits};
-ghost use Rattle.campaign_world.specs.Causes.{is_event_or_end};
+ghost use Rattle.std.specs.Prelude.{◌≡◌, ◌≤◌, ◌<◌, ◌++◌, ◌∷◌, [], ℕ, true, false, length, Option, Some, IfOk, OnOk, OnErr};
+ghost use Rattle.image_slots.specs.Image.{is_image};
+ghost use Rattle.campaign_server.specs.Plan.{is_frag_size, fits_bits, max_devices};
+ghost use Rattle.campaign_server.specs.Server.{first_server};
+ghost use Rattle.campaign_world.specs.World.{first_plan};
+ghost use Rattle.campaign_world.specs.Causes.{is_event_or_end, may_come};
 ghost use Rattle.device_core.specs.Device.{is_config, first_device};
 ghost use Rattle.campaign_world.specs.Making.{with_plan, class_of, formats_of, root_of, after_form};
 ghost use Rattle.campaign_world.specs.declared.section.Section.TheVariants as section;
 
-use super::World;
+use super::events::Campaign;
 use crate::late::LateDevice;
 use crate::section::Section;
-use campaign_server::{Kind, Plan, PlanDevice, PlanGroup, PlanWindow};
+use campaign_server::{Kind, Plan, PlanDevice, PlanGroup, PlanWindow, Server, ServerError};
 use device_core::{Class, DeviceConfig, MAX_AREA};
 use mc_keys::RootKind;
 use script_lines::Form;
-use std::alloc::AllocError;
+use std::alloc::{AllocError, Global};
+use std::mem::replace;
 
 /// Sessions and groups of each device.
 const SESSIONS: u8 = 4;
 
 const GROUPS: u8 = 4;
 
-impl World {
-    ghost use Rattle.campaign_world.specs.HeldWorld.{WorldBecomes, KeepsEnds, IsFine};
-    ghost use Rattle.campaign_world.specs.WorldInside.{IsToJoin};
+/// A plan as its lines tell it so far. Its image and its devices go to the campaign.
+#[derive(Drop)]
+pub struct Planning {
+    pub(super) image: Vec<u8>,
+    /// What may come next.
+    pub(super) section: Section,
+    pub(super) plan: Plan,
+    pub(super) devices: Vec<LateDevice>,
+}
+
+impl Planning {
+    ghost use Rattle.campaign_world.specs.HeldWorld.{SameEnds, IsTested};
+    ghost use Rattle.campaign_world.specs.WorldInside.{IsSized, IsWindowed, IsToBegin};
+    ghost use Rattle.campaign_world.specs.PhaseInside.{IsPlanningOf, PlanBecomes, PlanTakes, planned_by};
+
+    /// Nothing is planned yet but the image.
+    pub fn new(alloc: Global, image: Vec<u8>) -> Self
+        requires { is_image image.items ≡ true }
+        ensures planning { IsPlanningOf result }
+        ensures section { result.section ≡ section.Header }
+        ensures held { planned_by result ≡ record {
+          time = 0;
+          server = first_server image.items first_plan;
+          devices = [];
+          sent = [];
+          uplinks = [];
+        } }
+    {
+        Planning {
+            image,
+            section: Section::Header,
+            plan: first_plan(alloc),
+            devices: Vec::new(alloc),
+        }
+    }
 
     /// Takes a line of the plan.
     #[tactic(auto, unfolding(crate::specs::Making::after_form))]
-    pub(super) fn plan_line(&mut self, form: &Form) -> Result<(), AllocError>
+    pub fn line(&mut self, lines: u32, form: &Form) -> Result<(), AllocError>
         requires plan { is_event_or_end form.now ≡ false }
-        requires fine { IsFine self.old form.now }
-        ensures taken { OnOk result (WorldBecomes self.old self.new (λ world. after_form world form.now)) }
-        ensures kept { self.new.kept ≡ self.old.kept }
-        ensures lines { self.new.lines ≡ self.old.lines }
-        ensures ends { OnErr result (KeepsEnds self.old self.new) }
+        requires planning { IsPlanningOf self.old }
+        requires comes { may_come self.old.section form.now ≡ true }
+        requires tested { IsTested (planned_by self.old) form.now }
+        ensures planning { IsPlanningOf self.new }
+        ensures taken { PlanTakes lines self.old self.new result (λ world. after_form world form.now) }
+        ensures ends { OnErr result (SameEnds (planned_by self.old) (planned_by self.new)) }
     {
-        let _ = &self.alloc;
         match form {
             Form::Header => {
                 self.section = Section::Image;
@@ -126,12 +162,12 @@ impl World {
     /// The image's line: how it is cut.
     fn cut(&mut self, frag_size: u8, parity: u16)
         requires here { self.old.section ≡ section.Image }
-        requires size { is_frag_size (length self.old.image) frag_size ≡ true }
+        requires planning { IsPlanningOf self.old }
+        requires size { is_frag_size (length self.old.image.items) frag_size ≡ true }
         requires few { parity ≤ 512 }
-        ensures taken { WorldBecomes self.old self.new (λ world. with_plan world
+        ensures planning { IsPlanningOf self.new }
+        ensures taken { PlanBecomes self.old self.new (λ world. with_plan world
             (record world.server.plan { frag_size = frag_size; parity = parity }) section.Group) }
-        ensures kept { self.new.kept ≡ self.old.kept }
-        ensures lines { self.new.lines ≡ self.old.lines }
     {
         self.plan.frag_size = frag_size;
         self.plan.parity = parity;
@@ -141,11 +177,11 @@ impl World {
     /// The group's line, behind which its window is to come.
     fn group(&mut self, group: PlanGroup)
         requires here { self.old.section ≡ section.Group }
+        requires planning { IsPlanningOf self.old }
         requires counts { group.min < group.max }
-        ensures taken { WorldBecomes self.old self.new
+        ensures planning { IsPlanningOf self.new }
+        ensures taken { PlanBecomes self.old self.new
             (λ world. with_plan world (record world.server.plan { group = Some group }) section.Window) }
-        ensures kept { self.new.kept ≡ self.old.kept }
-        ensures lines { self.new.lines ≡ self.old.lines }
     {
         self.plan.group = Some(group);
         self.section = Section::Window;
@@ -154,11 +190,11 @@ impl World {
     /// The group's window.
     fn window(&mut self, window: PlanWindow)
         requires here { self.old.section ≡ section.Window }
+        requires planning { IsPlanningOf self.old }
         requires fits { fits_bits window ≡ true }
-        ensures taken { WorldBecomes self.old self.new
+        ensures planning { IsPlanningOf self.new }
+        ensures taken { PlanBecomes self.old self.new
             (λ world. with_plan world (record world.server.plan { window = Some window }) section.Device) }
-        ensures kept { self.new.kept ≡ self.old.kept }
-        ensures lines { self.new.lines ≡ self.old.lines }
     {
         self.plan.window = Some(window);
         self.section = Section::Device;
@@ -167,16 +203,18 @@ impl World {
     /// One device more.
     fn add_device(&mut self, config: DeviceConfig) -> Result<(), AllocError>
         requires fine { is_config config ≡ true }
-        requires planned { IsToJoin self.old }
-        ensures taken { OnOk result (WorldBecomes self.old self.new (λ world. with_plan
+        requires planning { IsPlanningOf self.old }
+        requires sized { IsSized self.old.image.items self.old.plan self.old.devices.items }
+        requires windowed { IsWindowed self.old.plan }
+        requires room { length self.old.devices.items < max_devices }
+        ensures planning { IsPlanningOf self.new }
+        ensures taken { (lines : ℕ) → PlanTakes lines self.old self.new result (λ world. with_plan
             (record world { devices = world.devices ++ first_device config ∷ [] })
             (record world.server.plan {
               devices = world.server.plan.devices ++ record { key = config.key; root = config.root } ∷ [];
             })
-            section.Devices)) }
-        ensures kept { self.new.kept ≡ self.old.kept }
-        ensures lines { self.new.lines ≡ self.old.lines }
-        ensures ends { OnErr result (KeepsEnds self.old self.new) }
+            section.Devices) }
+        ensures ends { OnErr result (SameEnds (planned_by self.old) (planned_by self.new)) }
     {
         let key = config.key;
         let root = config.root;
@@ -193,6 +231,55 @@ impl World {
             }
             Err(error) => Err(error),
         }
+    }
+
+    /// The campaign that was planned, before its first event. Where memory is wanting the plan is as it was.
+    pub fn begin(&mut self, alloc: Global) -> Result<Campaign, AllocError>
+        requires { IsToBegin self.old.image.items self.old.plan self.old.devices.items }
+        ensures begun { IfOk result (λ campaign. campaign ≡ planned_by self.old) }
+        ensures same { OnErr result (self.new ≡ self.old) }
+    {
+        let plan = match copy_of(alloc, &self.plan) {
+            Ok(plan) => plan,
+            Err(error) => return Err(error),
+        };
+        match Server::new(alloc, plan, &self.image) {
+            Ok(server) => {
+                let devices = replace(&mut self.devices, Vec::new(alloc));
+                Ok(Campaign::new(alloc, server, devices))
+            }
+            Err(ServerError::Memory) => Err(AllocError),
+            Err(ServerError::BadPlan(_)) => unreachable!(),
+        }
+    }
+}
+
+/// Nothing is planned.
+fn first_plan(alloc: Global) -> Plan
+    ensures { result ≡ first_plan }
+{
+    Plan {
+        frag_size: 0,
+        parity: 0,
+        group: None,
+        window: None,
+        devices: Vec::new(alloc),
+    }
+}
+
+/// A plan equal to this one.
+fn copy_of(alloc: Global, plan: &Plan) -> Result<Plan, AllocError>
+    ensures { IfOk result (λ copy. copy ≡ plan.now) }
+{
+    match Vec::from_slice(alloc, &plan.devices) {
+        Ok(devices) => Ok(Plan {
+            frag_size: plan.frag_size,
+            parity: plan.parity,
+            group: plan.group,
+            window: plan.window,
+            devices,
+        }),
+        Err(error) => Err(error),
     }
 }
 

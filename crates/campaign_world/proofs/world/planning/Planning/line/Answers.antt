@@ -1,0 +1,114 @@
+use Rattle.std.proofs.Common.{length, refl, arith}
+use Rattle.std.proofs.lemmas.Bool.{le-leb}
+use Rattle.device_core.specs.Device.{max_rows}
+use Rattle.campaign_world.specs.Making.{after_form}
+use Rattle.campaign_world.proofs.FormCauses as causes
+use Rattle.campaign_world.proofs.world.planning.Planning.line.Goals as goal
+
+pub overflow_cast-frag_size : goal.overflow_cast-frag_size
+overflow_cast-frag_size c = let cuts = causes.cuts_well c.args.self.now.image.items (length c.args.self.now.devices.items) c.args.form.now c.in-Image.frag_size c.in-Image.parity c.in-Image.is c.requires.tested.ranges c.requires.tested.fits in omega (arith, cuts.1)
+
+pub overflow_cast-parity : goal.overflow_cast-parity
+overflow_cast-parity c = let cuts = causes.cuts_well c.args.self.now.image.items (length c.args.self.now.devices.items) c.args.form.now c.in-Image.frag_size c.in-Image.parity c.in-Image.is c.requires.tested.ranges c.requires.tested.fits in omega (arith, cuts.2)
+
+pub cut-requires-clause-here : goal.cut-requires-clause-here
+cut-requires-clause-here c = causes.image_at c.args.self.now.section c.args.form.now c.in-Image.frag_size c.in-Image.parity c.in-Image.is c.requires.comes
+
+pub cut-requires-clause-size : goal.cut-requires-clause-size
+cut-requires-clause-size c = let cuts = causes.cuts_well c.args.self.now.image.items (length c.args.self.now.devices.items) c.args.form.now c.in-Image.frag_size c.in-Image.parity c.in-Image.is c.requires.tested.ranges c.requires.tested.fits in cuts.0
+
+pub cut-requires-clause-few : goal.cut-requires-clause-few
+cut-requires-clause-few c = let cuts = causes.cuts_well c.args.self.now.image.items (length c.args.self.now.devices.items) c.args.form.now c.in-Image.frag_size c.in-Image.parity c.in-Image.is c.requires.tested.ranges c.requires.tested.fits in cuts.2
+
+pub overflow_cast-hw : goal.overflow_cast-hw
+overflow_cast-hw c = let fit = causes.fitting (length c.args.self.now.image.items) (length c.args.self.now.devices.items) c.args.form.now c.in-Device.id c.in-Device.hw c.in-Device.rows c.in-Device.offset c.in-Device.class c.in-Device.key c.in-Device.descriptor c.in-Device.v1 c.in-Device.k11 c.in-Device.is c.requires.tested.ranges c.requires.tested.fits in omega (arith, fit.hw_fits)
+
+pub overflow_cast-rows : goal.overflow_cast-rows
+overflow_cast-rows c = let fit = causes.fitting (length c.args.self.now.image.items) (length c.args.self.now.devices.items) c.args.form.now c.in-Device.id c.in-Device.hw c.in-Device.rows c.in-Device.offset c.in-Device.class c.in-Device.key c.in-Device.descriptor c.in-Device.v1 c.in-Device.k11 c.in-Device.is c.requires.tested.ranges c.requires.tested.fits in omega (arith, fit.few)
+
+pub overflow_cast-offset : goal.overflow_cast-offset
+overflow_cast-offset c = let fit = causes.fitting (length c.args.self.now.image.items) (length c.args.self.now.devices.items) c.args.form.now c.in-Device.id c.in-Device.hw c.in-Device.rows c.in-Device.offset c.in-Device.class c.in-Device.key c.in-Device.descriptor c.in-Device.v1 c.in-Device.k11 c.in-Device.is c.requires.tested.ranges c.requires.tested.fits in omega (arith, fit.offset_fits)
+
+pub add_device-requires-clause-fine : goal.add_device-requires-clause-fine
+add_device-requires-clause-fine c = let fit = causes.fitting (length c.args.self.now.image.items) (length c.args.self.now.devices.items) c.args.form.now c.in-Device.id c.in-Device.hw c.in-Device.rows c.in-Device.offset c.in-Device.class c.in-Device.key c.in-Device.descriptor c.in-Device.v1 c.in-Device.k11 c.in-Device.is c.requires.tested.ranges c.requires.tested.fits in rw (le-leb c.in-Device.rows max_rows fit.few, c.formats_of.ensures, causes.known_formats c.in-Device.v1) refl
+
+pub add_device-requires-clause-sized : goal.add_device-requires-clause-sized
+add_device-requires-clause-sized c = (causes.joins_at c.args.self.now.image.items c.args.self.now.section c.args.self.now.plan c.args.self.now.devices.items c.args.form.now c.in-Device.id c.in-Device.hw c.in-Device.rows c.in-Device.offset c.in-Device.class c.in-Device.key c.in-Device.descriptor c.in-Device.v1 c.in-Device.k11 c.in-Device.is c.requires.comes c.requires.planning.planned).0
+
+pub add_device-requires-clause-windowed : goal.add_device-requires-clause-windowed
+add_device-requires-clause-windowed c = (causes.joins_at c.args.self.now.image.items c.args.self.now.section c.args.self.now.plan c.args.self.now.devices.items c.args.form.now c.in-Device.id c.in-Device.hw c.in-Device.rows c.in-Device.offset c.in-Device.class c.in-Device.key c.in-Device.descriptor c.in-Device.v1 c.in-Device.k11 c.in-Device.is c.requires.comes c.requires.planning.planned).1
+
+pub add_device-requires-clause-room : goal.add_device-requires-clause-room
+add_device-requires-clause-room c = let fit = causes.fitting (length c.args.self.now.image.items) (length c.args.self.now.devices.items) c.args.form.now c.in-Device.id c.in-Device.hw c.in-Device.rows c.in-Device.offset c.in-Device.class c.in-Device.key c.in-Device.descriptor c.in-Device.v1 c.in-Device.k11 c.in-Device.is c.requires.tested.ranges c.requires.tested.fits in fit.next
+
+pub overflow_cast-min : goal.overflow_cast-min
+overflow_cast-min c = let count = causes.counting c.args.form.now c.in-Group.addr c.in-Group.min c.in-Group.max c.in-Group.key c.in-Group.is c.requires.tested.ranges in omega (arith, count.first)
+
+pub overflow_cast-max : goal.overflow_cast-max
+overflow_cast-max c = let count = causes.counting c.args.form.now c.in-Group.addr c.in-Group.min c.in-Group.max c.in-Group.key c.in-Group.is c.requires.tested.ranges in omega (arith, count.last)
+
+pub group-requires-clause-here : goal.group-requires-clause-here
+group-requires-clause-here c = causes.group_at c.args.self.now.section c.args.form.now c.in-Group.addr c.in-Group.min c.in-Group.max c.in-Group.key c.in-Group.is c.requires.comes
+
+pub group-requires-clause-counts : goal.group-requires-clause-counts
+group-requires-clause-counts c = let count = causes.counting c.args.form.now c.in-Group.addr c.in-Group.min c.in-Group.max c.in-Group.key c.in-Group.is c.requires.tested.ranges in count.some
+
+pub overflow_cast-start : goal.overflow_cast-start
+overflow_cast-start c = let opens = causes.opening_c c.args.form.now c.in-WindowC.start c.in-WindowC.timeout c.in-WindowC.freq c.in-WindowC.dr c.in-WindowC.is c.requires.tested.ranges in omega (arith, opens.start_fits)
+
+pub overflow_cast-timeout : goal.overflow_cast-timeout
+overflow_cast-timeout c = let opens = causes.opening_c c.args.form.now c.in-WindowC.start c.in-WindowC.timeout c.in-WindowC.freq c.in-WindowC.dr c.in-WindowC.is c.requires.tested.ranges in omega (arith, opens.timeout_fits)
+
+pub overflow_cast-freq : goal.overflow_cast-freq
+overflow_cast-freq c = let opens = causes.opening_c c.args.form.now c.in-WindowC.start c.in-WindowC.timeout c.in-WindowC.freq c.in-WindowC.dr c.in-WindowC.is c.requires.tested.ranges in omega (arith, opens.freq_fits)
+
+pub overflow_cast-dr : goal.overflow_cast-dr
+overflow_cast-dr c = let opens = causes.opening_c c.args.form.now c.in-WindowC.start c.in-WindowC.timeout c.in-WindowC.freq c.in-WindowC.dr c.in-WindowC.is c.requires.tested.ranges in omega (arith, opens.dr_fits)
+
+pub window-requires-clause-here : goal.window-requires-clause-here
+window-requires-clause-here c = causes.window_c_at c.args.self.now.section c.args.form.now c.in-WindowC.start c.in-WindowC.timeout c.in-WindowC.freq c.in-WindowC.dr c.in-WindowC.is c.requires.comes
+
+pub window-requires-clause-fits : goal.window-requires-clause-fits
+window-requires-clause-fits c = let opens = causes.opening_c c.args.form.now c.in-WindowC.start c.in-WindowC.timeout c.in-WindowC.freq c.in-WindowC.dr c.in-WindowC.is c.requires.tested.ranges in opens.test
+
+pub overflow_cast-periodicity : goal.overflow_cast-periodicity
+overflow_cast-periodicity c = let opens = causes.opening_b c.args.form.now c.in-WindowB.start c.in-WindowB.periodicity c.in-WindowB.timeout c.in-WindowB.freq c.in-WindowB.dr c.in-WindowB.is c.requires.tested.ranges in omega (arith, opens.1)
+
+pub overflow_cast-start-in-WindowB : goal.overflow_cast-start-in-WindowB
+overflow_cast-start-in-WindowB c = let opens = causes.opening_b c.args.form.now c.in-WindowB.start c.in-WindowB.periodicity c.in-WindowB.timeout c.in-WindowB.freq c.in-WindowB.dr c.in-WindowB.is c.requires.tested.ranges in omega (arith, opens.0.start_fits)
+
+pub overflow_cast-timeout-in-WindowB : goal.overflow_cast-timeout-in-WindowB
+overflow_cast-timeout-in-WindowB c = let opens = causes.opening_b c.args.form.now c.in-WindowB.start c.in-WindowB.periodicity c.in-WindowB.timeout c.in-WindowB.freq c.in-WindowB.dr c.in-WindowB.is c.requires.tested.ranges in omega (arith, opens.0.timeout_fits)
+
+pub overflow_cast-freq-in-WindowB : goal.overflow_cast-freq-in-WindowB
+overflow_cast-freq-in-WindowB c = let opens = causes.opening_b c.args.form.now c.in-WindowB.start c.in-WindowB.periodicity c.in-WindowB.timeout c.in-WindowB.freq c.in-WindowB.dr c.in-WindowB.is c.requires.tested.ranges in omega (arith, opens.0.freq_fits)
+
+pub overflow_cast-dr-in-WindowB : goal.overflow_cast-dr-in-WindowB
+overflow_cast-dr-in-WindowB c = let opens = causes.opening_b c.args.form.now c.in-WindowB.start c.in-WindowB.periodicity c.in-WindowB.timeout c.in-WindowB.freq c.in-WindowB.dr c.in-WindowB.is c.requires.tested.ranges in omega (arith, opens.0.dr_fits)
+
+pub window-requires-in-WindowB-clause-here : goal.window-requires-in-WindowB-clause-here
+window-requires-in-WindowB-clause-here c = causes.window_b_at c.args.self.now.section c.args.form.now c.in-WindowB.start c.in-WindowB.periodicity c.in-WindowB.timeout c.in-WindowB.freq c.in-WindowB.dr c.in-WindowB.is c.requires.comes
+
+pub window-requires-in-WindowB-clause-fits : goal.window-requires-in-WindowB-clause-fits
+window-requires-in-WindowB-clause-fits c = let opens = causes.opening_b c.args.form.now c.in-WindowB.start c.in-WindowB.periodicity c.in-WindowB.timeout c.in-WindowB.freq c.in-WindowB.dr c.in-WindowB.is c.requires.tested.ranges in rw (le-leb c.in-WindowB.periodicity 7 opens.1) opens.0.test
+
+pub returns-in-Image-clause-taken : goal.returns-in-Image-clause-taken
+unfolding after_form
+returns-in-Image-clause-taken c = rw (c.in-Image.is) (c.cut.ensures.taken c.args.lines)
+
+pub returns-in-Group-clause-taken : goal.returns-in-Group-clause-taken
+unfolding after_form
+returns-in-Group-clause-taken c = rw (c.in-Group.is) (c.group.ensures.taken c.args.lines)
+
+pub returns-in-WindowC-clause-taken : goal.returns-in-WindowC-clause-taken
+unfolding after_form
+returns-in-WindowC-clause-taken c = rw (c.in-WindowC.is) (c.window.ensures.taken c.args.lines)
+
+pub returns-in-WindowB-clause-taken : goal.returns-in-WindowB-clause-taken
+unfolding after_form
+returns-in-WindowB-clause-taken c = rw (c.in-WindowB.is) (c.window-in-WindowB.ensures.taken c.args.lines)
+
+pub returns-in-Device-clause-taken : goal.returns-in-Device-clause-taken
+unfolding after_form
+returns-in-Device-clause-taken c =
+    rw (c.in-Device.is, ← c.class_of.ensures, ← c.formats_of.ensures, ← c.root_of.ensures) (c.add_device.ensures.taken c.args.lines)

@@ -1,0 +1,145 @@
+//! Where a script is: it plans a campaign, or plays it.
+
+ghost use Rattle.std.specs.Prelude.{◌≡◌, ◌≤◌, ◌<◌, true, length, OnErr};
+ghost use Rattle.image_slots.specs.Image.{max_image};
+ghost use Rattle.script_lines.specs.Limits.{max_lines};
+ghost use Rattle.campaign_server.specs.Plan.{max_devices};
+ghost use Rattle.campaign_world.specs.Causes.{may_come};
+ghost use Rattle.campaign_world.specs.Making.{after_form};
+ghost use Rattle.campaign_world.specs.PhaseInside.{section_by, is_end};
+
+use super::events::Campaign;
+use super::planning::Planning;
+use crate::causes::is_event_or_end;
+use crate::late::LateDevice;
+use crate::numbered::{MadeUplink, SentPayload};
+use crate::section::Section;
+use script_lines::Form;
+use std::alloc::{AllocError, Global};
+
+/// The plan as long as its lines come, and the campaign from the first event on, or from the end.
+#[derive(Drop)]
+pub enum Phase {
+    Planning(Planning),
+    /// Behind the end nothing more is played.
+    Playing { campaign: Campaign, has_ended: bool },
+}
+
+/// What a form is tested against.
+#[derive(Clone, Copy)]
+pub struct Stand<'a> {
+    pub section: Section,
+    /// Bytes of the image.
+    pub size: usize,
+    /// Devices so far.
+    pub count: usize,
+    /// In ms.
+    pub time: u64,
+    pub sent: &'a [SentPayload],
+    pub uplinks: &'a [MadeUplink],
+}
+
+impl Phase {
+    ghost use Rattle.campaign_world.specs.HeldWorld.{SameEnds, IsTested};
+    ghost use Rattle.campaign_world.specs.PhaseInside.{IsPhase, PhaseTakes, held_of, section_of};
+
+    /// Carries out a form behind so many lines: a line of the plan, or an event, the first of which begins the campaign.
+    /// All memory that it needs is taken before a device or the server is called.
+    pub fn take(&mut self, alloc: Global, lines: u32, form: &Form) -> Result<(), AllocError>
+        requires phase { IsPhase self.old }
+        requires comes { may_come (section_of self.old) form.now ≡ true }
+        requires tested { IsTested (held_of self.old) form.now }
+        requires room { lines < max_lines }
+        ensures phase { IsPhase self.new }
+        ensures taken { PhaseTakes lines self.old self.new result (λ world. after_form world form.now) }
+        ensures ends { OnErr result (SameEnds (held_of self.old) (held_of self.new)) }
+    {
+        match self {
+            Phase::Planning(planning) => {
+                if !is_event_or_end(form) {
+                    return planning.line(lines, form);
+                }
+                let mut campaign = match planning.begin(alloc) {
+                    Ok(campaign) => campaign,
+                    Err(error) => return Err(error),
+                };
+                let played = campaign.event(lines, form);
+                *self = Phase::Playing {
+                    campaign,
+                    has_ended: is_end(form),
+                };
+                played
+            }
+            Phase::Playing {
+                campaign,
+                has_ended,
+            } => {
+                *has_ended = is_end(form);
+                campaign.event(lines, form)
+            }
+        }
+    }
+
+    /// What a form is tested against.
+    pub fn stand(&self) -> Stand<'_>
+        requires { IsPhase self.now }
+        ensures section { result.section ≡ section_of self.now }
+        ensures size { result.size ≡ length (held_of self.now).server.image }
+        ensures count { result.count ≡ length (held_of self.now).devices }
+        ensures time { result.time ≡ (held_of self.now).time }
+        ensures sent { result.sent.now ≡ (held_of self.now).sent }
+        ensures uplinks { result.uplinks.now ≡ (held_of self.now).uplinks }
+        ensures short { result.size ≤ max_image }
+        ensures few { result.count ≤ max_devices }
+    {
+        match self {
+            Phase::Planning(planning) => Stand {
+                section: planning.section,
+                size: planning.image.len(),
+                count: planning.devices.len(),
+                time: 0,
+                sent: &[],
+                uplinks: &[],
+            },
+            Phase::Playing {
+                campaign,
+                has_ended,
+            } => Stand {
+                section: section_by(*has_ended),
+                size: campaign.server.image().len(),
+                count: campaign.devices.len(),
+                time: campaign.time,
+                sent: &campaign.sent,
+                uplinks: &campaign.uplinks,
+            },
+        }
+    }
+
+    /// The devices so far.
+    pub fn devices(&self) -> &[LateDevice]
+        ensures { result.now ≡ (held_of self.now).devices }
+    {
+        match self {
+            Phase::Planning(planning) => &planning.devices,
+            Phase::Playing { campaign, .. } => &campaign.devices,
+        }
+    }
+}
+
+/// Events come until the end.
+fn section_by(has_ended: bool) -> Section
+    ensures { result ≡ section_by has_ended }
+{
+    if has_ended {
+        Section::Ended
+    } else {
+        Section::Events
+    }
+}
+
+/// Whether the form is the end.
+fn is_end(form: &Form) -> bool
+    ensures { result ≡ is_end form.now }
+{
+    matches!(form, Form::End)
+}
