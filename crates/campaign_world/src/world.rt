@@ -53,7 +53,7 @@ impl Model for World {
 
 impl World {
     ghost use Rattle.report_lines.specs.declared.faults.LineError.{LineError};
-    ghost use Rattle.campaign_world.specs.HeldWorld.{WorldStands, WorldBecomes, KeepsEnds, IsLineAnswer, IsReport, IsSummary, IsEnded, IsOver, IsFine, IsCauseOf, world_of};
+    ghost use Rattle.campaign_world.specs.HeldWorld.{WorldStands, WorldBecomes, KeepsEnds, IsLineAnswer, IsReport, IsSummary, IsEnded, IsEndAnswer, IsFine, IsCauseOf, world_of};
     ghost use Rattle.report_lines.specs.Texts.{seen_text};
 
     /// A world in which nothing happened yet, around an image file.
@@ -217,7 +217,7 @@ impl World {
 
     /// The campaign that was played to its end, or the fault of the line that is missing.
     fn played(&self) -> Result<&Campaign, LineError>
-        ensures ended { (world : WorldState) → WorldStands self.now world → self.now.kept ≡ None → IsOver world result }
+        ensures ended { (world : WorldState) → WorldStands self.now world → self.now.kept ≡ None → IsEndAnswer world result }
         ensures same { (e : LineError) → self.now.kept ≡ Some e → result ≡ Err e }
         ensures devices { IfOk result (λ campaign. campaign.now.devices ≡ self.now.devices) }
         ensures server { IfOk result (λ campaign. campaign.now.server ≡ self.now.server) }
