@@ -146,11 +146,11 @@ IsEnded world (Err error.Memory) = ⊥
 
 -- ---- what its private calls ask and answer
 
--- the same of any answer to that
-abbrev pub IsOver : {A : Type 0} → WorldState → Result A LineError → Type 0
-IsOver world (Ok answer) = end_result (Ok world) ≡ Ok world
-IsOver world (Err (error.Line fault)) = end_result (Ok world) ≡ Err fault
-IsOver world (Err error.Memory) = ⊥
+-- the answer of a call that answers anything where the script has ended, else that it has not
+abbrev pub IsEndAnswer : {A : Type 0} → WorldState → Result A LineError → Type 0
+IsEndAnswer world (Ok answer) = end_result (Ok world) ≡ Ok world
+IsEndAnswer world (Err (error.Line fault)) = end_result (Ok world) ≡ Err fault
+IsEndAnswer world (Err error.Memory) = ⊥
 
 -- no cause holds of the form, whatever it stands for
 abbrev pub IsFine : HeldWorld → Form → Type 0

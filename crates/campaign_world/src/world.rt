@@ -53,7 +53,7 @@ impl Model for World {
 
 impl World {
     ghost use Rattle.report_lines.specs.declared.faults.LineError.{LineError};
-    ghost use Rattle.campaign_world.specs.HeldWorld.{WorldStands, WorldBecomes, KeepsEnds, IsLineAnswer, IsReport, IsSummary, IsEnded, IsOver, IsFine, IsCauseOf, world_of};
+    ghost use Rattle.campaign_world.specs.HeldWorld.{WorldStands, WorldBecomes, KeepsEnds, IsLineAnswer, IsReport, IsSummary, IsEnded, IsEndAnswer, IsFine, IsCauseOf, world_of};
     ghost use Rattle.report_lines.specs.Texts.{seen_text};
 
     /// A world in which nothing happened yet, around an image file.
@@ -92,6 +92,54 @@ impl World {
             }
             Ok(form) => self.take(&form),
         }
+    }
+
+    /// Lines so far.
+    pub fn lines(&self) -> u32
+        ensures { result ≡ self.now.lines }
+    {
+        self.lines
+    }
+
+    /// The first cause for which a form is refused; None where it can be carried out. How many lines there were is no
+    /// matter to it.
+    pub fn cause(&self, form: &Form) -> Option<LineWhy>
+        ensures cause { (world : WorldState) → WorldStands self.now world → result ≡ form_cause world form.now }
+        ensures fine { result ≡ None → IsFine self.now form.now }
+    {
+        self.first_cause(form)
+    }
+
+    /// Carries out a form that is not refused, as a line of the script. Where memory is wanting devices and server are as
+    /// they were.
+    pub fn take(&mut self, form: &Form) -> Result<(), LineError>
+        requires fine { IsFine self.old form.now }
+        requires room { self.old.lines < max_lines }
+        ensures taken { OnOk result (WorldBecomes self.old self.new (λ world. one_line_more (after_form world form.now))) }
+        ensures memory { IfErr result (λ e. e ≡ LineError.Memory) }
+        ensures kept { OnOk result (self.new.kept ≡ self.old.kept) }
+        ensures keeps { IfErr result (λ e. self.new.kept ≡ Some e) }
+        ensures ends { OnErr result (KeepsEnds self.old self.new) }
+    {
+        match self.phase.take(self.alloc, self.lines, form) {
+            Ok(()) => {
+                self.lines += 1;
+                Ok(())
+            }
+            Err(_) => {
+                self.kept = Some(LineError::Memory);
+                Err(LineError::Memory)
+            }
+        }
+    }
+
+    /// Counts a line of the script that is not for this campaign.
+    pub fn pass(&mut self)
+        requires room { self.old.lines < max_lines }
+        ensures passed { WorldBecomes self.old self.new one_line_more }
+        ensures kept { self.new.kept ≡ self.old.kept }
+    {
+        self.lines += 1;
     }
 
     /// The report of the campaign, once `end` has come.
@@ -169,7 +217,7 @@ impl World {
 
     /// The campaign that was played to its end, or the fault of the line that is missing.
     fn played(&self) -> Result<&Campaign, LineError>
-        ensures ended { (world : WorldState) → WorldStands self.now world → self.now.kept ≡ None → IsOver world result }
+        ensures ended { (world : WorldState) → WorldStands self.now world → self.now.kept ≡ None → IsEndAnswer world result }
         ensures same { (e : LineError) → self.now.kept ≡ Some e → result ≡ Err e }
         ensures devices { IfOk result (λ campaign. campaign.now.devices ≡ self.now.devices) }
         ensures server { IfOk result (λ campaign. campaign.now.server ≡ self.now.server) }
@@ -203,14 +251,14 @@ impl World {
         let Some(form) = form(line) else {
             return Err(LineWhy::Syntax);
         };
-        match self.cause(&form) {
+        match self.first_cause(&form) {
             Some(why) => Err(why),
             None => Ok(form),
         }
     }
 
     /// The first cause for which a form is refused.
-    fn cause(&self, form: &Form) -> Option<LineWhy>
+    fn first_cause(&self, form: &Form) -> Option<LineWhy>
         ensures { (devices : List DeviceState) → length devices ≡ length self.now.devices
             → result ≡ form_cause (world_of self.now devices) form.now }
     {
@@ -253,27 +301,5 @@ impl World {
         ensures { result ≡ LineError.Line (record { line = self.now.lines + 1; why = why }) }
     {
         refused_behind(self.lines, why)
-    }
-
-    /// Carries out a form that is not refused.
-    fn take(&mut self, form: &Form) -> Result<(), LineError>
-        requires fine { IsFine self.old form.now }
-        requires room { self.old.lines < max_lines }
-        ensures taken { OnOk result (WorldBecomes self.old self.new (λ world. one_line_more (after_form world form.now))) }
-        ensures memory { IfErr result (λ e. e ≡ LineError.Memory) }
-        ensures kept { OnOk result (self.new.kept ≡ self.old.kept) }
-        ensures keeps { IfErr result (λ e. self.new.kept ≡ Some e) }
-        ensures ends { OnErr result (KeepsEnds self.old self.new) }
-    {
-        match self.phase.take(self.alloc, self.lines, form) {
-            Ok(()) => {
-                self.lines += 1;
-                Ok(())
-            }
-            Err(_) => {
-                self.kept = Some(LineError::Memory);
-                Err(LineError::Memory)
-            }
-        }
     }
 }

@@ -11,10 +11,10 @@ returns-then-line-gt-MAX_LINE-clause-why c = rw (← c.self.view_is) (λ devices
 pub returns-in_default-clause-why : goal.returns-in_default-clause-why
 returns-in_default-clause-why c = rw (← c.self.view_is) (λ devices count. causes.of_form _ _ _ _ (omega arith) (omega arith) c.form.ensures (causes.no_form _ _ c.in_default.is))
 
-pub returns-in-Some-cause-clause-why : goal.returns-in-Some-cause-clause-why
-returns-in-Some-cause-clause-why c = λ devices count. causes.of_form _ _ _ _ (rw (← c.self.view_is) (omega arith)) (omega arith) c.form.ensures
-    (causes.the_form _ _ _ _ c.in-Some.is (causes.some_form _ _ _ (sym c.in-Some-cause.is ∙ c.cause.ensures devices count)))
+pub returns-in-Some-first_cause-clause-why : goal.returns-in-Some-first_cause-clause-why
+returns-in-Some-first_cause-clause-why c = λ devices count. causes.of_form _ _ _ _ (rw (← c.self.view_is) (omega arith)) (omega arith) c.form.ensures
+    (causes.the_form _ _ _ _ c.in-Some.is (causes.some_form _ _ _ (sym c.in-Some-first_cause.is ∙ c.first_cause.ensures devices count)))
 
 pub returns-in-None-clause-none : goal.returns-in-None-clause-none
 returns-in-None-clause-none c = λ devices count. causes.of_form _ _ _ _ (rw (← c.self.view_is) (omega arith)) (omega arith) c.form.ensures
-    (causes.the_form _ _ _ _ c.in-Some.is (causes.some_form _ _ _ (sym c.in-None.is ∙ c.cause.ensures devices count)))
+    (causes.the_form _ _ _ _ c.in-Some.is (causes.some_form _ _ _ (sym c.in-None.is ∙ c.first_cause.ensures devices count)))
