@@ -1,6 +1,6 @@
 -- The forms of lines that come often.
 use Rattle.std.proofs.Common.{◌≡◌, ℕ, ◌+◌, ◌<◌, ◌≤◌, List, [], ◌∷◌, ◌++◌, length, take, drop, get_or, codes, Some, refl, ap, subst, ◌∙◌, arith}
-use Rattle.script_lines.specs.declared.forms.Form.TheVariants.{At, Ask, Down, Frag, Up}
+use Rattle.script_lines.specs.declared.forms.Form.TheVariants.{At, Wake, Ask, Frag, Status, Down, Up}
 use Rattle.script_lines.specs.Lines.{words_of, word}
 use Rattle.script_lines.specs.Numbers.{decimal_of}
 use Rattle.script_lines.specs.Forms.{form_of}
@@ -11,6 +11,10 @@ use Rattle.script_lines.proofs.CutWords.{first_word, last_word, whole_decimal}
 behind_at : (rest : List ℕ) → words_of (codes "at " ++ rest) ≡ codes "at" ∷ words_of rest
 unfolding words_of
 behind_at rest = refl
+
+behind_wake : (rest : List ℕ) → words_of (codes "wake " ++ rest) ≡ codes "wake" ∷ words_of rest
+unfolding words_of
+behind_wake rest = refl
 
 behind_ask : (rest : List ℕ) → words_of (codes "ask " ++ rest) ≡ codes "ask" ∷ words_of rest
 unfolding words_of
@@ -31,6 +35,11 @@ unfolding form_of words_of word
 frag_line [] none = refl
 frag_line (b ∷ bs) none = absurd (omega arith)
 
+pub status_line : (rest : List ℕ) → length rest ≡ 0 → form_of (codes "status" ++ rest) ≡ Some Status
+unfolding form_of words_of word
+status_line [] none = refl
+status_line (b ∷ bs) none = absurd (omega arith)
+
 -- ---- forms with one decimal
 
 pub at_line : (rest : List ℕ) (n : ℕ) → decimal_of rest ≡ Some n → form_of (codes "at " ++ rest) ≡ Some (At n)
@@ -38,6 +47,13 @@ unfolding form_of word
 at_line rest n is = by_words (codes "at " ++ rest) (behind_at rest ∙ ap (λ (ws : List (List ℕ)). codes "at" ∷ ws) (last_word rest n is))
   where
     by_words : (line : List ℕ) → words_of line ≡ codes "at" ∷ rest ∷ [] → form_of line ≡ Some (At n)
+    by_words line words = rw (words, is) refl
+
+pub wake_line : (rest : List ℕ) (n : ℕ) → decimal_of rest ≡ Some n → form_of (codes "wake " ++ rest) ≡ Some (Wake n)
+unfolding form_of word
+wake_line rest n is = by_words (codes "wake " ++ rest) (behind_wake rest ∙ ap (λ (ws : List (List ℕ)). codes "wake" ∷ ws) (last_word rest n is))
+  where
+    by_words : (line : List ℕ) → words_of line ≡ codes "wake" ∷ rest ∷ [] → form_of line ≡ Some (Wake n)
     by_words line words = rw (words, is) refl
 
 pub ask_line : (rest : List ℕ) (n : ℕ) → decimal_of rest ≡ Some n → form_of (codes "ask " ++ rest) ≡ Some (Ask n)

@@ -4,7 +4,7 @@
 ghost use Rattle.std.specs.Prelude.{◌≡◌, ◌≤◌, ◌++◌, ◌^◌, Some, IfSome, IsTrue, codes, length, take};
 ghost use Rattle.script_lines.specs.Numbers.{decimal_of};
 ghost use Rattle.script_lines.specs.Forms.{form_of};
-ghost use Rattle.script_lines.specs.declared.forms.Form.TheVariants.{Ask, At, Down, Frag, Up};
+ghost use Rattle.script_lines.specs.declared.forms.Form.TheVariants.{Ask, At, Down, Frag, Status, Up, Wake};
 
 /// A decimal at the front of bytes, and where it ends.
 #[derive(Clone, Copy)]
@@ -46,6 +46,17 @@ pub fn is_frag(line: &[u8]) -> bool
     }
 }
 
+/// Whether a line is `status`.
+#[inline(always)]
+pub fn is_status(line: &[u8]) -> bool
+    ensures { IsTrue result → form_of line.now ≡ Some Status }
+{
+    match line {
+        [b's', b't', b'a', b't', b'u', b's', rest @ ..] => is_no_more(rest),
+        _ => false,
+    }
+}
+
 /// U of a line `up U`.
 #[inline(always)]
 pub fn up_number(line: &[u8]) -> Option<u64>
@@ -64,6 +75,17 @@ pub fn asked_device(line: &[u8]) -> Option<u64>
 {
     match line {
         [b'a', b's', b'k', b' ', rest @ ..] => lone_decimal(rest),
+        _ => None,
+    }
+}
+
+/// D of a line `wake D`.
+#[inline(always)]
+pub fn woken_device(line: &[u8]) -> Option<u64>
+    ensures { IfSome result (λ n. form_of line.now ≡ Some (Wake n)) }
+{
+    match line {
+        [b'w', b'a', b'k', b'e', b' ', rest @ ..] => lone_decimal(rest),
         _ => None,
     }
 }
@@ -107,11 +129,12 @@ fn numbers_behind(rest: &[u8]) -> Option<DownNumbers>
     })
 }
 
-/// Whether nothing stands behind `frag`.
+/// Whether nothing stands behind a keyword.
 #[inline(always)]
-#[tactic(auto, using(crate::proofs::OftenForms::frag_line))]
+#[tactic(auto, using(crate::proofs::OftenForms::frag_line, crate::proofs::OftenForms::status_line))]
 fn is_no_more(rest: &[u8]) -> bool
-    ensures { IsTrue result → form_of (codes "frag" ++ rest.now) ≡ Some Frag }
+    ensures frag { IsTrue result → form_of (codes "frag" ++ rest.now) ≡ Some Frag }
+    ensures status { IsTrue result → form_of (codes "status" ++ rest.now) ≡ Some Status }
 {
     rest.is_empty()
 }
@@ -121,6 +144,7 @@ fn lone_decimal(rest: &[u8]) -> Option<u64>
     ensures decimal { IfSome result (λ n. decimal_of rest.now ≡ Some n) }
     ensures up { IfSome result (λ n. form_of (codes "up " ++ rest.now) ≡ Some (Up n)) }
     ensures ask { IfSome result (λ n. form_of (codes "ask " ++ rest.now) ≡ Some (Ask n)) }
+    ensures wake { IfSome result (λ n. form_of (codes "wake " ++ rest.now) ≡ Some (Wake n)) }
     ensures at { IfSome result (λ n. form_of (codes "at " ++ rest.now) ≡ Some (At n)) }
 {
     let found = leading_decimal(rest)?;
