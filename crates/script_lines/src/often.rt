@@ -4,13 +4,32 @@
 ghost use Rattle.std.specs.Prelude.{◌≡◌, ◌≤◌, ◌++◌, ◌^◌, Some, IfSome, IsTrue, codes, length, take};
 ghost use Rattle.script_lines.specs.Numbers.{decimal_of};
 ghost use Rattle.script_lines.specs.Forms.{form_of};
-ghost use Rattle.script_lines.specs.declared.forms.Form.TheVariants.{Ask, At, Down, Frag, Status, Up, Wake};
+ghost use Rattle.script_lines.specs.declared.forms.Form.TheVariants.{Ask, At, Down, Frag, Raw, Status, Up, Wake};
+ghost use Rattle.script_lines.specs.HeldWords.{DecimalFirst, HexLast};
+
+use crate::hex_bytes::HexBytes;
+use crate::words::first_space;
 
 /// A decimal at the front of bytes, and where it ends.
 #[derive(Clone, Copy)]
 struct Leading {
     number: u64,
     end: usize,
+}
+
+/// A decimal with a space behind it at the front of bytes, and what stands behind that.
+#[derive(Clone, Copy)]
+struct Spaced<'a> {
+    number: u64,
+    rest: &'a [u8],
+}
+
+/// The bytes and the number of HEX [WORD] at the end of a line.
+#[derive(Drop)]
+struct HexTail<'a> {
+    bytes: HexBytes<'a>,
+    /// WORD, 0 where it is left out.
+    random: u64,
 }
 
 /// The numbers of a line `down S D [WORD]`.
@@ -24,6 +43,19 @@ pub struct DownNumbers {
     pub random: u64,
 }
 
+/// The parts of a line `raw D PORT HEX [WORD]`.
+#[derive(Drop)]
+pub struct RawParts<'a> {
+    /// D
+    pub device: u64,
+    /// PORT
+    pub port: u64,
+    /// HEX
+    pub payload: HexBytes<'a>,
+    /// WORD, 0 where it is left out.
+    pub random: u64,
+}
+
 /// The numbers of a line `down S D [WORD]`.
 #[inline(always)]
 pub fn down_numbers(line: &[u8]) -> Option<DownNumbers>
@@ -31,6 +63,17 @@ pub fn down_numbers(line: &[u8]) -> Option<DownNumbers>
 {
     match line {
         [b'd', b'o', b'w', b'n', b' ', rest @ ..] => numbers_behind(rest),
+        _ => None,
+    }
+}
+
+/// The parts of a line `raw D PORT HEX [WORD]`.
+#[inline(always)]
+pub fn raw_parts(line: &[u8]) -> Option<RawParts<'_>>
+    ensures { IfSome result (λ r. form_of line.now ≡ Some (Raw r.device r.port r.payload r.random)) }
+{
+    match line {
+        [b'r', b'a', b'w', b' ', rest @ ..] => parts_behind(rest),
         _ => None,
     }
 }
@@ -126,6 +169,61 @@ fn numbers_behind(rest: &[u8]) -> Option<DownNumbers>
         number: first.number,
         device: second.number,
         random,
+    })
+}
+
+/// The parts behind the keyword of a line `raw D PORT HEX [WORD]`.
+#[tactic(auto, using(crate::proofs::OftenForms::raw_line))]
+fn parts_behind(rest: &[u8]) -> Option<RawParts<'_>>
+    ensures { IfSome result (λ r. form_of (codes "raw " ++ rest.now) ≡ Some (Raw r.device r.port r.payload r.random)) }
+{
+    let device = spaced_decimal(rest)?;
+    let port = spaced_decimal(device.rest)?;
+    let last = hex_tail(port.rest)?;
+    Some(RawParts {
+        device: device.number,
+        port: port.number,
+        payload: last.bytes,
+        random: last.random,
+    })
+}
+
+/// HEX [WORD] at the end of a line.
+#[inline(always)]
+fn hex_tail(bytes: &[u8]) -> Option<HexTail<'_>>
+    ensures { IfSome result (λ t. HexLast bytes.now t.bytes t.random) }
+{
+    match first_space(bytes) {
+        None => {
+            let read = HexBytes::read(bytes)?;
+            Some(HexTail {
+                bytes: read,
+                random: 0,
+            })
+        }
+        Some(end) => {
+            let read = HexBytes::read(bytes.split_at(end).0)?;
+            let random = lone_decimal(bytes.split_at(end + 1).1)?;
+            Some(HexTail {
+                bytes: read,
+                random,
+            })
+        }
+    }
+}
+
+/// A decimal with a space behind it at the front of bytes.
+#[inline(always)]
+fn spaced_decimal(bytes: &[u8]) -> Option<Spaced<'_>>
+    ensures { IfSome result (λ s. DecimalFirst bytes.now s.number s.rest.now) }
+{
+    let found = leading_decimal(bytes)?;
+    if found.end >= bytes.len() || bytes[found.end] != b' ' {
+        return None;
+    }
+    Some(Spaced {
+        number: found.number,
+        rest: bytes.split_at(found.end + 1).1,
     })
 }
 

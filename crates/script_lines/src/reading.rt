@@ -8,7 +8,7 @@ use crate::forms::{Class, Form};
 use crate::hex_bytes::HexBytes;
 use crate::numbers::{decimal, hex_number, key};
 use crate::often::{
-    asked_device, down_numbers, is_frag, is_status, time_at, up_number, woken_device,
+    asked_device, down_numbers, is_frag, is_status, raw_parts, time_at, up_number, woken_device,
 };
 use crate::words::{count_words, is_word, word};
 
@@ -21,6 +21,13 @@ pub fn form(line: &[u8]) -> Option<Form<'_>>
             number: numbers.number,
             device: numbers.device,
             word: numbers.random,
+        })
+    } else if let Some(parts) = raw_parts(line) {
+        Some(Form::Raw {
+            device: parts.device,
+            port: parts.port,
+            payload: parts.payload,
+            word: parts.random,
         })
     } else if is_frag(line) {
         Some(Form::Frag)
