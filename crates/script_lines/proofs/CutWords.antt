@@ -1,10 +1,14 @@
 -- Words that are cut off a line at the end of a decimal.
 use Rattle.std.proofs.Common.{◌≡◌, ◌≢◌, ℕ, zero, suc, ◌+◌, ◌-◌, ◌^◌, min, ◌<◌, ◌≤◌, Bool, true, false, not, ◌&&◌, cond, eqb, List, [], ◌∷◌, ◌++◌, length, take, drop, get_or, Option, Some, None, refl, sym, ap, subst, ◌∙◌, arith}
 use Rattle.std.specs.List.{All, slice_split, list_all}
+use Rattle.std.specs.Option.{IfSome}
 use Rattle.std.specs.Char.{is_ascii_digit}
-use Rattle.std.proofs.lemmas.List.{take-append-drop, drop_more, take_all}
+use Rattle.std.proofs.lemmas.Bool.{eqb-true, false_from_ne_true}
+use Rattle.std.proofs.lemmas.List.{take-append-drop, drop_more, take_all, length-take, get_or-take}
+use Rattle.std.proofs.lemmas.List.Elements.{All-from_get_or}
 use Rattle.std.proofs.lemmas.List.Splits.{slice_split_none, slice_split_at}
 use Rattle.std.proofs.lemmas.List.Sums.{AllPass-from_list_all}
+use Rattle.memchr.specs.Find.{Nowhere, Passes, IsFirstByte, is_byte}
 use Rattle.script_lines.specs.Lines.{words_of}
 use Rattle.script_lines.specs.Numbers.{is_decimal, decimal_number, decimal_of}
 
@@ -63,13 +67,38 @@ pub last_word : (bytes : List ℕ) (n : ℕ) → decimal_of bytes ≡ Some n →
 unfolding words_of
 last_word bytes n is = slice_split_none (λ b. eqb b 32) bytes (no_space bytes (digits_in bytes (decimal_is bytes n is)))
 
--- and one before a space is a word
-pub first_word : (bytes : List ℕ) (end n : ℕ) → end < length bytes → get_or bytes end 0 ≡ 32 → decimal_of (take end bytes) ≡ Some n → words_of bytes ≡ take end bytes ∷ words_of (drop (end + 1) bytes)
+-- bytes before a space and without one are a word
+pub word_before : (bytes : List ℕ) (end : ℕ) → end < length bytes → get_or bytes end 0 ≡ 32 → All (λ b. eqb b 32 ≡ false) (take end bytes) → words_of bytes ≡ take end bytes ∷ words_of (drop (end + 1) bytes)
 unfolding words_of
-first_word bytes end n within space is =
+word_before bytes end within space none =
     let whole : bytes ≡ take end bytes ++ 32 ∷ drop (end + 1) bytes =
     sym (take-append-drop end bytes) ∙ ap (λ (l : List ℕ). take end bytes ++ l) (drop_more bytes end 0 within ∙ ap (λ (b : ℕ). b ∷ drop (end + 1) bytes) space) in
-    ap (slice_split (λ b. eqb b 32)) whole ∙ slice_split_at (λ b. eqb b 32) (take end bytes) 32 (drop (end + 1) bytes) (no_space (take end bytes) (digits_in (take end bytes) (decimal_is (take end bytes) n is))) refl
+    ap (slice_split (λ b. eqb b 32)) whole ∙ slice_split_at (λ b. eqb b 32) (take end bytes) 32 (drop (end + 1) bytes) none refl
+
+-- and so is a decimal
+pub first_word : (bytes : List ℕ) (end n : ℕ) → end < length bytes → get_or bytes end 0 ≡ 32 → decimal_of (take end bytes) ≡ Some n → words_of bytes ≡ take end bytes ∷ words_of (drop (end + 1) bytes)
+first_word bytes end n within space is = word_before bytes end within space (no_space (take end bytes) (digits_in (take end bytes) (decimal_is (take end bytes) n is)))
+
+-- the bytes before the first space have none
+none_up_to : (bytes : List ℕ) (end : ℕ) → Nowhere (Passes (is_byte 32) bytes) 0 end → All (λ b. eqb b 32 ≡ false) (take end bytes)
+none_up_to bytes end nowhere = All-from_get_or (λ b. eqb b 32 ≡ false) (take end bytes) 0 (λ k below.
+    let inside : k < end = omega (arith, below, length-take end bytes) in rw (get_or-take end bytes k 0 inside) (false_from_ne_true _ (nowhere k (omega arith) inside)))
+
+-- so the first space ends a word, and without one all bytes are a word
+pub space_inside : (bytes : List ℕ) (found : Option ℕ) → IsFirstByte (is_byte 32) bytes found → IfSome found (λ end. end < length bytes)
+space_inside bytes None none = _
+space_inside bytes (Some end) is = is.0.high
+
+pub word_to_space : (bytes : List ℕ) (found : Option ℕ) → IsFirstByte (is_byte 32) bytes found → IfSome found (λ end. words_of bytes ≡ take end bytes ∷ words_of (drop (end + 1) bytes))
+word_to_space bytes None none = _
+word_to_space bytes (Some end) is = word_before bytes end is.0.high (eqb-true _ _ is.1) (none_up_to bytes end is.0.before)
+
+pub word_without_space : (bytes : List ℕ) (found : Option ℕ) → IsFirstByte (is_byte 32) bytes found → found ≡ None → words_of bytes ≡ bytes ∷ []
+unfolding words_of
+word_without_space bytes None none is =
+    let all = subst (λ (l : List ℕ). All (λ b. eqb b 32 ≡ false) l) (take_all (length bytes) bytes (omega arith)) (none_up_to bytes (length bytes) none) in
+    slice_split_none (λ b. eqb b 32) bytes all
+word_without_space bytes (Some end) some is = absurd cc
 
 pub front_is : (bytes : List ℕ) (end n : ℕ) → end ≤ length bytes → list_all is_ascii_digit (take end bytes) ≡ true → n ≡ min (2 ^ 64 - 1) (decimal_number (take end bytes)) → 0 < end → (1 < end → get_or bytes 0 0 ≢ 48)
     → decimal_of (take end bytes) ≡ Some n

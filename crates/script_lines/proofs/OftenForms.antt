@@ -1,9 +1,10 @@
 -- The forms of lines that come often.
-use Rattle.std.proofs.Common.{◌≡◌, ℕ, ◌+◌, ◌<◌, ◌≤◌, List, [], ◌∷◌, ◌++◌, length, take, drop, get_or, codes, Some, refl, ap, subst, ◌∙◌, arith}
-use Rattle.script_lines.specs.declared.forms.Form.TheVariants.{At, Ask, Down, Frag, Up}
+use Rattle.std.proofs.Common.{◌≡◌, ℕ, ◌+◌, ◌<◌, ◌≤◌, List, [], ◌∷◌, ◌++◌, length, take, drop, get_or, codes, Some, refl, sym, ap, subst, ◌∙◌, arith}
+use Rattle.script_lines.specs.declared.forms.Form.TheVariants.{At, Wake, Ask, Frag, Status, Down, Raw, Up}
 use Rattle.script_lines.specs.Lines.{words_of, word}
-use Rattle.script_lines.specs.Numbers.{decimal_of}
+use Rattle.script_lines.specs.Numbers.{decimal_of, hex_bytes_of}
 use Rattle.script_lines.specs.Forms.{form_of}
+use Rattle.script_lines.specs.HeldWords.{DecimalFirst, HexLast, random_of}
 use Rattle.script_lines.proofs.CutWords.{first_word, last_word, whole_decimal}
 
 -- ---- the words behind a keyword
@@ -11,6 +12,10 @@ use Rattle.script_lines.proofs.CutWords.{first_word, last_word, whole_decimal}
 behind_at : (rest : List ℕ) → words_of (codes "at " ++ rest) ≡ codes "at" ∷ words_of rest
 unfolding words_of
 behind_at rest = refl
+
+behind_wake : (rest : List ℕ) → words_of (codes "wake " ++ rest) ≡ codes "wake" ∷ words_of rest
+unfolding words_of
+behind_wake rest = refl
 
 behind_ask : (rest : List ℕ) → words_of (codes "ask " ++ rest) ≡ codes "ask" ∷ words_of rest
 unfolding words_of
@@ -24,12 +29,21 @@ behind_down : (rest : List ℕ) → words_of (codes "down " ++ rest) ≡ codes "
 unfolding words_of
 behind_down rest = refl
 
+behind_raw : (rest : List ℕ) → words_of (codes "raw " ++ rest) ≡ codes "raw" ∷ words_of rest
+unfolding words_of
+behind_raw rest = refl
+
 -- ---- the form of its keyword alone
 
 pub frag_line : (rest : List ℕ) → length rest ≡ 0 → form_of (codes "frag" ++ rest) ≡ Some Frag
 unfolding form_of words_of word
 frag_line [] none = refl
 frag_line (b ∷ bs) none = absurd (omega arith)
+
+pub status_line : (rest : List ℕ) → length rest ≡ 0 → form_of (codes "status" ++ rest) ≡ Some Status
+unfolding form_of words_of word
+status_line [] none = refl
+status_line (b ∷ bs) none = absurd (omega arith)
 
 -- ---- forms with one decimal
 
@@ -38,6 +52,13 @@ unfolding form_of word
 at_line rest n is = by_words (codes "at " ++ rest) (behind_at rest ∙ ap (λ (ws : List (List ℕ)). codes "at" ∷ ws) (last_word rest n is))
   where
     by_words : (line : List ℕ) → words_of line ≡ codes "at" ∷ rest ∷ [] → form_of line ≡ Some (At n)
+    by_words line words = rw (words, is) refl
+
+pub wake_line : (rest : List ℕ) (n : ℕ) → decimal_of rest ≡ Some n → form_of (codes "wake " ++ rest) ≡ Some (Wake n)
+unfolding form_of word
+wake_line rest n is = by_words (codes "wake " ++ rest) (behind_wake rest ∙ ap (λ (ws : List (List ℕ)). codes "wake" ∷ ws) (last_word rest n is))
+  where
+    by_words : (line : List ℕ) → words_of line ≡ codes "wake" ∷ rest ∷ [] → form_of line ≡ Some (Wake n)
     by_words line words = rw (words, is) refl
 
 pub ask_line : (rest : List ℕ) (n : ℕ) → decimal_of rest ≡ Some n → form_of (codes "ask " ++ rest) ≡ Some (Ask n)
@@ -78,3 +99,27 @@ down_line_with_word rest behind end next n d random within space is behind_is in
   where
     by_words : (line : List ℕ) → words_of line ≡ codes "down" ∷ take end rest ∷ take next behind ∷ drop (next + 1) behind ∷ [] → form_of line ≡ Some (Down n d random)
     by_words line words = rw (words, is, device, word_is) refl
+
+-- ---- payloads as bytes
+
+pub decimal_first : (bytes rest : List ℕ) (end n : ℕ) → end < length bytes → get_or bytes end 0 ≡ 32 → decimal_of (take end bytes) ≡ Some n → rest ≡ drop (end + 1) bytes → DecimalFirst bytes n rest
+decimal_first bytes rest end n within space is behind =
+    record { digits = take end bytes; words = first_word bytes end n within space is ∙ ap (λ (l : List ℕ). take end bytes ∷ words_of l) (sym behind); decimal = is }
+
+pub hex_with_word : (bytes payload : List ℕ) (end random : ℕ) → words_of bytes ≡ take end bytes ∷ words_of (drop (end + 1) bytes)
+    → hex_bytes_of (take end bytes) ≡ Some payload → decimal_of (drop (end + 1) bytes) ≡ Some random → HexLast bytes payload random
+hex_with_word bytes payload end random words is word_is =
+    record { digits = take end bytes; more = drop (end + 1) bytes ∷ []; words = words ∙ ap (λ (ws : List (List ℕ)). take end bytes ∷ ws) (last_word (drop (end + 1) bytes) random word_is); hex = is; word = word_is }
+
+pub raw_line : (rest behind last : List ℕ) (d p : ℕ) (payload : List ℕ) (random : ℕ) → DecimalFirst rest d behind → DecimalFirst behind p last → HexLast last payload random
+    → form_of (codes "raw " ++ rest) ≡ Some (Raw d p payload random)
+unfolding form_of word
+raw_line rest behind last d p payload random device port hex =
+    by_words (codes "raw " ++ rest) hex.more
+    (behind_raw rest ∙ ap (λ (ws : List (List ℕ)). codes "raw" ∷ ws) (device.words ∙ ap (λ (ws : List (List ℕ)). device.digits ∷ ws) (port.words ∙ ap (λ (ws : List (List ℕ)). port.digits ∷ ws) hex.words)))
+    hex.word
+  where
+    by_words : (line : List ℕ) (more : List (List ℕ)) → words_of line ≡ codes "raw" ∷ device.digits ∷ port.digits ∷ hex.digits ∷ more → random_of more ≡ Some random → form_of line ≡ Some (Raw d p payload random)
+    by_words line [] words is = let none : 0 ≡ random = cc in rw (words, device.decimal, port.decimal, hex.hex, ← none) refl
+    by_words line (w ∷ []) words is = rw (words, device.decimal, port.decimal, hex.hex, is) refl
+    by_words line (w ∷ another ∷ more) words is = absurd cc

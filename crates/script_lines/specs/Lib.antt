@@ -5,6 +5,7 @@ pub mod HeldLines
 pub mod Hearing
 pub mod Numbers
 pub mod Forms
+pub mod HeldWords
 pub mod Ranges
 pub mod WorkedLines
 pub mod WorkedRanges

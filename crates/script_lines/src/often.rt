@@ -4,13 +4,32 @@
 ghost use Rattle.std.specs.Prelude.{◌≡◌, ◌≤◌, ◌++◌, ◌^◌, Some, IfSome, IsTrue, codes, length, take};
 ghost use Rattle.script_lines.specs.Numbers.{decimal_of};
 ghost use Rattle.script_lines.specs.Forms.{form_of};
-ghost use Rattle.script_lines.specs.declared.forms.Form.TheVariants.{Ask, At, Down, Frag, Up};
+ghost use Rattle.script_lines.specs.declared.forms.Form.TheVariants.{Ask, At, Down, Frag, Raw, Status, Up, Wake};
+ghost use Rattle.script_lines.specs.HeldWords.{DecimalFirst, HexLast};
+
+use crate::hex_bytes::HexBytes;
+use crate::words::first_space;
 
 /// A decimal at the front of bytes, and where it ends.
 #[derive(Clone, Copy)]
 struct Leading {
     number: u64,
     end: usize,
+}
+
+/// A decimal with a space behind it at the front of bytes, and what stands behind that.
+#[derive(Clone, Copy)]
+struct Spaced<'a> {
+    number: u64,
+    rest: &'a [u8],
+}
+
+/// The bytes and the number of HEX [WORD] at the end of a line.
+#[derive(Drop)]
+struct HexTail<'a> {
+    bytes: HexBytes<'a>,
+    /// WORD, 0 where it is left out.
+    random: u64,
 }
 
 /// The numbers of a line `down S D [WORD]`.
@@ -20,6 +39,19 @@ pub struct DownNumbers {
     pub number: u64,
     /// D
     pub device: u64,
+    /// WORD, 0 where it is left out.
+    pub random: u64,
+}
+
+/// The parts of a line `raw D PORT HEX [WORD]`.
+#[derive(Drop)]
+pub struct RawParts<'a> {
+    /// D
+    pub device: u64,
+    /// PORT
+    pub port: u64,
+    /// HEX
+    pub payload: HexBytes<'a>,
     /// WORD, 0 where it is left out.
     pub random: u64,
 }
@@ -35,6 +67,17 @@ pub fn down_numbers(line: &[u8]) -> Option<DownNumbers>
     }
 }
 
+/// The parts of a line `raw D PORT HEX [WORD]`.
+#[inline(always)]
+pub fn raw_parts(line: &[u8]) -> Option<RawParts<'_>>
+    ensures { IfSome result (λ r. form_of line.now ≡ Some (Raw r.device r.port r.payload r.random)) }
+{
+    match line {
+        [b'r', b'a', b'w', b' ', rest @ ..] => parts_behind(rest),
+        _ => None,
+    }
+}
+
 /// Whether a line is `frag`.
 #[inline(always)]
 pub fn is_frag(line: &[u8]) -> bool
@@ -42,6 +85,17 @@ pub fn is_frag(line: &[u8]) -> bool
 {
     match line {
         [b'f', b'r', b'a', b'g', rest @ ..] => is_no_more(rest),
+        _ => false,
+    }
+}
+
+/// Whether a line is `status`.
+#[inline(always)]
+pub fn is_status(line: &[u8]) -> bool
+    ensures { IsTrue result → form_of line.now ≡ Some Status }
+{
+    match line {
+        [b's', b't', b'a', b't', b'u', b's', rest @ ..] => is_no_more(rest),
         _ => false,
     }
 }
@@ -64,6 +118,17 @@ pub fn asked_device(line: &[u8]) -> Option<u64>
 {
     match line {
         [b'a', b's', b'k', b' ', rest @ ..] => lone_decimal(rest),
+        _ => None,
+    }
+}
+
+/// D of a line `wake D`.
+#[inline(always)]
+pub fn woken_device(line: &[u8]) -> Option<u64>
+    ensures { IfSome result (λ n. form_of line.now ≡ Some (Wake n)) }
+{
+    match line {
+        [b'w', b'a', b'k', b'e', b' ', rest @ ..] => lone_decimal(rest),
         _ => None,
     }
 }
@@ -107,11 +172,67 @@ fn numbers_behind(rest: &[u8]) -> Option<DownNumbers>
     })
 }
 
-/// Whether nothing stands behind `frag`.
+/// The parts behind the keyword of a line `raw D PORT HEX [WORD]`.
+#[tactic(auto, using(crate::proofs::OftenForms::raw_line))]
+fn parts_behind(rest: &[u8]) -> Option<RawParts<'_>>
+    ensures { IfSome result (λ r. form_of (codes "raw " ++ rest.now) ≡ Some (Raw r.device r.port r.payload r.random)) }
+{
+    let device = spaced_decimal(rest)?;
+    let port = spaced_decimal(device.rest)?;
+    let last = hex_tail(port.rest)?;
+    Some(RawParts {
+        device: device.number,
+        port: port.number,
+        payload: last.bytes,
+        random: last.random,
+    })
+}
+
+/// HEX [WORD] at the end of a line.
 #[inline(always)]
-#[tactic(auto, using(crate::proofs::OftenForms::frag_line))]
+fn hex_tail(bytes: &[u8]) -> Option<HexTail<'_>>
+    ensures { IfSome result (λ t. HexLast bytes.now t.bytes t.random) }
+{
+    match first_space(bytes) {
+        None => {
+            let read = HexBytes::read(bytes)?;
+            Some(HexTail {
+                bytes: read,
+                random: 0,
+            })
+        }
+        Some(end) => {
+            let read = HexBytes::read(bytes.split_at(end).0)?;
+            let random = lone_decimal(bytes.split_at(end + 1).1)?;
+            Some(HexTail {
+                bytes: read,
+                random,
+            })
+        }
+    }
+}
+
+/// A decimal with a space behind it at the front of bytes.
+#[inline(always)]
+fn spaced_decimal(bytes: &[u8]) -> Option<Spaced<'_>>
+    ensures { IfSome result (λ s. DecimalFirst bytes.now s.number s.rest.now) }
+{
+    let found = leading_decimal(bytes)?;
+    if found.end >= bytes.len() || bytes[found.end] != b' ' {
+        return None;
+    }
+    Some(Spaced {
+        number: found.number,
+        rest: bytes.split_at(found.end + 1).1,
+    })
+}
+
+/// Whether nothing stands behind a keyword.
+#[inline(always)]
+#[tactic(auto, using(crate::proofs::OftenForms::frag_line, crate::proofs::OftenForms::status_line))]
 fn is_no_more(rest: &[u8]) -> bool
-    ensures { IsTrue result → form_of (codes "frag" ++ rest.now) ≡ Some Frag }
+    ensures frag { IsTrue result → form_of (codes "frag" ++ rest.now) ≡ Some Frag }
+    ensures status { IsTrue result → form_of (codes "status" ++ rest.now) ≡ Some Status }
 {
     rest.is_empty()
 }
@@ -121,6 +242,7 @@ fn lone_decimal(rest: &[u8]) -> Option<u64>
     ensures decimal { IfSome result (λ n. decimal_of rest.now ≡ Some n) }
     ensures up { IfSome result (λ n. form_of (codes "up " ++ rest.now) ≡ Some (Up n)) }
     ensures ask { IfSome result (λ n. form_of (codes "ask " ++ rest.now) ≡ Some (Ask n)) }
+    ensures wake { IfSome result (λ n. form_of (codes "wake " ++ rest.now) ≡ Some (Wake n)) }
     ensures at { IfSome result (λ n. form_of (codes "at " ++ rest.now) ≡ Some (At n)) }
 {
     let found = leading_decimal(rest)?;

@@ -7,7 +7,9 @@ ghost use Rattle.script_lines.specs.Forms.{form_of, alone, header_form, image_fo
 use crate::forms::{Class, Form};
 use crate::hex_bytes::HexBytes;
 use crate::numbers::{decimal, hex_number, key};
-use crate::often::{asked_device, down_numbers, is_frag, time_at, up_number};
+use crate::often::{
+    asked_device, down_numbers, is_frag, is_status, raw_parts, time_at, up_number, woken_device,
+};
 use crate::words::{count_words, is_word, word};
 
 /// The form that a line spells, None exactly where it spells none.
@@ -20,6 +22,13 @@ pub fn form(line: &[u8]) -> Option<Form<'_>>
             device: numbers.device,
             word: numbers.random,
         })
+    } else if let Some(parts) = raw_parts(line) {
+        Some(Form::Raw {
+            device: parts.device,
+            port: parts.port,
+            payload: parts.payload,
+            word: parts.random,
+        })
     } else if is_frag(line) {
         Some(Form::Frag)
     } else if let Some(number) = up_number(line) {
@@ -28,6 +37,10 @@ pub fn form(line: &[u8]) -> Option<Form<'_>>
         Some(Form::Ask { device })
     } else if let Some(time) = time_at(line) {
         Some(Form::At { time })
+    } else if let Some(device) = woken_device(line) {
+        Some(Form::Wake { device })
+    } else if is_status(line) {
+        Some(Form::Status)
     } else {
         any_form(line)
     }

@@ -1,9 +1,11 @@
 //! The words of a line: the stretches between its spaces.
 
-ghost use Rattle.std.specs.Prelude.{◌≡◌, ◌==◌, length, slice_get};
+ghost use Rattle.std.specs.Prelude.{◌≡◌, ◌<◌, ◌+◌, ◌==◌, [], ◌∷◌, None, IfSome, length, take, drop, slice_get};
 ghost use Rattle.std.specs.Option.{option_map};
 ghost use Rattle.std.specs.List.{slice_split};
 ghost use Rattle.script_lines.specs.Lines.{words_of, word, is_word};
+
+use memchr::memchr;
 
 /// How many words the line has: one more than it has spaces.
 #[tactic(auto, unfolding(crate::specs::Lines::words_of))]
@@ -29,6 +31,15 @@ pub fn word(line: &[u8], place: usize) -> &[u8]
         Some(found) => found,
         None => &[],
     }
+}
+
+/// The place of the first space, behind which the second word begins.
+pub(crate) fn first_space(line: &[u8]) -> Option<usize>
+    ensures within { IfSome result (λ end. end < length line.now) }
+    ensures some { IfSome result (λ end. words_of line.now ≡ take end line.now ∷ words_of (drop (end + 1) line.now)) }
+    ensures none { result ≡ None → words_of line.now ≡ line.now ∷ [] }
+{
+    memchr(b' ', line)
 }
 
 /// Whether the word at a place, counted from 0, is this one.

@@ -1,0 +1,24 @@
+-- What is known of the words of a line of which a part is read.
+use Rattle.std.specs.Prelude.{◌≡◌, ℕ, List, [], ◌∷◌, Option, Some, None}
+use Rattle.script_lines.specs.Lines.{words_of}
+use Rattle.script_lines.specs.Numbers.{decimal_of, hex_bytes_of}
+
+-- the first word is this decimal, and the others are the words of the rest
+pub record DecimalFirst (bytes : List ℕ) (number : ℕ) (rest : List ℕ) : Type 0 where
+  pub digits : List ℕ
+  pub words : words_of bytes ≡ digits ∷ words_of rest
+  pub decimal : decimal_of digits ≡ Some number
+
+-- WORD, where it may be left out at the end of a line, and is 0 then
+abbrev pub random_of : List (List ℕ) → Option ℕ
+random_of [] = Some 0
+random_of (digits ∷ []) = decimal_of digits
+random_of (digits ∷ another ∷ more) = None
+
+-- HEX [WORD]
+pub record HexLast (bytes payload : List ℕ) (random : ℕ) : Type 0 where
+  pub digits : List ℕ
+  pub more : List (List ℕ)
+  pub words : words_of bytes ≡ digits ∷ more
+  pub hex : hex_bytes_of digits ≡ Some payload
+  pub word : random_of more ≡ Some random
