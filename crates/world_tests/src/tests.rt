@@ -3,7 +3,8 @@ use device_core::{Class, Delivered, Device, DeviceConfig, MAX_AREA};
 use image_slots::{ImageState, is_image};
 use mc_keys::RootKind;
 use package_grammar::{Downlink, To};
-use report_lines::{LineError, LineFault, LineWhy};
+use report_lines::{LineError, LineFault, LineWhy, MAX_LINES};
+use script_lines::form;
 use std::process::Abort;
 use std::test::*;
 use wire_base::{Payload, Refusal, Why};
@@ -129,6 +130,57 @@ fn frames_are_heard_in_the_window(rt: HostRuntime) -> Result<(), Fail> {
     });
     assert!(rt; other.line(b"air 1 1") == Err(fault));
     Ok(())
+}
+
+/// A campaign that is carried out form by form, with a line passed by, has the report of its lines, one line further on.
+#[test]
+fn forms_are_carried_out_as_lines(rt: HostRuntime) -> Result<(), Fail> {
+    assert!(rt; is_image(&IMAGE));
+    let mut world = World::new(rt.alloc(), &IMAGE)?;
+    for line in [
+        "fuota 1",
+        "image 52 0",
+        DEVICE,
+        "ask 1",
+        "down 1 1",
+        "up 1",
+        "ask 1",
+        "down 2 1",
+        "frag",
+    ] {
+        assert!(rt; carries_out(&mut world, line));
+    }
+    assert!(rt; world.lines() == 9);
+    passes(&mut world);
+    assert!(rt; !carries_out(&mut world, "down 4 1"));
+    assert!(rt; carries_out(&mut world, "down 3 1") && carries_out(&mut world, "end"));
+    assert!(rt; world.lines() == 12 && !world.is_over());
+    match world.report(rt.alloc()) {
+        Ok(text) => assert!(rt;
+            text.as_slice()
+                == b"fuota report 1\nimage 52 fragments 1 size 52 padding 0 parity 0\ndevice 1 fragments clock 0 token 0 running 0 next valid 2\ncounts deaf 0 refused 0 full 0 dropped 0\nsession 0 received 1 missing 0 complete at 11 same\nend\n".as_slice()
+        ),
+        Err(_) => assert!(rt; false),
+    }
+    Ok(())
+}
+
+/// Carries out what a line says, where no cause holds of it.
+fn carries_out(world: &mut World, line: &str) -> bool {
+    let Some(said) = form(line.as_bytes()) else {
+        return false;
+    };
+    match world.cause(&said) {
+        None => world.lines() < MAX_LINES && world.take(&said) == Ok(()),
+        Some(_) => false,
+    }
+}
+
+/// Passes a line by.
+fn passes(world: &mut World) {
+    if world.lines() < MAX_LINES {
+        world.pass();
+    }
 }
 
 /// Lines behind a plan with one device, each refused for another cause, and none of them changes what comes then.
