@@ -4,6 +4,7 @@ pub mod CutLines
 pub mod Heard
 pub mod HexWords
 pub mod CutWords
+pub mod HeldWords
 pub mod OftenForms
 pub mod WorkedLines
 pub mod WorkedRanges

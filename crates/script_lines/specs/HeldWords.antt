@@ -1,7 +1,7 @@
 -- What is known of the words of a line of which a part is read.
 use Rattle.std.specs.Prelude.{◌≡◌, ℕ, List, [], ◌∷◌, Option, Some, None}
 use Rattle.script_lines.specs.Lines.{words_of}
-use Rattle.script_lines.specs.Numbers.{decimal_of, hex_bytes_of}
+use Rattle.script_lines.specs.Numbers.{decimal_of}
 
 -- the first word is this decimal, and the others are the words of the rest
 pub record DecimalFirst (bytes : List ℕ) (number : ℕ) (rest : List ℕ) : Type 0 where
@@ -15,10 +15,10 @@ random_of [] = Some 0
 random_of (digits ∷ []) = decimal_of digits
 random_of (digits ∷ another ∷ more) = None
 
--- HEX [WORD]
-pub record HexLast (bytes payload : List ℕ) (random : ℕ) : Type 0 where
-  pub digits : List ℕ
+-- the first word spells this, and [WORD] stands behind it
+pub record WordLast {A : Type 0} (spelled_by : List ℕ → Option A) (bytes : List ℕ) (value : A) (random : ℕ) : Type 0 where
+  pub first : List ℕ
   pub more : List (List ℕ)
-  pub words : words_of bytes ≡ digits ∷ more
-  pub hex : hex_bytes_of digits ≡ Some payload
+  pub words : words_of bytes ≡ first ∷ more
+  pub spelled : spelled_by first ≡ Some value
   pub word : random_of more ≡ Some random

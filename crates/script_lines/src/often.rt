@@ -2,10 +2,10 @@
 //! read word by word.
 
 ghost use Rattle.std.specs.Prelude.{◌≡◌, ◌≤◌, ◌++◌, ◌^◌, Some, IfSome, IsTrue, codes, length, take};
-ghost use Rattle.script_lines.specs.Numbers.{decimal_of};
+ghost use Rattle.script_lines.specs.Numbers.{decimal_of, hex_bytes_of};
 ghost use Rattle.script_lines.specs.Forms.{form_of};
-ghost use Rattle.script_lines.specs.declared.forms.Form.TheVariants.{Ask, At, Down, Frag, Raw, Status, Up, Wake};
-ghost use Rattle.script_lines.specs.HeldWords.{DecimalFirst, HexLast};
+ghost use Rattle.script_lines.specs.declared.forms.Form.TheVariants.{Air, Ask, At, Down, Frag, Raw, RawAir, Status, Up, Wake};
+ghost use Rattle.script_lines.specs.HeldWords.{DecimalFirst, WordLast};
 
 use crate::hex_bytes::HexBytes;
 use crate::words::first_space;
@@ -32,7 +32,15 @@ struct HexTail<'a> {
     random: u64,
 }
 
-/// The numbers of a line `down S D [WORD]`.
+/// The numbers of N [WORD] at the end of a line.
+#[derive(Clone, Copy)]
+struct DecimalTail {
+    number: u64,
+    /// WORD, 0 where it is left out.
+    random: u64,
+}
+
+/// The numbers of a line `down S D [WORD]` or `air S D [WORD]`.
 #[derive(Clone, Copy)]
 pub struct DownNumbers {
     /// S
@@ -56,6 +64,17 @@ pub struct RawParts<'a> {
     pub random: u64,
 }
 
+/// The parts of a line `rawair D HEX [WORD]`.
+#[derive(Drop)]
+pub struct RawAirParts<'a> {
+    /// D
+    pub device: u64,
+    /// HEX
+    pub bytes: HexBytes<'a>,
+    /// WORD, 0 where it is left out.
+    pub random: u64,
+}
+
 /// The numbers of a line `down S D [WORD]`.
 #[inline(always)]
 pub fn down_numbers(line: &[u8]) -> Option<DownNumbers>
@@ -67,13 +86,35 @@ pub fn down_numbers(line: &[u8]) -> Option<DownNumbers>
     }
 }
 
+/// The numbers of a line `air S D [WORD]`.
+#[inline(always)]
+pub fn air_numbers(line: &[u8]) -> Option<DownNumbers>
+    ensures { IfSome result (λ n. form_of line.now ≡ Some (Air n.number n.device n.random)) }
+{
+    match line {
+        [b'a', b'i', b'r', b' ', rest @ ..] => numbers_behind(rest),
+        _ => None,
+    }
+}
+
 /// The parts of a line `raw D PORT HEX [WORD]`.
 #[inline(always)]
 pub fn raw_parts(line: &[u8]) -> Option<RawParts<'_>>
     ensures { IfSome result (λ r. form_of line.now ≡ Some (Raw r.device r.port r.payload r.random)) }
 {
     match line {
-        [b'r', b'a', b'w', b' ', rest @ ..] => parts_behind(rest),
+        [b'r', b'a', b'w', b' ', rest @ ..] => raw_behind(rest),
+        _ => None,
+    }
+}
+
+/// The parts of a line `rawair D HEX [WORD]`.
+#[inline(always)]
+pub fn raw_air_parts(line: &[u8]) -> Option<RawAirParts<'_>>
+    ensures { IfSome result (λ r. form_of line.now ≡ Some (RawAir r.device r.bytes r.random)) }
+{
+    match line {
+        [b'r', b'a', b'w', b'a', b'i', b'r', b' ', rest @ ..] => raw_air_behind(rest),
         _ => None,
     }
 }
@@ -144,37 +185,25 @@ pub fn time_at(line: &[u8]) -> Option<u64>
     }
 }
 
-/// The numbers behind the keyword of a line `down S D [WORD]`.
+/// The numbers behind the keyword of a line `down S D [WORD]` or `air S D [WORD]`.
+#[inline(always)]
+#[tactic(auto, using(crate::proofs::OftenForms::down_line, crate::proofs::OftenForms::air_line))]
 fn numbers_behind(rest: &[u8]) -> Option<DownNumbers>
-    ensures { IfSome result (λ n. form_of (codes "down " ++ rest.now) ≡ Some (Down n.number n.device n.random)) }
+    ensures down { IfSome result (λ n. form_of (codes "down " ++ rest.now) ≡ Some (Down n.number n.device n.random)) }
+    ensures air { IfSome result (λ n. form_of (codes "air " ++ rest.now) ≡ Some (Air n.number n.device n.random)) }
 {
-    let first = leading_decimal(rest)?;
-    if first.end >= rest.len() || rest[first.end] != b' ' {
-        return None;
-    }
-    let behind = rest.split_at(first.end + 1).1;
-    let second = leading_decimal(behind)?;
-    if second.end >= behind.len() {
-        return Some(DownNumbers {
-            number: first.number,
-            device: second.number,
-            random: 0,
-        });
-    }
-    if behind[second.end] != b' ' {
-        return None;
-    }
-    let random = lone_decimal(behind.split_at(second.end + 1).1)?;
+    let number = spaced_decimal(rest)?;
+    let last = decimal_tail(number.rest)?;
     Some(DownNumbers {
-        number: first.number,
-        device: second.number,
-        random,
+        number: number.number,
+        device: last.number,
+        random: last.random,
     })
 }
 
 /// The parts behind the keyword of a line `raw D PORT HEX [WORD]`.
 #[tactic(auto, using(crate::proofs::OftenForms::raw_line))]
-fn parts_behind(rest: &[u8]) -> Option<RawParts<'_>>
+fn raw_behind(rest: &[u8]) -> Option<RawParts<'_>>
     ensures { IfSome result (λ r. form_of (codes "raw " ++ rest.now) ≡ Some (Raw r.device r.port r.payload r.random)) }
 {
     let device = spaced_decimal(rest)?;
@@ -188,10 +217,24 @@ fn parts_behind(rest: &[u8]) -> Option<RawParts<'_>>
     })
 }
 
+/// The parts behind the keyword of a line `rawair D HEX [WORD]`.
+#[tactic(auto, using(crate::proofs::OftenForms::raw_air_line))]
+fn raw_air_behind(rest: &[u8]) -> Option<RawAirParts<'_>>
+    ensures { IfSome result (λ r. form_of (codes "rawair " ++ rest.now) ≡ Some (RawAir r.device r.bytes r.random)) }
+{
+    let device = spaced_decimal(rest)?;
+    let last = hex_tail(device.rest)?;
+    Some(RawAirParts {
+        device: device.number,
+        bytes: last.bytes,
+        random: last.random,
+    })
+}
+
 /// HEX [WORD] at the end of a line.
 #[inline(always)]
 fn hex_tail(bytes: &[u8]) -> Option<HexTail<'_>>
-    ensures { IfSome result (λ t. HexLast bytes.now t.bytes t.random) }
+    ensures { IfSome result (λ t. WordLast hex_bytes_of bytes.now t.bytes t.random) }
 {
     match first_space(bytes) {
         None => {
@@ -210,6 +253,28 @@ fn hex_tail(bytes: &[u8]) -> Option<HexTail<'_>>
             })
         }
     }
+}
+
+/// N [WORD] at the end of a line.
+#[inline(always)]
+fn decimal_tail(bytes: &[u8]) -> Option<DecimalTail>
+    ensures { IfSome result (λ t. WordLast decimal_of bytes.now t.number t.random) }
+{
+    let found = leading_decimal(bytes)?;
+    if found.end >= bytes.len() {
+        return Some(DecimalTail {
+            number: found.number,
+            random: 0,
+        });
+    }
+    if bytes[found.end] != b' ' {
+        return None;
+    }
+    let random = lone_decimal(bytes.split_at(found.end + 1).1)?;
+    Some(DecimalTail {
+        number: found.number,
+        random,
+    })
 }
 
 /// A decimal with a space behind it at the front of bytes.

@@ -8,7 +8,8 @@ use crate::forms::{Class, Form};
 use crate::hex_bytes::HexBytes;
 use crate::numbers::{decimal, hex_number, key};
 use crate::often::{
-    asked_device, down_numbers, is_frag, is_status, raw_parts, time_at, up_number, woken_device,
+    air_numbers, asked_device, down_numbers, is_frag, is_status, raw_air_parts, raw_parts, time_at,
+    up_number, woken_device,
 };
 use crate::words::{count_words, is_word, word};
 
@@ -41,6 +42,18 @@ pub fn form(line: &[u8]) -> Option<Form<'_>>
         Some(Form::Wake { device })
     } else if is_status(line) {
         Some(Form::Status)
+    } else if let Some(numbers) = air_numbers(line) {
+        Some(Form::Air {
+            number: numbers.number,
+            device: numbers.device,
+            word: numbers.random,
+        })
+    } else if let Some(parts) = raw_air_parts(line) {
+        Some(Form::RawAir {
+            device: parts.device,
+            bytes: parts.bytes,
+            word: parts.random,
+        })
     } else {
         any_form(line)
     }

@@ -1,5 +1,5 @@
 use Rattle.std.proofs.Common.{rules}
-use Rattle.script_lines.proofs.OftenForms.{decimal_first}
+use Rattle.script_lines.proofs.HeldWords.{decimal_first}
 use Rattle.script_lines.proofs.often.spaced_decimal.Goals as goal
 
 pub returns : goal.returns
