@@ -4,7 +4,7 @@ use Rattle.std.proofs.lemmas.Bool.Decides.{nat_tests}
 use Rattle.std.specs.Option.{option_map}
 use Rattle.std.specs.declared.alloc.AllocError.{AllocError}
 use Rattle.device_core.specs.Device.{DeviceState, first_device}
-use Rattle.device_core.specs.Events.{Event, Receives, Migrates, event_step}
+use Rattle.device_core.specs.Events.{Event, Receives, HearsBytes, Migrates, event_step}
 use Rattle.device_core.specs.Firmware.{after_migration}
 use Rattle.device_core.specs.declared.config.DeviceConfig.{DeviceConfig}
 use Rattle.campaign_server.specs.Plan.{Plan}
@@ -26,7 +26,7 @@ use Rattle.script_lines.specs.declared.forms.Form.{Form}
 use Rattle.script_lines.specs.declared.forms.Form.TheVariants as form
 use Rattle.campaign_world.specs.Causes.{is_event_or_end}
 use Rattle.campaign_world.specs.World.{WorldState}
-use Rattle.campaign_world.specs.Making.{with_plan, with_device, after_form, reception, with_event, at_events}
+use Rattle.campaign_world.specs.Making.{with_plan, with_device, after_form, reception, sent_frame, hearing, with_event, at_events}
 use Rattle.campaign_world.specs.Script.{one_line_more}
 use Rattle.campaign_world.specs.HeldWorld.{HeldCampaign, HeldWorld, WorldStands, KeepsEnds, Becomes, Plays, DevicesRest, OneComesToRest, OnesAreNumbered, held_with, world_of}
 use Rattle.campaign_world.specs.HeldLate.{Late, DeviceRests}
@@ -84,6 +84,27 @@ pub event_at_step : (held : HeldWorld) (world : WorldState) (new_devices : List 
 event_at_step held world new_devices new_uplinks device o event stands first last is reaches =
     subst (λ (w : WorldState). WorldStands (Behind held new_devices new_uplinks) (with_event w device (o w))) (sym stands.rest)
     (at_held held world.devices new_devices new_uplinks device _ event is stands.devices first last reaches)
+
+-- the frame of a payload that was sent
+pub frame_step : (lines : ℕ) (old new : HeldCampaign) (device number word : ℕ) (bytes : List ℕ) (r : Result (Unit {0}) AllocError)
+    → sent_frame old.server.plan.group (numbered old.sent number) ≡ Some bytes
+    → Plays lines old new r (λ world. with_event world device (Some (HearsBytes world.time word (world.lines + 1) bytes)))
+    → Plays lines old new r (λ world. with_event world device (hearing world.time word (world.lines + 1)
+    (sent_frame world.server.plan.group (numbered world.sent number))))
+frame_step lines old new device number word bytes r is plays here kept =
+    on_ok r (λ ok. λ world stands. heard world stands (on_ok_then r ok (plays here kept) world stands))
+  where
+    heard : (world : WorldState) → WorldStands (held_with lines here kept old) world
+        → WorldStands (held_with lines section.Events kept new)
+        (with_event world device (Some (HearsBytes world.time word (world.lines + 1) bytes)))
+        → WorldStands (held_with lines section.Events kept new)
+        (with_event world device (hearing world.time word (world.lines + 1)
+        (sent_frame world.server.plan.group (numbered world.sent number))))
+    heard world stands comes =
+        let frame : sent_frame world.server.plan.group (numbered world.sent number) ≡ Some bytes =
+        ap (λ (w : WorldState). sent_frame w.server.plan.group (numbered w.sent number)) stands.rest ∙ is in
+        subst (λ (o : Option (List ℕ)). WorldStands (held_with lines section.Events kept new)
+        (with_event world device (hearing world.time word (world.lines + 1) o))) (sym frame) comes
 
 -- a device that learns an image format makes no uplink
 pub migrate_reaches : (held : HeldWorld) (new_devices : List Late) (device : ℕ)
