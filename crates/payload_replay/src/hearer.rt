@@ -82,6 +82,7 @@ pub fn hear(device: &mut Device, payload: &[u8], mark: u64)
     requires { length payload.now ≤ max_payload }
     ensures { Becomes device.old device.new (λ before. after_payload mark payload.now before) }
 {
+    // The payload is made in its place, since one that is moved there is copied with all its room.
     let mut down = Downlink {
         to: To::Unicast,
         port: FRAGMENT_PORT,
