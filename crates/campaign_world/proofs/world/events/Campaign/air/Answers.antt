@@ -12,9 +12,9 @@ returns-in-Some-clause-taken c =
     ≡ sent_frame c.self.inside.server.plan.group (numbered c.self.inside.sent.items c.args.number) =
     c.sent_frame.ensures
     ∙ ap (λ (items : List SentPayload). sent_frame c.self.inside.server.plan.group (numbered items c.args.number)) c.deref.ensures.value in
-    let is : sent_frame c.self.inside.server.plan.group (numbered c.self.inside.sent.items c.args.number) ≡ Some c.in-Some.frame.items =
-    sym found ∙ ap (option_map (λ frame. frame.items)) c.in-Some.is in
-    frame_step c.args.lines _ _ c.args.device c.args.number c.args.word c.in-Some.frame.items c.hear.result
-    (subst (λ (h : HeldCampaign). sent_frame h.server.plan.group (numbered h.sent c.args.number) ≡ Some c.in-Some.frame.items)
+    let is : sent_frame c.self.inside.server.plan.group (numbered c.self.inside.sent.items c.args.number) ≡ Some c.deref-in-Some.result.now =
+    sym found ∙ ap (option_map (λ frame. frame.items)) c.in-Some.is ∙ ap (λ (bytes : List ℕ). Some bytes) (sym c.deref-in-Some.ensures.0) in
+    frame_step c.args.lines _ _ c.args.device c.args.number c.args.word c.deref-in-Some.result.now c.hear.result
+    (subst (λ (h : HeldCampaign). sent_frame h.server.plan.group (numbered h.sent c.args.number) ≡ Some c.deref-in-Some.result.now)
     c.self.view_is is)
     c.hear.ensures.taken
