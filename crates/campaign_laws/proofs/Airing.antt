@@ -39,9 +39,8 @@ use Rattle.campaign_world.specs.declared.section.Section.TheVariants as section
 use Rattle.campaign_world.specs.declared.numbered.SentPayload.{SentPayload}
 use Rattle.campaign_world.specs.World.{WorldState, first_world}
 use Rattle.campaign_world.specs.Honest.{is_raw}
-use Rattle.campaign_world.specs.Causes.{may_come, fits_script, names_device, may_reach, is_to_group, goes_out, has_come, is_to_come, fits_payload, has_more, form_cause, cause_of, cause_of_form}
+use Rattle.campaign_world.specs.Causes.{may_come, fits_script, names_device, may_reach, is_to_group, goes_out, has_come, is_to_come, fits_payload, has_more, form_cause}
 use Rattle.campaign_world.specs.Making.{with_device, reception, sent_frame, hearing, with_event, with_event_of, at_events, after_form}
-use Rattle.campaign_world.specs.Script.{after_form_of}
 use Rattle.campaign_laws.proofs.HeadlineCommands.{Cut, cut_of, IsGood, IsSentOf, IsCut, sync_high, fragment_good, status_good}
 use Rattle.campaign_laws.proofs.HeadlineForms.{Passes, passes, number_there, device_there, all_numbered, is_strange, late_cut}
 use Rattle.campaign_laws.proofs.HeadlineWorlds.{IsPayloadOf, Keeps}

@@ -156,7 +156,7 @@ unmoved : (t : ℕ) (d : DeviceState) → IsUntouched d → after_due_reboot t d
 unfolding after_due_reboot
 unmoved t d k = rw (k.reboot) refl
 
-due_calm : (t : ℕ) (d : DeviceState) → IsUntouched d → IsUntouched (after_due_reboot t d)
+pub due_calm : (t : ℕ) (d : DeviceState) → IsUntouched d → IsUntouched (after_due_reboot t d)
 due_calm t d k = subst IsUntouched (sym (unmoved t d k)) k
 
 heard_calm : (t word mark : ℕ) (down : Downlink) (d : DeviceState) → IsCalm down → IsUntouched d → IsUntouched (heard_delivery t word mark down d).device

@@ -1,31 +1,29 @@
 -- A device of a campaign is configured as its line says, whatever reached it.
-use Rattle.std.proofs.Common.{◌≡◌, inl, inr, ℕ, ◌+◌, ◌==◌, List, [], ◌∷◌, ◌++◌, length, drop, fold, append-nil, Option, None, Some, IfSome, Ok, refl, sym, ap, ◌∙◌, subst, eqb-true}
+use Rattle.std.proofs.Common.{◌≡◌, inl, inr, ℕ, ◌+◌, ◌==◌, List, [], ◌∷◌, ◌++◌, length, drop, fold, append-nil, Option, None, Some, IfSome, Ok, Err, refl, sym, ap, ◌∙◌, subst, eqb-true}
 use Rattle.std.proofs.lemmas.Bool.{and_parts}
 use Rattle.std.specs.Prelude.{filter_map, option_to_list}
 use Rattle.device_core.specs.Device.{DeviceState}
 use Rattle.wire_base.specs.Numbered.{numbered}
 use Rattle.script_lines.specs.declared.forms.Class.{Class}
 use Rattle.script_lines.specs.declared.forms.Class.TheVariants as class
-use Rattle.script_lines.specs.declared.forms.Form.{Form}
 use Rattle.script_lines.specs.declared.forms.Form.TheVariants.{Device}
-use Rattle.script_lines.specs.Lines.{lines_of}
-use Rattle.script_lines.specs.Forms.{form_of}
 use Rattle.script_lines.specs.Ranges.{in_range}
 use Rattle.campaign_world.specs.World.{WorldState, first_world}
-use Rattle.campaign_world.specs.Causes.{cause_of_form, form_cause}
-use Rattle.campaign_world.specs.Making.{class_of, device_of, after_form}
-use Rattle.campaign_world.specs.Script.{after_form_of, after_line, read_lines, campaign_of}
+use Rattle.campaign_world.specs.Said.{Said, Own, Line}
+use Rattle.campaign_world.specs.Causes.{said_cause, line_cause}
+use Rattle.campaign_world.specs.Making.{class_of, device_of, after_said}
+use Rattle.campaign_world.specs.Script.{after_line, read_lines, campaign_of}
 use Rattle.campaign_laws.specs.Headline.{IsClass, IsOfItsLine}
 use Rattle.device_core.specs.Events.{Event, after_event}
 use Rattle.campaign_laws.specs.Independence.{device_in, event_in}
 use Rattle.campaign_server.proofs.LineItems.{if_some, some_is, none_there, numbered_push, numbered_next}
 use Rattle.campaign_laws.proofs.HeadlineForms.{passes}
 use Rattle.campaign_laws.proofs.HeadlineLines.{end_is}
-use Rattle.campaign_laws.proofs.Independence.{read_first, line_fine, same_sent, unchanged, folded, form_told}
+use Rattle.campaign_laws.proofs.Independence.{read_first, line_fine, same_sent, unchanged, folded, said_told}
 use Rattle.device_core.proofs.HeardSessions.{event_config}
 
 -- a device that is there is configured as its line says
-abbrev AllConfigured : List (List ℕ) → List DeviceState → Type 0
+abbrev AllConfigured : List Line → List DeviceState → Type 0
 AllConfigured lines ds = (id : ℕ) → IfSome (numbered ds id) (λ d. IsOfItsLine lines id d.config)
 
 class_same : (k : Class) → IsClass k (class_of k)
@@ -37,17 +35,17 @@ events_config d [] = refl
 events_config d (e ∷ events) = events_config (after_event d e) events ∙ event_config d e
 
 -- a device behind some events is configured as before
-still_configured : (lines : List (List ℕ)) (id : ℕ) (o : Option DeviceState) (events : List Event)
+still_configured : (lines : List Line) (id : ℕ) (o : Option DeviceState) (events : List Event)
     → IfSome o (λ d. IsOfItsLine lines id d.config) → IfSome (folded events o) (λ d. IsOfItsLine lines id d.config)
 still_configured lines id None events h = tt
 still_configured lines id (Some d) events h = subst (IsOfItsLine lines id) (sym (events_config d events)) h
 
--- the devices with the one that a form gives
-with_form : (lines : List (List ℕ)) (w : WorldState) (form : Form) (line : List ℕ) → form_cause w form ≡ None
-    → numbered lines (w.lines + 1) ≡ Some line → form_of line ≡ Some form → AllConfigured lines w.devices
-    → AllConfigured lines (w.devices ++ filter_map device_in (Some form ∷ []))
+-- the devices with the one that a line gives
+with_line : (lines : List Line) (w : WorldState) (said : Said) → said_cause w said ≡ None
+    → numbered lines (w.lines + 1) ≡ Some (Ok said) → AllConfigured lines w.devices
+    → AllConfigured lines (w.devices ++ filter_map device_in (Ok said ∷ []))
 unfolding in_range
-with_form lines w (Device name class hw rows offset key descriptor v1 k11) line fine line_is form_is h id =
+with_line lines w (Own (Device name class hw rows offset key descriptor v1 k11)) fine line_is h id =
     elim (numbered_push w.devices (device_of class hw rows offset key descriptor v1 k11) id) [
       | inl same ↦ subst (λ (o : Option DeviceState). IfSome o (λ d. IsOfItsLine lines id d.config)) (sym same) (h id)
       | inr new ↦
@@ -57,7 +55,7 @@ with_form lines w (Device name class hw rows offset key descriptor v1 k11) line 
           some_is (λ (d : DeviceState). IsOfItsLine lines id d.config) _
           (device_of class hw rows offset key descriptor v1 k11) new.1 (
             w.lines + 1,
-            line,
+            Ok (Own (Device name class hw rows offset key descriptor v1 k11)),
             class,
             hw,
             rows,
@@ -68,8 +66,7 @@ with_form lines w (Device name class hw rows offset key descriptor v1 k11) line 
             k11,
             record {
               line_is = line_is;
-              form = form_is
-                  ∙ ap (λ (n : ℕ). Some (Device n class hw rows offset key descriptor v1 k11)) (next ∙ sym new.2);
+              says = ap (λ (n : ℕ). let l : Line = Ok (Own (Device n class hw rows offset key descriptor v1 k11)) in l) (next ∙ sym new.2);
               class_is = class_same class;
               hw_is = refl;
               rows_are = refl;
@@ -84,53 +81,53 @@ with_form lines w (Device name class hw rows offset key descriptor v1 k11) line 
             },
           )
     ]
-with_form lines w form line fine line_is form_is h id =
+with_line lines w said fine line_is h id =
     subst (λ (ds : List DeviceState). IfSome (numbered ds id) (λ d. IsOfItsLine lines id d.config))
     (sym (append-nil w.devices)) (h id)
 
-form_configured : (lines : List (List ℕ)) (w : WorldState) (form : Form) (line : List ℕ) → form_cause w form ≡ None
-    → numbered lines (w.lines + 1) ≡ Some line → form_of line ≡ Some form → AllConfigured lines w.devices
-    → AllConfigured lines (after_form w form).devices
-form_configured lines w form line fine line_is form_is h id =
-    let v : WorldState = after_form w form in
-    let t = form_told id w.server.plan.group w.sent w form fine in
+said_configured : (lines : List Line) (w : WorldState) (said : Said) → said_cause w said ≡ None
+    → numbered lines (w.lines + 1) ≡ Some (Ok said) → AllConfigured lines w.devices
+    → AllConfigured lines (after_said w said).devices
+said_configured lines w said fine line_is h id =
+    let v : WorldState = after_said w said in
+    let t = said_told id w.server.plan.group w.sent w said fine in
     let is : numbered v.devices id
-    ≡ folded (option_to_list (event_in id w.server.plan.group w.sent w.time (w.lines + 1) (Some form)) ++ [])
-    (numbered (w.devices ++ filter_map device_in (Some form ∷ [])) id) =
+    ≡ folded (option_to_list (event_in id w.server.plan.group w.sent w.time (w.lines + 1) (Ok said)) ++ [])
+    (numbered (w.devices ++ filter_map device_in (Ok said ∷ [])) id) =
     ap (λ (ds : List DeviceState). numbered ds id) (sym (append-nil v.devices))
     ∙ sym (unchanged (numbered (v.devices ++ []) id)) ∙ t.record_is (same_sent w) (λ airs. refl) [] [] in
     subst (λ (o : Option DeviceState). IfSome o (λ d. IsOfItsLine lines id d.config)) (sym is)
-    (still_configured lines id (numbered (w.devices ++ filter_map device_in (Some form ∷ [])) id)
-    (option_to_list (event_in id w.server.plan.group w.sent w.time (w.lines + 1) (Some form)) ++ [])
-    (with_form lines w form line fine line_is form_is h id))
+    (still_configured lines id (numbered (w.devices ++ filter_map device_in (Ok said ∷ [])) id)
+    (option_to_list (event_in id w.server.plan.group w.sent w.time (w.lines + 1) (Ok said)) ++ [])
+    (with_line lines w said fine line_is h id))
 
-line_configured : (lines : List (List ℕ)) (w : WorldState) (form : Option Form) (line : List ℕ)
-    → cause_of_form w form ≡ None → numbered lines (w.lines + 1) ≡ Some line → form_of line ≡ form
+line_configured : (lines : List Line) (w : WorldState) (line : Line)
+    → line_cause w line ≡ None → numbered lines (w.lines + 1) ≡ Some line
     → AllConfigured lines w.devices
-    → AllConfigured lines (after_form_of w form).devices × ((after_form_of w form).lines ≡ w.lines + 1)
-line_configured lines w None line fine line_is form_is h = absurd cc
-line_configured lines w (Some form) line fine line_is form_is h =
-    (form_configured lines w form line fine line_is form_is h, ap (λ (n : ℕ). n + 1) (form_told 0 None w.sent w form fine).lines)
+    → AllConfigured lines (after_line w line).devices × ((after_line w line).lines ≡ w.lines + 1)
+line_configured lines w (Err cause) fine line_is h = absurd cc
+line_configured lines w (Ok said) fine line_is h =
+    (said_configured lines w said fine line_is h, ap (λ (n : ℕ). n + 1) (said_told 0 None w.sent w said fine).lines)
 
-all_configured : (lines : List (List ℕ)) (w end : WorldState) (rest : List (List ℕ)) → drop w.lines lines ≡ rest
+all_configured : (lines : List Line) (w end : WorldState) (rest : List Line) → drop w.lines lines ≡ rest
     → read_lines (Ok w) rest ≡ Ok end → AllConfigured lines w.devices → AllConfigured lines end.devices
-unfolding read_lines after_line
+unfolding read_lines
 all_configured lines w end [] left read h =
     let same : w ≡ end = cc in subst (λ (x : WorldState). AllConfigured lines x.devices) same h
 all_configured lines w end (line ∷ rest) left read h =
     let first = read_first w end line rest read in
     let next = numbered_next lines w.lines line rest left in
-    let here = line_configured lines w (form_of line) line (line_fine w line first.0) next.0 refl h in
-    all_configured lines (after_form_of w (form_of line)) end rest
+    let here = line_configured lines w line (line_fine w line first.0) next.0 h in
+    all_configured lines (after_line w line) end rest
     (ap (λ (n : ℕ). drop n lines) here.1 ∙ next.1) first.1 here.0
 
-pub is_configured : (image script : List ℕ) (world : WorldState) (id : ℕ) (device : DeviceState)
-    → campaign_of image script ≡ Ok world → numbered world.devices id ≡ Some device
-    → IsOfItsLine (lines_of script) id device.config
+pub is_configured : (image : List ℕ) (lines : List Line) (world : WorldState) (id : ℕ) (device : DeviceState)
+    → campaign_of image lines ≡ Ok world → numbered world.devices id ≡ Some device
+    → IsOfItsLine lines id device.config
 unfolding campaign_of
-is_configured image script world id device is there =
-    if_some (λ (d : DeviceState). IsOfItsLine (lines_of script) id d.config) (numbered world.devices id) device there
-    (all_configured (lines_of script) (first_world image) world (lines_of script) refl
-    (end_is (read_lines (Ok (first_world image)) (lines_of script)) world is)
-    (λ n. subst (λ (o : Option DeviceState). IfSome o (λ d. IsOfItsLine (lines_of script) n d.config))
+is_configured image lines world id device is there =
+    if_some (λ (d : DeviceState). IsOfItsLine lines id d.config) (numbered world.devices id) device there
+    (all_configured lines (first_world image) world lines refl
+    (end_is (read_lines (Ok (first_world image)) lines) world is)
+    (λ n. subst (λ (o : Option DeviceState). IfSome o (λ d. IsOfItsLine lines n d.config))
     (sym (none_there [] n refl)) tt) id)

@@ -1,5 +1,5 @@
 -- The keys and addresses that the words of a line spell fit their fields.
-use Rattle.std.proofs.Common.{◌≡◌, ℕ, ◌+◌, ◌*◌, ◌-◌, ◌/◌, ◌%◌, ◌^◌, ◌<◌, ◌==◌, ◌&&◌, Bool, true, false, cond, List, [], ◌∷◌, length, get_or, codes, Option, None, Some, IfSome, Result, Ok, Err, refl, sym, ap, ◌∙◌, subst, arith, eqb-true}
+use Rattle.std.proofs.Common.{◌≡◌, ℕ, ◌+◌, ◌*◌, ◌-◌, ◌/◌, ◌%◌, ◌^◌, ◌<◌, ◌==◌, ◌&&◌, Bool, true, false, cond, List, [], ◌∷◌, length, map, nat_lt, get_or, codes, Option, None, Some, IfSome, Result, Ok, Err, refl, sym, ap, ◌∙◌, subst, arith, eqb-true}
 use Rattle.std.specs.Int.{w32, from_be_bytes}
 use Rattle.hex.specs.declared.error.FromHexError.{FromHexError}
 use Rattle.hex.specs.declared.error.FromHexError.TheVariants.{OddLength, InvalidStringLength}
@@ -8,8 +8,12 @@ use Rattle.hex.proofs.HexLemmas.{decode_pairs-ok}
 use Rattle.aes_block.specs.Cipher.{IsBlock}
 use Rattle.script_lines.specs.declared.forms.Form.{Form}
 use Rattle.script_lines.specs.declared.forms.Form.TheVariants.{Header, Image, Group, WindowC, WindowB, Device, At, Wake, Migrate, Ask, Frag, Status, Down, Raw, Air, RawAir, Up, End}
-use Rattle.script_lines.specs.Lines.{word, is_word}
+use Rattle.script_lines.specs.Lines.{word, is_word, lines_of}
 use Rattle.script_lines.specs.Numbers.{key_of, hex_number_of, read_part, ◌>>=◌}
+use Rattle.script_lines.specs.Limits.{max_line}
+use Rattle.report_lines.specs.declared.faults.LineWhy.TheVariants as why
+use Rattle.campaign_world.specs.Said.{own, line_of, said_in}
+use Rattle.campaign_laws.specs.Fields.{HasFields, LineFits, AllFit}
 use Rattle.script_lines.specs.Forms.{count_of, alone, at_form, wake_form, migrate_form, ask_form, up_form, decimal_at, hex_at, key_at, bytes_at, class_at, header_form, image_form, group_form, window_form, device_words, device_of_words, device_form, down_words, down_form, raw_words, raw_form, in_the_air, air_form, raw_air_words, raw_air_form, form_of}
 
 -- ---- what hex digits spell
@@ -61,16 +65,10 @@ hex_small digits = small_by _ (sized 4 digits _ _ refl)
 
 -- ---- forms
 
--- the key and the address of a form fit
-abbrev pub HasBytes : Form → Type 0
-HasBytes (Group addr key min max) = (addr < 2 ^ 32) × IsBlock key
-HasBytes (Device id class hw rows offset key descriptor v1 k11) = IsBlock key
-HasBytes form = Unit {0}
-
 record Fits (o : Option Form) : Type 0 where
-  its : IfSome o HasBytes
+  its : IfSome o HasFields
 
-leaf : (form : Form) → HasBytes form → Fits (Some form)
+leaf : (form : Form) → HasFields form → Fits (Some form)
 leaf form fits = record { its = fits }
 
 nothing : Fits None
@@ -123,11 +121,11 @@ window_fits line = either _ _ _
     (either _ _ None (behind (decimal_at line 2) _ (λ a ai. behind (decimal_at line 3) _ (λ b bi. behind (decimal_at line 4) _ (λ c ci.
     behind (decimal_at line 5) _ (λ d di. behind (decimal_at line 6) _ (λ e ei. leaf (WindowB a b c d e) tt)))))) nothing)
 
-lone_fits : (line : List ℕ) (b : Bool) (form : ℕ → Form) → ((n : ℕ) → HasBytes (form n))
+lone_fits : (line : List ℕ) (b : Bool) (form : ℕ → Form) → ((n : ℕ) → HasFields (form n))
     → Fits (cond b (decimal_at line 1 >>= (λ n. Some (form n))) None)
 lone_fits line b form h = either b _ None (behind (decimal_at line 1) _ (λ n is. leaf (form n) (h n))) nothing
 
-alone_fits : (b : Bool) (form : Form) → HasBytes form → Fits (cond b (Some form) None)
+alone_fits : (b : Bool) (form : Form) → HasFields form → Fits (cond b (Some form) None)
 alone_fits b form h = either b (Some form) None (leaf form h) nothing
 
 air_fits : (o : Option Form) → Fits (in_the_air o)
@@ -184,5 +182,24 @@ all_fit line =
     (either (is_word line 0 (codes "up")) (up_form line) _ (lone_fits line (count_of line == 2) (λ n. Up n) (λ n. tt))
     (either (is_word line 0 (codes "end")) (alone line End) _ (alone_fits (count_of line == 1) End tt) nothing))))))))))))))))
 
-pub form_fits : (line : List ℕ) → IfSome (form_of line) HasBytes
+pub form_fits : (line : List ℕ) → IfSome (form_of line) HasFields
 form_fits line = (all_fit line).its
+
+-- so do those of each line of a script
+own_fits : (o : Option Form) → IfSome o HasFields → LineFits (own o)
+own_fits None fits = tt
+own_fits (Some form) fits = fits
+
+line_fits : (text : List ℕ) → LineFits (line_of text)
+line_fits text = by (nat_lt max_line (length text))
+  where
+    by : (long : Bool) → LineFits (cond long (Err why.Limit) (own (form_of text)))
+    by true = tt
+    by false = own_fits (form_of text) (form_fits text)
+
+pub script_fits : (script : List ℕ) → AllFit (said_in script)
+script_fits script = all (lines_of script)
+  where
+    all : (texts : List (List ℕ)) → AllFit (map line_of texts)
+    all [] = tt
+    all (text ∷ texts) = (line_fits text, all texts)

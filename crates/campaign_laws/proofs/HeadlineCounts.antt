@@ -6,7 +6,7 @@ use Rattle.wire_base.specs.declared.refusal.Direction.TheVariants.{Up as Upwards
 use Rattle.package_grammar.specs.declared.command.Command.{Command}
 use Rattle.package_grammar.specs.Reading.{Reading, reading_of}
 use Rattle.device_core.specs.Device.{DeviceState}
-use Rattle.device_core.specs.Events.{Event, event_step}
+use Rattle.device_core.specs.Events.{Event, Receives, event_step}
 use Rattle.campaign_server.specs.declared.stage.Stage.{Stage}
 use Rattle.campaign_server.specs.declared.stage.Stage.TheVariants.{At as AtRequest}
 use Rattle.campaign_server.specs.declared.stage.Request.TheVariants.{Version}
@@ -19,8 +19,6 @@ use Rattle.campaign_server.specs.Fragments.{after_count, next_fragment, after_fr
 use Rattle.campaign_server.specs.Uplinks.{with_answers, read_uplink, uplink_step}
 use Rattle.script_lines.specs.declared.forms.Form.{Form}
 use Rattle.script_lines.specs.declared.forms.Form.TheVariants.{Header, Image, Group, WindowC, WindowB, Device, At, Wake, Migrate, Ask, Frag, Status, Down, Raw, Air, RawAir, Up, End}
-use Rattle.script_lines.specs.Lines.{lines_of}
-use Rattle.script_lines.specs.Forms.{form_of}
 use Rattle.campaign_world.specs.declared.section.Section.{Section}
 use Rattle.campaign_world.specs.declared.section.Section.TheVariants as section
 use Rattle.report_lines.specs.declared.faults.LineWhy.{LineWhy}
@@ -28,11 +26,13 @@ use Rattle.report_lines.specs.declared.faults.LineFault.{LineFault}
 use Rattle.campaign_world.specs.declared.numbered.SentPayload.{SentPayload}
 use Rattle.campaign_world.specs.declared.numbered.MadeUplink.{MadeUplink}
 use Rattle.campaign_world.specs.World.{WorldState, first_world}
-use Rattle.campaign_world.specs.Causes.{is_event_or_end, may_come, form_cause, cause_of_form, cause_of}
-use Rattle.campaign_world.specs.Making.{with_sent, with_device, event_of, after_event_at, with_event_of, after_answer, after_up, at_events, root_of, after_form}
-use Rattle.campaign_world.specs.Script.{after_form_of, after_line, line_result, read_line, read_lines, campaign_of}
+use Rattle.campaign_world.specs.Said.{Said, Own, Elsewhere, Reached, Line}
+use Rattle.campaign_world.specs.Causes.{is_event_or_end, may_come, takes_events, form_cause, said_cause, line_cause, cause_of}
+use Rattle.campaign_world.specs.Making.{with_sent, with_device, event_of, after_event_at, with_event_of, after_answer, after_up, at_events, root_of, after_form, after_said}
+use Rattle.campaign_world.specs.Script.{after_line, line_result, read_line, read_lines, campaign_of}
 use Rattle.campaign_laws.specs.Lives.{HasItsDevices}
 use Rattle.campaign_world.proofs.FormCauses.{event_at, passes}
+use Rattle.campaign_laws.proofs.HeadlineForms.{reached_passes}
 use Rattle.campaign_laws.proofs.HeadlineLines.{cause_by, end_is}
 use Rattle.campaign_laws.proofs.HeadlineLives.{ended}
 
@@ -217,40 +217,59 @@ form_counted w End fine k =
 
 -- ---- a script
 
-forms_counted : (w : WorldState) (form : Option Form) → cause_of_form w form ≡ None → IsCounted w
-    → IsCounted (after_form_of w form)
-forms_counted w None fine k = absurd cc
-forms_counted w (Some form) fine k =
-    let after = form_counted w form fine k in
+-- where events may come, a line may that wakes a device
+takes_wake : (here : Section) → takes_events here ≡ true → may_come here (Wake 1) ≡ true
+takes_wake section.Header takes = absurd cc
+takes_wake section.Image takes = absurd cc
+takes_wake section.Group takes = absurd cc
+takes_wake section.Window takes = absurd cc
+takes_wake section.Device takes = absurd cc
+takes_wake section.Devices takes = refl
+takes_wake section.Events takes = refl
+takes_wake section.Ended takes = absurd cc
+
+-- what a line says
+said_counted : (w : WorldState) (said : Said) → said_cause w said ≡ None → IsCounted w → IsCounted (after_said w said)
+said_counted w (Own form) fine k = form_counted w form fine k
+said_counted w Elsewhere fine k = k
+said_counted w (Reached n word down) fine k =
+    let o : Option Event = Some (Receives w.time word (w.lines + 1) down) in
+    event_counted w (after_event_at w n (numbered w.devices n) o) (Wake 1) refl
+    (takes_wake w.section (reached_passes w n word down fine).0) k (event_many w n (numbered w.devices n) o)
+
+lines_counted : (w : WorldState) (line : Line) → line_cause w line ≡ None → IsCounted w → IsCounted (after_line w line)
+lines_counted w (Err cause) fine k = absurd cc
+lines_counted w (Ok said) fine k =
+    let after = said_counted w said fine k in
     record { some = after.some; even = record { stages = after.even.stages; planned = after.even.planned } }
 
-line_counted : (w : WorldState) (line : List ℕ) (cause : Option LineWhy) → cause_of w line ≡ cause → IsCounted w
+line_counted : (w : WorldState) (line : Line) (cause : Option LineWhy) → cause_of w line ≡ cause → IsCounted w
     → IfOk (line_result w line cause) IsCounted
-unfolding cause_of after_line
+unfolding cause_of
 line_counted w line (Some why) is k = tt
-line_counted w line None is k = forms_counted w (form_of line) (cause_by _ _ _ is) k
+line_counted w line None is k = lines_counted w line (cause_by _ _ _ is) k
 
-all_counted : (r : Result WorldState LineFault) (lines : List (List ℕ)) → IfOk r IsCounted
+all_counted : (r : Result WorldState LineFault) (lines : List Line) → IfOk r IsCounted
     → IfOk (read_lines r lines) IsCounted
 unfolding read_lines read_line
 all_counted (Err fault) lines k = tt
 all_counted (Ok w) [] k = k
 all_counted (Ok w) (line ∷ lines) k = all_counted (read_line w line) lines (line_counted w line (cause_of w line) refl k)
 
-counted : (image script : List ℕ) (world : WorldState) → campaign_of image script ≡ Ok world → IsCounted world
+counted : (image : List ℕ) (lines : List Line) (world : WorldState) → campaign_of image lines ≡ Ok world → IsCounted world
 unfolding campaign_of
-counted image script world is =
+counted image lines world is =
     subst (λ (r : Result WorldState LineFault). IfOk r IsCounted)
-    (end_is (read_lines (Ok (first_world image)) (lines_of script)) world is)
-    (all_counted (Ok (first_world image)) (lines_of script)
+    (end_is (read_lines (Ok (first_world image)) lines) world is)
+    (all_counted (Ok (first_world image)) lines
     (record { some = tt; even = record { stages = refl; planned = refl } }))
 
-section_is : (image script : List ℕ) (world : WorldState) → campaign_of image script ≡ Ok world
+section_is : (image : List ℕ) (lines : List Line) (world : WorldState) → campaign_of image lines ≡ Ok world
     → world.section ≡ section.Ended
 unfolding campaign_of
-section_is image script world is = ended (read_lines (Ok (first_world image)) (lines_of script)) world is
+section_is image lines world is = ended (read_lines (Ok (first_world image)) lines) world is
 
 pub devices_there : HasItsDevices
-devices_there image script world is =
-    let k = counted image script world is in
-    (subst (λ (s : Section). SomeIn s (length world.devices)) (section_is image script world is) k.some, k.even.stages)
+devices_there image lines world is =
+    let k = counted image lines world is in
+    (subst (λ (s : Section). SomeIn s (length world.devices)) (section_is image lines world is) k.some, k.even.stages)

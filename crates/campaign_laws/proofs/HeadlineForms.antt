@@ -1,4 +1,4 @@
--- What each form that is not refused makes of a campaign.
+-- What each line that is not refused makes of a campaign.
 use Rattle.std.proofs.Common.{◌&&◌, nat_le, nat_lt, ◌≡◌, ◌⊎◌, inl, inr, ℕ, zero, suc, ◌+◌, ◌-◌, ◌^◌, ◌<◌, ◌≤◌, Bool, true, false, cond, not, ◌==◌, List, [], ◌∷◌, length, All, slice_get, Option, None, Some, IfSome, Ok, Err, append-nil, refl, sym, ap, ◌∙◌, subst, arith, true≢false, eqb-true}
 use Rattle.std.proofs.lemmas.Bool.{leb-true, and_parts}
 use Rattle.std.specs.Result.{result_ok}
@@ -12,7 +12,7 @@ use Rattle.frag_model.specs.Limits.{max_pieces}
 use Rattle.script_lines.specs.Limits.{max_rows, max_devices}
 use Rattle.device_core.specs.Deliver.{delivery, waking}
 use Rattle.device_core.specs.Firmware.{after_migration}
-use Rattle.device_core.specs.Events.{Event, Wakes, Migrates, after_event}
+use Rattle.device_core.specs.Events.{Event, Wakes, Receives, Migrates, after_event}
 use Rattle.campaign_server.specs.declared.plan.PlanGroup.{PlanGroup}
 use Rattle.campaign_server.specs.Plan.{Plan}
 use Rattle.campaign_server.specs.Server.{ServerState, DownlinkCommand, ledger, downlink_of}
@@ -30,13 +30,16 @@ use Rattle.report_lines.specs.declared.faults.LineWhy.{LineWhy}
 use Rattle.campaign_world.specs.declared.numbered.SentPayload.{SentPayload}
 use Rattle.campaign_world.specs.declared.numbered.MadeUplink.{MadeUplink}
 use Rattle.campaign_world.specs.World.{WorldState}
-use Rattle.campaign_world.specs.Causes.{may_come, fits_script, is_device, names_device, may_reach, has_come, form_cause}
-use Rattle.campaign_world.specs.Making.{with_sent, with_device, with_event, with_event_of, after_answer, after_up, at_events, after_form}
+use Rattle.campaign_world.specs.Said.{Said, Own, Elsewhere, Reached}
+use Rattle.campaign_world.specs.Causes.{may_come, fits_script, is_device, names_device, may_reach, has_come, form_cause, takes_events, said_cause}
+use Rattle.campaign_world.specs.Making.{with_sent, with_device, with_event, with_event_of, after_answer, after_up, at_events, after_form, after_said}
+use Rattle.campaign_world.specs.Honest.{are_for_others}
 use Rattle.campaign_server.proofs.LineItems.{if_some, numbered_put, numbered_there}
 use Rattle.campaign_laws.proofs.HeadlineCommands.{cut_of, IsCut}
 use Rattle.device_core.proofs.Stays.{Stays, waking_stays}
 use Rattle.campaign_laws.proofs.HeadlinePayloads.{sent_acts}
 use Rattle.campaign_laws.proofs.HeadlineEnds.{IsDeviceFor, IsServerOf, IsDown, ask_sent, fragment_sent, status_sent, GoesOn, fragment_goes, status_goes, answers_go, time_sent}
+use Rattle.campaign_laws.proofs.Crossing.{crossing_stays}
 use Rattle.campaign_laws.proofs.HeadlineWorlds.{IsPayloadOf, StandsIn, Keeps, is_down, HasStayed, Turns}
 
 -- ---- a form that is not refused
@@ -130,11 +133,11 @@ cut_on : (s new : ServerState) → new.plan ≡ s.plan → cut_of new.plan ≡ c
 cut_on s new same = ap (λ (p : Plan). cut_of p) same
 
 -- what is sent
-sends_turn : (image : List ℕ) (form : Form) (w : WorldState) (s : ServerState) (to : Option ℕ)
-    (o : Option DownlinkCommand) → is_down form ≡ false → GoesOn image w.server s
+sends_turn : (image : List ℕ) (said : Said) (w : WorldState) (s : ServerState) (to : Option ℕ)
+    (o : Option DownlinkCommand) → is_down said ≡ false → GoesOn image w.server s
     → IsCut image (cut_of w.server.plan) → IfSome o (IsDown image (cut_of w.server.plan))
-    → Turns image form w (at_events (with_sent (record w { server = s }) to o))
-sends_turn image form w s to None other goes cut fine = record {
+    → Turns image said w (at_events (with_sent (record w { server = s }) to o))
+sends_turn image said w s to None other goes cut fine = record {
   lines = refl;
   server = goes.is;
   stands = subst (IsCut image) (sym (cut_on w.server s goes.plan)) cut;
@@ -148,7 +151,7 @@ sends_turn image form w s to None other goes cut fine = record {
     fine = tt;
   });
 }
-sends_turn image form w s to (Some down) other goes cut fine = record {
+sends_turn image said w s to (Some down) other goes cut fine = record {
   lines = refl;
   server = goes.is;
   stands = subst (IsCut image) (sym (cut_on w.server s goes.plan)) cut;
@@ -162,25 +165,25 @@ sends_turn image form w s to (Some down) other goes cut fine = record {
   });
 }
 
-read_turn : (image : List ℕ) (form : Form) (w : WorldState) (dev t : ℕ) (r : Reading) → is_down form ≡ false
+read_turn : (image : List ℕ) (said : Said) (w : WorldState) (dev t : ℕ) (r : Reading) → is_down said ≡ false
     → IsServerOf image w.server → IsCut image (cut_of w.server.plan)
-    → Turns image form w (at_events (after_answer w dev (read_uplink w.server dev t r)))
+    → Turns image said w (at_events (after_answer w dev (read_uplink w.server dev t r)))
 unfolding read_uplink
-read_turn image form w dev t (Ok cs) other k cut =
-    sends_turn image form w (with_answers w.server dev cs (ledger w.server dev)) (Some dev)
+read_turn image said w dev t (Ok cs) other k cut =
+    sends_turn image said w (with_answers w.server dev cs (ledger w.server dev)) (Some dev)
     (by_unicast (time_answer t cs)) other (answers_go image w.server dev cs (ledger w.server dev) k) cut
     (time_sent image (cut_of w.server.plan) t cs)
-read_turn image form w dev t (Err refusal) other k cut =
-    sends_turn image form w w.server None None other (record { is = k; plan = refl }) cut tt
+read_turn image said w dev t (Err refusal) other k cut =
+    sends_turn image said w w.server None None other (record { is = k; plan = refl }) cut tt
 
-up_turn : (image : List ℕ) (form : Form) (w : WorldState) (o : Option MadeUplink) → is_down form ≡ false
+up_turn : (image : List ℕ) (said : Said) (w : WorldState) (o : Option MadeUplink) → is_down said ≡ false
     → IsServerOf image w.server → IsCut image (cut_of w.server.plan)
-    → Turns image form w (at_events (after_up w o))
+    → Turns image said w (at_events (after_up w o))
 unfolding uplink_step
-up_turn image form w None other k cut =
-    sends_turn image form w w.server None None other (record { is = k; plan = refl }) cut tt
-up_turn image form w (Some made) other k cut =
-    read_turn image form w made.device w.time (reading_of made.uplink.port direction.Up made.uplink.payload) other k cut
+up_turn image said w None other k cut =
+    sends_turn image said w w.server None None other (record { is = k; plan = refl }) cut tt
+up_turn image said w (Some made) other k cut =
+    read_turn image said w made.device w.time (reading_of made.uplink.port direction.Up made.uplink.payload) other k cut
 
 -- a number that a device has
 pub number_there : (count n : ℕ) → is_device count n ≡ true → (1 ≤ n) × (n ≤ count)
@@ -228,7 +231,7 @@ taken d = record d { outbox = [] }
 reached_turn : (image : List ℕ) (w : WorldState) (number n word : ℕ) (d : DeviceState) (p : SentPayload)
     → All (λ b. b < 2 ^ 8) image → Keeps image w → IsCut image (cut_of w.server.plan)
     → 1 ≤ n → numbered w.devices n ≡ Some d → numbered w.sent number ≡ Some p
-    → Turns image (Down number n word) w (with_event_of w n (Down number n word))
+    → Turns image (Own (Down number n word)) w (with_event_of w n (Down number n word))
 unfolding with_device
 reached_turn image w number n word d p bytes k cut first there got =
     let down = all_numbered (IsPayloadOf image (cut_of w.server.plan)) w.sent number p k.sent got in
@@ -244,7 +247,7 @@ reached_turn image w number n word d p bytes k cut first there got =
         number = number;
         id = n;
         word = word;
-        form_is = refl;
+        said_is = refl;
         first = first;
         cut = refl;
         old = d;
@@ -264,11 +267,11 @@ reached_turn image w number n word d p bytes k cut first there got =
     })
 
 -- an event at a device that hears nothing
-quiet_turn : (image : List ℕ) (w : WorldState) (n : ℕ) (form : Form) (d : DeviceState) (event : Event) → is_down form ≡ false
+pub quiet_turn : (image : List ℕ) (w : WorldState) (n : ℕ) (said : Said) (d : DeviceState) (event : Event) → is_down said ≡ false
     → Keeps image w → IsCut image (cut_of w.server.plan) → 1 ≤ n → numbered w.devices n ≡ Some d → Stays d (after_event d event)
-    → Turns image form w (with_event w n (Some event))
+    → Turns image said w (with_event w n (Some event))
 unfolding with_device
-quiet_turn image w n form d event other k cut first there stays =
+quiet_turn image w n said d event other k cut first there stays =
     rw (there) (record {
       lines = refl;
       server = k.server;
@@ -303,10 +306,10 @@ unfolding after_migration
 migration_stays d = record { config = refl; sessions = refl }
 
 -- nothing is sent, and no device changes
-still_turn : (image : List ℕ) (form : Form) (w v : WorldState) → is_down form ≡ false → IsServerOf image v.server
+still_turn : (image : List ℕ) (said : Said) (w v : WorldState) → is_down said ≡ false → IsServerOf image v.server
     → StandsIn image v v.section → v.lines ≡ w.lines → cut_of v.server.plan ≡ cut_of w.server.plan
-    → v.devices ≡ w.devices → v.sent ≡ w.sent → Turns image form w v
-still_turn image form w v other server stands lines cut devices sent = record {
+    → v.devices ≡ w.devices → v.sent ≡ w.sent → Turns image said w v
+still_turn image said w v other server stands lines cut devices sent = record {
   lines = lines;
   server = server;
   stands = stands;
@@ -338,11 +341,11 @@ is_strange (RawAir device bytes word) = true
 is_strange form = false
 
 pub form_turn : (image : List ℕ) (w : WorldState) (form : Form) → All (λ b. b < 2 ^ 8) image → Keeps image w
-    → form_cause w form ≡ None → is_strange form ≡ false → Turns image form w (after_form w form)
+    → form_cause w form ≡ None → is_strange form ≡ false → Turns image (Own form) w (after_form w form)
 unfolding after_form in_range
 form_turn image w Header bytes k fine honest =
     let was = at_header image w w.section (passes w Header fine).may k.stands in
-    still_turn image Header w _ refl k.server was refl refl refl refl
+    still_turn image (Own Header) w _ refl k.server was refl refl refl refl
 form_turn image w (Image frag_size parity) bytes k fine honest =
     let p = passes w (Image frag_size parity) fine in
     let was = at_image image w frag_size parity w.section p.may k.stands in
@@ -374,12 +377,12 @@ form_turn image w (Group addr key min max) bytes k fine honest =
       how = inr (inl (record { other = refl; before = was.1; devices = was.1; none = was.0; sent = was.0 }));
     }
 form_turn image w (WindowC start timeout freq dr) bytes k fine honest =
-    still_turn image (WindowC start timeout freq dr) w _ refl
+    still_turn image (Own (WindowC start timeout freq dr)) w _ refl
     (record { image_is = k.server.image_is; next = omega arith; few = k.server.few })
     (late_cut image w (WindowC start timeout freq dr) w.section refl
     (passes w (WindowC start timeout freq dr) fine).may k.stands) refl refl refl refl
 form_turn image w (WindowB start periodicity timeout freq dr) bytes k fine honest =
-    still_turn image (WindowB start periodicity timeout freq dr) w _ refl
+    still_turn image (Own (WindowB start periodicity timeout freq dr)) w _ refl
     (record { image_is = k.server.image_is; next = omega arith; few = k.server.few })
     (late_cut image w (WindowB start periodicity timeout freq dr) w.section refl
     (passes w (WindowB start periodicity timeout freq dr) fine).may k.stands) refl refl refl refl
@@ -402,38 +405,38 @@ form_turn image w (Device id class hw rows offset key descriptor v1 k11) bytes k
         descriptor = descriptor;
         v1 = v1;
         k11 = k11;
-        form_is = ap (λ (n : ℕ). Device n class hw rows offset key descriptor v1 k11) next;
+        said_is = ap (λ (n : ℕ). Own (Device n class hw rows offset key descriptor v1 k11)) next;
         few = few_rows id hw rows offset both.0;
         devices = refl;
         sent = refl;
       })));
     }
 form_turn image w (Time time) bytes k fine honest =
-    still_turn image (Time time) w _ refl k.server
+    still_turn image (Own (Time time)) w _ refl k.server
     (late_cut image w (Time time) w.section refl (passes w (Time time) fine).may k.stands) refl refl refl refl
 form_turn image w (Wake device) bytes k fine honest =
     let p = passes w (Wake device) fine in
     let there = number_there (length w.devices) device p.names in
     let d = device_there w.devices device there in
-    quiet_turn image w device (Wake device) d.0 (Wakes w.time) refl k
+    quiet_turn image w device (Own (Wake device)) d.0 (Wakes w.time) refl k
     (late_cut image w (Wake device) w.section refl p.may k.stands) there.0 d.1 (waking_stays w.time d.0)
 form_turn image w (Migrate device) bytes k fine honest =
     let p = passes w (Migrate device) fine in
     let there = number_there (length w.devices) device p.names in
     let d = device_there w.devices device there in
-    quiet_turn image w device (Migrate device) d.0 Migrates refl k
+    quiet_turn image w device (Own (Migrate device)) d.0 Migrates refl k
     (late_cut image w (Migrate device) w.section refl p.may k.stands) there.0 d.1 (migration_stays d.0)
 form_turn image w (Ask device) bytes k fine honest =
-    sends_turn image (Ask device) w w.server (Some device) (request_of w.server device) refl
+    sends_turn image (Own (Ask device)) w w.server (Some device) (request_of w.server device) refl
     (record { is = k.server; plan = refl })
     (late_cut image w (Ask device) w.section refl (passes w (Ask device) fine).may k.stands)
     (ask_sent image w.server device k.server)
 form_turn image w Frag bytes k fine honest =
-    sends_turn image Frag w (server_after_fragment w.server) None (result_ok (next_fragment w.server)) refl
+    sends_turn image (Own Frag) w (server_after_fragment w.server) None (result_ok (next_fragment w.server)) refl
     (fragment_goes image w.server k.server)
     (late_cut image w Frag w.section refl (passes w Frag fine).may k.stands) (fragment_sent image w.server k.server)
 form_turn image w Status bytes k fine honest =
-    sends_turn image Status w (after_status_to_all w.server) None (status_to_all w.server) refl
+    sends_turn image (Own Status) w (after_status_to_all w.server) None (status_to_all w.server) refl
     (status_goes image w.server k.server)
     (late_cut image w Status w.section refl (passes w Status fine).may k.stands)
     (status_sent image (cut_of w.server.plan) w.server)
@@ -448,8 +451,53 @@ form_turn image w (Raw device port payload word) bytes k fine honest = absurd (t
 form_turn image w (Air number device word) bytes k fine honest = absurd (true≢false honest)
 form_turn image w (RawAir device bytes word) all k fine honest = absurd (true≢false honest)
 form_turn image w (Up number) bytes k fine honest =
-    up_turn image (Up number) w (numbered w.uplinks number) refl k.server
+    up_turn image (Own (Up number)) w (numbered w.uplinks number) refl k.server
     (late_cut image w (Up number) w.section refl (passes w (Up number) fine).may k.stands)
 form_turn image w End bytes k fine honest =
-    still_turn image End w _ refl k.server
+    still_turn image (Own End) w _ refl k.server
     (late_cut image w End w.section refl (passes w End fine).may k.stands) refl refl refl refl
+
+-- ---- what a line says
+
+-- an event comes behind the image's line
+pub events_cut : (image : List ℕ) (w : WorldState) (here : Section) → takes_events here ≡ true → StandsIn image w here
+    → IsCut image (cut_of w.server.plan)
+events_cut image w section.Header takes stands = absurd (true≢false (sym takes))
+events_cut image w section.Image takes stands = absurd (true≢false (sym takes))
+events_cut image w section.Group takes stands = absurd (true≢false (sym takes))
+events_cut image w section.Window takes stands = absurd (true≢false (sym takes))
+events_cut image w section.Device takes stands = absurd (true≢false (sym takes))
+events_cut image w section.Devices takes stands = stands
+events_cut image w section.Events takes stands = stands
+events_cut image w section.Ended takes stands = absurd (true≢false (sym takes))
+
+-- the tests that a payload of another campaign's server passed
+pub reached_passes : (w : WorldState) (n word : ℕ) (down : Downlink) → said_cause w (Reached n word down) ≡ None
+    → (takes_events w.section ≡ true) × (is_device (length w.devices) n ≡ true)
+reached_passes w n word down fine =
+    let first = test_passed _ _ _ fine in
+    let second = test_passed _ _ _ first.1 in
+    (first.0, second.0)
+
+-- what the line brings need not have been sent to a campaign's device, or is a frame
+abbrev pub is_odd : Said → Bool
+is_odd (Own form) = is_strange form
+is_odd Elsewhere = false
+is_odd (Reached n word down) = not (are_for_others (reading_of down.port direction.Down down.payload))
+
+pub not_true : (b : Bool) → not b ≡ false → b ≡ true
+not_true true is = refl
+not_true false is = absurd cc
+
+pub said_turn : (image : List ℕ) (w : WorldState) (said : Said) → All (λ b. b < 2 ^ 8) image → Keeps image w
+    → said_cause w said ≡ None → is_odd said ≡ false → Turns image said w (after_said w said)
+said_turn image w (Own form) bytes k fine plain = form_turn image w form bytes k fine plain
+said_turn image w Elsewhere bytes k fine plain = still_turn image Elsewhere w w refl k.server k.stands refl refl refl refl
+said_turn image w (Reached n word down) bytes k fine plain =
+    let p = reached_passes w n word down fine in
+    let there = number_there (length w.devices) n p.1 in
+    let d = device_there w.devices n there in
+    let its = if_some (IsDeviceFor image (cut_of w.server.plan)) (numbered w.devices n) d.0 d.1 (k.devices n) in
+    quiet_turn image w n (Reached n word down) d.0 (Receives w.time word (w.lines + 1) down) refl k
+    (events_cut image w w.section p.0 k.stands) there.0 d.1
+    (crossing_stays w.time word (w.lines + 1) down d.0 (not_true _ plain) its.alone)

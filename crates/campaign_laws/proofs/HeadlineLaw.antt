@@ -19,8 +19,8 @@ use Rattle.campaign_server.specs.declared.stage.Stage.{Stage}
 use Rattle.campaign_server.specs.Server.{ServerState, ledger}
 use Rattle.wire_base.specs.Numbered.{numbered}
 use Rattle.campaign_server.specs.Asking.{fragments_request}
-use Rattle.script_lines.specs.Lines.{lines_of}
 use Rattle.campaign_world.specs.World.{WorldState}
+use Rattle.campaign_world.specs.Said.{Line}
 use Rattle.campaign_world.specs.Report.{report_of}
 use Rattle.campaign_laws.specs.Told.{report_over}
 use Rattle.campaign_laws.proofs.Told.{report_parted}
@@ -28,7 +28,8 @@ use Rattle.report_lines.specs.Sessions.{same, same_word, verdict_text, session_t
 use Rattle.campaign_world.specs.Script.{campaign_of}
 use Rattle.campaign_world.specs.Recovery.{file_by, file_of, recovery_by, recovery}
 use Rattle.campaign_laws.specs.Recovers.{RecoversTheImage}
-use Rattle.campaign_world.specs.Honest.{IsHonest}
+use Rattle.campaign_world.specs.Honest.{AreHonest}
+use Rattle.campaign_laws.specs.Fields.{AllFit}
 use Rattle.campaign_laws.specs.Headline.{WholeAt, HasNoOther, IsOfItsLine, IsFragmentOf, IsServed, Brings, CameInOrder, setup_command, HearsBrought, IsRecovered, IsReported, IsCampaign, Headline}
 use Rattle.campaign_laws.proofs.HeadlineCommands.{Cut, cut_of, setup_request}
 use Rattle.campaign_laws.proofs.HeadlineEnds.{IsSetFor, IsServerOf}
@@ -88,35 +89,35 @@ recovered_by image s h all =
           at.3.now image (image_fits image shape padding (at.1 ∷ at.2) h from);
     }
 
-set_for : (image script : List ℕ) (world : WorldState) (id : ℕ) (stage : Stage) (device : DeviceState) (session : Session)
-    → IsCampaign image script world id stage device session → IsSetFor image (cut_of world.server.plan) session
-set_for image script world id stage device session c =
-    campaign_session image script world id device session c.bytes c.honest c.accepted c.device_is c.session_is
+set_for : (image : List ℕ) (lines : List Line) (world : WorldState) (id : ℕ) (stage : Stage) (device : DeviceState) (session : Session)
+    → AllFit lines → IsCampaign image lines world id stage device session → IsSetFor image (cut_of world.server.plan) session
+set_for image lines world id stage device session fits c =
+    campaign_session image lines world id device session c.bytes fits c.honest c.accepted c.device_is c.session_is
 
-server_of : (image script : List ℕ) (world : WorldState) (id : ℕ) (stage : Stage) (device : DeviceState)
-    (session : Session) → IsCampaign image script world id stage device session → IsServerOf image world.server
-server_of image script world id stage device session c =
-    (campaign_reads image script world c.bytes c.honest c.accepted).stands.keeps.server
+server_of : (image : List ℕ) (lines : List Line) (world : WorldState) (id : ℕ) (stage : Stage) (device : DeviceState)
+    (session : Session) → AllFit lines → IsCampaign image lines world id stage device session → IsServerOf image world.server
+server_of image lines world id stage device session fits c =
+    (campaign_reads image lines world c.bytes fits c.honest c.accepted).stands.keeps.server
 
-session_rows : (image script : List ℕ) (world : WorldState) (id : ℕ) (stage : Stage) (device : DeviceState)
-    (session : Session) → IsCampaign image script world id stage device session
+session_rows : (image : List ℕ) (lines : List Line) (world : WorldState) (id : ℕ) (stage : Stage) (device : DeviceState)
+    (session : Session) → AllFit lines → IsCampaign image lines world id stage device session
     → session.rows ≡ min device.config.rows (nb_frag_of (length image) world.server.plan.frag_size)
-session_rows image script world id stage device session c =
+session_rows image lines world id stage device session fits c =
     if_some (λ (s : Session). s.rows ≡ min device.config.rows (nb_frag_of (length image) world.server.plan.frag_size))
     device.sessions.first session c.session_is
-    (campaign_device image script world id device c.bytes c.honest c.accepted c.device_is).rows
+    (campaign_device image lines world id device c.bytes fits c.honest c.accepted c.device_is).rows
 
-served : (image script : List ℕ) (world : WorldState) (id : ℕ) (stage : Stage) (device : DeviceState)
-    (session : Session) → IsCampaign image script world id stage device session
+served : (image : List ℕ) (lines : List Line) (world : WorldState) (id : ℕ) (stage : Stage) (device : DeviceState)
+    (session : Session) → AllFit lines → IsCampaign image lines world id stage device session
     → IsServed image world.server device.config.rows session
-served image script world id stage device session c =
-    let k = set_for image script world id stage device session c in
+served image lines world id stage device session fits c =
+    let k = set_for image lines world id stage device session fits c in
     record {
-      image_is = (server_of image script world id stage device session c).image_is;
+      image_is = (server_of image lines world id stage device session fits c).image_is;
       nb_frag = ap (λ (r : SetupReq). r.nb_frag) k.setup;
       frag_size = ap (λ (r : SetupReq). r.frag_size) k.setup;
       padding = ap (λ (r : SetupReq). r.padding) k.setup;
-      rows_are = session_rows image script world id stage device session c;
+      rows_are = session_rows image lines world id stage device session fits c;
       heard = k.heard;
     }
 
@@ -126,32 +127,31 @@ pub setup_is : (image : List ℕ) (server : ServerState) → IsServerOf image se
 setup_is image server k =
     ap (λ (i : List ℕ). let c : Command = Cast (fragments_request server.plan i) in c) k.image_is
 
-brought : (image script : List ℕ) (world : WorldState) (id : ℕ) (stage : Stage) (device : DeviceState)
-    (session : Session) → IsCampaign image script world id stage device session
-    → HearsBrought image (lines_of script) world id session
-brought image script world id stage device session c =
-    let lines : List (List ℕ) = lines_of script in
-    let setup = setup_is image world.server (server_of image script world id stage device session c) in
+brought : (image : List ℕ) (lines : List Line) (world : WorldState) (id : ℕ) (stage : Stage) (device : DeviceState)
+    (session : Session) → AllFit lines → IsCampaign image lines world id stage device session
+    → HearsBrought image lines world id session
+brought image lines world id stage device session fits c =
+    let setup = setup_is image world.server (server_of image lines world id stage device session fits c) in
     record {
       only = subst (λ (x : Command). CameInOrder image lines world.sent id x world.lines session.heard) (sym setup)
-          (campaign_came image script world id device session c.bytes c.honest c.accepted c.device_is c.session_is);
-      all = λ f n d later w. campaign_hears image script world id device session c.bytes c.honest c.accepted c.device_is
+          (campaign_came image lines world id device session c.bytes fits c.honest c.accepted c.device_is c.session_is);
+      all = λ f n d later w. campaign_hears image lines world id device session c.bytes fits c.honest c.accepted c.device_is
           c.session_is f n (subst (λ (x : Command). Brings image lines world.sent id n x) setup d) later w;
     }
 
-recovered_at : (image script : List ℕ) (world : WorldState) (id : ℕ) (device : DeviceState) (session : Session)
-    → All (λ b. b < 2 ^ 8) image → IsHonest script → campaign_of image script ≡ Ok world → numbered world.devices id ≡ Some device
+recovered_at : (image : List ℕ) (lines : List Line) (world : WorldState) (id : ℕ) (device : DeviceState) (session : Session)
+    → All (λ b. b < 2 ^ 8) image → AllFit lines → AreHonest lines → campaign_of image lines ≡ Ok world → numbered world.devices id ≡ Some device
     → device.sessions.first ≡ Some session → IsRecovered image session
-recovered_at image script world id device session bytes honest is d s =
-    let k = campaign_session image script world id device session bytes honest is d s in
+recovered_at image lines world id device session bytes fits honest is d s =
+    let k = campaign_session image lines world id device session bytes fits honest is d s in
     let shape = shape_for image (cut_of world.server.plan) session bytes k in
     recovered_by image session shape.0 (subst (λ (n : ℕ). AllByRecursion (IsFragmentOf image n) session.heard)
     (sym shape.1) k.heard)
 
-recovered : (image script : List ℕ) (world : WorldState) (id : ℕ) (stage : Stage) (device : DeviceState)
-    (session : Session) → IsCampaign image script world id stage device session → IsRecovered image session
-recovered image script world id stage device session c =
-    recovered_at image script world id device session c.bytes c.honest c.accepted c.device_is c.session_is
+recovered : (image : List ℕ) (lines : List Line) (world : WorldState) (id : ℕ) (stage : Stage) (device : DeviceState)
+    (session : Session) → AllFit lines → IsCampaign image lines world id stage device session → IsRecovered image session
+recovered image lines world id stage device session fits c =
+    recovered_at image lines world id device session c.bytes fits c.honest c.accepted c.device_is c.session_is
 
 -- the report over a device that has no session but the first
 alone_lines : (sent : List ℕ) (all : SessionTable) (session : Session) → all.first ≡ Some session → HasNoOther all
@@ -192,16 +192,16 @@ whole_of_image image s r mark file at =
     subst (λ (f : List ℕ). FirstAt (shape_of s) s.setup.padding (IsWhole (shape_of s) s.setup.padding f) s.heard mark)
     (r.alone at.0 (at.1 ∷ at.2) file at.3.parted at.3.now.alone) at
 
-reported : (image script : List ℕ) (world : WorldState) (id : ℕ) (stage : Stage) (device : DeviceState)
-    (session : Session) → IsCampaign image script world id stage device session
+reported : (image : List ℕ) (lines : List Line) (world : WorldState) (id : ℕ) (stage : Stage) (device : DeviceState)
+    (session : Session) → AllFit lines → IsCampaign image lines world id stage device session
     → IsReported image world id stage device session
-reported image script world id stage device session c =
-    let k = server_of image script world id stage device session c in
-    let r = recovered image script world id stage device session c in
+reported image lines world id stage device session fits c =
+    let k = server_of image lines world id stage device session fits c in
+    let r = recovered image lines world id stage device session fits c in
     let seen : Seen = seen_of session in
     let server : ServerState = world.server in
     let text = report_is world id stage device session c.stage_is c.device_is c.session_is
-    (campaign_device image script world id device c.bytes c.honest c.accepted c.device_is).alone in
+    (campaign_device image lines world id device c.bytes fits c.honest c.accepted c.device_is).alone in
     let whole : List ℕ → List ℕ = λ line. report_over world id stage device line in
     record {
       cases = elim (seen_cases seen.verdict r.agrees) [
@@ -224,14 +224,14 @@ reported image script world id stage device session c =
       receiving = λ stays. text ∙ ap whole (line_is server.image seen verdict.Receiving (r.decided.receiving.1 stays));
     }
 
-configured : (image script : List ℕ) (world : WorldState) (id : ℕ) (device : DeviceState) → All (λ b. b < 2 ^ 8) image
-    → campaign_of image script ≡ Ok world → numbered world.devices id ≡ Some device
-    → IsOfItsLine (lines_of script) id device.config
-configured image script world id device bytes is there = is_configured image script world id device is there
+configured : (image : List ℕ) (lines : List Line) (world : WorldState) (id : ℕ) (device : DeviceState) → All (λ b. b < 2 ^ 8) image
+    → campaign_of image lines ≡ Ok world → numbered world.devices id ≡ Some device
+    → IsOfItsLine lines id device.config
+configured image lines world id device bytes is there = is_configured image lines world id device is there
 
-one : (image script : List ℕ) (world : WorldState) (id : ℕ) (device : DeviceState) → All (λ b. b < 2 ^ 8) image
-    → IsHonest script → campaign_of image script ≡ Ok world → numbered world.devices id ≡ Some device → HasNoOther device.sessions
-one image script world id device bytes honest is there = (campaign_device image script world id device bytes honest is there).alone
+one : (image : List ℕ) (lines : List Line) (world : WorldState) (id : ℕ) (device : DeviceState) → All (λ b. b < 2 ^ 8) image
+    → AllFit lines → AreHonest lines → campaign_of image lines ≡ Ok world → numbered world.devices id ≡ Some device → HasNoOther device.sessions
+one image lines world id device bytes fits honest is there = (campaign_device image lines world id device bytes fits honest is there).alone
 
 pub headline : Headline
 headline = record { configured = configured; one = one; served = served; brought = brought; recovered = recovered; reported = reported }
@@ -256,15 +256,15 @@ session_image image None file r given = absurd cc
 session_image image (Some s) file r given =
     file_by_image image s (seen_of s) (seen_of s).verdict file refl refl (r s refl) given
 
-device_image : (image script : List ℕ) (world : WorldState) (id : ℕ) (o : Option DeviceState) (file : List ℕ)
-    → All (λ b. b < 2 ^ 8) image → IsHonest script → campaign_of image script ≡ Ok world → numbered world.devices id ≡ o
+device_image : (image : List ℕ) (lines : List Line) (world : WorldState) (id : ℕ) (o : Option DeviceState) (file : List ℕ)
+    → All (λ b. b < 2 ^ 8) image → AllFit lines → AreHonest lines → campaign_of image lines ≡ Ok world → numbered world.devices id ≡ o
     → recovery_by o ≡ Ok file → file ≡ image
-device_image image script world id None file bytes honest is there given = absurd cc
-device_image image script world id (Some device) file bytes honest is there given =
+device_image image lines world id None file bytes fits honest is there given = absurd cc
+device_image image lines world id (Some device) file bytes fits honest is there given =
     session_image image device.sessions.first file
-    (λ s at. recovered_at image script world id device s bytes honest is there at) given
+    (λ s at. recovered_at image lines world id device s bytes fits honest is there at) given
 
 pub recovers : RecoversTheImage
 unfolding recovery
-recovers image script world id file bytes honest is given =
-    device_image image script world id (numbered world.devices id) file bytes honest is refl given
+recovers image lines world id file bytes fits honest is given =
+    device_image image lines world id (numbered world.devices id) file bytes fits honest is refl given

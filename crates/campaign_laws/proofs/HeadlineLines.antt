@@ -23,20 +23,18 @@ use Rattle.device_core.specs.Device.{DeviceState, first_device}
 use Rattle.device_core.specs.ClassSessions.{hears}
 use Rattle.campaign_server.specs.Server.{DownlinkCommand, downlink_of}
 use Rattle.wire_base.specs.Numbered.{numbered}
-use Rattle.script_lines.specs.declared.forms.Form.{Form}
 use Rattle.script_lines.specs.declared.forms.Form.TheVariants.{Down}
-use Rattle.script_lines.specs.Lines.{lines_of}
-use Rattle.script_lines.specs.Forms.{form_of}
 use Rattle.campaign_world.specs.declared.section.Section.{Section}
 use Rattle.campaign_world.specs.declared.section.Section.TheVariants as section
 use Rattle.report_lines.specs.declared.faults.LineWhy.{LineWhy}
 use Rattle.report_lines.specs.declared.faults.LineFault.{LineFault}
 use Rattle.campaign_world.specs.declared.numbered.SentPayload.{SentPayload}
 use Rattle.campaign_world.specs.World.{WorldState, first_world}
-use Rattle.campaign_world.specs.Causes.{cause_of_form, cause_of}
-use Rattle.campaign_world.specs.Making.{config_of, after_form}
-use Rattle.campaign_world.specs.Script.{one_line_more, after_form_of, after_line, line_result, read_line, read_lines, end_result_at, end_result, campaign_of}
-use Rattle.campaign_world.specs.Honest.{is_raw, has_raw, AreHonest, IsHonest}
+use Rattle.campaign_world.specs.Said.{Said, Own, Line}
+use Rattle.campaign_world.specs.Causes.{line_cause, cause_of}
+use Rattle.campaign_world.specs.Making.{config_of, after_said}
+use Rattle.campaign_world.specs.Script.{one_line_more, after_line, line_result, read_line, read_lines, end_result_at, end_result, campaign_of}
+use Rattle.campaign_world.specs.Honest.{AreHonest}
 use Rattle.campaign_laws.specs.Headline.{HandsOver, Delivers, Listens, campaign_before, Brings, WasBrought, CameInOrder}
 use Rattle.campaign_server.proofs.LineItems.{if_some, some_is, some_weaker, none_there, numbered_more, numbered_push, numbered_put, numbered_there, numbered_next, take_next}
 use Rattle.campaign_laws.proofs.HeadlineCommands.{Cut, cut_of, setup_req, command_of, setup_request, fragment_command, IsGood, setup_good, fragment_good}
@@ -44,18 +42,18 @@ use Rattle.device_core.proofs.Stays.{Moves, stays}
 use Rattle.campaign_laws.proofs.HeadlinePayloads.{comes_to, way_of}
 use Rattle.campaign_laws.proofs.HeadlineEnds.{IsSetFor, IsDeviceFor}
 use Rattle.campaign_laws.proofs.HeadlineWorlds.{Keeps, first_keeps, HasStayed, IsQuiet, Turns, IsReached, turn_keeps}
-use Rattle.campaign_laws.proofs.Airing.{heard_as}
-use Rattle.campaign_laws.proofs.HonestLines.{Says, says_down, Stands, first_stands, goes_on_by}
+use Rattle.campaign_laws.specs.Fields.{AllFit}
+use Rattle.campaign_laws.proofs.HonestLines.{heard_said, Says, says_down, Stands, first_stands, goes_on_by}
 
 -- ---- deliveries as the campaign goes on
 
-later : (image : List ℕ) (lines : List (List ℕ)) (sent : List SentPayload) (id : ℕ) (setup : Command) (last next : ℕ)
+later : (image : List ℕ) (lines : List Line) (sent : List SentPayload) (id : ℕ) (setup : Command) (last next : ℕ)
     (heard : List Fragment) → last ≤ next → CameInOrder image lines sent id setup last heard
     → CameInOrder image lines sent id setup next heard
 later image lines sent id setup last next [] le h = (h.0, omega (arith, h.1, le), h.2)
 later image lines sent id setup last next (f ∷ older) le h = (omega (arith, h.0, le), h.1, h.2)
 
-pub still_brings : (image : List ℕ) (lines : List (List ℕ)) (sent more : List SentPayload) (id n : ℕ) (c : Command)
+pub still_brings : (image : List ℕ) (lines : List Line) (sent more : List SentPayload) (id n : ℕ) (c : Command)
     → Brings image lines sent id n c → Brings image lines (sent ++ more) id n c
 still_brings image lines sent more id n c b = (
   b.0,
@@ -68,7 +66,7 @@ still_brings image lines sent more id n c b = (
     b.3.3,
     record {
       line_is = b.3.4.line_is;
-      form = b.3.4.form;
+      hands_over = b.3.4.hands_over;
       payload_is = numbered_more sent more b.3.1 _ b.3.4.payload_is;
       valid = b.3.4.valid;
     },
@@ -76,7 +74,7 @@ still_brings image lines sent more id n c b = (
   b.4,
 )
 
-more_sent : (image : List ℕ) (lines : List (List ℕ)) (sent more : List SentPayload) (id : ℕ) (setup : Command)
+more_sent : (image : List ℕ) (lines : List Line) (sent more : List SentPayload) (id : ℕ) (setup : Command)
     (last : ℕ) (heard : List Fragment) → CameInOrder image lines sent id setup last heard
     → CameInOrder image lines (sent ++ more) id setup last heard
 more_sent image lines sent more id setup last [] h = (h.0, h.1, still_brings image lines sent more id h.0 setup h.2)
@@ -87,20 +85,20 @@ more_sent image lines sent more id setup last (f ∷ older) h = (
 )
 
 -- what a session heard
-abbrev SessionCame : List ℕ → List (List ℕ) → List SentPayload → (id last : ℕ) → Session → Type 0
+abbrev SessionCame : List ℕ → List Line → List SentPayload → (id last : ℕ) → Session → Type 0
 SessionCame image lines sent id last s = CameInOrder image lines sent id (command_of s.setup) last s.heard
 
 -- what a device's session heard
-abbrev DeviceCame : List ℕ → List (List ℕ) → List SentPayload → (id last : ℕ) → DeviceState → Type 0
+abbrev DeviceCame : List ℕ → List Line → List SentPayload → (id last : ℕ) → DeviceState → Type 0
 DeviceCame image lines sent id last d = IfSome d.sessions.first (SessionCame image lines sent id last)
 
-session_later : (image : List ℕ) (lines : List (List ℕ)) (sent : List SentPayload) (id n : ℕ) (s : Option Session)
+session_later : (image : List ℕ) (lines : List Line) (sent : List SentPayload) (id n : ℕ) (s : Option Session)
     → IfSome s (SessionCame image lines sent id n) → IfSome s (SessionCame image lines sent id (n + 1))
 session_later image lines sent id n s h =
     some_weaker (SessionCame image lines sent id n) (SessionCame image lines sent id (n + 1)) s
     (λ x c. later image lines sent id (command_of x.setup) n (n + 1) x.heard (omega arith) c) h
 
-session_on : (image : List ℕ) (lines : List (List ℕ)) (sent more : List SentPayload) (id n : ℕ) (s : Option Session)
+session_on : (image : List ℕ) (lines : List Line) (sent more : List SentPayload) (id n : ℕ) (s : Option Session)
     → IfSome s (SessionCame image lines sent id n) → IfSome s (SessionCame image lines (sent ++ more) id (n + 1))
 session_on image lines sent more id n s h =
     some_weaker (SessionCame image lines sent id (n + 1)) (SessionCame image lines (sent ++ more) id (n + 1)) s
@@ -109,20 +107,20 @@ session_on image lines sent more id n s h =
 
 -- ---- a command
 
-fresh_came : (image : List ℕ) (lines : List (List ℕ)) (sent : List SentPayload) (id last : ℕ) (limits : Limits)
+fresh_came : (image : List ℕ) (lines : List Line) (sent : List SentPayload) (id last : ℕ) (limits : Limits)
     (req : SetupReq) → Brings image lines sent id last (command_of req)
     → SessionCame image lines sent id last (new_session limits req)
 unfolding new_session
 fresh_came image lines sent id last limits req b = (last, omega arith, b)
 
-renewed_by : (image : List ℕ) (lines : List (List ℕ)) (sent : List SentPayload) (id last : ℕ) (limits : Limits)
+renewed_by : (image : List ℕ) (lines : List Line) (sent : List SentPayload) (id last : ℕ) (limits : Limits)
     (s : Session) (req : SetupReq) (b : Bool) → Brings image lines sent id last (command_of req)
     → SessionCame image lines sent id last s
     → SessionCame image lines sent id last (cond b s (new_session limits req))
 renewed_by image lines sent id last limits s req true d h = h
 renewed_by image lines sent id last limits s req false d h = fresh_came image lines sent id last limits req d
 
-renewed_came : (image : List ℕ) (lines : List (List ℕ)) (sent : List SentPayload) (id last : ℕ) (limits : Limits)
+renewed_came : (image : List ℕ) (lines : List Line) (sent : List SentPayload) (id last : ℕ) (limits : Limits)
     (s : Option Session) (req : SetupReq) → Brings image lines sent id last (command_of req)
     → IfSome s (SessionCame image lines sent id last)
     → SessionCame image lines sent id last (renewed limits s req)
@@ -131,14 +129,14 @@ renewed_came image lines sent id last limits None req d h = fresh_came image lin
 renewed_came image lines sent id last limits (Some s) req d h =
     renewed_by image lines sent id last limits s req (same_setup s.setup req) d h
 
-setup_by : (image : List ℕ) (lines : List (List ℕ)) (sent : List SentPayload) (id last : ℕ) (limits : Limits)
+setup_by : (image : List ℕ) (lines : List Line) (sent : List SentPayload) (id last : ℕ) (limits : Limits)
     (s : Option Session) (req : SetupReq) (b : Bool) → Brings image lines sent id last (command_of req)
     → IfSome s (SessionCame image lines sent id last)
     → IfSome (cond b (Some (renewed limits s req)) s) (SessionCame image lines sent id last)
 setup_by image lines sent id last limits s req true d h = renewed_came image lines sent id last limits s req d h
 setup_by image lines sent id last limits s req false d h = h
 
-setup_came : (image : List ℕ) (lines : List (List ℕ)) (sent : List SentPayload) (id last : ℕ) (limits : Limits)
+setup_came : (image : List ℕ) (lines : List Line) (sent : List SentPayload) (id last : ℕ) (limits : Limits)
     (here : Room) (s : Option Session) (req : SetupReq) → Brings image lines sent id last (command_of req)
     → IfSome s (SessionCame image lines sent id last)
     → IfSome (after_setup limits here s req) (SessionCame image lines sent id last)
@@ -146,7 +144,7 @@ unfolding after_setup
 setup_came image lines sent id last limits here s req d h =
     setup_by image lines sent id last limits s req (setup_bits limits here req == 0) d h
 
-followed_came : (image : List ℕ) (lines : List (List ℕ)) (sent : List SentPayload) (id n : ℕ) (s : Session)
+followed_came : (image : List ℕ) (lines : List Line) (sent : List SentPayload) (id n : ℕ) (s : Session)
     (number : ℕ) (part : List ℕ)
     → WasBrought image lines sent id (record { number = number; part = part; mark = n + 1 })
     → SessionCame image lines sent id n s
@@ -169,7 +167,7 @@ pub open_way : (s : Session) (way : Via) (n : ℕ) (part : List ℕ) → is_none
 unfolding drop_cause sessions.cause_of
 open_way s way n part is = open_by (excludes s.setup.mask way) _ is
 
-heard_by : (image : List ℕ) (lines : List (List ℕ)) (sent : List SentPayload) (id n : ℕ) (s : Session) (number : ℕ)
+heard_by : (image : List ℕ) (lines : List Line) (sent : List SentPayload) (id n : ℕ) (s : Session) (number : ℕ)
     (part : List ℕ) (b : Bool)
     → (b ≡ true → WasBrought image lines sent id (record { number = number; part = part; mark = n + 1 }))
     → SessionCame image lines sent id n s
@@ -178,12 +176,12 @@ heard_by image lines sent id n s number part true f h = followed_came image line
 heard_by image lines sent id n s number part false f h =
     later image lines sent id (command_of s.setup) n (n + 1) s.heard (omega arith) h
 
-no_session : (image : List ℕ) (lines : List (List ℕ)) (sent : List SentPayload) (id n : ℕ) (way : Via) (number : ℕ)
+no_session : (image : List ℕ) (lines : List Line) (sent : List SentPayload) (id n : ℕ) (way : Via) (number : ℕ)
     (part : List ℕ) → IfSome (after_fragment None way number part (n + 1)) (SessionCame image lines sent id (n + 1))
 unfolding after_fragment drop_cause
 no_session image lines sent id n way number part = tt
 
-fragment_came : (image : List ℕ) (lines : List (List ℕ)) (sent : List SentPayload) (id n : ℕ) (s : Option Session)
+fragment_came : (image : List ℕ) (lines : List Line) (sent : List SentPayload) (id n : ℕ) (s : Option Session)
     (way : Via) (number : ℕ) (part : List ℕ)
     → ((x : Session) → s ≡ Some x → excludes x.setup.mask way ≡ false
     → WasBrought image lines sent id (record { number = number; part = part; mark = n + 1 }))
@@ -196,9 +194,9 @@ fragment_came image lines sent id n (Some s) way number part f h =
     (λ is. f s refl (open_way s way number part is)) h
 
 -- a payload that the server sent reaches the device by this line
-delivers : (lines : List (List ℕ)) (sent : List SentPayload) (id n : ℕ) (p : SentPayload) (down : DownlinkCommand)
-    (c : Command) (line : List ℕ) (number word : ℕ) → numbered lines n ≡ Some line
-    → HandsOver (form_of line) number id word
+delivers : (lines : List Line) (sent : List SentPayload) (id n : ℕ) (p : SentPayload) (down : DownlinkCommand)
+    (c : Command) (line : Line) (number word : ℕ) → numbered lines n ≡ Some line
+    → HandsOver line number id word
     → numbered sent number ≡ Some p → p.down ≡ downlink_of down → down.command ≡ c → IsGood c
     → Delivers lines sent id n (record { to = down.to; command = c })
 delivers lines sent id n p down c line number word line_is form got down_is is good = (
@@ -208,7 +206,7 @@ delivers lines sent id n p down c line number word line_is form got down_is is g
   p.receiver,
   record {
     line_is = line_is;
-    form = form;
+    hands_over = form;
     payload_is = got ∙ ap (λ (x : Downlink). let o : Option SentPayload =
         Some (record { receiver = p.receiver; down = x }) in o)
         (down_is ∙ ap (λ (x : Command). downlink_of (record { to = down.to; command = x })) is);
@@ -216,14 +214,14 @@ delivers lines sent id n p down c line number word line_is form got down_is is g
   },
 )
 
-moved_came : (image : List ℕ) (lines : List (List ℕ)) (sent : List SentPayload) (id n : ℕ)
+moved_came : (image : List ℕ) (lines : List Line) (sent : List SentPayload) (id n : ℕ)
     (F : DeviceConfig → Option Session → Option Session) (d e : DeviceState) → Moves F d e
     → IfSome (F d.config d.sessions.first) (SessionCame image lines sent id n) → DeviceCame image lines sent id n e
 moved_came image lines sent id n F d e m h =
     subst (λ (t : SessionTable). IfSome t.first (SessionCame image lines sent id n)) (sym m.sessions) h
 
 -- the campaign before a line is the one that is read up to it
-pub before_next : (image : List ℕ) (lines : List (List ℕ)) (w : WorldState)
+pub before_next : (image : List ℕ) (lines : List Line) (w : WorldState)
     → read_lines (Ok (first_world image)) (take w.lines lines) ≡ Ok w
     → campaign_before image lines (w.lines + 1) ≡ Ok w
 before_next image lines w is =
@@ -231,7 +229,7 @@ before_next image lines w is =
     ap (λ (k : ℕ). read_lines (Ok (first_world image)) (take k lines)) back ∙ is
 
 -- a device that hears
-listens : (image : List ℕ) (lines : List (List ℕ)) (w : WorldState) (id : ℕ) (to : To) (d : DeviceState)
+listens : (image : List ℕ) (lines : List Line) (w : WorldState) (id : ℕ) (to : To) (d : DeviceState)
     → read_lines (Ok (first_world image)) (take w.lines lines) ≡ Ok w → numbered w.devices id ≡ Some d
     → hears (comes_to w.time d) w.time to ≡ true
     → excludes (cut_of w.server.plan).mask (way_of w.time d to) ≡ false
@@ -248,17 +246,17 @@ by_unicast : (mask t : ℕ) (d : DeviceState) → excludes mask (way_of t d Unic
 unfolding excludes
 by_unicast mask t d = refl
 
-reached_came : (image : List ℕ) (lines : List (List ℕ)) (w v : WorldState) (form : Form) (line : List ℕ)
-    (r : IsReached image form w v) → All (λ b. b < 2 ^ 8) image
+reached_came : (image : List ℕ) (lines : List Line) (w v : WorldState) (said : Said) (line : Line)
+    (r : IsReached image said w v) → All (λ b. b < 2 ^ 8) image
     → read_lines (Ok (first_world image)) (take w.lines lines) ≡ Ok w
-    → numbered lines (w.lines + 1) ≡ Some line → Says (form_of line) form
+    → numbered lines (w.lines + 1) ≡ Some line → Says line said
     → IsDeviceFor image (cut_of w.server.plan) r.old
     → DeviceCame image lines w.sent r.id w.lines r.old → DeviceCame image lines w.sent r.id (w.lines + 1) r.new
-reached_came image lines w v form line r bytes read line_is says its h =
+reached_came image lines w v said line r bytes read line_is says its h =
     let cut : Cut = cut_of w.server.plan in
     let n : ℕ = w.lines + 1 in
-    let down : HandsOver (form_of line) r.number r.id r.word =
-    says_down (form_of line) form r.number r.id r.word says r.form_is in
+    let down : HandsOver line r.number r.id r.word =
+    says_down line said r.number r.id r.word says r.said_is in
     let old : IfSome r.old.sessions.first (SessionCame image lines w.sent r.id n) =
     session_later image lines w.sent r.id w.lines r.old.sessions.first h in
     elim r.acts [
@@ -297,17 +295,17 @@ reached_came image lines w v form line r bytes read line_is says its h =
 -- ---- a line
 
 -- what each device heard
-pub AllCame : List ℕ → List (List ℕ) → List SentPayload → ℕ → List DeviceState → Type 0
+pub AllCame : List ℕ → List Line → List SentPayload → ℕ → List DeviceState → Type 0
 AllCame image lines sent n ds = (id : ℕ) → IfSome (numbered ds id) (DeviceCame image lines sent id n)
 
-none_came : (image : List ℕ) (lines : List (List ℕ)) (sent : List SentPayload) (n : ℕ) (ds : List DeviceState)
+none_came : (image : List ℕ) (lines : List Line) (sent : List SentPayload) (n : ℕ) (ds : List DeviceState)
     → ds ≡ [] → AllCame image lines sent n ds
 unfolding AllCame
 none_came image lines sent n ds is id =
     subst (λ (o : Option DeviceState). IfSome o (DeviceCame image lines sent id n))
     (sym (none_there ds id is)) tt
 
-quiet_came : (image : List ℕ) (lines : List (List ℕ)) (sent more : List SentPayload) (id n : ℕ)
+quiet_came : (image : List ℕ) (lines : List Line) (sent more : List SentPayload) (id n : ℕ)
     (old new : Option DeviceState) → IfSome old (DeviceCame image lines sent id n)
     → (new ≡ old) ⊎ HasStayed old new → IfSome new (DeviceCame image lines (sent ++ more) id (n + 1))
 quiet_came image lines sent more id n old new h (inl same) =
@@ -320,13 +318,13 @@ quiet_came image lines sent more id n old new h (inr s) =
     (session_on image lines sent more id n s.d.sessions.first
     (if_some (DeviceCame image lines sent id n) old s.d s.was h)))
 
-device_later : (image : List ℕ) (lines : List (List ℕ)) (sent : List SentPayload) (id n : ℕ) (o : Option DeviceState)
+device_later : (image : List ℕ) (lines : List Line) (sent : List SentPayload) (id n : ℕ) (o : Option DeviceState)
     → IfSome o (DeviceCame image lines sent id n) → IfSome o (DeviceCame image lines sent id (n + 1))
 device_later image lines sent id n o h =
     some_weaker (DeviceCame image lines sent id n) (DeviceCame image lines sent id (n + 1)) o
     (λ d c. session_later image lines sent id n d.sessions.first c) h
 
-joined_came : (image : List ℕ) (lines : List (List ℕ)) (sent : List SentPayload) (n : ℕ) (ds : List DeviceState)
+joined_came : (image : List ℕ) (lines : List Line) (sent : List SentPayload) (n : ℕ) (ds : List DeviceState)
     (config : DeviceConfig) → AllCame image lines sent n ds
     → AllCame image lines sent (n + 1) (ds ++ first_device config ∷ [])
 unfolding AllCame
@@ -336,13 +334,13 @@ joined_came image lines sent n ds config h id = elim (numbered_push ds (first_de
   | inr new ↦ some_is (DeviceCame image lines sent id (n + 1)) _ (first_device config) new.1 tt
 ]
 
-turn_came : (image : List ℕ) (lines : List (List ℕ)) (w v : WorldState) (form : Form) (line : List ℕ)
+turn_came : (image : List ℕ) (lines : List Line) (w v : WorldState) (said : Said) (line : Line)
     → All (λ b. b < 2 ^ 8) image → Keeps image w
     → read_lines (Ok (first_world image)) (take w.lines lines) ≡ Ok w
-    → Turns image form w v → numbered lines (w.lines + 1) ≡ Some line → Says (form_of line) form
+    → Turns image said w v → numbered lines (w.lines + 1) ≡ Some line → Says line said
     → AllCame image lines w.sent w.lines w.devices → AllCame image lines v.sent (w.lines + 1) v.devices
 unfolding AllCame
-turn_came image lines w v form line bytes k read turn line_is says h = elim turn.how [
+turn_came image lines w v said line bytes k read turn line_is says h = elim turn.how [
   | inl q ↦ subst (λ (ss : List SentPayload). AllCame image lines ss (w.lines + 1) v.devices) (sym q.sent) (quiet q)
   | inr other ↦ elim other [
     | inl b ↦ none_came image lines v.sent (w.lines + 1) v.devices b.devices
@@ -357,11 +355,11 @@ turn_came image lines w v form line bytes k read turn line_is says h = elim turn
   ]
 ]
   where
-    quiet : (q : IsQuiet image form w v) → AllCame image lines (w.sent ++ q.more) (w.lines + 1) v.devices
+    quiet : (q : IsQuiet image said w v) → AllCame image lines (w.sent ++ q.more) (w.lines + 1) v.devices
     quiet q id = quiet_came image lines w.sent q.more id w.lines (numbered w.devices id) (numbered v.devices id) (h id)
         (q.devices id)
 
-    reached : (r : IsReached image form w v)
+    reached : (r : IsReached image said w v)
         → AllCame image lines w.sent (w.lines + 1) (slice_set w.devices (r.id - 1) r.new)
     reached r id = elim (numbered_put w.devices r.id id r.new r.first) [
       | inr same ↦ subst (λ (o : Option DeviceState). IfSome o (DeviceCame image lines w.sent id (w.lines + 1))) (sym same)
@@ -370,7 +368,7 @@ turn_came image lines w v form line bytes k read turn line_is says h = elim turn
           (ap (λ (x : ℕ). numbered (slice_set w.devices (r.id - 1) r.new) x) is
           ∙ numbered_there w.devices r.id r.old r.new r.before)
           (subst (λ (x : ℕ). DeviceCame image lines w.sent x (w.lines + 1) r.new) (sym is)
-          (reached_came image lines w v form line r bytes read line_is says
+          (reached_came image lines w v said line r bytes read line_is says
           (if_some (IsDeviceFor image (cut_of w.server.plan)) (numbered w.devices r.id) r.old r.before (k.devices r.id))
           (if_some (DeviceCame image lines w.sent r.id w.lines) (numbered w.devices r.id) r.old r.before (h r.id))))
     ]
@@ -378,57 +376,57 @@ turn_came image lines w v form line bytes k read turn line_is says h = elim turn
 -- ---- lines that are read
 
 -- what holds between two lines, with these lines left
-pub record Reads (image : List ℕ) (lines : List (List ℕ)) (rest : List (List ℕ)) (w : WorldState) : Type 0 where
+pub record Reads (image : List ℕ) (lines : List Line) (rest : List Line) (w : WorldState) : Type 0 where
   pub stands : Stands image w
   pub came : AllCame image lines w.sent w.lines w.devices
   pub left : drop w.lines lines ≡ rest
   pub read : read_lines (Ok (first_world image)) (take w.lines lines) ≡ Ok w
+  pub fits : AllFit rest
   pub honest : AreHonest rest
 
 -- lines are read one after another
-read_more : (r : Result WorldState LineFault) (xs : List (List ℕ)) (x : List ℕ)
+read_more : (r : Result WorldState LineFault) (xs : List Line) (x : Line)
     → read_lines r (xs ++ x ∷ []) ≡ read_lines (read_lines r xs) (x ∷ [])
 unfolding read_lines
 read_more (Err fault) xs x = refl
 read_more (Ok w) [] x = refl
 read_more (Ok w) (y ∷ ys) x = read_more (read_line w y) ys x
 
-read_one : (w : WorldState) (x : List ℕ) → cause_of w x ≡ None → read_lines (Ok w) (x ∷ []) ≡ Ok (after_line w x)
+read_one : (w : WorldState) (x : Line) → cause_of w x ≡ None → read_lines (Ok w) (x ∷ []) ≡ Ok (after_line w x)
 unfolding read_lines read_line
 read_one w x fine = ap (λ (c : Option LineWhy). read_lines (line_result w x c) []) fine
 
-read_next : (image : List ℕ) (lines : List (List ℕ)) (w : WorldState) (line : List ℕ) (rest : List (List ℕ))
+read_next : (image : List ℕ) (lines : List Line) (w : WorldState) (line : Line) (rest : List Line)
     → read_lines (Ok (first_world image)) (take w.lines lines) ≡ Ok w → drop w.lines lines ≡ line ∷ rest
     → cause_of w line ≡ None
     → read_lines (Ok (first_world image)) (take (w.lines + 1) lines) ≡ Ok (after_line w line)
 read_next image lines w line rest read left fine =
     let one : w.lines + 1 ≡ suc w.lines = omega arith in
     ap (λ (k : ℕ). read_lines (Ok (first_world image)) (take k lines)) one
-    ∙ ap (λ (xs : List (List ℕ)). read_lines (Ok (first_world image)) xs) (take_next lines w.lines line rest left)
+    ∙ ap (λ (xs : List Line). read_lines (Ok (first_world image)) xs) (take_next lines w.lines line rest left)
     ∙ read_more (Ok (first_world image)) (take w.lines lines) line
     ∙ ap (λ (r : Result WorldState LineFault). read_lines r (line ∷ [])) read
     ∙ read_one w line fine
 
 -- the next line is read
-form_reads : (image : List ℕ) (lines : List (List ℕ)) (w : WorldState) (line : List ℕ) (rest : List (List ℕ))
-    (form : Option Form) → All (λ b. b < 2 ^ 8) image → Reads image lines (line ∷ rest) w → form_of line ≡ form
-    → cause_of w line ≡ None → cause_of_form w form ≡ None → Reads image lines rest (after_form_of w form)
-unfolding after_line
-form_reads image lines w line rest None bytes r is none fine = absurd cc
-form_reads image lines w line rest (Some form) bytes r is none fine =
+said_reads : (image : List ℕ) (lines : List Line) (w : WorldState) (line : Line) (rest : List Line)
+    → All (λ b. b < 2 ^ 8) image → Reads image lines (line ∷ rest) w
+    → cause_of w line ≡ None → line_cause w line ≡ None → Reads image lines rest (after_line w line)
+said_reads image lines w (Err cause) rest bytes r none fine = absurd cc
+said_reads image lines w (Ok said) rest bytes r none fine =
+    let line : Line = Ok said in
     let next = numbered_next lines w.lines line rest r.left in
-    let mine : is_raw form ≡ false = ap has_raw (sym is) ∙ r.honest.0 in
-    let on = goes_on_by image w line form bytes r.stands is none fine mine in
-    let v : WorldState = after_form w (heard_as form) in
-    let came = turn_came image lines w v (heard_as form) line bytes r.stands.keeps r.read on.turn next.0 on.says r.came in
+    let on = goes_on_by image w line said bytes r.stands refl none r.fits.0 fine r.honest.0 in
+    let v : WorldState = after_said w (heard_said said) in
+    let came = turn_came image lines w v (heard_said said) line bytes r.stands.keeps r.read on.turn next.0 on.says r.came in
     let behind : Reads image lines rest (one_line_more v) = record {
       stands = on.stands;
       came = subst (λ (n : ℕ). AllCame image lines v.sent (n + 1) v.devices) (sym on.turn.lines) came;
       left = ap (λ (n : ℕ). drop (n + 1) lines) on.turn.lines ∙ next.1;
+      fits = r.fits.1;
       honest = r.honest.1;
       read = ap (λ (n : ℕ). read_lines (Ok (first_world image)) (take (n + 1) lines)) on.turn.lines
           ∙ read_next image lines w line rest r.read r.left none
-          ∙ ap (λ (f : Option Form). let o : Result WorldState LineFault = Ok (after_form_of w f) in o) is
           ∙ ap (λ (u : WorldState). let o : Result WorldState LineFault = Ok (one_line_more u) in o) on.heard.same;
     } in
     subst (λ (u : WorldState). Reads image lines rest (one_line_more u)) (sym on.heard.same) behind
@@ -437,19 +435,18 @@ pub cause_by : (b : Bool) (why : LineWhy) (rest : Option LineWhy) → cond b (So
 cause_by true why rest is = absurd cc
 cause_by false why rest is = is
 
-form_fine : (w : WorldState) (line : List ℕ) → cause_of w line ≡ None → cause_of_form w (form_of line) ≡ None
+line_fine : (w : WorldState) (line : Line) → cause_of w line ≡ None → line_cause w line ≡ None
 unfolding cause_of
-form_fine w line is = cause_by _ _ _ is
+line_fine w line is = cause_by _ _ _ is
 
-pub line_reads : (image : List ℕ) (lines : List (List ℕ)) (w : WorldState) (line : List ℕ) (rest : List (List ℕ))
+pub line_reads : (image : List ℕ) (lines : List Line) (w : WorldState) (line : Line) (rest : List Line)
     (cause : Option LineWhy) → All (λ b. b < 2 ^ 8) image → Reads image lines (line ∷ rest) w → cause_of w line ≡ cause
     → IfOk (line_result w line cause) (Reads image lines rest)
-unfolding after_line
 line_reads image lines w line rest (Some why) bytes r is = tt
 line_reads image lines w line rest None bytes r is =
-    form_reads image lines w line rest (form_of line) bytes r refl is (form_fine w line is)
+    said_reads image lines w line rest bytes r is (line_fine w line is)
 
-all_read : (image : List ℕ) (lines : List (List ℕ)) (r : Result WorldState LineFault) (rest : List (List ℕ))
+all_read : (image : List ℕ) (lines : List Line) (r : Result WorldState LineFault) (rest : List Line)
     → All (λ b. b < 2 ^ 8) image → IfOk r (Reads image lines rest) → IfOk (read_lines r rest) (Reads image lines [])
 unfolding read_lines read_line
 all_read image lines (Err fault) rest bytes h = tt
@@ -458,13 +455,14 @@ all_read image lines (Ok w) (line ∷ rest) bytes h =
     all_read image lines (read_line w line) rest bytes
     (line_reads image lines w line rest (cause_of w line) bytes h refl)
 
-pub first_reads : (image : List ℕ) (lines : List (List ℕ)) → AreHonest lines → Reads image lines lines (first_world image)
+pub first_reads : (image : List ℕ) (lines : List Line) → AllFit lines → AreHonest lines → Reads image lines lines (first_world image)
 unfolding read_lines
-first_reads image lines honest = record {
+first_reads image lines fits honest = record {
   stands = first_stands image;
   came = none_came image lines [] 0 [] refl;
   left = refl;
   read = refl;
+  fits = fits;
   honest = honest;
 }
 
@@ -483,45 +481,44 @@ end_is (Err fault) world is = absurd cc
 end_is (Ok w) world is =
     ap (λ (x : WorldState). let o : Result WorldState LineFault = Ok x in o) (end_by w.section w world is)
 
-pub campaign_reads : (image script : List ℕ) (world : WorldState) → All (λ b. b < 2 ^ 8) image
-    → IsHonest script → campaign_of image script ≡ Ok world → Reads image (lines_of script) [] world
+pub campaign_reads : (image : List ℕ) (lines : List Line) (world : WorldState) → All (λ b. b < 2 ^ 8) image
+    → AllFit lines → AreHonest lines → campaign_of image lines ≡ Ok world → Reads image lines [] world
 unfolding campaign_of
-campaign_reads image script world bytes honest is =
-    subst (λ (r : Result WorldState LineFault). IfOk r (Reads image (lines_of script) []))
-    (end_is (read_lines (Ok (first_world image)) (lines_of script)) world is)
-    (all_read image (lines_of script) (Ok (first_world image)) (lines_of script) bytes
-    (first_reads image (lines_of script) honest))
+campaign_reads image lines world bytes fits honest is =
+    subst (λ (r : Result WorldState LineFault). IfOk r (Reads image lines []))
+    (end_is (read_lines (Ok (first_world image)) lines) world is)
+    (all_read image lines (Ok (first_world image)) lines bytes
+    (first_reads image lines fits honest))
 
 -- ---- so it is in each accepted honest campaign
 
 -- a device is one of the server's
-pub campaign_device : (image script : List ℕ) (world : WorldState) (id : ℕ) (device : DeviceState)
-    → All (λ b. b < 2 ^ 8) image → IsHonest script → campaign_of image script ≡ Ok world → numbered world.devices id ≡ Some device
+pub campaign_device : (image : List ℕ) (lines : List Line) (world : WorldState) (id : ℕ) (device : DeviceState)
+    → All (λ b. b < 2 ^ 8) image → AllFit lines → AreHonest lines → campaign_of image lines ≡ Ok world → numbered world.devices id ≡ Some device
     → IsDeviceFor image (cut_of world.server.plan) device
-campaign_device image script world id device bytes honest is d =
+campaign_device image lines world id device bytes fits honest is d =
     if_some (IsDeviceFor image (cut_of world.server.plan)) (numbered world.devices id) device d
-    ((campaign_reads image script world bytes honest is).stands.keeps.devices id)
+    ((campaign_reads image lines world bytes fits honest is).stands.keeps.devices id)
 
 -- and so is its session
-pub campaign_session : (image script : List ℕ) (world : WorldState) (id : ℕ) (device : DeviceState) (session : Session)
-    → All (λ b. b < 2 ^ 8) image → IsHonest script → campaign_of image script ≡ Ok world
+pub campaign_session : (image : List ℕ) (lines : List Line) (world : WorldState) (id : ℕ) (device : DeviceState) (session : Session)
+    → All (λ b. b < 2 ^ 8) image → AllFit lines → AreHonest lines → campaign_of image lines ≡ Ok world
     → numbered world.devices id ≡ Some device → device.sessions.first ≡ Some session
     → IsSetFor image (cut_of world.server.plan) session
-campaign_session image script world id device session bytes honest is d s =
+campaign_session image lines world id device session bytes fits honest is d s =
     if_some (IsSetFor image (cut_of world.server.plan)) device.sessions.first session s
-    (campaign_device image script world id device bytes honest is d).session
+    (campaign_device image lines world id device bytes fits honest is d).session
 
-pub campaign_came : (image script : List ℕ) (world : WorldState) (id : ℕ) (device : DeviceState) (session : Session)
-    → All (λ b. b < 2 ^ 8) image → IsHonest script → campaign_of image script ≡ Ok world
+pub campaign_came : (image : List ℕ) (lines : List Line) (world : WorldState) (id : ℕ) (device : DeviceState) (session : Session)
+    → All (λ b. b < 2 ^ 8) image → AllFit lines → AreHonest lines → campaign_of image lines ≡ Ok world
     → numbered world.devices id ≡ Some device → device.sessions.first ≡ Some session
-    → CameInOrder image (lines_of script) world.sent id (setup_request image (cut_of world.server.plan)) world.lines
+    → CameInOrder image lines world.sent id (setup_request image (cut_of world.server.plan)) world.lines
     session.heard
 unfolding AllCame
-campaign_came image script world id device session bytes honest is d s =
-    let r = campaign_reads image script world bytes honest is in
-    let lines : List (List ℕ) = lines_of script in
+campaign_came image lines world id device session bytes fits honest is d s =
+    let r = campaign_reads image lines world bytes fits honest is in
     let came : SessionCame image lines world.sent id world.lines session =
     if_some (SessionCame image lines world.sent id world.lines) device.sessions.first session s
     (if_some (DeviceCame image lines world.sent id world.lines) (numbered world.devices id) device d (r.came id)) in
     subst (λ (x : SetupReq). CameInOrder image lines world.sent id (command_of x) world.lines session.heard)
-    (campaign_session image script world id device session bytes honest is d s).setup came
+    (campaign_session image lines world id device session bytes fits honest is d s).setup came

@@ -14,13 +14,14 @@ use Rattle.device_core.specs.declared.config.DeviceConfig.{DeviceConfig}
 use Rattle.device_core.specs.Device.{limits_of, room_of, max_area, max_rows, row_words, row_bytes}
 use Rattle.frag_model.specs.Limits.{max_frag_size, max_pieces}
 use Rattle.row_elimination.specs.HeldTable.{max_line_words}
-use Rattle.script_lines.specs.Lines.{lines_of}
 use Rattle.campaign_world.specs.declared.section.Section.{Section}
 use Rattle.campaign_world.specs.declared.section.Section.TheVariants as section
 use Rattle.report_lines.specs.declared.faults.LineFault.{LineFault}
 use Rattle.campaign_world.specs.World.{WorldState, first_world}
+use Rattle.campaign_world.specs.Said.{Line}
 use Rattle.campaign_world.specs.Script.{read_lines, end_result_at, end_result, campaign_of}
-use Rattle.campaign_world.specs.Honest.{IsHonest}
+use Rattle.campaign_world.specs.Honest.{AreHonest}
+use Rattle.campaign_laws.specs.Fields.{AllFit}
 use Rattle.campaign_laws.specs.Headline.{Brings}
 use Rattle.campaign_laws.specs.Lives.{SessionsLive}
 use Rattle.campaign_server.proofs.LineItems.{within}
@@ -103,12 +104,12 @@ ended (Err fault) world is = absurd cc
 ended (Ok w) world is =
     ap (λ (x : WorldState). x.section) (sym (end_by w.section w world is)) ∙ ended_by w.section w world is
 
-campaign_cut : (image script : List ℕ) (world : WorldState) → All (λ b. b < 2 ^ 8) image
-    → IsHonest script → campaign_of image script ≡ Ok world → IsCut image (cut_of world.server.plan)
+campaign_cut : (image : List ℕ) (lines : List Line) (world : WorldState) → All (λ b. b < 2 ^ 8) image
+    → AllFit lines → AreHonest lines → campaign_of image lines ≡ Ok world → IsCut image (cut_of world.server.plan)
 unfolding campaign_of
-campaign_cut image script world bytes honest is =
-    subst (StandsIn image world) (ended (read_lines (Ok (first_world image)) (lines_of script)) world is)
-    (campaign_reads image script world bytes honest is).stands.keeps.stands
+campaign_cut image lines world bytes fits honest is =
+    subst (StandsIn image world) (ended (read_lines (Ok (first_world image)) lines) world is)
+    (campaign_reads image lines world bytes fits honest is).stands.keeps.stands
 
 -- ---- a session
 
@@ -119,17 +120,16 @@ lives_by image cut brings last n config None takes h le b = absurd (h takes n le
 lives_by image cut brings last n config (Some s) takes h le b = refl
 
 pub live : SessionsLive
-live image script world id device n bytes fine honest is there takes b =
-    let lines : List (List ℕ) = lines_of script in
+live image lines world id device n bytes fine honest is there takes b =
     let cut : Cut = cut_of world.server.plan in
     let brings : ℕ → Command → Type 0 = Brings image lines world.sent id in
-    let reads = campaign_reads image script world bytes honest is in
+    let reads = campaign_reads image lines world bytes fits honest is in
     let all : SessionHears image cut brings world.lines device.config device.sessions.first =
-    campaign_full_at image script world id device bytes honest is there in
+    campaign_full_at image lines world id device bytes fits honest is there in
     let left : length (drop world.lines lines) ≡ 0 = ap length reads.left in
     let inside : n ≤ length lines = within lines n b.3.0 b.3.4.line_is in
     lives_by image cut brings world.lines n device.config device.sessions.first
-    (takes_setup image cut device.config fine (campaign_cut image script world bytes honest is)
-    (campaign_device image script world id device bytes honest is there).bounds takes)
+    (takes_setup image cut device.config fine (campaign_cut image lines world bytes fits honest is)
+    (campaign_device image lines world id device bytes fits honest is there).bounds takes)
     all (omega (arith, left, inside, length-drop world.lines lines))
     (subst (λ (x : Command). brings n x) (setup_is image world.server reads.stands.keeps.server) b)

@@ -25,12 +25,11 @@ use Rattle.device_core.specs.Device.{DeviceState, room_of, limits_of}
 use Rattle.device_core.specs.ClassSessions.{hears}
 use Rattle.campaign_server.specs.Server.{DownlinkCommand, port_of, downlink_of}
 use Rattle.wire_base.specs.Numbered.{numbered}
-use Rattle.script_lines.specs.declared.forms.Form.{Form}
 use Rattle.script_lines.specs.declared.forms.Form.TheVariants.{Down}
-use Rattle.script_lines.specs.Forms.{form_of}
 use Rattle.report_lines.specs.declared.faults.LineFault.{LineFault}
 use Rattle.campaign_world.specs.declared.numbered.SentPayload.{SentPayload}
 use Rattle.campaign_world.specs.World.{WorldState, first_world}
+use Rattle.campaign_world.specs.Said.{Said, Own, Line}
 use Rattle.campaign_world.specs.Script.{read_lines}
 use Rattle.campaign_laws.specs.Headline.{IsFragmentOf, HandsOver, Delivers, Listens, Brings}
 use Rattle.campaign_server.proofs.LineItems.{numbered_more}
@@ -121,30 +120,30 @@ quiet image cut brings last (Some d) none h = session_quiet image cut brings las
 -- ---- what a line delivers
 
 -- a line that hands over says so
-handed_over : (its line : List ℕ) (form : Form) (n id word : ℕ) → its ≡ line → HandsOver (form_of its) n id word
-    → Says (form_of line) form → form ≡ Down n id word
-handed_over its line form n id word same over says =
-    hands_over_is (form_of line) form n id word (subst (λ (l : List ℕ). HandsOver (form_of l) n id word) same over) says
+handed_over : (its line : Line) (said : Said) (n id word : ℕ) → its ≡ line → HandsOver its n id word
+    → Says line said → said ≡ Own (Down n id word)
+handed_over its line said n id word same over says =
+    hands_over_is line said n id word (subst (λ (l : Line). HandsOver l n id word) same over) says
 
--- a line of another form brings nothing
-pub no_delivery : (image : List ℕ) (lines : List (List ℕ)) (sent : List SentPayload) (id n : ℕ) (line : List ℕ)
-    (form : Form) → numbered lines n ≡ Some line → Says (form_of line) form → is_down form ≡ false
+-- a line that says anything else brings nothing
+pub no_delivery : (image : List ℕ) (lines : List Line) (sent : List SentPayload) (id n : ℕ) (line : Line)
+    (said : Said) → numbered lines n ≡ Some line → Says line said → is_down said ≡ false
     → (c : Command) → Brings image lines sent id n c → ⊥
-no_delivery image lines sent id n line form line_is says other c b =
+no_delivery image lines sent id n line said line_is says other c b =
     let d = b.3 in
     let same : d.0 ≡ line = (let e : Some d.0 ≡ Some line = sym d.4.line_is ∙ line_is in cc) in
-    let it : form ≡ Down d.1 id d.2 = handed_over d.0 line form d.1 id d.2 same d.4.form says in
+    let it : said ≡ Own (Down d.1 id d.2) = handed_over d.0 line said d.1 id d.2 same d.4.hands_over says in
     true≢false (ap is_down (sym it) ∙ other)
 
 -- nor does a down to another device
-pub elsewhere : (image : List ℕ) (lines : List (List ℕ)) (sent : List SentPayload) (id n number other word : ℕ)
-    (line : List ℕ) → numbered lines n ≡ Some line → Says (form_of line) (Down number other word) → (id ≡ other → ⊥)
+pub elsewhere : (image : List ℕ) (lines : List Line) (sent : List SentPayload) (id n number other word : ℕ)
+    (line : Line) → numbered lines n ≡ Some line → Says line (Own (Down number other word)) → (id ≡ other → ⊥)
     → (c : Command) → Brings image lines sent id n c → ⊥
 elsewhere image lines sent id n number other word line line_is says differs c b =
     let d = b.3 in
     let same : d.0 ≡ line = (let e : Some d.0 ≡ Some line = sym d.4.line_is ∙ line_is in cc) in
-    let down : Down number other word ≡ Down d.1 id d.2 =
-    handed_over d.0 line (Down number other word) d.1 id d.2 same d.4.form says in
+    let down : Own (Down number other word) ≡ Own (Down d.1 id d.2) =
+    handed_over d.0 line (Own (Down number other word)) d.1 id d.2 same d.4.hands_over says in
     let it : id ≡ other = cc in
     differs it
 
@@ -153,17 +152,17 @@ record IsTheOne (to : To) (c : Command) (down : DownlinkCommand) : Type 0 where
   command : c ≡ down.command
   to_is : to ≡ down.to
 
-delivered_one : (image : List ℕ) (cut : Cut) (lines : List (List ℕ)) (sent : List SentPayload) (id n : ℕ)
-    (line : List ℕ) (number word : ℕ) (p : SentPayload) (down : DownlinkCommand)
+delivered_one : (image : List ℕ) (cut : Cut) (lines : List Line) (sent : List SentPayload) (id n : ℕ)
+    (line : Line) (number word : ℕ) (p : SentPayload) (down : DownlinkCommand)
     → All (λ b. b < 2 ^ 8) image → IsCut image cut → IsSentOf image cut down → p.down ≡ downlink_of down
-    → numbered lines n ≡ Some line → Says (form_of line) (Down number id word) → numbered sent number ≡ Some p
+    → numbered lines n ≡ Some line → Says line (Own (Down number id word)) → numbered sent number ≡ Some p
     → (to : To) (c : Command) → IsListed (row c) 201 direction.Down → port_of c ≡ 201
     → Delivers lines sent id n (record { to = to; command = c }) → IsTheOne to c down
 delivered_one image cut lines sent id n line number word p down bytes is_cut is_sent down_is line_is says got to c
     listed port d =
     let same : d.0 ≡ line = (let e : Some d.0 ≡ Some line = sym d.4.line_is ∙ line_is in cc) in
-    let at : Down number id word ≡ Down d.1 id d.2 =
-    handed_over d.0 line (Down number id word) d.1 id d.2 same d.4.form says in
+    let at : Own (Down number id word) ≡ Own (Down d.1 id d.2) =
+    handed_over d.0 line (Own (Down number id word)) d.1 id d.2 same d.4.hands_over says in
     let which : d.1 ≡ number = cc in
     let r : SentPayload = record { receiver = d.3; down = downlink_of (record { to = to; command = c }) } in
     let found : Some r ≡ Some p = sym d.4.payload_is ∙ ap (numbered sent) which ∙ got in
@@ -181,7 +180,7 @@ record IsHeardIn (to : To) (w : WorldState) (d : DeviceState) : Type 0 where
   hearing : hears (comes_to w.time d) w.time to ≡ true
   way : excludes (cut_of w.server.plan).mask (way_of w.time d to) ≡ false
 
-heard_in : (image : List ℕ) (lines : List (List ℕ)) (w world : WorldState) (id : ℕ) (d device : DeviceState) (to : To)
+heard_in : (image : List ℕ) (lines : List Line) (w world : WorldState) (id : ℕ) (d device : DeviceState) (to : To)
     → read_lines (Ok (first_world image)) (take w.lines lines) ≡ Ok w → numbered w.devices id ≡ Some d
     → Listens image lines id (w.lines + 1) to world device → IsHeardIn to w d
 heard_in image lines w world id d device to read there l =
@@ -380,15 +379,15 @@ moved_hears image cut brings last F d e m h =
     subst (λ (c : DeviceConfig). SessionHears image cut brings last c e.sessions.first) (sym m.config)
     (subst (λ (t : SessionTable). SessionHears image cut brings last d.config t.first) (sym m.sessions) h)
 
-pub reached_hears : (image : List ℕ) (lines : List (List ℕ)) (sent more : List SentPayload) (w v : WorldState)
-    (form : Form) (line : List ℕ) (r : IsReached image form w v) → All (λ b. b < 2 ^ 8) image
+pub reached_hears : (image : List ℕ) (lines : List Line) (sent more : List SentPayload) (w v : WorldState)
+    (said : Said) (line : Line) (r : IsReached image said w v) → All (λ b. b < 2 ^ 8) image
     → read_lines (Ok (first_world image)) (take w.lines lines) ≡ Ok w
     → IsDeviceFor image (cut_of w.server.plan) r.old → sent ≡ w.sent ++ more
-    → numbered lines (w.lines + 1) ≡ Some line → Says (form_of line) form
+    → numbered lines (w.lines + 1) ≡ Some line → Says line said
     → SessionHears image (cut_of w.server.plan) (Brings image lines sent r.id) w.lines r.old.config r.old.sessions.first
     → SessionHears image (cut_of w.server.plan) (Brings image lines sent r.id) (w.lines + 1) r.new.config
     r.new.sessions.first
-reached_hears image lines sent more w v form line r bytes read k grown line_is says h =
+reached_hears image lines sent more w v said line r bytes read k grown line_is says h =
     let cut : Cut = cut_of w.server.plan in
     let last : ℕ = w.lines in
     let brings : ℕ → Command → Type 0 = Brings image lines sent r.id in
@@ -397,7 +396,7 @@ reached_hears image lines sent more w v form line r bytes read k grown line_is s
     let one : (c : Command) → IsListed (row c) 201 direction.Down → port_of c ≡ 201 → (b : brings (last + 1) c)
     → IsTheOne b.0 c r.down =
     λ c listed port b. delivered_one image cut lines sent r.id (last + 1) line r.number r.word r.payload r.down bytes
-    r.is_cut r.is_sent r.down_is line_is (subst (Says (form_of line)) r.form_is says) got b.0 c listed port b.3 in
+    r.is_cut r.is_sent r.down_is line_is (subst (Says line) r.said_is says) got b.0 c listed port b.3 in
     let listens : (c : Command) → IsListed (row c) 201 direction.Down → port_of c ≡ 201 → brings (last + 1) c
     → IsHeardIn r.down.to w r.old =
     λ c listed port b. subst (λ (to : To). IsHeardIn to w r.old) (one c listed port b).to_is

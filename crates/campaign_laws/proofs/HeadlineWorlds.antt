@@ -5,13 +5,13 @@ use Rattle.device_core.specs.declared.config.DeviceConfig.{DeviceConfig}
 use Rattle.device_core.specs.Device.{DeviceState, first_device, max_rows}
 use Rattle.campaign_server.specs.Server.{DownlinkCommand, downlink_of}
 use Rattle.wire_base.specs.Numbered.{numbered}
-use Rattle.script_lines.specs.declared.forms.Form.{Form}
 use Rattle.script_lines.specs.declared.forms.Class.{Class}
 use Rattle.script_lines.specs.declared.forms.Form.TheVariants.{Device, Down}
 use Rattle.campaign_world.specs.declared.section.Section.{Section}
 use Rattle.campaign_world.specs.declared.section.Section.TheVariants as section
 use Rattle.campaign_world.specs.declared.numbered.SentPayload.{SentPayload}
 use Rattle.campaign_world.specs.World.{WorldState, first_world}
+use Rattle.campaign_world.specs.Said.{Said, Own}
 use Rattle.campaign_world.specs.Making.{config_of, device_of}
 use Rattle.campaign_server.proofs.LineItems.{some_is, if_some, none_there, numbered_push, numbered_put, numbered_there}
 use Rattle.campaign_laws.proofs.HeadlineCommands.{Cut, cut_of, IsSentOf, IsCut}
@@ -59,12 +59,12 @@ first_keeps image = record {
   devices = nobody image _ [] refl;
 }
 
--- ---- what a form makes
+-- ---- what a line makes of it
 
 -- a payload reaches a device
-abbrev pub is_down : Form → Bool
-is_down (Down number device word) = true
-is_down form = false
+abbrev pub is_down : Said → Bool
+is_down (Own (Down number device word)) = true
+is_down said = false
 
 -- a device whose session stays
 pub record HasStayed (old new : Option DeviceState) : Type 0 where
@@ -76,8 +76,8 @@ pub record HasStayed (old new : Option DeviceState) : Type 0 where
   pub empty : e.outbox ≡ []
 
 -- nothing reaches a device, and some payloads may be sent
-pub record IsQuiet (image : List ℕ) (form : Form) (w v : WorldState) : Type 0 where
-  pub other : is_down form ≡ false
+pub record IsQuiet (image : List ℕ) (said : Said) (w v : WorldState) : Type 0 where
+  pub other : is_down said ≡ false
   pub cut : cut_of v.server.plan ≡ cut_of w.server.plan
   pub devices : (id : ℕ) → (numbered v.devices id ≡ numbered w.devices id) ⊎ HasStayed (numbered w.devices id) (numbered v.devices id)
   pub more : List SentPayload
@@ -85,16 +85,16 @@ pub record IsQuiet (image : List ℕ) (form : Form) (w v : WorldState) : Type 0 
   pub fine : AllByRecursion (IsPayloadOf image (cut_of w.server.plan)) more
 
 -- the image is cut or the group is known, before anything is sent
-pub record IsBegun (form : Form) (w v : WorldState) : Type 0 where
-  pub other : is_down form ≡ false
+pub record IsBegun (said : Said) (w v : WorldState) : Type 0 where
+  pub other : is_down said ≡ false
   pub before : w.devices ≡ []
   pub devices : v.devices ≡ []
   pub none : w.sent ≡ []
   pub sent : v.sent ≡ []
 
 -- one device more is there
-pub record IsJoined (form : Form) (w v : WorldState) : Type 0 where
-  pub other : is_down form ≡ false
+pub record IsJoined (said : Said) (w v : WorldState) : Type 0 where
+  pub other : is_down said ≡ false
   pub cut : cut_of v.server.plan ≡ cut_of w.server.plan
   pub class : Class
   pub hw : ℕ
@@ -104,17 +104,17 @@ pub record IsJoined (form : Form) (w v : WorldState) : Type 0 where
   pub descriptor : Option ℕ
   pub v1 : Bool
   pub k11 : Bool
-  pub form_is : form ≡ Device (length w.devices + 1) class hw rows offset key descriptor v1 k11
+  pub said_is : said ≡ Own (Device (length w.devices + 1) class hw rows offset key descriptor v1 k11)
   pub few : rows ≤ max_rows
   pub devices : v.devices ≡ w.devices ++ device_of class hw rows offset key descriptor v1 k11 ∷ []
   pub sent : v.sent ≡ w.sent
 
 -- a payload reaches a device
-pub record IsReached (image : List ℕ) (form : Form) (w v : WorldState) : Type 0 where
+pub record IsReached (image : List ℕ) (said : Said) (w v : WorldState) : Type 0 where
   pub number : ℕ
   pub id : ℕ
   pub word : ℕ
-  pub form_is : form ≡ Down number id word
+  pub said_is : said ≡ Own (Down number id word)
   pub first : 1 ≤ id
   pub cut : cut_of v.server.plan ≡ cut_of w.server.plan
   pub old : DeviceState
@@ -131,13 +131,13 @@ pub record IsReached (image : List ℕ) (form : Form) (w v : WorldState) : Type 
   pub sent : v.sent ≡ w.sent
   pub is_cut : IsCut image (cut_of w.server.plan)
 
-pub record Turns (image : List ℕ) (form : Form) (w v : WorldState) : Type 0 where
+pub record Turns (image : List ℕ) (said : Said) (w v : WorldState) : Type 0 where
   pub lines : v.lines ≡ w.lines
   pub server : IsServerOf image v.server
   pub stands : StandsIn image v v.section
-  pub how : IsQuiet image form w v ⊎ (IsBegun form w v ⊎ (IsJoined form w v ⊎ IsReached image form w v))
+  pub how : IsQuiet image said w v ⊎ (IsBegun said w v ⊎ (IsJoined said w v ⊎ IsReached image said w v))
 
--- ---- and it holds behind each form
+-- ---- and it holds behind each line
 
 all_more : {X : Type 0} (P : X → Type 0) (xs ys : List X) → AllByRecursion P xs → AllByRecursion P ys
     → AllByRecursion P (xs ++ ys)
@@ -180,9 +180,9 @@ same_sent image w v cut sent k =
     subst (λ (x : Cut). AllByRecursion (IsPayloadOf image x) v.sent) (sym cut)
     (subst (AllByRecursion (IsPayloadOf image (cut_of w.server.plan))) (sym sent) k)
 
-pub turn_keeps : (image : List ℕ) (form : Form) (w v : WorldState) → Keeps image w → Turns image form w v
+pub turn_keeps : (image : List ℕ) (said : Said) (w v : WorldState) → Keeps image w → Turns image said w v
     → Keeps image v
-turn_keeps image form w v k turn = elim turn.how [
+turn_keeps image said w v k turn = elim turn.how [
   | inl q ↦ record {
     server = turn.server;
     stands = turn.stands;

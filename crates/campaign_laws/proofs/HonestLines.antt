@@ -1,61 +1,78 @@
 -- What holds of each honest campaign behind each line, and what its lines are heard as.
-use Rattle.std.proofs.Common.{◌≡◌, ◌⊎◌, inl, inr, ℕ, ◌+◌, ◌^◌, ◌<◌, ◌≤◌, ◌||◌, nat_le, nat_lt, Bool, true, false, cond, List, [], ◌∷◌, length, All, Option, None, Some, IfSome, refl, sym, ap, ◌∙◌, subst, arith, true≢false}
+use Rattle.std.proofs.Common.{◌≡◌, ◌⊎◌, inl, inr, ℕ, ◌+◌, ◌^◌, ◌<◌, ◌≤◌, nat_le, Bool, true, false, cond, List, All, Option, None, Some, Ok, Err, refl, sym, ap, ◌∙◌, subst, arith, true≢false}
 use Rattle.std.proofs.lemmas.Bool.{le-leb, cases_lt}
 use Rattle.script_lines.specs.declared.forms.Form.{Form}
 use Rattle.script_lines.specs.declared.forms.Form.TheVariants.{Air, Down}
-use Rattle.script_lines.specs.Forms.{form_of}
-use Rattle.script_lines.specs.Limits.{max_lines, max_line}
+use Rattle.script_lines.specs.Limits.{max_lines}
 use Rattle.report_lines.specs.declared.faults.LineWhy.{LineWhy}
 use Rattle.report_lines.specs.declared.faults.LineWhy.TheVariants as why
 use Rattle.campaign_world.specs.World.{WorldState, first_world}
-use Rattle.campaign_world.specs.Honest.{is_raw, has_raw}
-use Rattle.campaign_world.specs.Causes.{form_cause, cause_of, cause_of_form}
-use Rattle.campaign_world.specs.Making.{after_form}
-use Rattle.campaign_world.specs.Script.{one_line_more, after_form_of}
-use Rattle.campaign_laws.specs.Headline.{HandsOver}
-use Rattle.campaign_laws.proofs.HeadlineForms.{is_strange, form_turn}
+use Rattle.campaign_world.specs.Said.{Said, Own, Elsewhere, Reached, Line}
+use Rattle.campaign_world.specs.Honest.{has_raw}
+use Rattle.campaign_world.specs.Causes.{said_cause, line_cause, cause_of}
+use Rattle.campaign_world.specs.Making.{after_said}
+use Rattle.campaign_world.specs.Script.{one_line_more, after_line}
+use Rattle.campaign_laws.specs.Headline.{HasNoOther, HandsOver}
+use Rattle.campaign_laws.specs.Fields.{HasFields, LineFits}
+use Rattle.campaign_laws.proofs.HeadlineForms.{is_strange, is_odd, said_turn}
+use Rattle.campaign_server.proofs.LineItems.{if_some}
+use Rattle.campaign_laws.proofs.HeadlineCommands.{cut_of}
+use Rattle.campaign_laws.proofs.HeadlineEnds.{IsDeviceFor}
+use Rattle.device_core.specs.Device.{DeviceState}
+use Rattle.wire_base.specs.Numbered.{numbered}
 use Rattle.campaign_laws.proofs.HeadlineWorlds.{Keeps, Turns, first_keeps, turn_keeps}
-use Rattle.campaign_laws.proofs.FormBytes.{HasBytes, form_fits}
 use Rattle.campaign_laws.proofs.Keyed.{IsKeyed}
-use Rattle.campaign_laws.proofs.KeyedLines.{Keyed, form_keyed, first_keyed}
-use Rattle.campaign_laws.proofs.Airing.{heard_as, IsHeard, is_heard}
+use Rattle.campaign_laws.proofs.KeyedLines.{Keyed, said_keyed, first_keyed}
+use Rattle.campaign_laws.proofs.Airing.{heard_as, is_heard}
 
 -- ---- what a line says
 
--- the form, or a frame that is heard as it
-abbrev pub Says : Option Form → Form → Type 0
-Says o form = (is_strange form ≡ false)
-    × ((o ≡ Some form) ⊎ ((n : ℕ) × (d : ℕ) × (word : ℕ) × (form ≡ Down n d word) × (o ≡ Some (Air n d word))))
+-- a frame is heard as its payload
+abbrev pub heard_said : Said → Said
+heard_said (Own form) = Own (heard_as form)
+heard_said said = said
 
-says_of : (o : Option Form) (form : Form) → is_strange (heard_as form) ≡ false → o ≡ Some form → Says o (heard_as form)
-says_of o (Air n d word) plain is = (plain, inr (n, d, word, refl, is))
-says_of o form plain is = (plain, inl is)
+-- what the line says, or the payload of its frame
+abbrev pub Says : Line → Said → Type 0
+Says line said = (is_odd said ≡ false)
+    × ((line ≡ Ok said) ⊎ ((n : ℕ) × (d : ℕ) × (word : ℕ) × (said ≡ Own (Down n d word)) × (line ≡ Ok (Own (Air n d word)))))
 
-pub hands_over_is : (o : Option Form) (form : Form) (n id word : ℕ) → HandsOver o n id word → Says o form → form ≡ Down n id word
-hands_over_is o form n id word (inl a) (plain, inl b) =
-    let both : Some form ≡ Some (Down n id word) = sym b ∙ a in cc
-hands_over_is o form n id word (inl a) (plain, inr x) =
-    let both : Some (Down n id word) ≡ Some (Air x.0 x.1 x.2) = sym a ∙ x.4 in absurd cc
-hands_over_is o form n id word (inr a) (plain, inl b) =
-    let both : Some (Air n id word) ≡ Some form = sym a ∙ b in
-    let is : Air n id word ≡ form = cc in
-    absurd (true≢false (ap is_strange is ∙ plain))
-hands_over_is o form n id word (inr a) (plain, inr x) =
-    let both : Some (Air x.0 x.1 x.2) ≡ Some (Air n id word) = sym x.4 ∙ a in
+says_own : (line : Line) (form : Form) → is_strange (heard_as form) ≡ false → line ≡ Ok (Own form) → Says line (Own (heard_as form))
+says_own line (Air n d word) plain is = (plain, inr (n, d, word, refl, is))
+says_own line form plain is = (plain, inl is)
+
+says_of : (line : Line) (said : Said) → is_odd (heard_said said) ≡ false → line ≡ Ok said → Says line (heard_said said)
+says_of line (Own form) plain is = says_own line form plain is
+says_of line Elsewhere plain is = (plain, inl is)
+says_of line (Reached n word down) plain is = (plain, inl is)
+
+pub hands_over_is : (line : Line) (said : Said) (n id word : ℕ) → HandsOver line n id word → Says line said → said ≡ Own (Down n id word)
+hands_over_is line said n id word (inl a) (plain, inl b) =
+    let both : Ok said ≡ Ok (Own (Down n id word)) = sym b ∙ a in cc
+hands_over_is line said n id word (inl a) (plain, inr x) =
+    let both : Ok (Own (Down n id word)) ≡ Ok (Own (Air x.0 x.1 x.2)) = sym a ∙ x.4 in absurd cc
+hands_over_is line said n id word (inr a) (plain, inl b) =
+    let both : Ok (Own (Air n id word)) ≡ Ok said = sym a ∙ b in
+    let is : Own (Air n id word) ≡ said = cc in
+    absurd (true≢false (ap is_odd is ∙ plain))
+hands_over_is line said n id word (inr a) (plain, inr x) =
+    let both : Ok (Own (Air x.0 x.1 x.2)) ≡ Ok (Own (Air n id word)) = sym x.4 ∙ a in
     let number : x.0 ≡ n = cc in
     let device : x.1 ≡ id = cc in
     let random : x.2 ≡ word = cc in
-    x.3 ∙ ap (λ (k : ℕ). Down k x.1 x.2) number ∙ ap (λ (k : ℕ). Down n k x.2) device ∙ ap (λ (k : ℕ). Down n id k) random
+    x.3 ∙ ap (λ (k : ℕ). Own (Down k x.1 x.2)) number ∙ ap (λ (k : ℕ). Own (Down n k x.2)) device
+    ∙ ap (λ (k : ℕ). Own (Down n id k)) random
 
-pub says_down : (o : Option Form) (form : Form) (n id word : ℕ) → Says o form → form ≡ Down n id word → HandsOver o n id word
-says_down o form n id word (plain, inl b) is = inl (b ∙ ap (λ (f : Form). Some f) is)
-says_down o form n id word (plain, inr x) is =
-    let both : Down x.0 x.1 x.2 ≡ Down n id word = sym x.3 ∙ is in
+pub says_down : (line : Line) (said : Said) (n id word : ℕ) → Says line said → said ≡ Own (Down n id word) → HandsOver line n id word
+says_down line said n id word (plain, inl b) is = inl (b ∙ ap (λ (x : Said). let l : Line = Ok x in l) is)
+says_down line said n id word (plain, inr x) is =
+    let both : Own (Down x.0 x.1 x.2) ≡ Own (Down n id word) = sym x.3 ∙ is in
     let number : x.0 ≡ n = cc in
     let device : x.1 ≡ id = cc in
     let random : x.2 ≡ word = cc in
-    inr (x.4 ∙ ap (λ (k : ℕ). Some (Air k x.1 x.2)) number ∙ ap (λ (k : ℕ). Some (Air n k x.2)) device
-    ∙ ap (λ (k : ℕ). Some (Air n id k)) random)
+    inr (x.4 ∙ ap (λ (k : ℕ). let l : Line = Ok (Own (Air k x.1 x.2)) in l) number
+    ∙ ap (λ (k : ℕ). let l : Line = Ok (Own (Air n k x.2)) in l) device
+    ∙ ap (λ (k : ℕ). let l : Line = Ok (Own (Air n id k)) in l) random)
 
 -- ---- what holds
 
@@ -66,50 +83,69 @@ pub record Stands (image : List ℕ) (w : WorldState) : Type 0 where
 pub first_stands : (image : List ℕ) → Stands image (first_world image)
 first_stands image = record { keeps = first_keeps image; keyed = first_keyed image }
 
--- a form that comes next: what it is heard as, what that makes, and that all still holds then
-pub record GoesOnBy (image : List ℕ) (w : WorldState) (line : List ℕ) (form : Form) : Type 0 where
-  pub heard : IsHeard w form
-  pub says : Says (form_of line) (heard_as form)
-  pub turn : Turns image (heard_as form) w (after_form w (heard_as form))
-  pub stands : Stands image (one_line_more (after_form w (heard_as form)))
+-- what a line says that is not a stranger's is heard as what is no frame either, and makes the same
+pub record IsHeardSo (w : WorldState) (said : Said) : Type 0 where
+  pub plain : is_odd (heard_said said) ≡ false
+  pub fine : said_cause w (heard_said said) ≡ None
+  pub same : after_said w said ≡ after_said w (heard_said said)
 
-heard_bytes : (form : Form) → HasBytes form → HasBytes (heard_as form)
-heard_bytes (Air n d word) fits = tt
-heard_bytes form fits = fits
+-- a line that comes next: what it is heard as, what that makes, and that all still holds then
+pub record GoesOnBy (image : List ℕ) (w : WorldState) (line : Line) (said : Said) : Type 0 where
+  pub heard : IsHeardSo w said
+  pub says : Says line (heard_said said)
+  pub turn : Turns image (heard_said said) w (after_said w (heard_said said))
+  pub stands : Stands image (one_line_more (after_said w (heard_said said)))
 
-some_bytes : (o : Option Form) (form : Form) → IfSome o HasBytes → o ≡ Some form → HasBytes form
-some_bytes o form fits is = let here : IfSome (Some form) HasBytes = subst (λ (x : Option Form). IfSome x HasBytes) is fits in here
+heard_fields : (form : Form) → HasFields form → HasFields (heard_as form)
+heard_fields (Air n d word) fits = tt
+heard_fields form fits = fits
 
-few_by : (lines : ℕ) (b : Bool) (rest : Option LineWhy) → cond (nat_le max_lines lines || b) (Some why.Limit) rest ≡ None → lines < max_lines
-few_by lines b rest fine = elim (cases_lt lines max_lines) [
-  | inl lt ↦ lt
-  | inr ge ↦ absurd (full (nat_le max_lines lines) (le-leb max_lines lines ge) fine)
-]
-  where
-    full : (a : Bool) → a ≡ true → cond (a || b) (Some why.Limit) rest ≡ None → ⊥
-    full true is none = cc
-    full false is none = cc
+said_fits : (said : Said) → LineFits (Ok said) → LineFits (Ok (heard_said said))
+said_fits (Own form) fits = heard_fields form fits
+said_fits Elsewhere fits = tt
+said_fits (Reached n word down) fits = tt
 
-pub few_lines : (w : WorldState) (line : List ℕ) → cause_of w line ≡ None → w.lines < max_lines
+heard_so : (image : List ℕ) (w : WorldState) (said : Said) → All (λ b. b < 2 ^ 8) image → Stands image w
+    → said_cause w said ≡ None → has_raw (Ok said) ≡ false → IsHeardSo w said
+heard_so image w (Own form) bytes stands fine honest =
+    let heard = is_heard image w form bytes stands.keeps stands.keyed fine honest in
+    record { plain = heard.plain; fine = heard.fine; same = heard.same }
+heard_so image w Elsewhere bytes stands fine honest = record { plain = refl; fine = fine; same = refl }
+heard_so image w (Reached n word down) bytes stands fine honest = record { plain = honest; fine = fine; same = refl }
+
+few_by : (full : Bool) (rest : Option LineWhy) → cond full (Some why.Limit) rest ≡ None → full ≡ false
+few_by true rest fine = absurd cc
+few_by false rest fine = refl
+
+pub few_lines : (w : WorldState) (line : Line) → cause_of w line ≡ None → w.lines < max_lines
 unfolding cause_of
-few_lines w line fine = few_by w.lines _ _ fine
+few_lines w line fine = elim (cases_lt w.lines max_lines) [
+  | inl lt ↦ lt
+  | inr ge ↦ absurd (true≢false (sym (le-leb max_lines w.lines ge) ∙ few_by (nat_le max_lines w.lines) _ fine))
+]
 
-pub goes_on_by : (image : List ℕ) (w : WorldState) (line : List ℕ) (form : Form) → All (λ b. b < 2 ^ 8) image → Stands image w
-    → form_of line ≡ Some form → cause_of w line ≡ None → form_cause w form ≡ None → is_raw form ≡ false
-    → GoesOnBy image w line form
-goes_on_by image w line form bytes stands is fine none honest =
-    let heard = is_heard image w form bytes stands.keeps stands.keyed none honest in
-    let turn = form_turn image w (heard_as form) bytes stands.keeps heard.fine heard.plain in
-    let keeps = turn_keeps image (heard_as form) w (after_form w (heard_as form)) stands.keeps turn in
-    let fits = heard_bytes form (some_bytes (form_of line) form (form_fits line) is) in
-    let keyed = form_keyed w (heard_as form) heard.fine fits heard.plain (few_lines w line fine) stands.keyed in
+-- a device of the campaign has no session but that of index 0
+pub alone_at : (image : List ℕ) (w : WorldState) → Keeps image w → (id : ℕ) (d : DeviceState) → numbered w.devices id ≡ Some d
+    → HasNoOther d.sessions
+alone_at image w k id d there =
+    (if_some (IsDeviceFor image (cut_of w.server.plan)) (numbered w.devices id) d there (k.devices id)).alone
+
+pub goes_on_by : (image : List ℕ) (w : WorldState) (line : Line) (said : Said) → All (λ b. b < 2 ^ 8) image → Stands image w
+    → line ≡ Ok said → cause_of w line ≡ None → LineFits (Ok said) → said_cause w said ≡ None → has_raw (Ok said) ≡ false
+    → GoesOnBy image w line said
+goes_on_by image w line said bytes stands is fine fits none honest =
+    let heard = heard_so image w said bytes stands none honest in
+    let turn = said_turn image w (heard_said said) bytes stands.keeps heard.fine heard.plain in
+    let keeps = turn_keeps image (heard_said said) w (after_said w (heard_said said)) stands.keeps turn in
+    let keyed = said_keyed w (heard_said said) heard.fine (said_fits said fits) heard.plain (few_lines w line fine)
+    (alone_at image w stands.keeps) stands.keyed in
     record {
       heard = heard;
-      says = says_of (form_of line) form heard.plain is;
+      says = says_of line said heard.plain is;
       turn = turn;
       stands = record {
         keeps = record { server = keeps.server; stands = keeps.stands; sent = keeps.sent; devices = keeps.devices };
-        keyed = lines_on (after_form w (heard_as form)) (w.lines + 1) (ap (λ (n : ℕ). n + 1) (sym turn.lines)) keyed;
+        keyed = lines_on (after_said w (heard_said said)) (w.lines + 1) (ap (λ (n : ℕ). n + 1) (sym turn.lines)) keyed;
       };
     }
   where
@@ -118,16 +154,16 @@ goes_on_by image w line form bytes stands is fine none honest =
         subst (λ (m : ℕ). IsKeyed m v.section v.server v.devices v.sent) same k
 
 -- so it is behind the line itself
-pub stands_behind : (image : List ℕ) (w : WorldState) (form : Form) → after_form w form ≡ after_form w (heard_as form)
-    → Stands image (one_line_more (after_form w (heard_as form))) → Stands image (after_form_of w (Some form))
-stands_behind image w form same stands =
+pub stands_behind : (image : List ℕ) (w : WorldState) (said : Said) → after_said w said ≡ after_said w (heard_said said)
+    → Stands image (one_line_more (after_said w (heard_said said))) → Stands image (after_line w (Ok said))
+stands_behind image w said same stands =
     subst (λ (v : WorldState). Stands image (one_line_more v)) (sym same) stands
 
 -- a line that is taken
-pub line_stands : (image : List ℕ) (w : WorldState) (line : List ℕ) (form : Option Form) → All (λ b. b < 2 ^ 8) image → Stands image w
-    → form_of line ≡ form → cause_of w line ≡ None → cause_of_form w form ≡ None → has_raw form ≡ false
-    → Stands image (after_form_of w form)
-line_stands image w line None bytes stands is fine none honest = absurd cc
-line_stands image w line (Some form) bytes stands is fine none honest =
-    let on = goes_on_by image w line form bytes stands is fine none honest in
-    stands_behind image w form on.heard.same on.stands
+pub line_stands : (image : List ℕ) (w : WorldState) (line : Line) → All (λ b. b < 2 ^ 8) image → Stands image w
+    → cause_of w line ≡ None → LineFits line → line_cause w line ≡ None → has_raw line ≡ false
+    → Stands image (after_line w line)
+line_stands image w (Err cause) bytes stands fine fits none honest = absurd cc
+line_stands image w (Ok said) bytes stands fine fits none honest =
+    let on = goes_on_by image w (Ok said) said bytes stands refl fine fits none honest in
+    stands_behind image w said on.heard.same on.stands

@@ -1,5 +1,5 @@
 -- Each device for itself.
-use Rattle.std.proofs.Common.{◌≡◌, ◌&&◌, inl, inr, ℕ, zero, suc, ◌+◌, ◌-◌, ◌<◌, ◌≤◌, Bool, true, false, cond, ◌==◌, nat_le, List, [], ◌∷◌, ◌++◌, length, map, fold, append-nil, append_assoc, slice_get, Option, None, Some, option_map, Ok, Err, refl, sym, ap, ◌∙◌, subst, arith, eqb-true}
+use Rattle.std.proofs.Common.{◌≡◌, ◌&&◌, inl, inr, ℕ, zero, suc, ◌+◌, ◌-◌, ◌<◌, ◌≤◌, Bool, true, false, cond, ◌==◌, nat_le, List, [], ◌∷◌, ◌++◌, length, fold, append-nil, append_assoc, slice_get, Option, None, Some, option_map, Ok, Err, refl, sym, ap, ◌∙◌, subst, arith, eqb-true}
 use Rattle.std.proofs.lemmas.Bool.{leb-true, and_parts}
 use Rattle.std.specs.Prelude.{filter_map, option_to_list}
 use Rattle.std.specs.List.{slice_set}
@@ -17,45 +17,44 @@ use Rattle.campaign_server.specs.Time.{time_answer}
 use Rattle.campaign_server.specs.Uplinks.{with_answers, read_uplink, uplink_step}
 use Rattle.script_lines.specs.declared.forms.Form.{Form}
 use Rattle.script_lines.specs.declared.forms.Form.TheVariants.{Header, Image, Group, WindowC, WindowB, Device, At, Wake, Migrate, Ask, Frag, Status, Down, Raw, Air, RawAir, Up, End}
-use Rattle.script_lines.specs.Lines.{lines_of}
-use Rattle.script_lines.specs.Forms.{form_of}
 use Rattle.report_lines.specs.declared.faults.LineWhy.{LineWhy}
 use Rattle.report_lines.specs.declared.faults.LineFault.{LineFault}
 use Rattle.campaign_world.specs.declared.numbered.SentPayload.{SentPayload}
 use Rattle.campaign_world.specs.declared.numbered.MadeUplink.{MadeUplink}
 use Rattle.campaign_world.specs.World.{WorldState, first_world}
-use Rattle.campaign_world.specs.Causes.{is_device, may_reach, goes_out, cause_of, cause_of_form, form_cause}
-use Rattle.campaign_world.specs.Making.{with_sent, with_device, raw_down, reception, sent_frame, hearing, with_event, with_event_of, after_answer, after_up, at_events, after_form}
-use Rattle.campaign_world.specs.Script.{after_form_of, after_line, line_result, read_line, read_lines, campaign_of}
+use Rattle.campaign_world.specs.Said.{Said, Own, Elsewhere, Reached, Line}
+use Rattle.campaign_world.specs.Causes.{is_device, may_reach, goes_out, form_cause, said_cause, line_cause, cause_of}
+use Rattle.campaign_world.specs.Making.{with_sent, with_device, raw_down, reception, sent_frame, hearing, with_event, with_event_of, after_answer, after_up, at_events, after_form, after_said}
+use Rattle.campaign_world.specs.Script.{after_line, line_result, read_line, read_lines, campaign_of}
 use Rattle.device_core.specs.Events.{Event, Wakes, Receives, HearsBytes, Migrates, after_event}
 use Rattle.campaign_laws.specs.Independence.{device_in, first_devices, time_after, event_in, history_of, DevicesAreIndependent}
 use Rattle.campaign_world.proofs.Steps.{reception_of}
 use Rattle.campaign_server.proofs.LineItems.{numbered_more, numbered_put, numbered_there}
-use Rattle.campaign_laws.proofs.HeadlineForms.{passes}
-use Rattle.campaign_laws.proofs.PlanGroups.{is_planning, form_settled, air_settled}
+use Rattle.campaign_laws.proofs.HeadlineForms.{passes, reached_passes}
+use Rattle.campaign_laws.proofs.PlanGroups.{is_planning, said_settled, air_settled}
 use Rattle.campaign_laws.proofs.HeadlineLines.{cause_by, end_is}
 
 -- ---- lines that are read
 
-no_more : (fault : LineFault) (lines : List (List ℕ)) (end : WorldState) → read_lines (Err fault) lines ≡ Ok end → ⊥
+no_more : (fault : LineFault) (lines : List Line) (end : WorldState) → read_lines (Err fault) lines ≡ Ok end → ⊥
 unfolding read_lines
 no_more fault [] end is = cc
 no_more fault (line ∷ lines) end is = cc
 
-read_by : (w end : WorldState) (line : List ℕ) (cause : Option LineWhy) (lines : List (List ℕ))
+read_by : (w end : WorldState) (line : Line) (cause : Option LineWhy) (lines : List Line)
     → read_lines (line_result w line cause) lines ≡ Ok end
     → (cause ≡ None) × (read_lines (Ok (after_line w line)) lines ≡ Ok end)
 read_by w end line None lines is = (refl, is)
 read_by w end line (Some why) lines is = absurd (no_more _ lines end is)
 
 -- the first line is not refused, and the others are read behind it
-pub read_first : (w end : WorldState) (line : List ℕ) (lines : List (List ℕ))
+pub read_first : (w end : WorldState) (line : Line) (lines : List Line)
     → read_lines (Ok w) (line ∷ lines) ≡ Ok end
     → (cause_of w line ≡ None) × (read_lines (Ok (after_line w line)) lines ≡ Ok end)
 unfolding read_lines read_line
 read_first w end line lines is = read_by w end line (cause_of w line) lines is
 
-pub line_fine : (w : WorldState) (line : List ℕ) → cause_of w line ≡ None → cause_of_form w (form_of line) ≡ None
+pub line_fine : (w : WorldState) (line : Line) → cause_of w line ≡ None → line_cause w line ≡ None
 unfolding cause_of
 line_fine w line is = cause_by _ _ _ is
 
@@ -151,30 +150,30 @@ up_still w (Some made) =
 abbrev pub folded : List Event → Option DeviceState → Option DeviceState
 folded events start = option_map (λ (first : DeviceState). fold after_event first events) start
 
--- the form brings a frame
-abbrev airs : Form → Bool
-airs (Air number device word) = true
-airs form = false
+-- the line brings a frame
+abbrev pub airs : Said → Bool
+airs (Own (Air number device word)) = true
+airs said = false
 
 -- where it does, the plan's group is this one
-abbrev pub HasGroup : Form → WorldState → Option PlanGroup → Type 0
-HasGroup form w group = airs form ≡ true → w.server.plan.group ≡ group
+abbrev pub HasGroup : Said → WorldState → Option PlanGroup → Type 0
+HasGroup said w group = airs said ≡ true → w.server.plan.group ≡ group
 
--- what holds behind a form that is not refused: the line's number, the time, what was sent, and the record of a device
--- behind what the form tells of it, with these devices and events to come
-pub record IsTold (id : ℕ) (group : Option PlanGroup) (all : List SentPayload) (w v : WorldState) (form : Form) : Type 0 where
+-- what holds behind what a line says that is not refused: the line's number, the time, what was sent, and the record of a
+-- device behind what the line tells of it, with these devices and events to come
+pub record IsTold (id : ℕ) (group : Option PlanGroup) (all : List SentPayload) (w v : WorldState) (said : Said) : Type 0 where
   pub lines : v.lines ≡ w.lines
-  pub time : v.time ≡ time_after w.time (Some form)
+  pub time : v.time ≡ time_after w.time (Ok said)
   pub sent : Grows w.sent v.sent
-  pub record_is : Grows w.sent all → HasGroup form w group → (later : List (Option Form)) (events : List Event)
+  pub record_is : Grows w.sent all → HasGroup said w group → (later : List Line) (events : List Event)
       → folded events (numbered (v.devices ++ filter_map device_in later) id)
-      ≡ folded (option_to_list (event_in id group all w.time (w.lines + 1) (Some form)) ++ events)
-      (numbered (w.devices ++ filter_map device_in (Some form ∷ later)) id)
+      ≡ folded (option_to_list (event_in id group all w.time (w.lines + 1) (Ok said)) ++ events)
+      (numbered (w.devices ++ filter_map device_in (Ok said ∷ later)) id)
 
-still_told : (id : ℕ) (group : Option PlanGroup) (all : List SentPayload) (w v : WorldState) (form : Form) → IsStill w v
-    → time_after w.time (Some form) ≡ w.time → event_in id group all w.time (w.lines + 1) (Some form) ≡ None
-    → device_in (Some form) ≡ None → IsTold id group all w v form
-still_told id group all w v form s time event device = record {
+still_told : (id : ℕ) (group : Option PlanGroup) (all : List SentPayload) (w v : WorldState) (said : Said) → IsStill w v
+    → time_after w.time (Ok said) ≡ w.time → event_in id group all w.time (w.lines + 1) (Ok said) ≡ None
+    → device_in (Ok said) ≡ None → IsTold id group all w v said
+still_told id group all w v said s time event device = record {
   lines = s.lines;
   time = s.time ∙ sym time;
   sent = s.sent;
@@ -197,12 +196,12 @@ happened id n ds later d e events false is first there =
       | inr other ↦ rw (set_front ds later n d (after_event d e) there, other) refl
     ]
 
-event_told : (id n : ℕ) (group : Option PlanGroup) (all : List SentPayload) (w : WorldState) (form : Form) (d : DeviceState) (o : Option Event) (e : Event)
-    → 1 ≤ n → numbered w.devices n ≡ Some d → o ≡ Some e → time_after w.time (Some form) ≡ w.time → device_in (Some form) ≡ None
-    → (Grows w.sent all → HasGroup form w group → event_in id group all w.time (w.lines + 1) (Some form) ≡ cond (n == id) (Some e) None)
-    → IsTold id group all w (with_event w n o) form
+event_told : (id n : ℕ) (group : Option PlanGroup) (all : List SentPayload) (w : WorldState) (said : Said) (d : DeviceState) (o : Option Event) (e : Event)
+    → 1 ≤ n → numbered w.devices n ≡ Some d → o ≡ Some e → time_after w.time (Ok said) ≡ w.time → device_in (Ok said) ≡ None
+    → (Grows w.sent all → HasGroup said w group → event_in id group all w.time (w.lines + 1) (Ok said) ≡ cond (n == id) (Some e) None)
+    → IsTold id group all w (with_event w n o) said
 unfolding with_device
-event_told id n group all w form d o e first there is time device told = rw (is, there) (record {
+event_told id n group all w said d o e first there is time device told = rw (is, there) (record {
   lines = refl;
   time = sym time;
   sent = same_sent w;
@@ -212,9 +211,9 @@ event_told id n group all w form d o e first there is time device told = rw (is,
 
 reached_told : (id number n word : ℕ) (group : Option PlanGroup) (all : List SentPayload) (w : WorldState) (d : DeviceState) (p : SentPayload)
     → 1 ≤ n → numbered w.devices n ≡ Some d → numbered w.sent number ≡ Some p
-    → IsTold id group all w (with_event_of w n (Down number n word)) (Down number n word)
+    → IsTold id group all w (with_event_of w n (Down number n word)) (Own (Down number n word))
 reached_told id number n word group all w d p first there got =
-    event_told id n group all w (Down number n word) d (reception w.time word (w.lines + 1) (numbered w.sent number))
+    event_told id n group all w (Own (Down number n word)) d (reception w.time word (w.lines + 1) (numbered w.sent number))
     (Receives w.time word (w.lines + 1) p.down) first there (reception_of w.time word (w.lines + 1) _ p got) refl refl
     (λ grows has.
     let late : numbered all number ≡ Some p = rw (grows.1) (numbered_more w.sent grows.0 number p got) in
@@ -228,9 +227,9 @@ neither false = refl
 aired_told : (id number n word : ℕ) (group : Option PlanGroup) (all : List SentPayload) (w : WorldState) (d : DeviceState)
     (p : SentPayload) (frame : Option (List ℕ)) → 1 ≤ n → numbered w.devices n ≡ Some d → numbered w.sent number ≡ Some p
     → sent_frame w.server.plan.group (Some p) ≡ frame
-    → IsTold id group all w (with_event_of w n (Air number n word)) (Air number n word)
+    → IsTold id group all w (with_event_of w n (Air number n word)) (Own (Air number n word))
 aired_told id number n word group all w d p (Some bytes) first there got is =
-    event_told id n group all w (Air number n word) d
+    event_told id n group all w (Own (Air number n word)) d
     (hearing w.time word (w.lines + 1) (sent_frame w.server.plan.group (numbered w.sent number)))
     (HearsBytes w.time word (w.lines + 1) bytes) first there (rw (got, is) refl) refl refl
     (λ grows has.
@@ -250,18 +249,18 @@ air_payload device None may = absurd cc
 air_payload device (Some p) may = (p, refl)
 
 pub form_told : (id : ℕ) (group : Option PlanGroup) (all : List SentPayload) (w : WorldState) (form : Form) → form_cause w form ≡ None
-    → IsTold id group all w (after_form w form) form
+    → IsTold id group all w (after_form w form) (Own form)
 unfolding after_form
 form_told id group all w Header fine =
-    still_told id group all w _ Header (same_still w _ refl refl refl refl) refl refl refl
+    still_told id group all w _ (Own Header) (same_still w _ refl refl refl refl) refl refl refl
 form_told id group all w (Image frag_size parity) fine =
-    still_told id group all w _ (Image frag_size parity) (same_still w _ refl refl refl refl) refl refl refl
+    still_told id group all w _ (Own (Image frag_size parity)) (same_still w _ refl refl refl refl) refl refl refl
 form_told id group all w (Group addr key min max) fine =
-    still_told id group all w _ (Group addr key min max) (same_still w _ refl refl refl refl) refl refl refl
+    still_told id group all w _ (Own (Group addr key min max)) (same_still w _ refl refl refl refl) refl refl refl
 form_told id group all w (WindowC start timeout freq dr) fine =
-    still_told id group all w _ (WindowC start timeout freq dr) (same_still w _ refl refl refl refl) refl refl refl
+    still_told id group all w _ (Own (WindowC start timeout freq dr)) (same_still w _ refl refl refl refl) refl refl refl
 form_told id group all w (WindowB start periodicity timeout freq dr) fine =
-    still_told id group all w _ (WindowB start periodicity timeout freq dr)
+    still_told id group all w _ (Own (WindowB start periodicity timeout freq dr))
     (same_still w _ refl refl refl refl) refl refl refl
 form_told id group all w (Device name class hw rows offset key descriptor v1 k11) fine = record {
   lines = refl;
@@ -278,20 +277,20 @@ form_told id group all w (At time) fine = record {
 }
 form_told id group all w (Wake device) fine =
     let d = is_there w.devices device (passes w (Wake device) fine).names in
-    event_told id device group all w (Wake device) d.1.0 (Some (Wakes w.time)) (Wakes w.time) d.0 d.1.1 refl refl refl
+    event_told id device group all w (Own (Wake device)) d.1.0 (Some (Wakes w.time)) (Wakes w.time) d.0 d.1.1 refl refl refl
     (λ grows has. refl)
 form_told id group all w (Migrate device) fine =
     let d = is_there w.devices device (passes w (Migrate device) fine).names in
-    event_told id device group all w (Migrate device) d.1.0 (Some Migrates) Migrates d.0 d.1.1 refl refl refl (λ grows has. refl)
+    event_told id device group all w (Own (Migrate device)) d.1.0 (Some Migrates) Migrates d.0 d.1.1 refl refl refl (λ grows has. refl)
 form_told id group all w (Ask device) fine =
     let s = sends_still w w.server (Some device) (request_of w.server device) in
-    still_told id group all w _ (Ask device) (at_events_still w _ s) refl refl refl
+    still_told id group all w _ (Own (Ask device)) (at_events_still w _ s) refl refl refl
 form_told id group all w Frag fine =
     let s = sends_still w (after_fragment w.server) None (result_ok (next_fragment w.server)) in
-    still_told id group all w _ Frag (at_events_still w _ s) refl refl refl
+    still_told id group all w _ (Own Frag) (at_events_still w _ s) refl refl refl
 form_told id group all w Status fine =
     let s = sends_still w (after_status_to_all w.server) None (status_to_all w.server) in
-    still_told id group all w _ Status (at_events_still w _ s) refl refl refl
+    still_told id group all w _ (Own Status) (at_events_still w _ s) refl refl refl
 form_told id group all w (Down number device word) fine =
     let p = passes w (Down number device word) fine in
     let d = is_there w.devices device p.names in
@@ -300,7 +299,7 @@ form_told id group all w (Down number device word) fine =
 form_told id group all w (Raw device port payload word) fine =
     let d = is_there w.devices device (passes w (Raw device port payload word) fine).names in
     let e : Event = Receives w.time word (w.lines + 1) (raw_down port payload) in
-    event_told id device group all w (Raw device port payload word) d.1.0 (Some e) e d.0 d.1.1 refl refl refl (λ grows has. refl)
+    event_told id device group all w (Own (Raw device port payload word)) d.1.0 (Some e) e d.0 d.1.1 refl refl refl (λ grows has. refl)
 form_told id group all w (Air number device word) fine =
     let p = passes w (Air number device word) fine in
     let d = is_there w.devices device p.names in
@@ -309,86 +308,96 @@ form_told id group all w (Air number device word) fine =
 form_told id group all w (RawAir device bytes word) fine =
     let d = is_there w.devices device (passes w (RawAir device bytes word) fine).names in
     let e : Event = HearsBytes w.time word (w.lines + 1) bytes in
-    event_told id device group all w (RawAir device bytes word) d.1.0 (Some e) e d.0 d.1.1 refl refl refl (λ grows has. refl)
+    event_told id device group all w (Own (RawAir device bytes word)) d.1.0 (Some e) e d.0 d.1.1 refl refl refl (λ grows has. refl)
 form_told id group all w (Up number) fine =
     let s = up_still w (numbered w.uplinks number) in
-    still_told id group all w _ (Up number) (at_events_still w _ s) refl refl refl
+    still_told id group all w _ (Own (Up number)) (at_events_still w _ s) refl refl refl
 form_told id group all w End fine =
-    still_told id group all w _ End (same_still w _ refl refl refl refl) refl refl refl
+    still_told id group all w _ (Own End) (same_still w _ refl refl refl refl) refl refl refl
+
+-- what a line says
+pub said_told : (id : ℕ) (group : Option PlanGroup) (all : List SentPayload) (w : WorldState) (said : Said) → said_cause w said ≡ None
+    → IsTold id group all w (after_said w said) said
+said_told id group all w (Own form) fine = form_told id group all w form fine
+said_told id group all w Elsewhere fine =
+    still_told id group all w w Elsewhere (same_still w w refl refl refl refl) refl refl refl
+said_told id group all w (Reached n word down) fine =
+    let d = is_there w.devices n (reached_passes w n word down fine).1 in
+    let e : Event = Receives w.time word (w.lines + 1) down in
+    event_told id n group all w (Reached n word down) d.1.0 (Some e) e d.0 d.1.1 refl refl refl (λ grows has. refl)
 
 -- ---- all lines
 
-form_grows : (w : WorldState) (form : Option Form) → cause_of_form w form ≡ None
-    → Grows w.sent (after_form_of w form).sent
-form_grows w None fine = absurd cc
-form_grows w (Some form) fine = (form_told 0 None [] w form fine).sent
+line_grows : (w : WorldState) (line : Line) → line_cause w line ≡ None → Grows w.sent (after_line w line).sent
+line_grows w (Err why) fine = absurd cc
+line_grows w (Ok said) fine = (said_told 0 None [] w said fine).sent
 
-pub sent_grows : (w end : WorldState) (lines : List (List ℕ)) → read_lines (Ok w) lines ≡ Ok end → Grows w.sent end.sent
-unfolding read_lines after_line
+pub sent_grows : (w end : WorldState) (lines : List Line) → read_lines (Ok w) lines ≡ Ok end → Grows w.sent end.sent
+unfolding read_lines
 sent_grows w end [] is = let same : w ≡ end = cc in subst (λ (e : WorldState). Grows w.sent e.sent) same (same_sent w)
 sent_grows w end (line ∷ lines) is =
     let first = read_first w end line lines is in
-    let here = form_grows w (form_of line) (line_fine w line first.0) in
-    let rest = sent_grows (after_form_of w (form_of line)) end lines first.1 in (
+    let here = line_grows w line (line_fine w line first.0) in
+    let rest = sent_grows (after_line w line) end lines first.1 in (
       here.0 ++ rest.0,
       rest.1 ∙ ap (λ (ss : List SentPayload). ss ++ rest.0) here.1
           ∙ append_assoc w.sent here.0 rest.0,
     )
 
 -- the plan's group stays behind the first event
-group_stays : (w end : WorldState) (lines : List (List ℕ)) → read_lines (Ok w) lines ≡ Ok end → is_planning w.section ≡ false
+group_stays : (w end : WorldState) (lines : List Line) → read_lines (Ok w) lines ≡ Ok end → is_planning w.section ≡ false
     → w.server.plan.group ≡ end.server.plan.group
-unfolding read_lines after_line
+unfolding read_lines
 group_stays w end [] is over = let same : w ≡ end = cc in ap (λ (x : WorldState). x.server.plan.group) same
 group_stays w end (line ∷ lines) is over =
     let first = read_first w end line lines is in
-    let here = form_stays w (form_of line) (line_fine w line first.0) over in
-    sym here.1 ∙ group_stays (after_form_of w (form_of line)) end lines first.1 here.0
+    let here = line_stays w line (line_fine w line first.0) over in
+    sym here.1 ∙ group_stays (after_line w line) end lines first.1 here.0
   where
-    form_stays : (w : WorldState) (form : Option Form) → cause_of_form w form ≡ None → is_planning w.section ≡ false
-        → (is_planning (after_form_of w form).section ≡ false)
-        × ((after_form_of w form).server.plan.group ≡ w.server.plan.group)
-    form_stays w None fine over = absurd cc
-    form_stays w (Some form) fine over =
-        let s = form_settled w form fine over in (s.over, ap (λ (p : Plan). p.group) s.plan)
+    line_stays : (w : WorldState) (line : Line) → line_cause w line ≡ None → is_planning w.section ≡ false
+        → (is_planning (after_line w line).section ≡ false)
+        × ((after_line w line).server.plan.group ≡ w.server.plan.group)
+    line_stays w (Err why) fine over = absurd cc
+    line_stays w (Ok said) fine over =
+        let s = said_settled w said fine over in (s.over, ap (λ (p : Plan). p.group) s.plan)
 
 -- a frame comes behind the plan
-form_group : (w end : WorldState) (form : Form) (lines : List (List ℕ)) → read_lines (Ok (after_form_of w (Some form))) lines ≡ Ok end
-    → HasGroup form w end.server.plan.group
-form_group w end (Air number device word) lines is airs =
+said_group : (w end : WorldState) (said : Said) (lines : List Line) → read_lines (Ok (after_line w (Ok said))) lines ≡ Ok end
+    → HasGroup said w end.server.plan.group
+said_group w end (Own (Air number device word)) lines is airs =
     let s = air_settled w number device word in
     ap (λ (p : Plan). p.group) (sym s.plan)
-    ∙ group_stays (after_form_of w (Some (Air number device word))) end lines is s.over
-form_group w end form lines is airs = absurd cc
+    ∙ group_stays (after_line w (Ok (Own (Air number device word)))) end lines is s.over
+said_group w end said lines is airs = absurd cc
 
 -- what is told from a line on is what it tells, and what is told behind it
-line_told : (id : ℕ) (w end : WorldState) (form : Option Form) (rest : List (List ℕ))
-    → cause_of_form w form ≡ None → Grows w.sent end.sent → read_lines (Ok (after_form_of w form)) rest ≡ Ok end
-    → folded (history_of id end.server.plan.group end.sent (after_form_of w form).time ((after_form_of w form).lines + 1) rest)
-    (numbered ((after_form_of w form).devices ++ first_devices rest) id)
-    ≡ folded (option_to_list (event_in id end.server.plan.group end.sent w.time (w.lines + 1) form)
-    ++ history_of id end.server.plan.group end.sent (time_after w.time form) (w.lines + 1 + 1) rest)
-    (numbered (w.devices ++ filter_map device_in (form ∷ map form_of rest)) id)
-line_told id w end None rest fine grows is = absurd cc
-line_told id w end (Some form) rest fine grows is =
-    let t = form_told id end.server.plan.group end.sent w form fine in
-    rw (t.lines, t.time) (t.record_is grows (form_group w end form rest is) (map form_of rest) _)
+line_told : (id : ℕ) (w end : WorldState) (line : Line) (rest : List Line)
+    → line_cause w line ≡ None → Grows w.sent end.sent → read_lines (Ok (after_line w line)) rest ≡ Ok end
+    → folded (history_of id end.server.plan.group end.sent (after_line w line).time ((after_line w line).lines + 1) rest)
+    (numbered ((after_line w line).devices ++ first_devices rest) id)
+    ≡ folded (option_to_list (event_in id end.server.plan.group end.sent w.time (w.lines + 1) line)
+    ++ history_of id end.server.plan.group end.sent (time_after w.time line) (w.lines + 1 + 1) rest)
+    (numbered (w.devices ++ filter_map device_in (line ∷ rest)) id)
+line_told id w end (Err why) rest fine grows is = absurd cc
+line_told id w end (Ok said) rest fine grows is =
+    let t = said_told id end.server.plan.group end.sent w said fine in
+    rw (t.lines, t.time) (t.record_is grows (said_group w end said rest is) rest _)
 
 -- from any campaign on
-from_here : (id : ℕ) (w end : WorldState) (lines : List (List ℕ)) → read_lines (Ok w) lines ≡ Ok end
+from_here : (id : ℕ) (w end : WorldState) (lines : List Line) → read_lines (Ok w) lines ≡ Ok end
     → numbered end.devices id
     ≡ folded (history_of id end.server.plan.group end.sent w.time (w.lines + 1) lines)
     (numbered (w.devices ++ first_devices lines) id)
-unfolding read_lines after_line history_of
+unfolding read_lines history_of
 from_here id w end [] is =
     let same : w ≡ end = cc in rw (← same, append-nil w.devices) (sym (unchanged (numbered w.devices id)))
 from_here id w end (line ∷ lines) is =
     let first = read_first w end line lines is in
-    from_here id (after_form_of w (form_of line)) end lines first.1
-    ∙ line_told id w end (form_of line) lines (line_fine w line first.0) (sent_grows w end (line ∷ lines) is) first.1
+    from_here id (after_line w line) end lines first.1
+    ∙ line_told id w end line lines (line_fine w line first.0) (sent_grows w end (line ∷ lines) is) first.1
 
 pub devices_are_independent : DevicesAreIndependent
 unfolding campaign_of
-devices_are_independent image script world id is =
-    from_here id (first_world image) world (lines_of script)
-    (end_is (read_lines (Ok (first_world image)) (lines_of script)) world is)
+devices_are_independent image lines world id is =
+    from_here id (first_world image) world lines
+    (end_is (read_lines (Ok (first_world image)) lines) world is)

@@ -34,12 +34,15 @@ use Rattle.campaign_world.specs.declared.section.Section.TheVariants as section
 use Rattle.campaign_world.specs.declared.numbered.SentPayload.{SentPayload}
 use Rattle.campaign_world.specs.declared.numbered.MadeUplink.{MadeUplink}
 use Rattle.campaign_world.specs.World.{WorldState, first_world}
-use Rattle.campaign_world.specs.Causes.{is_device, may_reach, form_cause}
-use Rattle.campaign_world.specs.Making.{config_of, with_sent, with_device, with_event_of, after_answer, after_up, at_events, after_form}
+use Rattle.campaign_world.specs.Said.{Said, Own, Elsewhere, Reached}
+use Rattle.campaign_world.specs.Causes.{is_device, may_reach, form_cause, said_cause}
+use Rattle.campaign_world.specs.Making.{config_of, with_sent, with_device, with_event_of, after_answer, after_up, at_events, after_form, after_said}
 use Rattle.campaign_world.proofs.Steps.{numbered_at}
-use Rattle.campaign_laws.proofs.HeadlineForms.{passes, number_there, device_there, payload_there, all_numbered, is_strange}
+use Rattle.campaign_laws.proofs.HeadlineForms.{passes, number_there, device_there, payload_there, all_numbered, is_strange, reached_passes, is_odd, not_true}
 use Rattle.campaign_laws.proofs.PlanGroups.{is_planning, plan_at, fragment_plan, status_plan, answers_plan}
-use Rattle.campaign_laws.proofs.FormBytes.{HasBytes}
+use Rattle.campaign_laws.specs.Fields.{HasFields, LineFits}
+use Rattle.campaign_laws.specs.Headline.{HasNoOther}
+use Rattle.campaign_laws.proofs.Crossing.{crossing_groups}
 use Rattle.campaign_laws.proofs.OwnGroups.{IsOwn, HasOwn, delivery_own, waking_own, migration_own}
 use Rattle.campaign_laws.proofs.Keyed.{FitsGroup, IsFit, IsPlanned, IsKept, IsNext, IsKeyed, next_later, first_next, fragment_next, status_next, answers_next, asked_kept, fragment_kept, status_kept, time_kept}
 
@@ -253,7 +256,7 @@ window_fits : (w : WorldState) (plan : Plan) → IsFit w.server.plan → plan.gr
     → IfSome plan.window (λ x. fits_bits x ≡ true) → IsFit plan
 window_fits w plan fit group window = record { group = subst (λ (g : Option PlanGroup). IfSome g FitsGroup) (sym group) fit.group; window = window }
 
-pub form_keyed : (w : WorldState) (form : Form) → form_cause w form ≡ None → HasBytes form → is_strange form ≡ false
+pub form_keyed : (w : WorldState) (form : Form) → form_cause w form ≡ None → HasFields form → is_strange form ≡ false
     → w.lines < 20000 → Keyed w.lines w → Keyed (w.lines + 1) (after_form w form)
 unfolding after_form in_range
 form_keyed w Header fine fits plain few k =
@@ -340,6 +343,20 @@ form_keyed w (RawAir n bytes word) fine fits plain few k = absurd (true≢false 
 form_keyed w (Up number) fine fits plain few k = up_keyed w (numbered w.uplinks number) k
 form_keyed w End fine fits plain few k =
     still_keyed w.lines w.section section.Ended w.server w.devices w.sent (λ plan. absurd (true≢false (sym plan))) k
+
+-- ---- what a line says
+
+pub said_keyed : (w : WorldState) (said : Said) → said_cause w said ≡ None → LineFits (Ok said) → is_odd said ≡ false
+    → w.lines < 20000 → ((id : ℕ) (d : DeviceState) → numbered w.devices id ≡ Some d → HasNoOther d.sessions)
+    → Keyed w.lines w → Keyed (w.lines + 1) (after_said w said)
+said_keyed w (Own form) fine fits plain few alone k = form_keyed w form fine fits plain few k
+said_keyed w Elsewhere fine fits plain few alone k =
+    still_keyed w.lines w.section w.section w.server w.devices w.sent (λ plan. plan) k
+said_keyed w (Reached n word down) fine fits plain few alone k =
+    let there = there_at w.devices n (reached_passes w n word down fine).1 in
+    let groups = crossing_groups w.time word (w.lines + 1) down there.1.0 (not_true _ plain) (alone n there.1.0 there.1.1) in
+    let own = subst (HasOwn w.server.plan.group) (sym groups) (k.own n there.1.0 there.1.1) in
+    rw (there.1.1) (device_keyed w n there.1.0 (Receives w.time word (w.lines + 1) down) there.0 there.1.1 own k)
 
 -- ---- before any line
 

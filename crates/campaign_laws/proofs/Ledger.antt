@@ -26,26 +26,26 @@ use Rattle.campaign_server.specs.Answers.{stage_after_all}
 use Rattle.campaign_server.specs.Uplinks.{with_answers, read_uplink, uplink_step}
 use Rattle.script_lines.specs.declared.forms.Form.{Form}
 use Rattle.script_lines.specs.declared.forms.Form.TheVariants.{Header, Image, Group, WindowC, WindowB, Device, At, Wake, Migrate, Ask, Frag, Status, Down, Raw, Air, RawAir, Up, End}
-use Rattle.script_lines.specs.Lines.{lines_of}
-use Rattle.script_lines.specs.Forms.{form_of}
 use Rattle.script_lines.specs.Limits.{max_rows, max_devices}
 use Rattle.script_lines.specs.Ranges.{in_range}
 use Rattle.campaign_world.specs.declared.section.Section.{Section}
 use Rattle.campaign_world.specs.declared.numbered.SentPayload.{SentPayload}
 use Rattle.campaign_world.specs.declared.numbered.MadeUplink.{MadeUplink}
 use Rattle.campaign_world.specs.World.{WorldState, first_world}
-use Rattle.campaign_world.specs.Causes.{cause_of, cause_of_form, form_cause, fits_script}
-use Rattle.campaign_world.specs.Making.{with_plan, with_sent, made_by, with_device, with_event, with_event_of, after_answer, after_up, at_events, after_form}
-use Rattle.campaign_world.specs.Script.{one_line_more, after_form_of, after_line, read_lines, campaign_of}
+use Rattle.campaign_world.specs.Said.{Said, Own, Elsewhere, Reached, Line}
+use Rattle.campaign_world.specs.Causes.{form_cause, said_cause, line_cause, cause_of, fits_script}
+use Rattle.campaign_world.specs.Making.{with_plan, with_sent, made_by, with_device, with_event, with_event_of, after_answer, after_up, at_events, after_form, after_said}
+use Rattle.campaign_world.specs.Script.{one_line_more, after_line, read_lines, campaign_of}
 use Rattle.campaign_world.specs.Honest.{has_raw, AreHonest}
 use Rattle.campaign_laws.specs.Ledger.{IsRunning, Runs, TheLedgerIsTrue}
 use Rattle.campaign_server.proofs.LineItems.{if_some, numbered_more, numbered_push, numbered_put, numbered_there}
 use Rattle.campaign_laws.proofs.HeadlineCommands.{Cut, cut_of, IsCut}
 use Rattle.campaign_laws.proofs.HeadlineEnds.{IsDeviceFor}
 use Rattle.campaign_laws.proofs.HeadlineWorlds.{IsPayloadOf, Keeps, Turns}
-use Rattle.campaign_laws.proofs.HeadlineForms.{passes, is_strange, form_turn}
-use Rattle.campaign_laws.proofs.Airing.{heard_as}
-use Rattle.campaign_laws.proofs.HonestLines.{Stands, first_stands, goes_on_by, line_stands}
+use Rattle.campaign_laws.proofs.HeadlineForms.{passes, is_strange, form_turn, reached_passes, is_odd, not_true}
+use Rattle.campaign_laws.specs.Fields.{LineFits, AllFit}
+use Rattle.campaign_laws.proofs.Crossing.{crossing_goes}
+use Rattle.campaign_laws.proofs.HonestLines.{heard_said, Stands, first_stands, goes_on_by, line_stands}
 use Rattle.campaign_laws.proofs.HeadlineLines.{end_is}
 use Rattle.campaign_laws.proofs.Independence.{read_first, line_fine, is_there, payload_there}
 use Rattle.campaign_laws.proofs.LedgerDevices.{IsSound, Goes, ReadsAs, delivery_goes, waking_goes, migration_goes}
@@ -304,7 +304,7 @@ payload_by image cut p false port bytes is sent own =
     (sent_reads image cut sent.0 bytes is sent.1 (λ same. absurd (other same)))
 
 -- the image is cut where a payload reaches a device
-reached_cut : (image : List ℕ) (w v : WorldState) (number n word : ℕ) → Turns image (Down number n word) w v
+reached_cut : (image : List ℕ) (w v : WorldState) (number n word : ℕ) → Turns image (Own (Down number n word)) w v
     → IsCut image (cut_of w.server.plan)
 reached_cut image w v number n word turn = elim turn.how [
   | inl q ↦ absurd (true≢false q.other)
@@ -439,27 +439,39 @@ form_holds image w End bytes is k h fine honest = still_holds image w _ refl ref
 
 -- ---- all lines
 
-line_holds : (image : List ℕ) (w : WorldState) (line : List ℕ) (form : Option Form) → All (λ b. b < 2 ^ 8) image
-    → is_image image ≡ true → Stands image w → Holds image w → form_of line ≡ form → cause_of w line ≡ None
-    → cause_of_form w form ≡ None → has_raw form ≡ false → Holds image (after_form_of w form)
-line_holds image w line None bytes is k h form_is none fine honest = absurd cc
-line_holds image w line (Some form) bytes is k h form_is none fine honest =
-    let on = goes_on_by image w line form bytes k form_is none fine honest in
-    let holds = form_holds image w (heard_as form) bytes is k.keeps h on.heard.fine on.heard.plain in
+-- what a line says
+said_holds : (image : List ℕ) (w : WorldState) (said : Said) → All (λ b. b < 2 ^ 8) image → is_image image ≡ true
+    → Keeps image w → Holds image w → said_cause w said ≡ None → is_odd said ≡ false → Holds image (after_said w said)
+said_holds image w (Own form) bytes is k h fine honest = form_holds image w form bytes is k h fine honest
+said_holds image w Elsewhere bytes is k h fine honest = h
+said_holds image w (Reached n word down) bytes is k h fine honest =
+    let d = is_there w.devices n (reached_passes w n word down fine).1 in
+    let alone = (if_some (IsDeviceFor image (cut_of w.server.plan)) (numbered w.devices n) d.1.0 d.1.1 (k.devices n)).alone in
+    rw (d.1.1) (device_holds image (cut_of w.server.plan) w n d.1.0 (delivery w.time word (w.lines + 1) down d.1.0).device d.1.1
+    (crossing_goes image (cut_of w.server.plan) w.time word (w.lines + 1) down d.1.0 (not_true _ honest) alone
+    (device_sound image w n d.1.0 k h d.1.1)) h)
+
+line_holds : (image : List ℕ) (w : WorldState) (line : Line) → All (λ b. b < 2 ^ 8) image
+    → is_image image ≡ true → Stands image w → Holds image w → cause_of w line ≡ None → LineFits line
+    → line_cause w line ≡ None → has_raw line ≡ false → Holds image (after_line w line)
+line_holds image w (Err cause) bytes is k h none fits fine honest = absurd cc
+line_holds image w (Ok said) bytes is k h none fits fine honest =
+    let on = goes_on_by image w (Ok said) said bytes k refl none fits fine honest in
+    let holds = said_holds image w (heard_said said) bytes is k.keeps h on.heard.fine on.heard.plain in
     subst (λ (v : WorldState). Holds image (one_line_more v)) (sym on.heard.same)
     (record { devices = holds.devices; sent = holds.sent; uplinks = holds.uplinks; ledger = holds.ledger })
 
-all_hold : (image : List ℕ) (w end : WorldState) (lines : List (List ℕ)) → All (λ b. b < 2 ^ 8) image
+all_hold : (image : List ℕ) (w end : WorldState) (lines : List Line) → All (λ b. b < 2 ^ 8) image
     → is_image image ≡ true
-    → Stands image w → Holds image w → AreHonest lines → read_lines (Ok w) lines ≡ Ok end → Holds image end
-unfolding read_lines after_line
-all_hold image w end [] bytes is k h honest read = let same : w ≡ end = cc in subst (Holds image) same h
-all_hold image w end (line ∷ lines) bytes is k h honest read =
+    → Stands image w → Holds image w → AllFit lines → AreHonest lines → read_lines (Ok w) lines ≡ Ok end → Holds image end
+unfolding read_lines
+all_hold image w end [] bytes is k h fits honest read = let same : w ≡ end = cc in subst (Holds image) same h
+all_hold image w end (line ∷ lines) bytes is k h fits honest read =
     let first = read_first w end line lines read in
     let fine = line_fine w line first.0 in
-    all_hold image (after_form_of w (form_of line)) end lines bytes is
-    (line_stands image w line (form_of line) bytes k refl first.0 fine honest.0)
-    (line_holds image w line (form_of line) bytes is k h refl first.0 fine honest.0) honest.1 first.1
+    all_hold image (after_line w line) end lines bytes is
+    (line_stands image w line bytes k first.0 fits.0 fine honest.0)
+    (line_holds image w line bytes is k h first.0 fits.0 fine honest.0) fits.1 honest.1 first.1
 
 none_by : (d : DeviceState) (b : Bool) → cond b None None ≡ Some d → ⊥
 none_by d true is = cc
@@ -475,13 +487,13 @@ first_holds image = record {
 
 pub the_ledger_is_true : TheLedgerIsTrue
 unfolding campaign_of
-the_ledger_is_true image script world id bytes is honest accepted at =
-    (all_hold image (first_world image) world (lines_of script) bytes is (first_stands image) (first_holds image) honest
-    (end_is (read_lines (Ok (first_world image)) (lines_of script)) world accepted)).ledger id at
+the_ledger_is_true image lines world id bytes is fits honest accepted at =
+    (all_hold image (first_world image) world lines bytes is (first_stands image) (first_holds image) fits honest
+    (end_is (read_lines (Ok (first_world image)) lines) world accepted)).ledger id at
 
 -- so it is with the uplinks that there are behind any lines
-pub uplinks_are_true : (image : List ℕ) (w : WorldState) (lines : List (List ℕ)) → All (λ b. b < 2 ^ 8) image
-    → is_image image ≡ true → AreHonest lines → read_lines (Ok (first_world image)) lines ≡ Ok w
+pub uplinks_are_true : (image : List ℕ) (w : WorldState) (lines : List Line) → All (λ b. b < 2 ^ 8) image
+    → is_image image ≡ true → AllFit lines → AreHonest lines → read_lines (Ok (first_world image)) lines ≡ Ok w
     → AllByRecursion (MadeTruly image w.devices) w.uplinks
-uplinks_are_true image w lines bytes is honest read =
-    (all_hold image (first_world image) w lines bytes is (first_stands image) (first_holds image) honest read).uplinks
+uplinks_are_true image w lines bytes is fits honest read =
+    (all_hold image (first_world image) w lines bytes is (first_stands image) (first_holds image) fits honest read).uplinks

@@ -5,6 +5,7 @@ pub mod HeadlinePayloads
 pub mod HeadlineImage
 pub mod HeadlineEnds
 pub mod HeadlineWorlds
+pub mod Crossing
 pub mod HeadlineForms
 pub mod HeadlineLines
 pub mod Independence

@@ -10,7 +10,7 @@ use Rattle.package_grammar.specs.declared.command.Command.TheVariants.{Sync}
 use Rattle.package_grammar.specs.Reading.{Reading, reading_of}
 use Rattle.device_core.specs.declared.uplink.Uplink.{Uplink}
 use Rattle.device_core.specs.Device.{DeviceState}
-use Rattle.device_core.specs.Events.{Event, event_step}
+use Rattle.device_core.specs.Events.{Event, Receives, event_step}
 use Rattle.campaign_server.specs.declared.stage.Stage.{Stage}
 use Rattle.campaign_server.specs.declared.stage.Stage.TheVariants.{At}
 use Rattle.campaign_server.specs.declared.stage.Request.TheVariants as request
@@ -24,14 +24,14 @@ use Rattle.campaign_server.specs.Time.{time_answer}
 use Rattle.campaign_server.specs.Uplinks.{with_answers, read_uplink, uplink_step}
 use Rattle.script_lines.specs.declared.forms.Form.{Form}
 use Rattle.script_lines.specs.declared.forms.Form.TheVariants.{Header, Image, Group, WindowC, WindowB, Device, At as AtTime, Wake, Migrate, Ask, Frag, Status, Down, Raw, Air, RawAir, Up, End}
-use Rattle.script_lines.specs.Forms.{form_of}
 use Rattle.campaign_world.specs.declared.numbered.SentPayload.{SentPayload}
 use Rattle.campaign_world.specs.declared.numbered.MadeUplink.{MadeUplink}
 use Rattle.campaign_world.specs.World.{WorldState, first_world}
-use Rattle.campaign_world.specs.Causes.{may_come, cause_of_form, form_cause}
+use Rattle.campaign_world.specs.Said.{Said, Own, Elsewhere, Reached, Line}
+use Rattle.campaign_world.specs.Causes.{may_come, form_cause, said_cause, line_cause}
 use Rattle.campaign_laws.specs.Ledger.{Runs}
-use Rattle.campaign_world.specs.Making.{with_sent, made_by, with_device, event_of, after_event_at, with_event_of, after_answer, after_up, at_events, after_form}
-use Rattle.campaign_world.specs.Script.{one_line_more, after_form_of, after_line, read_lines}
+use Rattle.campaign_world.specs.Making.{with_sent, made_by, with_device, event_of, after_event_at, with_event_of, after_answer, after_up, at_events, after_form, after_said}
+use Rattle.campaign_world.specs.Script.{one_line_more, after_line, read_lines}
 use Rattle.campaign_server.proofs.LineItems.{numbered_more, numbered_there}
 use Rattle.campaign_laws.proofs.HeadlineForms.{passes}
 use Rattle.campaign_laws.proofs.Independence.{read_first, line_fine}
@@ -153,19 +153,25 @@ form_goes w (RawAir n bytes word) fine over = form_event_goes w n (RawAir n byte
 form_goes w (Up number) fine over = up_go w (numbered w.uplinks number)
 form_goes w End fine over = still w _ refl refl refl
 
-line_goes : (w : WorldState) (form : Option Form) → cause_of_form w form ≡ None → is_planning w.section ≡ false → Goes w (after_form_of w form)
-line_goes w None fine over = absurd cc
-line_goes w (Some form) fine over =
-    let g = form_goes w form fine over in
+-- what a line says
+said_goes : (w : WorldState) (said : Said) → said_cause w said ≡ None → is_planning w.section ≡ false → Goes w (after_said w said)
+said_goes w (Own form) fine over = form_goes w form fine over
+said_goes w Elsewhere fine over = still w w refl refl over
+said_goes w (Reached n word down) fine over = event_go w n (numbered w.devices n) (Some (Receives w.time word (w.lines + 1) down))
+
+line_goes : (w : WorldState) (line : Line) → line_cause w line ≡ None → is_planning w.section ≡ false → Goes w (after_line w line)
+line_goes w (Err cause) fine over = absurd cc
+line_goes w (Ok said) fine over =
+    let g = said_goes w said fine over in
     record { ranks = g.ranks; uplinks = g.uplinks; image = g.image; over = g.over }
 
-all_go : (w end : WorldState) (lines : List (List ℕ)) → is_planning w.section ≡ false → read_lines (Ok w) lines ≡ Ok end → Goes w end
-unfolding read_lines after_line
+all_go : (w end : WorldState) (lines : List Line) → is_planning w.section ≡ false → read_lines (Ok w) lines ≡ Ok end → Goes w end
+unfolding read_lines
 all_go w end [] over read = let same : w ≡ end = cc in subst (Goes w) same (still w w refl refl over)
 all_go w end (line ∷ lines) over read =
     let first = read_first w end line lines read in
-    let here = line_goes w (form_of line) (line_fine w line first.0) over in
-    let rest = all_go (after_form_of w (form_of line)) end lines here.over first.1 in
+    let here = line_goes w line (line_fine w line first.0) over in
+    let rest = all_go (after_line w line) end lines here.over first.1 in
     record {
       ranks = λ id stage at. (let one = here.ranks id stage at in let more = rest.ranks id one.0 one.1 in (more.0, more.1, omega (arith, one.2, more.2)));
       uplinks = (here.uplinks.0 ++ rest.uplinks.0, rest.uplinks.1 ∙ ap (λ (us : List MadeUplink). us ++ rest.uplinks.0) here.uplinks.1 ∙ append_assoc w.uplinks here.uplinks.0 rest.uplinks.0);
@@ -232,16 +238,21 @@ form_image w (RawAir n bytes word) = (form_event_goes w n (RawAir n bytes word))
 form_image w (Up number) = (up_go w (numbered w.uplinks number)).image
 form_image w End = refl
 
-line_image : (w : WorldState) (form : Option Form) → (after_form_of w form).server.image ≡ w.server.image
-line_image w None = refl
-line_image w (Some form) = form_image w form
+said_image : (w : WorldState) (said : Said) → (after_said w said).server.image ≡ w.server.image
+said_image w (Own form) = form_image w form
+said_image w Elsewhere = refl
+said_image w (Reached n word down) = (event_go w n (numbered w.devices n) (Some (Receives w.time word (w.lines + 1) down))).image
 
-lines_image : (w end : WorldState) (lines : List (List ℕ)) → read_lines (Ok w) lines ≡ Ok end → end.server.image ≡ w.server.image
-unfolding read_lines after_line
+line_image : (w : WorldState) (line : Line) → (after_line w line).server.image ≡ w.server.image
+line_image w (Err cause) = refl
+line_image w (Ok said) = said_image w said
+
+lines_image : (w end : WorldState) (lines : List Line) → read_lines (Ok w) lines ≡ Ok end → end.server.image ≡ w.server.image
+unfolding read_lines
 lines_image w end [] read = let same : w ≡ end = cc in ap (λ (v : WorldState). v.server.image) (sym same)
 lines_image w end (line ∷ lines) read =
     let first = read_first w end line lines read in
-    lines_image (after_form_of w (form_of line)) end lines first.1 ∙ line_image w (form_of line)
+    lines_image (after_line w line) end lines first.1 ∙ line_image w line
 
 -- ---- the law
 
@@ -299,11 +310,11 @@ later_by image world later made x (Some stage) file k truly wi li read at ranks 
     (λ y is. (let e : now.0 ≡ y = cc in subst (λ (z : Stage). stage_after later.server.plan later.server.image z x ≡ z) e (subst (λ (i : List ℕ). stage_after later.server.plan i now.0 x ≡ now.0) (sym li) rest)))
 
 pub an_uplink_moves_once : MovesOnce
-unfolding after_line after_form
-an_uplink_moves_once image line before between number world later made x bytes file honest read form more there single moved =
+unfolding after_form
+an_uplink_moves_once image line before between number world later made x bytes file fits honest read says more there single moved =
     let first = read_first world later line between more in
     let next : WorldState = one_line_more (at_events (after_up world (numbered world.uplinks number))) in
-    let rest : read_lines (Ok next) between ≡ Ok later = subst (λ (f : Option Form). read_lines (Ok (after_form_of world f)) between ≡ Ok later) form first.1 in
+    let rest : read_lines (Ok next) between ≡ Ok later = subst (λ (l : Line). read_lines (Ok (after_line world l)) between ≡ Ok later) says first.1 in
     let here = up_go world (numbered world.uplinks number) in
     let on = all_go next later between refl rest in
     let still : numbered later.uplinks number ≡ Some made =
@@ -311,10 +322,10 @@ an_uplink_moves_once image line before between number world later made x bytes f
     ∙ numbered_more (world.uplinks ++ here.uplinks.0) on.uplinks.0 number made (numbered_more world.uplinks here.uplinks.0 number made there) in
     let wi : world.server.image ≡ image = lines_image (first_world image) world before read in
     let li : later.server.image ≡ image = on.image ∙ here.image ∙ wi in
-    let truly = get_all (MadeTruly image world.devices) world.uplinks number made (uplinks_are_true image world before bytes file honest read) there in
+    let truly = get_all (MadeTruly image world.devices) world.uplinks number made (uplinks_are_true image world before bytes file fits honest read) there in
     let is : (after_up world (numbered world.uplinks number)).server.stages ≡ (with_answers world.server made.device (x ∷ []) (ledger world.server made.device)).stages =
     ap (λ (o : Option MadeUplink). (after_up world o).server.stages) there ∙ stages_are world made x single in
     ap (λ (o : Option MadeUplink). (after_up later o).server.stages) still
-    ∙ later_by image world later made x (ledger world.server made.device) file (waits_behind image world before bytes honest read) truly wi li single refl
+    ∙ later_by image world later made x (ledger world.server made.device) file (waits_behind image world before bytes fits honest read) truly wi li single refl
     (subst (λ (xs : List Stage). (id : ℕ) (stage : Stage) → numbered xs id ≡ Some stage → (t : Stage) × (numbered later.server.stages id ≡ Some t) × (rank stage ≤ rank t)) is (λ id stage at. on.ranks id stage at))
     (subst (λ (xs : List Stage). xs ≢ world.server.stages) is moved)

@@ -41,6 +41,6 @@ held_alike held number single (Some made) world same is moved = (made, is, singl
 
 pub moves_once_in : (held : HeldWorld) (number : ℕ) → ((made : MadeUplink) → numbered held.uplinks number ≡ Some made → IsUplink made.uplink)
     → MovesOnceIn held number
-moves_once_in held number single image line before between world later stands bytes file honest read form more moved =
+moves_once_in held number single image line before between world later stands bytes file fits honest read says more moved =
     let one = held_alike held number single (numbered world.uplinks number) world (ap (λ (w : WorldState). w.uplinks) stands.rest) refl moved in
-    an_uplink_moves_once image line before between number world later one.0 one.2.command bytes file honest read form more one.1 (reads_alone one.0.uplink one.2) moved
+    an_uplink_moves_once image line before between number world later one.0 one.2.command bytes file fits honest read says more one.1 (reads_alone one.0.uplink one.2) moved

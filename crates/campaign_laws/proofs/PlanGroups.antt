@@ -5,7 +5,7 @@ use Rattle.wire_base.specs.declared.refusal.Direction.TheVariants.{Up as Upwards
 use Rattle.package_grammar.specs.declared.command.Command.{Command}
 use Rattle.package_grammar.specs.Reading.{Reading, reading_of}
 use Rattle.device_core.specs.Device.{DeviceState}
-use Rattle.device_core.specs.Events.{Event}
+use Rattle.device_core.specs.Events.{Event, Receives}
 use Rattle.campaign_server.specs.declared.stage.Stage.{Stage}
 use Rattle.campaign_server.specs.Plan.{Plan}
 use Rattle.campaign_server.specs.Server.{ServerState, DownlinkCommand, ledger}
@@ -20,8 +20,9 @@ use Rattle.campaign_world.specs.declared.section.Section.{Section}
 use Rattle.campaign_world.specs.declared.section.Section.TheVariants as section
 use Rattle.campaign_world.specs.declared.numbered.MadeUplink.{MadeUplink}
 use Rattle.campaign_world.specs.World.{WorldState}
-use Rattle.campaign_world.specs.Causes.{is_event_or_end, may_come, form_cause}
-use Rattle.campaign_world.specs.Making.{with_sent, with_device, event_of, after_event_at, with_event_of, after_answer, after_up, at_events, after_form}
+use Rattle.campaign_world.specs.Said.{Said, Own, Elsewhere, Reached}
+use Rattle.campaign_world.specs.Causes.{is_event_or_end, may_come, form_cause, said_cause}
+use Rattle.campaign_world.specs.Making.{with_sent, with_device, event_of, after_event_at, with_event, with_event_of, after_answer, after_up, at_events, after_form, after_said}
 use Rattle.campaign_laws.proofs.HeadlineForms.{passes}
 
 -- no event was yet
@@ -79,10 +80,12 @@ event_server w n None o = refl
 event_server w n (Some d) None = refl
 event_server w n (Some d) (Some e) = refl
 
+given_settled : (w : WorldState) (n : ℕ) (o : Option Event) → IsSettled w (with_event w n o)
+given_settled w n o =
+    record { over = refl; plan = same_server w (with_event w n o) (event_server w n (numbered w.devices n) o) }
+
 event_settled : (w : WorldState) (n : ℕ) (form : Form) → IsSettled w (with_event_of w n form)
-event_settled w n form =
-    let o = event_of w.server.plan.group w.sent w.time (w.lines + 1) form in
-    record { over = refl; plan = same_server w (with_event_of w n form) (event_server w n (numbered w.devices n) o) }
+event_settled w n form = given_settled w n (event_of w.server.plan.group w.sent w.time (w.lines + 1) form)
 
 sends_settled : (w : WorldState) (s : ServerState) (to : Option ℕ) (down : Option DownlinkCommand) → s.plan ≡ w.server.plan
     → IsSettled w (at_events (with_sent (record w { server = s }) to down))
@@ -130,6 +133,13 @@ form_settled w (Air number n word) fine over = event_settled w n (Air number n w
 form_settled w (RawAir n bytes word) fine over = event_settled w n (RawAir n bytes word)
 form_settled w (Up number) fine over = up_settled w (numbered w.uplinks number)
 form_settled w End fine over = record { over = refl; plan = refl }
+
+pub said_settled : (w : WorldState) (said : Said) → said_cause w said ≡ None → is_planning w.section ≡ false
+    → IsSettled w (after_said w said)
+said_settled w (Own form) fine over = form_settled w form fine over
+said_settled w Elsewhere fine over = record { over = over; plan = refl }
+said_settled w (Reached n word down) fine over =
+    given_settled w n (Some (Receives w.time word (w.lines + 1) down))
 
 -- a frame in the air is an event
 pub air_settled : (w : WorldState) (number n word : ℕ) → IsSettled w (after_form w (Air number n word))

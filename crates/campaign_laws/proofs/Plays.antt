@@ -20,10 +20,12 @@ use Rattle.script_lines.specs.Forms.{form_of}
 use Rattle.report_lines.specs.declared.faults.LineWhy.{LineWhy}
 use Rattle.report_lines.specs.declared.faults.LineFault.{LineFault}
 use Rattle.campaign_world.specs.World.{WorldState}
+use Rattle.campaign_world.specs.Said.{Line, line_of}
 use Rattle.campaign_world.specs.Causes.{form_cause, cause_of}
 use Rattle.campaign_world.specs.Making.{with_sent, with_device, event_of, after_event_at, with_event_of, after_answer, after_up, after_form}
-use Rattle.campaign_world.specs.Script.{one_line_more, after_form_of, after_line, line_result, read_line, read_lines}
+use Rattle.campaign_world.specs.Script.{one_line_more, after_line, line_result, read_line, read_lines}
 use Rattle.campaign_world.proofs.FormCauses.{of_form}
+use Rattle.campaign_world.proofs.Lines.{said_form}
 
 -- none of the forms is refused, and they lead here
 abbrev pub Plays : WorldState → List Form → WorldState → Type 0
@@ -100,17 +102,17 @@ lines_kept w (RawAir device bytes word) = form_event_keeps w device (RawAir devi
 lines_kept w (Up number) = up_keeps w (numbered w.uplinks number)
 lines_kept w End = refl
 
-line_read : (w : WorldState) (line : List ℕ) (form : Form) → form_of line ≡ Some form → cause_of w line ≡ None
-    → read_line w line ≡ Ok (one_line_more (after_form w form))
-unfolding read_line after_line
+line_read : (w : WorldState) (line : List ℕ) (form : Form) → form_of line ≡ Some form → cause_of w (line_of line) ≡ None
+    → read_line w (line_of line) ≡ Ok (one_line_more (after_form w form))
+unfolding read_line
 line_read w line form is fine =
-    ap (λ (c : Option LineWhy). line_result w line c) fine
-    ∙ ap (λ (f : Option Form). let read : Result WorldState LineFault = Ok (after_form_of w f) in read) is
+    ap (λ (c : Option LineWhy). line_result w (line_of line) c) fine
+    ∙ ap (λ (l : Line). let read : Result WorldState LineFault = Ok (after_line w l) in read) (said_form w line form is fine)
 
 -- few and short lines are read to where their forms lead
 pub lines_read : (lines : List (List ℕ)) (forms : List Form) (w end : WorldState) → map form_of lines ≡ map Some forms
     → AllByRecursion (λ line. length line ≤ 60) lines → w.lines + length lines ≤ 20000 → Plays w forms end
-    → read_lines (Ok w) lines ≡ Ok end
+    → read_lines (Ok w) (map line_of lines) ≡ Ok end
 unfolding read_lines
 lines_read [] [] w end spelled short few plays = ap (λ (x : WorldState). let read : Result WorldState LineFault = Ok x in read) plays
 lines_read [] (form ∷ forms) w end spelled short few plays = absurd cc
@@ -118,7 +120,8 @@ lines_read (line ∷ lines) [] w end spelled short few plays = absurd cc
 lines_read (line ∷ lines) (form ∷ forms) w end spelled short few plays =
     let is : form_of line ≡ Some form = cc in
     let others : map form_of lines ≡ map Some forms = cc in
-    let fine : cause_of w line ≡ None = of_form w line (Some form) None (omega (arith, few)) (omega (arith, short.0)) (sym is) plays.0 in
+    let fine : cause_of w (line_of line) ≡ None =
+    of_form w line (Some form) None (omega (arith, few)) (omega (arith, short.0)) (sym is) plays.0 in
     let kept = lines_kept w form in
-    ap (λ (r : Result WorldState LineFault). read_lines r lines) (line_read w line form is fine)
+    ap (λ (r : Result WorldState LineFault). read_lines r (map line_of lines)) (line_read w line form is fine)
     ∙ lines_read lines forms (one_line_more (after_form w form)) end others short.1 (omega (arith, few, kept)) plays.1

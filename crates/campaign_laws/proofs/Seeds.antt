@@ -40,6 +40,7 @@ use Rattle.campaign_world.specs.declared.section.Section.TheVariants as section
 use Rattle.campaign_world.specs.declared.numbered.SentPayload.{SentPayload}
 use Rattle.campaign_world.specs.declared.numbered.MadeUplink.{MadeUplink}
 use Rattle.campaign_world.specs.World.{WorldState, first_world}
+use Rattle.campaign_world.specs.Said.{said_in}
 use Rattle.campaign_world.specs.Causes.{may_come}
 use Rattle.campaign_world.specs.Making.{device_of, after_form}
 use Rattle.campaign_world.specs.Script.{one_line_more, read_lines, end_result, campaign_of}
@@ -443,7 +444,7 @@ generated seed =
     let t = all_to image (after_image seed) (image_made seed) few in
     let plays : Plays (first_world image) (forms_of seed) t.0 = subst (λ (m : ℕ). Plays (first_world image) (forms_from (after_image seed) m) t.0) (count_is seed) t.1 in
     let spelled = lines_spell_forms seed in
-    let read : read_lines (Ok (first_world image)) (lines_of (script_of seed)) ≡ Ok t.0 =
+    let read : read_lines (Ok (first_world image)) (said_in (script_of seed)) ≡ Ok t.0 =
     lines_read (lines_of (script_of seed)) (forms_of seed) (first_world image) t.0 spelled.spelled spelled.short (omega (arith, spelled.few)) plays in (
       t.0,
       record {

@@ -11,7 +11,7 @@ use Rattle.package_grammar.specs.Reading.{Reading, reading_of}
 use Rattle.device_core.specs.Device.{DeviceState}
 use Rattle.device_core.specs.Deliver.{delivery, waking}
 use Rattle.device_core.specs.Firmware.{after_migration}
-use Rattle.device_core.specs.Events.{Wakes, Migrates}
+use Rattle.device_core.specs.Events.{Wakes, Receives, Migrates}
 use Rattle.image_slots.specs.Slots.{after_raise}
 use Rattle.campaign_server.specs.declared.plan.PlanDevice.{PlanDevice}
 use Rattle.campaign_server.specs.declared.stage.Stage.{Stage}
@@ -29,20 +29,22 @@ use Rattle.campaign_server.specs.Time.{time_answer_to, first_answer, time_answer
 use Rattle.campaign_server.specs.Uplinks.{with_answers, read_uplink, uplink_step}
 use Rattle.script_lines.specs.declared.forms.Form.{Form}
 use Rattle.script_lines.specs.declared.forms.Form.TheVariants.{Header, Image, Group, WindowC, WindowB, Device, At as AtTime, Wake, Migrate, Ask, Frag, Status, Down, Raw, Air, RawAir, Up, End}
-use Rattle.script_lines.specs.Forms.{form_of}
 use Rattle.campaign_world.specs.declared.section.Section.{Section}
 use Rattle.campaign_world.specs.declared.section.Section.TheVariants as section
 use Rattle.campaign_world.specs.declared.numbered.SentPayload.{SentPayload}
 use Rattle.campaign_world.specs.declared.numbered.MadeUplink.{MadeUplink}
 use Rattle.campaign_world.specs.World.{WorldState, first_world}
+use Rattle.campaign_world.specs.Said.{Said, Own, Elsewhere, Reached, Line}
 use Rattle.campaign_world.specs.Honest.{has_raw, AreHonest}
-use Rattle.campaign_world.specs.Causes.{is_event_or_end, may_come, may_reach, cause_of, cause_of_form, form_cause}
-use Rattle.campaign_world.specs.Making.{with_plan, with_sent, with_device, after_event_at, after_answer, after_up, at_events, device_of, after_form}
-use Rattle.campaign_world.specs.Script.{one_line_more, after_form_of, after_line, read_lines}
+use Rattle.campaign_world.specs.Causes.{is_event_or_end, may_come, may_reach, form_cause, said_cause, line_cause, cause_of}
+use Rattle.campaign_world.specs.Making.{with_plan, with_sent, with_device, after_event_at, after_answer, after_up, at_events, device_of, after_form, after_said}
+use Rattle.campaign_world.specs.Script.{one_line_more, after_line, read_lines}
 use Rattle.campaign_server.proofs.LineItems.{numbered_push}
-use Rattle.campaign_laws.proofs.HeadlineForms.{passes, is_strange}
-use Rattle.campaign_laws.proofs.Airing.{heard_as}
-use Rattle.campaign_laws.proofs.HonestLines.{Stands, first_stands, goes_on_by, line_stands}
+use Rattle.campaign_laws.proofs.HeadlineForms.{passes, is_strange, reached_passes, is_odd, not_true}
+use Rattle.campaign_laws.specs.Headline.{HasNoOther}
+use Rattle.campaign_laws.specs.Fields.{LineFits, AllFit}
+use Rattle.campaign_laws.proofs.Crossing.{crossing_calm}
+use Rattle.campaign_laws.proofs.HonestLines.{heard_said, Stands, first_stands, alone_at, goes_on_by, line_stands}
 use Rattle.campaign_laws.proofs.Keyed.{time_port}
 use Rattle.campaign_laws.proofs.PlanGroups.{is_planning, plan_at}
 use Rattle.campaign_laws.proofs.Independence.{read_first, line_fine, is_there, payload_there}
@@ -316,26 +318,38 @@ form_waits w End fine honest k = record { none_sent = λ plan. absurd cc; all = 
 
 -- ---- all lines
 
-line_waits : (image : List ℕ) (w : WorldState) (line : List ℕ) (form : Option Form) → All (λ b. b < 2 ^ 8) image → Stands image w
-    → form_of line ≡ form → cause_of w line ≡ None → cause_of_form w form ≡ None → has_raw form ≡ false → Waits w
-    → Waits (after_form_of w form)
-line_waits image w line None bytes s is none fine honest k = absurd cc
-line_waits image w line (Some form) bytes s is none fine honest k =
-    let on = goes_on_by image w line form bytes s is none fine honest in
-    let m = form_waits w (heard_as form) on.heard.fine on.heard.plain k in
+-- what a line says
+said_waits : (w : WorldState) (said : Said) → said_cause w said ≡ None → is_odd said ≡ false
+    → ((id : ℕ) (d : DeviceState) → numbered w.devices id ≡ Some d → HasNoOther d.sessions) → Waits w → Waits (after_said w said)
+said_waits w (Own form) fine honest alone k = form_waits w form fine honest k
+said_waits w Elsewhere fine honest alone k = k
+said_waits w (Reached n word down) fine honest alone k =
+    let there = is_there w.devices n (reached_passes w n word down fine).1 in
+    let d : DeviceState = there.1.0 in
+    subst (λ (o : Option DeviceState). Waits (at_events (after_event_at w n o (Some (Receives w.time word (w.lines + 1) down))))) (sym there.1.1)
+    (device_waits w n d (delivery w.time word (w.lines + 1) down d).device there.1.1
+    (λ at. crossing_calm w.time word (w.lines + 1) down d (not_true _ honest) (alone n d there.1.1) (k.devices n d there.1.1 at)) k)
+
+line_waits : (image : List ℕ) (w : WorldState) (line : Line) → All (λ b. b < 2 ^ 8) image → Stands image w
+    → cause_of w line ≡ None → LineFits line → line_cause w line ≡ None → has_raw line ≡ false → Waits w
+    → Waits (after_line w line)
+line_waits image w (Err cause) bytes s none fits fine honest k = absurd cc
+line_waits image w (Ok said) bytes s none fits fine honest k =
+    let on = goes_on_by image w (Ok said) said bytes s refl none fits fine honest in
+    let m = said_waits w (heard_said said) on.heard.fine on.heard.plain (alone_at image w s.keeps) k in
     subst (λ (v : WorldState). Waits (one_line_more v)) (sym on.heard.same)
     (record { none_sent = m.none_sent; all = m.all; devices = m.devices; sent = m.sent })
 
-all_wait : (image : List ℕ) (w end : WorldState) (lines : List (List ℕ)) → All (λ b. b < 2 ^ 8) image → AreHonest lines
+all_wait : (image : List ℕ) (w end : WorldState) (lines : List Line) → All (λ b. b < 2 ^ 8) image → AllFit lines → AreHonest lines
     → Stands image w → Waits w → read_lines (Ok w) lines ≡ Ok end → Waits end
-unfolding read_lines after_line
-all_wait image w end [] bytes honest s k read = let same : w ≡ end = cc in subst Waits same k
-all_wait image w end (line ∷ lines) bytes honest s k read =
+unfolding read_lines
+all_wait image w end [] bytes fits honest s k read = let same : w ≡ end = cc in subst Waits same k
+all_wait image w end (line ∷ lines) bytes fits honest s k read =
     let first = read_first w end line lines read in
     let fine = line_fine w line first.0 in
-    all_wait image (after_form_of w (form_of line)) end lines bytes honest.1
-    (line_stands image w line (form_of line) bytes s refl first.0 fine honest.0)
-    (line_waits image w line (form_of line) bytes s refl first.0 fine honest.0 k) first.1
+    all_wait image (after_line w line) end lines bytes fits.1 honest.1
+    (line_stands image w line bytes s first.0 fits.0 fine honest.0)
+    (line_waits image w line bytes s first.0 fits.0 fine honest.0 k) first.1
 
 none_numbered : {A : Type 0} (n : ℕ) (x : A) → numbered {A = A} [] n ≡ Some x → ⊥
 none_numbered {A} n x is = by (n == 0) is
@@ -344,8 +358,9 @@ none_numbered {A} n x is = by (n == 0) is
     by true e = cc
     by false e = cc
 
-pub waits_behind : (image : List ℕ) (w : WorldState) (lines : List (List ℕ)) → All (λ b. b < 2 ^ 8) image → AreHonest lines → read_lines (Ok (first_world image)) lines ≡ Ok w → Waits w
-waits_behind image w lines bytes honest read = all_wait image (first_world image) w lines bytes honest (first_stands image) (record {
+pub waits_behind : (image : List ℕ) (w : WorldState) (lines : List Line) → All (λ b. b < 2 ^ 8) image → AllFit lines → AreHonest lines
+    → read_lines (Ok (first_world image)) lines ≡ Ok w → Waits w
+waits_behind image w lines bytes fits honest read = all_wait image (first_world image) w lines bytes fits honest (first_stands image) (record {
   none_sent = λ plan. refl;
   all = λ plan id d there. absurd (none_numbered id d there);
   devices = λ id d there at. absurd (none_numbered id d there);

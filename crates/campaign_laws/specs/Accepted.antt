@@ -8,6 +8,7 @@ use Rattle.campaign_generator.specs.Firmware.{image_of}
 use Rattle.campaign_generator.specs.Script.{script_of, sent_of}
 use Rattle.campaign_world.specs.declared.summary.Totals.{Totals}
 use Rattle.campaign_world.specs.World.{WorldState}
+use Rattle.campaign_world.specs.Said.{said_in}
 use Rattle.campaign_world.specs.Script.{campaign_of}
 use Rattle.campaign_world.specs.Summary.{has_file, is_updated, totals_from, nothing_counted}
 
@@ -17,7 +18,7 @@ totals_of world = totals_from nothing_counted world.server.stages world.devices
 
 pub record IsCampaignOf (seed : ℕ) (world : WorldState) : Type 0 where
   -- no line is refused, and the script ends
-  pub accepted : campaign_of (image_of seed) (script_of seed) ≡ Ok world
+  pub accepted : campaign_of (image_of seed) (said_in (script_of seed)) ≡ Ok world
   pub sent : length world.sent ≡ sent_of seed
   pub uplinks : length world.uplinks ≡ 48
   pub devices : length world.devices ≡ 8

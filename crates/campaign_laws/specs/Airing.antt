@@ -8,8 +8,9 @@ use Rattle.script_lines.specs.Lines.{lines_of}
 use Rattle.script_lines.specs.Forms.{form_of}
 use Rattle.campaign_world.specs.declared.numbered.SentPayload.{SentPayload}
 use Rattle.campaign_world.specs.World.{WorldState}
+use Rattle.campaign_world.specs.Said.{said_in}
 use Rattle.campaign_world.specs.Causes.{goes_out}
-use Rattle.campaign_world.specs.Honest.{IsHonest}
+use Rattle.campaign_world.specs.Honest.{AreHonest}
 use Rattle.campaign_world.specs.Script.{campaign_of}
 
 -- the other line has `air` in the place of `down`, and what is named is a payload to the group
@@ -26,6 +27,6 @@ IsAired sent line other = (other ≡ line)
 
 -- whatever image and accepted honest script there are, and whichever of its downs of payloads to the group are written as air
 abbrev pub AirIsDown : Type 0
-AirIsDown = (image script other : List ℕ) (world : WorldState) → All (λ b. b < 2 ^ 8) image → IsHonest script
-    → campaign_of image script ≡ Ok world → AllZip (IsAired world.sent) (lines_of script) (lines_of other)
-    → campaign_of image other ≡ campaign_of image script
+AirIsDown = (image script other : List ℕ) (world : WorldState) → All (λ b. b < 2 ^ 8) image → AreHonest (said_in script)
+    → campaign_of image (said_in script) ≡ Ok world → AllZip (IsAired world.sent) (lines_of script) (lines_of other)
+    → campaign_of image (said_in other) ≡ campaign_of image (said_in script)

@@ -29,18 +29,17 @@ use Rattle.campaign_server.specs.declared.stage.Stage.{Stage}
 use Rattle.campaign_server.specs.Server.{ServerState, DownlinkCommand, ledger, downlink_of}
 use Rattle.wire_base.specs.Numbered.{numbered}
 use Rattle.campaign_server.specs.Asking.{mask_of, fragments_request}
-use Rattle.script_lines.specs.declared.forms.Form.{Form}
 use Rattle.script_lines.specs.declared.forms.Class.{Class}
 use Rattle.script_lines.specs.declared.forms.Class.TheVariants as class
 use Rattle.script_lines.specs.declared.forms.Form.TheVariants.{Device, Down, Air}
-use Rattle.script_lines.specs.Lines.{lines_of}
-use Rattle.script_lines.specs.Forms.{form_of}
 use Rattle.campaign_world.specs.declared.numbered.SentPayload.{SentPayload}
 use Rattle.report_lines.specs.declared.faults.LineFault.{LineFault}
 use Rattle.campaign_world.specs.World.{WorldState, first_world}
+use Rattle.campaign_world.specs.Said.{Own, Line}
 use Rattle.campaign_world.specs.Script.{read_lines, campaign_of}
-use Rattle.campaign_world.specs.Honest.{IsHonest}
+use Rattle.campaign_world.specs.Honest.{AreHonest}
 use Rattle.campaign_world.specs.Report.{report_of}
+use Rattle.campaign_laws.specs.Fields.{AllFit}
 use Rattle.campaign_laws.specs.Told.{report_over}
 use Rattle.report_lines.specs.Sessions.{session_text}
 
@@ -64,9 +63,9 @@ IsClass class.A k = k ≡ device_class.A
 IsClass class.C k = k ≡ device_class.C
 
 -- line n of the script is the line of device id, which says this configuration
-pub record IsConfigured (lines : List (List ℕ)) (id : ℕ) (config : DeviceConfig) (n : ℕ) (line : List ℕ) (class : Class) (hw rows offset : ℕ) (key : List ℕ) (descriptor : Option ℕ) (v1 k11 : Bool) : Type 0 where
+pub record IsConfigured (lines : List Line) (id : ℕ) (config : DeviceConfig) (n : ℕ) (line : Line) (class : Class) (hw rows offset : ℕ) (key : List ℕ) (descriptor : Option ℕ) (v1 k11 : Bool) : Type 0 where
   pub line_is : numbered lines n ≡ Some line
-  pub form : form_of line ≡ Some (Device id class hw rows offset key descriptor v1 k11)
+  pub says : line ≡ Ok (Own (Device id class hw rows offset key descriptor v1 k11))
   pub class_is : IsClass class config.class
   pub hw_is : config.hw ≡ hw
   pub rows_are : config.rows ≡ rows
@@ -80,8 +79,8 @@ pub record IsConfigured (lines : List (List ℕ)) (id : ℕ) (config : DeviceCon
   pub area_is : config.area ≡ max_area
 
 -- the configuration is that of the device's line
-abbrev pub IsOfItsLine : List (List ℕ) → (id : ℕ) → DeviceConfig → Type 0
-IsOfItsLine lines id config = (n : ℕ) × (line : List ℕ) × (class : Class) × (hw : ℕ) × (rows : ℕ) × (offset : ℕ) × (key : List ℕ) × (descriptor : Option ℕ) × (v1 : Bool) × (k11 : Bool)
+abbrev pub IsOfItsLine : List Line → (id : ℕ) → DeviceConfig → Type 0
+IsOfItsLine lines id config = (n : ℕ) × (line : Line) × (class : Class) × (hw : ℕ) × (rows : ℕ) × (offset : ℕ) × (key : List ℕ) × (descriptor : Option ℕ) × (v1 : Bool) × (k11 : Bool)
     × IsConfigured lines id config n line class hw rows offset key descriptor v1 k11
 
 -- the session is the one that the server sets up for the image on a device with so many rows, and hears nothing but the
@@ -94,44 +93,44 @@ pub record IsServed (image : List ℕ) (server : ServerState) (rows : ℕ) (sess
   pub rows_are : session.rows ≡ min rows (nb_frag_of (length image) server.plan.frag_size)
   pub heard : AllByRecursion (IsFragmentOf image server.plan.frag_size) session.heard
 
--- a form hands this sent payload to the device: as it is, or as a frame in the air
-abbrev pub HandsOver : Option Form → (number id word : ℕ) → Type 0
-HandsOver form number id word = (form ≡ Some (Down number id word)) ⊎ (form ≡ Some (Air number id word))
+-- a line hands this sent payload to the device: as it is, or as a frame in the air
+abbrev pub HandsOver : Line → (number id word : ℕ) → Type 0
+HandsOver line number id word = (line ≡ Ok (Own (Down number id word))) ⊎ (line ≡ Ok (Own (Air number id word)))
 
 -- line n of the script hands device id the payload that it names, and the server sent this valid command as that
-pub record IsDelivery (lines : List (List ℕ)) (sent : List SentPayload) (id n : ℕ) (down : DownlinkCommand) (line : List ℕ) (number word : ℕ) (receiver : Option ℕ) : Type 0 where
+pub record IsDelivery (lines : List Line) (sent : List SentPayload) (id n : ℕ) (down : DownlinkCommand) (line : Line) (number word : ℕ) (receiver : Option ℕ) : Type 0 where
   pub line_is : numbered lines n ≡ Some line
-  pub form : HandsOver (form_of line) number id word
+  pub hands_over : HandsOver line number id word
   pub payload_is : numbered sent number ≡ Some (record { receiver = receiver; down = downlink_of down })
   pub valid : IsValid down.command
 
 -- line n of the script delivers this command to device id
-abbrev pub Delivers : List (List ℕ) → List SentPayload → (id n : ℕ) → DownlinkCommand → Type 0
-Delivers lines sent id n down = (line : List ℕ) × (number : ℕ) × (word : ℕ) × (receiver : Option ℕ) × IsDelivery lines sent id n down line number word receiver
+abbrev pub Delivers : List Line → List SentPayload → (id n : ℕ) → DownlinkCommand → Type 0
+Delivers lines sent id n down = (line : Line) × (number : ℕ) × (word : ℕ) × (receiver : Option ℕ) × IsDelivery lines sent id n down line number word receiver
 
 -- the campaign before line n of the script
-abbrev pub campaign_before : (image : List ℕ) → (lines : List (List ℕ)) → (n : ℕ) → Result WorldState LineFault
+abbrev pub campaign_before : (image : List ℕ) → (lines : List Line) → (n : ℕ) → Result WorldState LineFault
 campaign_before image lines n = read_lines (Ok (first_world image)) (take (n - 1) lines)
 
 -- what comes this way to device id at line n, behind a reboot that is due, is heard: its receiver is open, and the server's
 -- session takes what comes by that group. By unicast a device of class C hears always
-pub record Listens (image : List ℕ) (lines : List (List ℕ)) (id n : ℕ) (to : To) (world : WorldState) (device : DeviceState) : Type 0 where
+pub record Listens (image : List ℕ) (lines : List Line) (id n : ℕ) (to : To) (world : WorldState) (device : DeviceState) : Type 0 where
   pub before : campaign_before image lines n ≡ Ok world
   pub there : numbered world.devices id ≡ Some device
   pub hearing : hears (after_due_reboot world.time device) world.time to ≡ true
   pub way : excludes (mask_of world.server.plan.group) (via_of (after_due_reboot world.time device).class_session to) ≡ false
 
 -- line n of the script brings this command to device id, which hears it
-abbrev pub Brings : (image : List ℕ) → List (List ℕ) → List SentPayload → (id n : ℕ) → Command → Type 0
+abbrev pub Brings : (image : List ℕ) → List Line → List SentPayload → (id n : ℕ) → Command → Type 0
 Brings image lines sent id n command = (to : To) × (world : WorldState) × (device : DeviceState)
     × Delivers lines sent id n (record { to = to; command = command }) × Listens image lines id n to world device
 
 -- the line whose number is the fragment's mark brings it: the session of a campaign has index 0
-abbrev pub WasBrought : (image : List ℕ) → List (List ℕ) → List SentPayload → (id : ℕ) → Fragment → Type 0
+abbrev pub WasBrought : (image : List ℕ) → List Line → List SentPayload → (id : ℕ) → Fragment → Type 0
 WasBrought image lines sent id f = Brings image lines sent id f.mark (Cast (DataFragment 0 f.number f.part))
 
 -- each fragment was brought up to this line, those heard before it at lines before its own, and the setup before them all
-abbrev pub CameInOrder : (image : List ℕ) → List (List ℕ) → List SentPayload → (id : ℕ) → Command → ℕ → List Fragment → Type 0
+abbrev pub CameInOrder : (image : List ℕ) → List Line → List SentPayload → (id : ℕ) → Command → ℕ → List Fragment → Type 0
 CameInOrder image lines sent id setup last [] = (n : ℕ) × (n ≤ last) × Brings image lines sent id n setup
 CameInOrder image lines sent id setup last (f ∷ older) =
     (f.mark ≤ last) × WasBrought image lines sent id f × CameInOrder image lines sent id setup (f.mark - 1) older
@@ -141,7 +140,7 @@ abbrev pub setup_command : ServerState → Command
 setup_command server = Cast (fragments_request server.plan server.image)
 
 -- what the session of device id hears: what the lines of the script bring
-pub record HearsBrought (image : List ℕ) (lines : List (List ℕ)) (world : WorldState) (id : ℕ) (session : Session) : Type 0 where
+pub record HearsBrought (image : List ℕ) (lines : List Line) (world : WorldState) (id : ℕ) (session : Session) : Type 0 where
   -- after the setup was brought, nothing else, and each fragment at its line
   pub only : CameInOrder image lines world.sent id (setup_command world.server) world.lines session.heard
   -- and each fragment that is brought after the setup was
@@ -200,33 +199,33 @@ pub record IsReported (image : List ℕ) (world : WorldState) (id : ℕ) (stage 
 
 -- ---- a campaign
 
--- a device of an honest campaign that has a session: the image's bytes, the script, how it ends, the device and its stage
-pub record IsCampaign (image script : List ℕ) (world : WorldState) (id : ℕ) (stage : Stage) (device : DeviceState) (session : Session) : Type 0 where
+-- a device of an honest campaign that has a session: the image's bytes, the lines, how they end, the device and its stage
+pub record IsCampaign (image : List ℕ) (lines : List Line) (world : WorldState) (id : ℕ) (stage : Stage) (device : DeviceState) (session : Session) : Type 0 where
   pub bytes : All (λ b. b < 2 ^ 8) image
-  pub honest : IsHonest script
-  pub accepted : campaign_of image script ≡ Ok world
+  pub honest : AreHonest lines
+  pub accepted : campaign_of image lines ≡ Ok world
   pub stage_is : ledger world.server id ≡ Some stage
   pub device_is : numbered world.devices id ≡ Some device
   pub session_is : device.sessions.first ≡ Some session
 
--- whatever image and accepted script of losses, repeats and reorderings there are
+-- whatever image and accepted lines of losses, repeats and reorderings there are, whose keys and addresses fit their fields
 pub record Headline : Type 0 where
   -- a device is configured as its line says
-  pub configured : (image script : List ℕ) (world : WorldState) (id : ℕ) (device : DeviceState) → All (λ b. b < 2 ^ 8) image
-      → campaign_of image script ≡ Ok world → numbered world.devices id ≡ Some device
-      → IsOfItsLine (lines_of script) id device.config
-  -- where the script is honest, it has no session but the server's
-  pub one : (image script : List ℕ) (world : WorldState) (id : ℕ) (device : DeviceState) → All (λ b. b < 2 ^ 8) image
-      → IsHonest script → campaign_of image script ≡ Ok world → numbered world.devices id ≡ Some device → HasNoOther device.sessions
+  pub configured : (image : List ℕ) (lines : List Line) (world : WorldState) (id : ℕ) (device : DeviceState) → All (λ b. b < 2 ^ 8) image
+      → campaign_of image lines ≡ Ok world → numbered world.devices id ≡ Some device
+      → IsOfItsLine lines id device.config
+  -- where the lines are honest, it has no session but the server's
+  pub one : (image : List ℕ) (lines : List Line) (world : WorldState) (id : ℕ) (device : DeviceState) → All (λ b. b < 2 ^ 8) image
+      → AllFit lines → AreHonest lines → campaign_of image lines ≡ Ok world → numbered world.devices id ≡ Some device → HasNoOther device.sessions
   -- which is the one for the image
-  pub served : (image script : List ℕ) (world : WorldState) (id : ℕ) (stage : Stage) (device : DeviceState) (session : Session)
-      → IsCampaign image script world id stage device session → IsServed image world.server device.config.rows session
-  -- it hears what the script brings
-  pub brought : (image script : List ℕ) (world : WorldState) (id : ℕ) (stage : Stage) (device : DeviceState) (session : Session)
-      → IsCampaign image script world id stage device session → HearsBrought image (lines_of script) world id session
+  pub served : (image : List ℕ) (lines : List Line) (world : WorldState) (id : ℕ) (stage : Stage) (device : DeviceState) (session : Session)
+      → AllFit lines → IsCampaign image lines world id stage device session → IsServed image world.server device.config.rows session
+  -- it hears what the lines bring
+  pub brought : (image : List ℕ) (lines : List Line) (world : WorldState) (id : ℕ) (stage : Stage) (device : DeviceState) (session : Session)
+      → AllFit lines → IsCampaign image lines world id stage device session → HearsBrought image lines world id session
   -- it is complete exactly when one file alone fits, the image, unless the rows are exceeded first
-  pub recovered : (image script : List ℕ) (world : WorldState) (id : ℕ) (stage : Stage) (device : DeviceState) (session : Session)
-      → IsCampaign image script world id stage device session → IsRecovered image session
+  pub recovered : (image : List ℕ) (lines : List Line) (world : WorldState) (id : ℕ) (stage : Stage) (device : DeviceState) (session : Session)
+      → AllFit lines → IsCampaign image lines world id stage device session → IsRecovered image session
   -- the report says so
-  pub reported : (image script : List ℕ) (world : WorldState) (id : ℕ) (stage : Stage) (device : DeviceState) (session : Session)
-      → IsCampaign image script world id stage device session → IsReported image world id stage device session
+  pub reported : (image : List ℕ) (lines : List Line) (world : WorldState) (id : ℕ) (stage : Stage) (device : DeviceState) (session : Session)
+      → AllFit lines → IsCampaign image lines world id stage device session → IsReported image world id stage device session

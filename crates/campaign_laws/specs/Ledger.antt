@@ -8,8 +8,10 @@ use Rattle.campaign_server.specs.declared.stage.Stage.TheVariants.{Updated}
 use Rattle.campaign_server.specs.Server.{ledger}
 use Rattle.wire_base.specs.Numbered.{numbered}
 use Rattle.campaign_world.specs.World.{WorldState}
+use Rattle.campaign_world.specs.Said.{Line}
 use Rattle.campaign_world.specs.Script.{campaign_of}
-use Rattle.campaign_world.specs.Honest.{IsHonest}
+use Rattle.campaign_world.specs.Honest.{AreHonest}
+use Rattle.campaign_laws.specs.Fields.{AllFit}
 
 -- an image file runs: its version, and exactly its bytes
 pub record IsRunning (image : List ℕ) (slots : Slots) : Type 0 where
@@ -20,8 +22,8 @@ pub record IsRunning (image : List ℕ) (slots : Slots) : Type 0 where
 abbrev pub Runs : (image : List ℕ) → List DeviceState → (id : ℕ) → Type 0
 Runs image devices id = (device : DeviceState) × (numbered devices id ≡ Some device) × IsRunning image device.slots
 
--- whatever image file and accepted honest script there are
+-- whatever image file and accepted honest lines there are
 abbrev pub TheLedgerIsTrue : Type 0
-TheLedgerIsTrue = (image script : List ℕ) (world : WorldState) (id : ℕ) → All (λ b. b < 2 ^ 8) image
-    → is_image image ≡ true → IsHonest script → campaign_of image script ≡ Ok world → ledger world.server id ≡ Some Updated
+TheLedgerIsTrue = (image : List ℕ) (lines : List Line) (world : WorldState) (id : ℕ) → All (λ b. b < 2 ^ 8) image
+    → is_image image ≡ true → AllFit lines → AreHonest lines → campaign_of image lines ≡ Ok world → ledger world.server id ≡ Some Updated
     → Runs image world.devices id

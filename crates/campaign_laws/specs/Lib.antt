@@ -1,4 +1,5 @@
 pub mod Told
+pub mod Fields
 pub mod Headline
 pub mod Lives
 pub mod WorkedCampaigns

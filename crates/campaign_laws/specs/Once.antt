@@ -15,12 +15,13 @@ use Rattle.campaign_server.specs.Plan.{Plan}
 use Rattle.wire_base.specs.Numbered.{numbered}
 use Rattle.campaign_server.specs.Answers.{stage_after}
 use Rattle.script_lines.specs.declared.forms.Form.TheVariants.{Up}
-use Rattle.script_lines.specs.Forms.{form_of}
 use Rattle.campaign_world.specs.declared.numbered.MadeUplink.{MadeUplink}
 use Rattle.campaign_world.specs.World.{WorldState, first_world}
+use Rattle.campaign_world.specs.Said.{Own, Line}
 use Rattle.campaign_world.specs.Honest.{AreHonest}
 use Rattle.campaign_world.specs.Making.{after_up}
 use Rattle.campaign_world.specs.Script.{read_lines}
+use Rattle.campaign_laws.specs.Fields.{AllFit}
 
 -- how far a device is
 abbrev pub request_rank : Request → ℕ
@@ -58,9 +59,9 @@ PastMovesNone = (plan : Plan) (image : List ℕ) (stage : Stage) (command : Comm
 -- an uplink of one command that has moved a stage moves none when it comes again, whatever lines came between; those before it
 -- are honest
 abbrev pub MovesOnce : Type 0
-MovesOnce = (image line : List ℕ) (before between : List (List ℕ)) (number : ℕ) (world later : WorldState) (made : MadeUplink) (command : Command)
+MovesOnce = (image : List ℕ) (line : Line) (before between : List Line) (number : ℕ) (world later : WorldState) (made : MadeUplink) (command : Command)
     → All (λ b. b < 2 ^ 8) image → is_image image ≡ true
-    → AreHonest before → read_lines (Ok (first_world image)) before ≡ Ok world → form_of line ≡ Some (Up number)
+    → AllFit before → AreHonest before → read_lines (Ok (first_world image)) before ≡ Ok world → line ≡ Ok (Own (Up number))
     → read_lines (Ok world) (line ∷ between) ≡ Ok later → numbered world.uplinks number ≡ Some made
     → reading_of made.uplink.port Upwards made.uplink.payload ≡ Ok (command ∷ [])
     → (after_up world (numbered world.uplinks number)).server.stages ≢ world.server.stages

@@ -4,14 +4,16 @@ use Rattle.device_core.specs.Device.{DeviceState}
 use Rattle.wire_base.specs.Numbered.{numbered}
 use Rattle.campaign_world.specs.declared.recovery.NoFile.TheVariants as no_file
 use Rattle.campaign_world.specs.World.{WorldState}
+use Rattle.campaign_world.specs.Said.{Line}
 use Rattle.campaign_world.specs.Script.{campaign_of}
-use Rattle.campaign_world.specs.Honest.{IsHonest}
+use Rattle.campaign_world.specs.Honest.{AreHonest}
+use Rattle.campaign_laws.specs.Fields.{AllFit}
 use Rattle.campaign_world.specs.Recovery.{recovery_by, recovery}
 
--- whatever image and accepted honest script there are, what a device recovered is the image
+-- whatever image and accepted honest lines there are, what a device recovered is the image
 abbrev pub RecoversTheImage : Type 0
-RecoversTheImage = (image script : List ℕ) (world : WorldState) (id : ℕ) (file : List ℕ) → All (λ b. b < 2 ^ 8) image
-    → IsHonest script → campaign_of image script ≡ Ok world → recovery world id ≡ Ok file → file ≡ image
+RecoversTheImage = (image : List ℕ) (lines : List Line) (world : WorldState) (id : ℕ) (file : List ℕ) → All (λ b. b < 2 ^ 8) image
+    → AllFit lines → AreHonest lines → campaign_of image lines ≡ Ok world → recovery world id ≡ Ok file → file ≡ image
 
 -- what is recovered of a device is its own, its number being its place in the list, counted from 1; of no device it is nothing
 pub record RecoversItsOwn : Type 0 where

@@ -17,10 +17,9 @@ use Rattle.device_core.specs.Events.{Receives, HearsBytes, CameInTurn}
 use Rattle.campaign_server.specs.declared.stage.Stage.{Stage}
 use Rattle.campaign_server.specs.Server.{ledger}
 use Rattle.wire_base.specs.Numbered.{numbered}
-use Rattle.script_lines.specs.Lines.{lines_of}
-use Rattle.script_lines.specs.Forms.{form_of}
 use Rattle.campaign_world.specs.declared.numbered.SentPayload.{SentPayload}
 use Rattle.campaign_world.specs.World.{WorldState}
+use Rattle.campaign_world.specs.Said.{Line}
 use Rattle.campaign_world.specs.Script.{campaign_of}
 use Rattle.report_lines.specs.Sessions.{same_word, saying}
 use Rattle.campaign_world.specs.Report.{report_of}
@@ -32,27 +31,27 @@ use Rattle.campaign_laws.specs.Independence.{event_in, record_behind}
 -- ---- what a session heard
 
 -- line n of the script brings device id a payload, one that was sent or anybody's, and this command is among its own
-pub record IsCarried (lines : List (List ℕ)) (group : Option PlanGroup) (sent : List SentPayload) (id n : ℕ) (c : Command) (line : List ℕ) (time word : ℕ) (down : Downlink) (cs : List Command) : Type 0 where
+pub record IsCarried (lines : List Line) (group : Option PlanGroup) (sent : List SentPayload) (id n : ℕ) (c : Command) (line : Line) (time word : ℕ) (down : Downlink) (cs : List Command) : Type 0 where
   pub line_is : numbered lines n ≡ Some line
-  pub event : event_in id group sent time n (form_of line) ≡ Some (Receives time word n down)
+  pub event : event_in id group sent time n line ≡ Some (Receives time word n down)
   pub message : IsMessage cs down.port Downwards down.payload
   pub among : In c cs
 
 -- line n of the script brings the radio of device id bytes, which the device as it is before that line opens to a payload,
 -- and this command is among its own
-pub record IsOpened (lines : List (List ℕ)) (group : Option PlanGroup) (sent : List SentPayload) (id n : ℕ) (c : Command) (line : List ℕ) (time word : ℕ) (bytes : List ℕ) (device : DeviceState) (down : Downlink) (cs : List Command) : Type 0 where
+pub record IsOpened (lines : List Line) (group : Option PlanGroup) (sent : List SentPayload) (id n : ℕ) (c : Command) (line : Line) (time word : ℕ) (bytes : List ℕ) (device : DeviceState) (down : Downlink) (cs : List Command) : Type 0 where
   pub line_is : numbered lines n ≡ Some line
-  pub event : event_in id group sent time n (form_of line) ≡ Some (HearsBytes time word n bytes)
+  pub event : event_in id group sent time n line ≡ Some (HearsBytes time word n bytes)
   pub device_is : record_behind lines (take (n - 1) lines) group sent id ≡ Some device
   pub opened : brought device bytes ≡ Ok down
   pub message : IsMessage cs down.port Downwards down.payload
   pub among : In c cs
 
-abbrev pub Carries : List (List ℕ) → Option PlanGroup → List SentPayload → (id n : ℕ) → Command → Type 0
+abbrev pub Carries : List Line → Option PlanGroup → List SentPayload → (id n : ℕ) → Command → Type 0
 Carries lines group sent id n c =
-    ((line : List ℕ) × (time : ℕ) × (word : ℕ) × (down : Downlink) × (cs : List Command)
+    ((line : Line) × (time : ℕ) × (word : ℕ) × (down : Downlink) × (cs : List Command)
     × IsCarried lines group sent id n c line time word down cs)
-    ⊎ ((line : List ℕ) × (time : ℕ) × (word : ℕ) × (bytes : List ℕ) × (device : DeviceState) × (down : Downlink) × (cs : List Command)
+    ⊎ ((line : Line) × (time : ℕ) × (word : ℕ) × (bytes : List ℕ) × (device : DeviceState) × (down : Downlink) × (cs : List Command)
     × IsOpened lines group sent id n c line time word bytes device down cs)
 
 -- ---- what the report says of it
@@ -76,26 +75,26 @@ pub record IsToldOf (world : WorldState) (id : ℕ) (stage : Stage) (device : De
 -- ---- the law
 
 -- a session of a device of a campaign
-pub record IsSessionOf (image script : List ℕ) (world : WorldState) (id : ℕ) (device : DeviceState) (index : ℕ) (s : Session) : Type 0 where
-  pub accepted : campaign_of image script ≡ Ok world
+pub record IsSessionOf (image : List ℕ) (lines : List Line) (world : WorldState) (id : ℕ) (device : DeviceState) (index : ℕ) (s : Session) : Type 0 where
+  pub accepted : campaign_of image lines ≡ Ok world
   pub device_is : numbered world.devices id ≡ Some device
   pub index_is : index < 4
   pub session_is : session_at device.sessions index ≡ Some s
 
--- whatever image and accepted script there are, anybody's payloads in it or none
+-- whatever image and accepted lines there are, anybody's payloads in it or none
 pub record Verdicts : Type 0 where
   -- a session hears nothing but what the lines bring its device, each fragment at its line
-  pub heard : (image script : List ℕ) (world : WorldState) (id : ℕ) (device : DeviceState) (index : ℕ) (s : Session)
-      → IsSessionOf image script world id device index s
-      → CameInTurn (Carries (lines_of script) world.server.plan.group world.sent id) index (length (lines_of script)) s.heard
+  pub heard : (image : List ℕ) (lines : List Line) (world : WorldState) (id : ℕ) (device : DeviceState) (index : ℕ) (s : Session)
+      → IsSessionOf image lines world id device index s
+      → CameInTurn (Carries lines world.server.plan.group world.sent id) index (length lines) s.heard
   -- it is decided at the first fragment after which its file is no longer open
-  pub decided : (image script : List ℕ) (world : WorldState) (id : ℕ) (device : DeviceState) (index : ℕ) (s : Session)
-      → IsSessionOf image script world id device index s → IsDecidedAtFirst s
+  pub decided : (image : List ℕ) (lines : List Line) (world : WorldState) (id : ℕ) (device : DeviceState) (index : ℕ) (s : Session)
+      → IsSessionOf image lines world id device index s → IsDecidedAtFirst s
   -- the report says so, in its place
-  pub told : (image script : List ℕ) (world : WorldState) (id : ℕ) (stage : Stage) (device : DeviceState) (index : ℕ) (s : Session)
-      → IsSessionOf image script world id device index s → ledger world.server id ≡ Some stage
+  pub told : (image : List ℕ) (lines : List Line) (world : WorldState) (id : ℕ) (stage : Stage) (device : DeviceState) (index : ℕ) (s : Session)
+      → IsSessionOf image lines world id device index s → ledger world.server id ≡ Some stage
       → IsToldOf world id stage device index s
   -- and the file that is recovered is the one that alone fits
-  pub recovered : (image script : List ℕ) (world : WorldState) (id : ℕ) (device : DeviceState) (s : Session) (file : List ℕ)
-      → IsSessionOf image script world id device 0 s → recovery world id ≡ Ok file
+  pub recovered : (image : List ℕ) (lines : List Line) (world : WorldState) (id : ℕ) (device : DeviceState) (s : Session) (file : List ℕ)
+      → IsSessionOf image lines world id device 0 s → recovery world id ≡ Ok file
       → (line : ℕ) × FirstAt (shape_of s) s.setup.padding (IsWhole (shape_of s) s.setup.padding file) s.heard line

@@ -15,6 +15,7 @@ use Rattle.report_lines.specs.declared.faults.LineFault.{LineFault}
 use Rattle.report_lines.specs.declared.faults.LineWhy.{LineWhy}
 use Rattle.report_lines.specs.declared.faults.LineWhy.TheVariants as why
 use Rattle.campaign_world.specs.World.{WorldState, first_plan, first_world}
+use Rattle.campaign_world.specs.Said.{line_of, said_in}
 use Rattle.campaign_world.specs.Causes.{is_due_by, cause_of}
 use Rattle.campaign_world.specs.Script.{campaign_of}
 use Rattle.campaign_world.specs.declared.summary.Totals.{Totals}
@@ -28,7 +29,7 @@ report_or_fault (Err fault) = Err fault
 
 -- what is told of the worked image and a script
 abbrev pub told : (script : List ℕ) → Result (List ℕ) LineFault
-told script = report_or_fault (campaign_of worked_image script)
+told script = report_or_fault (campaign_of worked_image (said_in script))
 
 abbrev pub reported : List ℕ → Result (List ℕ) LineFault
 reported text = Ok text
@@ -42,7 +43,7 @@ one_device events = codes "fuota 1\nimage 13 0\ndevice 1 c 1 0 5 000000000000000
 
 -- which image formats the devices know behind a script
 abbrev pub formats_behind : (script : List ℕ) → List ℕ
-formats_behind script = known_in (campaign_of worked_image script)
+formats_behind script = known_in (campaign_of worked_image (said_in script))
   where
     known_in : Result WorldState LineFault → List ℕ
     known_in (Err fault) = []
@@ -50,7 +51,7 @@ formats_behind script = known_in (campaign_of worked_image script)
 
 -- which kinds of root keys the plan has behind a script, and behind them those of the devices
 abbrev pub roots_behind : (script : List ℕ) → List RootKind
-roots_behind script = roots_in (campaign_of worked_image script)
+roots_behind script = roots_in (campaign_of worked_image (said_in script))
   where
     roots_in : Result WorldState LineFault → List RootKind
     roots_in (Err fault) = []
@@ -73,8 +74,8 @@ pub record AreReported : Type 0 where
       ≡ reported (codes
       "fuota report 1\nimage 52 fragments 2 size 50 padding 48 parity 2\ndevice 1 refused version 1 clock 0 token 0 running 0 next none\ncounts deaf 0 refused 0 full 0 dropped 0\ndevice 2 version clock 0 token 0 running 0 next none\ncounts deaf 1 refused 0 full 0 dropped 0\nend\n")
   -- an image for hardware 1 to 3 goes to hardware 3, and not to hardware 4
-  pub ranged : report_or_fault (campaign_of ranged_image (codes
-      "fuota 1\nimage 56 0\ndevice 1 c 3 0 0 00000000000000000000000000000000\ndevice 2 c 4 0 0 00000000000000000000000000000000\nask 1\nask 2\ndown 1 1\ndown 2 2\nup 1\nup 2\nend\n"))
+  pub ranged : report_or_fault (campaign_of ranged_image (said_in (codes
+      "fuota 1\nimage 56 0\ndevice 1 c 3 0 0 00000000000000000000000000000000\ndevice 2 c 4 0 0 00000000000000000000000000000000\nask 1\nask 2\ndown 1 1\ndown 2 2\nup 1\nup 2\nend\n")))
       ≡ reported (codes
       "fuota report 1\nimage 56 fragments 1 size 56 padding 0 parity 0\ndevice 1 fragments clock 0 token 0 running 0 next none\ncounts deaf 0 refused 0 full 0 dropped 0\ndevice 2 refused version 1 clock 0 token 0 running 0 next none\ncounts deaf 0 refused 0 full 0 dropped 0\nend\n")
   -- two of three devices know format 1 alone at first, and the last one learns the other
@@ -163,10 +164,10 @@ pub record AreCauses : Type 0 where
   pub range_before_device : told (one_device (codes "down 1 2 4294967296\n")) ≡ refused 4 why.Range
   pub device_before_unsent : told (one_device (codes "down 9 2\n")) ≡ refused 4 why.Device
   -- a line of 601 bytes and line 20,001 are refused for that, whatever they say
-  pub longest_line : cause_of (first_world worked_image) (replicate 600 48) ≡ Some why.Syntax
-  pub long_line : cause_of (first_world worked_image) (replicate 601 48) ≡ Some why.Limit
-  pub last_line : cause_of (record (first_world worked_image) { lines = 19999 }) (codes "fuota 1") ≡ None
-  pub many_lines : cause_of (record (first_world worked_image) { lines = 20000 }) (codes "fuota 1") ≡ Some why.Limit
+  pub longest_line : cause_of (first_world worked_image) (line_of (replicate 600 48)) ≡ Some why.Syntax
+  pub long_line : cause_of (first_world worked_image) (line_of (replicate 601 48)) ≡ Some why.Limit
+  pub last_line : cause_of (record (first_world worked_image) { lines = 19999 }) (line_of (codes "fuota 1")) ≡ None
+  pub many_lines : cause_of (record (first_world worked_image) { lines = 20000 }) (line_of (codes "fuota 1")) ≡ Some why.Limit
 
 -- ---- two sessions of a stranger's, and what a summary counts
 

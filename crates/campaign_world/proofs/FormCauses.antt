@@ -1,7 +1,6 @@
 -- The first cause for which a form is refused, test by test.
-use Rattle.std.proofs.Common.{◌≡◌, ℕ, ◌≤◌, ◌<◌, ◌*◌, ◌^◌, ◌+◌, zero, suc, Bool, true, false, not, cond, ◌==◌, ◌&&◌, List, [], ◌∷◌, length, nat_lt, nat_le, Option, Some, None, refl, sym, ap, arith, is_ok, subst, inl, inr, ◌⊎◌, is_some, ne_eqb}
+use Rattle.std.proofs.Common.{◌≡◌, ℕ, ◌≤◌, ◌<◌, ◌*◌, ◌^◌, ◌+◌, zero, suc, Bool, true, false, not, cond, ◌==◌, ◌&&◌, List, [], ◌∷◌, length, nat_lt, nat_le, Option, Some, None, Ok, Err, refl, sym, ap, ◌∙◌, arith, is_ok, subst, inl, inr, ◌⊎◌, is_some, ne_eqb}
 use Rattle.std.proofs.lemmas.Grind.{div_ceil_times}
-use Rattle.std.proofs.Math.Bool.{or-true}
 use Rattle.std.proofs.lemmas.Bool.{leb-true, le-leb, ltb-true, lt-ltb, and_parts}
 use Rattle.std.proofs.lemmas.Bool.Decides.{nat_tests}
 use Rattle.frag_encoder.specs.Encoding.{nb_frag_of}
@@ -21,7 +20,8 @@ use Rattle.report_lines.specs.declared.faults.LineWhy.TheVariants as why
 use Rattle.campaign_world.specs.declared.section.Section.{Section}
 use Rattle.campaign_world.specs.declared.section.Section.TheVariants as place
 use Rattle.campaign_world.specs.World.{WorldState}
-use Rattle.campaign_world.specs.Causes.{is_device, is_event_or_end, may_come, fits_script, names_device, has_come, is_to_come, fits_payload, has_more, form_cause, cause_of, cause_of_form}
+use Rattle.campaign_world.specs.Causes.{is_device, is_event_or_end, may_come, fits_script, names_device, has_come, is_to_come, fits_payload, has_more, form_cause, line_cause, cause_of}
+use Rattle.campaign_world.specs.Said.{Own, Line, own, line_of}
 use Rattle.script_lines.specs.Forms.{form_of}
 use Rattle.campaign_world.specs.declared.numbered.SentPayload.{SentPayload}
 use Rattle.campaign_world.specs.declared.numbered.MadeUplink.{MadeUplink}
@@ -205,13 +205,18 @@ size_in_range f ranges frag_size parity is =
 
 -- ---- the causes of a line
 
-pub many_lines : (world : WorldState) (line : List ℕ) → max_lines ≤ world.lines → cause_of world line ≡ Some why.Limit
+pub many_lines : (world : WorldState) (line : List ℕ) → max_lines ≤ world.lines → cause_of world (line_of line) ≡ Some why.Limit
 unfolding cause_of
 many_lines world line many = rw (le-leb _ _ many) refl
 
-pub long_line : (world : WorldState) (line : List ℕ) → max_line < length line → cause_of world line ≡ Some why.Limit
+-- either way the line is refused, and with the same cause
+limit_by : (full : Bool) → cond full (Some why.Limit) (Some why.Limit) ≡ Some why.Limit
+limit_by true = refl
+limit_by false = refl
+
+pub long_line : (world : WorldState) (line : List ℕ) → max_line < length line → cause_of world (line_of line) ≡ Some why.Limit
 unfolding cause_of
-long_line world line long = rw (lt-ltb _ _ long, or-true) refl
+long_line world line long = rw (lt-ltb _ _ long) (limit_by (nat_le max_lines world.lines))
 
 not_le : (a b : ℕ) → b < a → nat_le a b ≡ false
 not_le a b below = grind (arith, nat_tests)
@@ -219,18 +224,27 @@ not_le a b below = grind (arith, nat_tests)
 not_lt : (a b : ℕ) → b ≤ a → nat_lt a b ≡ false
 not_lt a b below = grind (arith, nat_tests)
 
-pub of_form : (world : WorldState) (line : List ℕ) (form : Option Form) (cause : Option LineWhy) → world.lines < max_lines → length line ≤ max_line
-    → form ≡ form_of line → cause_of_form world form ≡ cause → cause_of world line ≡ cause
-unfolding cause_of
-of_form world line form cause few short is gives = rw (not_le max_lines world.lines few, not_lt max_line (length line) short, ← is) gives
+-- what a line says that is short enough
+pub short_line : (line : List ℕ) (form : Option Form) → length line ≤ max_line → form ≡ form_of line → line_of line ≡ own form
+short_line line form short is = rw (not_lt max_line (length line) short, ← is) refl
 
-pub some_form : (world : WorldState) (form : Form) (cause : Option LineWhy) → cause ≡ form_cause world form → cause_of_form world (Some form) ≡ cause
+pub of_line : (world : WorldState) (line : Line) (cause : Option LineWhy) → world.lines < max_lines → line_cause world line ≡ cause
+    → cause_of world line ≡ cause
+unfolding cause_of
+of_line world line cause few gives = rw (not_le max_lines world.lines few) gives
+
+pub of_form : (world : WorldState) (line : List ℕ) (form : Option Form) (cause : Option LineWhy) → world.lines < max_lines → length line ≤ max_line
+    → form ≡ form_of line → line_cause world (own form) ≡ cause → cause_of world (line_of line) ≡ cause
+of_form world line form cause few short is gives =
+    of_line world (line_of line) cause few (ap (λ (l : Line). line_cause world l) (short_line line form short is) ∙ gives)
+
+pub some_form : (world : WorldState) (form : Form) (cause : Option LineWhy) → cause ≡ form_cause world form → line_cause world (own (Some form)) ≡ cause
 some_form world form cause gives = sym gives
 
-pub no_form : (world : WorldState) (form : Option Form) → form ≡ None → cause_of_form world form ≡ Some why.Syntax
+pub no_form : (world : WorldState) (form : Option Form) → form ≡ None → line_cause world (own form) ≡ Some why.Syntax
 no_form world form is = rw (is) refl
 
-pub the_form : (world : WorldState) (found : Option Form) (form : Form) (cause : Option LineWhy) → found ≡ Some form → cause_of_form world (Some form) ≡ cause → cause_of_form world found ≡ cause
+pub the_form : (world : WorldState) (found : Option Form) (form : Form) (cause : Option LineWhy) → found ≡ Some form → line_cause world (own (Some form)) ≡ cause → line_cause world (own found) ≡ cause
 the_form world found form cause is gives = rw (is) gives
 
 -- ---- a form of which no cause holds

@@ -1,5 +1,5 @@
 -- What a line is answered, and what a report says, of a world that stands for a campaign.
-use Rattle.std.proofs.Common.{◌≡◌, ℕ, ◌≤◌, ◌+◌, ◌-◌, zero, suc, true, false, ◌==◌, List, [], ◌∷◌, ◌++◌, length, drop, slice_get, Option, Some, None, Result, Ok, Err, OnOk, IfErr, refl, sym, ap, ◌∙◌, subst, arith, append_assoc, append-nil}
+use Rattle.std.proofs.Common.{◌≡◌, ℕ, ◌≤◌, ◌+◌, ◌-◌, zero, suc, Bool, true, false, cond, nat_lt, nat_le, ◌==◌, List, [], ◌∷◌, ◌++◌, length, drop, slice_get, Option, Some, None, Result, Ok, Err, OnOk, IfErr, refl, sym, ap, ◌∙◌, subst, arith, append_assoc, append-nil}
 use Rattle.std.proofs.lemmas.Bool.Decides.{nat_tests}
 use Rattle.device_core.specs.Device.{DeviceState}
 use Rattle.campaign_server.specs.declared.stage.Stage.{Stage}
@@ -7,6 +7,7 @@ use Rattle.campaign_server.specs.Server.{ServerState}
 use Rattle.wire_base.specs.Numbered.{numbered}
 use Rattle.script_lines.specs.declared.forms.Form.{Form}
 use Rattle.script_lines.specs.Forms.{form_of}
+use Rattle.script_lines.specs.Limits.{max_lines, max_line}
 use Rattle.report_lines.specs.declared.faults.LineError.{LineError}
 use Rattle.report_lines.specs.declared.faults.LineError.TheVariants as error
 use Rattle.report_lines.specs.declared.faults.LineWhy.{LineWhy}
@@ -14,7 +15,8 @@ use Rattle.report_lines.specs.declared.faults.LineWhy.TheVariants as why
 use Rattle.campaign_world.specs.declared.section.Section.{Section}
 use Rattle.campaign_world.specs.declared.section.Section.TheVariants as section
 use Rattle.campaign_world.specs.World.{WorldState}
-use Rattle.campaign_world.specs.Causes.{cause_of, has_ended}
+use Rattle.campaign_world.specs.Said.{Own, own, line_of}
+use Rattle.campaign_world.specs.Causes.{line_cause, cause_of, has_ended}
 use Rattle.campaign_world.specs.Making.{after_form}
 use Rattle.campaign_world.specs.Script.{one_line_more, after_line, end_result_at}
 use Rattle.campaign_world.specs.Report.{device_part, device_parts, report_with, report_of}
@@ -25,21 +27,35 @@ use Rattle.campaign_world.proofs.Zips.{zip_long}
 -- ---- a line
 
 -- the cause of what is held is the campaign's
-pub cause_stands : (held : HeldWorld) (world : WorldState) (line : List ℕ) (cause : Option LineWhy) → WorldStands held world → IsCauseOf held line cause → cause_of world line ≡ cause
+pub cause_stands : (held : HeldWorld) (world : WorldState) (line : List ℕ) (cause : Option LineWhy) → WorldStands held world → IsCauseOf held line cause → cause_of world (line_of line) ≡ cause
 cause_stands held world line cause stands is =
-    subst (λ (w : WorldState). cause_of w line ≡ cause) (sym stands.rest) (is world.devices (zip_long DeviceRests held.devices world.devices stands.devices))
+    subst (λ (w : WorldState). cause_of w (line_of line) ≡ cause) (sym stands.rest) (is world.devices (zip_long DeviceRests held.devices world.devices stands.devices))
 
 pub lines_stand : (held : HeldWorld) (world : WorldState) → WorldStands held world → held.lines + 1 ≡ world.lines + 1
 lines_stand held world stands = ap (λ (w : WorldState). w.lines + 1) (sym stands.rest)
 
+-- a line of which no cause holds says the form that it spells
+said_by : (world : WorldState) (full long : Bool) (form : Option Form) (taken : Form) → form ≡ Some taken
+    → cond full (Some why.Limit) (line_cause world (cond long (Err why.Limit) (own form))) ≡ None
+    → cond long (Err why.Limit) (own form) ≡ Ok (Own taken)
+said_by world true long form taken is fine = absurd cc
+said_by world false true form taken is fine = absurd cc
+said_by world false false form taken is fine = ap own is
+
+pub said_form : (world : WorldState) (line : List ℕ) (form : Form) → form_of line ≡ Some form → cause_of world (line_of line) ≡ None
+    → line_of line ≡ Ok (Own form)
+unfolding cause_of
+said_form world line form is fine =
+    said_by world (nat_le max_lines world.lines) (nat_lt max_line (length line)) (form_of line) form is fine
+
 -- a line that is taken
 pub line_taken : (old new : HeldWorld) (world : WorldState) (line : List ℕ) (form : Form) → WorldStands old world → form_of line ≡ Some form
-    → WorldBecomes old new (λ world. one_line_more (after_form world form)) → WorldStands new (after_line world line)
-unfolding after_line
-line_taken old new world line form stands is becomes = rw (is) (becomes world stands)
+    → cause_of world (line_of line) ≡ None
+    → WorldBecomes old new (λ world. one_line_more (after_form world form)) → WorldStands new (after_line world (line_of line))
+line_taken old new world line form stands is fine becomes = rw (said_form world line form is fine) (becomes world stands)
 
 pub line_answer : (world : WorldState) (line : List ℕ) (new : HeldWorld) (result : Result (Unit {0}) LineError)
-    → OnOk result ((cause_of world line ≡ None) × WorldStands new (after_line world line) × (new.kept ≡ None))
+    → OnOk result ((cause_of world (line_of line) ≡ None) × WorldStands new (after_line world (line_of line)) × (new.kept ≡ None))
     → IfErr result (λ e. e ≡ error.Memory) → IsLineAnswer world line new result
 line_answer world line new (Ok done) taken memory = taken
 line_answer world line new (Err error.Memory) taken memory = tt

@@ -1,5 +1,5 @@
 -- When a line is refused (this project's profile): the causes in their order, tried after the lines before it.
-use Rattle.std.specs.Prelude.{ℕ, ◌+◌, Bool, true, false, ◌&&◌, ◌||◌, not, ◌==◌, nat_lt, nat_le, if◌then◌else◌, List, length, Option, Some, None, is_some, is_ok}
+use Rattle.std.specs.Prelude.{ℕ, ◌+◌, Bool, true, false, ◌&&◌, ◌||◌, not, ◌==◌, nat_le, if◌then◌else◌, List, length, Option, Some, None, is_some, is_ok, Ok, Err}
 use Rattle.wire_base.specs.Payload.{max_payload}
 use Rattle.package_grammar.specs.declared.downlink.To.{To}
 use Rattle.package_grammar.specs.declared.downlink.To.TheVariants as to
@@ -14,12 +14,12 @@ use Rattle.report_lines.specs.declared.faults.LineWhy.{LineWhy}
 use Rattle.report_lines.specs.declared.faults.LineWhy.TheVariants as why
 use Rattle.campaign_world.specs.declared.section.Section.{Section}
 use Rattle.campaign_world.specs.declared.section.Section.TheVariants as section
-use Rattle.script_lines.specs.Forms.{form_of}
-use Rattle.script_lines.specs.Limits.{max_lines, max_line}
+use Rattle.script_lines.specs.Limits.{max_lines}
 use Rattle.script_lines.specs.Ranges.{in_range}
 use Rattle.campaign_world.specs.declared.numbered.SentPayload.{SentPayload}
 use Rattle.campaign_world.specs.declared.numbered.MadeUplink.{MadeUplink}
 use Rattle.campaign_world.specs.World.{WorldState}
+use Rattle.campaign_world.specs.Said.{Said, Own, Elsewhere, Reached, Line}
 
 -- ---- order
 
@@ -137,12 +137,26 @@ form_cause world form =
     else if not (has_more world.server form) then Some why.Limit
     else None
 
-abbrev pub cause_of_form : WorldState → Option Form → Option LineWhy
-cause_of_form world None = Some why.Syntax
-cause_of_form world (Some form) = form_cause world form
+-- ---- what a line says
+
+-- events may come here
+abbrev pub takes_events : Section → Bool
+takes_events section.Devices = true
+takes_events section.Events = true
+takes_events here = false
+
+abbrev pub said_cause : WorldState → Said → Option LineWhy
+said_cause world (Own form) = form_cause world form
+said_cause world Elsewhere = None
+said_cause world (Reached device word down) =
+    if not (takes_events world.section) then Some why.Order
+    else if not (is_device (length world.devices) device) then Some why.Device
+    else None
+
+abbrev pub line_cause : WorldState → Line → Option LineWhy
+line_cause world (Err cause) = Some cause
+line_cause world (Ok said) = said_cause world said
 
 -- the cause for which the next line is refused, the first that holds
-unfoldable pub cause_of : WorldState → (line : List ℕ) → Option LineWhy
-cause_of world line =
-    if nat_le max_lines world.lines || nat_lt max_line (length line) then Some why.Limit
-    else cause_of_form world (form_of line)
+unfoldable pub cause_of : WorldState → Line → Option LineWhy
+cause_of world line = if nat_le max_lines world.lines then Some why.Limit else line_cause world line

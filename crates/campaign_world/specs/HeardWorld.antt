@@ -3,6 +3,7 @@ use Rattle.std.specs.Prelude.{◌≡◌, ◌⊎◌, ℕ, List, [], ◌∷◌, No
 use Rattle.report_lines.specs.declared.faults.LineError.TheVariants as error
 use Rattle.report_lines.specs.declared.faults.LineFault.{LineFault}
 use Rattle.campaign_world.specs.World.{WorldState}
+use Rattle.campaign_world.specs.Said.{line_of}
 use Rattle.campaign_world.specs.Script.{read_lines}
 use Rattle.campaign_world.specs.HeldWorld.{HeldWorld, WorldStands}
 
@@ -17,4 +18,4 @@ WorldIsIf held so_far = (held.kept ≡ Some error.Memory) ⊎ WorldIs held so_fa
 
 -- it hears a line, whatever it was behind
 abbrev pub HearsScriptLine : HeldWorld → List ℕ → HeldWorld → Type 0
-HearsScriptLine old line new = (so_far : Result WorldState LineFault) → WorldIsIf old so_far → WorldIsIf new (read_lines so_far (line ∷ []))
+HearsScriptLine old line new = (so_far : Result WorldState LineFault) → WorldIsIf old so_far → WorldIsIf new (read_lines so_far (line_of line ∷ []))

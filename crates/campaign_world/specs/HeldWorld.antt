@@ -17,6 +17,7 @@ use Rattle.script_lines.specs.declared.forms.Form.{Form}
 use Rattle.report_lines.specs.declared.faults.LineWhy.{LineWhy}
 use Rattle.script_lines.specs.Ranges.{in_range}
 use Rattle.campaign_world.specs.Causes.{fits_script, names_device, has_come, fits_payload, form_cause, cause_of}
+use Rattle.campaign_world.specs.Said.{line_of}
 use Rattle.campaign_world.specs.Making.{made_by}
 use Rattle.campaign_world.specs.Script.{after_line, end_result}
 use Rattle.campaign_world.specs.Report.{report_of}
@@ -122,8 +123,8 @@ KeepsEnds old new = (world : WorldState) → WorldStands old world → EndsStand
 
 -- the answer to a line: it was taken, or it is the first refused line with its first cause, or memory was wanting
 abbrev pub IsLineAnswer : WorldState → (line : List ℕ) → (new : HeldWorld) → Result (Unit {0}) LineError → Type 0
-IsLineAnswer world line new (Ok done) = (cause_of world line ≡ None) × WorldStands new (after_line world line) × (new.kept ≡ None)
-IsLineAnswer world line new (Err (error.Line fault)) = (cause_of world line ≡ Some fault.why) × (fault.line ≡ world.lines + 1) × WorldStands new world
+IsLineAnswer world line new (Ok done) = (cause_of world (line_of line) ≡ None) × WorldStands new (after_line world (line_of line)) × (new.kept ≡ None)
+IsLineAnswer world line new (Err (error.Line fault)) = (cause_of world (line_of line) ≡ Some fault.why) × (fault.line ≡ world.lines + 1) × WorldStands new world
 IsLineAnswer world line new (Err error.Memory) = Unit {0}
 
 -- the answer of a text: that one, where the script has ended, else that it has not
@@ -158,7 +159,7 @@ IsFine held form = (devices : List DeviceState) → length devices ≡ length he
 
 -- the cause of the line, whatever it stands for
 abbrev pub IsCauseOf : HeldWorld → (line : List ℕ) → Option LineWhy → Type 0
-IsCauseOf held line cause = (devices : List DeviceState) → length devices ≡ length held.devices → cause_of (world_of held devices) line ≡ cause
+IsCauseOf held line cause = (devices : List DeviceState) → length devices ≡ length held.devices → cause_of (world_of held devices) (line_of line) ≡ cause
 
 -- a payload that was sent, if one was
 abbrev pub sent_by : (receiver : Option ℕ) → Option Downlink → List SentPayload

@@ -1,10 +1,16 @@
--- Honest scripts: all that reaches a device is what the server sent (this project's profile).
-use Rattle.std.specs.Prelude.{◌≡◌, ℕ, Bool, true, false, List, Option, Some, None}
+-- Honest lines: all that reaches a device is what the server sent, or what another campaign's server sent to all of its own
+-- devices (this project's profile).
+use Rattle.std.specs.Prelude.{◌≡◌, ℕ, Bool, true, false, not, ◌==◌, List, [], ◌∷◌, Ok, Err}
 use Rattle.std.specs.List.{AllByRecursion}
+use Rattle.wire_base.specs.declared.refusal.Direction.TheVariants.{Down as Downwards}
+use Rattle.cast_wire.specs.declared.cmd.Cmd.TheVariants.{DataFragment, FragSessionStatusReq}
+use Rattle.package_grammar.specs.declared.command.Command.{Command}
+use Rattle.package_grammar.specs.declared.command.Command.TheVariants.{Cast}
+use Rattle.package_grammar.specs.declared.downlink.Downlink.{Downlink}
+use Rattle.package_grammar.specs.Reading.{Reading, reading_of}
 use Rattle.script_lines.specs.declared.forms.Form.{Form}
 use Rattle.script_lines.specs.declared.forms.Form.TheVariants.{Raw, RawAir}
-use Rattle.script_lines.specs.Lines.{lines_of}
-use Rattle.script_lines.specs.Forms.{form_of}
+use Rattle.campaign_world.specs.Said.{Said, Own, Elsewhere, Reached, Line}
 
 -- the form brings a payload, or bytes, that the server need not have sent
 abbrev pub is_raw : Form → Bool
@@ -12,14 +18,23 @@ is_raw (Raw device port payload word) = true
 is_raw (RawAir device bytes word) = true
 is_raw form = false
 
--- so does this line
-abbrev pub has_raw : Option Form → Bool
-has_raw None = false
-has_raw (Some form) = is_raw form
+-- a fragment or a status request for a session of another index: the session of a campaign has index 0
+abbrev pub is_for_others : Command → Bool
+is_for_others (Cast (DataFragment index n part)) = not (index == 0)
+is_for_others (Cast (FragSessionStatusReq index participants)) = not (index == 0)
+is_for_others command = false
+
+-- so is the payload's one command
+abbrev pub are_for_others : Reading → Bool
+are_for_others (Ok (command ∷ [])) = is_for_others command
+are_for_others reading = false
+
+-- what the line brings need not have been sent, by this campaign's server or to all of another's
+abbrev pub has_raw : Line → Bool
+has_raw (Ok (Own form)) = is_raw form
+has_raw (Ok (Reached device word down)) = not (are_for_others (reading_of down.port Downwards down.payload))
+has_raw line = false
 
 -- no line does
-abbrev pub AreHonest : (lines : List (List ℕ)) → Type 0
-AreHonest lines = AllByRecursion (λ line. has_raw (form_of line) ≡ false) lines
-
-abbrev pub IsHonest : (script : List ℕ) → Type 0
-IsHonest script = AreHonest (lines_of script)
+abbrev pub AreHonest : (lines : List Line) → Type 0
+AreHonest lines = AllByRecursion (λ line. has_raw line ≡ false) lines

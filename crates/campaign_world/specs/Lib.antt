@@ -1,4 +1,5 @@
 pub mod World
+pub mod Said
 pub mod Causes
 pub mod Making
 pub mod Script

@@ -31,6 +31,7 @@ use Rattle.campaign_world.specs.declared.section.Section.TheVariants as section
 use Rattle.campaign_world.specs.declared.numbered.SentPayload.{SentPayload}
 use Rattle.campaign_world.specs.declared.numbered.MadeUplink.{MadeUplink}
 use Rattle.campaign_world.specs.World.{WorldState}
+use Rattle.campaign_world.specs.Said.{Said, Own, Elsewhere, Reached}
 
 -- ---- the plan
 
@@ -184,3 +185,12 @@ after_form world (Air number device word) = with_event_of world device (Air numb
 after_form world (RawAir device bytes word) = with_event_of world device (RawAir device bytes word)
 after_form world (Up number) = at_events (after_up world (numbered world.uplinks number))
 after_form world End = record world { section = section.Ended }
+
+-- ---- what a line says
+
+-- the campaign behind what a line says
+abbrev pub after_said : WorldState → Said → WorldState
+after_said world (Own form) = after_form world form
+after_said world Elsewhere = world
+after_said world (Reached device word down) =
+    with_event world device (Some (Receives world.time word (world.lines + 1) down))

@@ -16,6 +16,7 @@ use Rattle.report_lines.specs.declared.faults.LineFault.{LineFault}
 use Rattle.report_lines.specs.declared.faults.LineError.{LineError}
 use Rattle.report_lines.specs.declared.faults.LineError.TheVariants as world
 use Rattle.campaign_world.specs.World.{WorldState}
+use Rattle.campaign_world.specs.Said.{said_in}
 use Rattle.campaign_world.specs.declared.recovery.NoFile.{NoFile}
 use Rattle.campaign_world.specs.Recovery.{recovery}
 use Rattle.fuota_run.specs.declared.words.ScriptForm.{ScriptForm}
@@ -44,7 +45,7 @@ unfolding script_answer
 script_long what image script long = let t : nat_lt 1048576 (length script) ≡ true = lt-ltb _ _ long in rw t refl
 
 -- one within its limit
-pub script_given : (what : ScriptForm) (image script : List ℕ) (a : Answer) → length script ≤ 1048576 → a ≡ played (world_answer what) (campaign_of image script) → a ≡ script_answer what image (Some script)
+pub script_given : (what : ScriptForm) (image script : List ℕ) (a : Answer) → length script ≤ 1048576 → a ≡ played (world_answer what) (campaign_of image (said_in script)) → a ≡ script_answer what image (Some script)
 unfolding script_answer
 script_given what image script a within is = let t : nat_lt 1048576 (length script) ≡ false = le-ltb _ _ within in rw t is
 
@@ -272,7 +273,7 @@ gives_script_long held what image_name script_name image read holds long =
 
 pub gives_script : (held : Option Held) (what : ScriptForm) (image_name script_name image script : List ℕ) (a : Answer)
     → IsImageRead held image_name image → IsSource held script_name 1048576 script → length script ≤ 1048576
-    → a ≡ played (world_answer what) (campaign_of image script) → Gives held (Some (plays what image_name script_name)) a
+    → a ≡ played (world_answer what) (campaign_of image (said_in script)) → Gives held (Some (plays what image_name script_name)) a
 gives_script held what image_name script_name image script a read source within is =
     by_both held what image_name script_name image script 1048576 a read.source source
     (script_given what image script a within is ∙ image_given what image (Some script) read.within read.file)

@@ -1,11 +1,11 @@
 -- What is told behind a script's lines.
 use Rattle.std.proofs.Common.{◌≡◌, inl, inr, ℕ, List, ◌++◌, codes, Some, None, Result, Ok, Err, sym, subst}
 use Rattle.std.specs.Fmt.{decimal}
-use Rattle.script_lines.specs.Lines.{lines_of}
 use Rattle.report_lines.specs.declared.faults.LineFault.{LineFault}
 use Rattle.report_lines.specs.declared.faults.LineError.{LineError}
 use Rattle.report_lines.specs.declared.faults.LineError.TheVariants as error
 use Rattle.campaign_world.specs.World.{WorldState, first_world}
+use Rattle.campaign_world.specs.Said.{said_in}
 use Rattle.campaign_world.specs.Script.{read_lines, end_result, campaign_of}
 use Rattle.campaign_world.specs.HeldWorld.{HeldWorld, WorldStands, IsReport, IsSummary}
 use Rattle.campaign_world.specs.HeardWorld.{WorldIsIf}
@@ -47,7 +47,7 @@ summary_behind held seed summary text (Err fault) sums never is (inr refused) = 
 summary_behind held seed summary text (Ok w) sums never is (inr stands) = summary_answered seed w summary text (sums w stands.1 stands.0) is
 
 -- and it is told of the script
-pub script_answered : (tell : WorldState → Answer) (image script : List ℕ) (r : Result Answer LineError) → IsPlayed tell (end_result (read_lines (Ok (first_world image)) (lines_of script))) r
-    → IsPlayed tell (campaign_of image script) r
+pub script_answered : (tell : WorldState → Answer) (image script : List ℕ) (r : Result Answer LineError) → IsPlayed tell (end_result (read_lines (Ok (first_world image)) (said_in script))) r
+    → IsPlayed tell (campaign_of image (said_in script)) r
 unfolding campaign_of
 script_answered tell image script r told = told

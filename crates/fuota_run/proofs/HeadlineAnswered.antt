@@ -2,11 +2,13 @@
 use Rattle.std.proofs.Common.{◌≡◌, ℕ, ◌^◌, ◌<◌, List, All, Option, Ok, Err, refl, ap, ◌∙◌, subst}
 use Rattle.std.proofs.lemmas.Bool.{le-ltb}
 use Rattle.campaign_world.specs.World.{WorldState}
+use Rattle.campaign_world.specs.Said.{said_in}
 use Rattle.campaign_world.specs.Script.{campaign_of}
-use Rattle.campaign_world.specs.Honest.{IsHonest}
+use Rattle.campaign_world.specs.Honest.{AreHonest}
 use Rattle.campaign_world.specs.Report.{report_of}
 use Rattle.campaign_world.specs.declared.recovery.NoFile.{NoFile}
 use Rattle.campaign_world.specs.Recovery.{recovery}
+use Rattle.campaign_laws.proofs.FormBytes.{script_fits}
 use Rattle.campaign_laws.proofs.HeadlineLaw.{recovers}
 use Rattle.campaign_laws.proofs.Seeds.{generated}
 use Rattle.fuota_run.specs.declared.status.Status.TheVariants as status
@@ -19,7 +21,7 @@ use Rattle.fuota_run.specs.Headline.{AreHandedIn, IsRecoveryAnswered, IsSeedAnsw
 
 -- the answer is what is told of the campaign
 told : (words : List (List ℕ)) (held : Held) (what : ScriptForm) (image script : List ℕ) (world : WorldState)
-    → AreHandedIn words held what image script → campaign_of image script ≡ Ok world
+    → AreHandedIn words held what image script → campaign_of image (said_in script) ≡ Ok world
     → (a : Answer) → IsAnswer words held a → a ≡ world_answer what world
 unfolding IsAnswer campaign_answer script_answer
 told words held what image script world h is a given =
@@ -28,28 +30,28 @@ told words held what image script world h is a given =
     here ∙ rw (h.image_held, le-ltb _ _ h.image_short, h.image_fine, h.script_held, le-ltb _ _ h.script_short, is) refl
 
 pub answered : (words : List (List ℕ)) (held : Held) (image script : List ℕ) (world : WorldState)
-    → AreHandedIn words held Campaign image script → campaign_of image script ≡ Ok world
+    → AreHandedIn words held Campaign image script → campaign_of image (said_in script) ≡ Ok world
     → (a : Answer) → IsAnswer words held a → a ≡ answer status.Done (report_of world)
 answered words held image script world h is a given = told words held Campaign image script world h is a given
 
 recovered_file : (words : List (List ℕ)) (held : Held) (device : ℕ) (image script : List ℕ) (world : WorldState)
     (file : List ℕ) → AreHandedIn words held (Recover device) image script
-    → campaign_of image script ≡ Ok world → recovery world device ≡ Ok file → (a : Answer) → IsAnswer words held a
+    → campaign_of image (said_in script) ≡ Ok world → recovery world device ≡ Ok file → (a : Answer) → IsAnswer words held a
     → a ≡ answer status.Done file
 recovered_file words held device image script world file h is there a given =
     told words held (Recover device) image script world h is a given ∙ ap (recovered device) there
 
 recovered_image : (words : List (List ℕ)) (held : Held) (device : ℕ) (image script : List ℕ) (world : WorldState)
     (file : List ℕ) → All (λ b. b < 2 ^ 8) image → AreHandedIn words held (Recover device) image script
-    → IsHonest script → campaign_of image script ≡ Ok world → recovery world device ≡ Ok file → (a : Answer) → IsAnswer words held a
+    → AreHonest (said_in script) → campaign_of image (said_in script) ≡ Ok world → recovery world device ≡ Ok file → (a : Answer) → IsAnswer words held a
     → a ≡ answer status.Done image
 recovered_image words held device image script world file bytes h honest is there a given =
     recovered_file words held device image script world file h is there a given
-    ∙ ap (λ (x : List ℕ). answer status.Done x) (recovers image script world device file bytes honest is there)
+    ∙ ap (λ (x : List ℕ). answer status.Done x) (recovers image (said_in script) world device file bytes (script_fits script) honest is there)
 
 no_file : (words : List (List ℕ)) (held : Held) (device : ℕ) (image script : List ℕ) (world : WorldState)
     (why : NoFile) → AreHandedIn words held (Recover device) image script
-    → campaign_of image script ≡ Ok world → recovery world device ≡ Err why → (a : Answer) → IsAnswer words held a
+    → campaign_of image (said_in script) ≡ Ok world → recovery world device ≡ Err why → (a : Answer) → IsAnswer words held a
     → a ≡ not_complete device why
 no_file words held device image script world why h is there a given =
     told words held (Recover device) image script world h is a given ∙ ap (recovered device) there

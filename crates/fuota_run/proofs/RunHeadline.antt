@@ -2,6 +2,7 @@
 use Rattle.std.proofs.Common.{◌≡◌, ℕ, List, Option, Some, None, IfSome, ap, ◌∙◌, subst}
 use Rattle.std.specs.Io.KnownBytes.{Appends}
 use Rattle.campaign_world.specs.Report.{report_of}
+use Rattle.campaign_laws.proofs.FormBytes.{script_fits}
 use Rattle.campaign_laws.proofs.HeadlineLaw.{headline}
 use Rattle.campaign_laws.proofs.Verdicts.{verdicts}
 use Rattle.fuota_run.specs.declared.status.Status.{Status}
@@ -31,18 +32,18 @@ campaign_run words held s old new given image script world handed bytes accepted
     record {
       done = here.0;
       report = here.1;
-      configured = λ id device there. headline.configured image script world id device bytes accepted there;
-      one = λ id device honest there. headline.one image script world id device bytes honest accepted there;
+      configured = λ id device there. headline.configured image (said_in script) world id device bytes accepted there;
+      one = λ id device honest there. headline.one image (said_in script) world id device bytes (script_fits script) honest accepted there;
       headline = λ id stage device session is. record {
-        served = headline.served image script world id stage device session is;
-        brought = headline.brought image script world id stage device session is;
-        recovered = headline.recovered image script world id stage device session is;
-        reported = headline.reported image script world id stage device session is;
+        served = headline.served image (said_in script) world id stage device session (script_fits script) is;
+        brought = headline.brought image (said_in script) world id stage device session (script_fits script) is;
+        recovered = headline.recovered image (said_in script) world id stage device session (script_fits script) is;
+        reported = headline.reported image (said_in script) world id stage device session (script_fits script) is;
       };
       verdicts = λ id device index s is. record {
-        heard = verdicts.heard image script world id device index s is;
-        decided = verdicts.decided image script world id device index s is;
-        told = λ stage stage_is. verdicts.told image script world id stage device index s is stage_is;
+        heard = verdicts.heard image (said_in script) world id device index s is;
+        decided = verdicts.decided image (said_in script) world id device index s is;
+        told = λ stage stage_is. verdicts.told image (said_in script) world id stage device index s is stage_is;
       };
     }
 

@@ -18,6 +18,7 @@ use Rattle.payload_replay.specs.Decode.{Decodes}
 use Rattle.payload_replay.specs.Replay.{Replays}
 use Rattle.image_slots.specs.Image.{is_image}
 use Rattle.campaign_world.specs.World.{WorldState}
+use Rattle.campaign_world.specs.Said.{said_in}
 use Rattle.campaign_world.specs.Script.{campaign_of}
 use Rattle.campaign_world.specs.Report.{report_of}
 use Rattle.campaign_world.specs.Summary.{summary_of}
@@ -93,7 +94,7 @@ played tell (Err fault) = refused fault
 unfoldable pub script_answer : ScriptForm → List ℕ → Option (List ℕ) → Answer
 script_answer what image None = read_fault
 script_answer what image (Some script) =
-    if nat_lt script_limit (length script) then too_long script_limit else played (world_answer what) (campaign_of image script)
+    if nat_lt script_limit (length script) then too_long script_limit else played (world_answer what) (campaign_of image (said_in script))
 
 -- the answer to `campaign IMAGE SCRIPT` and to `recover IMAGE SCRIPT DEVICE`: of the image first too long, then refused; then
 -- of the script
@@ -127,7 +128,7 @@ IsFileAnswer Tells (Some file) a = IsReadAnswer Tells (nat_lt script_limit (leng
 
 -- the answer to `generate SEED`: the campaign of the seed's image and script, summed up
 unfoldable pub generate_answer : (seed : ℕ) → Answer
-generate_answer seed = played (summary_answer seed) (campaign_of (image_of seed) (script_of seed))
+generate_answer seed = played (summary_answer seed) (campaign_of (image_of seed) (said_in (script_of seed)))
 
 -- the answer to what is asked for, over the files that are held
 abbrev pub IsAnswerTo : Option Invocation → Held → Answer → Type 0

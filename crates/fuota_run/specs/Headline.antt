@@ -4,8 +4,9 @@ use Rattle.std.specs.Prelude.{◌≡◌, ℕ, ◌^◌, ◌<◌, ◌≤◌, List,
 use Rattle.std.specs.Io.KnownBytes.{Appends}
 use Rattle.image_slots.specs.Image.{is_image}
 use Rattle.campaign_world.specs.World.{WorldState}
+use Rattle.campaign_world.specs.Said.{said_in}
 use Rattle.campaign_world.specs.Script.{campaign_of}
-use Rattle.campaign_world.specs.Honest.{IsHonest}
+use Rattle.campaign_world.specs.Honest.{AreHonest}
 use Rattle.campaign_world.specs.Report.{report_of}
 use Rattle.campaign_laws.specs.Headline.{IsOfItsLine, HasNoOther, IsServed, HearsBrought, IsRecovered, IsReported, IsCampaign}
 use Rattle.device_core.specs.Events.{CameInTurn}
@@ -49,22 +50,22 @@ pub record AreHandedIn (words : List (List ℕ)) (held : Held) (what : ScriptFor
 -- whatever image and accepted script are handed in, the answer is the report of that campaign
 abbrev pub IsReportAnswered : Type 0
 IsReportAnswered = (words : List (List ℕ)) (held : Held) (image script : List ℕ) (world : WorldState) → AreHandedIn words held Campaign image script
-    → campaign_of image script ≡ Ok world → (a : Answer) → IsAnswer words held a → a ≡ answer status.Done (report_of world)
+    → campaign_of image (said_in script) ≡ Ok world → (a : Answer) → IsAnswer words held a → a ≡ answer status.Done (report_of world)
 
 -- whatever image and accepted script are handed in, what is recovered of a device that has its file is answered, where the script
 -- is honest the image; and else the answer says so
 pub record IsRecoveryAnswered : Type 0 where
   pub file_is : (words : List (List ℕ)) (held : Held) (device : ℕ) (image script : List ℕ) (world : WorldState) (file : List ℕ)
       → AreHandedIn words held (Recover device) image script
-      → campaign_of image script ≡ Ok world → recovery world device ≡ Ok file → (a : Answer) → IsAnswer words held a
+      → campaign_of image (said_in script) ≡ Ok world → recovery world device ≡ Ok file → (a : Answer) → IsAnswer words held a
       → a ≡ answer status.Done file
   pub image_is : (words : List (List ℕ)) (held : Held) (device : ℕ) (image script : List ℕ) (world : WorldState) (file : List ℕ)
-      → All (λ b. b < 2 ^ 8) image → AreHandedIn words held (Recover device) image script → IsHonest script
-      → campaign_of image script ≡ Ok world → recovery world device ≡ Ok file → (a : Answer) → IsAnswer words held a
+      → All (λ b. b < 2 ^ 8) image → AreHandedIn words held (Recover device) image script → AreHonest (said_in script)
+      → campaign_of image (said_in script) ≡ Ok world → recovery world device ≡ Ok file → (a : Answer) → IsAnswer words held a
       → a ≡ answer status.Done image
   pub no_file : (words : List (List ℕ)) (held : Held) (device : ℕ) (image script : List ℕ) (world : WorldState) (why : NoFile)
       → AreHandedIn words held (Recover device) image script
-      → campaign_of image script ≡ Ok world → recovery world device ≡ Err why → (a : Answer) → IsAnswer words held a
+      → campaign_of image (said_in script) ≡ Ok world → recovery world device ≡ Err why → (a : Answer) → IsAnswer words held a
       → a ≡ not_complete device why
 
 -- whatever payloads are handed in that are replayed to their end, the answer is the text of the device that heard them
@@ -105,13 +106,13 @@ IsSeedAnswered = (words : List (List ℕ)) (held : Held) (seed : ℕ) → asked 
 -- what the headline says of a device that has a session
 pub record IsHeadline (image script : List ℕ) (world : WorldState) (id : ℕ) (stage : Stage) (device : DeviceState) (session : Session) : Type 0 where
   pub served : IsServed image world.server device.config.rows session
-  pub brought : HearsBrought image (lines_of script) world id session
+  pub brought : HearsBrought image (said_in script) world id session
   pub recovered : IsRecovered image session
   pub reported : IsReported image world id stage device session
 
 -- what is said of each session of a device, whoever sent what reached it
 pub record IsVerdict (image script : List ℕ) (world : WorldState) (id : ℕ) (device : DeviceState) (index : ℕ) (s : Session) : Type 0 where
-  pub heard : CameInTurn (Carries (lines_of script) world.server.plan.group world.sent id) index (length (lines_of script))
+  pub heard : CameInTurn (Carries (said_in script) world.server.plan.group world.sent id) index (length (said_in script))
       s.heard
   pub decided : IsDecidedAtFirst s
   pub told : (stage : Stage) → ledger world.server id ≡ Some stage → IsToldOf world id stage device index s
@@ -122,18 +123,18 @@ pub record IsReportWritten (image script : List ℕ) (world : WorldState) (s : S
   pub done : s ≡ status.Done
   pub report : Appends old new (report_of world)
   pub configured : (id : ℕ) (device : DeviceState) → numbered world.devices id ≡ Some device
-      → IsOfItsLine (lines_of script) id device.config
-  pub one : (id : ℕ) (device : DeviceState) → IsHonest script → numbered world.devices id ≡ Some device → HasNoOther device.sessions
+      → IsOfItsLine (said_in script) id device.config
+  pub one : (id : ℕ) (device : DeviceState) → AreHonest (said_in script) → numbered world.devices id ≡ Some device → HasNoOther device.sessions
   pub headline : (id : ℕ) (stage : Stage) (device : DeviceState) (session : Session)
-      → IsCampaign image script world id stage device session → IsHeadline image script world id stage device session
+      → IsCampaign image (said_in script) world id stage device session → IsHeadline image script world id stage device session
   -- and of each session, honest or not, the verdict
-  pub verdicts : (id : ℕ) (device : DeviceState) (index : ℕ) (s : Session) → IsSessionOf image script world id device index s
+  pub verdicts : (id : ℕ) (device : DeviceState) (index : ℕ) (s : Session) → IsSessionOf image (said_in script) world id device index s
       → IsVerdict image script world id device index s
 
 -- so it is of whatever image and accepted script the words ask for
 abbrev pub IsCampaignRun : List (List ℕ) → Held → Status → Option (List ℕ) → Option (List ℕ) → Type 0
 IsCampaignRun words held s old new = (image script : List ℕ) (world : WorldState) → AreHandedIn words held Campaign image script
-    → All (λ b. b < 2 ^ 8) image → campaign_of image script ≡ Ok world → IsReportWritten image script world s old new
+    → All (λ b. b < 2 ^ 8) image → campaign_of image (said_in script) ≡ Ok world → IsReportWritten image script world s old new
 
 -- what was appended is this answer's text
 abbrev pub IsWritten : Answer → Status → Option (List ℕ) → Option (List ℕ) → Type 0
@@ -142,9 +143,9 @@ IsWritten a s old new = (s ≡ a.status) × Appends old new a.text
 -- of a device that has its file that was appended, where the script is honest the image, and of one that has none how it stands
 pub record IsRecoveryWritten (image script : List ℕ) (world : WorldState) (device : ℕ) (s : Status) (old new : Option (List ℕ)) : Type 0 where
   pub file_is : (file : List ℕ) → recovery world device ≡ Ok file → IsWritten (answer status.Done file) s old new
-  pub image_is : (file : List ℕ) → All (λ b. b < 2 ^ 8) image → IsHonest script → recovery world device ≡ Ok file → IsWritten (answer status.Done image) s old new
+  pub image_is : (file : List ℕ) → All (λ b. b < 2 ^ 8) image → AreHonest (said_in script) → recovery world device ≡ Ok file → IsWritten (answer status.Done image) s old new
   pub no_file : (why : NoFile) → recovery world device ≡ Err why → IsWritten (not_complete device why) s old new
 
 abbrev pub IsRecoveryRun : List (List ℕ) → Held → Status → Option (List ℕ) → Option (List ℕ) → Type 0
 IsRecoveryRun words held s old new = (device : ℕ) (image script : List ℕ) (world : WorldState) → AreHandedIn words held (Recover device) image script
-    → campaign_of image script ≡ Ok world → IsRecoveryWritten image script world device s old new
+    → campaign_of image (said_in script) ≡ Ok world → IsRecoveryWritten image script world device s old new

@@ -7,6 +7,7 @@ ghost use Rattle.report_lines.specs.declared.faults.LineFault.{LineFault};
 ghost use Rattle.campaign_world.specs.Recovery.{recovery};
 ghost use Rattle.campaign_world.specs.World.{WorldState};
 ghost use Rattle.campaign_world.specs.HeldWorld.{WorldStands};
+ghost use Rattle.campaign_world.specs.Said.{said_in};
 ghost use Rattle.campaign_world.specs.Script.{end_result, campaign_of};
 ghost use Rattle.fuota_run.specs.Answer.{no_file_word, recovered, world_answer, summary_answer};
 ghost use Rattle.fuota_run.specs.Ending.{IsPlayed};
@@ -29,7 +30,7 @@ pub fn seed_answer(
     script: &[u8],
 ) -> Result<Answer, LineError>
     requires { is_image image.now ≡ true }
-    ensures { IsPlayed (summary_answer seed) (campaign_of image.now script.now) (seen_answer result) }
+    ensures { IsPlayed (summary_answer seed) (campaign_of image.now (said_in script.now)) (seen_answer result) }
 {
     let Ok(mut heard) = World::new(alloc, image) else {
         return Err(LineError::Memory);

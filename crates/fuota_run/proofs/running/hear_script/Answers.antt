@@ -1,6 +1,6 @@
 use Rattle.std.proofs.Common.{inr, Some, Ok, refl}
-use Rattle.script_lines.specs.Lines.{lines_of}
 use Rattle.campaign_world.specs.World.{first_world}
+use Rattle.campaign_world.specs.Said.{said_in}
 use Rattle.campaign_world.specs.Script.{read_lines, campaign_of}
 use Rattle.fuota_run.specs.Answer.{world_answer}
 use Rattle.fuota_run.specs.Words.{plays}
@@ -16,8 +16,8 @@ returns-in-Ok g c = λ image image_name stands read. if_ok_map c.answer_of.resul
     let script = heard.0 in
     let behind = script_heard script image c.args.heard.now c.hear_source.new.hearer heard.3 stands c.requires.fresh in
     let told = script_answered (world_answer c.args.what) image script (seen_answer c.world_answer.result)
-    (c.world_answer.ensures (read_lines (Ok (first_world image)) (lines_of script)) behind) in
-    let made = says_played (world_answer c.args.what) (campaign_of image script) _ (answer_in r) (world_made c.args.what) told said in
+    (c.world_answer.ensures (read_lines (Ok (first_world image)) (said_in script)) behind) in
+    let made = says_played (world_answer c.args.what) (campaign_of image (said_in script)) _ (answer_in r) (world_made c.args.what) told said in
     sound_read (Some (plays c.args.what image_name c.args.name.now)) (record { held = g.F.Files.held c.args.files.now; before = g.F.Files.faults c.args.files.now; after = g.F.Files.faults c.hear_source.new.files; left = g.F.Files.left c.hear_source.new.files }) (answer_in r) refl
     (gives_script (g.F.Files.held c.args.files.now) c.args.what image_name c.args.name.now image script (answer_in r) read heard.1 heard.2 made.0)
     made.1 c.in-Ok.ensures.end (c.in-Ok.ensures.quiet (λ e. cc))) c.answer_of.ensures

@@ -10,9 +10,10 @@ returns-in-Err-clause-step c = λ world stands unkept. let now = subst (λ (h : 
 
 pub returns-in-Ok-clause-step : goal.returns-in-Ok-clause-step
 returns-in-Ok-clause-step c = λ world stands unkept. line_answer world c.args.line.now c.take.new.self c.take.result
-    (on_ok c.take.result (λ ok. (
-      cause_stands _ world c.args.line.now _ stands c.in-Ok.ensures.none,
-      line_taken _ _ world c.args.line.now c.in-Ok.form stands c.in-Ok.ensures.form.0 (on_ok_then c.take.result ok c.take.ensures.taken),
+    (on_ok c.take.result (λ ok.
+    let fine = cause_stands _ world c.args.line.now _ stands c.in-Ok.ensures.none in (
+      fine,
+      line_taken _ _ world c.args.line.now c.in-Ok.form stands c.in-Ok.ensures.form.0 fine (on_ok_then c.take.result ok c.take.ensures.taken),
       on_ok_then c.take.result ok c.take.ensures.kept ∙ unkept,
     )))
     c.take.ensures.memory
