@@ -198,6 +198,8 @@ typedef struct fuota_plan {
     uint8_t timeout;     /* TimeOut, 0 to 15 */
     uint8_t dr;          /* DR */
     uint8_t periodicity; /* 0 to 7, where is_class_b */
+    uint8_t index;       /* FragIndex of the session on each device, 0 to 3 */
+    uint8_t id;          /* McGroupID on each device, 0 to 3, where has_group */
     bool has_group, has_window;
     bool is_class_b;     /* the window is of class B; else of class C */
     uint8_t key[16];     /* McKey */
@@ -209,7 +211,8 @@ enum fuota_field {
     FUOTA_FIELD_PARITY = 2,
     FUOTA_FIELD_GROUP = 3,
     FUOTA_FIELD_WINDOW = 4,
-    FUOTA_FIELD_DEVICES = 5
+    FUOTA_FIELD_DEVICES = 5,
+    FUOTA_FIELD_INDEX = 6
 };
 
 /* A payload on its way to devices. */

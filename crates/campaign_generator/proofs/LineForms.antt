@@ -153,7 +153,7 @@ header_spelled : (line : List ℕ) → words_of line ≡ codes "fuota" ∷ codes
 unfolding form_of word
 header_spelled line words = rw words refl
 
-image_spelled : (line : List ℕ) → words_of line ≡ codes "image" ∷ codes "64" ∷ codes "128" ∷ [] → form_of line ≡ Some (Image 64 128)
+image_spelled : (line : List ℕ) → words_of line ≡ codes "image" ∷ codes "64" ∷ codes "128" ∷ [] → form_of line ≡ Some (Image 64 128 0)
 unfolding form_of word
 image_spelled line words = rw (words, fixed_rows, fixed_parity) refl
 
@@ -189,8 +189,8 @@ end_spelled line words = rw words refl
 pub reads_header : Reads (codes "fuota 1\n") (Header ∷ [])
 reads_header = reads_words (codes "fuota") (codes "1" ∷ []) Header refl (refl, tt) (lit≤ tt) header_spelled
 
-pub reads_image : Reads (codes "image 64 128\n") (Image 64 128 ∷ [])
-reads_image = reads_words (codes "image") (codes "64" ∷ codes "128" ∷ []) (Image 64 128) refl (refl, (refl, tt)) (lit≤ tt) image_spelled
+pub reads_image : Reads (codes "image 64 128\n") (Image 64 128 0 ∷ [])
+reads_image = reads_words (codes "image") (codes "64" ∷ codes "128" ∷ []) (Image 64 128 0) refl (refl, (refl, tt)) (lit≤ tt) image_spelled
 
 pub reads_device : (device offset : ℕ) → device < 2 ^ 16 → offset < 2 ^ 16 → Reads (device_line device offset) (device_form device offset ∷ [])
 reads_device device offset low small =

@@ -68,7 +68,7 @@ forms_of_deliveries pieces g device (suc left) =
 -- the forms for an image of so many pieces, their numbers drawn from a state on
 unfoldable pub forms_from : (g pieces : ℕ) → List Form
 forms_from g pieces =
-    (Header ∷ Image 64 128 ∷ [])
+    (Header ∷ Image 64 128 0 ∷ [])
     ⧺ forms_of_devices g 1 8
     ⧺ forms_of_rounds 2 1 1 1 8
     ⧺ forms_of_frags (pieces + 128)

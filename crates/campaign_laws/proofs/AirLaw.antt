@@ -98,7 +98,7 @@ read_same w line fine = ap (λ (c : Option LineWhy). line_result w line c) fine
 longer : (rest : List ℕ) → length (codes "air " ++ rest) ≤ length (codes "down " ++ rest)
 longer rest = omega arith
 
-other_read : (image : List ℕ) (w end : WorldState) (line other : List ℕ) → All (λ b. b < 2 ^ 8) image → Stands image w
+other_read : (image : List ℕ) (w end : WorldState) (line other : List ℕ) → All (λ b. b < 2 ^ 8) image → Stands image 0 w
     → cause_of w (line_of line) ≡ None → Grows w.sent end.sent → IsAired end.sent line other
     → read_line w (line_of other) ≡ Ok (after_line w (line_of line))
 other_read image w end line other bytes stands fine grows (inl same) =
@@ -129,8 +129,8 @@ other_read image w end line other bytes stands fine grows (inr a) =
 
 -- ---- all lines
 
-lines_same : (image : List ℕ) (w end : WorldState) (lines others : List (List ℕ)) → All (λ b. b < 2 ^ 8) image → Stands image w
-    → AllFit (map line_of lines) → AreHonest (map line_of lines) → read_lines (Ok w) (map line_of lines) ≡ Ok end
+lines_same : (image : List ℕ) (w end : WorldState) (lines others : List (List ℕ)) → All (λ b. b < 2 ^ 8) image → Stands image 0 w
+    → AllFit 0 (map line_of lines) → AreHonest 0 (map line_of lines) → read_lines (Ok w) (map line_of lines) ≡ Ok end
     → AllZip (IsAired end.sent) lines others → read_lines (Ok w) (map line_of others) ≡ Ok end
 unfolding read_lines
 lines_same image w end [] [] bytes stands fits honest read all = read
@@ -140,7 +140,7 @@ lines_same image w end (line ∷ lines) (other ∷ others) bytes stands fits hon
     let said : Line = line_of line in
     let first = read_first w end said (map line_of lines) read in
     let grows = sent_grows w end (said ∷ map line_of lines) read in
-    let next = line_stands image w said bytes stands first.0 fits.0 (line_fine w said first.0) honest.0 in
+    let next = line_stands image 0 w said bytes stands first.0 fits.0 (line_fine w said first.0) honest.0 in
     ap (λ (r : Result WorldState LineFault). read_lines r (map line_of others))
     (other_read image w end line other bytes stands first.0 grows all.0)
     ∙ lines_same image (after_line w said) end lines others bytes next fits.1 honest.1 first.1 all.1
@@ -149,6 +149,6 @@ pub air_is_down : AirIsDown
 unfolding campaign_of
 air_is_down image script other world bytes honest accepted all =
     let read = end_is (read_lines (Ok (first_world image)) (said_in script)) world accepted in
-    ap end_result (lines_same image (first_world image) world (lines_of script) (lines_of other) bytes (first_stands image)
+    ap end_result (lines_same image (first_world image) world (lines_of script) (lines_of other) bytes (first_stands image 0)
     (script_fits script) honest read all
     ∙ sym read)

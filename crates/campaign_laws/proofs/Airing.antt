@@ -114,7 +114,7 @@ sent_short image cut down bytes is (inl setup) addr count far port =
 sent_short image cut down bytes is (inr (inl f)) addr count far port =
     subst (λ (c : Command). length (canonical c) ≤ max_payload) (sym f.2) (good_short _ (fragment_good image cut f.0 is f.1))
 sent_short image cut down bytes is (inr (inr (inl o))) addr count far port =
-    subst (λ (c : Command). length (canonical c) ≤ max_payload) (sym o.1) (good_short _ (status_good o.0))
+    subst (λ (c : Command). length (canonical c) ≤ max_payload) (sym o.1) (good_short _ (status_good cut.index o.0 is.indexed))
 sent_short image cut down bytes is (inr (inr (inr (inl p)))) addr count far port = absurd (omega (arith, p, port))
 sent_short image cut down bytes is (inr (inr (inr (inr x)))) addr count far port =
     absurd (omega (arith, ap port_of x.1, sync_high x.0, port))
@@ -278,8 +278,8 @@ is_heard image w (Air number n word) bytes keeps k fine honest =
 is_heard image w (Raw n port payload word) bytes keeps k fine honest = absurd (true≢false honest)
 is_heard image w (RawAir n heard word) bytes keeps k fine honest = absurd (true≢false honest)
 is_heard image w Header bytes keeps k fine honest = record { plain = refl; fine = fine; same = refl }
-is_heard image w (Image size parity) bytes keeps k fine honest = record { plain = refl; fine = fine; same = refl }
-is_heard image w (GroupLine addr key min max) bytes keeps k fine honest = record { plain = refl; fine = fine; same = refl }
+is_heard image w (Image size parity index) bytes keeps k fine honest = record { plain = refl; fine = fine; same = refl }
+is_heard image w (GroupLine id addr key min max) bytes keeps k fine honest = record { plain = refl; fine = fine; same = refl }
 is_heard image w (WindowC start timeout freq dr) bytes keeps k fine honest = record { plain = refl; fine = fine; same = refl }
 is_heard image w (WindowB start periodicity timeout freq dr) bytes keeps k fine honest = record { plain = refl; fine = fine; same = refl }
 is_heard image w (Device id class hw rows offset key descriptor v1 k11) bytes keeps k fine honest =

@@ -14,7 +14,7 @@ use Rattle.script_lines.specs.Limits.{max_line}
 use Rattle.report_lines.specs.declared.faults.LineWhy.TheVariants as why
 use Rattle.campaign_world.specs.Said.{own, line_of, said_in}
 use Rattle.campaign_laws.specs.Fields.{HasFields, LineFits, AllFit}
-use Rattle.script_lines.specs.Forms.{count_of, alone, at_form, wake_form, migrate_form, ask_form, up_form, decimal_at, hex_at, key_at, bytes_at, class_at, header_form, image_form, group_form, window_form, device_words, device_of_words, device_form, down_words, down_form, raw_words, raw_form, in_the_air, air_form, raw_air_words, raw_air_form, form_of}
+use Rattle.script_lines.specs.Forms.{count_of, alone, at_form, wake_form, migrate_form, ask_form, up_form, decimal_at, hex_at, key_at, bytes_at, class_at, header_form, image_words, image_form, group_words, group_form, window_from, window_form, device_words, device_of_words, device_from, device_form, down_words, down_of, down_form, raw_words, raw_form, in_the_air, air_form, raw_air_words, raw_air_form, form_of}
 
 -- ---- what hex digits spell
 
@@ -65,141 +65,149 @@ hex_small digits = small_by _ (sized 4 digits _ _ refl)
 
 -- ---- forms
 
-record Fits (o : Option Form) : Type 0 where
-  its : IfSome o HasFields
+record Fits (index : ℕ) (o : Option Form) : Type 0 where
+  its : IfSome o (HasFields index)
 
-leaf : (form : Form) → HasFields form → Fits (Some form)
-leaf form fits = record { its = fits }
+leaf : (index : ℕ) (form : Form) → HasFields index form → Fits index (Some form)
+leaf index form fits = record { its = fits }
 
-nothing : Fits None
-nothing = record { its = tt }
+nothing : (index : ℕ) → Fits index None
+nothing index = record { its = tt }
 
-either : (b : Bool) (one other : Option Form) → Fits one → Fits other → Fits (cond b one other)
-either true one other k l = k
-either false one other k l = l
+either : (index : ℕ) (b : Bool) (one other : Option Form) → Fits index one → Fits index other → Fits index (cond b one other)
+either index true one other k l = k
+either index false one other k l = l
 
-behind : {A : Type 0} (o : Option A) (f : A → Option Form) → ((x : A) → o ≡ Some x → Fits (f x)) → Fits (o >>= f)
-behind None f h = nothing
-behind (Some x) f h = h x refl
+behind : {A : Type 0} (index : ℕ) (o : Option A) (f : A → Option Form) → ((x : A) → o ≡ Some x → Fits index (f x)) → Fits index (o >>= f)
+behind index None f h = nothing index
+behind index (Some x) f h = h x refl
 
 at_some : {A : Type 0} (P : A → Type 0) (o : Option A) (x : A) → IfSome o P → o ≡ Some x → P x
 at_some P None x k is = absurd cc
 at_some P (Some y) x k is = let same : y ≡ x = cc in subst P same k
 
-group_fits : (line : List ℕ) → Fits (group_form line)
-group_fits line = either _ _ None
-    (behind (hex_at line 1) _ (λ addr addr_is. behind (key_at line 2) _ (λ key key_is. behind (decimal_at line 3) _ (λ min min_is.
-    behind (decimal_at line 4) _ (λ max max_is. leaf (Group addr key min max) (
-      at_some (λ (n : ℕ). n < 2 ^ 32) (hex_at line 1) addr (hex_small (word line 1)) addr_is,
-      at_some IsBlock (key_at line 2) key (key_block (word line 2)) key_is,
-    )))))) nothing
+pub group_words_fit : (index : ℕ) (line : List ℕ) (k id : ℕ) → Fits index (group_words line k id)
+group_words_fit index line k id =
+    behind index (hex_at line k) _ (λ addr addr_is. behind index (key_at line (k + 1)) _ (λ key key_is. behind index (decimal_at line (k + 2)) _ (λ min min_is.
+    behind index (decimal_at line (k + 3)) _ (λ max max_is. leaf index (Group id addr key min max) (
+      at_some (λ (n : ℕ). n < 2 ^ 32) (hex_at line k) addr (hex_small (word line k)) addr_is,
+      at_some IsBlock (key_at line (k + 1)) key (key_block (word line (k + 1))) key_is,
+    )))))
 
-device_words_fit : (line : List ℕ) (descriptor : Option ℕ) (v1 k11 : Bool) → Fits (device_words line descriptor v1 k11)
-device_words_fit line descriptor v1 k11 =
-    behind (decimal_at line 1) _ (λ id id_is. behind (class_at line 2) _ (λ class class_is. behind (decimal_at line 3) _ (λ hw hw_is.
-    behind (decimal_at line 4) _ (λ rows rows_are. behind (decimal_at line 5) _ (λ offset offset_is.
-    behind (key_at line 6) _ (λ key key_is. leaf (Device id class hw rows offset key descriptor v1 k11) (at_some IsBlock (key_at line 6) key (key_block (word line 6)) key_is)))))))
+group_fits : (index : ℕ) (line : List ℕ) → Fits index (group_form line)
+group_fits index line = either index _ _ None (group_words_fit index line 1 0) (nothing index)
 
-device_of_words_fit : (line : List ℕ) (count : ℕ) (k11 : Bool) → Fits (device_of_words line count k11)
-device_of_words_fit line count k11 =
-    either _ _ _ (device_words_fit line None false k11)
-    (either _ _ _ (device_words_fit line None true k11)
-    (either _ _ _ (behind (hex_at line 7) _ (λ d is. device_words_fit line (Some d) false k11))
-    (either _ _ None (behind (hex_at line 7) _ (λ d is. device_words_fit line (Some d) true k11)) nothing)))
+device_words_fit : (index : ℕ) (line : List ℕ) (k : ℕ) (descriptor : Option ℕ) (v1 k11 : Bool) → Fits index (device_words line k descriptor v1 k11)
+device_words_fit index line k descriptor v1 k11 =
+    behind index (decimal_at line 1) _ (λ id id_is. behind index (class_at line k) _ (λ class class_is. behind index (decimal_at line (k + 1)) _ (λ hw hw_is.
+    behind index (decimal_at line (k + 2)) _ (λ rows rows_are. behind index (decimal_at line (k + 3)) _ (λ offset offset_is.
+    behind index (key_at line (k + 4)) _ (λ key key_is. leaf index (Device id class hw rows offset key descriptor v1 k11)
+    (at_some IsBlock (key_at line (k + 4)) key (key_block (word line (k + 4))) key_is)))))))
 
-device_fits : (line : List ℕ) → Fits (device_form line)
-device_fits line =
-    either _ _ _ (device_of_words_fit line (count_of line - 1) true) (device_of_words_fit line (count_of line) false)
+device_of_words_fit : (index : ℕ) (line : List ℕ) (k count : ℕ) (k11 : Bool) → Fits index (device_of_words line k count k11)
+device_of_words_fit index line k count k11 =
+    either index _ _ _ (device_words_fit index line k None false k11)
+    (either index _ _ _ (device_words_fit index line k None true k11)
+    (either index _ _ _ (behind index (hex_at line (k + 5)) _ (λ d is. device_words_fit index line k (Some d) false k11))
+    (either index _ _ None (behind index (hex_at line (k + 5)) _ (λ d is. device_words_fit index line k (Some d) true k11)) (nothing index))))
 
-image_fits : (line : List ℕ) → Fits (image_form line)
-image_fits line = either _ _ None (behind (decimal_at line 1) _ (λ size is. behind (decimal_at line 2) _ (λ parity parity_is. leaf (Image size parity) tt))) nothing
+device_fits : (index : ℕ) (line : List ℕ) (k : ℕ) → Fits index (device_from line k)
+device_fits index line k =
+    either index _ _ _ (device_of_words_fit index line k (count_of line - 1) true) (device_of_words_fit index line k (count_of line) false)
 
-window_fits : (line : List ℕ) → Fits (window_form line)
-window_fits line = either _ _ _
-    (behind (decimal_at line 2) _ (λ a ai. behind (decimal_at line 3) _ (λ b bi. behind (decimal_at line 4) _ (λ c ci.
-    behind (decimal_at line 5) _ (λ d di. leaf (WindowC a b c d) tt)))))
-    (either _ _ None (behind (decimal_at line 2) _ (λ a ai. behind (decimal_at line 3) _ (λ b bi. behind (decimal_at line 4) _ (λ c ci.
-    behind (decimal_at line 5) _ (λ d di. behind (decimal_at line 6) _ (λ e ei. leaf (WindowB a b c d e) tt)))))) nothing)
+image_words_fit : (index : ℕ) (line : List ℕ) (k : ℕ) → Fits index (image_words line k index)
+image_words_fit index line k =
+    behind index (decimal_at line k) _ (λ size is. behind index (decimal_at line (k + 1)) _ (λ parity parity_is. leaf index (Image size parity index) refl))
 
-lone_fits : (line : List ℕ) (b : Bool) (form : ℕ → Form) → ((n : ℕ) → HasFields (form n))
-    → Fits (cond b (decimal_at line 1 >>= (λ n. Some (form n))) None)
-lone_fits line b form h = either b _ None (behind (decimal_at line 1) _ (λ n is. leaf (form n) (h n))) nothing
+image_fits : (line : List ℕ) → Fits 0 (image_form line)
+image_fits line = either 0 _ _ None (image_words_fit 0 line 1) (nothing 0)
 
-alone_fits : (b : Bool) (form : Form) → HasFields form → Fits (cond b (Some form) None)
-alone_fits b form h = either b (Some form) None (leaf form h) nothing
+window_fits : (index : ℕ) (line : List ℕ) (k : ℕ) → Fits index (window_from line k)
+window_fits index line k = either index _ _ _
+    (behind index (decimal_at line (k + 1)) _ (λ a ai. behind index (decimal_at line (k + 1 + 1)) _ (λ b bi. behind index (decimal_at line (k + 1 + 2)) _ (λ c ci.
+    behind index (decimal_at line (k + 1 + 3)) _ (λ d di. leaf index (WindowC a b c d) tt)))))
+    (either index _ _ None (behind index (decimal_at line (k + 1)) _ (λ a ai. behind index (decimal_at line (k + 1 + 1)) _ (λ b bi. behind index (decimal_at line (k + 1 + 2)) _ (λ c ci.
+    behind index (decimal_at line (k + 1 + 3)) _ (λ d di. behind index (decimal_at line (k + 1 + 4)) _ (λ e ei. leaf index (WindowB a b c d e) tt)))))) (nothing index))
 
-air_fits : (o : Option Form) → Fits (in_the_air o)
-air_fits None = nothing
-air_fits (Some (Down number device random)) = leaf (Air number device random) tt
-air_fits (Some form) = nothing
+lone_fits : (index : ℕ) (line : List ℕ) (b : Bool) (form : ℕ → Form) → ((n : ℕ) → HasFields index (form n))
+    → Fits index (cond b (decimal_at line 1 >>= (λ n. Some (form n))) None)
+lone_fits index line b form h = either index b _ None (behind index (decimal_at line 1) _ (λ n is. leaf index (form n) (h n))) (nothing index)
 
-down_words_fit : (line : List ℕ) (random : ℕ) → Fits (down_words line random)
-down_words_fit line random =
-    behind (decimal_at line 1) _ (λ n is. behind (decimal_at line 2) _ (λ d di. leaf (Down n d random) tt))
+alone_fits : (index : ℕ) (b : Bool) (form : Form) → HasFields index form → Fits index (cond b (Some form) None)
+alone_fits index b form h = either index b (Some form) None (leaf index form h) (nothing index)
 
-down_fits : (line : List ℕ) → Fits (down_form line)
-down_fits line =
-    either _ (down_words line 0) _ (down_words_fit line 0)
-    (either _ _ None (behind (decimal_at line 3) _ (λ r ri. down_words_fit line r)) nothing)
+air_fits : (index : ℕ) (o : Option Form) → Fits index (in_the_air o)
+air_fits index None = nothing index
+air_fits index (Some (Down number device random)) = leaf index (Air number device random) tt
+air_fits index (Some form) = nothing index
 
-raw_words_fit : (line : List ℕ) (random : ℕ) → Fits (raw_words line random)
-raw_words_fit line random =
-    behind (decimal_at line 1) _ (λ d di. behind (decimal_at line 2) _ (λ p pi. behind (bytes_at line 3) _ (λ b bi.
-    leaf (Raw d p b random) tt)))
+down_words_fit : (index : ℕ) (line : List ℕ) (payload : Option ℕ) (random : ℕ) → Fits index (down_words line payload random)
+down_words_fit index line payload random =
+    behind index payload _ (λ n is. behind index (decimal_at line 2) _ (λ d di. leaf index (Down n d random) tt))
 
-raw_fits : (line : List ℕ) → Fits (raw_form line)
-raw_fits line =
-    either _ (raw_words line 0) _ (raw_words_fit line 0)
-    (either _ _ None (behind (decimal_at line 4) _ (λ r ri. raw_words_fit line r)) nothing)
+down_fits : (index : ℕ) (line : List ℕ) (payload : Option ℕ) → Fits index (down_of line payload)
+down_fits index line payload =
+    either index _ (down_words line payload 0) _ (down_words_fit index line payload 0)
+    (either index _ _ None (behind index (decimal_at line 3) _ (λ r ri. down_words_fit index line payload r)) (nothing index))
 
-raw_air_words_fit : (line : List ℕ) (random : ℕ) → Fits (raw_air_words line random)
-raw_air_words_fit line random =
-    behind (decimal_at line 1) _ (λ d di. behind (bytes_at line 2) _ (λ b bi. leaf (RawAir d b random) tt))
+raw_words_fit : (index : ℕ) (line : List ℕ) (random : ℕ) → Fits index (raw_words line random)
+raw_words_fit index line random =
+    behind index (decimal_at line 1) _ (λ d di. behind index (decimal_at line 2) _ (λ p pi. behind index (bytes_at line 3) _ (λ b bi.
+    leaf index (Raw d p b random) tt)))
 
-raw_air_fits : (line : List ℕ) → Fits (raw_air_form line)
-raw_air_fits line =
-    either _ (raw_air_words line 0) _ (raw_air_words_fit line 0)
-    (either _ _ None (behind (decimal_at line 3) _ (λ r ri. raw_air_words_fit line r)) nothing)
+raw_fits : (index : ℕ) (line : List ℕ) → Fits index (raw_form line)
+raw_fits index line =
+    either index _ (raw_words line 0) _ (raw_words_fit index line 0)
+    (either index _ _ None (behind index (decimal_at line 4) _ (λ r ri. raw_words_fit index line r)) (nothing index))
 
-all_fit : (line : List ℕ) → Fits (form_of line)
+raw_air_words_fit : (index : ℕ) (line : List ℕ) (random : ℕ) → Fits index (raw_air_words line random)
+raw_air_words_fit index line random =
+    behind index (decimal_at line 1) _ (λ d di. behind index (bytes_at line 2) _ (λ b bi. leaf index (RawAir d b random) tt))
+
+raw_air_fits : (index : ℕ) (line : List ℕ) → Fits index (raw_air_form line)
+raw_air_fits index line =
+    either index _ (raw_air_words line 0) _ (raw_air_words_fit index line 0)
+    (either index _ _ None (behind index (decimal_at line 3) _ (λ r ri. raw_air_words_fit index line r)) (nothing index))
+
+all_fit : (line : List ℕ) → Fits 0 (form_of line)
 unfolding form_of
 all_fit line =
-    either (is_word line 0 (codes "fuota")) (header_form line) _ (alone_fits (count_of line == 2 && is_word line 1 (codes "1")) Header tt)
-    (either (is_word line 0 (codes "image")) (image_form line) _ (image_fits line)
-    (either (is_word line 0 (codes "group")) (group_form line) _ (group_fits line)
-    (either (is_word line 0 (codes "window")) (window_form line) _ (window_fits line)
-    (either (is_word line 0 (codes "device")) (device_form line) _ (device_fits line)
-    (either (is_word line 0 (codes "at")) (at_form line) _ (lone_fits line (count_of line == 2) (λ n. At n) (λ n. tt))
-    (either (is_word line 0 (codes "wake")) (wake_form line) _ (lone_fits line (count_of line == 2) (λ n. Wake n) (λ n. tt))
-    (either (is_word line 0 (codes "migrate")) (migrate_form line) _ (lone_fits line (count_of line == 2) (λ n. Migrate n) (λ n. tt))
-    (either (is_word line 0 (codes "ask")) (ask_form line) _ (lone_fits line (count_of line == 2) (λ n. Ask n) (λ n. tt))
-    (either (is_word line 0 (codes "frag")) (alone line Frag) _ (alone_fits (count_of line == 1) Frag tt)
-    (either (is_word line 0 (codes "status")) (alone line Status) _ (alone_fits (count_of line == 1) Status tt)
-    (either (is_word line 0 (codes "down")) (down_form line) _ (down_fits line)
-    (either (is_word line 0 (codes "raw")) (raw_form line) _ (raw_fits line)
-    (either (is_word line 0 (codes "air")) (air_form line) _ (air_fits (down_form line))
-    (either (is_word line 0 (codes "rawair")) (raw_air_form line) _ (raw_air_fits line)
-    (either (is_word line 0 (codes "up")) (up_form line) _ (lone_fits line (count_of line == 2) (λ n. Up n) (λ n. tt))
-    (either (is_word line 0 (codes "end")) (alone line End) _ (alone_fits (count_of line == 1) End tt) nothing))))))))))))))))
+    either 0 (is_word line 0 (codes "fuota")) (header_form line) _ (alone_fits 0 (count_of line == 2 && is_word line 1 (codes "1")) Header tt)
+    (either 0 (is_word line 0 (codes "image")) (image_form line) _ (image_fits line)
+    (either 0 (is_word line 0 (codes "group")) (group_form line) _ (group_fits 0 line)
+    (either 0 (is_word line 0 (codes "window")) (window_form line) _ (window_fits 0 line 1)
+    (either 0 (is_word line 0 (codes "device")) (device_form line) _ (device_fits 0 line 2)
+    (either 0 (is_word line 0 (codes "at")) (at_form line) _ (lone_fits 0 line (count_of line == 2) (λ n. At n) (λ n. tt))
+    (either 0 (is_word line 0 (codes "wake")) (wake_form line) _ (lone_fits 0 line (count_of line == 2) (λ n. Wake n) (λ n. tt))
+    (either 0 (is_word line 0 (codes "migrate")) (migrate_form line) _ (lone_fits 0 line (count_of line == 2) (λ n. Migrate n) (λ n. tt))
+    (either 0 (is_word line 0 (codes "ask")) (ask_form line) _ (lone_fits 0 line (count_of line == 2) (λ n. Ask n) (λ n. tt))
+    (either 0 (is_word line 0 (codes "frag")) (alone line Frag) _ (alone_fits 0 (count_of line == 1) Frag tt)
+    (either 0 (is_word line 0 (codes "status")) (alone line Status) _ (alone_fits 0 (count_of line == 1) Status tt)
+    (either 0 (is_word line 0 (codes "down")) (down_form line) _ (down_fits 0 line (decimal_at line 1))
+    (either 0 (is_word line 0 (codes "raw")) (raw_form line) _ (raw_fits 0 line)
+    (either 0 (is_word line 0 (codes "air")) (air_form line) _ (air_fits 0 (down_form line))
+    (either 0 (is_word line 0 (codes "rawair")) (raw_air_form line) _ (raw_air_fits 0 line)
+    (either 0 (is_word line 0 (codes "up")) (up_form line) _ (lone_fits 0 line (count_of line == 2) (λ n. Up n) (λ n. tt))
+    (either 0 (is_word line 0 (codes "end")) (alone line End) _ (alone_fits 0 (count_of line == 1) End tt) (nothing 0)))))))))))))))))
 
-pub form_fits : (line : List ℕ) → IfSome (form_of line) HasFields
+pub form_fits : (line : List ℕ) → IfSome (form_of line) (HasFields 0)
 form_fits line = (all_fit line).its
 
 -- so do those of each line of a script
-own_fits : (o : Option Form) → IfSome o HasFields → LineFits (own o)
-own_fits None fits = tt
-own_fits (Some form) fits = fits
+own_fits : (index : ℕ) (o : Option Form) → IfSome o (HasFields index) → LineFits index (own o)
+own_fits index None fits = tt
+own_fits index (Some form) fits = fits
 
-line_fits : (text : List ℕ) → LineFits (line_of text)
+line_fits : (text : List ℕ) → LineFits 0 (line_of text)
 line_fits text = by (nat_lt max_line (length text))
   where
-    by : (long : Bool) → LineFits (cond long (Err why.Limit) (own (form_of text)))
+    by : (long : Bool) → LineFits 0 (cond long (Err why.Limit) (own (form_of text)))
     by true = tt
-    by false = own_fits (form_of text) (form_fits text)
+    by false = own_fits 0 (form_of text) (form_fits text)
 
-pub script_fits : (script : List ℕ) → AllFit (said_in script)
+pub script_fits : (script : List ℕ) → AllFit 0 (said_in script)
 script_fits script = all (lines_of script)
   where
-    all : (texts : List (List ℕ)) → AllFit (map line_of texts)
+    all : (texts : List (List ℕ)) → AllFit 0 (map line_of texts)
     all [] = tt
     all (text ∷ texts) = (line_fits text, all texts)

@@ -31,18 +31,19 @@ use Rattle.campaign_server.specs.Asking.{mask_of}
 
 -- ---- what the server sends
 
--- how the image is cut, and the groups that may feed its session
+-- how the image is cut, the index of its session, and the groups that may feed it
 pub record Cut : Type 0 where
   pub size : ℕ
+  pub index : ℕ
   pub mask : ℕ
 
 abbrev pub cut_of : Plan → Cut
-cut_of plan = record { size = plan.frag_size; mask = mask_of plan.group }
+cut_of plan = record { size = plan.frag_size; index = plan.index; mask = mask_of plan.group }
 
 -- the setup as the session holds it
 abbrev pub setup_req : (image : List ℕ) → Cut → SetupReq
 setup_req image cut = record {
-  index = 0;
+  index = cut.index;
   mask = cut.mask;
   nb_frag = nb_frag_of (length image) cut.size;
   frag_size = cut.size;
@@ -59,16 +60,16 @@ command_of r = Cast (FragSessionSetupReq r.index r.mask r.nb_frag r.frag_size r.
 abbrev pub setup_request : (image : List ℕ) → Cut → Command
 setup_request image cut = command_of (setup_req image cut)
 
-abbrev pub fragment_command : (image : List ℕ) → (size n : ℕ) → Command
-fragment_command image size n = Cast (DataFragment 0 n (data_of image size n))
+abbrev pub fragment_command : (image : List ℕ) → Cut → (n : ℕ) → Command
+fragment_command image cut n = Cast (DataFragment cut.index n (data_of image cut.size n))
 
 -- a command of another port than that of fragments
 abbrev pub IsElsewhere : Command → Type 0
 IsElsewhere c = (port_of c ≡ 200) ⊎ ((cmd : SyncCmd) × (c ≡ Sync cmd))
 
 -- a command that leaves the sessions as they are
-abbrev pub IsOther : Command → Type 0
-IsOther c = ((all : Bool) × (c ≡ Cast (FragSessionStatusReq 0 all))) ⊎ IsElsewhere c
+abbrev pub IsOther : Cut → Command → Type 0
+IsOther cut c = ((all : Bool) × (c ≡ Cast (FragSessionStatusReq cut.index all))) ⊎ IsElsewhere c
 
 -- the number of an uncoded or of a coded fragment
 abbrev pub IsNumber : (image : List ℕ) → (size n : ℕ) → Type 0
@@ -78,8 +79,8 @@ IsNumber image size n = (1 ≤ n) × (n ≤ nb_frag_of (length image) size + max
 abbrev pub IsSentOf : (image : List ℕ) → Cut → DownlinkCommand → Type 0
 IsSentOf image cut down =
     ((down.command ≡ setup_request image cut) × (down.to ≡ Unicast))
-    ⊎ (((n : ℕ) × IsNumber image cut.size n × (down.command ≡ fragment_command image cut.size n))
-    ⊎ IsOther down.command)
+    ⊎ (((n : ℕ) × IsNumber image cut.size n × (down.command ≡ fragment_command image cut n))
+    ⊎ IsOther cut down.command)
 
 -- ---- the server's commands are valid
 
@@ -88,7 +89,8 @@ pub record IsCut (image : List ℕ) (cut : Cut) : Type 0 where
   pub some : 1 ≤ cut.size
   pub small : cut.size ≤ max_frag_size
   pub few : nb_frag_of (length image) cut.size ≤ max_pieces
-  pub groups : cut.mask ≤ 1
+  pub indexed : cut.index ≤ 3
+  pub groups : cut.mask ≤ 8
 
 byte_at : (image : List ℕ) (at : ℕ) → All (λ b. b < 2 ^ 8) image → get_or image at 0 < 256
 byte_at image at bytes = elim (cases_lt at (length image)) [
@@ -127,7 +129,7 @@ setup_good image cut bytes is =
     record {
       valid = record {
         fields = (
-          (omega (arith, is.groups), (omega (arith, is.groups), tt)),
+          (omega (arith, is.groups, is.indexed), (omega (arith, is.groups, is.indexed), tt)),
           (
             number,
             (
@@ -146,28 +148,28 @@ setup_good image cut bytes is =
     }
 
 pub fragment_good : (image : List ℕ) (cut : Cut) (n : ℕ) → IsCut image cut → IsNumber image cut.size n
-    → IsGood (fragment_command image cut.size n)
+    → IsGood (fragment_command image cut n)
 fragment_good image cut n is number =
     let sized = fragment_sized image cut.size n is.some in
     let fits : n < 2 ^ 14 = omega (arith, number.1, is.few) in
     record {
       valid = record {
-        fields = ((omega arith, (fits, tt)), (tt, tt));
+        fields = ((omega (arith, is.indexed), (fits, tt)), (tt, tt));
         whole = (omega (arith, sized, is.some), omega (arith, sized, is.small));
       };
       listed = record { port_is = refl; direction_is = refl };
       port = refl;
     }
 
-pub status_good : (all : Bool) → IsGood (Cast (FragSessionStatusReq 0 all))
-status_good true = record {
-  valid = record { fields = ((omega arith, (omega arith, tt)), tt); whole = tt };
+pub status_good : (index : ℕ) (all : Bool) → index ≤ 3 → IsGood (Cast (FragSessionStatusReq index all))
+status_good index true low = record {
+  valid = record { fields = ((omega (arith, low), (omega arith, tt)), tt); whole = tt };
   listed =
       record { port_is = refl; direction_is = refl };
   port = refl;
 }
-status_good false = record {
-  valid = record { fields = ((omega arith, (omega arith, tt)), tt); whole = tt };
+status_good index false low = record {
+  valid = record { fields = ((omega (arith, low), (omega arith, tt)), tt); whole = tt };
   listed =
       record { port_is = refl; direction_is = refl };
   port = refl;
@@ -208,5 +210,5 @@ sent_same image cut to c d bytes is good (inl setup) same =
 sent_same image cut to c d bytes is good (inr (inl f)) same =
     good_same c d.command to d.to good (subst IsGood (sym f.2) (fragment_good image cut f.0 is f.1)) same
 sent_same image cut to c d bytes is good (inr (inr (inl o))) same =
-    good_same c d.command to d.to good (subst IsGood (sym o.1) (status_good o.0)) same
+    good_same c d.command to d.to good (subst IsGood (sym o.1) (status_good cut.index o.0 is.indexed)) same
 sent_same image cut to c d bytes is good (inr (inr (inr o))) same = elsewhere c d.command to d.to good o same

@@ -33,8 +33,7 @@ use Rattle.campaign_world.specs.Script.{after_line, line_result, read_line, read
 use Rattle.campaign_laws.specs.Lives.{HasItsDevices}
 use Rattle.campaign_world.proofs.FormCauses.{event_at, passes}
 use Rattle.campaign_laws.proofs.HeadlineForms.{reached_passes}
-use Rattle.campaign_laws.proofs.HeadlineLines.{cause_by, end_is}
-use Rattle.campaign_laws.proofs.HeadlineLives.{ended}
+use Rattle.campaign_laws.proofs.HeadlineLines.{cause_by, end_is, ended}
 
 -- where events may come there are devices
 abbrev SomeIn : Section → ℕ → Type 0
@@ -153,11 +152,11 @@ planned_even plan n is = length-replicate (length plan.devices) (AtRequest Versi
 form_counted : (w : WorldState) (form : Form) → form_cause w form ≡ None → IsCounted w → IsCounted (after_form w form)
 unfolding after_form
 form_counted w Header fine k = record { some = tt; even = k.even }
-form_counted w (Image frag_size parity) fine k = record {
+form_counted w (Image frag_size parity index) fine k = record {
   some = tt;
   even = record { stages = planned_even w.server.plan _ k.even.planned; planned = k.even.planned };
 }
-form_counted w (Group addr key min max) fine k = record {
+form_counted w (Group id addr key min max) fine k = record {
   some = tt;
   even = record { stages = planned_even w.server.plan _ k.even.planned; planned = k.even.planned };
 }

@@ -15,7 +15,7 @@ use Rattle.package_grammar.specs.declared.command.Command.{Command}
 use Rattle.package_grammar.specs.declared.command.Command.TheVariants.{Sync, Cast}
 use Rattle.package_grammar.specs.declared.downlink.To.TheVariants.{Unicast}
 use Rattle.device_core.specs.declared.config.DeviceConfig.{DeviceConfig}
-use Rattle.device_core.specs.SessionTable.{SessionTable}
+use Rattle.device_core.specs.SessionTable.{SessionTable, session_at}
 use Rattle.device_core.specs.Device.{DeviceState, limits_of, max_area, max_rows}
 use Rattle.campaign_server.specs.declared.plan.Kind.{Kind}
 use Rattle.campaign_server.specs.declared.plan.Kind.TheVariants as kind
@@ -30,13 +30,14 @@ use Rattle.campaign_server.specs.declared.fragments.Spent.TheVariants.{Fragments
 use Rattle.campaign_server.specs.Plan.{Plan, own_id}
 use Rattle.campaign_server.specs.Server.{ServerState, DownlinkCommand, port_of, ledger}
 use Rattle.wire_base.specs.Numbered.{numbered}
-use Rattle.campaign_server.specs.Asking.{window_request_of, window_request, group_request, cast_of, request_at, command_for, by_unicast, request_of}
+use Rattle.campaign_server.specs.Asking.{mask_of, window_request_of, window_request, group_request, cast_of, request_at, command_for, by_unicast, request_of}
 use Rattle.campaign_server.specs.Fragments.{receivers, has_no_count, after_count, next_fragment, after_fragment as server_after_fragment, status_to_all, after_status_to_all}
 use Rattle.campaign_server.specs.Time.{time_answer_to, first_answer, time_answer}
 use Rattle.campaign_server.specs.Uplinks.{with_answers}
 use Rattle.device_core.proofs.SessionSteps.{setup_keeps, fragment_keeps}
-use Rattle.campaign_laws.proofs.HeadlineCommands.{Cut, cut_of, setup_req, IsSentOf}
-use Rattle.device_core.proofs.Stays.{Moves, stays}
+use Rattle.campaign_laws.proofs.HeadlineCommands.{Cut, cut_of, setup_req, fragment_command, IsSentOf, IsCut}
+use Rattle.campaign_laws.proofs.OwnSession.{at_own, at_other}
+use Rattle.device_core.proofs.Stays.{Moves, Stays}
 use Rattle.campaign_laws.proofs.HeadlinePayloads.{Acts}
 use Rattle.campaign_laws.specs.Headline.{HasNoOther, IsFragmentOf}
 
@@ -80,15 +81,15 @@ pub record IsBounded (config : DeviceConfig) : Type 0 where
   pub rows : config.rows ≤ max_rows
 
 -- the session has the rows that the device keeps, or a row a piece
-abbrev HasRows : List ℕ → Cut → DeviceConfig → Session → Type 0
+abbrev pub HasRows : List ℕ → Cut → DeviceConfig → Session → Type 0
 HasRows image cut config s = s.rows ≡ rows_of config.rows (setup_req image cut)
 
 -- it holds no uplink, and its session, if it has one, is the server's
 pub record IsDeviceFor (image : List ℕ) (cut : Cut) (d : DeviceState) : Type 0 where
   pub empty : d.outbox ≡ []
-  pub session : IfSome d.sessions.first (IsSetFor image cut)
-  pub rows : IfSome d.sessions.first (HasRows image cut d.config)
-  pub alone : HasNoOther d.sessions
+  pub session : IfSome (session_at d.sessions cut.index) (IsSetFor image cut)
+  pub rows : IfSome (session_at d.sessions cut.index) (HasRows image cut d.config)
+  pub alone : HasNoOther cut.index d.sessions
   pub bounds : IsBounded d.config
 
 setup_rows : (image : List ℕ) (cut : Cut) (config : DeviceConfig) (here : Room) (s : Option Session)
@@ -105,40 +106,47 @@ unfolding followed
 fragment_rows image cut config s way n part mark k =
     fragment_keeps (HasRows image cut config) s way n part mark (λ x r. r) k
 
-moved : (image : List ℕ) (cut : Cut) (F : DeviceConfig → Option Session → Option Session) (d e : DeviceState)
-    → IsDeviceFor image cut d → Moves F d e → e.outbox ≡ []
-    → IfSome (F d.config d.sessions.first) (IsSetFor image cut)
-    → IfSome (F d.config d.sessions.first) (HasRows image cut d.config) → IsDeviceFor image cut e
-moved image cut F d e k m empty session rows = record {
+moved : (image : List ℕ) (cut : Cut) (F : DeviceConfig → Option Session → Option Session) (d e : DeviceState) → IsCut image cut
+    → IsDeviceFor image cut d → Moves cut.index F d e → e.outbox ≡ []
+    → IfSome (F d.config (session_at d.sessions cut.index)) (IsSetFor image cut)
+    → IfSome (F d.config (session_at d.sessions cut.index)) (HasRows image cut d.config) → IsDeviceFor image cut e
+moved image cut F d e is k m empty session rows =
+    let new : Option Session = F d.config (session_at d.sessions cut.index) in
+    let own : session_at e.sessions cut.index ≡ new =
+    ap (λ (t : SessionTable). session_at t cut.index) m.sessions ∙ at_own d.sessions cut.index new in
+    record {
+      empty = empty;
+      session = subst (λ (o : Option Session). IfSome o (IsSetFor image cut)) (sym own) session;
+      rows = subst (λ (x : DeviceConfig). IfSome (session_at e.sessions cut.index) (HasRows image cut x)) (sym m.config)
+          (subst (λ (o : Option Session). IfSome o (HasRows image cut d.config)) (sym own) rows);
+      bounds = subst IsBounded (sym m.config) k.bounds;
+      alone = λ i low other. ap (λ (t : SessionTable). session_at t i) m.sessions
+          ∙ at_other d.sessions cut.index i new (omega (arith, is.indexed)) low other ∙ k.alone i low other;
+    }
+
+pub stays_for : (image : List ℕ) (cut : Cut) (d e : DeviceState) → IsDeviceFor image cut d → Stays d e
+    → e.outbox ≡ [] → IsDeviceFor image cut e
+stays_for image cut d e k m empty = record {
   empty = empty;
-  session = subst (λ (t : SessionTable). IfSome t.first (IsSetFor image cut)) (sym m.sessions) session;
-  rows = subst (λ (x : DeviceConfig). IfSome e.sessions.first (HasRows image cut x)) (sym m.config)
-      (subst (λ (t : SessionTable). IfSome t.first (HasRows image cut d.config)) (sym m.sessions) rows);
+  session = subst (λ (t : SessionTable). IfSome (session_at t cut.index) (IsSetFor image cut)) (sym m.sessions) k.session;
+  rows = subst (λ (x : DeviceConfig). IfSome (session_at e.sessions cut.index) (HasRows image cut x)) (sym m.config)
+      (subst (λ (t : SessionTable). IfSome (session_at t cut.index) (HasRows image cut d.config)) (sym m.sessions) k.rows);
   bounds = subst IsBounded (sym m.config) k.bounds;
-  alone = subst HasNoOther (sym m.sessions) (record {
-    second = k.alone.second;
-    third = k.alone.third;
-    fourth =
-        k.alone.fourth;
-  });
+  alone = λ i low other. ap (λ (t : SessionTable). session_at t i) m.sessions ∙ k.alone i low other;
 }
 
-pub stays_for : (image : List ℕ) (cut : Cut) (d e : DeviceState) → IsDeviceFor image cut d → Moves stays d e
-    → e.outbox ≡ [] → IsDeviceFor image cut e
-stays_for image cut d e k m empty = moved image cut stays d e k m empty k.session k.rows
-
-pub acts_keep : (image : List ℕ) (cut : Cut) (t mark : ℕ) (d e : DeviceState) (down : DownlinkCommand)
+pub acts_keep : (image : List ℕ) (cut : Cut) (t mark : ℕ) (d e : DeviceState) (down : DownlinkCommand) → IsCut image cut
     → IsDeviceFor image cut d → Acts image cut t mark d e down → e.outbox ≡ [] → IsDeviceFor image cut e
-acts_keep image cut t mark d e down k (inl deaf) empty = stays_for image cut d e k deaf.1 empty
-acts_keep image cut t mark d e down k (inr (on, inl a)) empty =
-    moved image cut _ d e k a.2 empty (setup_set image cut _ _ d.sessions.first k.session)
-    (setup_rows image cut d.config _ d.sessions.first k.rows)
-acts_keep image cut t mark d e down k (inr (on, inr (inl a))) empty =
-    moved image cut _ d e k a.3 empty
-    (fragment_set image cut d.sessions.first _ a.0 (data_of image cut.size a.0) mark
+acts_keep image cut t mark d e down is k (inl deaf) empty = stays_for image cut d e k deaf.1 empty
+acts_keep image cut t mark d e down is k (inr (on, inl a)) empty =
+    moved image cut _ d e is k a.2 empty (setup_set image cut _ _ (session_at d.sessions cut.index) k.session)
+    (setup_rows image cut d.config _ (session_at d.sessions cut.index) k.rows)
+acts_keep image cut t mark d e down is k (inr (on, inr (inl a))) empty =
+    moved image cut _ d e is k a.3 empty
+    (fragment_set image cut (session_at d.sessions cut.index) _ a.0 (data_of image cut.size a.0) mark
     (record { first = a.1.0; last = a.1.1; part = refl }) k.session)
-    (fragment_rows image cut d.config d.sessions.first _ a.0 (data_of image cut.size a.0) mark k.rows)
-acts_keep image cut t mark d e down k (inr (on, inr (inr a))) empty = stays_for image cut d e k a.1 empty
+    (fragment_rows image cut d.config (session_at d.sessions cut.index) _ a.0 (data_of image cut.size a.0) mark k.rows)
+acts_keep image cut t mark d e down is k (inr (on, inr (inr a))) empty = stays_for image cut d e k a.1 empty
 
 -- whatever is sent, the configuration stays
 pub acts_config : (image : List ℕ) (cut : Cut) (t mark : ℕ) (d e : DeviceState) (down : DownlinkCommand)
@@ -155,6 +163,8 @@ pub record IsServerOf (image : List ℕ) (s : ServerState) : Type 0 where
   pub image_is : s.image ≡ image
   pub next : 1 ≤ s.next
   pub few : s.plan.parity ≤ 512
+  pub indexed : s.plan.index ≤ 3
+  pub masked : mask_of s.plan.group ≤ 8
 
 abbrev pub IsDown : List ℕ → Cut → DownlinkCommand → Type 0
 IsDown image cut down = IsSentOf image cut down
@@ -219,7 +229,7 @@ next_by : (image : List ℕ) (cut : Cut) (parity next count : ℕ) (group : Opti
     → nat_lt (nb_frag_of (length image) cut.size + parity) next ≡ b → 1 ≤ next → parity ≤ 512
     → IfSome (result_ok (cond {A = Result DownlinkCommand Spent} b (Err Fragments)
     (cond {A = Result DownlinkCommand Spent} (has_no_count group count) (Err Counts)
-    (Ok (record { to = receivers group count; command = Cast (DataFragment 0 next (data_of image cut.size next)) })))))
+    (Ok (record { to = receivers group count; command = fragment_command image cut next })))))
     (IsDown image cut)
 next_by image cut parity next count group true is from few = tt
 next_by image cut parity next count group false is from few =
@@ -238,9 +248,9 @@ all_by : (image : List ℕ) (cut : Cut) (b : Bool) (down : DownlinkCommand) → 
 all_by image cut true down k = tt
 all_by image cut false down k = k
 
-pub status_sent : (image : List ℕ) (cut : Cut) (s : ServerState) → IfSome (status_to_all s) (IsDown image cut)
+pub status_sent : (image : List ℕ) (s : ServerState) → IfSome (status_to_all s) (IsDown image (cut_of s.plan))
 unfolding status_to_all
-status_sent image cut s = all_by image cut (has_no_count s.plan.group s.count) _ (inr (inr (inl (false, refl))))
+status_sent image s = all_by image (cut_of s.plan) (has_no_count s.plan.group s.count) _ (inr (inr (inl (false, refl))))
 
 -- the server goes on, and cuts alike
 pub record GoesOn (image : List ℕ) (s new : ServerState) : Type 0 where
@@ -251,14 +261,14 @@ moved_by : (image : List ℕ) (s : ServerState) (b : Bool) → IsServerOf image 
     → GoesOn image s (cond b (after_count (record s { next = s.next + 1 })) s)
 moved_by image s true k =
     record {
-      is = record { image_is = k.image_is; next = omega arith; few = k.few };
+      is = record { image_is = k.image_is; next = omega arith; few = k.few; indexed = k.indexed; masked = k.masked };
       plan = refl;
     }
 moved_by image s false k = record { is = k; plan = refl }
 
 counts_by : (image : List ℕ) (s : ServerState) (b : Bool) → IsServerOf image s → GoesOn image s (cond b (after_count s) s)
 counts_by image s true k =
-    record { is = record { image_is = k.image_is; next = k.next; few = k.few }; plan = refl }
+    record { is = record { image_is = k.image_is; next = k.next; few = k.few; indexed = k.indexed; masked = k.masked }; plan = refl }
 counts_by image s false k = record { is = k; plan = refl }
 
 pub status_goes : (image : List ℕ) (s : ServerState) → IsServerOf image s → GoesOn image s (after_status_to_all s)
@@ -274,7 +284,7 @@ pub answers_go : (image : List ℕ) (s : ServerState) (dev : ℕ) (cs : List Com
 answers_go image s dev cs None k = record { is = k; plan = refl }
 answers_go image s dev cs (Some stage) k =
     record {
-      is = record { image_is = k.image_is; next = k.next; few = k.few };
+      is = record { image_is = k.image_is; next = k.next; few = k.few; indexed = k.indexed; masked = k.masked };
       plan = refl;
     }
 

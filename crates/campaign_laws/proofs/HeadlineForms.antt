@@ -17,7 +17,7 @@ use Rattle.campaign_server.specs.declared.plan.PlanGroup.{PlanGroup}
 use Rattle.campaign_server.specs.Plan.{Plan}
 use Rattle.campaign_server.specs.Server.{ServerState, DownlinkCommand, ledger, downlink_of}
 use Rattle.wire_base.specs.Numbered.{numbered}
-use Rattle.campaign_server.specs.Asking.{mask_of, by_unicast, request_of}
+use Rattle.campaign_server.specs.Asking.{by_unicast, request_of}
 use Rattle.campaign_server.specs.Fragments.{next_fragment, after_fragment as server_after_fragment, status_to_all, after_status_to_all}
 use Rattle.campaign_server.specs.Time.{time_answer}
 use Rattle.campaign_server.specs.Uplinks.{with_answers, read_uplink, uplink_step}
@@ -34,6 +34,7 @@ use Rattle.campaign_world.specs.Said.{Said, Own, Elsewhere, Reached}
 use Rattle.campaign_world.specs.Causes.{may_come, fits_script, is_device, names_device, may_reach, has_come, form_cause, takes_events, said_cause}
 use Rattle.campaign_world.specs.Making.{with_sent, with_device, with_event, with_event_of, after_answer, after_up, at_events, after_form, after_said}
 use Rattle.campaign_world.specs.Honest.{are_for_others}
+use Rattle.campaign_server.proofs.Plans.{few_masks}
 use Rattle.campaign_server.proofs.LineItems.{if_some, numbered_put, numbered_there}
 use Rattle.campaign_laws.proofs.HeadlineCommands.{cut_of, IsCut}
 use Rattle.device_core.proofs.Stays.{Stays, waking_stays}
@@ -76,43 +77,43 @@ at_header image w section.Devices may stands = absurd cc
 at_header image w section.Events may stands = absurd cc
 at_header image w section.Ended may stands = absurd cc
 
-at_image : (image : List ℕ) (w : WorldState) (size parity : ℕ) (here : Section)
-    → may_come here (Image size parity) ≡ true → StandsIn image w here → (w.sent ≡ []) × (w.devices ≡ [])
-at_image image w size parity section.Header may stands = stands
-at_image image w size parity section.Image may stands = stands
-at_image image w size parity section.Group may stands = absurd cc
-at_image image w size parity section.Window may stands = absurd cc
-at_image image w size parity section.Device may stands = absurd cc
-at_image image w size parity section.Devices may stands = absurd cc
-at_image image w size parity section.Events may stands = absurd cc
-at_image image w size parity section.Ended may stands = absurd cc
+at_image : (image : List ℕ) (w : WorldState) (size parity index : ℕ) (here : Section)
+    → may_come here (Image size parity index) ≡ true → StandsIn image w here → (w.sent ≡ []) × (w.devices ≡ [])
+at_image image w size parity index section.Header may stands = stands
+at_image image w size parity index section.Image may stands = stands
+at_image image w size parity index section.Group may stands = absurd cc
+at_image image w size parity index section.Window may stands = absurd cc
+at_image image w size parity index section.Device may stands = absurd cc
+at_image image w size parity index section.Devices may stands = absurd cc
+at_image image w size parity index section.Events may stands = absurd cc
+at_image image w size parity index section.Ended may stands = absurd cc
 
-at_group : (image : List ℕ) (w : WorldState) (addr min max : ℕ) (key : List ℕ) (here : Section)
-    → may_come here (Group addr key min max) ≡ true → StandsIn image w here
+at_group : (image : List ℕ) (w : WorldState) (id addr min max : ℕ) (key : List ℕ) (here : Section)
+    → may_come here (Group id addr key min max) ≡ true → StandsIn image w here
     → (w.sent ≡ []) × (w.devices ≡ []) × IsCut image (cut_of w.server.plan)
-at_group image w addr min max key section.Header may stands = absurd cc
-at_group image w addr min max key section.Image may stands = absurd cc
-at_group image w addr min max key section.Group may stands = stands
-at_group image w addr min max key section.Window may stands = absurd cc
-at_group image w addr min max key section.Device may stands = absurd cc
-at_group image w addr min max key section.Devices may stands = absurd cc
-at_group image w addr min max key section.Events may stands = absurd cc
-at_group image w addr min max key section.Ended may stands = absurd cc
+at_group image w id addr min max key section.Header may stands = absurd cc
+at_group image w id addr min max key section.Image may stands = absurd cc
+at_group image w id addr min max key section.Group may stands = stands
+at_group image w id addr min max key section.Window may stands = absurd cc
+at_group image w id addr min max key section.Device may stands = absurd cc
+at_group image w id addr min max key section.Devices may stands = absurd cc
+at_group image w id addr min max key section.Events may stands = absurd cc
+at_group image w id addr min max key section.Ended may stands = absurd cc
 
 -- any other form comes behind the image's line
 abbrev pub is_early : Form → Bool
 is_early Header = true
-is_early (Image size parity) = true
+is_early (Image size parity index) = true
 is_early form = false
 
-not_header : (form : Form) → is_early form ≡ false → may_come section.Header form ≡ true → ⊥
+pub not_header : (form : Form) → is_early form ≡ false → may_come section.Header form ≡ true → ⊥
 not_header Header late may = true≢false late
-not_header (Image size parity) late may = true≢false late
+not_header (Image size parity index) late may = true≢false late
 not_header form late may = true≢false (sym may)
 
-not_image : (form : Form) → is_early form ≡ false → may_come section.Image form ≡ true → ⊥
+pub not_image : (form : Form) → is_early form ≡ false → may_come section.Image form ≡ true → ⊥
 not_image Header late may = true≢false late
-not_image (Image size parity) late may = true≢false late
+not_image (Image size parity index) late may = true≢false late
 not_image form late may = true≢false (sym may)
 
 pub late_cut : (image : List ℕ) (w : WorldState) (form : Form) (here : Section) → is_early form ≡ false
@@ -323,10 +324,6 @@ still_turn image said w v other server stands lines cut devices sent = record {
   });
 }
 
-few_groups : (group : Option PlanGroup) → mask_of group ≤ 1
-few_groups None = omega arith
-few_groups (Some group) = omega arith
-
 few_rows : (id hw rows offset : ℕ) → ranged id hw rows offset ≡ true → rows ≤ max_rows
 few_rows id hw rows offset all =
     let a = and_parts (nat_le 1 id && nat_le id max_devices && nat_lt hw (2 ^ 32) && nat_le rows max_rows) (nat_lt offset (2 ^ 32)) all in
@@ -346,16 +343,23 @@ unfolding after_form in_range
 form_turn image w Header bytes k fine honest =
     let was = at_header image w w.section (passes w Header fine).may k.stands in
     still_turn image (Own Header) w _ refl k.server was refl refl refl refl
-form_turn image w (Image frag_size parity) bytes k fine honest =
-    let p = passes w (Image frag_size parity) fine in
-    let was = at_image image w frag_size parity w.section p.may k.stands in
+form_turn image w (Image frag_size parity index) bytes k fine honest =
+    let p = passes w (Image frag_size parity index) fine in
+    let was = at_image image w frag_size parity index w.section p.may k.stands in
     let both = and_parts _ _ p.ranged in
-    let low = and_parts _ _ both.0 in
+    let whole = and_parts _ _ both.0 in
+    let low = and_parts _ _ whole.0 in
     let cuts = and_parts _ _ low.0 in
     let few : nb_frag_of (length w.server.image) frag_size ≤ max_pieces = leb-true _ _ both.1 in
     record {
       lines = refl;
-      server = record { image_is = k.server.image_is; next = omega arith; few = leb-true _ _ low.1 };
+      server = record {
+        image_is = k.server.image_is;
+        next = omega arith;
+        few = leb-true _ _ low.1;
+        indexed = leb-true _ _ whole.1;
+        masked = k.server.masked;
+      };
       stands = (
         was.0,
         was.1,
@@ -363,27 +367,38 @@ form_turn image w (Image frag_size parity) bytes k fine honest =
           some = leb-true _ _ cuts.0;
           small = leb-true _ _ cuts.1;
           few = subst (λ (i : List ℕ). nb_frag_of (length i) frag_size ≤ max_pieces) k.server.image_is few;
-          groups = few_groups w.server.plan.group;
+          indexed = leb-true _ _ whole.1;
+          groups = k.server.masked;
         },
       );
       how = inr (inl (record { other = refl; before = was.1; devices = was.1; none = was.0; sent = was.0 }));
     }
-form_turn image w (Group addr key min max) bytes k fine honest =
-    let was = at_group image w addr min max key w.section (passes w (Group addr key min max) fine).may k.stands in
+form_turn image w (Group id addr key min max) bytes k fine honest =
+    let p = passes w (Group id addr key min max) fine in
+    let was = at_group image w id addr min max key w.section p.may k.stands in
+    let both = and_parts _ true p.ranged in
+    let named = and_parts _ (nat_le id 3) both.0 in
+    let few : 2 ^ id ≤ 8 = few_masks id (leb-true _ _ named.1) in
     record {
       lines = refl;
-      server = record { image_is = k.server.image_is; next = omega arith; few = k.server.few };
-      stands = record { some = was.2.some; small = was.2.small; few = was.2.few; groups = omega arith };
+      server = record {
+        image_is = k.server.image_is;
+        next = omega arith;
+        few = k.server.few;
+        indexed = k.server.indexed;
+        masked = few;
+      };
+      stands = record { some = was.2.some; small = was.2.small; few = was.2.few; indexed = was.2.indexed; groups = few };
       how = inr (inl (record { other = refl; before = was.1; devices = was.1; none = was.0; sent = was.0 }));
     }
 form_turn image w (WindowC start timeout freq dr) bytes k fine honest =
     still_turn image (Own (WindowC start timeout freq dr)) w _ refl
-    (record { image_is = k.server.image_is; next = omega arith; few = k.server.few })
+    (record { image_is = k.server.image_is; next = omega arith; few = k.server.few; indexed = k.server.indexed; masked = k.server.masked })
     (late_cut image w (WindowC start timeout freq dr) w.section refl
     (passes w (WindowC start timeout freq dr) fine).may k.stands) refl refl refl refl
 form_turn image w (WindowB start periodicity timeout freq dr) bytes k fine honest =
     still_turn image (Own (WindowB start periodicity timeout freq dr)) w _ refl
-    (record { image_is = k.server.image_is; next = omega arith; few = k.server.few })
+    (record { image_is = k.server.image_is; next = omega arith; few = k.server.few; indexed = k.server.indexed; masked = k.server.masked })
     (late_cut image w (WindowB start periodicity timeout freq dr) w.section refl
     (passes w (WindowB start periodicity timeout freq dr) fine).may k.stands) refl refl refl refl
 form_turn image w (Device id class hw rows offset key descriptor v1 k11) bytes k fine honest =
@@ -392,7 +407,7 @@ form_turn image w (Device id class hw rows offset key descriptor v1 k11) bytes k
     let next : id ≡ length w.devices + 1 = eqb-true _ _ both.1 in
     record {
       lines = refl;
-      server = record { image_is = k.server.image_is; next = omega arith; few = k.server.few };
+      server = record { image_is = k.server.image_is; next = omega arith; few = k.server.few; indexed = k.server.indexed; masked = k.server.masked };
       stands = late_cut image w (Device id class hw rows offset key descriptor v1 k11) w.section refl p.may k.stands;
       how = inr (inr (inl (record {
         other = refl;
@@ -439,7 +454,7 @@ form_turn image w Status bytes k fine honest =
     sends_turn image (Own Status) w (after_status_to_all w.server) None (status_to_all w.server) refl
     (status_goes image w.server k.server)
     (late_cut image w Status w.section refl (passes w Status fine).may k.stands)
-    (status_sent image (cut_of w.server.plan) w.server)
+    (status_sent image w.server)
 form_turn image w (Down number device word) bytes k fine honest =
     let p = passes w (Down number device word) fine in
     let there = number_there (length w.devices) device p.names in
@@ -480,17 +495,17 @@ reached_passes w n word down fine =
     (first.0, second.0)
 
 -- what the line brings need not have been sent to a campaign's device, or is a frame
-abbrev pub is_odd : Said → Bool
-is_odd (Own form) = is_strange form
-is_odd Elsewhere = false
-is_odd (Reached n word down) = not (are_for_others (reading_of down.port direction.Down down.payload))
+abbrev pub is_odd : (index : ℕ) → Said → Bool
+is_odd index (Own form) = is_strange form
+is_odd index Elsewhere = false
+is_odd index (Reached n word down) = not (are_for_others index (reading_of down.port direction.Down down.payload))
 
 pub not_true : (b : Bool) → not b ≡ false → b ≡ true
 not_true true is = refl
 not_true false is = absurd cc
 
 pub said_turn : (image : List ℕ) (w : WorldState) (said : Said) → All (λ b. b < 2 ^ 8) image → Keeps image w
-    → said_cause w said ≡ None → is_odd said ≡ false → Turns image said w (after_said w said)
+    → said_cause w said ≡ None → is_odd w.server.plan.index said ≡ false → Turns image said w (after_said w said)
 said_turn image w (Own form) bytes k fine plain = form_turn image w form bytes k fine plain
 said_turn image w Elsewhere bytes k fine plain = still_turn image Elsewhere w w refl k.server k.stands refl refl refl refl
 said_turn image w (Reached n word down) bytes k fine plain =
@@ -500,4 +515,4 @@ said_turn image w (Reached n word down) bytes k fine plain =
     let its = if_some (IsDeviceFor image (cut_of w.server.plan)) (numbered w.devices n) d.0 d.1 (k.devices n) in
     quiet_turn image w n (Reached n word down) d.0 (Receives w.time word (w.lines + 1) down) refl k
     (events_cut image w w.section p.0 k.stands) there.0 d.1
-    (crossing_stays w.time word (w.lines + 1) down d.0 (not_true _ plain) its.alone)
+    (crossing_stays w.server.plan.index w.time word (w.lines + 1) down d.0 (not_true _ plain) its.alone)

@@ -18,7 +18,7 @@ use Rattle.package_grammar.specs.declared.downlink.To.{To}
 use Rattle.package_grammar.specs.declared.downlink.To.TheVariants.{Unicast}
 use Rattle.package_grammar.specs.declared.downlink.Downlink.{Downlink}
 use Rattle.device_core.specs.declared.config.DeviceConfig.{DeviceConfig}
-use Rattle.device_core.specs.SessionTable.{SessionTable}
+use Rattle.device_core.specs.SessionTable.{SessionTable, session_at}
 use Rattle.device_core.specs.Device.{DeviceState, first_device}
 use Rattle.device_core.specs.ClassSessions.{hears}
 use Rattle.campaign_server.specs.Server.{DownlinkCommand, downlink_of}
@@ -38,7 +38,8 @@ use Rattle.campaign_world.specs.Honest.{AreHonest}
 use Rattle.campaign_laws.specs.Headline.{HandsOver, Delivers, Listens, campaign_before, Brings, WasBrought, CameInOrder}
 use Rattle.campaign_server.proofs.LineItems.{if_some, some_is, some_weaker, none_there, numbered_more, numbered_push, numbered_put, numbered_there, numbered_next, take_next}
 use Rattle.campaign_laws.proofs.HeadlineCommands.{Cut, cut_of, setup_req, command_of, setup_request, fragment_command, IsGood, setup_good, fragment_good}
-use Rattle.device_core.proofs.Stays.{Moves, stays}
+use Rattle.device_core.proofs.Stays.{Moves, Stays}
+use Rattle.campaign_laws.proofs.OwnSession.{at_own, none_at}
 use Rattle.campaign_laws.proofs.HeadlinePayloads.{comes_to, way_of}
 use Rattle.campaign_laws.proofs.HeadlineEnds.{IsSetFor, IsDeviceFor}
 use Rattle.campaign_laws.proofs.HeadlineWorlds.{Keeps, first_keeps, HasStayed, IsQuiet, Turns, IsReached, turn_keeps}
@@ -47,11 +48,11 @@ use Rattle.campaign_laws.proofs.HonestLines.{heard_said, Says, says_down, Stands
 
 -- ---- deliveries as the campaign goes on
 
-later : (image : List ℕ) (lines : List Line) (sent : List SentPayload) (id : ℕ) (setup : Command) (last next : ℕ)
-    (heard : List Fragment) → last ≤ next → CameInOrder image lines sent id setup last heard
-    → CameInOrder image lines sent id setup next heard
-later image lines sent id setup last next [] le h = (h.0, omega (arith, h.1, le), h.2)
-later image lines sent id setup last next (f ∷ older) le h = (omega (arith, h.0, le), h.1, h.2)
+later : (image : List ℕ) (lines : List Line) (sent : List SentPayload) (id index : ℕ) (setup : Command) (last next : ℕ)
+    (heard : List Fragment) → last ≤ next → CameInOrder image lines sent id index setup last heard
+    → CameInOrder image lines sent id index setup next heard
+later image lines sent id index setup last next [] le h = (h.0, omega (arith, h.1, le), h.2)
+later image lines sent id index setup last next (f ∷ older) le h = (omega (arith, h.0, le), h.1, h.2)
 
 pub still_brings : (image : List ℕ) (lines : List Line) (sent more : List SentPayload) (id n : ℕ) (c : Command)
     → Brings image lines sent id n c → Brings image lines (sent ++ more) id n c
@@ -74,35 +75,35 @@ still_brings image lines sent more id n c b = (
   b.4,
 )
 
-more_sent : (image : List ℕ) (lines : List Line) (sent more : List SentPayload) (id : ℕ) (setup : Command)
-    (last : ℕ) (heard : List Fragment) → CameInOrder image lines sent id setup last heard
-    → CameInOrder image lines (sent ++ more) id setup last heard
-more_sent image lines sent more id setup last [] h = (h.0, h.1, still_brings image lines sent more id h.0 setup h.2)
-more_sent image lines sent more id setup last (f ∷ older) h = (
+more_sent : (image : List ℕ) (lines : List Line) (sent more : List SentPayload) (id index : ℕ) (setup : Command)
+    (last : ℕ) (heard : List Fragment) → CameInOrder image lines sent id index setup last heard
+    → CameInOrder image lines (sent ++ more) id index setup last heard
+more_sent image lines sent more id index setup last [] h = (h.0, h.1, still_brings image lines sent more id h.0 setup h.2)
+more_sent image lines sent more id index setup last (f ∷ older) h = (
   h.0,
-  still_brings image lines sent more id f.mark (Cast (DataFragment 0 f.number f.part)) h.1,
-  more_sent image lines sent more id setup (f.mark - 1) older h.2,
+  still_brings image lines sent more id f.mark (Cast (DataFragment index f.number f.part)) h.1,
+  more_sent image lines sent more id index setup (f.mark - 1) older h.2,
 )
 
 -- what a session heard
 abbrev SessionCame : List ℕ → List Line → List SentPayload → (id last : ℕ) → Session → Type 0
-SessionCame image lines sent id last s = CameInOrder image lines sent id (command_of s.setup) last s.heard
+SessionCame image lines sent id last s = CameInOrder image lines sent id s.setup.index (command_of s.setup) last s.heard
 
--- what a device's session heard
-abbrev DeviceCame : List ℕ → List Line → List SentPayload → (id last : ℕ) → DeviceState → Type 0
-DeviceCame image lines sent id last d = IfSome d.sessions.first (SessionCame image lines sent id last)
+-- what a device's session of this index heard
+abbrev DeviceCame : List ℕ → List Line → List SentPayload → (id index last : ℕ) → DeviceState → Type 0
+DeviceCame image lines sent id index last d = IfSome (session_at d.sessions index) (SessionCame image lines sent id last)
 
 session_later : (image : List ℕ) (lines : List Line) (sent : List SentPayload) (id n : ℕ) (s : Option Session)
     → IfSome s (SessionCame image lines sent id n) → IfSome s (SessionCame image lines sent id (n + 1))
 session_later image lines sent id n s h =
     some_weaker (SessionCame image lines sent id n) (SessionCame image lines sent id (n + 1)) s
-    (λ x c. later image lines sent id (command_of x.setup) n (n + 1) x.heard (omega arith) c) h
+    (λ x c. later image lines sent id x.setup.index (command_of x.setup) n (n + 1) x.heard (omega arith) c) h
 
 session_on : (image : List ℕ) (lines : List Line) (sent more : List SentPayload) (id n : ℕ) (s : Option Session)
     → IfSome s (SessionCame image lines sent id n) → IfSome s (SessionCame image lines (sent ++ more) id (n + 1))
 session_on image lines sent more id n s h =
     some_weaker (SessionCame image lines sent id (n + 1)) (SessionCame image lines (sent ++ more) id (n + 1)) s
-    (λ x c. more_sent image lines sent more id (command_of x.setup) (n + 1) x.heard c)
+    (λ x c. more_sent image lines sent more id x.setup.index (command_of x.setup) (n + 1) x.heard c)
     (session_later image lines sent id n s h)
 
 -- ---- a command
@@ -146,7 +147,7 @@ setup_came image lines sent id last limits here s req d h =
 
 followed_came : (image : List ℕ) (lines : List Line) (sent : List SentPayload) (id n : ℕ) (s : Session)
     (number : ℕ) (part : List ℕ)
-    → WasBrought image lines sent id (record { number = number; part = part; mark = n + 1 })
+    → WasBrought image lines sent id s.setup.index (record { number = number; part = part; mark = n + 1 })
     → SessionCame image lines sent id n s
     → SessionCame image lines sent id (n + 1) (followed s number part (n + 1))
 unfolding followed
@@ -154,7 +155,7 @@ followed_came image lines sent id n s number part f h =
     let back : (n + 1) - 1 ≡ n = omega arith in (
       omega arith,
       f,
-      subst (λ (k : ℕ). CameInOrder image lines sent id (command_of s.setup) k s.heard) (sym back) h,
+      subst (λ (k : ℕ). CameInOrder image lines sent id s.setup.index (command_of s.setup) k s.heard) (sym back) h,
     )
 
 -- a fragment that is not dropped came by a way that the session takes
@@ -169,12 +170,12 @@ open_way s way n part is = open_by (excludes s.setup.mask way) _ is
 
 heard_by : (image : List ℕ) (lines : List Line) (sent : List SentPayload) (id n : ℕ) (s : Session) (number : ℕ)
     (part : List ℕ) (b : Bool)
-    → (b ≡ true → WasBrought image lines sent id (record { number = number; part = part; mark = n + 1 }))
+    → (b ≡ true → WasBrought image lines sent id s.setup.index (record { number = number; part = part; mark = n + 1 }))
     → SessionCame image lines sent id n s
     → IfSome (cond b (Some (followed s number part (n + 1))) (Some s)) (SessionCame image lines sent id (n + 1))
 heard_by image lines sent id n s number part true f h = followed_came image lines sent id n s number part (f refl) h
 heard_by image lines sent id n s number part false f h =
-    later image lines sent id (command_of s.setup) n (n + 1) s.heard (omega arith) h
+    later image lines sent id s.setup.index (command_of s.setup) n (n + 1) s.heard (omega arith) h
 
 no_session : (image : List ℕ) (lines : List Line) (sent : List SentPayload) (id n : ℕ) (way : Via) (number : ℕ)
     (part : List ℕ) → IfSome (after_fragment None way number part (n + 1)) (SessionCame image lines sent id (n + 1))
@@ -184,7 +185,7 @@ no_session image lines sent id n way number part = tt
 fragment_came : (image : List ℕ) (lines : List Line) (sent : List SentPayload) (id n : ℕ) (s : Option Session)
     (way : Via) (number : ℕ) (part : List ℕ)
     → ((x : Session) → s ≡ Some x → excludes x.setup.mask way ≡ false
-    → WasBrought image lines sent id (record { number = number; part = part; mark = n + 1 }))
+    → WasBrought image lines sent id x.setup.index (record { number = number; part = part; mark = n + 1 }))
     → IfSome s (SessionCame image lines sent id n)
     → IfSome (after_fragment s way number part (n + 1)) (SessionCame image lines sent id (n + 1))
 unfolding after_fragment
@@ -214,11 +215,19 @@ delivers lines sent id n p down c line number word line_is form got down_is is g
   },
 )
 
-moved_came : (image : List ℕ) (lines : List Line) (sent : List SentPayload) (id n : ℕ)
-    (F : DeviceConfig → Option Session → Option Session) (d e : DeviceState) → Moves F d e
-    → IfSome (F d.config d.sessions.first) (SessionCame image lines sent id n) → DeviceCame image lines sent id n e
-moved_came image lines sent id n F d e m h =
-    subst (λ (t : SessionTable). IfSome t.first (SessionCame image lines sent id n)) (sym m.sessions) h
+moved_came : (image : List ℕ) (lines : List Line) (sent : List SentPayload) (id index n : ℕ)
+    (F : DeviceConfig → Option Session → Option Session) (d e : DeviceState) → Moves index F d e
+    → IfSome (F d.config (session_at d.sessions index)) (SessionCame image lines sent id n)
+    → DeviceCame image lines sent id index n e
+moved_came image lines sent id index n F d e m h =
+    subst (λ (o : Option Session). IfSome o (SessionCame image lines sent id n))
+    (sym (ap (λ (t : SessionTable). session_at t index) m.sessions
+    ∙ at_own d.sessions index (F d.config (session_at d.sessions index)))) h
+
+stayed_came : (image : List ℕ) (lines : List Line) (sent : List SentPayload) (id index n : ℕ) (d e : DeviceState) → Stays d e
+    → DeviceCame image lines sent id index n d → DeviceCame image lines sent id index n e
+stayed_came image lines sent id index n d e m h =
+    subst (λ (t : SessionTable). IfSome (session_at t index) (SessionCame image lines sent id n)) (sym m.sessions) h
 
 -- the campaign before a line is the one that is read up to it
 pub before_next : (image : List ℕ) (lines : List Line) (w : WorldState)
@@ -251,20 +260,22 @@ reached_came : (image : List ℕ) (lines : List Line) (w v : WorldState) (said :
     → read_lines (Ok (first_world image)) (take w.lines lines) ≡ Ok w
     → numbered lines (w.lines + 1) ≡ Some line → Says line said
     → IsDeviceFor image (cut_of w.server.plan) r.old
-    → DeviceCame image lines w.sent r.id w.lines r.old → DeviceCame image lines w.sent r.id (w.lines + 1) r.new
+    → DeviceCame image lines w.sent r.id w.server.plan.index w.lines r.old
+    → DeviceCame image lines w.sent r.id w.server.plan.index (w.lines + 1) r.new
 reached_came image lines w v said line r bytes read line_is says its h =
     let cut : Cut = cut_of w.server.plan in
     let n : ℕ = w.lines + 1 in
+    let here : Option Session = session_at r.old.sessions cut.index in
     let down : HandsOver line r.number r.id r.word =
     says_down line said r.number r.id r.word says r.said_is in
-    let old : IfSome r.old.sessions.first (SessionCame image lines w.sent r.id n) =
-    session_later image lines w.sent r.id w.lines r.old.sessions.first h in
+    let old : IfSome here (SessionCame image lines w.sent r.id n) =
+    session_later image lines w.sent r.id w.lines here h in
     elim r.acts [
-      | inl deaf ↦ moved_came image lines w.sent r.id n stays r.old r.new deaf.1 old
+      | inl deaf ↦ stayed_came image lines w.sent r.id cut.index n r.old r.new deaf.1 old
       | inr heard ↦ elim heard.1 [
         | inl a ↦
-            moved_came image lines w.sent r.id n _ r.old r.new a.2
-            (setup_came image lines w.sent r.id n _ _ r.old.sessions.first (setup_req image cut) (
+            moved_came image lines w.sent r.id cut.index n _ r.old r.new a.2
+            (setup_came image lines w.sent r.id n _ _ here (setup_req image cut) (
               r.down.to,
               w,
               r.old,
@@ -275,19 +286,22 @@ reached_came image lines w v said line r bytes read line_is says its h =
             ) old)
         | inr other ↦ elim other [
           | inl a ↦
-              moved_came image lines w.sent r.id n _ r.old r.new a.3
-              (fragment_came image lines w.sent r.id w.lines r.old.sessions.first (way_of w.time r.old r.down.to) a.0
+              moved_came image lines w.sent r.id cut.index n _ r.old r.new a.3
+              (fragment_came image lines w.sent r.id w.lines here (way_of w.time r.old r.down.to) a.0
               (data_of image cut.size a.0)
-              (λ s is way. (
+              (λ s is way.
+              let set = if_some (IsSetFor image cut) here s is its.session in
+              let own : s.setup.index ≡ cut.index = ap (λ (q : SetupReq). q.index) set.setup in
+              subst (λ (i : ℕ). WasBrought image lines w.sent r.id i (record { number = a.0; part = data_of image cut.size a.0; mark = n })) (sym own) (
                 r.down.to,
                 w,
                 r.old,
-                delivers lines w.sent r.id n r.payload r.down (fragment_command image cut.size a.0) line r.number r.word
+                delivers lines w.sent r.id n r.payload r.down (fragment_command image cut a.0) line r.number r.word
                     line_is down r.got r.down_is a.2 (fragment_good image cut a.0 r.is_cut a.1),
                 listens image lines w r.id r.down.to r.old read r.before heard.0
-                    (mask_is image cut s _ (if_some (IsSetFor image cut) r.old.sessions.first s is its.session) way),
+                    (mask_is image cut s _ set way),
               )) h)
-          | inr a ↦ moved_came image lines w.sent r.id n stays r.old r.new a.1 old
+          | inr a ↦ stayed_came image lines w.sent r.id cut.index n r.old r.new a.1 old
         ]
       ]
     ]
@@ -295,94 +309,106 @@ reached_came image lines w v said line r bytes read line_is says its h =
 -- ---- a line
 
 -- what each device heard
-pub AllCame : List ℕ → List Line → List SentPayload → ℕ → List DeviceState → Type 0
-AllCame image lines sent n ds = (id : ℕ) → IfSome (numbered ds id) (DeviceCame image lines sent id n)
+pub AllCame : List ℕ → (index : ℕ) → List Line → List SentPayload → ℕ → List DeviceState → Type 0
+AllCame image index lines sent n ds = (id : ℕ) → IfSome (numbered ds id) (DeviceCame image lines sent id index n)
 
-none_came : (image : List ℕ) (lines : List Line) (sent : List SentPayload) (n : ℕ) (ds : List DeviceState)
-    → ds ≡ [] → AllCame image lines sent n ds
+none_came : (image : List ℕ) (index : ℕ) (lines : List Line) (sent : List SentPayload) (n : ℕ) (ds : List DeviceState)
+    → ds ≡ [] → AllCame image index lines sent n ds
 unfolding AllCame
-none_came image lines sent n ds is id =
-    subst (λ (o : Option DeviceState). IfSome o (DeviceCame image lines sent id n))
+none_came image index lines sent n ds is id =
+    subst (λ (o : Option DeviceState). IfSome o (DeviceCame image lines sent id index n))
     (sym (none_there ds id is)) tt
 
-quiet_came : (image : List ℕ) (lines : List Line) (sent more : List SentPayload) (id n : ℕ)
-    (old new : Option DeviceState) → IfSome old (DeviceCame image lines sent id n)
-    → (new ≡ old) ⊎ HasStayed old new → IfSome new (DeviceCame image lines (sent ++ more) id (n + 1))
-quiet_came image lines sent more id n old new h (inl same) =
-    subst (λ (o : Option DeviceState). IfSome o (DeviceCame image lines (sent ++ more) id (n + 1))) (sym same)
-    (some_weaker (DeviceCame image lines sent id n) (DeviceCame image lines (sent ++ more) id (n + 1)) old
-    (λ d c. session_on image lines sent more id n d.sessions.first c) h)
-quiet_came image lines sent more id n old new h (inr s) =
-    some_is (DeviceCame image lines (sent ++ more) id (n + 1)) new s.e s.is
-    (moved_came image lines (sent ++ more) id (n + 1) stays s.d s.e s.moves
-    (session_on image lines sent more id n s.d.sessions.first
-    (if_some (DeviceCame image lines sent id n) old s.d s.was h)))
+quiet_came : (image : List ℕ) (lines : List Line) (sent more : List SentPayload) (id index n : ℕ)
+    (old new : Option DeviceState) → IfSome old (DeviceCame image lines sent id index n)
+    → (new ≡ old) ⊎ HasStayed old new → IfSome new (DeviceCame image lines (sent ++ more) id index (n + 1))
+quiet_came image lines sent more id index n old new h (inl same) =
+    subst (λ (o : Option DeviceState). IfSome o (DeviceCame image lines (sent ++ more) id index (n + 1))) (sym same)
+    (some_weaker (DeviceCame image lines sent id index n) (DeviceCame image lines (sent ++ more) id index (n + 1)) old
+    (λ d c. session_on image lines sent more id n (session_at d.sessions index) c) h)
+quiet_came image lines sent more id index n old new h (inr s) =
+    some_is (DeviceCame image lines (sent ++ more) id index (n + 1)) new s.e s.is
+    (stayed_came image lines (sent ++ more) id index (n + 1) s.d s.e s.moves
+    (session_on image lines sent more id n (session_at s.d.sessions index)
+    (if_some (DeviceCame image lines sent id index n) old s.d s.was h)))
 
-device_later : (image : List ℕ) (lines : List Line) (sent : List SentPayload) (id n : ℕ) (o : Option DeviceState)
-    → IfSome o (DeviceCame image lines sent id n) → IfSome o (DeviceCame image lines sent id (n + 1))
-device_later image lines sent id n o h =
-    some_weaker (DeviceCame image lines sent id n) (DeviceCame image lines sent id (n + 1)) o
-    (λ d c. session_later image lines sent id n d.sessions.first c) h
+device_later : (image : List ℕ) (lines : List Line) (sent : List SentPayload) (id index n : ℕ) (o : Option DeviceState)
+    → IfSome o (DeviceCame image lines sent id index n) → IfSome o (DeviceCame image lines sent id index (n + 1))
+device_later image lines sent id index n o h =
+    some_weaker (DeviceCame image lines sent id index n) (DeviceCame image lines sent id index (n + 1)) o
+    (λ d c. session_later image lines sent id n (session_at d.sessions index) c) h
 
-joined_came : (image : List ℕ) (lines : List Line) (sent : List SentPayload) (n : ℕ) (ds : List DeviceState)
-    (config : DeviceConfig) → AllCame image lines sent n ds
-    → AllCame image lines sent (n + 1) (ds ++ first_device config ∷ [])
+joined_came : (image : List ℕ) (index : ℕ) (lines : List Line) (sent : List SentPayload) (n : ℕ) (ds : List DeviceState)
+    (config : DeviceConfig) → AllCame image index lines sent n ds
+    → AllCame image index lines sent (n + 1) (ds ++ first_device config ∷ [])
 unfolding AllCame
-joined_came image lines sent n ds config h id = elim (numbered_push ds (first_device config) id) [
-  | inl same ↦ subst (λ (o : Option DeviceState). IfSome o (DeviceCame image lines sent id (n + 1))) (sym same)
-      (device_later image lines sent id n (numbered ds id) (h id))
-  | inr new ↦ some_is (DeviceCame image lines sent id (n + 1)) _ (first_device config) new.1 tt
+joined_came image index lines sent n ds config h id = elim (numbered_push ds (first_device config) id) [
+  | inl same ↦ subst (λ (o : Option DeviceState). IfSome o (DeviceCame image lines sent id index (n + 1))) (sym same)
+      (device_later image lines sent id index n (numbered ds id) (h id))
+  | inr new ↦ some_is (DeviceCame image lines sent id index (n + 1)) _ (first_device config) new.1
+      (subst (λ (o : Option Session). IfSome o (SessionCame image lines sent id (n + 1))) (sym (none_at index)) tt)
 ]
+
+-- where the image is cut as it was, the index is what it was
+pub index_on : (w v : WorldState) → cut_of v.server.plan ≡ cut_of w.server.plan → v.server.plan.index ≡ w.server.plan.index
+index_on w v cut = ap (λ (c : Cut). c.index) cut
 
 turn_came : (image : List ℕ) (lines : List Line) (w v : WorldState) (said : Said) (line : Line)
     → All (λ b. b < 2 ^ 8) image → Keeps image w
     → read_lines (Ok (first_world image)) (take w.lines lines) ≡ Ok w
     → Turns image said w v → numbered lines (w.lines + 1) ≡ Some line → Says line said
-    → AllCame image lines w.sent w.lines w.devices → AllCame image lines v.sent (w.lines + 1) v.devices
+    → AllCame image w.server.plan.index lines w.sent w.lines w.devices
+    → AllCame image v.server.plan.index lines v.sent (w.lines + 1) v.devices
 unfolding AllCame
 turn_came image lines w v said line bytes k read turn line_is says h = elim turn.how [
-  | inl q ↦ subst (λ (ss : List SentPayload). AllCame image lines ss (w.lines + 1) v.devices) (sym q.sent) (quiet q)
+  | inl q ↦ subst (λ (i : ℕ). AllCame image i lines v.sent (w.lines + 1) v.devices) (sym (index_on w v q.cut))
+      (subst (λ (ss : List SentPayload). AllCame image index lines ss (w.lines + 1) v.devices) (sym q.sent) (quiet q))
   | inr other ↦ elim other [
-    | inl b ↦ none_came image lines v.sent (w.lines + 1) v.devices b.devices
+    | inl b ↦ none_came image v.server.plan.index lines v.sent (w.lines + 1) v.devices b.devices
     | inr another ↦ elim another [
-      | inl j ↦ subst (λ (ss : List SentPayload). AllCame image lines ss (w.lines + 1) v.devices) (sym j.sent)
-          (subst (AllCame image lines w.sent (w.lines + 1)) (sym j.devices)
-          (joined_came image lines w.sent w.lines w.devices
-          (config_of j.class j.hw j.rows j.offset j.key j.descriptor j.v1 j.k11) h))
-      | inr r ↦ subst (λ (ss : List SentPayload). AllCame image lines ss (w.lines + 1) v.devices) (sym r.sent)
-          (subst (AllCame image lines w.sent (w.lines + 1)) (sym r.devices) (reached r))
+      | inl j ↦ subst (λ (i : ℕ). AllCame image i lines v.sent (w.lines + 1) v.devices) (sym (index_on w v j.cut))
+          (subst (λ (ss : List SentPayload). AllCame image index lines ss (w.lines + 1) v.devices) (sym j.sent)
+          (subst (AllCame image index lines w.sent (w.lines + 1)) (sym j.devices)
+          (joined_came image index lines w.sent w.lines w.devices
+          (config_of j.class j.hw j.rows j.offset j.key j.descriptor j.v1 j.k11) h)))
+      | inr r ↦ subst (λ (i : ℕ). AllCame image i lines v.sent (w.lines + 1) v.devices) (sym (index_on w v r.cut))
+          (subst (λ (ss : List SentPayload). AllCame image index lines ss (w.lines + 1) v.devices) (sym r.sent)
+          (subst (AllCame image index lines w.sent (w.lines + 1)) (sym r.devices) (reached r)))
     ]
   ]
 ]
   where
-    quiet : (q : IsQuiet image said w v) → AllCame image lines (w.sent ++ q.more) (w.lines + 1) v.devices
-    quiet q id = quiet_came image lines w.sent q.more id w.lines (numbered w.devices id) (numbered v.devices id) (h id)
+    index : ℕ
+    index = w.server.plan.index
+
+    quiet : (q : IsQuiet image said w v) → AllCame image index lines (w.sent ++ q.more) (w.lines + 1) v.devices
+    quiet q id = quiet_came image lines w.sent q.more id index w.lines (numbered w.devices id) (numbered v.devices id) (h id)
         (q.devices id)
 
     reached : (r : IsReached image said w v)
-        → AllCame image lines w.sent (w.lines + 1) (slice_set w.devices (r.id - 1) r.new)
+        → AllCame image index lines w.sent (w.lines + 1) (slice_set w.devices (r.id - 1) r.new)
     reached r id = elim (numbered_put w.devices r.id id r.new r.first) [
-      | inr same ↦ subst (λ (o : Option DeviceState). IfSome o (DeviceCame image lines w.sent id (w.lines + 1))) (sym same)
-          (device_later image lines w.sent id w.lines (numbered w.devices id) (h id))
-      | inl is ↦ some_is (DeviceCame image lines w.sent id (w.lines + 1)) _ r.new
+      | inr same ↦ subst (λ (o : Option DeviceState). IfSome o (DeviceCame image lines w.sent id index (w.lines + 1))) (sym same)
+          (device_later image lines w.sent id index w.lines (numbered w.devices id) (h id))
+      | inl is ↦ some_is (DeviceCame image lines w.sent id index (w.lines + 1)) _ r.new
           (ap (λ (x : ℕ). numbered (slice_set w.devices (r.id - 1) r.new) x) is
           ∙ numbered_there w.devices r.id r.old r.new r.before)
-          (subst (λ (x : ℕ). DeviceCame image lines w.sent x (w.lines + 1) r.new) (sym is)
+          (subst (λ (x : ℕ). DeviceCame image lines w.sent x index (w.lines + 1) r.new) (sym is)
           (reached_came image lines w v said line r bytes read line_is says
           (if_some (IsDeviceFor image (cut_of w.server.plan)) (numbered w.devices r.id) r.old r.before (k.devices r.id))
-          (if_some (DeviceCame image lines w.sent r.id w.lines) (numbered w.devices r.id) r.old r.before (h r.id))))
+          (if_some (DeviceCame image lines w.sent r.id index w.lines) (numbered w.devices r.id) r.old r.before (h r.id))))
     ]
 
 -- ---- lines that are read
 
 -- what holds between two lines, with these lines left
-pub record Reads (image : List ℕ) (lines : List Line) (rest : List Line) (w : WorldState) : Type 0 where
-  pub stands : Stands image w
-  pub came : AllCame image lines w.sent w.lines w.devices
+pub record Reads (image : List ℕ) (index : ℕ) (lines : List Line) (rest : List Line) (w : WorldState) : Type 0 where
+  pub stands : Stands image index w
+  pub came : AllCame image w.server.plan.index lines w.sent w.lines w.devices
   pub left : drop w.lines lines ≡ rest
   pub read : read_lines (Ok (first_world image)) (take w.lines lines) ≡ Ok w
-  pub fits : AllFit rest
-  pub honest : AreHonest rest
+  pub fits : AllFit index rest
+  pub honest : AreHonest index rest
 
 -- lines are read one after another
 read_more : (r : Result WorldState LineFault) (xs : List Line) (x : Line)
@@ -409,19 +435,19 @@ read_next image lines w line rest read left fine =
     ∙ read_one w line fine
 
 -- the next line is read
-said_reads : (image : List ℕ) (lines : List Line) (w : WorldState) (line : Line) (rest : List Line)
-    → All (λ b. b < 2 ^ 8) image → Reads image lines (line ∷ rest) w
-    → cause_of w line ≡ None → line_cause w line ≡ None → Reads image lines rest (after_line w line)
-said_reads image lines w (Err cause) rest bytes r none fine = absurd cc
-said_reads image lines w (Ok said) rest bytes r none fine =
+said_reads : (image : List ℕ) (index : ℕ) (lines : List Line) (w : WorldState) (line : Line) (rest : List Line)
+    → All (λ b. b < 2 ^ 8) image → Reads image index lines (line ∷ rest) w
+    → cause_of w line ≡ None → line_cause w line ≡ None → Reads image index lines rest (after_line w line)
+said_reads image index lines w (Err cause) rest bytes r none fine = absurd cc
+said_reads image index lines w (Ok said) rest bytes r none fine =
     let line : Line = Ok said in
     let next = numbered_next lines w.lines line rest r.left in
-    let on = goes_on_by image w line said bytes r.stands refl none r.fits.0 fine r.honest.0 in
+    let on = goes_on_by image index w line said bytes r.stands refl none r.fits.0 fine r.honest.0 in
     let v : WorldState = after_said w (heard_said said) in
     let came = turn_came image lines w v (heard_said said) line bytes r.stands.keeps r.read on.turn next.0 on.says r.came in
-    let behind : Reads image lines rest (one_line_more v) = record {
+    let behind : Reads image index lines rest (one_line_more v) = record {
       stands = on.stands;
-      came = subst (λ (n : ℕ). AllCame image lines v.sent (n + 1) v.devices) (sym on.turn.lines) came;
+      came = subst (λ (n : ℕ). AllCame image v.server.plan.index lines v.sent (n + 1) v.devices) (sym on.turn.lines) came;
       left = ap (λ (n : ℕ). drop (n + 1) lines) on.turn.lines ∙ next.1;
       fits = r.fits.1;
       honest = r.honest.1;
@@ -429,7 +455,7 @@ said_reads image lines w (Ok said) rest bytes r none fine =
           ∙ read_next image lines w line rest r.read r.left none
           ∙ ap (λ (u : WorldState). let o : Result WorldState LineFault = Ok (one_line_more u) in o) on.heard.same;
     } in
-    subst (λ (u : WorldState). Reads image lines rest (one_line_more u)) (sym on.heard.same) behind
+    subst (λ (u : WorldState). Reads image index lines rest (one_line_more u)) (sym on.heard.same) behind
 
 pub cause_by : (b : Bool) (why : LineWhy) (rest : Option LineWhy) → cond b (Some why) rest ≡ None → rest ≡ None
 cause_by true why rest is = absurd cc
@@ -439,27 +465,27 @@ line_fine : (w : WorldState) (line : Line) → cause_of w line ≡ None → line
 unfolding cause_of
 line_fine w line is = cause_by _ _ _ is
 
-pub line_reads : (image : List ℕ) (lines : List Line) (w : WorldState) (line : Line) (rest : List Line)
-    (cause : Option LineWhy) → All (λ b. b < 2 ^ 8) image → Reads image lines (line ∷ rest) w → cause_of w line ≡ cause
-    → IfOk (line_result w line cause) (Reads image lines rest)
-line_reads image lines w line rest (Some why) bytes r is = tt
-line_reads image lines w line rest None bytes r is =
-    said_reads image lines w line rest bytes r is (line_fine w line is)
+pub line_reads : (image : List ℕ) (index : ℕ) (lines : List Line) (w : WorldState) (line : Line) (rest : List Line)
+    (cause : Option LineWhy) → All (λ b. b < 2 ^ 8) image → Reads image index lines (line ∷ rest) w → cause_of w line ≡ cause
+    → IfOk (line_result w line cause) (Reads image index lines rest)
+line_reads image index lines w line rest (Some why) bytes r is = tt
+line_reads image index lines w line rest None bytes r is =
+    said_reads image index lines w line rest bytes r is (line_fine w line is)
 
-all_read : (image : List ℕ) (lines : List Line) (r : Result WorldState LineFault) (rest : List Line)
-    → All (λ b. b < 2 ^ 8) image → IfOk r (Reads image lines rest) → IfOk (read_lines r rest) (Reads image lines [])
+all_read : (image : List ℕ) (index : ℕ) (lines : List Line) (r : Result WorldState LineFault) (rest : List Line)
+    → All (λ b. b < 2 ^ 8) image → IfOk r (Reads image index lines rest) → IfOk (read_lines r rest) (Reads image index lines [])
 unfolding read_lines read_line
-all_read image lines (Err fault) rest bytes h = tt
-all_read image lines (Ok w) [] bytes h = h
-all_read image lines (Ok w) (line ∷ rest) bytes h =
-    all_read image lines (read_line w line) rest bytes
-    (line_reads image lines w line rest (cause_of w line) bytes h refl)
+all_read image index lines (Err fault) rest bytes h = tt
+all_read image index lines (Ok w) [] bytes h = h
+all_read image index lines (Ok w) (line ∷ rest) bytes h =
+    all_read image index lines (read_line w line) rest bytes
+    (line_reads image index lines w line rest (cause_of w line) bytes h refl)
 
-pub first_reads : (image : List ℕ) (lines : List Line) → AllFit lines → AreHonest lines → Reads image lines lines (first_world image)
+pub first_reads : (image : List ℕ) (index : ℕ) (lines : List Line) → AllFit index lines → AreHonest index lines → Reads image index lines lines (first_world image)
 unfolding read_lines
-first_reads image lines fits honest = record {
-  stands = first_stands image;
-  came = none_came image lines [] 0 [] refl;
+first_reads image index lines fits honest = record {
+  stands = first_stands image index;
+  came = none_came image (first_world image).server.plan.index lines [] 0 [] refl;
   left = refl;
   read = refl;
   fits = fits;
@@ -481,44 +507,60 @@ end_is (Err fault) world is = absurd cc
 end_is (Ok w) world is =
     ap (λ (x : WorldState). let o : Result WorldState LineFault = Ok x in o) (end_by w.section w world is)
 
-pub campaign_reads : (image : List ℕ) (lines : List Line) (world : WorldState) → All (λ b. b < 2 ^ 8) image
-    → AllFit lines → AreHonest lines → campaign_of image lines ≡ Ok world → Reads image lines [] world
+ended_by : (here : Section) (w world : WorldState) → end_result_at here w ≡ Ok world → here ≡ section.Ended
+ended_by section.Header w world is = absurd cc
+ended_by section.Image w world is = absurd cc
+ended_by section.Group w world is = absurd cc
+ended_by section.Window w world is = absurd cc
+ended_by section.Device w world is = absurd cc
+ended_by section.Devices w world is = absurd cc
+ended_by section.Events w world is = absurd cc
+ended_by section.Ended w world is = refl
+
+pub ended : (r : Result WorldState LineFault) (world : WorldState) → end_result r ≡ Ok world → world.section ≡ section.Ended
+ended (Err fault) world is = absurd cc
+ended (Ok w) world is =
+    ap (λ (x : WorldState). x.section) (sym (end_by w.section w world is)) ∙ ended_by w.section w world is
+
+pub campaign_reads : (image : List ℕ) (index : ℕ) (lines : List Line) (world : WorldState) → All (λ b. b < 2 ^ 8) image
+    → AllFit index lines → AreHonest index lines → campaign_of image lines ≡ Ok world → Reads image index lines [] world
 unfolding campaign_of
-campaign_reads image lines world bytes fits honest is =
-    subst (λ (r : Result WorldState LineFault). IfOk r (Reads image lines []))
+campaign_reads image index lines world bytes fits honest is =
+    subst (λ (r : Result WorldState LineFault). IfOk r (Reads image index lines []))
     (end_is (read_lines (Ok (first_world image)) lines) world is)
-    (all_read image lines (Ok (first_world image)) lines bytes
-    (first_reads image lines fits honest))
+    (all_read image index lines (Ok (first_world image)) lines bytes
+    (first_reads image index lines fits honest))
 
 -- ---- so it is in each accepted honest campaign
 
 -- a device is one of the server's
-pub campaign_device : (image : List ℕ) (lines : List Line) (world : WorldState) (id : ℕ) (device : DeviceState)
-    → All (λ b. b < 2 ^ 8) image → AllFit lines → AreHonest lines → campaign_of image lines ≡ Ok world → numbered world.devices id ≡ Some device
+pub campaign_device : (image : List ℕ) (index : ℕ) (lines : List Line) (world : WorldState) (id : ℕ) (device : DeviceState)
+    → All (λ b. b < 2 ^ 8) image → AllFit index lines → AreHonest index lines → campaign_of image lines ≡ Ok world → numbered world.devices id ≡ Some device
     → IsDeviceFor image (cut_of world.server.plan) device
-campaign_device image lines world id device bytes fits honest is d =
+campaign_device image index lines world id device bytes fits honest is d =
     if_some (IsDeviceFor image (cut_of world.server.plan)) (numbered world.devices id) device d
-    ((campaign_reads image lines world bytes fits honest is).stands.keeps.devices id)
+    ((campaign_reads image index lines world bytes fits honest is).stands.keeps.devices id)
 
 -- and so is its session
-pub campaign_session : (image : List ℕ) (lines : List Line) (world : WorldState) (id : ℕ) (device : DeviceState) (session : Session)
-    → All (λ b. b < 2 ^ 8) image → AllFit lines → AreHonest lines → campaign_of image lines ≡ Ok world
-    → numbered world.devices id ≡ Some device → device.sessions.first ≡ Some session
+pub campaign_session : (image : List ℕ) (index : ℕ) (lines : List Line) (world : WorldState) (id : ℕ) (device : DeviceState) (session : Session)
+    → All (λ b. b < 2 ^ 8) image → AllFit index lines → AreHonest index lines → campaign_of image lines ≡ Ok world
+    → numbered world.devices id ≡ Some device → (session_at device.sessions world.server.plan.index) ≡ Some session
     → IsSetFor image (cut_of world.server.plan) session
-campaign_session image lines world id device session bytes fits honest is d s =
-    if_some (IsSetFor image (cut_of world.server.plan)) device.sessions.first session s
-    (campaign_device image lines world id device bytes fits honest is d).session
+campaign_session image index lines world id device session bytes fits honest is d s =
+    if_some (IsSetFor image (cut_of world.server.plan)) (session_at device.sessions world.server.plan.index) session s
+    (campaign_device image index lines world id device bytes fits honest is d).session
 
-pub campaign_came : (image : List ℕ) (lines : List Line) (world : WorldState) (id : ℕ) (device : DeviceState) (session : Session)
-    → All (λ b. b < 2 ^ 8) image → AllFit lines → AreHonest lines → campaign_of image lines ≡ Ok world
-    → numbered world.devices id ≡ Some device → device.sessions.first ≡ Some session
-    → CameInOrder image lines world.sent id (setup_request image (cut_of world.server.plan)) world.lines
+pub campaign_came : (image : List ℕ) (index : ℕ) (lines : List Line) (world : WorldState) (id : ℕ) (device : DeviceState) (session : Session)
+    → All (λ b. b < 2 ^ 8) image → AllFit index lines → AreHonest index lines → campaign_of image lines ≡ Ok world
+    → numbered world.devices id ≡ Some device → (session_at device.sessions world.server.plan.index) ≡ Some session
+    → CameInOrder image lines world.sent id world.server.plan.index (setup_request image (cut_of world.server.plan)) world.lines
     session.heard
 unfolding AllCame
-campaign_came image lines world id device session bytes fits honest is d s =
-    let r = campaign_reads image lines world bytes fits honest is in
+campaign_came image index lines world id device session bytes fits honest is d s =
+    let r = campaign_reads image index lines world bytes fits honest is in
+    let set = campaign_session image index lines world id device session bytes fits honest is d s in
     let came : SessionCame image lines world.sent id world.lines session =
-    if_some (SessionCame image lines world.sent id world.lines) device.sessions.first session s
-    (if_some (DeviceCame image lines world.sent id world.lines) (numbered world.devices id) device d (r.came id)) in
-    subst (λ (x : SetupReq). CameInOrder image lines world.sent id (command_of x) world.lines session.heard)
-    (campaign_session image lines world id device session bytes fits honest is d s).setup came
+    if_some (SessionCame image lines world.sent id world.lines) (session_at device.sessions world.server.plan.index) session s
+    (if_some (DeviceCame image lines world.sent id world.server.plan.index world.lines) (numbered world.devices id) device d (r.came id)) in
+    subst (λ (x : SetupReq). CameInOrder image lines world.sent id x.index (command_of x) world.lines session.heard)
+    set.setup came

@@ -19,6 +19,7 @@ use Rattle.campaign_world.specs.declared.section.Section.TheVariants as section
 use Rattle.report_lines.specs.declared.faults.LineFault.{LineFault}
 use Rattle.campaign_world.specs.World.{WorldState, first_world}
 use Rattle.campaign_world.specs.Said.{Line}
+use Rattle.device_core.specs.SessionTable.{session_at}
 use Rattle.campaign_world.specs.Script.{read_lines, end_result_at, end_result, campaign_of}
 use Rattle.campaign_world.specs.Honest.{AreHonest}
 use Rattle.campaign_laws.specs.Fields.{AllFit}
@@ -28,7 +29,7 @@ use Rattle.campaign_server.proofs.LineItems.{within}
 use Rattle.campaign_laws.proofs.HeadlineCommands.{Cut, cut_of, setup_req, setup_request, IsCut}
 use Rattle.campaign_laws.proofs.HeadlineEnds.{IsBounded}
 use Rattle.campaign_laws.proofs.HeadlineWorlds.{StandsIn}
-use Rattle.campaign_laws.proofs.HeadlineLines.{end_by, campaign_reads, campaign_device}
+use Rattle.campaign_laws.proofs.HeadlineLines.{ended, campaign_reads, campaign_device}
 use Rattle.campaign_laws.proofs.HeadlineSessions.{SessionHears}
 use Rattle.campaign_laws.proofs.HeadlineHeard.{campaign_full_at}
 use Rattle.campaign_laws.proofs.HeadlineLaw.{setup_is}
@@ -89,27 +90,12 @@ takes_setup image cut config fine is k takes =
 
 -- ---- the image is cut where the script has ended
 
-ended_by : (here : Section) (w world : WorldState) → end_result_at here w ≡ Ok world → here ≡ section.Ended
-ended_by section.Header w world is = absurd cc
-ended_by section.Image w world is = absurd cc
-ended_by section.Group w world is = absurd cc
-ended_by section.Window w world is = absurd cc
-ended_by section.Device w world is = absurd cc
-ended_by section.Devices w world is = absurd cc
-ended_by section.Events w world is = absurd cc
-ended_by section.Ended w world is = refl
-
-pub ended : (r : Result WorldState LineFault) (world : WorldState) → end_result r ≡ Ok world → world.section ≡ section.Ended
-ended (Err fault) world is = absurd cc
-ended (Ok w) world is =
-    ap (λ (x : WorldState). x.section) (sym (end_by w.section w world is)) ∙ ended_by w.section w world is
-
-campaign_cut : (image : List ℕ) (lines : List Line) (world : WorldState) → All (λ b. b < 2 ^ 8) image
-    → AllFit lines → AreHonest lines → campaign_of image lines ≡ Ok world → IsCut image (cut_of world.server.plan)
+campaign_cut : (image : List ℕ) (index : ℕ) (lines : List Line) (world : WorldState) → All (λ b. b < 2 ^ 8) image
+    → AllFit index lines → AreHonest index lines → campaign_of image lines ≡ Ok world → IsCut image (cut_of world.server.plan)
 unfolding campaign_of
-campaign_cut image lines world bytes fits honest is =
+campaign_cut image index lines world bytes fits honest is =
     subst (StandsIn image world) (ended (read_lines (Ok (first_world image)) lines) world is)
-    (campaign_reads image lines world bytes fits honest is).stands.keeps.stands
+    (campaign_reads image index lines world bytes fits honest is).stands.keeps.stands
 
 -- ---- a session
 
@@ -120,16 +106,16 @@ lives_by image cut brings last n config None takes h le b = absurd (h takes n le
 lives_by image cut brings last n config (Some s) takes h le b = refl
 
 pub live : SessionsLive
-live image lines world id device n bytes fine honest is there takes b =
+live image lines world id device n bytes fine fits honest is there takes b =
     let cut : Cut = cut_of world.server.plan in
     let brings : ℕ → Command → Type 0 = Brings image lines world.sent id in
-    let reads = campaign_reads image lines world bytes fits honest is in
-    let all : SessionHears image cut brings world.lines device.config device.sessions.first =
-    campaign_full_at image lines world id device bytes fits honest is there in
+    let reads = campaign_reads image cut.index lines world bytes fits honest is in
+    let all : SessionHears image cut brings world.lines device.config (session_at device.sessions cut.index) =
+    campaign_full_at image cut.index lines world id device bytes fits honest is there in
     let left : length (drop world.lines lines) ≡ 0 = ap length reads.left in
     let inside : n ≤ length lines = within lines n b.3.0 b.3.4.line_is in
-    lives_by image cut brings world.lines n device.config device.sessions.first
-    (takes_setup image cut device.config fine (campaign_cut image lines world bytes fits honest is)
-    (campaign_device image lines world id device bytes fits honest is there).bounds takes)
+    lives_by image cut brings world.lines n device.config (session_at device.sessions cut.index)
+    (takes_setup image cut device.config fine (campaign_cut image cut.index lines world bytes fits honest is)
+    (campaign_device image cut.index lines world id device bytes fits honest is there).bounds takes)
     all (omega (arith, left, inside, length-drop world.lines lines))
     (subst (λ (x : Command). brings n x) (setup_is image world.server reads.stands.keeps.server) b)

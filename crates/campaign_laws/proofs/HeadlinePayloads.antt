@@ -25,7 +25,8 @@ use Rattle.device_core.specs.declared.config.DeviceConfig.{DeviceConfig}
 use Rattle.device_core.specs.declared.arrival.Arrival.{Arrival}
 use Rattle.device_core.specs.declared.delivered.Delivered.{Delivered}
 use Rattle.device_core.specs.declared.delivered.Delivered.TheVariants.{Deaf, OutboxFull, Done}
-use Rattle.device_core.specs.SessionTable.{with_session}
+use Rattle.device_core.specs.SessionTable.{session_at, with_session}
+use Rattle.device_core.specs.declared.uplink.Uplink.{Uplink}
 use Rattle.device_core.specs.Device.{DeviceState, room_of, limits_of, with_counts, after_deaf, after_full, after_dropped}
 use Rattle.device_core.specs.Answers.{DeviceStep, after_answers}
 use Rattle.device_core.specs.Clock.{answer_step, periodicity_step, resync_step}
@@ -34,7 +35,8 @@ use Rattle.device_core.specs.Groups.{groups_step, group_setup_step, group_delete
 use Rattle.device_core.specs.Firmware.{version_step, upgrade_step, delete_image_step, reboot_time_step, countdown_step, after_due_reboot}
 use Rattle.device_core.specs.Fragments.{setup_step, status_step, heard_step, fragment_step}
 use Rattle.device_core.specs.Step.{command_step, acts, step, after_commands, weight, weights}
-use Rattle.device_core.proofs.Stays.{Moves, stays, Stays, stays_on, reboot_keeps, between}
+use Rattle.device_core.proofs.Stays.{Moves, Stays, stays_on, reboot_keeps, between, still_between}
+use Rattle.campaign_laws.proofs.OwnSession.{put_back}
 use Rattle.device_core.specs.Deliver.{Outcome, message_delivery, read_delivery, via_of, arrival, heard_delivery, delivery}
 use Rattle.campaign_server.specs.Server.{DownlinkCommand, port_of, downlink_of}
 use Rattle.campaign_laws.proofs.HeadlineCommands.{Cut, setup_req, setup_request, fragment_command, IsElsewhere, IsOther, IsNumber, IsSentOf, IsCut, IsGood, setup_good, fragment_good, status_good, sync_high, good_read}
@@ -75,32 +77,41 @@ one_acts at m c empty light does =
     let few : nat_lt 8 (length m.outbox + weights (c ∷ [])) ≡ false = le-ltb _ _ (omega (arith, none, light)) in
     rw (few, does) refl
 
-answers_move : (F : DeviceConfig → Option Session → Option Session) (m : DeviceState) (made : DeviceStep)
-    → Moves F m made.device → Moves F m (after_answers made)
+answers_move : (P : DeviceState → Type 0) (m : DeviceState) (made : DeviceStep)
+    → ((e : DeviceState) (uplinks : List Uplink) → P e → P (record e { outbox = uplinks }))
+    → P made.device → P (after_answers made)
 unfolding after_answers
-answers_move F m made k = record { config = k.config; sessions = k.sessions }
+answers_move P m made keeps k = keeps made.device _ k
 
 abbrev pub sent_as : To → Command → Downlink
 sent_as to c = downlink_of (record { to = to; command = c })
 
 -- what the command makes is what the payload makes
-good_moves : (F : DeviceConfig → Option Session → Option Session) (t word mark : ℕ) (to : To) (m : DeviceState)
-    (c : Command) → IsGood c → weight c ≤ 1 → acts (via_of m.class_session to) c ≡ true
-    → Moves F m (command_step (arrival t word mark (sent_as to c) m) m c).device → m.outbox ≡ [] → hears m t to ≡ true
-    → Moves F m (heard_delivery t word mark (sent_as to c) m).device
-good_moves F t word mark to m c good light does makes empty on =
+good_moves : (P : DeviceState → Type 0) (t word mark : ℕ) (to : To) (m : DeviceState)
+    (c : Command) → ((e : DeviceState) (uplinks : List Uplink) → P e → P (record e { outbox = uplinks }))
+    → IsGood c → weight c ≤ 1 → acts (via_of m.class_session to) c ≡ true
+    → P (command_step (arrival t word mark (sent_as to c) m) m c).device → m.outbox ≡ [] → hears m t to ≡ true
+    → P (heard_delivery t word mark (sent_as to c) m).device
+good_moves P t word mark to m c keeps good light does makes empty on =
     let at : Arrival = arrival t word mark (sent_as to c) m in
     let whole : (heard_delivery t word mark (sent_as to c) m).device ≡ after_answers (command_step at m c) =
     ap (λ (o : Outcome Delivered). o.device) (heard_reads t word mark (sent_as to c) m on)
     ∙ ap (λ (p : ℕ). (read_delivery at m (reading_of p Down (canonical c))).device) good.port
     ∙ ap (λ (r : Reading). (read_delivery at m r).device) (good_read c good)
     ∙ one_acts at m c empty light does
-    in subst (Moves F m) (sym whole) (answers_move F m (command_step at m c) makes)
+    in subst P (sym whole) (answers_move P m (command_step at m c) keeps makes)
 
 -- ---- each command
 
+moves_keep : (index : ℕ) (F : DeviceConfig → Option Session → Option Session) (m e : DeviceState) (uplinks : List Uplink)
+    → Moves index F m e → Moves index F m (record e { outbox = uplinks })
+moves_keep index F m e uplinks k = record { config = k.config; sessions = k.sessions }
+
+stays_keep : (m e : DeviceState) (uplinks : List Uplink) → Stays m e → Stays m (record e { outbox = uplinks })
+stays_keep m e uplinks k = record { config = k.config; sessions = k.sessions }
+
 setup_moves : (image : List ℕ) (cut : Cut) (at : Arrival) (m : DeviceState)
-    → Moves (set_up image cut) m (command_step at m (setup_request image cut)).device
+    → Moves cut.index (set_up image cut) m (command_step at m (setup_request image cut)).device
 unfolding command_step setup_step
 setup_moves image cut at m = record { config = refl; sessions = refl }
 
@@ -112,35 +123,36 @@ unfolding after_fragment
 dropped_same session way n part mark is =
     ap (λ (b : Bool). cond b (option_map (λ x. followed x n part mark) session) session) is
 
-fragment_by : (at : Arrival) (n : ℕ) (part : List ℕ) (m : DeviceState) (b : Bool)
-    → is_none (drop_cause m.sessions.first at.via n part) ≡ b
-    → Moves (fed at.via n part at.moment.mark) m (cond b (heard_step at m 0 n part) (with_counts after_dropped m))
+fragment_by : (at : Arrival) (index n : ℕ) (part : List ℕ) (m : DeviceState) (b : Bool)
+    → is_none (drop_cause (session_at m.sessions index) at.via n part) ≡ b
+    → Moves index (fed at.via n part at.moment.mark) m (cond b (heard_step at m index n part) (with_counts after_dropped m))
 unfolding heard_step
-fragment_by at n part m true is = record { config = refl; sessions = refl }
-fragment_by at n part m false is = record {
+fragment_by at index n part m true is = record { config = refl; sessions = refl }
+fragment_by at index n part m false is = record {
   config = refl;
-  sessions = ap (λ (session : Option Session). with_session m.sessions 0 session)
-      (sym (dropped_same m.sessions.first at.via n part at.moment.mark is));
+  sessions = sym (put_back m.sessions index)
+      ∙ ap (λ (session : Option Session). with_session m.sessions index session)
+      (sym (dropped_same (session_at m.sessions index) at.via n part at.moment.mark is));
 }
 
-fragment_moves : (at : Arrival) (n : ℕ) (part : List ℕ) (m : DeviceState)
-    → Moves (fed at.via n part at.moment.mark) m (command_step at m (Cast (DataFragment 0 n part))).device
+fragment_moves : (at : Arrival) (index n : ℕ) (part : List ℕ) (m : DeviceState)
+    → Moves index (fed at.via n part at.moment.mark) m (command_step at m (Cast (DataFragment index n part))).device
 unfolding command_step fragment_step
-fragment_moves at n part m = fragment_by at n part m _ refl
+fragment_moves at index n part m = fragment_by at index n part m _ refl
 
-status_stays : (at : Arrival) (m : DeviceState) (all : Bool)
-    → Stays m (command_step at m (Cast (FragSessionStatusReq 0 all))).device
+status_stays : (at : Arrival) (m : DeviceState) (index : ℕ) (all : Bool)
+    → Stays m (command_step at m (Cast (FragSessionStatusReq index all))).device
 unfolding command_step status_step
-status_stays at m all = record { config = refl; sessions = refl }
+status_stays at m index all = record { config = refl; sessions = refl }
 
 -- both act by a group too
-fragment_acts : (way : Via) (n : ℕ) (part : List ℕ) → acts way (Cast (DataFragment 0 n part)) ≡ true
-fragment_acts via.Unicast n part = refl
-fragment_acts (via.Group g) n part = refl
+fragment_acts : (way : Via) (index n : ℕ) (part : List ℕ) → acts way (Cast (DataFragment index n part)) ≡ true
+fragment_acts via.Unicast index n part = refl
+fragment_acts (via.Group g) index n part = refl
 
-status_acts : (way : Via) (all : Bool) → acts way (Cast (FragSessionStatusReq 0 all)) ≡ true
-status_acts via.Unicast all = refl
-status_acts (via.Group g) all = refl
+status_acts : (way : Via) (index : ℕ) (all : Bool) → acts way (Cast (FragSessionStatusReq index all)) ≡ true
+status_acts via.Unicast index all = refl
+status_acts (via.Group g) index all = refl
 
 -- ---- payloads of other ports
 
@@ -251,25 +263,30 @@ way_of t d to = via_of (comes_to t d).class_session to
 -- what is heard of it
 abbrev pub Hears : (image : List ℕ) → Cut → Via → (mark : ℕ) → (d e : DeviceState) → DownlinkCommand → Type 0
 Hears image cut way mark d e down =
-    ((down.command ≡ setup_request image cut) × (down.to ≡ Unicast) × Moves (set_up image cut) d e)
-    ⊎ (((n : ℕ) × IsNumber image cut.size n × (down.command ≡ fragment_command image cut.size n)
-    × Moves (fed way n (data_of image cut.size n) mark) d e)
-    ⊎ (IsOther down.command × Moves stays d e))
+    ((down.command ≡ setup_request image cut) × (down.to ≡ Unicast) × Moves cut.index (set_up image cut) d e)
+    ⊎ (((n : ℕ) × IsNumber image cut.size n × (down.command ≡ fragment_command image cut n)
+    × Moves cut.index (fed way n (data_of image cut.size n) mark) d e)
+    ⊎ (IsOther cut down.command × Stays d e))
 
 abbrev pub Acts : (image : List ℕ) → Cut → (t mark : ℕ) → (d e : DeviceState) → DownlinkCommand → Type 0
 Acts image cut t mark d e down =
-    ((hears (comes_to t d) t down.to ≡ false) × Moves stays d e)
+    ((hears (comes_to t d) t down.to ≡ false) × Stays d e)
     ⊎ ((hears (comes_to t d) t down.to ≡ true) × Hears image cut (way_of t d down.to) mark d e down)
 
 -- the device behind the delivery, its uplinks taken
 abbrev behind : (t word mark : ℕ) → Downlink → DeviceState → DeviceState
 behind t word mark down d = record (delivery t word mark down d).device { outbox = [] }
 
-lands : (F : DeviceConfig → Option Session → Option Session) (t word mark : ℕ) (down : Downlink) (d : DeviceState)
-    → Moves F (comes_to t d) (heard_delivery t word mark down (comes_to t d)).device
-    → Moves F d (behind t word mark down d)
+lands : (index : ℕ) (F : DeviceConfig → Option Session → Option Session) (t word mark : ℕ) (down : Downlink) (d : DeviceState)
+    → Moves index F (comes_to t d) (heard_delivery t word mark down (comes_to t d)).device
+    → Moves index F d (behind t word mark down d)
 unfolding delivery
-lands F t word mark down d h = between F t d (heard_delivery t word mark down (comes_to t d)) h
+lands index F t word mark down d h = between index F t d (heard_delivery t word mark down (comes_to t d)) h
+
+rests : (t word mark : ℕ) (down : Downlink) (d : DeviceState)
+    → Stays (comes_to t d) (heard_delivery t word mark down (comes_to t d)).device → Stays d (behind t word mark down d)
+unfolding delivery
+rests t word mark down d h = still_between t d (heard_delivery t word mark down (comes_to t d)) h
 
 empty_then : (t : ℕ) (d : DeviceState) → d.outbox ≡ [] → (comes_to t d).outbox ≡ []
 empty_then t d empty = (reboot_keeps t d).outbox ∙ empty
@@ -277,41 +294,46 @@ empty_then t d empty = (reboot_keeps t d).outbox ∙ empty
 setup_heard : (image : List ℕ) (cut : Cut) (t word mark : ℕ) (d : DeviceState) (to : To) (x : Command)
     → All (λ b. b < 2 ^ 8) image → IsCut image cut → x ≡ setup_request image cut → to ≡ Unicast → d.outbox ≡ []
     → hears (comes_to t d) t to ≡ true
-    → Moves (set_up image cut) d (behind t word mark (sent_as to x) d)
+    → Moves cut.index (set_up image cut) d (behind t word mark (sent_as to x) d)
 setup_heard image cut t word mark d to x bytes is command way empty on =
     let m : DeviceState = comes_to t d in
-    subst (λ (y : Command). Moves (set_up image cut) d (behind t word mark (sent_as to y) d)) (sym command)
-    (lands (set_up image cut) t word mark (sent_as to (setup_request image cut)) d
-    (good_moves (set_up image cut) t word mark to m (setup_request image cut) (setup_good image cut bytes is)
+    let F = set_up image cut in
+    subst (λ (y : Command). Moves cut.index F d (behind t word mark (sent_as to y) d)) (sym command)
+    (lands cut.index F t word mark (sent_as to (setup_request image cut)) d
+    (good_moves (Moves cut.index F m) t word mark to m (setup_request image cut) (moves_keep cut.index F m)
+    (setup_good image cut bytes is)
     (omega arith) (ap (λ (w : To). acts (via_of m.class_session w) (setup_request image cut)) way)
     (setup_moves image cut (arrival t word mark (sent_as to (setup_request image cut)) m) m) (empty_then t d empty) on))
 
 fragment_heard : (image : List ℕ) (cut : Cut) (t word mark : ℕ) (d : DeviceState) (to : To) (x : Command) (n : ℕ)
-    → IsCut image cut → IsNumber image cut.size n → x ≡ fragment_command image cut.size n → d.outbox ≡ []
+    → IsCut image cut → IsNumber image cut.size n → x ≡ fragment_command image cut n → d.outbox ≡ []
     → hears (comes_to t d) t to ≡ true
-    → Moves (fed (way_of t d to) n (data_of image cut.size n) mark) d (behind t word mark (sent_as to x) d)
+    → Moves cut.index (fed (way_of t d to) n (data_of image cut.size n) mark) d (behind t word mark (sent_as to x) d)
 fragment_heard image cut t word mark d to x n is number command empty on =
     let m : DeviceState = comes_to t d in
     let part : List ℕ = data_of image cut.size n in
     let F = fed (way_of t d to) n part mark in
-    let sent : Command = fragment_command image cut.size n in
-    subst (λ (y : Command). Moves F d (behind t word mark (sent_as to y) d)) (sym command)
-    (lands F t word mark (sent_as to sent) d
-    (good_moves F t word mark to m sent (fragment_good image cut n is number) (omega arith)
-    (fragment_acts (way_of t d to) n part) (fragment_moves (arrival t word mark (sent_as to sent) m) n part m)
+    let sent : Command = fragment_command image cut n in
+    subst (λ (y : Command). Moves cut.index F d (behind t word mark (sent_as to y) d)) (sym command)
+    (lands cut.index F t word mark (sent_as to sent) d
+    (good_moves (Moves cut.index F m) t word mark to m sent (moves_keep cut.index F m) (fragment_good image cut n is number)
+    (omega arith) (fragment_acts (way_of t d to) cut.index n part)
+    (fragment_moves (arrival t word mark (sent_as to sent) m) cut.index n part m)
     (empty_then t d empty) on))
 
-other_heard : (t word mark : ℕ) (d : DeviceState) (to : To) (x : Command) → IsOther x → d.outbox ≡ []
-    → hears (comes_to t d) t to ≡ true → Moves stays d (behind t word mark (sent_as to x) d)
-other_heard t word mark d to x (inl o) empty on =
+other_heard : (image : List ℕ) (cut : Cut) (t word mark : ℕ) (d : DeviceState) (to : To) (x : Command) → IsCut image cut
+    → IsOther cut x → d.outbox ≡ []
+    → hears (comes_to t d) t to ≡ true → Stays d (behind t word mark (sent_as to x) d)
+other_heard image cut t word mark d to x is (inl o) empty on =
     let m : DeviceState = comes_to t d in
-    let sent : Command = Cast (FragSessionStatusReq 0 o.0) in
-    subst (λ (y : Command). Moves stays d (behind t word mark (sent_as to y) d)) (sym o.1)
-    (lands stays t word mark (sent_as to sent) d
-    (good_moves stays t word mark to m sent (status_good o.0) (omega arith) (status_acts (way_of t d to) o.0)
-    (status_stays (arrival t word mark (sent_as to sent) m) m o.0) (empty_then t d empty) on))
-other_heard t word mark d to x (inr o) empty on =
-    lands stays t word mark (sent_as to x) d (far_moves t word mark to (comes_to t d) x o on)
+    let sent : Command = Cast (FragSessionStatusReq cut.index o.0) in
+    subst (λ (y : Command). Stays d (behind t word mark (sent_as to y) d)) (sym o.1)
+    (rests t word mark (sent_as to sent) d
+    (good_moves (Stays m) t word mark to m sent (stays_keep m) (status_good cut.index o.0 is.indexed) (omega arith)
+    (status_acts (way_of t d to) cut.index o.0)
+    (status_stays (arrival t word mark (sent_as to sent) m) m cut.index o.0) (empty_then t d empty) on))
+other_heard image cut t word mark d to x is (inr o) empty on =
+    rests t word mark (sent_as to x) d (far_moves t word mark to (comes_to t d) x o on)
 
 sent_by : (image : List ℕ) (cut : Cut) (t word mark : ℕ) (d : DeviceState) (down : DownlinkCommand) (b : Bool)
     → All (λ x. x < 2 ^ 8) image → IsCut image cut → IsSentOf image cut down → d.outbox ≡ []
@@ -320,7 +342,7 @@ sent_by : (image : List ℕ) (cut : Cut) (t word mark : ℕ) (d : DeviceState) (
 sent_by image cut t word mark d down false bytes is sent empty off =
     inl (
       off,
-      lands stays t word mark (downlink_of down) d
+      rests t word mark (downlink_of down) d
           (deaf_stays t word mark (downlink_of down) (comes_to t d) off),
     )
 sent_by image cut t word mark d down true bytes is (inl s) empty on =
@@ -336,7 +358,7 @@ sent_by image cut t word mark d down true bytes is (inr (inl f)) empty on =
       )),
     )
 sent_by image cut t word mark d down true bytes is (inr (inr o)) empty on =
-    inr (on, inr (inr (o, other_heard t word mark d down.to down.command o empty on)))
+    inr (on, inr (inr (o, other_heard image cut t word mark d down.to down.command is o empty on)))
 
 -- a device that holds no uplink
 pub sent_acts : (image : List ℕ) (cut : Cut) (t word mark : ℕ) (d : DeviceState) (down : DownlinkCommand)

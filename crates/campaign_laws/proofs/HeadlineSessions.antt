@@ -20,7 +20,7 @@ use Rattle.package_grammar.specs.declared.downlink.To.{To}
 use Rattle.package_grammar.specs.declared.downlink.Downlink.{Downlink}
 use Rattle.package_grammar.specs.Grammar.{row}
 use Rattle.device_core.specs.declared.config.DeviceConfig.{DeviceConfig}
-use Rattle.device_core.specs.SessionTable.{SessionTable}
+use Rattle.device_core.specs.SessionTable.{SessionTable, session_at}
 use Rattle.device_core.specs.Device.{DeviceState, room_of, limits_of}
 use Rattle.device_core.specs.ClassSessions.{hears}
 use Rattle.campaign_server.specs.Server.{DownlinkCommand, port_of, downlink_of}
@@ -34,7 +34,8 @@ use Rattle.campaign_world.specs.Script.{read_lines}
 use Rattle.campaign_laws.specs.Headline.{IsFragmentOf, HandsOver, Delivers, Listens, Brings}
 use Rattle.campaign_server.proofs.LineItems.{numbered_more}
 use Rattle.campaign_laws.proofs.HeadlineCommands.{Cut, cut_of, setup_req, setup_request, fragment_command, IsOther, IsSentOf, IsCut, sent_same, fragment_sized}
-use Rattle.device_core.proofs.Stays.{Moves, stays}
+use Rattle.device_core.proofs.Stays.{Moves, Stays}
+use Rattle.campaign_laws.proofs.OwnSession.{at_own}
 use Rattle.campaign_laws.proofs.HeadlinePayloads.{set_up, fed, comes_to, way_of}
 use Rattle.campaign_laws.proofs.HeadlineEnds.{IsSetFor, IsDeviceFor}
 use Rattle.campaign_laws.proofs.HeadlineWorlds.{is_down, IsReached}
@@ -44,9 +45,9 @@ use Rattle.campaign_laws.proofs.HeadlineLines.{before_next}
 -- ---- what a session is to have heard
 
 -- all fragments that the lines up to this one bring after one that brings the setup
-abbrev HeardAll : (brings : ℕ → Command → Type 0) → Command → ℕ → List Fragment → Type 0
-HeardAll brings setup last heard = (f : Fragment) (n : ℕ) → brings n setup → n < f.mark
-    → f.mark ≤ last → brings f.mark (Cast (DataFragment 0 f.number f.part)) → In f heard
+abbrev HeardAll : (brings : ℕ → Command → Type 0) → (index : ℕ) → Command → ℕ → List Fragment → Type 0
+HeardAll brings index setup last heard = (f : Fragment) (n : ℕ) → brings n setup → n < f.mark
+    → f.mark ≤ last → brings f.mark (Cast (DataFragment index f.number f.part)) → In f heard
 
 -- no line up to this one brings it
 abbrev pub NotYet : (brings : ℕ → Command → Type 0) → Command → ℕ → Type 0
@@ -60,12 +61,12 @@ Takes image cut config = setup_bits (limits_of config) (room_of config) (setup_r
 abbrev pub SessionHears : List ℕ → Cut → (brings : ℕ → Command → Type 0) → ℕ → DeviceConfig → Option Session → Type 0
 SessionHears image cut brings last config None = Takes image cut config → NotYet brings (setup_request image cut) last
 SessionHears image cut brings last config (Some s) =
-    Takes image cut config × HeardAll brings (setup_request image cut) last s.heard
+    Takes image cut config × HeardAll brings cut.index (setup_request image cut) last s.heard
 
 -- a device that is not there yet is brought nothing
 abbrev pub DeviceHears : List ℕ → Cut → (brings : ℕ → Command → Type 0) → ℕ → Option DeviceState → Type 0
 DeviceHears image cut brings last None = (c : Command) → NotYet brings c last
-DeviceHears image cut brings last (Some d) = SessionHears image cut brings last d.config d.sessions.first
+DeviceHears image cut brings last (Some d) = SessionHears image cut brings last d.config (session_at d.sessions cut.index)
 
 -- ---- one more line
 
@@ -80,11 +81,11 @@ not_yet_more brings c last none before n le d = elim (up_to n last le) [
   | inr now ↦ none (subst (λ (k : ℕ). brings k c) now d)
 ]
 
-heard_more : (brings : ℕ → Command → Type 0) (setup : Command) (last : ℕ) (heard more : List Fragment)
-    → ((f : Fragment) → f.mark ≡ last + 1 → brings f.mark (Cast (DataFragment 0 f.number f.part)) → In f more)
+heard_more : (brings : ℕ → Command → Type 0) (index : ℕ) (setup : Command) (last : ℕ) (heard more : List Fragment)
+    → ((f : Fragment) → f.mark ≡ last + 1 → brings f.mark (Cast (DataFragment index f.number f.part)) → In f more)
     → ((f : Fragment) → In f heard → In f more)
-    → HeardAll brings setup last heard → HeardAll brings setup (last + 1) more
-heard_more brings setup last heard more now kept before f n d later le w = elim (up_to f.mark last le) [
+    → HeardAll brings index setup last heard → HeardAll brings index setup (last + 1) more
+heard_more brings index setup last heard more now kept before f n d later le w = elim (up_to f.mark last le) [
   | inl old ↦ kept f (before f n d later old w)
   | inr is ↦ now f is w
 ]
@@ -92,13 +93,13 @@ heard_more brings setup last heard more now kept before f n d later le w = elim 
 -- a line that brings neither the setup nor a fragment
 session_more : (image : List ℕ) (cut : Cut) (brings : ℕ → Command → Type 0) (last : ℕ)
     (config : DeviceConfig) (s : Option Session) → (brings (last + 1) (setup_request image cut) → ⊥)
-    → ((f : Fragment) → f.mark ≡ last + 1 → brings f.mark (Cast (DataFragment 0 f.number f.part)) → ⊥)
+    → ((f : Fragment) → f.mark ≡ last + 1 → brings f.mark (Cast (DataFragment cut.index f.number f.part)) → ⊥)
     → SessionHears image cut brings last config s → SessionHears image cut brings (last + 1) config s
 session_more image cut brings last config None no_setup no_fragment h =
     λ t. not_yet_more brings (setup_request image cut) last no_setup (h t)
 session_more image cut brings last config (Some s) no_setup no_fragment h = (
   h.0,
-  heard_more brings (setup_request image cut) last s.heard s.heard (λ f is w. absurd (no_fragment f is w))
+  heard_more brings cut.index (setup_request image cut) last s.heard s.heard (λ f is w. absurd (no_fragment f is w))
       (λ f m. m) h.1,
 )
 
@@ -108,14 +109,14 @@ pub session_quiet : (image : List ℕ) (cut : Cut) (brings : ℕ → Command →
     → SessionHears image cut brings last config s → SessionHears image cut brings (last + 1) config s
 session_quiet image cut brings last config s none h =
     session_more image cut brings last config s (none (setup_request image cut))
-    (λ f is w. none (Cast (DataFragment 0 f.number f.part))
-    (subst (λ (k : ℕ). brings k (Cast (DataFragment 0 f.number f.part))) is w)) h
+    (λ f is w. none (Cast (DataFragment cut.index f.number f.part))
+    (subst (λ (k : ℕ). brings k (Cast (DataFragment cut.index f.number f.part))) is w)) h
 
 pub quiet : (image : List ℕ) (cut : Cut) (brings : ℕ → Command → Type 0) (last : ℕ)
     (o : Option DeviceState) → ((c : Command) → brings (last + 1) c → ⊥)
     → DeviceHears image cut brings last o → DeviceHears image cut brings (last + 1) o
 quiet image cut brings last None none h = λ c. not_yet_more brings c last (none c) (h c)
-quiet image cut brings last (Some d) none h = session_quiet image cut brings last d.config d.sessions.first none h
+quiet image cut brings last (Some d) none h = session_quiet image cut brings last d.config (session_at d.sessions cut.index) none h
 
 -- ---- what a line delivers
 
@@ -219,7 +220,7 @@ stays_same limits s req is =
 
 setup_taken : (image : List ℕ) (cut : Cut) (brings : ℕ → Command → Type 0) (last : ℕ)
     (config : DeviceConfig) (s : Option Session) → Takes image cut config
-    → IfSome s (IsSetFor image cut) → ((f : Fragment) → f.mark ≡ last + 1 → brings f.mark (Cast (DataFragment 0 f.number f.part)) → ⊥)
+    → IfSome s (IsSetFor image cut) → ((f : Fragment) → f.mark ≡ last + 1 → brings f.mark (Cast (DataFragment cut.index f.number f.part)) → ⊥)
     → SessionHears image cut brings last config s
     → SessionHears image cut brings (last + 1) config (Some (renewed (limits_of config) s (setup_req image cut)))
 setup_taken image cut brings last config None takes k no_fragment h = (
@@ -232,7 +233,7 @@ setup_taken image cut brings last config None takes k no_fragment h = (
 )
 setup_taken image cut brings last config (Some s) takes k no_fragment h =
     let more : HeardAll brings (setup_request image cut) (last + 1) s.heard =
-    heard_more brings (setup_request image cut) last s.heard s.heard (λ f is w. absurd (no_fragment f is w))
+    heard_more brings cut.index (setup_request image cut) last s.heard s.heard (λ f is w. absurd (no_fragment f is w))
     (λ f m. m) h.1 in (
       takes,
       subst (λ (x : Session). HeardAll brings (setup_request image cut) (last + 1) x.heard)
@@ -242,7 +243,7 @@ setup_taken image cut brings last config (Some s) takes k no_fragment h =
 setup_by : (image : List ℕ) (cut : Cut) (brings : ℕ → Command → Type 0) (last : ℕ)
     (config : DeviceConfig) (s : Option Session) (b : Bool)
     → (setup_bits (limits_of config) (room_of config) (setup_req image cut) == 0) ≡ b
-    → IfSome s (IsSetFor image cut) → ((f : Fragment) → f.mark ≡ last + 1 → brings f.mark (Cast (DataFragment 0 f.number f.part)) → ⊥)
+    → IfSome s (IsSetFor image cut) → ((f : Fragment) → f.mark ≡ last + 1 → brings f.mark (Cast (DataFragment cut.index f.number f.part)) → ⊥)
     → SessionHears image cut brings last config s
     → SessionHears image cut brings (last + 1) config
     (cond b (Some (renewed (limits_of config) s (setup_req image cut))) s)
@@ -253,7 +254,7 @@ setup_by image cut brings last config (Some s) false is k no_fragment h = absurd
 
 setup_hears : (image : List ℕ) (cut : Cut) (brings : ℕ → Command → Type 0) (last : ℕ)
     (config : DeviceConfig) (s : Option Session)
-    → IfSome s (IsSetFor image cut) → ((f : Fragment) → f.mark ≡ last + 1 → brings f.mark (Cast (DataFragment 0 f.number f.part)) → ⊥)
+    → IfSome s (IsSetFor image cut) → ((f : Fragment) → f.mark ≡ last + 1 → brings f.mark (Cast (DataFragment cut.index f.number f.part)) → ⊥)
     → SessionHears image cut brings last config s
     → SessionHears image cut brings (last + 1) config (set_up image cut config s)
 unfolding after_setup
@@ -286,10 +287,10 @@ heard_session image cut s way n part mark k f takes =
     ap (λ (c : Option Cause). cond (is_none c) (Some (followed s n part mark)) (Some s))
     (not_dropped image cut s way n part mark k f takes)
 
-same_fragment : (f : Fragment) (n : ℕ) (part : List ℕ) (mark : ℕ)
-    → Cast (DataFragment 0 f.number f.part) ≡ Cast (DataFragment 0 n part) → f.mark ≡ mark
+same_fragment : (index : ℕ) (f : Fragment) (n : ℕ) (part : List ℕ) (mark : ℕ)
+    → Cast (DataFragment index f.number f.part) ≡ Cast (DataFragment index n part) → f.mark ≡ mark
     → f ≡ record { number = n; part = part; mark = mark }
-same_fragment f n part mark is at =
+same_fragment index f n part mark is at =
     let number : f.number ≡ n = cc in
     let bytes : f.part ≡ part = cc in
     ap (λ (x : ℕ). let r : Fragment = record { number = x; part = f.part; mark = f.mark } in r) number
@@ -312,7 +313,7 @@ record IsBrought (cut : Cut) (way : Via) (n : ℕ) (part : List ℕ) (mark : ℕ
 kept_by : (image : List ℕ) (cut : Cut) (brings : ℕ → Command → Type 0) (last : ℕ) (config : DeviceConfig)
     (s : Session) (way : Via) (n : ℕ) (part : List ℕ) (b : Bool) → excludes cut.mask way ≡ b
     → IsFragmentOf image cut.size (record { number = n; part = part; mark = last + 1 }) → IsSetFor image cut s
-    → ((f : Fragment) → f.mark ≡ last + 1 → brings f.mark (Cast (DataFragment 0 f.number f.part))
+    → ((f : Fragment) → f.mark ≡ last + 1 → brings f.mark (Cast (DataFragment cut.index f.number f.part))
     → IsBrought cut way n part (last + 1) f)
     → SessionHears image cut brings last config (Some s)
     → SessionHears image cut brings (last + 1) config (after_fragment (Some s) way n part (last + 1))
@@ -321,14 +322,14 @@ kept_by image cut brings last config s way n part true is f k one h =
     subst (λ (x : Option Session). SessionHears image cut brings (last + 1) config x)
     (sym (excluded_same image cut s way n part (last + 1) k is)) (
       h.0,
-      heard_more brings (setup_request image cut) last s.heard s.heard
+      heard_more brings cut.index (setup_request image cut) last s.heard s.heard
           (λ g at w. absurd (true≢false (sym is ∙ (one g at w).takes))) (λ g m. m) h.1,
     )
 kept_by image cut brings last config s way n part false is f k one h =
     subst (λ (x : Option Session). SessionHears image cut brings (last + 1) config x)
     (sym (heard_session image cut s way n part (last + 1) k f is)) (
       h.0,
-      heard_more brings (setup_request image cut) last s.heard
+      heard_more brings cut.index (setup_request image cut) last s.heard
           (record { number = n; part = part; mark = last + 1 } ∷ s.heard) (λ g at w. inl (one g at w).same)
           (λ g m. inr m) h.1,
     )
@@ -345,7 +346,7 @@ fragment_hears : (image : List ℕ) (cut : Cut) (brings : ℕ → Command → Ty
     (config : DeviceConfig) (s : Option Session) (way : Via) (n : ℕ) (part : List ℕ)
     → IsFragmentOf image cut.size (record { number = n; part = part; mark = last + 1 }) → IfSome s (IsSetFor image cut)
     → (brings (last + 1) (setup_request image cut) → ⊥)
-    → ((f : Fragment) → f.mark ≡ last + 1 → brings f.mark (Cast (DataFragment 0 f.number f.part))
+    → ((f : Fragment) → f.mark ≡ last + 1 → brings f.mark (Cast (DataFragment cut.index f.number f.part))
     → IsBrought cut way n part (last + 1) f)
     → SessionHears image cut brings last config s
     → SessionHears image cut brings (last + 1) config (fed way n part (last + 1) config s)
@@ -357,39 +358,49 @@ fragment_hears image cut brings last config (Some s) way n part f k no_setup one
 -- ---- a down
 
 -- a command that leaves the sessions is neither a setup nor a fragment
-no_setup_there : (image : List ℕ) (cut : Cut) (c : Command) → IsOther c → setup_request image cut ≡ c → ⊥
-no_setup_there image cut c (inl o) is = let e : setup_request image cut ≡ Cast (FragSessionStatusReq 0 o.0) = is
+no_setup_there : (image : List ℕ) (cut : Cut) (c : Command) → IsOther cut c → setup_request image cut ≡ c → ⊥
+no_setup_there image cut c (inl o) is = let e : setup_request image cut ≡ Cast (FragSessionStatusReq cut.index o.0) = is
     ∙ o.1 in cc
 no_setup_there image cut c (inr (inl o)) is =
     let e : port_of (setup_request image cut) ≡ 200 = ap port_of is ∙ o in omega (arith, e)
 no_setup_there image cut c (inr (inr o)) is = let e : setup_request image cut ≡ Sync o.0 = is ∙ o.1 in cc
 
-no_fragment_there : (n : ℕ) (part : List ℕ) (c : Command) → IsOther c → Cast (DataFragment 0 n part) ≡ c → ⊥
-no_fragment_there n part c (inl o) is = let e : Cast (DataFragment 0 n part) ≡ Cast (FragSessionStatusReq 0 o.0) = is
-    ∙ o.1 in cc
-no_fragment_there n part c (inr (inl o)) is =
-    let e : port_of (Cast (DataFragment 0 n part)) ≡ 200 = ap port_of is ∙ o in omega (arith, e)
-no_fragment_there n part c (inr (inr o)) is = let e : Cast (DataFragment 0 n part) ≡ Sync o.0 = is ∙ o.1 in cc
+no_fragment_there : (cut : Cut) (n : ℕ) (part : List ℕ) (c : Command) → IsOther cut c → Cast (DataFragment cut.index n part) ≡ c → ⊥
+no_fragment_there cut n part c (inl o) is =
+    let e : Cast (DataFragment cut.index n part) ≡ Cast (FragSessionStatusReq cut.index o.0) = is ∙ o.1 in cc
+no_fragment_there cut n part c (inr (inl o)) is =
+    let e : port_of (Cast (DataFragment cut.index n part)) ≡ 200 = ap port_of is ∙ o in omega (arith, e)
+no_fragment_there cut n part c (inr (inr o)) is = let e : Cast (DataFragment cut.index n part) ≡ Sync o.0 = is ∙ o.1 in cc
 
 pub moved_hears : (image : List ℕ) (cut : Cut) (brings : ℕ → Command → Type 0) (last : ℕ)
-    (F : DeviceConfig → Option Session → Option Session) (d e : DeviceState) → Moves F d e
-    → SessionHears image cut brings last d.config (F d.config d.sessions.first)
-    → SessionHears image cut brings last e.config e.sessions.first
+    (F : DeviceConfig → Option Session → Option Session) (d e : DeviceState) → Moves cut.index F d e
+    → SessionHears image cut brings last d.config (F d.config (session_at d.sessions cut.index))
+    → SessionHears image cut brings last e.config (session_at e.sessions cut.index)
 moved_hears image cut brings last F d e m h =
-    subst (λ (c : DeviceConfig). SessionHears image cut brings last c e.sessions.first) (sym m.config)
-    (subst (λ (t : SessionTable). SessionHears image cut brings last d.config t.first) (sym m.sessions) h)
+    subst (λ (c : DeviceConfig). SessionHears image cut brings last c (session_at e.sessions cut.index)) (sym m.config)
+    (subst (λ (o : Option Session). SessionHears image cut brings last d.config o)
+    (sym (ap (λ (t : SessionTable). session_at t cut.index) m.sessions
+    ∙ at_own d.sessions cut.index (F d.config (session_at d.sessions cut.index)))) h)
+
+pub stayed_hears : (image : List ℕ) (cut : Cut) (brings : ℕ → Command → Type 0) (last : ℕ) (d e : DeviceState) → Stays d e
+    → SessionHears image cut brings last d.config (session_at d.sessions cut.index)
+    → SessionHears image cut brings last e.config (session_at e.sessions cut.index)
+stayed_hears image cut brings last d e m h =
+    subst (λ (c : DeviceConfig). SessionHears image cut brings last c (session_at e.sessions cut.index)) (sym m.config)
+    (subst (λ (t : SessionTable). SessionHears image cut brings last d.config (session_at t cut.index)) (sym m.sessions) h)
 
 pub reached_hears : (image : List ℕ) (lines : List Line) (sent more : List SentPayload) (w v : WorldState)
     (said : Said) (line : Line) (r : IsReached image said w v) → All (λ b. b < 2 ^ 8) image
     → read_lines (Ok (first_world image)) (take w.lines lines) ≡ Ok w
     → IsDeviceFor image (cut_of w.server.plan) r.old → sent ≡ w.sent ++ more
     → numbered lines (w.lines + 1) ≡ Some line → Says line said
-    → SessionHears image (cut_of w.server.plan) (Brings image lines sent r.id) w.lines r.old.config r.old.sessions.first
+    → SessionHears image (cut_of w.server.plan) (Brings image lines sent r.id) w.lines r.old.config (session_at r.old.sessions w.server.plan.index)
     → SessionHears image (cut_of w.server.plan) (Brings image lines sent r.id) (w.lines + 1) r.new.config
-    r.new.sessions.first
+    (session_at r.new.sessions w.server.plan.index)
 reached_hears image lines sent more w v said line r bytes read k grown line_is says h =
     let cut : Cut = cut_of w.server.plan in
     let last : ℕ = w.lines in
+    let own : Option Session = session_at r.old.sessions cut.index in
     let brings : ℕ → Command → Type 0 = Brings image lines sent r.id in
     let got : numbered sent r.number ≡ Some r.payload = ap (λ (xs : List SentPayload). numbered xs r.number) grown
     ∙ numbered_more w.sent more r.number r.payload r.got in
@@ -403,42 +414,42 @@ reached_hears image lines sent more w v said line r bytes read k grown line_is s
     (heard_in image lines w b.1 r.id r.old b.2 b.0 read r.before b.4) in
     let setup : brings (last + 1) (setup_request image cut) → setup_request image cut ≡ r.down.command =
     λ b. (one (setup_request image cut) (record { port_is = refl; direction_is = refl }) refl b).command in
-    let at_last : (f : Fragment) → f.mark ≡ last + 1 → brings f.mark (Cast (DataFragment 0 f.number f.part))
-    → brings (last + 1) (Cast (DataFragment 0 f.number f.part)) =
-    λ f at b. subst (λ (n : ℕ). brings n (Cast (DataFragment 0 f.number f.part))) at b in
-    let fragment : (f : Fragment) → f.mark ≡ last + 1 → brings f.mark (Cast (DataFragment 0 f.number f.part))
-    → Cast (DataFragment 0 f.number f.part) ≡ r.down.command =
-    λ f at b. (one (Cast (DataFragment 0 f.number f.part)) (record { port_is = refl; direction_is = refl }) refl
+    let at_last : (f : Fragment) → f.mark ≡ last + 1 → brings f.mark (Cast (DataFragment cut.index f.number f.part))
+    → brings (last + 1) (Cast (DataFragment cut.index f.number f.part)) =
+    λ f at b. subst (λ (n : ℕ). brings n (Cast (DataFragment cut.index f.number f.part))) at b in
+    let fragment : (f : Fragment) → f.mark ≡ last + 1 → brings f.mark (Cast (DataFragment cut.index f.number f.part))
+    → Cast (DataFragment cut.index f.number f.part) ≡ r.down.command =
+    λ f at b. (one (Cast (DataFragment cut.index f.number f.part)) (record { port_is = refl; direction_is = refl }) refl
     (at_last f at b)).command in
-    let hearing : (f : Fragment) → f.mark ≡ last + 1 → brings f.mark (Cast (DataFragment 0 f.number f.part))
+    let hearing : (f : Fragment) → f.mark ≡ last + 1 → brings f.mark (Cast (DataFragment cut.index f.number f.part))
     → IsHeardIn r.down.to w r.old =
-    λ f at b. listens (Cast (DataFragment 0 f.number f.part)) (record { port_is = refl; direction_is = refl }) refl
+    λ f at b. listens (Cast (DataFragment cut.index f.number f.part)) (record { port_is = refl; direction_is = refl }) refl
     (at_last f at b) in
     elim r.acts [
-      | inl deaf ↦ moved_hears image cut brings (last + 1) stays r.old r.new deaf.1
-          (session_more image cut brings last r.old.config r.old.sessions.first
+      | inl deaf ↦ stayed_hears image cut brings (last + 1) r.old r.new deaf.1
+          (session_more image cut brings last r.old.config own
           (λ b. true≢false (sym (listens (setup_request image cut) (record { port_is = refl; direction_is = refl }) refl
           b).hearing ∙ deaf.0))
           (λ f at b. true≢false (sym (hearing f at b).hearing ∙ deaf.0)) h)
       | inr heard ↦ elim heard.1 [
         | inl a ↦ moved_hears image cut brings (last + 1) _ r.old r.new a.2
-            (setup_hears image cut brings last r.old.config r.old.sessions.first k.session
-            (λ f at b. let e : Cast (DataFragment 0 f.number f.part) ≡ setup_request image cut = fragment f at b
+            (setup_hears image cut brings last r.old.config own k.session
+            (λ f at b. let e : Cast (DataFragment cut.index f.number f.part) ≡ setup_request image cut = fragment f at b
             ∙ a.0 in cc) h)
         | inr other ↦ elim other [
           | inl a ↦ moved_hears image cut brings (last + 1) _ r.old r.new a.3
-              (fragment_hears image cut brings last r.old.config r.old.sessions.first (way_of w.time r.old r.down.to) a.0
+              (fragment_hears image cut brings last r.old.config own (way_of w.time r.old r.down.to) a.0
               (data_of image cut.size a.0)
               (record { first = a.1.0; last = a.1.1; part = refl }) k.session
-              (λ b. let e : setup_request image cut ≡ fragment_command image cut.size a.0 = setup b ∙ a.2 in cc)
+              (λ b. let e : setup_request image cut ≡ fragment_command image cut a.0 = setup b ∙ a.2 in cc)
               (λ f at b. record {
-                same = same_fragment f a.0 (data_of image cut.size a.0) (last + 1) (fragment f at b ∙ a.2) at;
+                same = same_fragment cut.index f a.0 (data_of image cut.size a.0) (last + 1) (fragment f at b ∙ a.2) at;
                 takes = (hearing f at b).way;
               }) h)
-          | inr a ↦ moved_hears image cut brings (last + 1) stays r.old r.new a.1
-              (session_more image cut brings last r.old.config r.old.sessions.first
+          | inr a ↦ stayed_hears image cut brings (last + 1) r.old r.new a.1
+              (session_more image cut brings last r.old.config own
               (λ b. no_setup_there image cut r.down.command a.0 (setup b))
-              (λ f at b. no_fragment_there f.number f.part r.down.command a.0 (fragment f at b)) h)
+              (λ f at b. no_fragment_there cut f.number f.part r.down.command a.0 (fragment f at b)) h)
         ]
       ]
     ]

@@ -3,6 +3,8 @@ use Rattle.std.proofs.Common.{◌≡◌, ◌⊎◌, inl, inr, ℕ, ◌+◌, ◌-
 use Rattle.std.specs.List.{AllByRecursion, slice_set}
 use Rattle.device_core.specs.declared.config.DeviceConfig.{DeviceConfig}
 use Rattle.device_core.specs.Device.{DeviceState, first_device, max_rows}
+use Rattle.frag_session.specs.Session.{Session}
+use Rattle.campaign_laws.proofs.OwnSession.{none_at}
 use Rattle.campaign_server.specs.Server.{DownlinkCommand, downlink_of}
 use Rattle.wire_base.specs.Numbered.{numbered}
 use Rattle.script_lines.specs.declared.forms.Class.{Class}
@@ -15,9 +17,9 @@ use Rattle.campaign_world.specs.Said.{Said, Own}
 use Rattle.campaign_world.specs.Making.{config_of, device_of}
 use Rattle.campaign_server.proofs.LineItems.{some_is, if_some, none_there, numbered_push, numbered_put, numbered_there}
 use Rattle.campaign_laws.proofs.HeadlineCommands.{Cut, cut_of, IsSentOf, IsCut}
-use Rattle.device_core.proofs.Stays.{Moves, stays}
+use Rattle.device_core.proofs.Stays.{Stays}
 use Rattle.campaign_laws.proofs.HeadlinePayloads.{Acts}
-use Rattle.campaign_laws.proofs.HeadlineEnds.{IsBounded, IsDeviceFor, stays_for, acts_keep, IsServerOf}
+use Rattle.campaign_laws.proofs.HeadlineEnds.{IsSetFor, HasRows, IsBounded, IsDeviceFor, stays_for, acts_keep, IsServerOf}
 
 -- ---- a campaign
 
@@ -53,7 +55,7 @@ nobody image cut ds none =
 
 pub first_keeps : (image : List ℕ) → Keeps image (first_world image)
 first_keeps image = record {
-  server = record { image_is = refl; next = omega arith; few = omega arith };
+  server = record { image_is = refl; next = omega arith; few = omega arith; indexed = omega arith; masked = omega arith };
   stands = (refl, refl);
   sent = tt;
   devices = nobody image _ [] refl;
@@ -72,7 +74,7 @@ pub record HasStayed (old new : Option DeviceState) : Type 0 where
   pub e : DeviceState
   pub was : old ≡ Some d
   pub is : new ≡ Some e
-  pub moves : Moves stays d e
+  pub moves : Stays d e
   pub empty : e.outbox ≡ []
 
 -- nothing reaches a device, and some payloads may be sent
@@ -157,9 +159,9 @@ joined_devices image cut ds config bounds k id = elim (numbered_push ds (first_d
   | inl same ↦ subst (λ (o : Option DeviceState). IfSome o (IsDeviceFor image cut)) (sym same) (k id)
   | inr new ↦ some_is (IsDeviceFor image cut) _ (first_device config) new.1 (record {
     empty = refl;
-    session = tt;
-    rows = tt;
-    alone = record { second = refl; third = refl; fourth = refl };
+    session = subst (λ (o : Option Session). IfSome o (IsSetFor image cut)) (sym (none_at cut.index)) tt;
+    rows = subst (λ (o : Option Session). IfSome o (HasRows image cut config)) (sym (none_at cut.index)) tt;
+    alone = λ i low other. none_at i;
     bounds = bounds;
   })
 ]
@@ -221,7 +223,7 @@ turn_keeps image said w v k turn = elim turn.how [
             devices = subst (λ (x : Cut). DevicesAre image x v.devices) (sym r.cut)
                 (subst (DevicesAre image (cut_of w.server.plan)) (sym r.devices)
                 (reached_devices image (cut_of w.server.plan) w.devices r.id r.old r.new r.first r.before
-                (acts_keep image (cut_of w.server.plan) w.time (w.lines + 1) r.old r.new r.down its r.acts r.empty)
+                (acts_keep image (cut_of w.server.plan) w.time (w.lines + 1) r.old r.new r.down r.is_cut its r.acts r.empty)
                 k.devices));
           }
     ]

@@ -56,7 +56,7 @@ pieces image made =
     record { low = omega (arith, t.0, made.low); high = omega (arith, t.1, made.high); whole = t.0; last = t.1 }
 
 pub is_cut : (image : List ℕ) → IsMade image → IsCut image cut
-is_cut image made = let h = pieces image made in record { some = omega arith; small = omega arith; few = omega (arith, h.high); groups = omega arith }
+is_cut image made = let h = pieces image made in record { some = omega arith; small = omega arith; few = omega (arith, h.high); indexed = omega arith; groups = omega arith }
 
 -- ---- the setup
 

@@ -1,6 +1,6 @@
 -- What holds of each honest campaign's keys and counts: a device has no group but the plan's, with its key, and each payload
 -- to the group has a count of its own.
-use Rattle.std.proofs.Common.{◌≡◌, ◌⊎◌, inl, inr, ℕ, ◌+◌, ◌-◌, ◌^◌, ◌/◌, ◌<◌, ◌≤◌, ◌&&◌, ◌==◌, nat_lt, nat_le, Bool, true, false, cond, List, [], ◌∷◌, ◌++◌, length, Option, None, Some, IfSome, is_ok, is_some, Result, Ok, Err, refl, sym, ap, ◌∙◌, subst, arith, eqb-true}
+use Rattle.std.proofs.Common.{◌≡◌, ◌⊎◌, inl, inr, ℕ, ◌+◌, ◌-◌, ◌^◌, ◌/◌, ◌<◌, ◌≤◌, ◌&&◌, ◌==◌, nat_lt, nat_le, Bool, true, false, cond, List, [], ◌∷◌, ◌++◌, length, Option, None, Some, IfSome, is_ok, is_some, Result, Ok, Err, refl, sym, ap, ◌∙◌, subst, lit≤, arith, eqb-true}
 use Rattle.std.proofs.lemmas.Bool.{and_parts, eqb-false, ltb-true, leb-true}
 use Rattle.std.specs.List.{AllByRecursion, slice_set}
 use Rattle.std.specs.Result.{result_ok}
@@ -35,7 +35,7 @@ use Rattle.campaign_server.specs.declared.stage.Stage.TheVariants.{At, Updated, 
 use Rattle.campaign_server.specs.declared.stage.Request.TheVariants as request
 use Rattle.campaign_server.specs.declared.fragments.Spent.{Spent}
 use Rattle.campaign_server.specs.declared.fragments.Spent.TheVariants.{Fragments, Counts}
-use Rattle.campaign_server.specs.Plan.{Plan, fits_bits, own_id, session_index}
+use Rattle.campaign_server.specs.Plan.{Plan, fits_bits, own_id}
 use Rattle.campaign_server.specs.Server.{ServerState, DownlinkCommand, first_count, port_of, downlink_of, ledger}
 use Rattle.campaign_server.specs.Wrapping.{wrapped_key}
 use Rattle.campaign_server.specs.Asking.{cast_of, group_request, fragments_request, window_request_of, window_request, request_at, command_for, by_unicast, request_of}
@@ -53,6 +53,7 @@ use Rattle.campaign_laws.proofs.Unwrapping.{unwraps, wrapped_long}
 -- ---- the plan
 
 pub record FitsGroup (p : PlanGroup) : Type 0 where
+  pub id : p.id ≤ 3
   pub addr : p.addr < 2 ^ 32
   pub key : IsBlock p.key
   pub min : p.min < 2 ^ 32
@@ -171,8 +172,8 @@ group_mild : (g : PlanGroup) (config : DeviceConfig) → FitsGroup g → IsBlock
 group_mild g config fits key =
     let wrapped = wrapped_key (mc_ke_key (root_of config.root config.key)) g.key in
     let whole : length wrapped ≡ 16 = wrapped_long config.root config.key g.key key fits.key in
-    single_mild (Some g) config (Cast (McGroupSetupReq 0 g.addr wrapped g.min g.max))
-    (record { fields = ((omega arith, tt), (fits.addr, (tt, (fits.min, (fits.max, tt))))); whole = whole })
+    single_mild (Some g) config (Cast (McGroupSetupReq g.id g.addr wrapped g.min g.max))
+    (record { fields = ((omega (arith, fits.id), tt), (fits.addr, (tt, (fits.min, (fits.max, tt))))); whole = whole })
     (record { port_is = refl; direction_is = refl })
     (ap (λ (k : List ℕ). let x : Group = record { addr = g.addr; key = k; min = g.min; max = g.max } in x)
     (unwraps config.root config.key g.key key fits.key))
@@ -216,31 +217,31 @@ first_part : (a b : Bool) → (a && b) ≡ true → a ≡ true
 first_part true b is = refl
 first_part false b is = absurd cc
 
-window_mild : (own : Option PlanGroup) (config : DeviceConfig) (start timeout freq dr : ℕ) (k : Kind)
+window_mild : (own : Option PlanGroup) (config : DeviceConfig) (id start timeout freq dr : ℕ) (k : Kind) → id ≤ 3
     → fits_bits (record { kind = k; start = start; timeout = timeout; freq = freq; dr = dr }) ≡ true
     → IsMildReading own config (reading_of 200 Down (canonical (Cast
-    (window_request 0 (record { kind = k; start = start; timeout = timeout; freq = freq; dr = dr })))))
-window_mild own config start timeout freq dr kind.C is =
+    (window_request id (record { kind = k; start = start; timeout = timeout; freq = freq; dr = dr })))))
+window_mild own config id start timeout freq dr kind.C few is =
     let x : PlanWindow = record { kind = kind.C; start = start; timeout = timeout; freq = freq; dr = dr } in
     let fits = fits_window x true is in
-    single_mild own config (Cast (window_request 0 x))
+    single_mild own config (Cast (window_request id x))
     (record {
-      fields = ((omega arith, tt), (fits.start, ((omega (arith, fits.timeout), tt), (fits.freq, (omega (arith, fits.dr), tt)))));
+      fields = ((omega (arith, few), tt), (fits.start, ((omega (arith, fits.timeout), tt), (fits.freq, (omega (arith, fits.dr), tt)))));
       whole = tt;
     })
     (record { port_is = refl; direction_is = refl }) tt
-window_mild own config start timeout freq dr (kind.B periodicity) is =
+window_mild own config id start timeout freq dr (kind.B periodicity) few is =
     let x : PlanWindow = record { kind = kind.B periodicity; start = start; timeout = timeout; freq = freq; dr = dr } in
     let fits = fits_window x (nat_le periodicity 7) is in
-    let few : periodicity ≤ 7 = leb-true _ _ (low is) in
-    single_mild own config (Cast (window_request 0 x))
+    let short : periodicity ≤ 7 = leb-true _ _ (low is) in
+    single_mild own config (Cast (window_request id x))
     (record {
       fields = (
-        (omega arith, tt),
+        (omega (arith, few), tt),
         (
           fits.start,
           (
-            (omega (arith, few), (omega (arith, fits.timeout), tt)),
+            (omega (arith, short), (omega (arith, fits.timeout), tt)),
             (fits.freq, (omega (arith, fits.dr), tt)),
           ),
         ),
@@ -253,24 +254,23 @@ window_mild own config start timeout freq dr (kind.B periodicity) is =
         → nat_le periodicity 7 ≡ true
     low is = first_part _ _ (first_part _ _ (first_part _ _ (first_part _ _ is)))
 
-own_is : (group : Option PlanGroup) → own_id group ≡ 0
-own_is None = refl
-own_is (Some g) = refl
+own_low : (group : Option PlanGroup) → IfSome group FitsGroup → own_id group ≤ 3
+own_low None fits = lit≤ tt
+own_low (Some g) fits = fits.id
 
-window_port : (x : PlanWindow) (k : Kind) → port_of (Cast (window_request_of 0 x k)) ≡ 200
-window_port x kind.C = refl
-window_port x (kind.B periodicity) = refl
+window_port : (x : PlanWindow) (id : ℕ) (k : Kind) → port_of (Cast (window_request_of id x k)) ≡ 200
+window_port x id kind.C = refl
+window_port x id (kind.B periodicity) = refl
 
-window_kept : (plan : Plan) (n id : ℕ) (window : Option PlanWindow) → id ≡ 0 → IfSome window (λ x. fits_bits x ≡ true)
+window_kept : (plan : Plan) (n id : ℕ) (window : Option PlanWindow) → id ≤ 3 → IfSome window (λ x. fits_bits x ≡ true)
     → IfSome (by_unicast (cast_of (λ x. window_request id x) window)) (λ x. IsKept plan (sent_to (Some n) x))
-window_kept plan n id None is fits = tt
-window_kept plan n id (Some x) is fits =
-    subst (λ (i : ℕ). IsKept plan (UnicastTo (Some n) (Cast (window_request i x)))) (sym is) (record {
-      own = λ j config may planned key.
-          subst (λ (p : ℕ). IsMildReading plan.group config (reading_of p Down (canonical (Cast (window_request 0 x)))))
-          (sym (window_port x x.kind)) (window_mild plan.group config x.start x.timeout x.freq x.dr x.kind fits);
-      framed = λ addr count same. no_group addr count same;
-    })
+window_kept plan n id None few fits = tt
+window_kept plan n id (Some x) few fits = record {
+  own = λ j config may planned key.
+      subst (λ (p : ℕ). IsMildReading plan.group config (reading_of p Down (canonical (Cast (window_request id x)))))
+      (sym (window_port x id x.kind)) (window_mild plan.group config id x.start x.timeout x.freq x.dr x.kind few fits);
+  framed = λ addr count same. no_group addr count same;
+}
 
 -- a request
 sync_kept : (plan : Plan) (receiver : Option ℕ) (x : SyncCmd) → IsKept plan (UnicastTo receiver (Sync x))
@@ -283,9 +283,9 @@ request_kept plan image n k (At request.Version) fit at = sync_kept plan (Some n
 request_kept plan image n k (At request.Group) fit at = group_kept plan n k plan.group refl fit.group at
 request_kept plan image n k (At request.Fragments) fit at = away_kept plan (Some n) (Cast (fragments_request plan image)) (inl refl)
 request_kept plan image n k (At request.Window) fit at =
-    window_kept plan n (own_id plan.group) plan.window (own_is plan.group) fit.window
+    window_kept plan n (own_id plan.group) plan.window (own_low plan.group fit.group) fit.window
 request_kept plan image n k (At request.Status) fit at =
-    away_kept plan (Some n) (Cast (FragSessionStatusReq (session_index plan) true)) (inl refl)
+    away_kept plan (Some n) (Cast (FragSessionStatusReq plan.index true)) (inl refl)
 request_kept plan image n k (At request.Image) fit at = sync_kept plan (Some n) s.DevUpgradeImageReq
 request_kept plan image n k (At request.Reboot) fit at = sync_kept plan (Some n) (s.DevRebootCountdownReq 0)
 request_kept plan image n k (At request.Check) fit at = sync_kept plan (Some n) s.DevVersionReq

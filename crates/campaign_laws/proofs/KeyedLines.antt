@@ -1,6 +1,6 @@
 -- The keys and counts of a campaign hold behind each form.
 use Rattle.std.proofs.Common.{◌≡◌, ◌⊎◌, inl, inr, ℕ, zero, suc, ◌+◌, ◌-◌, ◌^◌, ◌<◌, ◌≤◌, ◌&&◌, ◌==◌, nat_lt, nat_le, Bool, true, false, cond, List, [], ◌∷◌, ◌++◌, length, slice_get, replicate, Option, None, Some, IfSome, Result, Ok, Err, refl, sym, ap, ◌∙◌, subst, arith, true≢false}
-use Rattle.std.proofs.lemmas.Bool.{and_parts, ltb-true}
+use Rattle.std.proofs.lemmas.Bool.{and_parts, ltb-true, leb-true}
 use Rattle.std.proofs.lemmas.List.{length-set, length_push}
 use Rattle.std.specs.List.{AllByRecursion, slice_set}
 use Rattle.std.specs.Result.{result_ok}
@@ -256,35 +256,36 @@ window_fits : (w : WorldState) (plan : Plan) → IsFit w.server.plan → plan.gr
     → IfSome plan.window (λ x. fits_bits x ≡ true) → IsFit plan
 window_fits w plan fit group window = record { group = subst (λ (g : Option PlanGroup). IfSome g FitsGroup) (sym group) fit.group; window = window }
 
-pub form_keyed : (w : WorldState) (form : Form) → form_cause w form ≡ None → HasFields form → is_strange form ≡ false
+pub form_keyed : (index : ℕ) (w : WorldState) (form : Form) → form_cause w form ≡ None → HasFields index form → is_strange form ≡ false
     → w.lines < 20000 → Keyed w.lines w → Keyed (w.lines + 1) (after_form w form)
 unfolding after_form in_range
-form_keyed w Header fine fits plain few k =
+form_keyed index w Header fine fits plain few k =
     let here = plan_at w.section Header refl (passes w Header fine).may in
     still_keyed w.lines w.section section.Image w.server w.devices w.sent (λ plan. here) k
-form_keyed w (Image frag_size parity) fine fits plain few k =
-    let here = plan_at w.section (Image frag_size parity) refl (passes w (Image frag_size parity) fine).may in
-    plan_keyed w (record w.server.plan { frag_size = frag_size; parity = parity }) section.Group here
+form_keyed index w (Image frag_size parity its) fine fits plain few k =
+    let here = plan_at w.section (Image frag_size parity its) refl (passes w (Image frag_size parity its) fine).may in
+    plan_keyed w (record w.server.plan { frag_size = frag_size; parity = parity; index = its }) section.Group here
     (record { group = k.fit.group; window = k.fit.window }) refl k
-form_keyed w (Group addr key min max) fine fits plain few k =
-    let p = passes w (Group addr key min max) fine in
-    let here = plan_at w.section (Group addr key min max) refl p.may in
-    let both = and_parts (nat_lt min (2 ^ 32) && nat_lt max (2 ^ 32) && nat_lt min max) true p.ranged in
+form_keyed index w (Group id addr key min max) fine fits plain few k =
+    let p = passes w (Group id addr key min max) fine in
+    let here = plan_at w.section (Group id addr key min max) refl p.may in
+    let whole = and_parts (nat_lt min (2 ^ 32) && nat_lt max (2 ^ 32) && nat_lt min max && nat_le id 3) true p.ranged in
+    let both = and_parts (nat_lt min (2 ^ 32) && nat_lt max (2 ^ 32) && nat_lt min max) (nat_le id 3) whole.0 in
     let last = and_parts (nat_lt min (2 ^ 32) && nat_lt max (2 ^ 32)) (nat_lt min max) both.0 in
     let first = and_parts (nat_lt min (2 ^ 32)) (nat_lt max (2 ^ 32)) last.0 in
-    let own : PlanGroup = record { addr = addr; key = key; min = min; max = max } in
+    let own : PlanGroup = record { id = id; addr = addr; key = key; min = min; max = max } in
     plan_keyed w (record w.server.plan { group = Some own }) section.Window here
     (record {
-      group = record { addr = fits.0; key = fits.1; min = ltb-true _ _ first.0; max = ltb-true _ _ first.1; some = ltb-true _ _ last.1 };
+      group = record { id = leb-true _ _ both.1; addr = fits.0; key = fits.1; min = ltb-true _ _ first.0; max = ltb-true _ _ first.1; some = ltb-true _ _ last.1 };
       window = k.fit.window;
     }) refl k
-form_keyed w (WindowC start timeout freq dr) fine fits plain few k =
+form_keyed index w (WindowC start timeout freq dr) fine fits plain few k =
     let p = passes w (WindowC start timeout freq dr) fine in
     let here = plan_at w.section (WindowC start timeout freq dr) refl p.may in
     let both = and_parts (nat_lt start (2 ^ 32) && nat_le timeout 15 && nat_lt freq (2 ^ 24) && nat_le dr 255) true p.ranged in
     plan_keyed w (record w.server.plan { window = Some (record { kind = kind.C; start = start; timeout = timeout; freq = freq; dr = dr }) })
     section.Device here (record { group = k.fit.group; window = both.0 }) refl k
-form_keyed w (WindowB start periodicity timeout freq dr) fine fits plain few k =
+form_keyed index w (WindowB start periodicity timeout freq dr) fine fits plain few k =
     let p = passes w (WindowB start periodicity timeout freq dr) fine in
     let here = plan_at w.section (WindowB start periodicity timeout freq dr) refl p.may in
     let both = and_parts (nat_lt start (2 ^ 32) && nat_le timeout 15 && nat_lt freq (2 ^ 24) && nat_le dr 255 && nat_le periodicity 7) true p.ranged in
@@ -308,53 +309,54 @@ form_keyed w (WindowB start periodicity timeout freq dr) fine fits plain few k =
         by false true true false e is = absurd cc
         by false true false d e is = absurd cc
         by false false c d e is = absurd cc
-form_keyed w (Device id class hw rows offset key descriptor v1 k11) fine fits plain few k =
+form_keyed index w (Device id class hw rows offset key descriptor v1 k11) fine fits plain few k =
     let form : Form = Device id class hw rows offset key descriptor v1 k11 in
     let here = plan_at w.section form refl (passes w form fine).may in
     joined_keyed w (config_of class hw rows offset key descriptor v1 k11) here fits k
-form_keyed w (At time) fine fits plain few k =
+form_keyed index w (At time) fine fits plain few k =
     still_keyed w.lines w.section section.Events w.server w.devices w.sent (λ plan. absurd (true≢false (sym plan))) k
-form_keyed w (Wake n) fine fits plain few k =
+form_keyed index w (Wake n) fine fits plain few k =
     let there = there_at w.devices n (passes w (Wake n) fine).names in
     let own = waking_own w.server.plan.group w.time there.1.0 (k.own n there.1.0 there.1.1) in
     rw (there.1.1) (device_keyed w n there.1.0 (Wakes w.time) there.0 there.1.1 own k)
-form_keyed w (Migrate n) fine fits plain few k =
+form_keyed index w (Migrate n) fine fits plain few k =
     let there = there_at w.devices n (passes w (Migrate n) fine).names in
     let own = migration_own w.server.plan.group there.1.0 (k.own n there.1.0 there.1.1) in
     rw (there.1.1) (device_keyed w n there.1.0 Migrates there.0 there.1.1 own k)
-form_keyed w (Ask n) fine fits plain few k =
+form_keyed index w (Ask n) fine fits plain few k =
     sends_keyed w w.server (Some n) (request_of w.server n) refl (next_later w.server.plan.group w.server.count w.lines k.next)
     (asked_kept w.server n k.fit) k
-form_keyed w Frag fine fits plain few k =
+form_keyed index w Frag fine fits plain few k =
     sends_keyed w (after_fragment w.server) None (result_ok (next_fragment w.server)) (fragment_plan w.server)
     (fragment_next w.server w.lines k.next) (fragment_kept w.server w.lines k.next few) k
-form_keyed w Status fine fits plain few k =
+form_keyed index w Status fine fits plain few k =
     sends_keyed w (after_status_to_all w.server) None (status_to_all w.server) (status_plan w.server)
     (status_next w.server w.lines k.next) (status_kept w.server w.lines k.next few) k
-form_keyed w (Down number n word) fine fits plain few k =
+form_keyed index w (Down number n word) fine fits plain few k =
     let p = passes w (Down number n word) fine in
     let there = there_at w.devices n p.names in
     let got = payload_there n (numbered w.sent number) p.come in
     let may : may_reach n (Some got.0) ≡ true = subst (λ (o : Option SentPayload). may_reach n o ≡ true) got.1 p.come in
     reached_keyed w number n word there.1.0 got.0 there.0 there.1.1 got.1 may k
-form_keyed w (Raw n port payload word) fine fits plain few k = absurd (true≢false plain)
-form_keyed w (Air number n word) fine fits plain few k = absurd (true≢false plain)
-form_keyed w (RawAir n bytes word) fine fits plain few k = absurd (true≢false plain)
-form_keyed w (Up number) fine fits plain few k = up_keyed w (numbered w.uplinks number) k
-form_keyed w End fine fits plain few k =
+form_keyed index w (Raw n port payload word) fine fits plain few k = absurd (true≢false plain)
+form_keyed index w (Air number n word) fine fits plain few k = absurd (true≢false plain)
+form_keyed index w (RawAir n bytes word) fine fits plain few k = absurd (true≢false plain)
+form_keyed index w (Up number) fine fits plain few k = up_keyed w (numbered w.uplinks number) k
+form_keyed index w End fine fits plain few k =
     still_keyed w.lines w.section section.Ended w.server w.devices w.sent (λ plan. absurd (true≢false (sym plan))) k
 
 -- ---- what a line says
 
-pub said_keyed : (w : WorldState) (said : Said) → said_cause w said ≡ None → LineFits (Ok said) → is_odd said ≡ false
-    → w.lines < 20000 → ((id : ℕ) (d : DeviceState) → numbered w.devices id ≡ Some d → HasNoOther d.sessions)
+pub said_keyed : (index : ℕ) (w : WorldState) (said : Said) → said_cause w said ≡ None → LineFits index (Ok said)
+    → is_odd w.server.plan.index said ≡ false
+    → w.lines < 20000 → ((id : ℕ) (d : DeviceState) → numbered w.devices id ≡ Some d → HasNoOther w.server.plan.index d.sessions)
     → Keyed w.lines w → Keyed (w.lines + 1) (after_said w said)
-said_keyed w (Own form) fine fits plain few alone k = form_keyed w form fine fits plain few k
-said_keyed w Elsewhere fine fits plain few alone k =
+said_keyed index w (Own form) fine fits plain few alone k = form_keyed index w form fine fits plain few k
+said_keyed index w Elsewhere fine fits plain few alone k =
     still_keyed w.lines w.section w.section w.server w.devices w.sent (λ plan. plan) k
-said_keyed w (Reached n word down) fine fits plain few alone k =
+said_keyed index w (Reached n word down) fine fits plain few alone k =
     let there = there_at w.devices n (reached_passes w n word down fine).1 in
-    let groups = crossing_groups w.time word (w.lines + 1) down there.1.0 (not_true _ plain) (alone n there.1.0 there.1.1) in
+    let groups = crossing_groups w.server.plan.index w.time word (w.lines + 1) down there.1.0 (not_true _ plain) (alone n there.1.0 there.1.1) in
     let own = subst (HasOwn w.server.plan.group) (sym groups) (k.own n there.1.0 there.1.1) in
     rw (there.1.1) (device_keyed w n there.1.0 (Receives w.time word (w.lines + 1) down) there.0 there.1.1 own k)
 

@@ -394,8 +394,8 @@ form_holds : (image : List ℕ) (w : WorldState) (form : Form) → All (λ b. b 
     → Keeps image w → Holds image w → form_cause w form ≡ None → is_strange form ≡ false → Holds image (after_form w form)
 unfolding after_form in_range
 form_holds image w Header bytes is k h fine honest = still_holds image w _ refl refl refl refl h
-form_holds image w (Image frag_size parity) bytes is k h fine honest = plan_holds image w _ _ h
-form_holds image w (Group addr key min max) bytes is k h fine honest = plan_holds image w _ _ h
+form_holds image w (Image frag_size parity index) bytes is k h fine honest = plan_holds image w _ _ h
+form_holds image w (Group id addr key min max) bytes is k h fine honest = plan_holds image w _ _ h
 form_holds image w (WindowC start timeout freq dr) bytes is k h fine honest = plan_holds image w _ _ h
 form_holds image w (WindowB start periodicity timeout freq dr) bytes is k h fine honest = plan_holds image w _ _ h
 form_holds image w (Device id class hw rows offset key descriptor v1 k11) bytes is k h fine honest =
@@ -441,37 +441,37 @@ form_holds image w End bytes is k h fine honest = still_holds image w _ refl ref
 
 -- what a line says
 said_holds : (image : List ℕ) (w : WorldState) (said : Said) → All (λ b. b < 2 ^ 8) image → is_image image ≡ true
-    → Keeps image w → Holds image w → said_cause w said ≡ None → is_odd said ≡ false → Holds image (after_said w said)
+    → Keeps image w → Holds image w → said_cause w said ≡ None → is_odd w.server.plan.index said ≡ false → Holds image (after_said w said)
 said_holds image w (Own form) bytes is k h fine honest = form_holds image w form bytes is k h fine honest
 said_holds image w Elsewhere bytes is k h fine honest = h
 said_holds image w (Reached n word down) bytes is k h fine honest =
     let d = is_there w.devices n (reached_passes w n word down fine).1 in
     let alone = (if_some (IsDeviceFor image (cut_of w.server.plan)) (numbered w.devices n) d.1.0 d.1.1 (k.devices n)).alone in
     rw (d.1.1) (device_holds image (cut_of w.server.plan) w n d.1.0 (delivery w.time word (w.lines + 1) down d.1.0).device d.1.1
-    (crossing_goes image (cut_of w.server.plan) w.time word (w.lines + 1) down d.1.0 (not_true _ honest) alone
+    (crossing_goes image (cut_of w.server.plan) w.server.plan.index w.time word (w.lines + 1) down d.1.0 (not_true _ honest) alone
     (device_sound image w n d.1.0 k h d.1.1)) h)
 
-line_holds : (image : List ℕ) (w : WorldState) (line : Line) → All (λ b. b < 2 ^ 8) image
-    → is_image image ≡ true → Stands image w → Holds image w → cause_of w line ≡ None → LineFits line
-    → line_cause w line ≡ None → has_raw line ≡ false → Holds image (after_line w line)
-line_holds image w (Err cause) bytes is k h none fits fine honest = absurd cc
-line_holds image w (Ok said) bytes is k h none fits fine honest =
-    let on = goes_on_by image w (Ok said) said bytes k refl none fits fine honest in
+line_holds : (image : List ℕ) (index : ℕ) (w : WorldState) (line : Line) → All (λ b. b < 2 ^ 8) image
+    → is_image image ≡ true → Stands image index w → Holds image w → cause_of w line ≡ None → LineFits index line
+    → line_cause w line ≡ None → has_raw index line ≡ false → Holds image (after_line w line)
+line_holds image index w (Err cause) bytes is k h none fits fine honest = absurd cc
+line_holds image index w (Ok said) bytes is k h none fits fine honest =
+    let on = goes_on_by image index w (Ok said) said bytes k refl none fits fine honest in
     let holds = said_holds image w (heard_said said) bytes is k.keeps h on.heard.fine on.heard.plain in
     subst (λ (v : WorldState). Holds image (one_line_more v)) (sym on.heard.same)
     (record { devices = holds.devices; sent = holds.sent; uplinks = holds.uplinks; ledger = holds.ledger })
 
-all_hold : (image : List ℕ) (w end : WorldState) (lines : List Line) → All (λ b. b < 2 ^ 8) image
+all_hold : (image : List ℕ) (index : ℕ) (w end : WorldState) (lines : List Line) → All (λ b. b < 2 ^ 8) image
     → is_image image ≡ true
-    → Stands image w → Holds image w → AllFit lines → AreHonest lines → read_lines (Ok w) lines ≡ Ok end → Holds image end
+    → Stands image index w → Holds image w → AllFit index lines → AreHonest index lines → read_lines (Ok w) lines ≡ Ok end → Holds image end
 unfolding read_lines
-all_hold image w end [] bytes is k h fits honest read = let same : w ≡ end = cc in subst (Holds image) same h
-all_hold image w end (line ∷ lines) bytes is k h fits honest read =
+all_hold image index w end [] bytes is k h fits honest read = let same : w ≡ end = cc in subst (Holds image) same h
+all_hold image index w end (line ∷ lines) bytes is k h fits honest read =
     let first = read_first w end line lines read in
     let fine = line_fine w line first.0 in
-    all_hold image (after_line w line) end lines bytes is
-    (line_stands image w line bytes k first.0 fits.0 fine honest.0)
-    (line_holds image w line bytes is k h first.0 fits.0 fine honest.0) fits.1 honest.1 first.1
+    all_hold image index (after_line w line) end lines bytes is
+    (line_stands image index w line bytes k first.0 fits.0 fine honest.0)
+    (line_holds image index w line bytes is k h first.0 fits.0 fine honest.0) fits.1 honest.1 first.1
 
 none_by : (d : DeviceState) (b : Bool) → cond b None None ≡ Some d → ⊥
 none_by d true is = cc
@@ -488,12 +488,12 @@ first_holds image = record {
 pub the_ledger_is_true : TheLedgerIsTrue
 unfolding campaign_of
 the_ledger_is_true image lines world id bytes is fits honest accepted at =
-    (all_hold image (first_world image) world lines bytes is (first_stands image) (first_holds image) fits honest
+    (all_hold image world.server.plan.index (first_world image) world lines bytes is (first_stands image world.server.plan.index) (first_holds image) fits honest
     (end_is (read_lines (Ok (first_world image)) lines) world accepted)).ledger id at
 
 -- so it is with the uplinks that there are behind any lines
-pub uplinks_are_true : (image : List ℕ) (w : WorldState) (lines : List Line) → All (λ b. b < 2 ^ 8) image
-    → is_image image ≡ true → AllFit lines → AreHonest lines → read_lines (Ok (first_world image)) lines ≡ Ok w
+pub uplinks_are_true : (image : List ℕ) (index : ℕ) (w : WorldState) (lines : List Line) → All (λ b. b < 2 ^ 8) image
+    → is_image image ≡ true → AllFit index lines → AreHonest index lines → read_lines (Ok (first_world image)) lines ≡ Ok w
     → AllByRecursion (MadeTruly image w.devices) w.uplinks
-uplinks_are_true image w lines bytes is fits honest read =
-    (all_hold image (first_world image) w lines bytes is (first_stands image) (first_holds image) fits honest read).uplinks
+uplinks_are_true image index w lines bytes is fits honest read =
+    (all_hold image index (first_world image) w lines bytes is (first_stands image index) (first_holds image) fits honest read).uplinks

@@ -29,7 +29,7 @@ use Rattle.device_core.specs.declared.config.DeviceConfig.{DeviceConfig}
 use Rattle.device_core.specs.declared.arrival.Arrival.{Arrival}
 use Rattle.device_core.specs.declared.uplink.Uplink.{Uplink}
 use Rattle.device_core.specs.declared.uplink.UplinkCommand.{UplinkCommand}
-use Rattle.device_core.specs.SessionTable.{SessionTable}
+use Rattle.device_core.specs.SessionTable.{SessionTable, no_sessions, session_at, with_session}
 use Rattle.device_core.specs.Device.{DeviceState, first_device, limits_of, room_of, with_counts, after_deaf, after_refused, after_full, after_dropped}
 use Rattle.device_core.specs.declared.counts.Counts.{Counts}
 use Rattle.device_core.specs.declared.delivered.Delivered.{Delivered}
@@ -46,6 +46,7 @@ use Rattle.device_core.specs.Step.{command_step, acts, step, after_commands}
 use Rattle.campaign_laws.specs.Ledger.{IsRunning}
 use Rattle.device_core.proofs.SessionSteps.{setup_keeps, fragment_keeps}
 use Rattle.campaign_laws.proofs.HeadlineCommands.{Cut, setup_req, setup_request, fragment_command, IsNumber}
+use Rattle.campaign_laws.proofs.OwnSession.{at_own, none_at}
 use Rattle.campaign_laws.proofs.HeadlineEnds.{IsSetFor}
 use Rattle.campaign_laws.proofs.LedgerSlots.{whole_is, HasSlots, SlotsGo, same_slots, swapped_slots, deleted_slots, offered_slots, raised_slots, TellsTruly, tells_on, other_port, one_told}
 
@@ -54,7 +55,7 @@ use Rattle.campaign_laws.proofs.LedgerSlots.{whole_is, HasSlots, SlotsGo, same_s
 -- it has no session but the server's, its slots are the image's, and what it tells is true
 pub record IsSound (image : List ℕ) (cut : Cut) (d : DeviceState) : Type 0 where
   pub hardware : d.config.hw < 2 ^ 32
-  pub session : IfSome d.sessions.first (IsSetFor image cut)
+  pub session : IfSome (session_at d.sessions cut.index) (IsSetFor image cut)
   pub slots : HasSlots image d.slots
   pub outbox : AllByRecursion (TellsTruly image (IsRunning image d.slots)) d.outbox
 
@@ -70,7 +71,7 @@ goes_on image cut d e f one more = record { sound = more.sound; runs = λ r. mor
 -- all but its answers
 record Makes (image : List ℕ) (cut : Cut) (d e : DeviceState) : Type 0 where
   config : e.config ≡ d.config
-  session : IfSome e.sessions.first (IsSetFor image cut)
+  session : IfSome (session_at e.sessions cut.index) (IsSetFor image cut)
   slots : SlotsGo image d.slots e.slots
   outbox : e.outbox ≡ d.outbox
 
@@ -91,7 +92,7 @@ same_made : (image : List ℕ) (cut : Cut) (d e : DeviceState) → IsSound image
     → e.sessions ≡ d.sessions → e.slots ≡ d.slots → e.outbox ≡ d.outbox → Makes image cut d e
 same_made image cut d e k config sessions slots outbox = record {
   config = config;
-  session = subst (λ (t : SessionTable). IfSome t.first (IsSetFor image cut)) (sym sessions) k.session;
+  session = subst (λ (t : SessionTable). IfSome (session_at t cut.index) (IsSetFor image cut)) (sym sessions) k.session;
   slots = subst (SlotsGo image d.slots) (sym slots) (same_slots image d.slots k.slots);
   outbox = outbox;
 }
@@ -177,14 +178,20 @@ new_set : (image : List ℕ) (cut : Cut) (limits : Limits) → IsSetUp (setup_re
 unfolding new_session
 new_set image cut limits makes = record { setup = refl; makes = makes; heard = tt }
 
+-- the session that is put in its place
+own_set : (image : List ℕ) (cut : Cut) (table : SessionTable) (s : Option Session) → IfSome s (IsSetFor image cut)
+    → IfSome (session_at (with_session table cut.index s) cut.index) (IsSetFor image cut)
+own_set image cut table s k = subst (λ (o : Option Session). IfSome o (IsSetFor image cut)) (sym (at_own table cut.index s)) k
+
 setup_makes : (image : List ℕ) (cut : Cut) (at : Arrival) (m : DeviceState) → IsSound image cut m
     → Makes image cut m (command_step at m (setup_request image cut)).device
 unfolding command_step setup_step
 setup_makes image cut at m k = record {
   config = refl;
-  session = setup_keeps (IsSetFor image cut) (limits_of m.config) (room_of m.config) m.sessions.first
+  session = own_set image cut m.sessions _
+      (setup_keeps (IsSetFor image cut) (limits_of m.config) (room_of m.config) (session_at m.sessions cut.index)
       (setup_req image cut)
-      (λ makes. new_set image cut (limits_of m.config) makes) k.session;
+      (λ makes. new_set image cut (limits_of m.config) makes) k.session);
   slots = same_slots image m.slots k.slots;
   outbox = refl;
 }
@@ -200,19 +207,21 @@ followed_set image cut n mark number s k = record {
 
 heard_makes : (image : List ℕ) (cut : Cut) (at : Arrival) (m : DeviceState) (n : ℕ) → All (λ b. b < 2 ^ 8) image
     → IsNumber image cut.size n → IsSound image cut m
-    → Makes image cut m (heard_step at m 0 n (data_of image cut.size n))
+    → Makes image cut m (heard_step at m cut.index n (data_of image cut.size n))
 unfolding heard_step
 heard_makes image cut at m n bytes number k =
     let part : List ℕ = data_of image cut.size n in
-    let set : IfSome (after_fragment m.sessions.first at.via n part at.moment.mark) (IsSetFor image cut) =
-    fragment_keeps (IsSetFor image cut) m.sessions.first at.via n part at.moment.mark
+    let fed : Option Session = after_fragment (session_at m.sessions cut.index) at.via n part at.moment.mark in
+    let set : IfSome fed (IsSetFor image cut) =
+    fragment_keeps (IsSetFor image cut) (session_at m.sessions cut.index) at.via n part at.moment.mark
     (followed_set image cut n at.moment.mark number) k.session in
+    let own = own_set image cut m.sessions fed set in
     record {
       config = refl;
-      session = set;
+      session = own;
       slots = offered_slots image m.config.hw _ _ m.slots
           (λ file is. whole_is image cut
-          (after_fragment m.sessions.first at.via n part at.moment.mark) file bytes set is) k.slots;
+          (session_at (with_session m.sessions cut.index fed) cut.index) file bytes own is) k.slots;
       outbox = refl;
     }
 
@@ -223,7 +232,7 @@ fragment_by image cut m heard false k makes = same_made image cut m _ k refl ref
 
 fragment_makes : (image : List ℕ) (cut : Cut) (at : Arrival) (m : DeviceState) (n : ℕ) → All (λ b. b < 2 ^ 8) image
     → IsNumber image cut.size n → IsSound image cut m
-    → Makes image cut m (command_step at m (fragment_command image cut.size n)).device
+    → Makes image cut m (command_step at m (fragment_command image cut n)).device
 unfolding command_step fragment_step
 fragment_makes image cut at m n bytes number k =
     fragment_by image cut m _ _ k (heard_makes image cut at m n bytes number k)
@@ -234,7 +243,7 @@ fragment_makes image cut at m n bytes number k =
 abbrev pub IsOneOf : (image : List ℕ) → Cut → Command → Type 0
 IsOneOf image cut x =
     (x ≡ setup_request image cut) ⊎
-    (((n : ℕ) × IsNumber image cut.size n × (x ≡ fragment_command image cut.size n)) ⊎ IsCalm x)
+    (((n : ℕ) × IsNumber image cut.size n × (x ≡ fragment_command image cut n)) ⊎ IsCalm x)
 
 -- of firmware management it sends these
 abbrev pub IsAskedOfFirmware : Command → Type 0
@@ -585,7 +594,7 @@ pub first_sound : (image : List ℕ) (cut : Cut) (config : DeviceConfig) → con
     → IsSound image cut (first_device config)
 first_sound image cut config small = record {
   hardware = small;
-  session = tt;
+  session = subst (λ (o : Option Session). IfSome o (IsSetFor image cut)) (sym (none_at cut.index)) tt;
   slots = record { running = inl refl; next = inl refl };
   outbox = tt;
 }

@@ -26,7 +26,7 @@ use Rattle.campaign_server.specs.declared.stage.Stage.TheVariants as stage
 use Rattle.campaign_server.specs.declared.stage.Stage.TheVariants.{Updated, Refused}
 use Rattle.campaign_server.specs.declared.stage.Request.{Request}
 use Rattle.campaign_server.specs.declared.stage.Request.TheVariants as request
-use Rattle.campaign_server.specs.Plan.{Plan, session_index, own_id}
+use Rattle.campaign_server.specs.Plan.{Plan, own_id}
 use Rattle.campaign_server.specs.Server.{ServerState, DownlinkCommand, port_of, ledger}
 use Rattle.wire_base.specs.Numbers.{flag_value}
 use Rattle.cast_wire.specs.SetupRefusal.{refusal_bits}
@@ -102,7 +102,7 @@ fragments_moves : (plan : Plan) (image : List ℕ) (x : Command)
     → stage_after plan image (stage.At request.Fragments) x ≡ Updated → ⊥
 unfolding stage_after
 fragments_moves plan image (Cast (c.FragSessionSetupAns index descriptor unsupported memory encoding)) is =
-    asked_not (session_index plan) index (refusal_bits descriptor unsupported memory encoding)
+    asked_not plan.index index (refusal_bits descriptor unsupported memory encoding)
     request.Fragments (cond (is_some plan.group) request.Window request.Status) is
 fragments_moves plan image (Sync cmd) is = not_at request.Fragments is
 fragments_moves plan image (Cast cmd) is = not_at request.Fragments is
@@ -121,7 +121,7 @@ status_moves : (plan : Plan) (image : List ℕ) (x : Command)
     → stage_after plan image (stage.At request.Status) x ≡ Updated → ⊥
 unfolding stage_after
 status_moves plan image (Cast (c.FragSessionStatusAns index received missing norows)) is =
-    asked_not (session_index plan) index (flag_value norows 1) request.Status
+    asked_not plan.index index (flag_value norows 1) request.Status
     (cond (missing == 0) request.Image request.Status) is
 status_moves plan image (Sync cmd) is = not_at request.Status is
 status_moves plan image (Cast cmd) is = not_at request.Status is
@@ -235,7 +235,7 @@ next_own : (server : ServerState) (b : Bool)
     (Ok (record {
       to = receivers server.plan.group server.count;
       command = Cast
-          (c.DataFragment 0 server.next (data_of server.image server.plan.frag_size server.next));
+          (c.DataFragment server.plan.index server.next (data_of server.image server.plan.frag_size server.next));
     })))))
     IsOwn
 next_own server true = tt
@@ -246,14 +246,14 @@ pub fragment_own : (server : ServerState) → IfSome (result_ok (next_fragment s
 unfolding next_fragment
 fragment_own server = next_own server _
 
-all_own : (b : Bool) (to : To)
-    → IfSome (cond b None (Some (record { to = to; command = Cast (c.FragSessionStatusReq 0 false) }))) IsOwn
-all_own true to = tt
-all_own false to = λ port. absurd (omega (arith, port))
+all_own : (b : Bool) (to : To) (index : ℕ)
+    → IfSome (cond b None (Some (record { to = to; command = Cast (c.FragSessionStatusReq index false) }))) IsOwn
+all_own true to index = tt
+all_own false to index = λ port. absurd (omega (arith, port))
 
 pub status_own : (server : ServerState) → IfSome (status_to_all server) IsOwn
 unfolding status_to_all
-status_own server = all_own (has_no_count server.plan.group server.count) _
+status_own server = all_own (has_no_count server.plan.group server.count) _ server.plan.index
 
 -- an answer with the time
 abbrev IsTime : Command → Type 0
@@ -354,7 +354,7 @@ sent_reads image cut down bytes is (inl setup) own =
 sent_reads image cut down bytes is (inr (inl f)) own =
     good_reads image cut down.command (subst IsGood (sym f.2) (fragment_good image cut f.0 is f.1)) (inr (inl f))
 sent_reads image cut down bytes is (inr (inr (inl o))) own =
-    good_reads image cut down.command (subst IsGood (sym o.1) (status_good o.0))
+    good_reads image cut down.command (subst IsGood (sym o.1) (status_good cut.index o.0 is.indexed))
     (inr (inr (subst IsCalm (sym o.1) tt)))
 sent_reads image cut down bytes is (inr (inr (inr (inl port)))) own =
     far_by image cut down.command _ refl (λ other. omega (arith, port, other)) own

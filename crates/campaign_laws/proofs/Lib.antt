@@ -3,10 +3,13 @@ pub mod Configured
 pub mod HeadlineCommands
 pub mod HeadlinePayloads
 pub mod HeadlineImage
+pub mod OwnSession
 pub mod HeadlineEnds
 pub mod HeadlineWorlds
 pub mod Crossing
 pub mod HeadlineForms
+pub mod Indexed
+pub mod IndexedLines
 pub mod HeadlineLines
 pub mod Independence
 pub mod Verdicts

@@ -134,8 +134,8 @@ form_event_goes w n form =
 form_goes : (w : WorldState) (form : Form) → form_cause w form ≡ None → is_planning w.section ≡ false → Goes w (after_form w form)
 unfolding after_form
 form_goes w Header fine over = no_plan w Header fine over (plan_at w.section Header refl)
-form_goes w (Image frag_size parity) fine over = no_plan w (Image frag_size parity) fine over (plan_at w.section (Image frag_size parity) refl)
-form_goes w (Group addr key min max) fine over = no_plan w (Group addr key min max) fine over (plan_at w.section (Group addr key min max) refl)
+form_goes w (Image frag_size parity index) fine over = no_plan w (Image frag_size parity index) fine over (plan_at w.section (Image frag_size parity index) refl)
+form_goes w (Group id addr key min max) fine over = no_plan w (Group id addr key min max) fine over (plan_at w.section (Group id addr key min max) refl)
 form_goes w (WindowC start timeout freq dr) fine over = no_plan w (WindowC start timeout freq dr) fine over (plan_at w.section (WindowC start timeout freq dr) refl)
 form_goes w (WindowB start periodicity timeout freq dr) fine over = no_plan w (WindowB start periodicity timeout freq dr) fine over (plan_at w.section (WindowB start periodicity timeout freq dr) refl)
 form_goes w (Device id class hw rows offset key descriptor v1 k11) fine over =
@@ -220,8 +220,8 @@ stays_by server dev x (Some stage) there stays = rw (stays stage refl) (put_same
 form_image : (w : WorldState) (form : Form) → (after_form w form).server.image ≡ w.server.image
 unfolding after_form
 form_image w Header = refl
-form_image w (Image frag_size parity) = refl
-form_image w (Group addr key min max) = refl
+form_image w (Image frag_size parity index) = refl
+form_image w (Group id addr key min max) = refl
 form_image w (WindowC start timeout freq dr) = refl
 form_image w (WindowB start periodicity timeout freq dr) = refl
 form_image w (Device id class hw rows offset key descriptor v1 k11) = refl
@@ -322,10 +322,10 @@ an_uplink_moves_once image line before between number world later made x bytes f
     ∙ numbered_more (world.uplinks ++ here.uplinks.0) on.uplinks.0 number made (numbered_more world.uplinks here.uplinks.0 number made there) in
     let wi : world.server.image ≡ image = lines_image (first_world image) world before read in
     let li : later.server.image ≡ image = on.image ∙ here.image ∙ wi in
-    let truly = get_all (MadeTruly image world.devices) world.uplinks number made (uplinks_are_true image world before bytes file fits honest read) there in
+    let truly = get_all (MadeTruly image world.devices) world.uplinks number made (uplinks_are_true image world.server.plan.index world before bytes file fits honest read) there in
     let is : (after_up world (numbered world.uplinks number)).server.stages ≡ (with_answers world.server made.device (x ∷ []) (ledger world.server made.device)).stages =
     ap (λ (o : Option MadeUplink). (after_up world o).server.stages) there ∙ stages_are world made x single in
     ap (λ (o : Option MadeUplink). (after_up later o).server.stages) still
-    ∙ later_by image world later made x (ledger world.server made.device) file (waits_behind image world before bytes fits honest read) truly wi li single refl
+    ∙ later_by image world later made x (ledger world.server made.device) file (waits_behind image world.server.plan.index world before bytes fits honest read) truly wi li single refl
     (subst (λ (xs : List Stage). (id : ℕ) (stage : Stage) → numbered xs id ≡ Some stage → (t : Stage) × (numbered later.server.stages id ≡ Some t) × (rank stage ≤ rank t)) is (λ id stage at. on.ranks id stage at))
     (subst (λ (xs : List Stage). xs ≢ world.server.stages) is moved)

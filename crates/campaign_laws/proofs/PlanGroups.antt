@@ -80,14 +80,14 @@ event_server w n None o = refl
 event_server w n (Some d) None = refl
 event_server w n (Some d) (Some e) = refl
 
-given_settled : (w : WorldState) (n : ℕ) (o : Option Event) → IsSettled w (with_event w n o)
+pub given_settled : (w : WorldState) (n : ℕ) (o : Option Event) → IsSettled w (with_event w n o)
 given_settled w n o =
     record { over = refl; plan = same_server w (with_event w n o) (event_server w n (numbered w.devices n) o) }
 
-event_settled : (w : WorldState) (n : ℕ) (form : Form) → IsSettled w (with_event_of w n form)
+pub event_settled : (w : WorldState) (n : ℕ) (form : Form) → IsSettled w (with_event_of w n form)
 event_settled w n form = given_settled w n (event_of w.server.plan.group w.sent w.time (w.lines + 1) form)
 
-sends_settled : (w : WorldState) (s : ServerState) (to : Option ℕ) (down : Option DownlinkCommand) → s.plan ≡ w.server.plan
+pub sends_settled : (w : WorldState) (s : ServerState) (to : Option ℕ) (down : Option DownlinkCommand) → s.plan ≡ w.server.plan
     → IsSettled w (at_events (with_sent (record w { server = s }) to down))
 sends_settled w s to None same = record { over = refl; plan = same }
 sends_settled w s to (Some down) same = record { over = refl; plan = same }
@@ -99,7 +99,7 @@ read_settled w dev t (Ok cs) =
     (answers_plan w.server dev cs (ledger w.server dev))
 read_settled w dev t (Err refusal) = record { over = refl; plan = refl }
 
-up_settled : (w : WorldState) (o : Option MadeUplink) → IsSettled w (at_events (after_up w o))
+pub up_settled : (w : WorldState) (o : Option MadeUplink) → IsSettled w (at_events (after_up w o))
 unfolding uplink_step
 up_settled w None = record { over = refl; plan = refl }
 up_settled w (Some made) = read_settled w made.device w.time (reading_of made.uplink.port Upwards made.uplink.payload)
@@ -108,9 +108,9 @@ pub form_settled : (w : WorldState) (form : Form) → form_cause w form ≡ None
     → IsSettled w (after_form w form)
 unfolding after_form
 form_settled w Header fine over = no_plan w Header fine over (plan_at w.section Header refl)
-form_settled w (Image size parity) fine over = no_plan w (Image size parity) fine over (plan_at w.section (Image size parity) refl)
-form_settled w (Group addr key min max) fine over =
-    no_plan w (Group addr key min max) fine over (plan_at w.section (Group addr key min max) refl)
+form_settled w (Image size parity index) fine over = no_plan w (Image size parity index) fine over (plan_at w.section (Image size parity index) refl)
+form_settled w (Group id addr key min max) fine over =
+    no_plan w (Group id addr key min max) fine over (plan_at w.section (Group id addr key min max) refl)
 form_settled w (WindowC start timeout freq dr) fine over =
     no_plan w (WindowC start timeout freq dr) fine over (plan_at w.section (WindowC start timeout freq dr) refl)
 form_settled w (WindowB start periodicity timeout freq dr) fine over =

@@ -84,8 +84,8 @@ up_keeps w (Some made) = reading_keeps w made.device w.time (reading_of made.upl
 lines_kept : (w : WorldState) (form : Form) → (after_form w form).lines ≡ w.lines
 unfolding after_form
 lines_kept w Header = refl
-lines_kept w (Image frag_size parity) = refl
-lines_kept w (Group addr key min max) = refl
+lines_kept w (Image frag_size parity index) = refl
+lines_kept w (Group id addr key min max) = refl
 lines_kept w (WindowC start timeout freq dr) = refl
 lines_kept w (WindowB start periodicity timeout freq dr) = refl
 lines_kept w (Device id class hw rows offset key descriptor v1 k11) = refl

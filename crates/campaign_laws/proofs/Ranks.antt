@@ -60,7 +60,7 @@ unfolding stage_after
 setup_leads plan image index d u m e =
     let x : Command = Cast (c.FragSessionSetupAns index d u m e) in
     let bits : ℕ = flag_value d 8 + flag_value u 4 + flag_value m 2 + flag_value e 1 in
-    either (At Fragments) x (index == 0) _ (At Fragments)
+    either (At Fragments) x (index == plan.index) _ (At Fragments)
     (either (At Fragments) x (bits == 0) (At (cond (is_some plan.group) Window Status)) (Refused Fragments bits) (next (is_some plan.group)) (on (At Fragments) x (Refused Fragments bits) (lit< tt) (lit≤ tt) (lit< tt)))
     (inl refl)
   where
@@ -83,7 +83,7 @@ status_leads : (plan : Plan) (image : List ℕ) (index received missing : ℕ) (
 unfolding stage_after
 status_leads plan image index received missing norows =
     let x : Command = Cast (c.FragSessionStatusAns index received missing norows) in
-    either (At Status) x (index == 0) _ (At Status)
+    either (At Status) x (index == plan.index) _ (At Status)
     (either (At Status) x (flag_value norows 1 == 0) (At (cond (missing == 0) Image Status)) (Refused Status (flag_value norows 1)) (next (missing == 0)) (on (At Status) x (Refused Status (flag_value norows 1)) (lit< tt) (lit≤ tt) (lit< tt)))
     (inl refl)
   where

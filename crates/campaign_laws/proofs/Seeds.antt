@@ -179,17 +179,17 @@ pub record Joined (image : List ℕ) (devices : ℕ) (w : WorldState) : Type 0 w
   pub ups : w.uplinks ≡ []
   pub each : (n : ℕ) → 1 ≤ n → n ≤ devices → (d : DeviceState) × (numbered w.devices n ≡ Some d) × IsNew d
 
-start : (image : List ℕ) → count_of image ≤ 129 → To (first_world image) (Header ∷ Image 64 128 ∷ []) (Joined image 0)
+start : (image : List ℕ) → count_of image ≤ 129 → To (first_world image) (Header ∷ Image 64 128 0 ∷ []) (Joined image 0)
 unfolding after_form in_range
 start image few =
-    both (first_world image) (Header ∷ []) (Image 64 128 ∷ []) (λ v. v ≡ one_line_more (after_form (first_world image) Header)) (Joined image 0)
+    both (first_world image) (Header ∷ []) (Image 64 128 0 ∷ []) (λ v. v ≡ one_line_more (after_form (first_world image) Header)) (Joined image 0)
     (one (first_world image) Header _ (no_cause (first_world image) Header (record { comes = refl; ranges = refl; fits = refl }) refl refl refl refl refl) refl)
-    (λ v is. subst (λ (w : WorldState). To w (Image 64 128 ∷ []) (Joined image 0)) (sym is)
-    (one (one_line_more (after_form (first_world image) Header)) (Image 64 128) (Joined image 0)
-    (no_cause (one_line_more (after_form (first_world image) Header)) (Image 64 128) (record { comes = refl; ranges = refl; fits = fits }) refl refl refl refl refl)
+    (λ v is. subst (λ (w : WorldState). To w (Image 64 128 0 ∷ []) (Joined image 0)) (sym is)
+    (one (one_line_more (after_form (first_world image) Header)) (Image 64 128 0) (Joined image 0)
+    (no_cause (one_line_more (after_form (first_world image) Header)) (Image 64 128 0) (record { comes = refl; ranges = refl; fits = fits }) refl refl refl refl refl)
     (record {
       server = refl;
-      plan = record { size = refl; parity = refl; group = refl };
+      plan = record { size = refl; parity = refl; index = refl; group = refl };
       time = refl;
       takes = λ id hw rows offset key descriptor v1 k11. refl;
       events = λ some. absurd (omega (arith, some));
@@ -214,7 +214,7 @@ device_to image k g w few j =
     (no_cause w (device_form (k + 1) (drawn g)) (record { comes = j.takes (k + 1) 1 64 (drawn g) (replicate 16 0) None false false; ranges = ranged; fits = rw j.count same }) refl refl refl refl refl)
     (record {
       server = ap (λ (s : ServerState). first_server s.image plan') j.server;
-      plan = record { size = j.plan.size; parity = j.plan.parity; group = j.plan.group };
+      plan = record { size = j.plan.size; parity = j.plan.parity; index = j.plan.index; group = j.plan.group };
       time = j.time;
       takes = λ id hw rows offset key descriptor v1 k11. refl;
       events = λ some. takes_first_event;
@@ -372,7 +372,7 @@ all_to image g made few =
     let rest_3 : List Form = forms_of_frags (m + 128) ++ rest_4 in
     let rest_2 : List Form = forms_of_rounds 2 1 1 1 8 ++ rest_3 in
     let rest_1 : List Form = forms_of_devices g 1 8 ++ rest_2 in
-    both (first_world image) (Header ∷ Image 64 128 ∷ []) rest_1 (Joined image 0) (Done image) (start image few)
+    both (first_world image) (Header ∷ Image 64 128 0 ∷ []) rest_1 (Joined image 0) (Done image) (start image few)
     (λ a joined. both a (forms_of_devices g 1 8) rest_2 (Joined image 8) (Done image) (devices_to image 0 8 g a refl joined)
     (λ b all. both b (forms_of_rounds 2 1 1 1 8) rest_3 (Stand image 16 16 1 (AtTurn (Early image) 2 8 0)) (Done image)
     (rounds_to image 2 (Early image) 0 8 0 0 1 16 16 b (early_turns image made) refl refl refl (joined_stand image b all))

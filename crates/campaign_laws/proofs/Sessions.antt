@@ -23,7 +23,7 @@ use Rattle.campaign_laws.proofs.HeadlineLaw.{shape_for, recovered_by}
 
 -- how a seed's image is cut
 abbrev pub cut : Cut
-cut = record { size = 64; mask = 0 }
+cut = record { size = 64; index = 0; mask = 0 }
 
 -- ---- what is missing
 

@@ -78,6 +78,7 @@ put_cases {A = A} xs i n x y low there = by (i == n) refl
 pub record IsPlan (plan : Plan) : Type 0 where
   pub size : plan.frag_size ≡ 64
   pub parity : plan.parity ≡ 128
+  pub index : plan.index ≡ 0
   pub group : plan.group ≡ None
 
 -- events may come
@@ -340,8 +341,8 @@ unfolding after_form next_fragment after_fragment in_range
 frag_plays image w from takes image_is plan next low =
     let more : nat_lt (nb_frag_of (length image) 64 + 128) from ≡ false = grind (arith, low) in
     one w Frag _
-    (no_cause w Frag (record { comes = takes.frag; ranges = refl; fits = refl }) refl refl refl refl (rw (image_is, plan.size, plan.parity, plan.group, next, more) refl))
-    (rw (image_is, plan.size, plan.parity, plan.group, next, more) refl)
+    (no_cause w Frag (record { comes = takes.frag; ranges = refl; fits = refl }) refl refl refl refl (rw (image_is, plan.size, plan.parity, plan.index, plan.group, next, more) refl))
+    (rw (image_is, plan.size, plan.parity, plan.index, plan.group, next, more) refl)
 
 -- so it stands behind the next fragment
 pub frag_to : (image : List ℕ) (payloads answers from : ℕ) (P : ℕ → DeviceState → Stage → Type 0) (w : WorldState) → payloads + 1 ≡ 16 + from → 1 ≤ from

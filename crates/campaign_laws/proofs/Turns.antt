@@ -85,11 +85,11 @@ setup_makes image d mark made new = rw (no_bits image d made new.plain, new.sess
 
 setup_asked : (image : List ℕ) (plan : Plan) (device : PlanDevice) → IsPlan plan → request_at plan image device (At request.Fragments) ≡ Some (setup_request image cut)
 unfolding request_at
-setup_asked image plan device is = rw (is.size, is.group) refl
+setup_asked image plan device is = rw (is.size, is.group, is.index) refl
 
 setup_moves : (image : List ℕ) (plan : Plan) → IsPlan plan → stage_after plan image (At request.Fragments) (Cast (FragSessionSetupAns 0 false false false false)) ≡ At request.Status
 unfolding stage_after
-setup_moves image plan is = rw (is.group) refl
+setup_moves image plan is = rw (is.group, is.index) refl
 
 setup_turn : (image : List ℕ) (d : DeviceState) (s : Stage) → IsMade image → Early image 1 d s → TakesTurn image (Early image 2) d s
 setup_turn image d s made (is, new) =
@@ -181,7 +181,7 @@ unfolding request_at
 status_turn image j d s x plain session is decided after =
     takes_turn image (Late image (j + 1)) d s (Cast (FragSessionStatusReq 0 true)) (status_answer x) d d plain (record {
       ask = λ plan device planned. rw is refl;
-      down_read = good_read (Cast (FragSessionStatusReq 0 true)) (status_good true);
+      down_read = good_read (Cast (FragSessionStatusReq 0 true)) (status_good 0 true (omega arith));
       light = omega arith;
       makes = λ mark. status_made d x mark (seen_of x).verdict session refl decided;
       empty = plain.outbox;

@@ -280,8 +280,8 @@ unfolding after_form
 form_waits w Header fine honest k =
     let here = plan_at w.section Header refl (passes w Header fine).may in
     record { none_sent = λ still. k.none_sent here; all = λ still. k.all here; devices = k.devices; sent = k.sent }
-form_waits w (Image frag_size parity) fine honest k = plan_waits w _ section.Group (plan_at w.section (Image frag_size parity) refl (passes w (Image frag_size parity) fine).may) k
-form_waits w (Group addr key min max) fine honest k = plan_waits w _ section.Window (plan_at w.section (Group addr key min max) refl (passes w (Group addr key min max) fine).may) k
+form_waits w (Image frag_size parity index) fine honest k = plan_waits w _ section.Group (plan_at w.section (Image frag_size parity index) refl (passes w (Image frag_size parity index) fine).may) k
+form_waits w (Group id addr key min max) fine honest k = plan_waits w _ section.Window (plan_at w.section (Group id addr key min max) refl (passes w (Group id addr key min max) fine).may) k
 form_waits w (WindowC start timeout freq dr) fine honest k = plan_waits w _ section.Device (plan_at w.section (WindowC start timeout freq dr) refl (passes w (WindowC start timeout freq dr) fine).may) k
 form_waits w (WindowB start periodicity timeout freq dr) fine honest k =
     plan_waits w _ section.Device (plan_at w.section (WindowB start periodicity timeout freq dr) refl (passes w (WindowB start periodicity timeout freq dr) fine).may) k
@@ -319,8 +319,8 @@ form_waits w End fine honest k = record { none_sent = λ plan. absurd cc; all = 
 -- ---- all lines
 
 -- what a line says
-said_waits : (w : WorldState) (said : Said) → said_cause w said ≡ None → is_odd said ≡ false
-    → ((id : ℕ) (d : DeviceState) → numbered w.devices id ≡ Some d → HasNoOther d.sessions) → Waits w → Waits (after_said w said)
+said_waits : (w : WorldState) (said : Said) → said_cause w said ≡ None → is_odd w.server.plan.index said ≡ false
+    → ((id : ℕ) (d : DeviceState) → numbered w.devices id ≡ Some d → HasNoOther w.server.plan.index d.sessions) → Waits w → Waits (after_said w said)
 said_waits w (Own form) fine honest alone k = form_waits w form fine honest k
 said_waits w Elsewhere fine honest alone k = k
 said_waits w (Reached n word down) fine honest alone k =
@@ -328,28 +328,28 @@ said_waits w (Reached n word down) fine honest alone k =
     let d : DeviceState = there.1.0 in
     subst (λ (o : Option DeviceState). Waits (at_events (after_event_at w n o (Some (Receives w.time word (w.lines + 1) down))))) (sym there.1.1)
     (device_waits w n d (delivery w.time word (w.lines + 1) down d).device there.1.1
-    (λ at. crossing_calm w.time word (w.lines + 1) down d (not_true _ honest) (alone n d there.1.1) (k.devices n d there.1.1 at)) k)
+    (λ at. crossing_calm w.server.plan.index w.time word (w.lines + 1) down d (not_true _ honest) (alone n d there.1.1) (k.devices n d there.1.1 at)) k)
 
-line_waits : (image : List ℕ) (w : WorldState) (line : Line) → All (λ b. b < 2 ^ 8) image → Stands image w
-    → cause_of w line ≡ None → LineFits line → line_cause w line ≡ None → has_raw line ≡ false → Waits w
+line_waits : (image : List ℕ) (index : ℕ) (w : WorldState) (line : Line) → All (λ b. b < 2 ^ 8) image → Stands image index w
+    → cause_of w line ≡ None → LineFits index line → line_cause w line ≡ None → has_raw index line ≡ false → Waits w
     → Waits (after_line w line)
-line_waits image w (Err cause) bytes s none fits fine honest k = absurd cc
-line_waits image w (Ok said) bytes s none fits fine honest k =
-    let on = goes_on_by image w (Ok said) said bytes s refl none fits fine honest in
+line_waits image index w (Err cause) bytes s none fits fine honest k = absurd cc
+line_waits image index w (Ok said) bytes s none fits fine honest k =
+    let on = goes_on_by image index w (Ok said) said bytes s refl none fits fine honest in
     let m = said_waits w (heard_said said) on.heard.fine on.heard.plain (alone_at image w s.keeps) k in
     subst (λ (v : WorldState). Waits (one_line_more v)) (sym on.heard.same)
     (record { none_sent = m.none_sent; all = m.all; devices = m.devices; sent = m.sent })
 
-all_wait : (image : List ℕ) (w end : WorldState) (lines : List Line) → All (λ b. b < 2 ^ 8) image → AllFit lines → AreHonest lines
-    → Stands image w → Waits w → read_lines (Ok w) lines ≡ Ok end → Waits end
+all_wait : (image : List ℕ) (index : ℕ) (w end : WorldState) (lines : List Line) → All (λ b. b < 2 ^ 8) image → AllFit index lines → AreHonest index lines
+    → Stands image index w → Waits w → read_lines (Ok w) lines ≡ Ok end → Waits end
 unfolding read_lines
-all_wait image w end [] bytes fits honest s k read = let same : w ≡ end = cc in subst Waits same k
-all_wait image w end (line ∷ lines) bytes fits honest s k read =
+all_wait image index w end [] bytes fits honest s k read = let same : w ≡ end = cc in subst Waits same k
+all_wait image index w end (line ∷ lines) bytes fits honest s k read =
     let first = read_first w end line lines read in
     let fine = line_fine w line first.0 in
-    all_wait image (after_line w line) end lines bytes fits.1 honest.1
-    (line_stands image w line bytes s first.0 fits.0 fine honest.0)
-    (line_waits image w line bytes s first.0 fits.0 fine honest.0 k) first.1
+    all_wait image index (after_line w line) end lines bytes fits.1 honest.1
+    (line_stands image index w line bytes s first.0 fits.0 fine honest.0)
+    (line_waits image index w line bytes s first.0 fits.0 fine honest.0 k) first.1
 
 none_numbered : {A : Type 0} (n : ℕ) (x : A) → numbered {A = A} [] n ≡ Some x → ⊥
 none_numbered {A} n x is = by (n == 0) is
@@ -358,9 +358,9 @@ none_numbered {A} n x is = by (n == 0) is
     by true e = cc
     by false e = cc
 
-pub waits_behind : (image : List ℕ) (w : WorldState) (lines : List Line) → All (λ b. b < 2 ^ 8) image → AllFit lines → AreHonest lines
+pub waits_behind : (image : List ℕ) (index : ℕ) (w : WorldState) (lines : List Line) → All (λ b. b < 2 ^ 8) image → AllFit index lines → AreHonest index lines
     → read_lines (Ok (first_world image)) lines ≡ Ok w → Waits w
-waits_behind image w lines bytes fits honest read = all_wait image (first_world image) w lines bytes fits honest (first_stands image) (record {
+waits_behind image index w lines bytes fits honest read = all_wait image index (first_world image) w lines bytes fits honest (first_stands image index) (record {
   none_sent = λ plan. refl;
   all = λ plan id d there. absurd (none_numbered id d there);
   devices = λ id d there at. absurd (none_numbered id d there);

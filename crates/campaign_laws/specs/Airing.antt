@@ -27,6 +27,6 @@ IsAired sent line other = (other ≡ line)
 
 -- whatever image and accepted honest script there are, and whichever of its downs of payloads to the group are written as air
 abbrev pub AirIsDown : Type 0
-AirIsDown = (image script other : List ℕ) (world : WorldState) → All (λ b. b < 2 ^ 8) image → AreHonest (said_in script)
+AirIsDown = (image script other : List ℕ) (world : WorldState) → All (λ b. b < 2 ^ 8) image → AreHonest 0 (said_in script)
     → campaign_of image (said_in script) ≡ Ok world → AllZip (IsAired world.sent) (lines_of script) (lines_of other)
     → campaign_of image (said_in other) ≡ campaign_of image (said_in script)

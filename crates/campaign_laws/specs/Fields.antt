@@ -1,20 +1,22 @@
--- The keys and the addresses that lines say fit their fields, as those do that a line of a script spells.
-use Rattle.std.specs.Prelude.{ℕ, ◌^◌, ◌<◌, List, Ok}
+-- The keys and the addresses that lines say fit their fields, and their image has this index, as it is with the lines of a
+-- script.
+use Rattle.std.specs.Prelude.{◌≡◌, ℕ, ◌^◌, ◌<◌, List, Ok}
 use Rattle.std.specs.List.{AllByRecursion}
 use Rattle.aes_block.specs.Cipher.{IsBlock}
 use Rattle.script_lines.specs.declared.forms.Form.{Form}
-use Rattle.script_lines.specs.declared.forms.Form.TheVariants.{Group, Device}
+use Rattle.script_lines.specs.declared.forms.Form.TheVariants.{Image, Group, Device}
 use Rattle.campaign_world.specs.Said.{Own, Line}
 
 -- a group's address has 32 bits, its key and a device's are 16 bytes
-abbrev pub HasFields : Form → Type 0
-HasFields (Group addr key min max) = (addr < 2 ^ 32) × IsBlock key
-HasFields (Device id class hw rows offset key descriptor v1 k11) = IsBlock key
-HasFields form = Unit {0}
+abbrev pub HasFields : (index : ℕ) → Form → Type 0
+HasFields index (Image frag_size parity its) = its ≡ index
+HasFields index (Group id addr key min max) = (addr < 2 ^ 32) × IsBlock key
+HasFields index (Device id class hw rows offset key descriptor v1 k11) = IsBlock key
+HasFields index form = Unit {0}
 
-abbrev pub LineFits : Line → Type 0
-LineFits (Ok (Own form)) = HasFields form
-LineFits line = Unit {0}
+abbrev pub LineFits : (index : ℕ) → Line → Type 0
+LineFits index (Ok (Own form)) = HasFields index form
+LineFits index line = Unit {0}
 
-abbrev pub AllFit : List Line → Type 0
-AllFit lines = AllByRecursion LineFits lines
+abbrev pub AllFit : (index : ℕ) → List Line → Type 0
+AllFit index lines = AllByRecursion (LineFits index) lines

@@ -19,7 +19,7 @@ use Rattle.package_grammar.specs.Grammar.{IsValid}
 use Rattle.device_core.specs.declared.config.Class.{Class as DeviceClass}
 use Rattle.device_core.specs.declared.config.Class.TheVariants as device_class
 use Rattle.device_core.specs.declared.config.DeviceConfig.{DeviceConfig}
-use Rattle.device_core.specs.SessionTable.{SessionTable}
+use Rattle.device_core.specs.SessionTable.{SessionTable, session_at}
 use Rattle.device_core.specs.Device.{DeviceState, max_area}
 use Rattle.campaign_world.specs.Making.{formats_of, root_of}
 use Rattle.device_core.specs.ClassSessions.{hears}
@@ -51,11 +51,9 @@ pub record IsFragmentOf (image : List ℕ) (frag_size : ℕ) (f : Fragment) : Ty
   pub last : f.number ≤ nb_frag_of (length image) frag_size + max_parity_index
   pub part : f.part ≡ data_of image frag_size f.number
 
--- there is no session but that of the server's index
-pub record HasNoOther (all : SessionTable) : Type 0 where
-  pub second : all.second ≡ None
-  pub third : all.third ≡ None
-  pub fourth : all.fourth ≡ None
+-- there is no session but that of this index
+abbrev pub HasNoOther : (index : ℕ) → SessionTable → Type 0
+HasNoOther index all = (i : ℕ) → i < 4 → (i ≡ index → ⊥) → session_at all i ≡ None
 
 -- `a` is class A, and `c` is class C
 abbrev pub IsClass : Class → DeviceClass → Type 0
@@ -125,15 +123,15 @@ abbrev pub Brings : (image : List ℕ) → List Line → List SentPayload → (i
 Brings image lines sent id n command = (to : To) × (world : WorldState) × (device : DeviceState)
     × Delivers lines sent id n (record { to = to; command = command }) × Listens image lines id n to world device
 
--- the line whose number is the fragment's mark brings it: the session of a campaign has index 0
-abbrev pub WasBrought : (image : List ℕ) → List Line → List SentPayload → (id : ℕ) → Fragment → Type 0
-WasBrought image lines sent id f = Brings image lines sent id f.mark (Cast (DataFragment 0 f.number f.part))
+-- the line whose number is the fragment's mark brings it, for the session of this index
+abbrev pub WasBrought : (image : List ℕ) → List Line → List SentPayload → (id index : ℕ) → Fragment → Type 0
+WasBrought image lines sent id index f = Brings image lines sent id f.mark (Cast (DataFragment index f.number f.part))
 
 -- each fragment was brought up to this line, those heard before it at lines before its own, and the setup before them all
-abbrev pub CameInOrder : (image : List ℕ) → List Line → List SentPayload → (id : ℕ) → Command → ℕ → List Fragment → Type 0
-CameInOrder image lines sent id setup last [] = (n : ℕ) × (n ≤ last) × Brings image lines sent id n setup
-CameInOrder image lines sent id setup last (f ∷ older) =
-    (f.mark ≤ last) × WasBrought image lines sent id f × CameInOrder image lines sent id setup (f.mark - 1) older
+abbrev pub CameInOrder : (image : List ℕ) → List Line → List SentPayload → (id index : ℕ) → Command → ℕ → List Fragment → Type 0
+CameInOrder image lines sent id index setup last [] = (n : ℕ) × (n ≤ last) × Brings image lines sent id n setup
+CameInOrder image lines sent id index setup last (f ∷ older) =
+    (f.mark ≤ last) × WasBrought image lines sent id index f × CameInOrder image lines sent id index setup (f.mark - 1) older
 
 -- the setup that the server sends
 abbrev pub setup_command : ServerState → Command
@@ -142,10 +140,10 @@ setup_command server = Cast (fragments_request server.plan server.image)
 -- what the session of device id hears: what the lines of the script bring
 pub record HearsBrought (image : List ℕ) (lines : List Line) (world : WorldState) (id : ℕ) (session : Session) : Type 0 where
   -- after the setup was brought, nothing else, and each fragment at its line
-  pub only : CameInOrder image lines world.sent id (setup_command world.server) world.lines session.heard
+  pub only : CameInOrder image lines world.sent id world.server.plan.index (setup_command world.server) world.lines session.heard
   -- and each fragment that is brought after the setup was
   pub all : (f : Fragment) (n : ℕ) → Brings image lines world.sent id n (setup_command world.server) → n < f.mark
-      → WasBrought image lines world.sent id f → In f session.heard
+      → WasBrought image lines world.sent id world.server.plan.index f → In f session.heard
 
 -- ---- what is seen of it
 
@@ -165,7 +163,7 @@ pub record IsRecovered (image : List ℕ) (s : Session) : Type 0 where
 -- the report in which this is said of the verdict of the one session of device id
 abbrev pub report_saying : WorldState → (id : ℕ) → Stage → DeviceState → Seen → List ℕ → List ℕ
 report_saying world id stage device seen words =
-    report_over world id stage device (session_text 0 seen.received seen.missing words)
+    report_over world id stage device (session_text world.server.plan.index seen.received seen.missing words)
 
 -- what is said of a session that is complete from a line on, with the server's image as its file
 abbrev pub complete_words : ℕ → List ℕ
@@ -202,11 +200,11 @@ pub record IsReported (image : List ℕ) (world : WorldState) (id : ℕ) (stage 
 -- a device of an honest campaign that has a session: the image's bytes, the lines, how they end, the device and its stage
 pub record IsCampaign (image : List ℕ) (lines : List Line) (world : WorldState) (id : ℕ) (stage : Stage) (device : DeviceState) (session : Session) : Type 0 where
   pub bytes : All (λ b. b < 2 ^ 8) image
-  pub honest : AreHonest lines
+  pub honest : AreHonest world.server.plan.index lines
   pub accepted : campaign_of image lines ≡ Ok world
   pub stage_is : ledger world.server id ≡ Some stage
   pub device_is : numbered world.devices id ≡ Some device
-  pub session_is : device.sessions.first ≡ Some session
+  pub session_is : session_at device.sessions world.server.plan.index ≡ Some session
 
 -- whatever image and accepted lines of losses, repeats and reorderings there are, whose keys and addresses fit their fields
 pub record Headline : Type 0 where
@@ -216,16 +214,17 @@ pub record Headline : Type 0 where
       → IsOfItsLine lines id device.config
   -- where the lines are honest, it has no session but the server's
   pub one : (image : List ℕ) (lines : List Line) (world : WorldState) (id : ℕ) (device : DeviceState) → All (λ b. b < 2 ^ 8) image
-      → AllFit lines → AreHonest lines → campaign_of image lines ≡ Ok world → numbered world.devices id ≡ Some device → HasNoOther device.sessions
+      → AllFit world.server.plan.index lines → AreHonest world.server.plan.index lines → campaign_of image lines ≡ Ok world
+      → numbered world.devices id ≡ Some device → HasNoOther world.server.plan.index device.sessions
   -- which is the one for the image
   pub served : (image : List ℕ) (lines : List Line) (world : WorldState) (id : ℕ) (stage : Stage) (device : DeviceState) (session : Session)
-      → AllFit lines → IsCampaign image lines world id stage device session → IsServed image world.server device.config.rows session
+      → AllFit world.server.plan.index lines → IsCampaign image lines world id stage device session → IsServed image world.server device.config.rows session
   -- it hears what the lines bring
   pub brought : (image : List ℕ) (lines : List Line) (world : WorldState) (id : ℕ) (stage : Stage) (device : DeviceState) (session : Session)
-      → AllFit lines → IsCampaign image lines world id stage device session → HearsBrought image lines world id session
+      → AllFit world.server.plan.index lines → IsCampaign image lines world id stage device session → HearsBrought image lines world id session
   -- it is complete exactly when one file alone fits, the image, unless the rows are exceeded first
   pub recovered : (image : List ℕ) (lines : List Line) (world : WorldState) (id : ℕ) (stage : Stage) (device : DeviceState) (session : Session)
-      → AllFit lines → IsCampaign image lines world id stage device session → IsRecovered image session
+      → AllFit world.server.plan.index lines → IsCampaign image lines world id stage device session → IsRecovered image session
   -- the report says so
   pub reported : (image : List ℕ) (lines : List Line) (world : WorldState) (id : ℕ) (stage : Stage) (device : DeviceState) (session : Session)
-      → AllFit lines → IsCampaign image lines world id stage device session → IsReported image world id stage device session
+      → AllFit world.server.plan.index lines → IsCampaign image lines world id stage device session → IsReported image world id stage device session

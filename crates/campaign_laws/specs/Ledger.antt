@@ -25,5 +25,5 @@ Runs image devices id = (device : DeviceState) × (numbered devices id ≡ Some 
 -- whatever image file and accepted honest lines there are
 abbrev pub TheLedgerIsTrue : Type 0
 TheLedgerIsTrue = (image : List ℕ) (lines : List Line) (world : WorldState) (id : ℕ) → All (λ b. b < 2 ^ 8) image
-    → is_image image ≡ true → AllFit lines → AreHonest lines → campaign_of image lines ≡ Ok world → ledger world.server id ≡ Some Updated
+    → is_image image ≡ true → AllFit world.server.plan.index lines → AreHonest world.server.plan.index lines → campaign_of image lines ≡ Ok world → ledger world.server id ≡ Some Updated
     → Runs image world.devices id

@@ -3,6 +3,7 @@ use Rattle.std.specs.Prelude.{◌≡◌, ℕ, ◌^◌, ◌<◌, ◌≤◌, true,
 use Rattle.frag_session.specs.Setup.{other_descriptor}
 use Rattle.image_slots.specs.Image.{is_image, firmware_of}
 use Rattle.device_core.specs.Device.{DeviceState}
+use Rattle.device_core.specs.SessionTable.{session_at}
 use Rattle.wire_base.specs.Numbered.{numbered}
 use Rattle.campaign_world.specs.World.{WorldState}
 use Rattle.campaign_world.specs.Said.{Line}
@@ -20,7 +21,7 @@ HasItsDevices = (image : List ℕ) (lines : List Line) (world : WorldState) → 
 -- always has room
 abbrev pub SessionsLive : Type 0
 SessionsLive = (image : List ℕ) (lines : List Line) (world : WorldState) (id : ℕ) (device : DeviceState) (n : ℕ) → All (λ b. b < 2 ^ 8) image
-    → is_image image ≡ true → AllFit lines → AreHonest lines → campaign_of image lines ≡ Ok world → numbered world.devices id ≡ Some device
+    → is_image image ≡ true → AllFit world.server.plan.index lines → AreHonest world.server.plan.index lines → campaign_of image lines ≡ Ok world → numbered world.devices id ≡ Some device
     → other_descriptor device.config.descriptor (firmware_of image) ≡ false
     → Brings image lines world.sent id n (setup_command world.server)
-    → is_some device.sessions.first ≡ true
+    → is_some (session_at device.sessions world.server.plan.index) ≡ true

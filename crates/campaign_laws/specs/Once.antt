@@ -61,7 +61,7 @@ PastMovesNone = (plan : Plan) (image : List ℕ) (stage : Stage) (command : Comm
 abbrev pub MovesOnce : Type 0
 MovesOnce = (image : List ℕ) (line : Line) (before between : List Line) (number : ℕ) (world later : WorldState) (made : MadeUplink) (command : Command)
     → All (λ b. b < 2 ^ 8) image → is_image image ≡ true
-    → AllFit before → AreHonest before → read_lines (Ok (first_world image)) before ≡ Ok world → line ≡ Ok (Own (Up number))
+    → AllFit world.server.plan.index before → AreHonest world.server.plan.index before → read_lines (Ok (first_world image)) before ≡ Ok world → line ≡ Ok (Own (Up number))
     → read_lines (Ok world) (line ∷ between) ≡ Ok later → numbered world.uplinks number ≡ Some made
     → reading_of made.uplink.port Upwards made.uplink.payload ≡ Ok (command ∷ [])
     → (after_up world (numbered world.uplinks number)).server.stages ≢ world.server.stages

@@ -16,7 +16,7 @@ use Rattle.campaign_laws.specs.Fields.{AllFit}
 abbrev pub MovesOnceIn : HeldWorld → (number : ℕ) → Type 0
 MovesOnceIn held number = (image : List ℕ) (line : Line) (before between : List Line) (world later : WorldState)
     → WorldStands held world → All (λ b. b < 2 ^ 8) image → is_image image ≡ true
-    → AllFit before → AreHonest before → read_lines (Ok (first_world image)) before ≡ Ok world → line ≡ Ok (Own (Up number))
+    → AllFit world.server.plan.index before → AreHonest world.server.plan.index before → read_lines (Ok (first_world image)) before ≡ Ok world → line ≡ Ok (Own (Up number))
     → read_lines (Ok world) (line ∷ between) ≡ Ok later
     → (after_up world (numbered world.uplinks number)).server.stages ≢ world.server.stages
     → (after_up later (numbered later.uplinks number)).server.stages ≡ later.server.stages

@@ -10,10 +10,10 @@ use Rattle.campaign_world.specs.Honest.{AreHonest}
 use Rattle.campaign_laws.specs.Fields.{AllFit}
 use Rattle.campaign_world.specs.Recovery.{recovery_by, recovery}
 
--- whatever image and accepted honest lines there are, what a device recovered is the image
+-- whatever image and accepted honest lines there are of a campaign of index 0, what a device recovered is the image
 abbrev pub RecoversTheImage : Type 0
 RecoversTheImage = (image : List ℕ) (lines : List Line) (world : WorldState) (id : ℕ) (file : List ℕ) → All (λ b. b < 2 ^ 8) image
-    → AllFit lines → AreHonest lines → campaign_of image lines ≡ Ok world → recovery world id ≡ Ok file → file ≡ image
+    → AllFit 0 lines → AreHonest 0 lines → campaign_of image lines ≡ Ok world → recovery world id ≡ Ok file → file ≡ image
 
 -- what is recovered of a device is its own, its number being its place in the list, counted from 1; of no device it is nothing
 pub record RecoversItsOwn : Type 0 where

@@ -1,5 +1,5 @@
 -- What a plan without a wrong field is.
-use Rattle.std.proofs.Common.{◌≡◌, ℕ, ◌≤◌, ◌<◌, Bool, true, false, not, cond, ◌&&◌, nat_le, nat_lt, ◌^◌, Option, Some, None, Ok, List, length, replicate, slice_set, ◌-◌, inl, inr, refl, sym, ap, ◌∙◌, arith}
+use Rattle.std.proofs.Common.{◌≡◌, ℕ, zero, suc, ◌≤◌, ◌<◌, Bool, true, false, not, cond, ◌&&◌, nat_le, nat_lt, ◌^◌, Option, Some, None, Ok, List, length, replicate, slice_set, ◌-◌, inl, inr, refl, sym, ap, ◌∙◌, arith}
 use Rattle.std.proofs.lemmas.List.{length-replicate}
 use Rattle.std.proofs.lemmas.Bool.{leb-true, ltb-true, ltb-false}
 use Rattle.std.proofs.lemmas.Bool.Decides.{nat_tests}
@@ -10,7 +10,7 @@ use Rattle.campaign_server.specs.declared.plan.Kind.TheVariants as kind
 use Rattle.campaign_server.specs.declared.plan.PlanGroup.{PlanGroup}
 use Rattle.campaign_server.specs.declared.plan.PlanWindow.{PlanWindow}
 use Rattle.campaign_server.specs.declared.plan.Field.{Field}
-use Rattle.campaign_server.specs.declared.plan.Field.TheVariants.{FragSize, Parity, Group, Window, Devices}
+use Rattle.campaign_server.specs.declared.plan.Field.TheVariants.{FragSize, Parity, Index, Group, Window, Devices}
 use Rattle.package_grammar.specs.declared.command.Command.{Command}
 use Rattle.campaign_server.specs.declared.plan.PlanDevice.{PlanDevice}
 use Rattle.campaign_server.specs.declared.stage.Stage.{Stage}
@@ -23,7 +23,7 @@ use Rattle.campaign_server.specs.Answers.{stage_after_all}
 use Rattle.campaign_server.specs.Time.{time_answer}
 use Rattle.campaign_server.specs.Uplinks.{read_uplink}
 use Rattle.frag_model.specs.Limits.{max_frag_size, max_pieces}
-use Rattle.campaign_server.specs.Plan.{Plan, bad_field, is_frag_size, is_group, is_kind, fits_bits, is_window, max_parity, max_devices}
+use Rattle.campaign_server.specs.Plan.{Plan, bad_field, is_frag_size, is_group, is_kind, fits_bits, is_window, max_parity, max_devices, max_index}
 use Rattle.campaign_server.specs.ServerInside.{KindFits, WindowFits, GroupFits, IsPlan, IsCount, IsServer}
 
 -- a test that fails names no field
@@ -35,17 +35,19 @@ holds : (test : Bool) → not test ≡ false → test ≡ true
 holds true is = refl
 holds false is = absurd cc
 
+both : (a b : Bool) → (a && b) ≡ true → (a ≡ true) × (b ≡ true)
+both true b is = (refl, is)
+both false b is = absurd cc
+
 group_fits : (group : Option PlanGroup) → is_group group ≡ true → GroupFits group
 group_fits None is = tt
-group_fits (Some group) is = grind (arith, nat_tests)
+group_fits (Some group) is =
+    let parts = both (nat_lt group.min group.max) (nat_le group.id max_index) is in
+    (ltb-true group.min group.max parts.0, leb-true group.id max_index parts.1)
 
 kind_fits : (k : Kind) → is_kind k ≡ true → KindFits k
 kind_fits kind.C is = tt
 kind_fits (kind.B periodicity) is = grind (arith, nat_tests)
-
-both : (a b : Bool) → (a && b) ≡ true → (a ≡ true) × (b ≡ true)
-both true b is = (refl, is)
-both false b is = absurd cc
 
 window_of : (window : PlanWindow) → fits_bits window ≡ true → WindowFits (Some window)
 window_of window is =
@@ -67,7 +69,8 @@ unfolding bad_field
 plan_of_fine len plan is =
     let a = passed (not (is_frag_size len plan.frag_size)) FragSize _ is in
     let b = passed (nat_lt max_parity plan.parity) Parity _ a.1 in
-    let c = passed (not (is_group plan.group)) Group _ b.1 in
+    let i = passed (nat_lt max_index plan.index) Index _ b.1 in
+    let c = passed (not (is_group plan.group)) Group _ i.1 in
     let d = passed (not (is_window plan.group plan.window)) Window _ c.1 in
     let e = passed (not (nat_le 1 (length plan.devices) && nat_le (length plan.devices) max_devices)) Devices _ d.1 in
     let size = both _ _ (holds _ a.0) in
@@ -78,6 +81,7 @@ plan_of_fine len plan is =
       fits = leb-true plan.frag_size max_frag_size low.1;
       number = leb-true (nb_frag_of len plan.frag_size) max_pieces size.1;
       few = ltb-false max_parity plan.parity b.0;
+      indexed = ltb-false max_index plan.index i.0;
       group_fits = group_fits plan.group (holds _ c.0);
       window_fits = window_fits plan.group plan.window (holds _ d.0);
       devices = leb-true (length plan.devices) max_devices count.1;
@@ -95,7 +99,7 @@ cuts_well len plan fine long (inr (inr (inr many))) = omega (arith, many, fine.n
 
 count_fits : (group : Option PlanGroup) → GroupFits group → IsCount group (first_count group)
 count_fits None fits = tt
-count_fits (Some group) fits = omega arith
+count_fits (Some group) fits = omega (arith, fits.0)
 
 -- what a server keeps is true at its start
 pub starts : (plan : Plan) (encoder : Encoding) (stages : List Stage) (count : ℕ) → is_image encoder.file ≡ true → IsPlan (length encoder.file) plan → encoder.frag_size ≡ plan.frag_size
@@ -125,3 +129,11 @@ moved_by server dev t cs stage stands = rw stands refl
 pub answered_by : (server : ServerState) (dev t : ℕ) (cs : List Command) → (read_uplink server dev t (Ok cs)).answer ≡ Ok (by_unicast (time_answer t cs))
 unfolding read_uplink
 answered_by server dev t cs = refl
+
+-- a mask has four bits
+pub few_masks : (id : ℕ) → id ≤ 3 → 2 ^ id ≤ 8
+few_masks zero few = omega arith
+few_masks (suc zero) few = omega arith
+few_masks (suc (suc zero)) few = omega arith
+few_masks (suc (suc (suc zero))) few = omega arith
+few_masks (suc (suc (suc (suc id)))) few = absurd (omega (arith, few))

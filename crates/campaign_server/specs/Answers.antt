@@ -15,7 +15,7 @@ use Rattle.campaign_server.specs.declared.stage.Stage.{Stage}
 use Rattle.campaign_server.specs.declared.stage.Stage.TheVariants.{At, Updated, Refused}
 use Rattle.campaign_server.specs.declared.stage.Request.{Request}
 use Rattle.campaign_server.specs.declared.stage.Request.TheVariants.{Version, Group, Fragments, Window, Status, Image, Reboot, Check}
-use Rattle.campaign_server.specs.Plan.{Plan, session_index, own_id}
+use Rattle.campaign_server.specs.Plan.{Plan, own_id}
 
 -- refused with bits, unless there is none
 abbrev pub unless_refused : Request → (bits : ℕ) → Stage → Stage
@@ -40,7 +40,7 @@ after_group plan id error =
 abbrev pub after_setup : Plan → (index bits : ℕ) → Stage
 after_setup plan index bits =
     let next = if is_some plan.group then Window else Status in
-    where_own (session_index plan) index Fragments (unless_refused Fragments bits (At next))
+    where_own plan.index index Fragments (unless_refused Fragments bits (At next))
 
 -- the group (16), the frequency (8) and the data rate (4) of a class session
 abbrev pub window_bits : (undefined freq dr : Bool) → ℕ
@@ -55,7 +55,7 @@ after_window plan own id bits =
 abbrev pub after_status : Plan → (index missing : ℕ) → (norows : Bool) → Stage
 after_status plan index missing norows =
     let next = if missing == 0 then Image else Status in
-    where_own (session_index plan) index Status (unless_refused Status (flag_value norows 1) (At next))
+    where_own plan.index index Status (unless_refused Status (flag_value norows 1) (At next))
 
 -- 1 corrupt, 2 incompatible, 3 another version; 0 stays
 abbrev pub after_upgrade : (image : List ℕ) → (status : ℕ) → (next : Option ℕ) → Stage

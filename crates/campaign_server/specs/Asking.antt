@@ -18,7 +18,7 @@ use Rattle.campaign_server.specs.declared.plan.Kind.TheVariants as kind
 use Rattle.campaign_server.specs.declared.stage.Stage.{Stage}
 use Rattle.campaign_server.specs.declared.stage.Stage.TheVariants.{At, Updated, Refused}
 use Rattle.campaign_server.specs.declared.stage.Request.TheVariants.{Version, Group, Fragments, Window, Status, Image, Reboot, Check}
-use Rattle.campaign_server.specs.Plan.{Plan, session_index, group_id, own_id}
+use Rattle.campaign_server.specs.Plan.{Plan, own_id}
 use Rattle.campaign_server.specs.Wrapping.{wrapped_key}
 use Rattle.campaign_server.specs.Server.{ServerState, DownlinkCommand, ledger}
 use Rattle.wire_base.specs.Numbered.{numbered}
@@ -29,12 +29,12 @@ use Rattle.wire_base.specs.Numbered.{numbered}
 abbrev pub group_request : PlanDevice → PlanGroup → Cmd
 group_request device group =
     let key = wrapped_key (mc_ke_key (root_of device.root device.key)) group.key in
-    McGroupSetupReq (group_id group) group.addr key group.min group.max
+    McGroupSetupReq group.id group.addr key group.min group.max
 
 -- the group may feed the session where there is one
 abbrev pub mask_of : Option PlanGroup → ℕ
 mask_of None = 0
-mask_of (Some group) = 2 ^ group_id group
+mask_of (Some group) = 2 ^ group.id
 
 -- the session: BlockAckDelay 0, and the firmware version as what the file is
 abbrev pub fragments_request : Plan → (image : List ℕ) → Cmd
@@ -42,7 +42,7 @@ fragments_request plan image =
     let size = plan.frag_size in
     let nb_frag = nb_frag_of (length image) size in
     let padding = padding_of (length image) size in
-    FragSessionSetupReq (session_index plan) (mask_of plan.group) nb_frag size 0 0 padding (firmware_of image)
+    FragSessionSetupReq plan.index (mask_of plan.group) nb_frag size 0 0 padding (firmware_of image)
 
 -- the class session of the group with an id
 abbrev pub window_request_of : (id : ℕ) → PlanWindow → Kind → Cmd
@@ -66,7 +66,7 @@ request_at plan image device (At Group) = cast_of (λ group. group_request devic
 request_at plan image device (At Fragments) = Some (Cast (fragments_request plan image))
 request_at plan image device (At Window) =
     cast_of (λ window. window_request (own_id plan.group) window) plan.window
-request_at plan image device (At Status) = Some (Cast (FragSessionStatusReq (session_index plan) true))
+request_at plan image device (At Status) = Some (Cast (FragSessionStatusReq plan.index true))
 request_at plan image device (At Image) = Some (Sync DevUpgradeImageReq)
 request_at plan image device (At Reboot) = Some (Sync (DevRebootCountdownReq 0))
 request_at plan image device (At Check) = Some (Sync DevVersionReq)

@@ -8,7 +8,6 @@ use Rattle.package_grammar.specs.declared.downlink.To.TheVariants as to
 use Rattle.campaign_server.specs.declared.plan.PlanGroup.{PlanGroup}
 use Rattle.campaign_server.specs.declared.fragments.Spent.{Spent}
 use Rattle.campaign_server.specs.declared.fragments.Spent.TheVariants.{Fragments, Counts}
-use Rattle.campaign_server.specs.Plan.{session_index}
 use Rattle.campaign_server.specs.Server.{ServerState, DownlinkCommand}
 
 -- ---- to whom
@@ -43,7 +42,7 @@ next_fragment server =
     else if has_no_count server.plan.group server.count then Err Counts
     else Ok (record {
       to = receivers server.plan.group server.count;
-      command = Cast (DataFragment (session_index server.plan) server.next
+      command = Cast (DataFragment server.plan.index server.next
           (data_of server.image server.plan.frag_size server.next));
     })
 
@@ -57,7 +56,7 @@ status_to_all server =
     if has_no_count server.plan.group server.count then None
     else Some (record {
       to = receivers server.plan.group server.count;
-      command = Cast (FragSessionStatusReq (session_index server.plan) false);
+      command = Cast (FragSessionStatusReq server.plan.index false);
     })
 
 unfoldable pub after_status_to_all : ServerState → ServerState

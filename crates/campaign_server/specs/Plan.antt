@@ -8,27 +8,22 @@ use Rattle.campaign_server.specs.declared.plan.PlanDevice.{PlanDevice}
 use Rattle.campaign_server.specs.declared.plan.Kind.{Kind}
 use Rattle.campaign_server.specs.declared.plan.Kind.TheVariants as kind
 use Rattle.campaign_server.specs.declared.plan.Field.{Field}
-use Rattle.campaign_server.specs.declared.plan.Field.TheVariants.{FragSize, Parity, Group, Window, Devices}
+use Rattle.campaign_server.specs.declared.plan.Field.TheVariants.{FragSize, Parity, Index, Group, Window, Devices}
 
--- how the image is cut and how many coded fragments follow; the group with its window, or neither; the devices in order
+-- how the image is cut and how many coded fragments follow; the index of its session, the same on every device; the group with
+-- its window, or neither; the devices in order
 pub record Plan : Type 0 where
   pub frag_size : ℕ
   pub parity : ℕ
+  pub index : ℕ
   pub group : Option PlanGroup
   pub window : Option PlanWindow
   pub devices : List PlanDevice
 
--- the index of a plan's session, and the id of its group, the same on every device (this project's profile)
-abbrev pub session_index : Plan → ℕ
-session_index plan = 0
-
-abbrev pub group_id : PlanGroup → ℕ
-group_id group = 0
-
 -- the id of the group that there is; without one no command that has an id is sent, and none is taken
 abbrev pub own_id : Option PlanGroup → ℕ
 own_id None = 0
-own_id (Some group) = group_id group
+own_id (Some group) = group.id
 
 -- the most coded fragments, and the most devices
 abbrev pub max_parity : ℕ
@@ -36,6 +31,10 @@ max_parity = 512
 
 abbrev pub max_devices : ℕ
 max_devices = 64
+
+-- the last index of a session, and the last id of a group
+abbrev pub max_index : ℕ
+max_index = 3
 
 -- ---- wrong fields
 
@@ -45,7 +44,7 @@ is_frag_size len frag_size = nat_le 1 frag_size && nat_le frag_size max_frag_siz
 
 abbrev pub is_group : Option PlanGroup → Bool
 is_group None = true
-is_group (Some group) = nat_lt group.min group.max
+is_group (Some group) = nat_lt group.min group.max && nat_le group.id max_index
 
 abbrev pub is_kind : Kind → Bool
 is_kind kind.C = true
@@ -69,6 +68,7 @@ unfoldable pub bad_field : (len : ℕ) → Plan → Option Field
 bad_field len plan =
     if not (is_frag_size len plan.frag_size) then Some FragSize
     else if nat_lt max_parity plan.parity then Some Parity
+    else if nat_lt max_index plan.index then Some Index
     else if not (is_group plan.group) then Some Group
     else if not (is_window plan.group plan.window) then Some Window
     else if not (nat_le 1 (length plan.devices) && nat_le (length plan.devices) max_devices) then Some Devices

@@ -8,7 +8,7 @@ use Rattle.campaign_server.specs.declared.plan.Kind.TheVariants as kind
 use Rattle.campaign_server.specs.declared.plan.PlanGroup.{PlanGroup}
 use Rattle.campaign_server.specs.declared.plan.PlanWindow.{PlanWindow}
 use Rattle.campaign_server.specs.declared.stage.Stage.{Stage}
-use Rattle.campaign_server.specs.Plan.{Plan, max_parity, max_devices}
+use Rattle.campaign_server.specs.Plan.{Plan, max_parity, max_devices, max_index}
 
 -- the fields of a window are within their bits
 abbrev pub KindFits : Kind → Type 0
@@ -19,10 +19,10 @@ abbrev pub WindowFits : Option PlanWindow → Type 0
 WindowFits None = Unit {0}
 WindowFits (Some window) = (window.timeout < 16) × (window.freq < 2 ^ 24) × KindFits window.kind
 
--- the counts of a group begin before its end
+-- the counts of a group begin before its end, and its id is within its bits
 abbrev pub GroupFits : Option PlanGroup → Type 0
 GroupFits None = Unit {0}
-GroupFits (Some group) = group.min < group.max
+GroupFits (Some group) = (group.min < group.max) × (group.id ≤ max_index)
 
 -- a plan without a wrong field, for a file of this length
 pub record IsPlan (len : ℕ) (plan : Plan) : Type 0 where
@@ -30,6 +30,7 @@ pub record IsPlan (len : ℕ) (plan : Plan) : Type 0 where
   pub fits : plan.frag_size ≤ max_frag_size
   pub number : nb_frag_of len plan.frag_size ≤ max_pieces
   pub few : plan.parity ≤ max_parity
+  pub indexed : plan.index ≤ max_index
   pub group_fits : GroupFits plan.group
   pub window_fits : WindowFits plan.window
   pub devices : length plan.devices ≤ max_devices

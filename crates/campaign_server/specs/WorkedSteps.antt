@@ -3,11 +3,13 @@ use Rattle.std.specs.Prelude.{◌≡◌, ℕ, ◌-◌, ◌^◌, true, List, [], 
 use Rattle.wire_base.specs.declared.refusal.Refusal.{Refusal}
 use Rattle.wire_base.specs.declared.refusal.Why.TheVariants as why
 use Rattle.package_grammar.specs.declared.command.Command.TheVariants.{Cast}
-use Rattle.cast_wire.specs.declared.cmd.Cmd.TheVariants.{DataFragment}
+use Rattle.cast_wire.specs.declared.cmd.Cmd.TheVariants.{McGroupSetupReq, DataFragment}
 use Rattle.frag_encoder.specs.Encoding.{data_of}
 use Rattle.package_grammar.specs.declared.downlink.Downlink.{Downlink}
 use Rattle.package_grammar.specs.declared.downlink.To.TheVariants as to
 use Rattle.mc_keys.specs.declared.root_kind.RootKind.TheVariants.{V10}
+use Rattle.mc_keys.specs.Keys.{mc_ke_key}
+use Rattle.mc_keys.specs.Roots.{root_of}
 use Rattle.mc_keys.specs.WorkedKeys.{worked_key}
 use Rattle.campaign_server.specs.declared.plan.Kind.TheVariants as kind
 use Rattle.campaign_server.specs.declared.plan.Field.TheVariants as field
@@ -22,6 +24,7 @@ use Rattle.campaign_server.specs.Server.{ServerState, first_server, ledger}
 use Rattle.campaign_server.specs.Asking.{group_request, request_of}
 use Rattle.campaign_server.specs.Fragments.{next_fragment, after_fragment, status_to_all, after_status_to_all}
 use Rattle.campaign_server.specs.Framing.{session_keys}
+use Rattle.campaign_server.specs.Wrapping.{wrapped_key}
 use Rattle.campaign_server.specs.Sent.{down_of, result_of, answer_of}
 use Rattle.campaign_server.specs.Uplinks.{uplink_step}
 
@@ -36,17 +39,21 @@ ranged =
     0x46 ∷ 0x55 ∷ 0x49 ∷ 0x4d ∷ 0x02 ∷ 0x01 ∷ 0 ∷ 0 ∷ 0 ∷ 0x03 ∷ 0 ∷ 0 ∷ 0 ∷ 0x02 ∷ 0 ∷ 0 ∷ 0 ∷ 0x03 ∷ 0 ∷ 0 ∷ 0 ∷ replicate 35 0
 
 abbrev pub alone : Plan
-alone = record { frag_size = 13; parity = 4; group = None; window = None; devices = record { key = replicate 16 0; root = V10 } ∷ [] }
+alone = record { frag_size = 13; parity = 4; index = 0; group = None; window = None; devices = record { key = replicate 16 0; root = V10 } ∷ [] }
 
 -- a group with the frame counts 5 and 6, and its class C session
 abbrev pub worked_group : PlanGroup
-worked_group = record { addr = 0x11223344; key = replicate 16 0; min = 5; max = 7 }
+worked_group = record { id = 0; addr = 0x11223344; key = replicate 16 0; min = 5; max = 7 }
 
 abbrev pub worked_window : PlanWindow
 worked_window = record { kind = kind.C; start = 1000; timeout = 0; freq = 8695250; dr = 0 }
 
 abbrev pub grouped : Plan
 grouped = record alone { group = Some worked_group; window = Some worked_window }
+
+-- a session of index 2, and a group of id 3
+abbrev pub elsewhere : Plan
+elsewhere = record grouped { index = 2; group = Some (record worked_group { id = 3 }) }
 
 -- the same with a class B session
 abbrev pub of_class_b : Plan
@@ -90,6 +97,14 @@ pub record AskSteps : Type 0 where
   pub image_ : asks alone (At Image) ≡ by_unicast 203 (0x04 ∷ [])
   pub reboot : asks alone (At Reboot) ≡ by_unicast 203 (0x03 ∷ 0x00 ∷ 0x00 ∷ 0x00 ∷ [])
   pub check : asks alone (At Check) ≡ by_unicast 203 (0x01 ∷ [])
+  -- the session's index and the group's id, and the mask that has this id's bit alone
+  pub by_index : asks elsewhere (At Fragments)
+      ≡ by_unicast 201 (0x02 ∷ 0x28 ∷ 0x04 ∷ 0x00 ∷ 0x0d ∷ 0x00 ∷ 0x00 ∷ 0x02 ∷ 0x00 ∷ 0x00 ∷ 0x00 ∷ [])
+  pub by_id : request_of (at_stage elsewhere (At Group)) 1
+      ≡ Some (record { to = to.Unicast; command = Cast (McGroupSetupReq 3 0x11223344 (wrapped_key (mc_ke_key (root_of V10 (replicate 16 0))) (replicate 16 0)) 5 7) })
+  pub window_by_id : asks elsewhere (At Window)
+      ≡ by_unicast 200 (0x04 ∷ 0x03 ∷ 0xe8 ∷ 0x03 ∷ 0x00 ∷ 0x00 ∷ 0x00 ∷ 0xd2 ∷ 0xad ∷ 0x84 ∷ 0x00 ∷ [])
+  pub status_by_index : asks elsewhere (At Status) ≡ by_unicast 201 (0x01 ∷ 0x05 ∷ [])
   pub updated : asks alone Updated ≡ None
   pub refused : asks alone (Refused Version 1) ≡ None
 
@@ -153,6 +168,11 @@ pub record AnswerSteps : Type 0 where
   pub reboot : leads alone (At Reboot) 203 (0x03 ∷ 0x07 ∷ 0x00 ∷ 0x00 ∷ []) ≡ Some (At Check)
   pub updated : leads alone (At Check) 203 (versions 2 1) ≡ Some Updated
   pub old_firmware : leads alone (At Check) 203 (versions 0 1) ≡ Some (At Check)
+  -- answers for another index, or another group, move nothing
+  pub own_index : leads elsewhere (At Fragments) 201 (0x02 ∷ 0x80 ∷ []) ≡ Some (At Window)
+  pub index_0 : leads elsewhere (At Fragments) 201 (0x02 ∷ 0x00 ∷ []) ≡ Some (At Fragments)
+  pub own_id : leads elsewhere (At Group) 200 (0x02 ∷ 0x03 ∷ []) ≡ Some (At Fragments)
+  pub id_0 : leads elsewhere (At Group) 200 (0x02 ∷ 0x00 ∷ []) ≡ Some (At Group)
   -- a repeated answer moves nothing, several in one uplink act in order, and a refused payload changes nothing
   pub repeated : leads alone (At Fragments) 203 (versions 0 1) ≡ Some (At Fragments)
   pub in_order : leads alone (At Reboot) 203 (0x03 ∷ 0x00 ∷ 0x00 ∷ 0x00 ∷ versions 2 1) ≡ Some Updated
@@ -188,6 +208,8 @@ pub record SendSteps : Type 0 where
   pub eighth : is_ok (next_fragment (record (first_server image alone) { next = 8 })) ≡ true
   pub coded : next_fragment (record (first_server image alone) { next = 8 })
       ≡ Ok (record { to = to.Unicast; command = Cast (DataFragment 0 8 (data_of image 13 8)) })
+  pub indexed : next_fragment (record (first_server image elsewhere) { next = 8 })
+      ≡ Ok (record { to = to.Group 0x11223344 5; command = Cast (DataFragment 2 8 (data_of image 13 8)) })
   pub spent : next_fragment (record (first_server image alone) { next = 9 }) ≡ Err AllSent
   -- to the group with its next count, which ends before its MAX
   pub moves : after_fragment (first_server image grouped) ≡ record (first_server image grouped) { next = 2; count = 6 }
@@ -234,6 +256,13 @@ pub record PlanSteps : Type 0 where
   pub more_pieces : bad_field 4097 (record alone { frag_size = 1 }) ≡ Some field.FragSize
   pub most : bad_field 52 (record alone { parity = 512 }) ≡ None
   pub parity : bad_field 52 (record alone { parity = 513 }) ≡ Some field.Parity
+  pub last_index : bad_field 52 (record alone { index = 3 }) ≡ None
+  pub index : bad_field 52 (record alone { index = 4 }) ≡ Some field.Index
+  -- behind the parity, and before the group
+  pub index_second : bad_field 52 (record alone { parity = 513; index = 4 }) ≡ Some field.Parity
+  pub index_first : bad_field 52 (record grouped { index = 4; group = Some (record worked_group { min = 7 }) }) ≡ Some field.Index
+  pub last_id : bad_field 52 (record grouped { group = Some (record worked_group { id = 3 }) }) ≡ None
+  pub id : bad_field 52 (record grouped { group = Some (record worked_group { id = 4 }) }) ≡ Some field.Group
   pub group : bad_field 52 (record grouped { group = Some (record worked_group { min = 7 }) }) ≡ Some field.Group
   pub no_window : bad_field 52 (record grouped { window = None }) ≡ Some field.Window
   pub no_group : bad_field 52 (record grouped { group = None }) ≡ Some field.Window

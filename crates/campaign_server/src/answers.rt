@@ -172,7 +172,7 @@ fn after_setup(plan: &Plan, index: u8, bits: u8) -> Stage
         None => Stage::At(Request::Status),
     };
     let moved = unless_refused(Request::Fragments, bits, next);
-    where_own(plan.session_index(), index, Request::Fragments, moved)
+    where_own(plan.index, index, Request::Fragments, moved)
 }
 
 /// The answer of the plan's own class alone.
@@ -196,7 +196,7 @@ fn after_status(plan: &Plan, index: u8, missing: u8, norows: bool) -> Stage
         Stage::At(Request::Status)
     };
     let moved = unless_refused(Request::Status, flag_value(norows, 1), next);
-    where_own(plan.session_index(), index, Request::Status, moved)
+    where_own(plan.index, index, Request::Status, moved)
 }
 
 /// 1 corrupt, 2 incompatible, 3 another version; 0 stays.

@@ -1,16 +1,16 @@
 //! What the server asks of a device at each stage.
 
-ghost use Rattle.std.specs.Prelude.{◌≡◌, ◌<◌, ◌≤◌, Some, true, length};
+ghost use Rattle.std.specs.Prelude.{◌≡◌, ◌≤◌, Some, true, length};
 ghost use Rattle.package_grammar.specs.declared.command.Command.TheVariants.{Sync, Cast};
 ghost use Rattle.sync_wire.specs.declared.cmd.Cmd.TheVariants.{DevVersionReq, DevUpgradeImageReq, DevRebootCountdownReq};
 ghost use Rattle.cast_wire.specs.declared.cmd.Cmd.TheVariants.{FragSessionStatusReq};
-ghost use Rattle.campaign_server.specs.Plan.{session_index, own_id};
+ghost use Rattle.campaign_server.specs.Plan.{max_index};
 ghost use Rattle.aes_block.specs.Cipher.{IsBlock};
 ghost use Rattle.mc_keys.specs.Keys.{mc_ke_key};
 ghost use Rattle.mc_keys.specs.Roots.{root_of};
 ghost use Rattle.campaign_server.specs.Asking.{request_at, by_unicast, group_request, mask_of, fragments_request, window_request};
 ghost use Rattle.campaign_server.specs.Wrapping.{wrapped_key};
-ghost use Rattle.campaign_server.specs.ServerInside.{IsCut, WindowFits};
+ghost use Rattle.campaign_server.specs.ServerInside.{IsCut, GroupFits, WindowFits};
 ghost use Rattle.campaign_server.specs.Sent.{down_of, unicast_of};
 
 use crate::plan::{Kind, Plan, PlanDevice, PlanGroup, PlanWindow, own_id};
@@ -79,12 +79,13 @@ fn reboot_request() -> Downlink
 }
 
 fn status_request(plan: &Plan) -> Downlink
-    ensures { result ≡ unicast_of (Cast (FragSessionStatusReq (session_index plan.now) true)) }
+    requires { plan.now.index ≤ max_index }
+    ensures { result ≡ unicast_of (Cast (FragSessionStatusReq plan.now.index true)) }
 {
     unicast(
         FRAGMENT_PORT,
         Command::Cast(Cmd::FragSessionStatusReq {
-            index: plan.session_index(),
+            index: plan.index,
             all: true,
         }),
     )
@@ -92,6 +93,7 @@ fn status_request(plan: &Plan) -> Downlink
 
 /// McGroupSetupReq, the group's key wrapped for the device.
 fn group_request(device: &PlanDevice, group: &PlanGroup) -> Downlink
+    requires { group.now.id ≤ max_index }
     ensures { result ≡ unicast_of (Cast (group_request device.now group.now)) }
 {
     // each read here, so that the command is known to have numbers of four bytes
@@ -101,7 +103,7 @@ fn group_request(device: &PlanDevice, group: &PlanGroup) -> Downlink
     unicast(
         MULTICAST_PORT,
         Command::Cast(Cmd::McGroupSetupReq {
-            id: group.group_id(),
+            id: group.id,
             addr: group.addr,
             key: wrapped(device, &group.key),
             min: group.min,
@@ -142,7 +144,7 @@ fn fragments_request(plan: &Plan, encoder: &Encoder) -> Downlink
     unicast(
         FRAGMENT_PORT,
         Command::Cast(Cmd::FragSessionSetupReq {
-            index: plan.session_index(),
+            index: plan.index,
             mask: mask(plan.group),
             nb_frag: encoder.nb_frag(),
             frag_size: plan.frag_size,
@@ -156,18 +158,19 @@ fn fragments_request(plan: &Plan, encoder: &Encoder) -> Downlink
 
 /// The group may feed the session where there is one.
 fn mask(group: Option<PlanGroup>) -> u8
+    requires { GroupFits group }
     ensures value { result ≡ mask_of group }
     ensures few { result ≤ 8 }
 {
     match group {
-        Some(group) => 1 << group.group_id(),
+        Some(group) => 1 << group.id,
         None => 0,
     }
 }
 
 /// McClassCSessionReq or McClassBSessionReq for the group with an id.
 fn window_request(id: u8, window: &PlanWindow) -> Downlink
-    requires id { id < 4 }
+    requires id { id ≤ max_index }
     requires window { WindowFits (Some window.now) }
     ensures { result ≡ unicast_of (Cast (window_request id window.now)) }
 {

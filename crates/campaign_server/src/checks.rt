@@ -17,6 +17,9 @@ const MAX_PARITY: u16 = 512;
 /// The most devices.
 const MAX_DEVICES: usize = 64;
 
+/// The last index of a session, and the last id of a group.
+const MAX_INDEX: u8 = 3;
+
 /// The first field that is wrong, for an image of this length.
 #[tactic(auto, using(crate::proofs::Plans::plan_of_none))]
 pub fn bad_field(len: usize, plan: &Plan) -> Option<Field>
@@ -37,6 +40,9 @@ fn first_bad(len: usize, plan: &Plan) -> Option<Field>
     }
     if plan.parity > MAX_PARITY {
         return Some(Field::Parity);
+    }
+    if plan.index > MAX_INDEX {
+        return Some(Field::Index);
     }
     if !is_group(plan.group) {
         return Some(Field::Group);
@@ -64,7 +70,7 @@ fn is_group(group: Option<PlanGroup>) -> bool
     ensures { result ≡ is_group group }
 {
     match group {
-        Some(group) => group.min < group.max,
+        Some(group) => group.min < group.max && group.id <= MAX_INDEX,
         None => true,
     }
 }

@@ -4,7 +4,7 @@ ghost use Rattle.std.specs.Prelude.{◌≡◌, ◌≤◌, ◌+◌, length, true,
 ghost use Rattle.frag_encoder.specs.Encoding.{nb_frag_of, data_of};
 ghost use Rattle.package_grammar.specs.declared.command.Command.TheVariants.{Cast};
 ghost use Rattle.cast_wire.specs.declared.cmd.Cmd.TheVariants.{DataFragment, FragSessionStatusReq};
-ghost use Rattle.campaign_server.specs.Plan.{session_index};
+ghost use Rattle.campaign_server.specs.Plan.{max_index};
 ghost use Rattle.campaign_server.specs.Server.{downlink_of};
 ghost use Rattle.campaign_server.specs.Fragments.{receivers, has_no_count, next_count};
 ghost use Rattle.campaign_server.specs.ServerInside.{IsCut, IsCount};
@@ -68,7 +68,7 @@ pub fn data_fragment(plan: &Plan, encoder: &Encoder, to: To, n: u16) -> Downlink
     requires last { n ≤ nb_frag_of (length encoder.now.file) plan.now.frag_size + plan.now.parity }
     ensures { result ≡ downlink_of (record {
       to = to;
-      command = Cast (DataFragment (session_index plan.now) n
+      command = Cast (DataFragment plan.now.index n
           (data_of encoder.now.file plan.now.frag_size n));
     }) }
 {
@@ -77,7 +77,7 @@ pub fn data_fragment(plan: &Plan, encoder: &Encoder, to: To, n: u16) -> Downlink
         to,
         FRAGMENT_PORT,
         &Command::Cast(Cmd::DataFragment {
-            index: plan.session_index(),
+            index: plan.index,
             n,
             bytes,
         }),
@@ -101,14 +101,15 @@ fn encoded(plan: &Plan, encoder: &Encoder, n: u16) -> FragmentBytes
 
 /// FragSessionStatusReq to all, answered by devices that miss a fragment.
 pub fn status_of_all(plan: &Plan, to: To) -> Downlink
-    ensures { let command = Cast (FragSessionStatusReq (session_index plan.now) false) in
+    requires { plan.now.index ≤ max_index }
+    ensures { let command = Cast (FragSessionStatusReq plan.now.index false) in
         result ≡ downlink_of (record { to = to; command = command }) }
 {
     sent(
         to,
         FRAGMENT_PORT,
         &Command::Cast(Cmd::FragSessionStatusReq {
-            index: plan.session_index(),
+            index: plan.index,
             all: false,
         }),
     )

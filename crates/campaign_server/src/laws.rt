@@ -14,7 +14,7 @@ ghost use Rattle.campaign_server.specs.declared.plan.PlanGroup.{PlanGroup};
 ghost use Rattle.campaign_server.specs.declared.stage.Request.{Request};
 ghost use Rattle.campaign_server.specs.declared.stage.Stage.{Stage};
 ghost use Rattle.campaign_server.specs.declared.stage.Stage.TheVariants.{Updated, Refused};
-ghost use Rattle.campaign_server.specs.Plan.{Plan, group_id};
+ghost use Rattle.campaign_server.specs.Plan.{Plan};
 ghost use Rattle.campaign_server.specs.Server.{ServerState};
 ghost use Rattle.campaign_server.specs.Answers.{stage_after};
 ghost use Rattle.campaign_server.specs.Asking.{group_request};
@@ -39,7 +39,7 @@ pub fn a_device_unwraps_the_key()
         IsBlock block → mc_key kek block ≡ group.key
         → ((x : List ℕ) → IsBlock x → mc_key kek x ≡ group.key → x ≡ block)
         → group_request device group
-        ≡ McGroupSetupReq (group_id group) group.addr block group.min group.max }
+        ≡ McGroupSetupReq group.id group.addr block group.min group.max }
 {}
 
 /// What the server sends to its group is opened with the group's session keys, to its count, port and payload: where the

@@ -1,7 +1,8 @@
 //! What a server is to do.
 
-ghost use Rattle.std.specs.Prelude.{◌≡◌, ◌<◌};
-ghost use Rattle.campaign_server.specs.Plan.{own_id};
+ghost use Rattle.std.specs.Prelude.{◌≡◌, ◌≤◌};
+ghost use Rattle.campaign_server.specs.Plan.{own_id, max_index};
+ghost use Rattle.campaign_server.specs.ServerInside.{GroupFits};
 
 use mc_keys::RootKind;
 use std::marker::Model;
@@ -9,6 +10,8 @@ use std::marker::Model;
 /// A multicast group of a campaign.
 #[derive(Clone, Copy, Debug)]
 pub struct PlanGroup {
+    /// McGroupID, 0 to 3, the same on every device.
+    pub id: u8,
     /// McAddr.
     pub addr: u32,
     /// McKey.
@@ -52,14 +55,16 @@ pub struct PlanDevice {
     pub root: RootKind,
 }
 
-/// What a server is to do: how the image is cut, how many coded fragments follow, the group and its window, or neither,
-/// and the devices, numbered from 1 in this order.
+/// What a server is to do: how the image is cut, how many coded fragments follow, the index of its session, the group and its
+/// window, or neither, and the devices, numbered from 1 in this order.
 #[derive(Drop)]
 pub struct Plan {
     /// Bytes a fragment, 1 to 239.
     pub frag_size: u8,
     /// Coded fragments, 0 to 512.
     pub parity: u16,
+    /// FragIndex of its session, 0 to 3, the same on every device.
+    pub index: u8,
     pub group: Option<PlanGroup>,
     pub window: Option<PlanWindow>,
     /// 1 to 64.
@@ -71,42 +76,16 @@ impl Model for Plan {
 
     ghost Value = { Plan };
 
-    ghost view = { λ p. record { frag_size = p.frag_size; parity = p.parity; group = p.group; window = p.window; devices = p.devices.items } };
-}
-
-impl Plan {
-    ghost use Rattle.std.specs.Prelude.{◌≡◌, ◌<◌};
-    ghost use Rattle.campaign_server.specs.Plan.{session_index};
-
-    /// The index of its session, the same on every device.
-    pub(crate) fn session_index(&self) -> u8
-        ensures index { result ≡ session_index self.now }
-        ensures few { result < 4 }
-    {
-        0
-    }
-}
-
-impl PlanGroup {
-    ghost use Rattle.std.specs.Prelude.{◌≡◌, ◌<◌};
-    ghost use Rattle.campaign_server.specs.Plan.{group_id};
-
-    /// Its id, the same on every device.
-    pub(crate) fn group_id(&self) -> u8
-        ensures id { result ≡ group_id self.now }
-        ensures few { result < 4 }
-    {
-        0
-    }
+    ghost view = { λ p. record { frag_size = p.frag_size; parity = p.parity; index = p.index; group = p.group; window = p.window; devices = p.devices.items } };
 }
 
 /// The id of the group that there is.
 pub(crate) fn own_id(group: Option<PlanGroup>) -> u8
     ensures id { result ≡ own_id group }
-    ensures few { result < 4 }
+    ensures few { GroupFits group → result ≤ max_index }
 {
     match group {
-        Some(group) => group.group_id(),
+        Some(group) => group.id,
         None => 0,
     }
 }
@@ -116,6 +95,7 @@ pub(crate) fn own_id(group: Option<PlanGroup>) -> u8
 pub enum Field {
     FragSize,
     Parity,
+    Index,
     Group,
     Window,
     Devices,

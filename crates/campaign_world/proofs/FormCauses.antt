@@ -108,7 +108,7 @@ pieces_and n parity some = omega (arith, some)
 -- a group has a first frame count
 counts_left : (group : Option PlanGroup) → is_group group ≡ true → has_no_count group (first_count group) ≡ false
 counts_left None fine = refl
-counts_left (Some group) fine = let less = ltb-true group.min group.max fine in ne_eqb group.min group.max (omega (arith, less))
+counts_left (Some group) fine = let less = ltb-true group.min group.max (and_parts (nat_lt group.min group.max) (nat_le group.id 3) fine).0 in ne_eqb group.min group.max (omega (arith, less))
 
 first_fragment : (image : List ℕ) (plan : Plan) → is_image image ≡ true → 1 ≤ plan.frag_size → is_group plan.group ≡ true → is_ok (next_fragment (first_server image plan)) ≡ true
 unfolding next_fragment
@@ -151,8 +151,8 @@ unmade_sends image section plan devices form.Status fine planned comes = by_sect
     by_section place.Events planned comes = absurd planned
     by_section place.Ended planned comes = absurd cc
 unmade_sends image section plan devices form.Header fine planned comes = refl
-unmade_sends image section plan devices (form.Image frag_size parity) fine planned comes = refl
-unmade_sends image section plan devices (form.Group addr key min max) fine planned comes = refl
+unmade_sends image section plan devices (form.Image frag_size parity index) fine planned comes = refl
+unmade_sends image section plan devices (form.Group id addr key min max) fine planned comes = refl
 unmade_sends image section plan devices (form.WindowC start timeout freq dr) fine planned comes = refl
 unmade_sends image section plan devices (form.WindowB start periodicity timeout freq dr) fine planned comes = refl
 unmade_sends image section plan devices (form.Device id class hw rows offset key descriptor v1 k11) fine planned comes = refl
@@ -196,10 +196,11 @@ pub timed_in : (now : ℕ) (f : Form) (test : Bool) (t : ℕ) → t ≡ now → 
 timed_in now f test t now_is is = rw (← now_is) (sym is)
 
 -- an image line that is in range has a fragment size from 1 to 239
-pub size_in_range : (f : Form) → in_range f ≡ true → (frag_size parity : ℕ) → f ≡ form.Image frag_size parity → (1 ≤ frag_size) × (frag_size ≤ 239)
+pub size_in_range : (f : Form) → in_range f ≡ true → (frag_size parity index : ℕ) → f ≡ form.Image frag_size parity index → (1 ≤ frag_size) × (frag_size ≤ 239)
 unfolding in_range
-size_in_range f ranges frag_size parity is =
-    let both : (nat_le 1 frag_size && nat_le frag_size 239 && nat_le parity 512) ≡ true = rw is at ranges in
+size_in_range f ranges frag_size parity index is =
+    let all : (nat_le 1 frag_size && nat_le frag_size 239 && nat_le parity 512 && nat_le index 3) ≡ true = rw is at ranges in
+    let both : (nat_le 1 frag_size && nat_le frag_size 239 && nat_le parity 512) ≡ true = (and_parts _ _ all).0 in
     let first = (and_parts _ _ both).0 in
     (leb-true _ _ (and_parts _ _ first).0, leb-true _ _ (and_parts _ _ first).1)
 
@@ -375,8 +376,8 @@ at_events_only test one two three four five six place.Ended comes = absurd cc
 
 pub event_at : (s : Section) (f : Form) → is_event_or_end f ≡ true → may_come s f ≡ true → (s ≡ place.Devices) ⊎ (s ≡ place.Events)
 event_at s form.Header event comes = absurd cc
-event_at s (form.Image frag_size parity) event comes = absurd cc
-event_at s (form.Group addr key min max) event comes = absurd cc
+event_at s (form.Image frag_size parity index) event comes = absurd cc
+event_at s (form.Group id addr key min max) event comes = absurd cc
 event_at s (form.WindowC start timeout freq dr) event comes = absurd cc
 event_at s (form.WindowB start periodicity timeout freq dr) event comes = absurd cc
 event_at s (form.Device id class hw rows offset key descriptor v1 k11) event comes = absurd cc
@@ -411,10 +412,10 @@ pub event_comes : (has_ended : Bool) (f : Form) → may_come (section_by has_end
 event_comes false f comes = comes
 event_comes true f comes = absurd cc
 
-pub image_at : (s : Section) (f : Form) (frag_size parity : ℕ) → f ≡ form.Image frag_size parity → may_come s f ≡ true → s ≡ place.Image
-image_at s f frag_size parity is comes = by_section s (rw is at comes)
+pub image_at : (s : Section) (f : Form) (frag_size parity index : ℕ) → f ≡ form.Image frag_size parity index → may_come s f ≡ true → s ≡ place.Image
+image_at s f frag_size parity index is comes = by_section s (rw is at comes)
   where
-    by_section : (s : Section) → may_come s (form.Image frag_size parity) ≡ true → s ≡ place.Image
+    by_section : (s : Section) → may_come s (form.Image frag_size parity index) ≡ true → s ≡ place.Image
     by_section place.Header comes = absurd cc
     by_section place.Image comes = refl
     by_section place.Group comes = absurd cc
@@ -456,10 +457,10 @@ joins_at image s plan devices f id hw rows offset k key descriptor v1 k11 is com
     by_section place.Ended comes planned = absurd cc
 
 -- where the group's line and its window's line may come
-pub group_at : (s : Section) (f : Form) (addr min max : ℕ) (key : List ℕ) → f ≡ form.Group addr key min max → may_come s f ≡ true → s ≡ place.Group
-group_at s f addr min max key is comes = by_section s (rw is at comes)
+pub group_at : (s : Section) (f : Form) (id addr min max : ℕ) (key : List ℕ) → f ≡ form.Group id addr key min max → may_come s f ≡ true → s ≡ place.Group
+group_at s f id addr min max key is comes = by_section s (rw is at comes)
   where
-    by_section : (s : Section) → may_come s (form.Group addr key min max) ≡ true → s ≡ place.Group
+    by_section : (s : Section) → may_come s (form.Group id addr key min max) ≡ true → s ≡ place.Group
     by_section place.Header comes = absurd cc
     by_section place.Image comes = absurd cc
     by_section place.Group comes = refl
@@ -487,18 +488,20 @@ pub window_b_at : (s : Section) (f : Form) (start periodicity timeout freq dr : 
 window_b_at s f start periodicity timeout freq dr is comes = window_only (λ (x : Section). may_come x (form.WindowB start periodicity timeout freq dr)) refl refl refl refl refl refl refl s (rw is at comes)
 
 -- a group's line that is in range has numbers that a plan takes
-pub record Counting (min max : ℕ) : Type 0 where
+pub record Counting (id min max : ℕ) : Type 0 where
   pub first : min < 2 ^ 32
   pub last : max < 2 ^ 32
   pub some : min < max
+  pub named : id ≤ 3
 
-pub counting : (f : Form) (addr min max : ℕ) (key : List ℕ) → f ≡ form.Group addr key min max → in_range f ≡ true → Counting min max
+pub counting : (f : Form) (id addr min max : ℕ) (key : List ℕ) → f ≡ form.Group id addr key min max → in_range f ≡ true → Counting id min max
 unfolding in_range
-counting f addr min max key is ranges =
-    let all : (nat_lt min (2 ^ 32) && nat_lt max (2 ^ 32) && nat_lt min max) ≡ true = rw is at ranges in
-    let a = and_parts (nat_lt min (2 ^ 32) && nat_lt max (2 ^ 32)) (nat_lt min max) all in
+counting f id addr min max key is ranges =
+    let whole : (nat_lt min (2 ^ 32) && nat_lt max (2 ^ 32) && nat_lt min max && nat_le id 3) ≡ true = rw is at ranges in
+    let both = and_parts (nat_lt min (2 ^ 32) && nat_lt max (2 ^ 32) && nat_lt min max) (nat_le id 3) whole in
+    let a = and_parts (nat_lt min (2 ^ 32) && nat_lt max (2 ^ 32)) (nat_lt min max) both.0 in
     let b = and_parts (nat_lt min (2 ^ 32)) (nat_lt max (2 ^ 32)) a.0 in
-    record { first = ltb-true _ _ b.0; last = ltb-true _ _ b.1; some = ltb-true _ _ a.1 }
+    record { first = ltb-true _ _ b.0; last = ltb-true _ _ b.1; some = ltb-true _ _ a.1; named = leb-true _ _ both.1 }
 
 -- and so has a window's line
 pub record Opening (start timeout freq dr : ℕ) : Type 0 where
@@ -533,15 +536,16 @@ opening_b f start periodicity timeout freq dr is ranges =
     (opening start timeout freq dr both.0, leb-true _ _ both.1)
 
 -- an image line that is fine has numbers that a plan takes
-pub cuts_well : (image : List ℕ) (count : ℕ) (f : Form) (frag_size parity : ℕ) → f ≡ form.Image frag_size parity → in_range f ≡ true → fits_script (length image) count f ≡ true
-    → (is_frag_size (length image) frag_size ≡ true) × (frag_size ≤ 239) × (parity ≤ 512)
+pub cuts_well : (image : List ℕ) (count : ℕ) (f : Form) (frag_size parity index : ℕ) → f ≡ form.Image frag_size parity index → in_range f ≡ true → fits_script (length image) count f ≡ true
+    → (is_frag_size (length image) frag_size ≡ true) × (frag_size ≤ 239) × (parity ≤ 512) × (index ≤ 3)
 unfolding in_range
-cuts_well image count f frag_size parity is ranges fits =
-    let both : (nat_le 1 frag_size && nat_le frag_size 239 && nat_le parity 512) ≡ true = rw is at ranges in
-    let first = and_parts _ _ both in
+cuts_well image count f frag_size parity index is ranges fits =
+    let all : (nat_le 1 frag_size && nat_le frag_size 239 && nat_le parity 512 && nat_le index 3) ≡ true = rw is at ranges in
+    let whole = and_parts (nat_le 1 frag_size && nat_le frag_size 239 && nat_le parity 512) (nat_le index 3) all in
+    let first = and_parts _ _ whole.0 in
     let number : nat_le (nb_frag_of (length image) frag_size) max_pieces ≡ true = rw is at fits in
     let low : (nat_le 1 frag_size && nat_le frag_size 239) ≡ true = first.0 in
-    (rw (low, number) refl, leb-true _ _ (and_parts _ _ first.0).1, leb-true _ _ first.1)
+    (rw (low, number) refl, leb-true _ _ (and_parts _ _ first.0).1, leb-true _ _ first.1, leb-true _ _ whole.1)
 
 -- a device knows image format 1 alone, or both
 pub known_formats : (v1 : Bool) → (nat_le 1 (formats_of v1) && nat_le (formats_of v1) max_formats) ≡ true
@@ -580,7 +584,7 @@ unfolding bad_field
 plans_well image plan devices sized windowed some =
     let first : 1 ≤ length plan.devices = rw (sized.numbers) some in
     let last : length plan.devices ≤ 64 = rw (sized.numbers) sized.count in
-    rw (sized.size, not_lt 512 plan.parity sized.few, sized.grouped, windowed, le-leb 1 (length plan.devices) first, le-leb (length plan.devices) 64 last) refl
+    rw (sized.size, not_lt 512 plan.parity sized.few, not_lt 3 plan.index sized.indexed, sized.grouped, windowed, le-leb 1 (length plan.devices) first, le-leb (length plan.devices) 64 last) refl
 
 -- so a server that is to begin is made
 pub begins_well : (image : List ℕ) (plan : Plan) (devices : List Late) (field : Field) → IsToBegin image plan devices

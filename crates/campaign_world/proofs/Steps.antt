@@ -215,8 +215,8 @@ event_section : (world : WorldState) (f : Form) → is_event_or_end f ≡ true
     → after_form world f ≡ record (at_events (after_form world f)) { section = section_by (is_end f) }
 unfolding after_form
 event_section world form.Header event = absurd cc
-event_section world (form.Image frag_size parity) event = absurd cc
-event_section world (form.Group addr key min max) event = absurd cc
+event_section world (form.Image frag_size parity index) event = absurd cc
+event_section world (form.Group id addr key min max) event = absurd cc
 event_section world (form.WindowC start timeout freq dr) event = absurd cc
 event_section world (form.WindowB start periodicity timeout freq dr) event = absurd cc
 event_section world (form.Device id class hw rows offset key descriptor v1 k11) event = absurd cc

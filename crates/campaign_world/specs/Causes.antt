@@ -26,8 +26,8 @@ use Rattle.campaign_world.specs.Said.{Said, Own, Elsewhere, Reached, Line}
 -- the lines behind the plan: events, and the end
 abbrev pub is_event_or_end : Form → Bool
 is_event_or_end Header = false
-is_event_or_end (Image frag_size parity) = false
-is_event_or_end (Group addr key min max) = false
+is_event_or_end (Image frag_size parity index) = false
+is_event_or_end (Group id addr key min max) = false
 is_event_or_end (WindowC start timeout freq dr) = false
 is_event_or_end (WindowB start periodicity timeout freq dr) = false
 is_event_or_end (Device id class hw rows offset key descriptor v1 k11) = false
@@ -36,8 +36,8 @@ is_event_or_end form = true
 -- the form may come here
 abbrev pub may_come : Section → Form → Bool
 may_come section.Header Header = true
-may_come section.Image (Image frag_size parity) = true
-may_come section.Group (Group addr key min max) = true
+may_come section.Image (Image frag_size parity index) = true
+may_come section.Group (Group id addr key min max) = true
 may_come section.Group (Device id class hw rows offset key descriptor v1 k11) = true
 may_come section.Window (WindowC start timeout freq dr) = true
 may_come section.Window (WindowB start periodicity timeout freq dr) = true
@@ -56,7 +56,7 @@ has_ended here = false
 
 -- an image of this length has at most 4,096 fragments; behind so many devices the ID is the next
 abbrev pub fits_script : (len count : ℕ) → Form → Bool
-fits_script len count (Image frag_size parity) = nat_le (nb_frag_of len frag_size) max_pieces
+fits_script len count (Image frag_size parity index) = nat_le (nb_frag_of len frag_size) max_pieces
 fits_script len count (Device id class hw rows offset key descriptor v1 k11) = id == count + 1
 fits_script len count form = true
 

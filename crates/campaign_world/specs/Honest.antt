@@ -1,6 +1,6 @@
 -- Honest lines: all that reaches a device is what the server sent, or what another campaign's server sent to all of its own
 -- devices (this project's profile).
-use Rattle.std.specs.Prelude.{◌≡◌, ℕ, Bool, true, false, not, ◌==◌, List, [], ◌∷◌, Ok, Err}
+use Rattle.std.specs.Prelude.{◌≡◌, ℕ, Bool, true, false, not, ◌&&◌, ◌==◌, nat_lt, List, [], ◌∷◌, Ok, Err}
 use Rattle.std.specs.List.{AllByRecursion}
 use Rattle.wire_base.specs.declared.refusal.Direction.TheVariants.{Down as Downwards}
 use Rattle.cast_wire.specs.declared.cmd.Cmd.TheVariants.{DataFragment, FragSessionStatusReq}
@@ -18,23 +18,23 @@ is_raw (Raw device port payload word) = true
 is_raw (RawAir device bytes word) = true
 is_raw form = false
 
--- a fragment or a status request for a session of another index: the session of a campaign has index 0
-abbrev pub is_for_others : Command → Bool
-is_for_others (Cast (DataFragment index n part)) = not (index == 0)
-is_for_others (Cast (FragSessionStatusReq index participants)) = not (index == 0)
-is_for_others command = false
+-- a fragment or a status request for a session of another index than the campaign's
+abbrev pub is_for_others : (own : ℕ) → Command → Bool
+is_for_others own (Cast (DataFragment index n part)) = nat_lt index 4 && not (index == own)
+is_for_others own (Cast (FragSessionStatusReq index participants)) = nat_lt index 4 && not (index == own)
+is_for_others own command = false
 
 -- so is the payload's one command
-abbrev pub are_for_others : Reading → Bool
-are_for_others (Ok (command ∷ [])) = is_for_others command
-are_for_others reading = false
+abbrev pub are_for_others : (own : ℕ) → Reading → Bool
+are_for_others own (Ok (command ∷ [])) = is_for_others own command
+are_for_others own reading = false
 
 -- what the line brings need not have been sent, by this campaign's server or to all of another's
-abbrev pub has_raw : Line → Bool
-has_raw (Ok (Own form)) = is_raw form
-has_raw (Ok (Reached device word down)) = not (are_for_others (reading_of down.port Downwards down.payload))
-has_raw line = false
+abbrev pub has_raw : (index : ℕ) → Line → Bool
+has_raw index (Ok (Own form)) = is_raw form
+has_raw index (Ok (Reached device word down)) = not (are_for_others index (reading_of down.port Downwards down.payload))
+has_raw index line = false
 
 -- no line does
-abbrev pub AreHonest : (lines : List Line) → Type 0
-AreHonest lines = AllByRecursion (λ line. has_raw line ≡ false) lines
+abbrev pub AreHonest : (index : ℕ) → (lines : List Line) → Type 0
+AreHonest index lines = AllByRecursion (λ line. has_raw index line ≡ false) lines

@@ -160,10 +160,10 @@ with_event_of world n form =
 -- the campaign behind a form
 unfoldable pub after_form : WorldState → Form → WorldState
 after_form world Header = record world { section = section.Image }
-after_form world (Image frag_size parity) =
-    with_plan world (record world.server.plan { frag_size = frag_size; parity = parity }) section.Group
-after_form world (Group addr key min max) =
-    with_plan world (record world.server.plan { group = Some (record { addr = addr; key = key; min = min; max = max }) }) section.Window
+after_form world (Image frag_size parity index) =
+    with_plan world (record world.server.plan { frag_size = frag_size; parity = parity; index = index }) section.Group
+after_form world (Group id addr key min max) =
+    with_plan world (record world.server.plan { group = Some (record { id = id; addr = addr; key = key; min = min; max = max }) }) section.Window
 after_form world (WindowC start timeout freq dr) =
     with_plan world (with_window world.server.plan kind.C start timeout freq dr) section.Device
 after_form world (WindowB start periodicity timeout freq dr) =

@@ -21,7 +21,7 @@ pub record WorldState : Type 0 where
 
 -- nothing is planned
 abbrev pub first_plan : Plan
-first_plan = record { frag_size = 0; parity = 0; group = None; window = None; devices = [] }
+first_plan = record { frag_size = 0; parity = 0; index = 0; group = None; window = None; devices = [] }
 
 -- before any line
 abbrev pub first_world : (image : List ℕ) → WorldState

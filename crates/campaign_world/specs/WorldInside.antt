@@ -3,7 +3,7 @@ use Rattle.std.specs.Prelude.{◌≡◌, ℕ, ◌≤◌, true, List, [], length,
 use Rattle.std.specs.List.{AllByRecursion}
 use Rattle.image_slots.specs.Image.{is_image}
 use Rattle.device_core.specs.Sendable.{IsUplink}
-use Rattle.campaign_server.specs.Plan.{Plan, is_frag_size, is_group, is_window, max_parity, max_devices}
+use Rattle.campaign_server.specs.Plan.{Plan, is_frag_size, is_group, is_window, max_parity, max_devices, max_index}
 use Rattle.campaign_server.specs.Server.{ServerState}
 use Rattle.script_lines.specs.Limits.{max_time}
 use Rattle.campaign_world.specs.HeldLate.{Late}
@@ -15,6 +15,7 @@ use Rattle.campaign_world.specs.declared.section.Section.TheVariants as section
 pub record IsSized (image : List ℕ) (plan : Plan) (devices : List Late) : Type 0 where
   pub size : is_frag_size (length image) plan.frag_size ≡ true
   pub few : plan.parity ≤ max_parity
+  pub indexed : plan.index ≤ max_index
   pub grouped : is_group plan.group ≡ true
   pub numbers : length plan.devices ≡ length devices
   pub count : length devices ≤ max_devices

@@ -43,7 +43,7 @@ recovered_file words held device image script world file h is there a given =
 
 recovered_image : (words : List (List ℕ)) (held : Held) (device : ℕ) (image script : List ℕ) (world : WorldState)
     (file : List ℕ) → All (λ b. b < 2 ^ 8) image → AreHandedIn words held (Recover device) image script
-    → AreHonest (said_in script) → campaign_of image (said_in script) ≡ Ok world → recovery world device ≡ Ok file → (a : Answer) → IsAnswer words held a
+    → AreHonest 0 (said_in script) → campaign_of image (said_in script) ≡ Ok world → recovery world device ≡ Ok file → (a : Answer) → IsAnswer words held a
     → a ≡ answer status.Done image
 recovered_image words held device image script world file bytes h honest is there a given =
     recovered_file words held device image script world file h is there a given

@@ -1,9 +1,14 @@
 -- What a run wrote whose words ask for a campaign, or for the recovery of a device.
-use Rattle.std.proofs.Common.{◌≡◌, ℕ, List, Option, Some, None, IfSome, ap, ◌∙◌, subst}
+use Rattle.std.proofs.Common.{◌≡◌, ℕ, List, Option, Some, None, IfSome, sym, ap, ◌∙◌, subst}
 use Rattle.std.specs.Io.KnownBytes.{Appends}
+use Rattle.campaign_world.specs.Said.{said_in}
+use Rattle.campaign_world.specs.Honest.{AreHonest}
 use Rattle.campaign_world.specs.Report.{report_of}
+use Rattle.campaign_laws.specs.Fields.{AllFit}
+use Rattle.campaign_laws.specs.Headline.{HasNoOther}
 use Rattle.campaign_laws.proofs.FormBytes.{script_fits}
 use Rattle.campaign_laws.proofs.HeadlineLaw.{headline}
+use Rattle.campaign_laws.proofs.IndexedLines.{index_is}
 use Rattle.campaign_laws.proofs.Verdicts.{verdicts}
 use Rattle.fuota_run.specs.declared.status.Status.{Status}
 use Rattle.fuota_run.specs.declared.status.Status.TheVariants as status
@@ -29,16 +34,20 @@ pub campaign_run : (words : List (List ℕ)) (held : Held) (s : Status) (old new
 campaign_run words held s old new given image script world handed bytes accepted =
     let here = written words held s old new (answer status.Done (report_of world)) given
     (answered words held image script world handed accepted) in
+    let index = index_is image 0 (said_in script) world (script_fits script) accepted in
+    let fits = subst (λ (i : ℕ). AllFit i (said_in script)) (sym index) (script_fits script) in
     record {
       done = here.0;
       report = here.1;
       configured = λ id device there. headline.configured image (said_in script) world id device bytes accepted there;
-      one = λ id device honest there. headline.one image (said_in script) world id device bytes (script_fits script) honest accepted there;
+      one = λ id device honest there.
+          subst (λ (i : ℕ). HasNoOther i device.sessions) index
+          (headline.one image (said_in script) world id device bytes fits (subst (λ (i : ℕ). AreHonest i (said_in script)) (sym index) honest) accepted there);
       headline = λ id stage device session is. record {
-        served = headline.served image (said_in script) world id stage device session (script_fits script) is;
-        brought = headline.brought image (said_in script) world id stage device session (script_fits script) is;
-        recovered = headline.recovered image (said_in script) world id stage device session (script_fits script) is;
-        reported = headline.reported image (said_in script) world id stage device session (script_fits script) is;
+        served = headline.served image (said_in script) world id stage device session fits is;
+        brought = headline.brought image (said_in script) world id stage device session fits is;
+        recovered = headline.recovered image (said_in script) world id stage device session fits is;
+        reported = headline.reported image (said_in script) world id stage device session fits is;
       };
       verdicts = λ id device index s is. record {
         heard = verdicts.heard image (said_in script) world id device index s is;

@@ -60,7 +60,7 @@ pub record IsRecoveryAnswered : Type 0 where
       → campaign_of image (said_in script) ≡ Ok world → recovery world device ≡ Ok file → (a : Answer) → IsAnswer words held a
       → a ≡ answer status.Done file
   pub image_is : (words : List (List ℕ)) (held : Held) (device : ℕ) (image script : List ℕ) (world : WorldState) (file : List ℕ)
-      → All (λ b. b < 2 ^ 8) image → AreHandedIn words held (Recover device) image script → AreHonest (said_in script)
+      → All (λ b. b < 2 ^ 8) image → AreHandedIn words held (Recover device) image script → AreHonest 0 (said_in script)
       → campaign_of image (said_in script) ≡ Ok world → recovery world device ≡ Ok file → (a : Answer) → IsAnswer words held a
       → a ≡ answer status.Done image
   pub no_file : (words : List (List ℕ)) (held : Held) (device : ℕ) (image script : List ℕ) (world : WorldState) (why : NoFile)
@@ -124,7 +124,7 @@ pub record IsReportWritten (image script : List ℕ) (world : WorldState) (s : S
   pub report : Appends old new (report_of world)
   pub configured : (id : ℕ) (device : DeviceState) → numbered world.devices id ≡ Some device
       → IsOfItsLine (said_in script) id device.config
-  pub one : (id : ℕ) (device : DeviceState) → AreHonest (said_in script) → numbered world.devices id ≡ Some device → HasNoOther device.sessions
+  pub one : (id : ℕ) (device : DeviceState) → AreHonest 0 (said_in script) → numbered world.devices id ≡ Some device → HasNoOther 0 device.sessions
   pub headline : (id : ℕ) (stage : Stage) (device : DeviceState) (session : Session)
       → IsCampaign image (said_in script) world id stage device session → IsHeadline image script world id stage device session
   -- and of each session, honest or not, the verdict
@@ -143,7 +143,7 @@ IsWritten a s old new = (s ≡ a.status) × Appends old new a.text
 -- of a device that has its file that was appended, where the script is honest the image, and of one that has none how it stands
 pub record IsRecoveryWritten (image script : List ℕ) (world : WorldState) (device : ℕ) (s : Status) (old new : Option (List ℕ)) : Type 0 where
   pub file_is : (file : List ℕ) → recovery world device ≡ Ok file → IsWritten (answer status.Done file) s old new
-  pub image_is : (file : List ℕ) → All (λ b. b < 2 ^ 8) image → AreHonest (said_in script) → recovery world device ≡ Ok file → IsWritten (answer status.Done image) s old new
+  pub image_is : (file : List ℕ) → All (λ b. b < 2 ^ 8) image → AreHonest 0 (said_in script) → recovery world device ≡ Ok file → IsWritten (answer status.Done image) s old new
   pub no_file : (why : NoFile) → recovery world device ≡ Err why → IsWritten (not_complete device why) s old new
 
 abbrev pub IsRecoveryRun : List (List ℕ) → Held → Status → Option (List ℕ) → Option (List ℕ) → Type 0

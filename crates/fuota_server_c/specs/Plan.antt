@@ -29,6 +29,7 @@ where_told false x = None
 
 abbrev pub group_of : PlanFields → Option PlanGroup
 group_of fields = where_told fields.has_group (record {
+  id = fields.id;
   addr = fields.addr;
   key = fields.key;
   min = fields.min;
@@ -55,6 +56,7 @@ abbrev pub plan_of : PlanFields → (keys : List ℕ) → Plan
 plan_of fields keys = record {
   frag_size = fields.frag_size;
   parity = fields.parity;
+  index = fields.index;
   group = group_of fields;
   window = window_of fields;
   devices = devices_of keys;
@@ -68,6 +70,7 @@ field_number field.Parity = 2
 field_number field.Group = 3
 field_number field.Window = 4
 field_number field.Devices = 5
+field_number field.Index = 6
 
 -- a server at its start where no field of the plan is wrong; else the first that is
 abbrev pub IsMade : (image : List ℕ) → Plan → Result ServerState ServerError → Type 0

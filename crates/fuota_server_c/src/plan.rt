@@ -21,6 +21,8 @@ pub struct PlanFields {
     pub timeout: u8,
     pub dr: u8,
     pub periodicity: u8,
+    pub index: u8,
+    pub id: u8,
     pub has_group: bool,
     pub has_window: bool,
     pub is_class_b: bool,
@@ -37,6 +39,7 @@ pub fn plan_of(alloc: Global, fields: &PlanFields, keys: &[u8]) -> Result<Plan, 
     Ok(Plan {
         frag_size: fields.frag_size,
         parity: fields.parity,
+        index: fields.index,
         group: group_of(fields),
         window: window_of(fields),
         devices,
@@ -70,6 +73,7 @@ fn group_of(fields: &PlanFields) -> Option<PlanGroup>
         return None;
     }
     Some(PlanGroup {
+        id: fields.id,
         addr: fields.addr,
         key: fields.key,
         min: fields.min,
@@ -112,5 +116,6 @@ pub fn field_number(field: Field) -> u8
         Field::Group => 3,
         Field::Window => 4,
         Field::Devices => 5,
+        Field::Index => 6,
     }
 }

@@ -14,6 +14,7 @@ fn lines_spell_their_forms(rt: HostRuntime) -> Result<(), Fail> {
             Some(Form::Image {
                 frag_size: 13,
                 parity: 4,
+                index: 0,
             }),
             true,
         ),
@@ -22,6 +23,7 @@ fn lines_spell_their_forms(rt: HostRuntime) -> Result<(), Fail> {
             Some(Form::Image {
                 frag_size: 240,
                 parity: 4,
+                index: 0,
             }),
             false,
         ),
@@ -30,6 +32,7 @@ fn lines_spell_their_forms(rt: HostRuntime) -> Result<(), Fail> {
             Some(Form::Image {
                 frag_size: 0,
                 parity: 4,
+                index: 0,
             }),
             false,
         ),
@@ -38,6 +41,7 @@ fn lines_spell_their_forms(rt: HostRuntime) -> Result<(), Fail> {
             Some(Form::Image {
                 frag_size: 13,
                 parity: 513,
+                index: 0,
             }),
             false,
         ),
@@ -121,6 +125,7 @@ fn hex_words_are_read(rt: HostRuntime) -> Result<(), Fail> {
     let group = form(b"group 11223344 000102030405060708090A0B0c0d0e0f 0 10");
     let key = [0, 1, 2, 3, 4, 5, 6, 7, 8, 9, 10, 11, 12, 13, 14, 15];
     let wanted = Form::Group {
+        id: 0,
         addr: 0x1122_3344,
         key,
         min: 0,

@@ -10,6 +10,7 @@ abbrev pub plan_for : PlanGroup → (start : ℕ) → List PlanDevice → Plan
 plan_for group start devices = record {
   frag_size = 48;
   parity = 16;
+  index = 0;
   group = Some group;
   window = Some (record { kind = C; start = start; timeout = 10; freq = 8695250; dr = 0 });
   devices = devices;

@@ -38,6 +38,7 @@ pub fn campaign(
     let plan = Plan {
         frag_size: 48,
         parity: 16,
+        index: 0,
         group: Some(group),
         window: Some(PlanWindow {
             kind: Kind::C,

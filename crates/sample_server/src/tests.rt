@@ -17,6 +17,7 @@ const IMAGE: [u8; 52] = [
 
 fn group() -> PlanGroup {
     PlanGroup {
+        id: 0,
         addr: 0x1122_3344,
         key: [0; 16],
         min: 7,

@@ -7,4 +7,5 @@ pub mod CutWords
 pub mod HeldWords
 pub mod OftenForms
 pub mod WorkedLines
+pub mod WorkedPairs
 pub mod WorkedRanges

@@ -1,5 +1,5 @@
 -- The form that a line spells (this project's profile): its first word says which, and so many words stand behind it.
-use Rattle.std.specs.Prelude.{ℕ, ◌-◌, Bool, true, false, ◌&&◌, ◌==◌, nat_lt, if◌then◌else◌, List, length, codes, Option, Some, None}
+use Rattle.std.specs.Prelude.{ℕ, ◌+◌, ◌-◌, Bool, true, false, ◌&&◌, ◌==◌, nat_lt, if◌then◌else◌, List, length, codes, Option, Some, None}
 use Rattle.script_lines.specs.declared.forms.Class.{Class}
 use Rattle.script_lines.specs.declared.forms.Class.TheVariants as class
 use Rattle.script_lines.specs.declared.forms.Form.{Form}
@@ -46,78 +46,88 @@ with_decimal line form = if count_of line == 2 then decimal_at line 1 >>= (λ n.
 abbrev pub header_form : List ℕ → Option Form
 header_form line = if count_of line == 2 && is_word line 1 (codes "1") then Some Header else None
 
--- image FRAGSIZE PARITY
-abbrev pub image_words : List ℕ → Option Form
-image_words line = do
-  frag_size ← decimal_at line 1
-  parity ← decimal_at line 2
-  Some (Image frag_size parity)
+-- image FRAGSIZE PARITY, for a session of index 0
+abbrev pub image_words : List ℕ → (k index : ℕ) → Option Form
+image_words line k index = do
+  frag_size ← decimal_at line k
+  parity ← decimal_at line (k + 1)
+  Some (Image frag_size parity index)
 
 abbrev pub image_form : List ℕ → Option Form
-image_form line = if count_of line == 3 then image_words line else None
+image_form line = if count_of line == 3 then image_words line 1 0 else None
 
--- group ADDR KEY MIN MAX
-abbrev pub group_words : List ℕ → Option Form
-group_words line = do
-  addr ← hex_at line 1
-  key ← key_at line 2
-  min ← decimal_at line 3
-  max ← decimal_at line 4
-  Some (Group addr key min max)
+-- group ADDR KEY MIN MAX, a group of id 0
+abbrev pub group_words : List ℕ → (k id : ℕ) → Option Form
+group_words line k id = do
+  addr ← hex_at line k
+  key ← key_at line (k + 1)
+  min ← decimal_at line (k + 2)
+  max ← decimal_at line (k + 3)
+  Some (Group id addr key min max)
 
 abbrev pub group_form : List ℕ → Option Form
-group_form line = if count_of line == 5 then group_words line else None
+group_form line = if count_of line == 5 then group_words line 1 0 else None
 
 -- window c START TIMEOUT FREQ DR
-abbrev pub window_c_form : List ℕ → Option Form
-window_c_form line = do
-  start ← decimal_at line 2
-  timeout ← decimal_at line 3
-  freq ← decimal_at line 4
-  dr ← decimal_at line 5
+abbrev pub window_c_words : List ℕ → (k : ℕ) → Option Form
+window_c_words line k = do
+  start ← decimal_at line k
+  timeout ← decimal_at line (k + 1)
+  freq ← decimal_at line (k + 2)
+  dr ← decimal_at line (k + 3)
   Some (WindowC start timeout freq dr)
 
 -- window b START PERIODICITY TIMEOUT FREQ DR
-abbrev pub window_b_form : List ℕ → Option Form
-window_b_form line = do
-  start ← decimal_at line 2
-  periodicity ← decimal_at line 3
-  timeout ← decimal_at line 4
-  freq ← decimal_at line 5
-  dr ← decimal_at line 6
+abbrev pub window_b_words : List ℕ → (k : ℕ) → Option Form
+window_b_words line k = do
+  start ← decimal_at line k
+  periodicity ← decimal_at line (k + 1)
+  timeout ← decimal_at line (k + 2)
+  freq ← decimal_at line (k + 3)
+  dr ← decimal_at line (k + 4)
   Some (WindowB start periodicity timeout freq dr)
 
-abbrev pub window_form : List ℕ → Option Form
-window_form line =
-    if count_of line == 6 && is_word line 1 (codes "c") then window_c_form line
-    else if count_of line == 7 && is_word line 1 (codes "b") then window_b_form line
+-- the letter of the class stands at a place
+abbrev pub window_from : List ℕ → (k : ℕ) → Option Form
+window_from line k =
+    if count_of line == k + 5 && is_word line k (codes "c") then window_c_words line (k + 1)
+    else if count_of line == k + 6 && is_word line k (codes "b") then window_b_words line (k + 1)
     else None
 
--- device ID CLASS HW ROWS OFFSET KEY, with DESCRIPTOR behind it or none; and whether v1 stands behind that, and k11 at the end
-abbrev pub device_words : List ℕ → Option ℕ → (v1 k11 : Bool) → Option Form
-device_words line descriptor v1 k11 = do
+abbrev pub window_form : List ℕ → Option Form
+window_form line = window_from line 1
+
+-- device ID CLASS HW ROWS OFFSET KEY, with DESCRIPTOR behind it or none; and whether v1 stands behind that, and k11 at the end;
+-- CLASS stands at a place
+abbrev pub device_words : List ℕ → (k : ℕ) → Option ℕ → (v1 k11 : Bool) → Option Form
+device_words line k descriptor v1 k11 = do
   id ← decimal_at line 1
-  class ← class_at line 2
-  hw ← decimal_at line 3
-  rows ← decimal_at line 4
-  offset ← decimal_at line 5
-  key ← key_at line 6
+  class ← class_at line k
+  hw ← decimal_at line (k + 1)
+  rows ← decimal_at line (k + 2)
+  offset ← decimal_at line (k + 3)
+  key ← key_at line (k + 4)
   Some (Device id class hw rows offset key descriptor v1 k11)
 
 -- the same in so many words, those before k11
-abbrev pub device_of_words : List ℕ → (count : ℕ) → (k11 : Bool) → Option Form
-device_of_words line count k11 =
-    if count == 7 then device_words line None false k11
-    else if count == 8 && is_word line 7 (codes "v1") then device_words line None true k11
-    else if count == 8 then hex_at line 7 >>= (λ descriptor. device_words line (Some descriptor) false k11)
-    else if count == 9 && is_word line 8 (codes "v1") then hex_at line 7 >>= (λ descriptor. device_words line (Some descriptor) true k11)
+abbrev pub device_of_words : List ℕ → (k count : ℕ) → (k11 : Bool) → Option Form
+device_of_words line k count k11 =
+    if count == k + 5 then device_words line k None false k11
+    else if count == k + 6 && is_word line (k + 5) (codes "v1") then device_words line k None true k11
+    else if count == k + 6 then hex_at line (k + 5) >>= (λ descriptor. device_words line k (Some descriptor) false k11)
+    else if count == k + 7 && is_word line (k + 6) (codes "v1")
+    then hex_at line (k + 5) >>= (λ descriptor. device_words line k (Some descriptor) true k11)
     else None
 
 -- k11 can only be the last word
+abbrev pub device_from : List ℕ → (k : ℕ) → Option Form
+device_from line k =
+    if nat_lt (k + 5) (count_of line) && is_word line (count_of line - 1) (codes "k11")
+    then device_of_words line k (count_of line - 1) true
+    else device_of_words line k (count_of line) false
+
 abbrev pub device_form : List ℕ → Option Form
-device_form line =
-    if nat_lt 7 (count_of line) && is_word line (count_of line - 1) (codes "k11") then device_of_words line (count_of line - 1) true
-    else device_of_words line (count_of line) false
+device_form line = device_from line 2
 
 -- at MS, wake D, migrate D, ask D and up U
 abbrev pub at_form : List ℕ → Option Form
@@ -136,17 +146,21 @@ abbrev pub up_form : List ℕ → Option Form
 up_form line = with_decimal line (λ number. Up number)
 
 -- down S D, with WORD behind it or none, which is 0
-abbrev pub down_words : List ℕ → ℕ → Option Form
-down_words line random = do
-  number ← decimal_at line 1
+abbrev pub down_words : List ℕ → Option ℕ → (random : ℕ) → Option Form
+down_words line payload random = do
+  number ← payload
   device ← decimal_at line 2
   Some (Down number device random)
 
-abbrev pub down_form : List ℕ → Option Form
-down_form line =
-    if count_of line == 3 then down_words line 0
-    else if count_of line == 4 then decimal_at line 3 >>= (λ random. down_words line random)
+-- of the payload that its first word names
+abbrev pub down_of : List ℕ → Option ℕ → Option Form
+down_of line payload =
+    if count_of line == 3 then down_words line payload 0
+    else if count_of line == 4 then decimal_at line 3 >>= (λ random. down_words line payload random)
     else None
+
+abbrev pub down_form : List ℕ → Option Form
+down_form line = down_of line (decimal_at line 1)
 
 -- raw D PORT HEX, with WORD behind it or none, which is 0
 abbrev pub raw_words : List ℕ → ℕ → Option Form

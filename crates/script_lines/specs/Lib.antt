@@ -5,7 +5,9 @@ pub mod HeldLines
 pub mod Hearing
 pub mod Numbers
 pub mod Forms
+pub mod PairForms
 pub mod HeldWords
 pub mod Ranges
 pub mod WorkedLines
+pub mod WorkedPairs
 pub mod WorkedRanges

@@ -32,3 +32,7 @@ max_rows = 256
 -- devices
 abbrev pub max_devices : ℕ
 max_devices = 64
+
+-- the index of a session, and the id of a group
+abbrev pub max_index : ℕ
+max_index = 3

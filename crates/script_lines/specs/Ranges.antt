@@ -2,7 +2,7 @@
 use Rattle.std.specs.Prelude.{ℕ, ◌^◌, Bool, true, ◌&&◌, nat_le, nat_lt}
 use Rattle.script_lines.specs.declared.forms.Form.{Form}
 use Rattle.script_lines.specs.declared.forms.Form.TheVariants.{Image, Group, WindowC, WindowB, Device, At, Down, Raw, Air, RawAir}
-use Rattle.script_lines.specs.Limits.{max_time, max_frag_size, max_parity, max_rows, max_devices}
+use Rattle.script_lines.specs.Limits.{max_time, max_frag_size, max_parity, max_rows, max_devices, max_index}
 
 -- a number below 2^32
 abbrev pub is_u32 : ℕ → Bool
@@ -16,8 +16,9 @@ abbrev pub is_device : (id hw rows offset : ℕ) → Bool
 is_device id hw rows offset = nat_le 1 id && nat_le id max_devices && is_u32 hw && nat_le rows max_rows && is_u32 offset
 
 unfoldable pub in_range : Form → Bool
-in_range (Image frag_size parity) = nat_le 1 frag_size && nat_le frag_size max_frag_size && nat_le parity max_parity
-in_range (Group addr key min max) = is_u32 min && is_u32 max && nat_lt min max
+in_range (Image frag_size parity index) =
+    nat_le 1 frag_size && nat_le frag_size max_frag_size && nat_le parity max_parity && nat_le index max_index
+in_range (Group id addr key min max) = is_u32 min && is_u32 max && nat_lt min max && nat_le id max_index
 in_range (WindowC start timeout freq dr) = is_window start timeout freq dr
 in_range (WindowB start periodicity timeout freq dr) = is_window start timeout freq dr && nat_le periodicity 7
 in_range (Device id class hw rows offset key descriptor v1 k11) = is_device id hw rows offset

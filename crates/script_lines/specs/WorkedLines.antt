@@ -8,9 +8,9 @@ use Rattle.script_lines.specs.Forms.{form_of}
 
 pub record AreForms : Type 0 where
   pub header : form_of (codes "fuota 1") ≡ Some Header
-  pub image : form_of (codes "image 13 4") ≡ Some (Image 13 4)
+  pub image : form_of (codes "image 13 4") ≡ Some (Image 13 4 0)
   pub group : form_of (codes "group 1122334a 000102030405060708090A0B0C0D0E0F 0 10")
-      ≡ Some (Group 0x1122334a (0 ∷ 1 ∷ 2 ∷ 3 ∷ 4 ∷ 5 ∷ 6 ∷ 7 ∷ 8 ∷ 9 ∷ 10 ∷ 11 ∷ 12 ∷ 13 ∷ 14 ∷ 15 ∷ []) 0 10)
+      ≡ Some (Group 0 0x1122334a (0 ∷ 1 ∷ 2 ∷ 3 ∷ 4 ∷ 5 ∷ 6 ∷ 7 ∷ 8 ∷ 9 ∷ 10 ∷ 11 ∷ 12 ∷ 13 ∷ 14 ∷ 15 ∷ []) 0 10)
   pub window_c : form_of (codes "window c 1000 1 8695250 5") ≡ Some (WindowC 1000 1 8695250 5)
   pub window_b : form_of (codes "window b 1000 3 1 8695250 5") ≡ Some (WindowB 1000 3 1 8695250 5)
   pub device_a : form_of (codes "device 1 a 2 3 4 000102030405060708090a0b0c0d0e0f")

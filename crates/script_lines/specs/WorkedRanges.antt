@@ -9,20 +9,24 @@ use Rattle.script_lines.specs.Pieces.{cut}
 use Rattle.script_lines.specs.Ranges.{in_range}
 
 abbrev pub group : (min max : ℕ) → Form
-group min max = Group 0 (replicate 16 0) min max
+group min max = Group 0 0 (replicate 16 0) min max
 
 abbrev pub device : (id hw rows offset : ℕ) → Form
 device id hw rows offset = Device id class.A hw rows offset (replicate 16 0) None false false
 
 pub record AreRanges : Type 0 where
   -- image: FRAGSIZE 1 to 239, PARITY to 512
-  pub no_bytes : in_range (Image 0 4) ≡ false
-  pub one_byte : in_range (Image 1 4) ≡ true
-  pub most_bytes : in_range (Image 239 4) ≡ true
-  pub too_many_bytes : in_range (Image 240 4) ≡ false
-  pub no_parity : in_range (Image 13 0) ≡ true
-  pub most_parity : in_range (Image 13 512) ≡ true
-  pub too_much_parity : in_range (Image 13 513) ≡ false
+  pub no_bytes : in_range (Image 0 4 0) ≡ false
+  pub one_byte : in_range (Image 1 4 0) ≡ true
+  pub most_bytes : in_range (Image 239 4 0) ≡ true
+  pub too_many_bytes : in_range (Image 240 4 0) ≡ false
+  pub no_parity : in_range (Image 13 0 0) ≡ true
+  pub most_parity : in_range (Image 13 512 0) ≡ true
+  pub too_much_parity : in_range (Image 13 513 0) ≡ false
+  pub last_index : in_range (Image 13 4 3) ≡ true
+  pub no_index : in_range (Image 13 4 4) ≡ false
+  pub last_id : in_range (Group 3 0 (replicate 16 0) 0 10) ≡ true
+  pub no_id : in_range (Group 4 0 (replicate 16 0) 0 10) ≡ false
   -- group: MIN below MAX, both below 2^32
   pub first_counts : in_range (group 0 1) ≡ true
   pub last_counts : in_range (group (2 ^ 32 - 2) (2 ^ 32 - 1)) ≡ true

@@ -20,13 +20,17 @@ pub enum Class {
 pub enum Form<'a> {
     /// `fuota 1`
     Header,
-    /// `image FRAGSIZE PARITY`: bytes a fragment, and coded fragments beyond the uncoded ones.
+    /// `image FRAGSIZE PARITY`: bytes a fragment, and coded fragments beyond the uncoded ones. FragIndex is 0 where a script
+    /// has one campaign; where it has two, `INDEX`.
     Image {
         frag_size: u64,
         parity: u64,
+        index: u64,
     },
-    /// `group ADDR KEY MIN MAX`: McAddr, McKey, and the frame counts from MIN to below MAX.
+    /// `group ADDR KEY MIN MAX`: McAddr, McKey, and the frame counts from MIN to below MAX. McGroupID is 0 where a script has
+    /// one campaign; where it has two, `ID`.
     Group {
+        id: u64,
         addr: u32,
         key: Key,
         min: u64,
@@ -114,4 +118,21 @@ pub enum Form<'a> {
     },
     /// `end`
     End,
+}
+
+/// The campaign that a line of two campaigns' script names.
+#[derive(Clone, Copy, Debug, PartialEq, Eq)]
+pub enum Campaign {
+    /// `a`
+    A,
+    /// `b`
+    B,
+}
+
+/// The form of a line of two campaigns' script: the campaign that it names, if it names one, and the form that the line has
+/// for it.
+#[derive(Debug, Drop)]
+pub struct PairForm<'a> {
+    pub campaign: Option<Campaign>,
+    pub form: Form<'a>,
 }

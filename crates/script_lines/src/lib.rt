@@ -1,6 +1,6 @@
 //! The lines of a campaign's script (this project's profile): the stretches between line feeds, the form that a line
 //! spells, and the ranges of its numbers. `form` gives exactly the form that the bytes spell, None where they spell none,
-//! and `in_range` is the table of ranges. What a form makes of a campaign, and when it may come, is left to the world above.
+//! and `in_range` is the table of ranges; `pair_form` does the same for the script of two campaigns. What a form makes of a campaign, and when it may come, is left to the world above.
 //!
 //!     match form(b"down 5 1") {
 //!         Some(read) if in_range(&read) => ..,                 // Form::Down { .. }
@@ -15,16 +15,18 @@ mod laws;
 mod lines;
 mod numbers;
 mod often;
+mod pairs;
 mod pieces;
 mod ranges;
 mod reading;
 mod words;
 
-pub use forms::{Class, Form, Key};
+pub use forms::{Campaign, Class, Form, Key, PairForm};
 pub use hearing::{HearsLine, hear_last, hear_piece};
 pub use hex_bytes::{HexBytes, MAX_HEX_BYTES};
-pub use laws::{worked_lines, worked_ranges};
+pub use laws::{worked_lines, worked_pairs, worked_ranges};
 pub use numbers::decimal;
+pub use pairs::pair_form;
 pub use pieces::{Cut, Lines};
 pub use ranges::in_range;
 pub use reading::form;

@@ -17,6 +17,9 @@ const MAX_FRAG_SIZE: u64 = 239;
 /// The most rows for coded fragments that a device is given.
 const MAX_ROWS: u64 = 256;
 
+/// The last index of a session, and the last id of a group.
+const MAX_INDEX: u64 = 3;
+
 /// The last port.
 const MAX_PORT: u64 = 255;
 
@@ -30,10 +33,19 @@ pub fn in_range(form: &Form) -> bool
     ensures { result ≡ in_range form.now }
 {
     match *form {
-        Form::Image { frag_size, parity } => {
-            1 <= frag_size && frag_size <= MAX_FRAG_SIZE && parity <= MAX_PARITY
+        Form::Image {
+            frag_size,
+            parity,
+            index,
+        } => {
+            1 <= frag_size
+                && frag_size <= MAX_FRAG_SIZE
+                && parity <= MAX_PARITY
+                && index <= MAX_INDEX
         }
-        Form::Group { min, max, .. } => is_u32(min) && is_u32(max) && min < max,
+        Form::Group { id, min, max, .. } => {
+            is_u32(min) && is_u32(max) && min < max && id <= MAX_INDEX
+        }
         Form::WindowC {
             start,
             timeout,

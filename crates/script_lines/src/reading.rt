@@ -1,8 +1,8 @@
 //! The form that a line spells: its first word says which, and each form has a function of its own.
 
-ghost use Rattle.std.specs.Prelude.{◌≡◌};
+ghost use Rattle.std.specs.Prelude.{◌≡◌, ◌≤◌, ◌+◌};
 ghost use Rattle.std.specs.Str.{bytes_eq};
-ghost use Rattle.script_lines.specs.Forms.{form_of, alone, header_form, image_form, group_form, window_form, window_c_form, window_b_form, device_form, device_of_words, device_words, at_form, wake_form, migrate_form, ask_form, down_form, down_words, raw_form, raw_words, air_form, raw_air_form, raw_air_words, up_form, class_at};
+ghost use Rattle.script_lines.specs.Forms.{form_of, alone, header_form, image_form, image_words, group_form, group_words, window_from, window_c_words, window_b_words, device_from, device_of_words, device_words, at_form, wake_form, migrate_form, ask_form, down_form, down_of, down_words, raw_form, raw_words, in_the_air, air_form, raw_air_form, raw_air_words, up_form, class_at};
 
 use crate::forms::{Class, Form};
 use crate::hex_bytes::HexBytes;
@@ -73,9 +73,9 @@ fn any_form(line: &[u8]) -> Option<Form<'_>>
     } else if is_keyword(keyword, "group") {
         group_form(line)
     } else if is_keyword(keyword, "window") {
-        window_form(line)
+        window_from(line, 1)
     } else if is_keyword(keyword, "device") {
-        device_form(line)
+        device_from(line, 2)
     } else if is_keyword(keyword, "at") {
         at_form(line)
     } else if is_keyword(keyword, "wake") {
@@ -106,7 +106,7 @@ fn any_form(line: &[u8]) -> Option<Form<'_>>
 }
 
 /// Whether a word is this keyword.
-fn is_keyword(word: &[u8], keyword: &str) -> bool
+pub(crate) fn is_keyword(word: &[u8], keyword: &str) -> bool
     ensures { result ≡ bytes_eq word.now keyword.now }
 {
     word == keyword.as_bytes()
@@ -114,7 +114,7 @@ fn is_keyword(word: &[u8], keyword: &str) -> bool
 
 /// A form of its keyword alone.
 #[inline(never)]
-fn alone<'a>(line: &[u8], form: Form<'a>) -> Option<Form<'a>>
+pub(crate) fn alone<'a>(line: &[u8], form: Form<'a>) -> Option<Form<'a>>
     ensures { result ≡ alone line.now form.entry }
 {
     if count_words(line) == 1 {
@@ -141,12 +141,25 @@ fn header_form(line: &[u8]) -> Option<Form<'_>>
 fn image_form(line: &[u8]) -> Option<Form<'_>>
     ensures { result ≡ image_form line.now }
 {
-    if count_words(line) != 3 {
-        return None;
+    if count_words(line) == 3 {
+        image_words(line, 1, 0)
+    } else {
+        None
     }
-    let frag_size = decimal(word(line, 1))?;
-    let parity = decimal(word(line, 2))?;
-    Some(Form::Image { frag_size, parity })
+}
+
+/// FRAGSIZE and PARITY, from a place on.
+pub(crate) fn image_words(line: &[u8], place: usize, index: u64) -> Option<Form<'_>>
+    requires { place ≤ 8 }
+    ensures { result ≡ image_words line.now place index }
+{
+    let frag_size = decimal(word(line, place))?;
+    let parity = decimal(word(line, place + 1))?;
+    Some(Form::Image {
+        frag_size,
+        parity,
+        index,
+    })
 }
 
 /// `group ADDR KEY MIN MAX`
@@ -154,14 +167,24 @@ fn image_form(line: &[u8]) -> Option<Form<'_>>
 fn group_form(line: &[u8]) -> Option<Form<'_>>
     ensures { result ≡ group_form line.now }
 {
-    if count_words(line) != 5 {
-        return None;
+    if count_words(line) == 5 {
+        group_words(line, 1, 0)
+    } else {
+        None
     }
-    let addr = hex_number(word(line, 1))?;
-    let key = key(word(line, 2))?;
-    let min = decimal(word(line, 3))?;
-    let max = decimal(word(line, 4))?;
+}
+
+/// ADDR, KEY, MIN and MAX, from a place on.
+pub(crate) fn group_words(line: &[u8], place: usize, id: u64) -> Option<Form<'_>>
+    requires { place ≤ 8 }
+    ensures { result ≡ group_words line.now place id }
+{
+    let addr = hex_number(word(line, place))?;
+    let key = key(word(line, place + 1))?;
+    let min = decimal(word(line, place + 2))?;
+    let max = decimal(word(line, place + 3))?;
     Some(Form::Group {
+        id,
         addr,
         key,
         min,
@@ -169,29 +192,31 @@ fn group_form(line: &[u8]) -> Option<Form<'_>>
     })
 }
 
-/// `window c ..` or `window b ..`
+/// `window c ..` or `window b ..`, the letter at a place.
 #[inline(never)]
-fn window_form(line: &[u8]) -> Option<Form<'_>>
-    ensures { result ≡ window_form line.now }
+pub(crate) fn window_from(line: &[u8], place: usize) -> Option<Form<'_>>
+    requires { place ≤ 8 }
+    ensures { result ≡ window_from line.now place }
 {
     let count = count_words(line);
-    if count == 6 && is_word(line, 1, "c") {
-        window_c_form(line)
-    } else if count == 7 && is_word(line, 1, "b") {
-        window_b_form(line)
+    if count == place + 5 && is_word(line, place, "c") {
+        window_c_words(line, place + 1)
+    } else if count == place + 6 && is_word(line, place, "b") {
+        window_b_words(line, place + 1)
     } else {
         None
     }
 }
 
-/// `window c START TIMEOUT FREQ DR`
-fn window_c_form(line: &[u8]) -> Option<Form<'_>>
-    ensures { result ≡ window_c_form line.now }
+/// START, TIMEOUT, FREQ and DR, from a place on.
+fn window_c_words(line: &[u8], place: usize) -> Option<Form<'_>>
+    requires { place ≤ 9 }
+    ensures { result ≡ window_c_words line.now place }
 {
-    let start = decimal(word(line, 2))?;
-    let timeout = decimal(word(line, 3))?;
-    let freq = decimal(word(line, 4))?;
-    let dr = decimal(word(line, 5))?;
+    let start = decimal(word(line, place))?;
+    let timeout = decimal(word(line, place + 1))?;
+    let freq = decimal(word(line, place + 2))?;
+    let dr = decimal(word(line, place + 3))?;
     Some(Form::WindowC {
         start,
         timeout,
@@ -200,15 +225,16 @@ fn window_c_form(line: &[u8]) -> Option<Form<'_>>
     })
 }
 
-/// `window b START PERIODICITY TIMEOUT FREQ DR`
-fn window_b_form(line: &[u8]) -> Option<Form<'_>>
-    ensures { result ≡ window_b_form line.now }
+/// START, PERIODICITY, TIMEOUT, FREQ and DR, from a place on.
+fn window_b_words(line: &[u8], place: usize) -> Option<Form<'_>>
+    requires { place ≤ 9 }
+    ensures { result ≡ window_b_words line.now place }
 {
-    let start = decimal(word(line, 2))?;
-    let periodicity = decimal(word(line, 3))?;
-    let timeout = decimal(word(line, 4))?;
-    let freq = decimal(word(line, 5))?;
-    let dr = decimal(word(line, 6))?;
+    let start = decimal(word(line, place))?;
+    let periodicity = decimal(word(line, place + 1))?;
+    let timeout = decimal(word(line, place + 2))?;
+    let freq = decimal(word(line, place + 3))?;
+    let dr = decimal(word(line, place + 4))?;
     Some(Form::WindowB {
         start,
         periodicity,
@@ -218,48 +244,67 @@ fn window_b_form(line: &[u8]) -> Option<Form<'_>>
     })
 }
 
-/// `device ID CLASS HW ROWS OFFSET KEY [DESCRIPTOR] [v1] [k11]`
+/// `device ID CLASS HW ROWS OFFSET KEY [DESCRIPTOR] [v1] [k11]`, CLASS at a place.
 #[inline(never)]
-fn device_form(line: &[u8]) -> Option<Form<'_>>
-    ensures { result ≡ device_form line.now }
+pub(crate) fn device_from(line: &[u8], place: usize) -> Option<Form<'_>>
+    requires { place ≤ 8 }
+    ensures { result ≡ device_from line.now place }
 {
     let count = count_words(line);
-    if 7 < count && is_word(line, count - 1, "k11") {
-        device_of_words(line, count - 1, true)
+    if place + 5 < count && is_word(line, count - 1, "k11") {
+        device_of_words(line, place, count - 1, true)
     } else {
-        device_of_words(line, count, false)
+        device_of_words(line, place, count, false)
     }
 }
 
 /// The same in so many words, those before `k11`.
 #[inline(never)]
-fn device_of_words(line: &[u8], count: usize, k11: bool) -> Option<Form<'_>>
-    ensures { result ≡ device_of_words line.now count k11 }
+fn device_of_words(line: &[u8], place: usize, count: usize, k11: bool) -> Option<Form<'_>>
+    requires { place ≤ 8 }
+    ensures { result ≡ device_of_words line.now place count k11 }
 {
-    match count {
-        7 => device_words(line, None, false, k11),
-        8 if is_word(line, 7, "v1") => device_words(line, None, true, k11),
-        8 => {
-            let descriptor = hex_number(word(line, 7))?;
-            device_words(line, Some(descriptor), false, k11)
-        }
-        9 if is_word(line, 8, "v1") => {
-            let descriptor = hex_number(word(line, 7))?;
-            device_words(line, Some(descriptor), true, k11)
-        }
-        _ => None,
+    if count == place + 5 {
+        return device_words(line, place, None, false, k11);
     }
+    if count == place + 6 {
+        return device_of_one_more(line, place, k11);
+    }
+    if count == place + 7 && is_word(line, place + 6, "v1") {
+        let descriptor = hex_number(word(line, place + 5))?;
+        return device_words(line, place, Some(descriptor), true, k11);
+    }
+    None
 }
 
-fn device_words(line: &[u8], descriptor: Option<u32>, v1: bool, k11: bool) -> Option<Form<'_>>
-    ensures { result ≡ device_words line.now descriptor v1 k11 }
+/// With one word behind KEY, `v1` or DESCRIPTOR.
+fn device_of_one_more(line: &[u8], place: usize, k11: bool) -> Option<Form<'_>>
+    requires { place ≤ 8 }
+    ensures { result ≡ device_of_words line.now place (place + 6) k11 }
+{
+    if is_word(line, place + 5, "v1") {
+        return device_words(line, place, None, true, k11);
+    }
+    let descriptor = hex_number(word(line, place + 5))?;
+    device_words(line, place, Some(descriptor), false, k11)
+}
+
+fn device_words(
+    line: &[u8],
+    place: usize,
+    descriptor: Option<u32>,
+    v1: bool,
+    k11: bool,
+) -> Option<Form<'_>>
+    requires { place ≤ 8 }
+    ensures { result ≡ device_words line.now place descriptor v1 k11 }
 {
     let id = decimal(word(line, 1))?;
-    let class = class_at(line, 2)?;
-    let hw = decimal(word(line, 3))?;
-    let rows = decimal(word(line, 4))?;
-    let offset = decimal(word(line, 5))?;
-    let key = key(word(line, 6))?;
+    let class = class_at(line, place)?;
+    let hw = decimal(word(line, place + 1))?;
+    let rows = decimal(word(line, place + 2))?;
+    let offset = decimal(word(line, place + 3))?;
+    let key = key(word(line, place + 4))?;
     Some(Form::Device {
         id,
         class,
@@ -288,7 +333,7 @@ fn class_at(line: &[u8], place: usize) -> Option<Class>
 
 /// `at MS`
 #[inline(never)]
-fn at_form(line: &[u8]) -> Option<Form<'_>>
+pub(crate) fn at_form(line: &[u8]) -> Option<Form<'_>>
     ensures { result ≡ at_form line.now }
 {
     if count_words(line) != 2 {
@@ -300,7 +345,7 @@ fn at_form(line: &[u8]) -> Option<Form<'_>>
 
 /// `wake D`
 #[inline(never)]
-fn wake_form(line: &[u8]) -> Option<Form<'_>>
+pub(crate) fn wake_form(line: &[u8]) -> Option<Form<'_>>
     ensures { result ≡ wake_form line.now }
 {
     if count_words(line) != 2 {
@@ -312,7 +357,7 @@ fn wake_form(line: &[u8]) -> Option<Form<'_>>
 
 /// `migrate D`
 #[inline(never)]
-fn migrate_form(line: &[u8]) -> Option<Form<'_>>
+pub(crate) fn migrate_form(line: &[u8]) -> Option<Form<'_>>
     ensures { result ≡ migrate_form line.now }
 {
     if count_words(line) != 2 {
@@ -324,7 +369,7 @@ fn migrate_form(line: &[u8]) -> Option<Form<'_>>
 
 /// `ask D`
 #[inline(never)]
-fn ask_form(line: &[u8]) -> Option<Form<'_>>
+pub(crate) fn ask_form(line: &[u8]) -> Option<Form<'_>>
     ensures { result ≡ ask_form line.now }
 {
     if count_words(line) != 2 {
@@ -339,20 +384,27 @@ fn ask_form(line: &[u8]) -> Option<Form<'_>>
 fn down_form(line: &[u8]) -> Option<Form<'_>>
     ensures { result ≡ down_form line.now }
 {
+    down_of(line, decimal(word(line, 1)))
+}
+
+/// The same of the payload that its first word names.
+pub(crate) fn down_of(line: &[u8], payload: Option<u64>) -> Option<Form<'_>>
+    ensures { result ≡ down_of line.now payload }
+{
     match count_words(line) {
-        3 => down_words(line, 0),
+        3 => down_words(line, payload, 0),
         4 => {
             let random = decimal(word(line, 3))?;
-            down_words(line, random)
+            down_words(line, payload, random)
         }
         _ => None,
     }
 }
 
-fn down_words(line: &[u8], random: u64) -> Option<Form<'_>>
-    ensures { result ≡ down_words line.now random }
+fn down_words(line: &[u8], payload: Option<u64>, random: u64) -> Option<Form<'_>>
+    ensures { result ≡ down_words line.now payload random }
 {
-    let number = decimal(word(line, 1))?;
+    let number = payload?;
     let device = decimal(word(line, 2))?;
     Some(Form::Down {
         number,
@@ -395,7 +447,14 @@ fn raw_words(line: &[u8], random: u64) -> Option<Form<'_>>
 fn air_form(line: &[u8]) -> Option<Form<'_>>
     ensures { result ≡ air_form line.now }
 {
-    match down_form(line) {
+    in_the_air(down_form(line))
+}
+
+/// A payload that comes as a frame, where one comes.
+pub(crate) fn in_the_air(form: Option<Form<'_>>) -> Option<Form<'_>>
+    ensures { result ≡ in_the_air form.entry }
+{
+    match form {
         Some(
             Form::Down {
                 number,

@@ -34,6 +34,7 @@ const IMAGE: [u8; 52] = [
 ];
 
 const GROUP: PlanGroup = PlanGroup {
+    id: 0,
     addr: 0x1122_3344,
     key: [0; 16],
     min: 0,
@@ -81,6 +82,7 @@ fn plan(
     Ok(Plan {
         frag_size,
         parity,
+        index: 0,
         group,
         window,
         devices,

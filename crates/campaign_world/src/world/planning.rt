@@ -77,11 +77,16 @@ impl Planning {
                 self.section = Section::Image;
                 Ok(())
             }
-            Form::Image { frag_size, parity } => {
-                self.cut(*frag_size as u8, *parity as u16);
+            Form::Image {
+                frag_size,
+                parity,
+                index,
+            } => {
+                self.cut(*frag_size as u8, *parity as u16, *index as u8);
                 Ok(())
             }
             Form::Group {
+                id,
                 addr,
                 key,
                 min,
@@ -89,6 +94,7 @@ impl Planning {
             } => {
                 let key = *key;
                 self.group(PlanGroup {
+                    id: *id as u8,
                     addr: *addr,
                     key,
                     min: *min as u32,
@@ -159,18 +165,20 @@ impl Planning {
         }
     }
 
-    /// The image's line: how it is cut.
-    fn cut(&mut self, frag_size: u8, parity: u16)
+    /// The image's line: how it is cut, and the index of its session.
+    fn cut(&mut self, frag_size: u8, parity: u16, index: u8)
         requires here { self.old.section ≡ section.Image }
         requires planning { IsPlanningOf self.old }
         requires size { is_frag_size (length self.old.image.items) frag_size ≡ true }
         requires few { parity ≤ 512 }
+        requires indexed { index ≤ 3 }
         ensures planning { IsPlanningOf self.new }
         ensures taken { PlanBecomes self.old self.new (λ world. with_plan world
-            (record world.server.plan { frag_size = frag_size; parity = parity }) section.Group) }
+            (record world.server.plan { frag_size = frag_size; parity = parity; index = index }) section.Group) }
     {
         self.plan.frag_size = frag_size;
         self.plan.parity = parity;
+        self.plan.index = index;
         self.section = Section::Group;
     }
 
@@ -179,6 +187,7 @@ impl Planning {
         requires here { self.old.section ≡ section.Group }
         requires planning { IsPlanningOf self.old }
         requires counts { group.min < group.max }
+        requires id { group.id ≤ 3 }
         ensures planning { IsPlanningOf self.new }
         ensures taken { PlanBecomes self.old self.new
             (λ world. with_plan world (record world.server.plan { group = Some group }) section.Window) }
@@ -261,6 +270,7 @@ fn first_plan(alloc: Global) -> Plan
     Plan {
         frag_size: 0,
         parity: 0,
+        index: 0,
         group: None,
         window: None,
         devices: Vec::new(alloc),
@@ -275,6 +285,7 @@ fn copy_of(alloc: Global, plan: &Plan) -> Result<Plan, AllocError>
         Ok(devices) => Ok(Plan {
             frag_size: plan.frag_size,
             parity: plan.parity,
+            index: plan.index,
             group: plan.group,
             window: plan.window,
             devices,

@@ -6,19 +6,25 @@ use Rattle.campaign_world.proofs.FormCauses as causes
 use Rattle.campaign_world.proofs.world.planning.Planning.line.Goals as goal
 
 pub overflow_cast-frag_size : goal.overflow_cast-frag_size
-overflow_cast-frag_size c = let cuts = causes.cuts_well c.args.self.now.image.items (length c.args.self.now.devices.items) c.args.form.now c.in-Image.frag_size c.in-Image.parity c.in-Image.is c.requires.tested.ranges c.requires.tested.fits in omega (arith, cuts.1)
+overflow_cast-frag_size c = let cuts = causes.cuts_well c.args.self.now.image.items (length c.args.self.now.devices.items) c.args.form.now c.in-Image.frag_size c.in-Image.parity c.in-Image.index c.in-Image.is c.requires.tested.ranges c.requires.tested.fits in omega (arith, cuts.1)
 
 pub overflow_cast-parity : goal.overflow_cast-parity
-overflow_cast-parity c = let cuts = causes.cuts_well c.args.self.now.image.items (length c.args.self.now.devices.items) c.args.form.now c.in-Image.frag_size c.in-Image.parity c.in-Image.is c.requires.tested.ranges c.requires.tested.fits in omega (arith, cuts.2)
+overflow_cast-parity c = let cuts = causes.cuts_well c.args.self.now.image.items (length c.args.self.now.devices.items) c.args.form.now c.in-Image.frag_size c.in-Image.parity c.in-Image.index c.in-Image.is c.requires.tested.ranges c.requires.tested.fits in omega (arith, cuts.2.0)
 
 pub cut-requires-clause-here : goal.cut-requires-clause-here
-cut-requires-clause-here c = causes.image_at c.args.self.now.section c.args.form.now c.in-Image.frag_size c.in-Image.parity c.in-Image.is c.requires.comes
+cut-requires-clause-here c = causes.image_at c.args.self.now.section c.args.form.now c.in-Image.frag_size c.in-Image.parity c.in-Image.index c.in-Image.is c.requires.comes
 
 pub cut-requires-clause-size : goal.cut-requires-clause-size
-cut-requires-clause-size c = let cuts = causes.cuts_well c.args.self.now.image.items (length c.args.self.now.devices.items) c.args.form.now c.in-Image.frag_size c.in-Image.parity c.in-Image.is c.requires.tested.ranges c.requires.tested.fits in cuts.0
+cut-requires-clause-size c = let cuts = causes.cuts_well c.args.self.now.image.items (length c.args.self.now.devices.items) c.args.form.now c.in-Image.frag_size c.in-Image.parity c.in-Image.index c.in-Image.is c.requires.tested.ranges c.requires.tested.fits in cuts.0
 
 pub cut-requires-clause-few : goal.cut-requires-clause-few
-cut-requires-clause-few c = let cuts = causes.cuts_well c.args.self.now.image.items (length c.args.self.now.devices.items) c.args.form.now c.in-Image.frag_size c.in-Image.parity c.in-Image.is c.requires.tested.ranges c.requires.tested.fits in cuts.2
+cut-requires-clause-few c = let cuts = causes.cuts_well c.args.self.now.image.items (length c.args.self.now.devices.items) c.args.form.now c.in-Image.frag_size c.in-Image.parity c.in-Image.index c.in-Image.is c.requires.tested.ranges c.requires.tested.fits in cuts.2.0
+
+pub overflow_cast-index : goal.overflow_cast-index
+overflow_cast-index c = let cuts = causes.cuts_well c.args.self.now.image.items (length c.args.self.now.devices.items) c.args.form.now c.in-Image.frag_size c.in-Image.parity c.in-Image.index c.in-Image.is c.requires.tested.ranges c.requires.tested.fits in omega (arith, cuts.2.1)
+
+pub cut-requires-clause-indexed : goal.cut-requires-clause-indexed
+cut-requires-clause-indexed c = let cuts = causes.cuts_well c.args.self.now.image.items (length c.args.self.now.devices.items) c.args.form.now c.in-Image.frag_size c.in-Image.parity c.in-Image.index c.in-Image.is c.requires.tested.ranges c.requires.tested.fits in cuts.2.1
 
 pub overflow_cast-hw : goal.overflow_cast-hw
 overflow_cast-hw c = let fit = causes.fitting (length c.args.self.now.image.items) (length c.args.self.now.devices.items) c.args.form.now c.in-Device.id c.in-Device.hw c.in-Device.rows c.in-Device.offset c.in-Device.class c.in-Device.key c.in-Device.descriptor c.in-Device.v1 c.in-Device.k11 c.in-Device.is c.requires.tested.ranges c.requires.tested.fits in omega (arith, fit.hw_fits)
@@ -42,16 +48,22 @@ pub add_device-requires-clause-room : goal.add_device-requires-clause-room
 add_device-requires-clause-room c = let fit = causes.fitting (length c.args.self.now.image.items) (length c.args.self.now.devices.items) c.args.form.now c.in-Device.id c.in-Device.hw c.in-Device.rows c.in-Device.offset c.in-Device.class c.in-Device.key c.in-Device.descriptor c.in-Device.v1 c.in-Device.k11 c.in-Device.is c.requires.tested.ranges c.requires.tested.fits in fit.next
 
 pub overflow_cast-min : goal.overflow_cast-min
-overflow_cast-min c = let count = causes.counting c.args.form.now c.in-Group.addr c.in-Group.min c.in-Group.max c.in-Group.key c.in-Group.is c.requires.tested.ranges in omega (arith, count.first)
+overflow_cast-min c = let count = causes.counting c.args.form.now c.in-Group.id c.in-Group.addr c.in-Group.min c.in-Group.max c.in-Group.key c.in-Group.is c.requires.tested.ranges in omega (arith, count.first)
 
 pub overflow_cast-max : goal.overflow_cast-max
-overflow_cast-max c = let count = causes.counting c.args.form.now c.in-Group.addr c.in-Group.min c.in-Group.max c.in-Group.key c.in-Group.is c.requires.tested.ranges in omega (arith, count.last)
+overflow_cast-max c = let count = causes.counting c.args.form.now c.in-Group.id c.in-Group.addr c.in-Group.min c.in-Group.max c.in-Group.key c.in-Group.is c.requires.tested.ranges in omega (arith, count.last)
 
 pub group-requires-clause-here : goal.group-requires-clause-here
-group-requires-clause-here c = causes.group_at c.args.self.now.section c.args.form.now c.in-Group.addr c.in-Group.min c.in-Group.max c.in-Group.key c.in-Group.is c.requires.comes
+group-requires-clause-here c = causes.group_at c.args.self.now.section c.args.form.now c.in-Group.id c.in-Group.addr c.in-Group.min c.in-Group.max c.in-Group.key c.in-Group.is c.requires.comes
 
 pub group-requires-clause-counts : goal.group-requires-clause-counts
-group-requires-clause-counts c = let count = causes.counting c.args.form.now c.in-Group.addr c.in-Group.min c.in-Group.max c.in-Group.key c.in-Group.is c.requires.tested.ranges in count.some
+group-requires-clause-counts c = let count = causes.counting c.args.form.now c.in-Group.id c.in-Group.addr c.in-Group.min c.in-Group.max c.in-Group.key c.in-Group.is c.requires.tested.ranges in count.some
+
+pub overflow_cast-id : goal.overflow_cast-id
+overflow_cast-id c = let count = causes.counting c.args.form.now c.in-Group.id c.in-Group.addr c.in-Group.min c.in-Group.max c.in-Group.key c.in-Group.is c.requires.tested.ranges in omega (arith, count.named)
+
+pub group-requires-clause-id : goal.group-requires-clause-id
+group-requires-clause-id c = let count = causes.counting c.args.form.now c.in-Group.id c.in-Group.addr c.in-Group.min c.in-Group.max c.in-Group.key c.in-Group.is c.requires.tested.ranges in count.named
 
 pub overflow_cast-start : goal.overflow_cast-start
 overflow_cast-start c = let opens = causes.opening_c c.args.form.now c.in-WindowC.start c.in-WindowC.timeout c.in-WindowC.freq c.in-WindowC.dr c.in-WindowC.is c.requires.tested.ranges in omega (arith, opens.start_fits)

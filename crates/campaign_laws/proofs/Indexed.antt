@@ -1,0 +1,118 @@
+-- Behind its image's line a campaign has the index that the line says.
+use Rattle.std.proofs.Common.{◌≡◌, ℕ, ◌+◌, Bool, true, false, Option, None, Some, Ok, Err, refl, ap, ◌∙◌, sym, true≢false, subst}
+use Rattle.std.specs.Result.{result_ok}
+use Rattle.wire_base.specs.Numbered.{numbered}
+use Rattle.device_core.specs.Events.{Receives}
+use Rattle.campaign_server.specs.Plan.{Plan}
+use Rattle.campaign_server.specs.Asking.{request_of}
+use Rattle.campaign_server.specs.Fragments.{next_fragment, after_fragment, status_to_all, after_status_to_all}
+use Rattle.script_lines.specs.declared.forms.Form.{Form}
+use Rattle.script_lines.specs.declared.forms.Form.TheVariants.{Header, Image, Group, WindowC, WindowB, Device, At, Wake, Migrate, Ask, Frag, Status, Down, Raw, Air, RawAir, Up, End}
+use Rattle.campaign_world.specs.declared.section.Section.{Section}
+use Rattle.campaign_world.specs.declared.section.Section.TheVariants as section
+use Rattle.campaign_world.specs.World.{WorldState}
+use Rattle.campaign_world.specs.Said.{Said, Own, Elsewhere, Reached}
+use Rattle.campaign_world.specs.Causes.{may_come, takes_events, form_cause, said_cause}
+use Rattle.campaign_world.specs.Making.{after_form, after_said}
+use Rattle.campaign_laws.specs.Fields.{HasFields, LineFits}
+use Rattle.campaign_laws.proofs.HeadlineForms.{passes, is_early, not_header, not_image, reached_passes, is_odd}
+use Rattle.campaign_laws.proofs.PlanGroups.{IsSettled, given_settled, event_settled, sends_settled, up_settled, fragment_plan, status_plan}
+
+-- until then it has none yet
+abbrev pub IsIndexed : (index : ℕ) → Section → Plan → Type 0
+IsIndexed index section.Header plan = Unit {0}
+IsIndexed index section.Image plan = Unit {0}
+IsIndexed index here plan = plan.index ≡ index
+
+-- where this form may come, it has
+late_index : (index : ℕ) (plan : Plan) (form : Form) (here : Section) → is_early form ≡ false → may_come here form ≡ true
+    → IsIndexed index here plan → plan.index ≡ index
+late_index index plan form section.Header late may k = absurd (not_header form late may)
+late_index index plan form section.Image late may k = absurd (not_image form late may)
+late_index index plan form section.Group late may k = k
+late_index index plan form section.Window late may k = k
+late_index index plan form section.Device late may k = k
+late_index index plan form section.Devices late may k = k
+late_index index plan form section.Events late may k = k
+late_index index plan form section.Ended late may k = k
+
+-- and where events may
+pub events_index : (index : ℕ) (plan : Plan) (here : Section) → takes_events here ≡ true → IsIndexed index here plan → plan.index ≡ index
+events_index index plan section.Header takes k = absurd (true≢false (sym takes))
+events_index index plan section.Image takes k = absurd (true≢false (sym takes))
+events_index index plan section.Group takes k = absurd (true≢false (sym takes))
+events_index index plan section.Window takes k = absurd (true≢false (sym takes))
+events_index index plan section.Device takes k = absurd (true≢false (sym takes))
+events_index index plan section.Devices takes k = k
+events_index index plan section.Events takes k = k
+events_index index plan section.Ended takes k = absurd (true≢false (sym takes))
+
+same_index : (w v : WorldState) → IsSettled w v → v.server.plan.index ≡ w.server.plan.index
+same_index w v s = ap (λ (p : Plan). p.index) s.plan
+
+form_indexed : (index : ℕ) (w : WorldState) (form : Form) → form_cause w form ≡ None → HasFields index form
+    → IsIndexed index w.section w.server.plan → IsIndexed index (after_form w form).section (after_form w form).server.plan
+unfolding after_form
+form_indexed index w Header fine fits k = tt
+form_indexed index w (Image frag_size parity its) fine fits k = fits
+form_indexed index w (Group id addr key min max) fine fits k =
+    let form : Form = Group id addr key min max in
+    late_index index w.server.plan form w.section refl (passes w form fine).may k
+form_indexed index w (WindowC start timeout freq dr) fine fits k =
+    let form : Form = WindowC start timeout freq dr in
+    late_index index w.server.plan form w.section refl (passes w form fine).may k
+form_indexed index w (WindowB start periodicity timeout freq dr) fine fits k =
+    let form : Form = WindowB start periodicity timeout freq dr in
+    late_index index w.server.plan form w.section refl (passes w form fine).may k
+form_indexed index w (Device id class hw rows offset key descriptor v1 k11) fine fits k =
+    let form : Form = Device id class hw rows offset key descriptor v1 k11 in
+    late_index index w.server.plan form w.section refl (passes w form fine).may k
+form_indexed index w (At time) fine fits k = late_index index w.server.plan (At time) w.section refl (passes w (At time) fine).may k
+form_indexed index w (Wake n) fine fits k =
+    same_index w _ (event_settled w n (Wake n)) ∙ late_index index w.server.plan (Wake n) w.section refl (passes w (Wake n) fine).may k
+form_indexed index w (Migrate n) fine fits k =
+    same_index w _ (event_settled w n (Migrate n))
+    ∙ late_index index w.server.plan (Migrate n) w.section refl (passes w (Migrate n) fine).may k
+form_indexed index w (Ask n) fine fits k =
+    same_index w _ (sends_settled w w.server (Some n) (request_of w.server n) refl)
+    ∙ late_index index w.server.plan (Ask n) w.section refl (passes w (Ask n) fine).may k
+form_indexed index w Frag fine fits k =
+    same_index w _ (sends_settled w (after_fragment w.server) None (result_ok (next_fragment w.server)) (fragment_plan w.server))
+    ∙ late_index index w.server.plan Frag w.section refl (passes w Frag fine).may k
+form_indexed index w Status fine fits k =
+    same_index w _ (sends_settled w (after_status_to_all w.server) None (status_to_all w.server) (status_plan w.server))
+    ∙ late_index index w.server.plan Status w.section refl (passes w Status fine).may k
+form_indexed index w (Down number n word) fine fits k =
+    let form : Form = Down number n word in
+    same_index w _ (event_settled w n form) ∙ late_index index w.server.plan form w.section refl (passes w form fine).may k
+form_indexed index w (Raw n port payload word) fine fits k =
+    let form : Form = Raw n port payload word in
+    same_index w _ (event_settled w n form) ∙ late_index index w.server.plan form w.section refl (passes w form fine).may k
+form_indexed index w (Air number n word) fine fits k =
+    let form : Form = Air number n word in
+    same_index w _ (event_settled w n form) ∙ late_index index w.server.plan form w.section refl (passes w form fine).may k
+form_indexed index w (RawAir n bytes word) fine fits k =
+    let form : Form = RawAir n bytes word in
+    same_index w _ (event_settled w n form) ∙ late_index index w.server.plan form w.section refl (passes w form fine).may k
+form_indexed index w (Up number) fine fits k =
+    same_index w _ (up_settled w (numbered w.uplinks number))
+    ∙ late_index index w.server.plan (Up number) w.section refl (passes w (Up number) fine).may k
+form_indexed index w End fine fits k = late_index index w.server.plan End w.section refl (passes w End fine).may k
+
+-- so it is behind what a line says
+pub said_indexed : (index : ℕ) (w : WorldState) (said : Said) → said_cause w said ≡ None → LineFits index (Ok said)
+    → IsIndexed index w.section w.server.plan → IsIndexed index (after_said w said).section (after_said w said).server.plan
+said_indexed index w (Own form) fine fits k = form_indexed index w form fine fits k
+said_indexed index w Elsewhere fine fits k = k
+said_indexed index w (Reached n word down) fine fits k =
+    same_index w _ (given_settled w n (Some (Receives w.time word (w.lines + 1) down)))
+    ∙ events_index index w.server.plan w.section (reached_passes w n word down fine).0 k
+
+-- what a line brings from elsewhere is for another index than the plan's
+pub odd_here : (index : ℕ) (w : WorldState) (said : Said) → said_cause w said ≡ None → IsIndexed index w.section w.server.plan
+    → is_odd index said ≡ false → is_odd w.server.plan.index said ≡ false
+odd_here index w (Own form) fine k plain = plain
+odd_here index w Elsewhere fine k plain = plain
+odd_here index w (Reached n word down) fine k plain =
+    let own : w.server.plan.index ≡ index = events_index index w.server.plan w.section (reached_passes w n word down fine).0 k in
+    ap (λ (i : ℕ). is_odd i (Reached n word down)) own ∙ plain

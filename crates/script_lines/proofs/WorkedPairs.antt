@@ -1,0 +1,49 @@
+-- The worked lines of two campaigns' script spell their forms.
+use Rattle.std.proofs.Common.{refl}
+use Rattle.hex.specs.Hex.{decode_pairs}
+use Rattle.script_lines.specs.Lines.{words_of, word}
+use Rattle.script_lines.specs.Numbers.{decimal_of, key_of, hex_number_of}
+use Rattle.script_lines.specs.PairForms.{pair_form_of}
+use Rattle.script_lines.specs.WorkedPairs.{ArePairForms, AreNoPairForms}
+
+pub forms : ArePairForms
+unfolding pair_form_of words_of word decimal_of key_of hex_number_of decode_pairs
+forms = record {
+  header = refl;
+  image = refl;
+  group = refl;
+  window_c = refl;
+  window_b = refl;
+  device = refl;
+  device_with_all = refl;
+  at = refl;
+  wake = refl;
+  migrate = refl;
+  ask = refl;
+  frag = refl;
+  status = refl;
+  down = refl;
+  down_with_word = refl;
+  air = refl;
+  air_with_word = refl;
+  up = refl;
+  end = refl;
+}
+
+pub none : AreNoPairForms
+unfolding pair_form_of words_of word decimal_of key_of hex_number_of decode_pairs
+none = record {
+  version = refl;
+  no_letter = refl;
+  another_letter = refl;
+  no_index = refl;
+  frag_of_none = refl;
+  no_payload = refl;
+  letter_alone = refl;
+  leading_zero = refl;
+  capital = refl;
+  letter_apart = refl;
+  letter_behind_class = refl;
+  raw = refl;
+  raw_air = refl;
+}
