@@ -82,9 +82,11 @@ step_crosses : (own : ℕ) (at : Arrival) (d : DeviceState) (x : Command) → is
     → IsAlike d (after_answers (step at d x))
 unfolding step
 step_crosses own at d (Cast (DataFragment index n part)) other alone =
-    rw (fragment_acts at.via index n part) (fragment_crosses at d index n part (apart own d.sessions index other alone))
+    subst (λ (b : Bool). IsAlike d (after_answers (cond b (command_step at d (Cast (DataFragment index n part))) (no_answer d))))
+    (sym (fragment_acts at.via index n part)) (fragment_crosses at d index n part (apart own d.sessions index other alone))
 step_crosses own at d (Cast (FragSessionStatusReq index all)) other alone =
-    rw (status_acts at.via index all) (status_crosses at d index all (apart own d.sessions index other alone))
+    subst (λ (b : Bool). IsAlike d (after_answers (cond b (command_step at d (Cast (FragSessionStatusReq index all))) (no_answer d))))
+    (sym (status_acts at.via index all)) (status_crosses at d index all (apart own d.sessions index other alone))
 step_crosses own at d x other alone = absurd cc
 
 -- ---- a payload

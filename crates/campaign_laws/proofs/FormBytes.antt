@@ -86,7 +86,7 @@ at_some : {A : Type 0} (P : A → Type 0) (o : Option A) (x : A) → IfSome o P 
 at_some P None x k is = absurd cc
 at_some P (Some y) x k is = let same : y ≡ x = cc in subst P same k
 
-pub group_words_fit : (index : ℕ) (line : List ℕ) (k id : ℕ) → Fits index (group_words line k id)
+group_words_fit : (index : ℕ) (line : List ℕ) (k id : ℕ) → Fits index (group_words line k id)
 group_words_fit index line k id =
     behind index (hex_at line k) _ (λ addr addr_is. behind index (key_at line (k + 1)) _ (λ key key_is. behind index (decimal_at line (k + 2)) _ (λ min min_is.
     behind index (decimal_at line (k + 3)) _ (λ max max_is. leaf index (Group id addr key min max) (

@@ -85,6 +85,7 @@ takes_setup image cut config fine is k takes =
       le-ltb max_frag_size cut.size is.small,
       room,
       k.sessions,
+      not_le 4 cut.index (omega (arith, is.indexed)),
       takes,
     ) refl
 

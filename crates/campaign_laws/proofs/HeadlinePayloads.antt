@@ -81,7 +81,7 @@ answers_move : (P : DeviceState → Type 0) (m : DeviceState) (made : DeviceStep
     → ((e : DeviceState) (uplinks : List Uplink) → P e → P (record e { outbox = uplinks }))
     → P made.device → P (after_answers made)
 unfolding after_answers
-answers_move P m made keeps k = keeps made.device _ k
+answers_move P m made keeps k = keeps made.device (after_answers made).outbox k
 
 abbrev pub sent_as : To → Command → Downlink
 sent_as to c = downlink_of (record { to = to; command = c })

@@ -232,11 +232,11 @@ setup_taken image cut brings last config None takes k no_fragment h = (
   ]),
 )
 setup_taken image cut brings last config (Some s) takes k no_fragment h =
-    let more : HeardAll brings (setup_request image cut) (last + 1) s.heard =
+    let more : HeardAll brings cut.index (setup_request image cut) (last + 1) s.heard =
     heard_more brings cut.index (setup_request image cut) last s.heard s.heard (λ f is w. absurd (no_fragment f is w))
     (λ f m. m) h.1 in (
       takes,
-      subst (λ (x : Session). HeardAll brings (setup_request image cut) (last + 1) x.heard)
+      subst (λ (x : Session). HeardAll brings cut.index (setup_request image cut) (last + 1) x.heard)
           (sym (stays_same (limits_of config) s (setup_req image cut) k.setup)) more,
     )
 

@@ -255,8 +255,8 @@ form_told id group all w Header fine =
     still_told id group all w _ (Own Header) (same_still w _ refl refl refl refl) refl refl refl
 form_told id group all w (Image frag_size parity index) fine =
     still_told id group all w _ (Own (Image frag_size parity index)) (same_still w _ refl refl refl refl) refl refl refl
-form_told id group all w (Group id addr key min max) fine =
-    still_told id group all w _ (Own (Group id addr key min max)) (same_still w _ refl refl refl refl) refl refl refl
+form_told id group all w (Group its addr key min max) fine =
+    still_told id group all w _ (Own (Group its addr key min max)) (same_still w _ refl refl refl refl) refl refl refl
 form_told id group all w (WindowC start timeout freq dr) fine =
     still_told id group all w _ (Own (WindowC start timeout freq dr)) (same_still w _ refl refl refl refl) refl refl refl
 form_told id group all w (WindowB start periodicity timeout freq dr) fine =

@@ -164,13 +164,13 @@ few_received x = omega arith
 small_missing : (n : ℕ) → min n 255 < 2 ^ 8
 small_missing n = omega arith
 
-status_moves : (image : List ℕ) (plan : Plan) (received missing : ℕ) → missing ≡ 0 → stage_after plan image (At request.Status) (Cast (FragSessionStatusAns 0 received missing false)) ≡ At request.Image
+status_moves : (image : List ℕ) (plan : Plan) (received missing : ℕ) → IsPlan plan → missing ≡ 0 → stage_after plan image (At request.Status) (Cast (FragSessionStatusAns 0 received missing false)) ≡ At request.Image
 unfolding stage_after
-status_moves image plan received missing none = rw none refl
+status_moves image plan received missing is none = rw (is.index, none) refl
 
-status_stays : (image : List ℕ) (plan : Plan) (received missing : ℕ) → 1 ≤ missing → stage_after plan image (At request.Status) (Cast (FragSessionStatusAns 0 received missing false)) ≡ At request.Status
+status_stays : (image : List ℕ) (plan : Plan) (received missing : ℕ) → IsPlan plan → 1 ≤ missing → stage_after plan image (At request.Status) (Cast (FragSessionStatusAns 0 received missing false)) ≡ At request.Status
 unfolding stage_after
-status_stays image plan received missing some = let more : (missing == 0) ≡ false = grind (arith, some) in rw more refl
+status_stays image plan received missing is some = let more : (missing == 0) ≡ false = grind (arith, some) in rw (is.index, more) refl
 
 -- a device that is asked for its status
 status_turn : (image : List ℕ) (j : ℕ) (d : DeviceState) (s : Stage) (x : Session) → IsPlain d → d.sessions.first ≡ Some x → s ≡ At request.Status
@@ -180,7 +180,7 @@ status_turn : (image : List ℕ) (j : ℕ) (d : DeviceState) (s : Stage) (x : Se
 unfolding request_at
 status_turn image j d s x plain session is decided after =
     takes_turn image (Late image (j + 1)) d s (Cast (FragSessionStatusReq 0 true)) (status_answer x) d d plain (record {
-      ask = λ plan device planned. rw is refl;
+      ask = λ plan device planned. rw (is, planned.index) refl;
       down_read = good_read (Cast (FragSessionStatusReq 0 true)) (status_good 0 true (omega arith));
       light = omega arith;
       makes = λ mark. status_made d x mark (seen_of x).verdict session refl decided;
@@ -203,7 +203,7 @@ waiting_turn image j d s x made plain session ours receives is =
         plain = plain_holding d plain;
         session = session;
         ours = ours;
-        how = inl (receives, status_stays image plan (seen_of x).received (min (seen_of x).missing 255) more);
+        how = inl (receives, status_stays image plan (seen_of x).received (min (seen_of x).missing 255) planned more);
       },
     ))
 
@@ -218,7 +218,7 @@ whole_turn image d s x mark made plain session ours whole (is, next) =
         plain = plain_holding d plain;
         session = session;
         ours = ours;
-        how = inr (mark, whole, (status_moves image plan (seen_of x).received (min (seen_of x).missing 255) none, next));
+        how = inr (mark, whole, (status_moves image plan (seen_of x).received (min (seen_of x).missing 255) planned none, next));
       },
     ))
 
