@@ -1,5 +1,5 @@
 -- What both ends of a campaign keep: a device has no session but the server's, and the server sends the image.
-use Rattle.std.proofs.Common.{◌≡◌, inl, inr, ℕ, ◌+◌, ◌≤◌, Bool, true, false, cond, nat_lt, List, [], ◌∷◌, length, Option, None, Some, IfSome, is_ok, is_some, Result, Ok, Err, refl, sym, ap, subst, arith, ◌/◌, ltb-false}
+use Rattle.std.proofs.Common.{◌≡◌, inl, inr, ℕ, ◌+◌, ◌≤◌, Bool, true, false, cond, nat_lt, List, [], ◌∷◌, length, Option, None, Some, IfSome, is_ok, is_some, Result, Ok, Err, refl, sym, ap, ◌∙◌, subst, arith, ◌/◌, ltb-false}
 use Rattle.std.specs.Result.{result_ok}
 use Rattle.std.specs.List.{AllByRecursion}
 use Rattle.frag_session.specs.declared.setups.Limits.{Limits}

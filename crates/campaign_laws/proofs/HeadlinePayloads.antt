@@ -78,17 +78,17 @@ one_acts at m c empty light does =
     rw (few, does) refl
 
 answers_move : (P : DeviceState → Type 0) (m : DeviceState) (made : DeviceStep)
-    → ((e : DeviceState) (uplinks : List Uplink) → P e → P (record e { outbox = uplinks }))
+    → ((e : DeviceState) (due : Option ℕ) (uplinks : List Uplink) → P e → P (record e { last_due = due; outbox = uplinks }))
     → P made.device → P (after_answers made)
 unfolding after_answers
-answers_move P m made keeps k = keeps made.device (after_answers made).outbox k
+answers_move P m made keeps k = keeps made.device (after_answers made).last_due (after_answers made).outbox k
 
 abbrev pub sent_as : To → Command → Downlink
 sent_as to c = downlink_of (record { to = to; command = c })
 
 -- what the command makes is what the payload makes
 good_moves : (P : DeviceState → Type 0) (t word mark : ℕ) (to : To) (m : DeviceState)
-    (c : Command) → ((e : DeviceState) (uplinks : List Uplink) → P e → P (record e { outbox = uplinks }))
+    (c : Command) → ((e : DeviceState) (due : Option ℕ) (uplinks : List Uplink) → P e → P (record e { last_due = due; outbox = uplinks }))
     → IsGood c → weight c ≤ 1 → acts (via_of m.class_session to) c ≡ true
     → P (command_step (arrival t word mark (sent_as to c) m) m c).device → m.outbox ≡ [] → hears m t to ≡ true
     → P (heard_delivery t word mark (sent_as to c) m).device
@@ -103,12 +103,12 @@ good_moves P t word mark to m c keeps good light does makes empty on =
 
 -- ---- each command
 
-moves_keep : (index : ℕ) (F : DeviceConfig → Option Session → Option Session) (m e : DeviceState) (uplinks : List Uplink)
-    → Moves index F m e → Moves index F m (record e { outbox = uplinks })
-moves_keep index F m e uplinks k = record { config = k.config; sessions = k.sessions }
+moves_keep : (index : ℕ) (F : DeviceConfig → Option Session → Option Session) (m e : DeviceState) (due : Option ℕ) (uplinks : List Uplink)
+    → Moves index F m e → Moves index F m (record e { last_due = due; outbox = uplinks })
+moves_keep index F m e due uplinks k = record { config = k.config; sessions = k.sessions }
 
-stays_keep : (m e : DeviceState) (uplinks : List Uplink) → Stays m e → Stays m (record e { outbox = uplinks })
-stays_keep m e uplinks k = record { config = k.config; sessions = k.sessions }
+stays_keep : (m e : DeviceState) (due : Option ℕ) (uplinks : List Uplink) → Stays m e → Stays m (record e { last_due = due; outbox = uplinks })
+stays_keep m e due uplinks k = record { config = k.config; sessions = k.sessions }
 
 setup_moves : (image : List ℕ) (cut : Cut) (at : Arrival) (m : DeviceState)
     → Moves cut.index (set_up image cut) m (command_step at m (setup_request image cut)).device
