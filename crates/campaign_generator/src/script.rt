@@ -167,9 +167,11 @@ fn put_fragments(
     pieces: u32,
 ) -> Result<(), AllocError>
     requires { pieces ≤ 1024 }
-    ensures lines { IfOk result (λ _.
-        text.new.items ≡ text.old.items ++ downs_from device pieces draws.old.state 1 0 (pieces + 128)) }
-    ensures state { IfOk result (λ _. draws.new.state ≡ after_draws draws.old.state (pieces + 128)) }
+    ensures lines { IfOk result
+        (λ _. text.new.items
+        ≡ text.old.items ++ downs_from device pieces draws.old.state 1 0 (pieces + 128)) }
+    ensures state { IfOk result
+        (λ _. draws.new.state ≡ after_draws draws.old.state (pieces + 128)) }
 {
     let mut skipped = 0u32;
     for k in 0..pieces + PARITY {

@@ -32,7 +32,8 @@ pub fn request(
     stage: Stage,
 ) -> Option<Downlink>
     requires { IsCut plan.now encoder.now }
-    ensures { result ≡ down_of (by_unicast (request_at plan.now encoder.now.file device.now stage)) }
+    ensures { result
+        ≡ down_of (by_unicast (request_at plan.now encoder.now.file device.now stage)) }
 {
     match stage {
         Stage::At(Request::Version) => Some(version_request()),

@@ -29,7 +29,8 @@ use mc_frames::frame_holds_what_it_was_made_of;
 /// The wrapped key that the server sends is the one block that is unwrapped to the group's key: what `wrap_key` answers.
 pub fn wrapped_key_is_the_one()
     ensures { (kek key block : List ℕ) → IsBlock block → mc_key kek block ≡ key
-        → ((x : List ℕ) → IsBlock x → mc_key kek x ≡ key → x ≡ block) → wrapped_key kek key ≡ block }
+        → ((x : List ℕ) → IsBlock x → mc_key kek x ≡ key → x ≡ block)
+        → wrapped_key kek key ≡ block }
 {}
 
 /// The request for a group carries what a device unwraps to the group's key, under the key that it derives of its own.
@@ -67,7 +68,8 @@ pub fn an_answer_moves_once()
 pub fn an_end_is_final()
     ensures updated { (plan : Plan) (image : List ℕ) (command : Command)
         → stage_after plan image Updated command ≡ Updated }
-    ensures refused { (plan : Plan) (image : List ℕ) (request : Request) (bits : ℕ) (command : Command)
+    ensures refused { (plan : Plan) (image : List ℕ) (request : Request) (bits : ℕ)
+        (command : Command)
         → stage_after plan image (Refused request bits) command ≡ Refused request bits }
 {}
 

@@ -44,7 +44,8 @@ fn time_answer_to(t: u64, command: &Command) -> Option<Downlink>
 
 fn answer(t: u64, time: u32, required: bool, token: u8) -> Option<Downlink>
     requires { token < 16 }
-    ensures { result ≡ down_of (by_unicast (time_answer_to t (Sync (AppTimeReq time required token)))) }
+    ensures { result
+        ≡ down_of (by_unicast (time_answer_to t (Sync (AppTimeReq time required token)))) }
 {
     let seconds = (t / 1000 % (1 << 32)) as u32;
     let correction = correction(seconds, time);

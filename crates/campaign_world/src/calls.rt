@@ -29,10 +29,11 @@ pub fn reach_device(
     requires moment { coming.t ≤ max_moment }
     requires room { vec_len uplinks.old + outbox_size ≤ vec_capacity uplinks.old }
     ensures made { StayMade id uplinks.old.items uplinks.new.items }
-    ensures rests { ComesToRest HeldRests (λ d. (delivery coming.t coming.word coming.mark down.now d).device)
-        device.old device.new }
-    ensures uplinks { AreNumbered HeldRests (λ d. (delivery coming.t coming.word coming.mark down.now d).device)
-        device.old id uplinks.old.items uplinks.new.items }
+    ensures rests { ComesToRest HeldRests
+        (λ d. (delivery coming.t coming.word coming.mark down.now d).device) device.old device.new }
+    ensures uplinks { AreNumbered HeldRests
+        (λ d. (delivery coming.t coming.word coming.mark down.now d).device) device.old id
+        uplinks.old.items uplinks.new.items }
 {
     let _delivered = device.deliver(coming.t, down, coming.word, coming.mark);
     take_uplinks(id, device, uplinks);
@@ -50,10 +51,11 @@ pub fn air_device(
     requires moment { coming.t ≤ max_moment }
     requires room { vec_len uplinks.old + outbox_size ≤ vec_capacity uplinks.old }
     ensures made { StayMade id uplinks.old.items uplinks.new.items }
-    ensures rests { ComesToRest HeldRests (λ d. (radio coming.t coming.word coming.mark bytes.now d).device)
-        device.old device.new }
-    ensures uplinks { AreNumbered HeldRests (λ d. (radio coming.t coming.word coming.mark bytes.now d).device)
-        device.old id uplinks.old.items uplinks.new.items }
+    ensures rests { ComesToRest HeldRests
+        (λ d. (radio coming.t coming.word coming.mark bytes.now d).device) device.old device.new }
+    ensures uplinks { AreNumbered HeldRests
+        (λ d. (radio coming.t coming.word coming.mark bytes.now d).device) device.old id
+        uplinks.old.items uplinks.new.items }
 {
     let _heard = device.radio(coming.t, bytes, coming.word, coming.mark);
     take_uplinks(id, device, uplinks);

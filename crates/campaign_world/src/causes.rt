@@ -48,7 +48,8 @@ pub fn may_come(section: Section, form: &Form) -> bool
 pub fn fits_script(len: usize, count: usize, form: &Form) -> bool
     requires len { len ≤ max_image }
     requires count { count < 2 ^ 63 }
-    requires size { (frag_size parity index : ℕ) → form.now ≡ Image frag_size parity index → (1 ≤ frag_size) × (frag_size ≤ 239) }
+    requires size { (frag_size parity index : ℕ) → form.now ≡ Image frag_size parity index
+        → (1 ≤ frag_size) × (frag_size ≤ 239) }
     ensures { result ≡ fits_script len count form.now }
 {
     match form {

@@ -39,9 +39,11 @@ pub fn deliver(
     requires moment { coming.t ≤ max_moment }
     ensures count { length devices.new.items ≡ length devices.old.items }
     ensures made { StayMade id uplinks.old.items uplinks.new.items }
-    ensures devices { OnOk result (OneComesToRest (λ d. (delivery coming.t coming.word coming.mark down.now d).device) id
-        devices.old.items devices.new.items) }
-    ensures uplinks { OnOk result (OnesAreNumbered (λ d. (delivery coming.t coming.word coming.mark down.now d).device)
+    ensures devices { OnOk result (OneComesToRest
+        (λ d. (delivery coming.t coming.word coming.mark down.now d).device)
+        id devices.old.items devices.new.items) }
+    ensures uplinks { OnOk result (OnesAreNumbered
+        (λ d. (delivery coming.t coming.word coming.mark down.now d).device)
         devices.old.items id uplinks.old.items uplinks.new.items) }
     ensures same { OnErr result (devices.new.items ≡ devices.old.items) }
 {
@@ -68,9 +70,11 @@ pub fn hear_bytes(
     requires moment { coming.t ≤ max_moment }
     ensures count { length devices.new.items ≡ length devices.old.items }
     ensures made { StayMade id uplinks.old.items uplinks.new.items }
-    ensures devices { OnOk result (OneComesToRest (λ d. (radio coming.t coming.word coming.mark bytes.now d).device) id
-        devices.old.items devices.new.items) }
-    ensures uplinks { OnOk result (OnesAreNumbered (λ d. (radio coming.t coming.word coming.mark bytes.now d).device)
+    ensures devices { OnOk result (OneComesToRest
+        (λ d. (radio coming.t coming.word coming.mark bytes.now d).device)
+        id devices.old.items devices.new.items) }
+    ensures uplinks { OnOk result (OnesAreNumbered
+        (λ d. (radio coming.t coming.word coming.mark bytes.now d).device)
         devices.old.items id uplinks.old.items uplinks.new.items) }
     ensures same { OnErr result (devices.new.items ≡ devices.old.items) }
 {
@@ -96,8 +100,10 @@ pub fn wake(
     requires moment { t ≤ max_moment }
     ensures count { length devices.new.items ≡ length devices.old.items }
     ensures made { StayMade id uplinks.old.items uplinks.new.items }
-    ensures devices { OnOk result (OneComesToRest (λ d. (waking t d).device) id devices.old.items devices.new.items) }
-    ensures uplinks { OnOk result (OnesAreNumbered (λ d. (waking t d).device) devices.old.items id uplinks.old.items uplinks.new.items) }
+    ensures devices { OnOk result
+        (OneComesToRest (λ d. (waking t d).device) id devices.old.items devices.new.items) }
+    ensures uplinks { OnOk result (OnesAreNumbered
+        (λ d. (waking t d).device) devices.old.items id uplinks.old.items uplinks.new.items) }
     ensures same { OnErr result (devices.new.items ≡ devices.old.items) }
 {
     match make_room(uplinks) {
@@ -113,7 +119,8 @@ pub fn migrate(devices: &mut Vec<LateDevice>, alloc: Global, id: u8) -> Result<(
     requires first { 1 ≤ id }
     requires last { id ≤ length devices.old.items }
     ensures count { length devices.new.items ≡ length devices.old.items }
-    ensures devices { OnOk result (OneComesToRest after_migration id devices.old.items devices.new.items) }
+    ensures devices { OnOk result
+        (OneComesToRest after_migration id devices.old.items devices.new.items) }
     ensures same { OnErr result (devices.new.items ≡ devices.old.items) }
 {
     let device = &mut devices[id as usize - 1];

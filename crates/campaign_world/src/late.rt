@@ -175,7 +175,8 @@ pub fn rouse(
     requires moment { t ≤ max_moment }
     requires room { vec_len uplinks.old + outbox_size ≤ vec_capacity uplinks.old }
     ensures made { StayMade id uplinks.old.items uplinks.new.items }
-    ensures rests { OnOk result (ComesToRest DeviceRests (λ d. (waking t d).device) late.old late.new) }
+    ensures rests { OnOk result
+        (ComesToRest DeviceRests (λ d. (waking t d).device) late.old late.new) }
     ensures uplinks { OnOk result (AreNumbered DeviceRests (λ d. (waking t d).device)
         late.old id uplinks.old.items uplinks.new.items) }
     ensures same { OnErr result (late.new ≡ late.old) }

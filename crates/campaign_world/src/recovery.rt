@@ -28,7 +28,8 @@ pub enum NoFile {
 pub fn recovered_by(late: &LateDevice) -> Result<&[u8], NoFile>
     ensures file { (d : DeviceState) → DeviceRests late.now d
         → IfOk result (λ file. recovery_by (Some d) ≡ Ok file.now) }
-    ensures why { (d : DeviceState) → DeviceRests late.now d → IfErr result (λ why. recovery_by (Some d) ≡ Err why) }
+    ensures why { (d : DeviceState) → DeviceRests late.now d
+        → IfErr result (λ why. recovery_by (Some d) ≡ Err why) }
 {
     match late.device() {
         Some(device) => first_file(device),
@@ -38,8 +39,10 @@ pub fn recovered_by(late: &LateDevice) -> Result<&[u8], NoFile>
 
 /// That of its first session.
 fn first_file(device: &Device) -> Result<&[u8], NoFile>
-    ensures file { (d : DeviceState) → DeviceStands device.now d → IfOk result (λ file. recovery_by (Some d) ≡ Ok file.now) }
-    ensures why { (d : DeviceState) → DeviceStands device.now d → IfErr result (λ why. recovery_by (Some d) ≡ Err why) }
+    ensures file { (d : DeviceState) → DeviceStands device.now d
+        → IfOk result (λ file. recovery_by (Some d) ≡ Ok file.now) }
+    ensures why { (d : DeviceState) → DeviceStands device.now d
+        → IfErr result (λ why. recovery_by (Some d) ≡ Err why) }
 {
     match device.session(0) {
         Some(view) => file_of(view),

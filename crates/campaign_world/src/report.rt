@@ -101,7 +101,8 @@ fn came_part(
     stage: Stage,
     device: &Device,
 ) -> Result<String, AllocError>
-    ensures { (d : DeviceState) → DeviceStands device.now d → IfOk result (λ text. string_bytes text ≡ device_part image.now id stage d) }
+    ensures { (d : DeviceState) → DeviceStands device.now d
+        → IfOk result (λ text. string_bytes text ≡ device_part image.now id stage d) }
 {
     let name = name_of(alloc, id)?;
     let stand = device_line(alloc, name.as_str(), stage, device)?;
@@ -144,7 +145,8 @@ fn image_text(
     padding: u8,
     parity: u16,
 ) -> Result<String, AllocError>
-    ensures { IfOk result (λ text. string_bytes text ≡ image_text size fragments frag_size padding parity) }
+    ensures { IfOk result
+        (λ text. string_bytes text ≡ image_text size fragments frag_size padding parity) }
 {
     format!(in alloc;
         "image {size} fragments {fragments} size {frag_size} padding {padding} parity {parity}\n"

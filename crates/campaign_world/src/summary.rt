@@ -92,7 +92,8 @@ fn with_device(totals: Totals, stage: Stage, late: &LateDevice) -> Totals
     requires heard { totals.heard + 65535 < 2 ^ 32 }
     requires complete { totals.complete < 255 }
     requires updated { totals.updated < 255 }
-    ensures counted { (d : DeviceState) → DeviceRests late.now d → result ≡ with_device totals stage d }
+    ensures counted { (d : DeviceState) → DeviceRests late.now d
+        → result ≡ with_device totals stage d }
     ensures heard { result.heard ≤ totals.heard + 65535 }
     ensures complete { result.complete ≤ totals.complete + 1 }
     ensures updated { result.updated ≤ totals.updated + 1 }
@@ -113,8 +114,10 @@ fn one_if(holds: bool) -> u8
 
 /// The fragments that session 0 heard, and whether it has its file.
 fn first_session(late: &LateDevice) -> (u16, bool)
-    ensures heard { (d : DeviceState) → DeviceRests late.now d → result.0 ≡ heard_by (view_of d.sessions.first) }
-    ensures file { (d : DeviceState) → DeviceRests late.now d → result.1 ≡ has_file (view_of d.sessions.first) }
+    ensures heard { (d : DeviceState) → DeviceRests late.now d
+        → result.0 ≡ heard_by (view_of d.sessions.first) }
+    ensures file { (d : DeviceState) → DeviceRests late.now d
+        → result.1 ≡ has_file (view_of d.sessions.first) }
 {
     match late.device() {
         Some(device) => first_of(device),
@@ -123,8 +126,10 @@ fn first_session(late: &LateDevice) -> (u16, bool)
 }
 
 fn first_of(device: &Device) -> (u16, bool)
-    ensures heard { (d : DeviceState) → DeviceStands device.now d → result.0 ≡ heard_by (view_of d.sessions.first) }
-    ensures file { (d : DeviceState) → DeviceStands device.now d → result.1 ≡ has_file (view_of d.sessions.first) }
+    ensures heard { (d : DeviceState) → DeviceStands device.now d
+        → result.0 ≡ heard_by (view_of d.sessions.first) }
+    ensures file { (d : DeviceState) → DeviceStands device.now d
+        → result.1 ≡ has_file (view_of d.sessions.first) }
 {
     match device.session(0) {
         Some(view) => seen_in(view),

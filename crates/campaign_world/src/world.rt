@@ -78,7 +78,8 @@ impl World {
         ensures step { (world : WorldState) → WorldStands self.old world → self.old.kept ≡ None
             → IsLineAnswer world line.now self.new result }
         ensures kept { IfErr result (λ e. self.new.kept ≡ Some e) }
-        ensures same { (e : LineError) → self.old.kept ≡ Some e → (result ≡ Err e) × (self.new ≡ self.old) }
+        ensures same { (e : LineError) → self.old.kept ≡ Some e
+            → (result ≡ Err e) × (self.new ≡ self.old) }
         ensures ends { OnErr result (KeepsEnds self.old self.new) }
     {
         if let Some(kept) = self.kept {
@@ -104,7 +105,8 @@ impl World {
     /// The first cause for which a form is refused; None where it can be carried out. How many lines there were is no
     /// matter to it.
     pub fn cause(&self, form: &Form) -> Option<LineWhy>
-        ensures cause { (world : WorldState) → WorldStands self.now world → result ≡ form_cause world form.now }
+        ensures cause { (world : WorldState) → WorldStands self.now world
+            → result ≡ form_cause world form.now }
         ensures fine { result ≡ None → IsFine self.now form.now }
     {
         self.first_cause(form)
@@ -115,7 +117,8 @@ impl World {
     pub fn take(&mut self, form: &Form) -> Result<(), LineError>
         requires fine { IsFine self.old form.now }
         requires room { self.old.lines < max_lines }
-        ensures taken { OnOk result (WorldBecomes self.old self.new (λ world. one_line_more (after_form world form.now))) }
+        ensures taken { OnOk result
+            (WorldBecomes self.old self.new (λ world. one_line_more (after_form world form.now))) }
         ensures memory { IfErr result (λ e. e ≡ LineError.Memory) }
         ensures kept { OnOk result (self.new.kept ≡ self.old.kept) }
         ensures keeps { IfErr result (λ e. self.new.kept ≡ Some e) }
@@ -176,7 +179,8 @@ impl World {
 
     /// That `end` has come, or the fault of the line that is missing.
     pub fn ended(&self) -> Result<(), LineError>
-        ensures ended { (world : WorldState) → WorldStands self.now world → self.now.kept ≡ None → IsEnded world result }
+        ensures ended { (world : WorldState) → WorldStands self.now world → self.now.kept ≡ None
+            → IsEnded world result }
         ensures same { (e : LineError) → self.now.kept ≡ Some e → result ≡ Err e }
     {
         match self.played() {
@@ -187,8 +191,10 @@ impl World {
 
     /// The file that the session of a device recovered, or why there is none.
     pub fn recovered(&self, device: u8) -> Result<&[u8], NoFile>
-        ensures file { (world : WorldState) → WorldStands self.now world → IfOk result (λ file. recovery world device ≡ Ok file.now) }
-        ensures why { (world : WorldState) → WorldStands self.now world → IfErr result (λ why. recovery world device ≡ Err why) }
+        ensures file { (world : WorldState) → WorldStands self.now world
+            → IfOk result (λ file. recovery world device ≡ Ok file.now) }
+        ensures why { (world : WorldState) → WorldStands self.now world
+            → IfErr result (λ why. recovery world device ≡ Err why) }
     {
         match numbered(self.phase.devices(), u64::from(device)) {
             Some(found) => recovered_by(found),
@@ -217,7 +223,8 @@ impl World {
 
     /// The campaign that was played to its end, or the fault of the line that is missing.
     fn played(&self) -> Result<&Campaign, LineError>
-        ensures ended { (world : WorldState) → WorldStands self.now world → self.now.kept ≡ None → IsEndAnswer world result }
+        ensures ended { (world : WorldState) → WorldStands self.now world → self.now.kept ≡ None
+            → IsEndAnswer world result }
         ensures same { (e : LineError) → self.now.kept ≡ Some e → result ≡ Err e }
         ensures devices { IfOk result (λ campaign. campaign.now.devices ≡ self.now.devices) }
         ensures server { IfOk result (λ campaign. campaign.now.server ≡ self.now.server) }
@@ -237,8 +244,8 @@ impl World {
 
     /// The form of the next line, or the first cause for which it is refused.
     fn accept<'a>(&self, line: &'a [u8]) -> Result<Form<'a>, LineWhy>
-        ensures form { IfOk result (λ form. (form_of line.now ≡ Some form) × (self.now.lines < max_lines)
-            × IsFine self.now form) }
+        ensures form { IfOk result (λ form. (form_of line.now ≡ Some form)
+            × (self.now.lines < max_lines) × IsFine self.now form) }
         ensures none { OnOk result (IsCauseOf self.now line.now None) }
         ensures why { IfErr result (λ why. IsCauseOf self.now line.now (Some why)) }
     {

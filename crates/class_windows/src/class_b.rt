@@ -26,7 +26,8 @@ impl ClassB {
     #[tactic(auto, unfolding(crate::specs::Open::is_ping_slot))]
     pub fn open_at(&self, device_ms: u64, addr: u32) -> bool
         requires { device_ms < 1000 * 2 ^ 32 }
-        ensures { result ≡ is_open_b self.now.session_time self.now.periodicity self.now.timeout device_ms addr }
+        ensures { result
+            ≡ is_open_b self.now.session_time self.now.periodicity self.now.timeout device_ms addr }
     {
         let beacon = beacon_at((device_ms / 1000) as u32);
         let start = beacon_at(self.session_time);

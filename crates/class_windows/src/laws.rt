@@ -10,7 +10,8 @@ pub fn window_tests()
     ensures after_uplink { (due t : ℕ) → IsTrue (is_after_uplink due t) ↔ IsAfterUplink due t }
     ensures running { (start duration ms : ℕ) → start < 2 ^ 32 → duration < 2 ^ 32
         → IsTrue (is_running start duration ms) ↔ IsRunning start duration ms }
-    ensures in_slot { (offset period ms : ℕ) → 0 < period → IsTrue (is_in_slot offset period ms) ↔ IsInSlot offset period ms }
+    ensures in_slot { (offset period ms : ℕ) → 0 < period → IsTrue (is_in_slot offset period ms)
+        ↔ IsInSlot offset period ms }
 {}
 
 /// So each class is open exactly in the intervals of the standard.

@@ -41,7 +41,8 @@ impl Encoder {
     /// or above 239, or there are more than 4,096 pieces.
     pub fn new(alloc: Global, file: &[u8], frag_size: u8) -> Result<Encoder, EncoderError>
         ensures ok { IfOk result (λ e. e ≡ record { file = file.now; frag_size = frag_size }) }
-        ensures bad_size { (result ≡ Err EncoderError.BadSize) ↔ IsBadSize (length file.now) frag_size }
+        ensures bad_size { (result ≡ Err EncoderError.BadSize)
+            ↔ IsBadSize (length file.now) frag_size }
     {
         let size = frag_size as usize;
         if file.is_empty() || size == 0 || size > MAX_FRAGMENT {
@@ -92,11 +93,13 @@ impl Encoder {
     /// the pieces in the line of coded fragment `n` (TS004-1.0.0). `Beyond`, with `out` as it was, comes exactly where `n` is 0
     /// or more than 8,380 above the number of pieces.
     pub fn fragment(&self, n: u16, out: &mut ArrayVec<u8, MAX_FRAGMENT>) -> Result<(), Beyond>
-        ensures within { IsOk result ↔ ((1 ≤ n) × (n ≤ nb_frag_of (length self.now.file) self.now.frag_size + MAX_PARITY_INDEX)) }
+        ensures within { IsOk result ↔ ((1 ≤ n)
+            × (n ≤ nb_frag_of (length self.now.file) self.now.frag_size + MAX_PARITY_INDEX)) }
         ensures part { OnOk result (out.new.items ≡ data_of self.now.file self.now.frag_size n) }
         ensures size { OnOk result (length out.new.items ≡ self.now.frag_size) }
-        ensures piece { n ≤ nb_frag_of (length self.now.file) self.now.frag_size → OnOk result (out.new.items ≡
-            take self.now.frag_size (drop ((n - 1) * self.now.frag_size) (filled self.now.file self.now.frag_size))) }
+        ensures piece { n ≤ nb_frag_of (length self.now.file) self.now.frag_size
+            → OnOk result (out.new.items ≡ take self.now.frag_size
+            (drop ((n - 1) * self.now.frag_size) (filled self.now.file self.now.frag_size))) }
         ensures beyond { OnErr result (out.new ≡ out.old) }
     {
         self.fragment_over::<Brand, Brand>(n, out, Blank::new(1), Blank::new(1))
@@ -115,8 +118,8 @@ impl Encoder {
         requires sums_name { no_sums.name ≡ M.name }
         requires sums_parts { no_sums.parts ≡ M.parts }
         requires sums_counted { 0 < no_sums.parts }
-        ensures within { IsOk result ↔
-            ((1 ≤ n) × (n ≤ nb_frag_of (length self.now.file) self.now.frag_size + MAX_PARITY_INDEX)) }
+        ensures within { IsOk result ↔ ((1 ≤ n)
+            × (n ≤ nb_frag_of (length self.now.file) self.now.frag_size + MAX_PARITY_INDEX)) }
         ensures part { OnOk result (out.new.items ≡ data_of self.now.file self.now.frag_size n) }
         ensures size { OnOk result (length out.new.items ≡ self.now.frag_size) }
         ensures piece { n ≤ nb_frag_of (length self.now.file) self.now.frag_size → OnOk result
@@ -138,21 +141,22 @@ impl Encoder {
         draws: &mut Steps<L>,
         sums: &mut Steps<M>,
     ) -> Result<(), Beyond>
-        ensures within { IsOk result ↔
-            ((1 ≤ n) × (n ≤ nb_frag_of (length self.now.file) self.now.frag_size + MAX_PARITY_INDEX)) }
+        ensures within { IsOk result ↔ ((1 ≤ n)
+            × (n ≤ nb_frag_of (length self.now.file) self.now.frag_size + MAX_PARITY_INDEX)) }
         ensures part { OnOk result (out.new.items ≡ data_of self.now.file self.now.frag_size n) }
         ensures size { OnOk result (length out.new.items ≡ self.now.frag_size) }
         ensures piece { n ≤ nb_frag_of (length self.now.file) self.now.frag_size → OnOk result
             (out.new.items ≡ take self.now.frag_size
             (drop ((n - 1) * self.now.frag_size) (filled self.now.file self.now.frag_size))) }
         ensures beyond { OnErr result (out.new ≡ out.old) }
-        ensures draws { OnOk result
-            (draws.new ≡ draws.old + draws_of (nb_frag_of (length self.now.file) self.now.frag_size) n) }
-        ensures sums { OnOk result
-            (sums.new ≡ sums.old + sums_of (nb_frag_of (length self.now.file) self.now.frag_size) n) }
+        ensures draws { OnOk result (draws.new
+            ≡ draws.old + draws_of (nb_frag_of (length self.now.file) self.now.frag_size) n) }
+        ensures sums { OnOk result (sums.new
+            ≡ sums.old + sums_of (nb_frag_of (length self.now.file) self.now.frag_size) n) }
         ensures few_draws { draws.new ≤ draws.old
             + 25 * (nb_frag_of (length self.now.file) self.now.frag_size / 2) }
-        ensures few_sums { sums.new ≤ sums.old + nb_frag_of (length self.now.file) self.now.frag_size / 2 }
+        ensures few_sums { sums.new
+            ≤ sums.old + nb_frag_of (length self.now.file) self.now.frag_size / 2 }
         ensures idle { OnErr result ((draws.new ≡ draws.old) × (sums.new ≡ sums.old)) }
     {
         if n == 0 || n > self.nb_frag + MAX_PARITY_INDEX {
@@ -204,7 +208,8 @@ fn write_data<L: Ledger, M: Ledger>(
     requires last { n ≤ nb_frag + MAX_PARITY_INDEX }
     requires size { length part.old ≡ size }
     requires bytes { length bytes.now ≡ nb_frag * size }
-    ensures whole { part.new ≡ xor_all size (pieces_at (line_of nb_frag n) (pieces_of nb_frag size bytes.now)) }
+    ensures whole { part.new
+        ≡ xor_all size (pieces_at (line_of nb_frag n) (pieces_of nb_frag size bytes.now)) }
     ensures piece { n ≤ nb_frag → part.new ≡ take size (drop ((n - 1) * size) bytes.now) }
     ensures draws { draws.new ≡ draws.old + draws_of nb_frag n }
     ensures sums { sums.new ≡ sums.old + sums_of nb_frag n }

@@ -19,8 +19,8 @@ pub fn xor_line<M: Ledger>(
     requires words { 64 * length line.now < columns + 64 }
     requires line { words_number line.now < 2 ^ columns }
     requires bytes { length bytes.now ≡ columns * length sum.old }
-    ensures sum { sum.new ≡ xor_bytes sum.old
-        (xor_all (length sum.old) (pieces_at (words_number line.now) (pieces_of columns (length sum.old) bytes.now))) }
+    ensures sum { sum.new ≡ xor_bytes sum.old (xor_all (length sum.old)
+        (pieces_at (words_number line.now) (pieces_of columns (length sum.old) bytes.now))) }
     ensures count { sums.new ≡ sums.old + columns_in (words_number line.now) }
 {
     let size = sum.len();

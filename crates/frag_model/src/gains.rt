@@ -107,7 +107,8 @@ pub fn plain_excess(alloc: Global, nb_frag: u16, numbers: &[u16]) -> Result<usiz
     requires some { 1 ≤ nb_frag }
     requires most { nb_frag ≤ WORD_COLUMNS }
     requires numbers { All (λ n. (1 ≤ n) × (n ≤ nb_frag + MAX_PARITY_INDEX)) numbers.now }
-    ensures { IfOk result (λ excess. excess ≡ gain_of nb_frag numbers.now - direct_of nb_frag numbers.now) }
+    ensures { IfOk result
+        (λ excess. excess ≡ gain_of nb_frag numbers.now - direct_of nb_frag numbers.now) }
 {
     let mut lines = Vec::new(alloc);
     for n in numbers {

@@ -47,7 +47,8 @@ impl<const W: usize, const B: usize> Complete<W, B> {
         requires counted { received ≤ max_received }
         requires stage { solver.stage ≡ Stage.Complete }
         requires sized { length solver.content ≡ setup.nb_frag * setup.frag_size }
-        ensures { result ≡ record { setup = setup; received = received; mark = mark; solver = solver.entry } }
+        ensures { result
+            ≡ record { setup = setup; received = received; mark = mark; solver = solver.entry } }
     {
         Complete {
             solver,

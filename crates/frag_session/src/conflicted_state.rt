@@ -44,7 +44,13 @@ impl<const W: usize, const B: usize> Conflicted<W, B> {
         mark: u64,
     ) -> Conflicted<W, B>
         requires { received ≤ max_received }
-        ensures { result ≡ record { setup = setup; received = received; missing = missing_of solver.entry; mark = mark; solver = solver.entry } }
+        ensures { result ≡ record {
+          setup = setup;
+          received = received;
+          missing = missing_of solver.entry;
+          mark = mark;
+          solver = solver.entry;
+        } }
     {
         let missing = solver.missing();
         Conflicted {

@@ -37,8 +37,10 @@ impl<const W: usize, const B: usize> Idle<W, B> {
     pub fn setup(self, req: SetupReq, limits: Limits) -> Result<Receiving<W, B>, (Idle<W, B>, u8)>
         ensures bits { MatchResult result
             (λ session. setup_bits limits (memory_room W B self.entry) req ≡ 0)
-            (λ refused. (refused.1 ≡ setup_bits limits (memory_room W B self.entry) req) × (0 < refused.1)) }
-        ensures extent { MatchResult result (λ session. session.solver.extent ≡ self.entry) (λ refused. refused.0 ≡ self.entry) }
+            (λ refused. (refused.1 ≡ setup_bits limits (memory_room W B self.entry) req)
+            × (0 < refused.1)) }
+        ensures extent { MatchResult result (λ session. session.solver.extent ≡ self.entry)
+            (λ refused. refused.0 ≡ self.entry) }
         ensures stands { IfOk result (λ session. Holds session (new_session limits req)) }
         ensures two { IfOk result (λ session. TwoFit session.solver) }
     {

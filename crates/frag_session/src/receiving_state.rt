@@ -72,7 +72,8 @@ impl<const W: usize, const B: usize> Receiving<W, B> {
         requires first { 1 ≤ n }
         requires last { n ≤ self.setup.nb_frag + max_parity_index }
         requires sized { length part.now ≡ self.setup.frag_size }
-        ensures stands { (s : Session) → Holds self.entry s → Stands (become result) (Some (followed s n part.now mark)) }
+        ensures stands { (s : Session) → Holds self.entry s
+            → Stands (become result) (Some (followed s n part.now mark)) }
         ensures two { IsOpen (become result) }
         ensures extent { extent_of (become result) ≡ self.entry.solver.extent }
     {

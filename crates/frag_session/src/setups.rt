@@ -50,7 +50,8 @@ pub fn refusal<const W: usize, const B: usize>(
     limits: Limits,
     span: Option<u32>,
 ) -> u8
-    ensures { result ≡ setup_bits limits (record { words = W; bytes = B; extent = solver.now.extent; span = span }) req }
+    ensures { result ≡ setup_bits limits
+        (record { words = W; bytes = B; extent = solver.now.extent; span = span }) req }
 {
     let coding = bit(has_wrong_coding(req), 1);
     let size = bit(is_too_large(solver, req, limits.rows, span), 2);
@@ -92,7 +93,8 @@ fn is_too_large<const W: usize, const B: usize>(
     rows: u16,
     span: Option<u32>,
 ) -> bool
-    ensures { result ≡ too_large (record { words = W; bytes = B; extent = solver.now.extent; span = span }) rows req }
+    ensures { result ≡ too_large
+        (record { words = W; bytes = B; extent = solver.now.extent; span = span }) rows req }
 {
     is_too_long(span, req)
         || req.nb_frag > MAX_PIECES

@@ -70,7 +70,8 @@ impl<const W: usize, const B: usize> Slot<W, B> {
     /// Where there is none, a session that was made of an equal request stays, and any other gives way to a new one.
     pub fn setup(&mut self, req: SetupReq, limits: Limits) -> u8
         ensures bits { result ≡ setup_bits limits (memory_room W B (extent_of self.old)) req }
-        ensures stands { (s : Option Session) → Stands self.old s → Stands self.new (after_setup limits (memory_room W B (extent_of self.old)) s req) }
+        ensures stands { (s : Option Session) → Stands self.old s
+            → Stands self.new (after_setup limits (memory_room W B (extent_of self.old)) s req) }
         ensures refused { result ≢ 0 → self.new ≡ self.old }
         ensures extent { extent_of self.new ≡ extent_of self.old }
     {
@@ -85,8 +86,10 @@ impl<const W: usize, const B: usize> Slot<W, B> {
     /// lives, it came by a group that the mask has not, `n` is 0 or more than 8,380 above NbFrag, or `part` has not FragSize
     /// bytes. A verdict is shown with the mark of the fragment that brought it, and stays.
     pub fn fragment(&mut self, via: Via, n: u16, part: &[u8], mark: u64) -> Heard
-        ensures answer { (s : Option Session) → Stands self.old s → result ≡ answer_of (drop_cause s via n part.now) (news_in s n part.now mark) }
-        ensures stands { (s : Option Session) → Stands self.old s → Stands self.new (after_fragment s via n part.now mark) }
+        ensures answer { (s : Option Session) → Stands self.old s
+            → result ≡ answer_of (drop_cause s via n part.now) (news_in s n part.now mark) }
+        ensures stands { (s : Option Session) → Stands self.old s
+            → Stands self.new (after_fragment s via n part.now mark) }
         ensures dropped { (c : _) → result ≡ Heard.Dropped c → self.new ≡ self.old }
         ensures extent { extent_of self.new ≡ extent_of self.old }
     {
@@ -103,7 +106,8 @@ impl<const W: usize, const B: usize> Slot<W, B> {
     /// All refusal bits of a setup, with so many bytes of flash where its session is kept there.
     #[tactic(auto, unfolding(crate::specs::HeldSteps::extent_of))]
     pub fn refusal(&self, req: SetupReq, limits: Limits, span: Option<u32>) -> u8
-        ensures { result ≡ setup_bits limits (record { words = W; bytes = B; extent = extent_of self.now; span = span }) req }
+        ensures { result ≡ setup_bits limits
+            (record { words = W; bytes = B; extent = extent_of self.now; span = span }) req }
     {
         match &self.state {
             Some(State::Idle(idle)) => refusal(idle.solver(), req, limits, span),
@@ -124,14 +128,16 @@ impl<const W: usize, const B: usize> Slot<W, B> {
 
     /// Whether the session that lives here stays at this request, since it was made of an equal one.
     pub fn keeps(&self, req: SetupReq) -> bool
-        ensures { (s : Option Session) → Stands self.now s → result ≡ lives (option_map (λ (x : Session). x.setup) s) req }
+        ensures { (s : Option Session) → Stands self.now s
+            → result ≡ lives (option_map (λ (x : Session). x.setup) s) req }
     {
         lives(self.session(), req)
     }
 
     /// What the session shows, if there is one.
     pub fn view(&self) -> Option<View<'_>>
-        ensures value { (s : Option Session) → Stands self.now s → option_map seen result ≡ view_of s }
+        ensures value { (s : Option Session) → Stands self.now s
+            → option_map seen result ≡ view_of s }
         ensures within { IfSome result (λ v. length v.file.now ≤ (extent_of self.now).area) }
         ensures few { IfSome result (λ v. v.received ≤ max_received) }
     {
@@ -195,7 +201,8 @@ impl<const W: usize, const B: usize> Slot<W, B> {
     /// Hears a fragment that is not dropped.
     fn hear(&mut self, n: u16, part: &[u8], mark: u64)
         requires { CanHear self.old n part.now }
-        ensures stands { (s : Session) → Stands self.old (Some s) → Stands self.new (Some (followed s n part.now mark)) }
+        ensures stands { (s : Session) → Stands self.old (Some s)
+            → Stands self.new (Some (followed s n part.now mark)) }
         ensures extent { extent_of self.new ≡ extent_of self.old }
     {
         if let Some(state) = self.state.take() {
@@ -347,7 +354,8 @@ fn fed<const W: usize, const B: usize>(
     mark: u64,
 ) -> State<W, B>
     requires { CanHear (kept state) n part.now }
-    ensures stands { (s : Session) → Stands (kept state.entry) (Some s) → Stands (kept result) (Some (followed s n part.now mark)) }
+    ensures stands { (s : Session) → Stands (kept state.entry) (Some s)
+        → Stands (kept result) (Some (followed s n part.now mark)) }
     ensures extent { extent_of (kept result) ≡ extent_of (kept state.entry) }
 {
     match state {

@@ -45,7 +45,8 @@ fn decode_into(
     text: &mut [u8],
     out: &mut DecodedFields,
 ) -> u8
-    ensures { IsDecoded (reading_of port direction payload.now) text.old text.new out.old out.new result }
+    ensures { IsDecoded (reading_of port direction payload.now)
+        text.old text.new out.old out.new result }
 {
     match decode(alloc, port, direction, payload) {
         Ok(lines) => {

@@ -203,7 +203,8 @@ fn delivered_number(delivered: Delivered) -> u8
 /// at a `t` of more than 4,294,967,295,999, where nothing changes.
 #[unsafe(no_mangle)]
 pub extern "C" fn fuota_device_wake(handle: &mut DeviceHandle, alloc: Global, t: u64) -> u8
-    ensures { Does handle.old.held handle.new.held (λ x y. WakesOrNot x y t result) (result ≡ no_object) }
+    ensures { Does handle.old.held handle.new.held (λ x y. WakesOrNot x y t result)
+        (result ≡ no_object) }
 {
     match handle.take(alloc) {
         None => NO_OBJECT,
@@ -234,8 +235,8 @@ pub extern "C" fn fuota_device_take_uplink(
     alloc: Global,
     out: &mut UplinkFields,
 ) -> u8
-    ensures { Does handle.old.held handle.new.held
-        (λ x y. TakesUplink x y out.old out.new result) ((result ≡ no_object) × (out.new ≡ out.old)) }
+    ensures { Does handle.old.held handle.new.held (λ x y. TakesUplink x y out.old out.new result)
+        ((result ≡ no_object) × (out.new ≡ out.old)) }
 {
     match handle.take(alloc) {
         None => NO_OBJECT,
@@ -310,7 +311,8 @@ pub extern "C" fn fuota_device_file(
     into: &mut [u8],
 ) -> usize
     ensures same { handle.new.held ≡ handle.old.held }
-    ensures file { Tells handle.old.held (λ x. IsSessionFile x index offset into.old into.new result)
+    ensures file { Tells handle.old.held
+        (λ x. IsSessionFile x index offset into.old into.new result)
         ((result ≡ 0) × (into.new ≡ into.old)) }
 {
     match handle.take(alloc) {

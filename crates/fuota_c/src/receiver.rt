@@ -147,7 +147,8 @@ pub extern "C" fn fuota_receiver_view(
 ) -> u8
     ensures same { handle.new.held ≡ handle.old.held }
     ensures view { Tells handle.old.held
-        (λ x. (s : Option Session) → ReceiverStands x s → IsShown (view_of s) out.old out.new result)
+        (λ x. (s : Option Session) → ReceiverStands x s
+        → IsShown (view_of s) out.old out.new result)
         ((result ≡ no_object) × (out.new ≡ out.old)) }
 {
     match handle.take(alloc) {
@@ -170,7 +171,8 @@ pub extern "C" fn fuota_receiver_file(
 ) -> usize
     ensures same { handle.new.held ≡ handle.old.held }
     ensures file { Tells handle.old.held
-        (λ x. (s : Option Session) → ReceiverStands x s → IsFileCopy (view_of s) offset into.old into.new result)
+        (λ x. (s : Option Session) → ReceiverStands x s
+        → IsFileCopy (view_of s) offset into.old into.new result)
         ((result ≡ 0) × (into.new ≡ into.old)) }
 {
     match handle.take(alloc) {
@@ -194,7 +196,8 @@ pub extern "C" fn fuota_receiver_status(
 ) -> usize
     ensures same { handle.new.held ≡ handle.old.held }
     ensures status { Tells handle.old.held
-        (λ x. (s : Option Session) → ReceiverStands x s → IsStatus s all answer.old answer.new result)
+        (λ x. (s : Option Session) → ReceiverStands x s
+        → IsStatus s all answer.old answer.new result)
         ((result ≡ 0) × (answer.new ≡ answer.old)) }
 {
     match handle.take(alloc) {
@@ -208,7 +211,8 @@ pub extern "C" fn fuota_receiver_status(
 }
 
 fn status_bytes(receiver: &Receiver, all: bool) -> Payload
-    ensures { (s : Option Session) → ReceiverStands receiver.now s → result ≡ answer_bytes (status_of s Unicast all) }
+    ensures { (s : Option Session) → ReceiverStands receiver.now s
+        → result ≡ answer_bytes (status_of s Unicast all) }
 {
     match receiver.status(Via::Unicast, all) {
         None => Payload::new(),

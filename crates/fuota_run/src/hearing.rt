@@ -21,13 +21,17 @@ pub fn hear_source<F: Files, W: HearsLine>(
     requires held { HoldsName (F.held files.old) name.now }
     requires limit { limit + 1 < 2 ^ 32 }
 
-    ensures heard { OnOk result ((bytes : List ℕ) × IsSource (F.held files.old) name.now limit bytes × (length bytes ≤ limit) × HearsLines W.hears hearer.old hearer.new bytes) }
+    ensures heard { OnOk result ((bytes : List ℕ) × IsSource (F.held files.old) name.now limit bytes
+        × (length bytes ≤ limit) × HearsLines W.hears hearer.old hearer.new bytes) }
     ensures end { OnOk result (IsAtEnd (F.left files.new)) }
 
-    ensures long { (taken : ℕ) → IsErrOf result (SourceError.TooLong taken) → IsTooLong (F.held files.old) name.now limit }
+    ensures long { (taken : ℕ) → IsErrOf result (SourceError.TooLong taken)
+        → IsTooLong (F.held files.old) name.now limit }
     ensures taken { (taken : ℕ) → IsErrOf result (SourceError.TooLong taken) → taken ≡ limit + 1 }
-    ensures consumed { (taken : ℕ) → IsErrOf result (SourceError.TooLong taken) → IsTaken (F.held files.old) name.now taken (F.left files.new) }
-    ensures failed { IsErrOf result SourceError.Failed → HasRisen (F.faults files.old) (F.faults files.new) }
+    ensures consumed { (taken : ℕ) → IsErrOf result (SourceError.TooLong taken)
+        → IsTaken (F.held files.old) name.now taken (F.left files.new) }
+    ensures failed { IsErrOf result SourceError.Failed
+        → HasRisen (F.faults files.old) (F.faults files.new) }
     ensures quiet { result ≢ Err SourceError.Failed → F.faults files.new ≡ F.faults files.old }
     ensures no_memory { result ≢ Err SourceError.Memory }
 
@@ -63,7 +67,8 @@ fn hear_some<F: Files, W: HearsLine>(
 ) -> Result<usize, Failed>
     requires room { 0 < length piece.old }
     requires chosen { F.chosen files.old ≡ true }
-    ensures heard { IfOk result (λ n. HearsOn W.hears (F.left files.old) (F.left files.new) lines.old lines.new hearer.old hearer.new n) }
+    ensures heard { IfOk result (λ n. HearsOn W.hears (F.left files.old) (F.left files.new)
+        lines.old lines.new hearer.old hearer.new n) }
     ensures within { IfOk result (λ n. n ≤ length piece.old) }
     ensures end { IfOk result (λ n. n ≡ 0 → IsAtEnd (F.left files.new)) }
     ensures failed { OnErr result (HasRisen (F.faults files.old) (F.faults files.new)) }

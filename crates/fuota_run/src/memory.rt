@@ -88,9 +88,11 @@ impl Model for MemFiles {
 
 /// The place of the first file of that name.
 pub(crate) fn place_of(files: &[(String, Vec<u8>)], name: &str) -> Option<usize>
-    ensures found { IfSome result (λ i. held_by (map (λ f. (string_bytes f.0, f.1.items)) files.now) name.now
+    ensures found { IfSome result
+        (λ i. held_by (map (λ f. (string_bytes f.0, f.1.items)) files.now) name.now
         ≡ Some (bytes_at (map (λ f. (string_bytes f.0, f.1.items)) files.now) (Some i))) }
-    ensures none { IfNone result (held_by (map (λ f. (string_bytes f.0, f.1.items)) files.now) name.now ≡ None) }
+    ensures none { IfNone result
+        (held_by (map (λ f. (string_bytes f.0, f.1.items)) files.now) name.now ≡ None) }
 {
     for (i, file) in files.iter().enumerate() {
         if file.0.as_str() == name {
@@ -161,7 +163,8 @@ impl Files for MemFiles {
 
     fn choose(&mut self, name: &str) -> Result<(), Failed>
         requires { HoldsName (Some (held_by self.old.files)) name.now }
-        ensures whole { OnOk result (IsWhole (Some (held_by self.old.files)) name.now (Some self.new.left)) }
+        ensures whole { OnOk result
+            (IsWhole (Some (held_by self.old.files)) name.now (Some self.new.left)) }
         ensures chosen { self.new.chosen ≡ is_ok result }
         ensures held { self.new.files ≡ self.old.files }
         ensures cause { HasCause self.old.faults self.new.faults result }
@@ -270,8 +273,10 @@ impl Sink for MemSink {
         ensures unfinished { self.new.finished ≡ false }
         ensures cause { HasCause self.old.faults self.new.faults result }
         ensures faults { self.new.faults ≡ faults_after result self.old.faults }
-        ensures listed { IsErr result ↔ Contains self.old.fails (next_call self.old.calls) ⊎ IsFull self.old.room (length self.old.bytes) (length piece.now) }
-        ensures taken { IfOk result (λ n. n ≡ min (self.old.room - length self.old.bytes) (length piece.now)) }
+        ensures listed { IsErr result ↔ Contains self.old.fails (next_call self.old.calls)
+            ⊎ IsFull self.old.room (length self.old.bytes) (length piece.now) }
+        ensures taken { IfOk result
+            (λ n. n ≡ min (self.old.room - length self.old.bytes) (length piece.now)) }
         ensures counted { self.new.calls ≡ next_call self.old.calls }
         ensures schedule { (self.new.fails ≡ self.old.fails) × (self.new.room ≡ self.old.room) }
     {

@@ -36,10 +36,13 @@ pub fn read_source<F: Files>(
     ensures within { IfOk result (λ bytes. length bytes.items ≤ limit) }
     ensures end { OnOk result (IsAtEnd (F.left files.new)) }
 
-    ensures long { (taken : ℕ) → IsErrOf result (SourceError.TooLong taken) → IsTooLong (F.held files.old) name.now limit }
+    ensures long { (taken : ℕ) → IsErrOf result (SourceError.TooLong taken)
+        → IsTooLong (F.held files.old) name.now limit }
     ensures taken { (taken : ℕ) → IsErrOf result (SourceError.TooLong taken) → taken ≡ limit + 1 }
-    ensures consumed { (taken : ℕ) → IsErrOf result (SourceError.TooLong taken) → IsTaken (F.held files.old) name.now taken (F.left files.new) }
-    ensures failed { IsErrOf result SourceError.Failed → HasRisen (F.faults files.old) (F.faults files.new) }
+    ensures consumed { (taken : ℕ) → IsErrOf result (SourceError.TooLong taken)
+        → IsTaken (F.held files.old) name.now taken (F.left files.new) }
+    ensures failed { IsErrOf result SourceError.Failed
+        → HasRisen (F.faults files.old) (F.faults files.new) }
 
     ensures quiet { result ≢ Err SourceError.Failed → F.faults files.new ≡ F.faults files.old }
 
@@ -69,13 +72,15 @@ fn read_piece<F: Files>(
     requires chosen { F.chosen files.old ≡ true }
     requires room { vec_len bytes.old < most }
 
-    ensures so_far { OnOk result ((name : List ℕ) → IsReadSoFar (F.held files.old) name bytes.old.items (F.left files.old)
+    ensures so_far { OnOk result
+        ((name : List ℕ) → IsReadSoFar (F.held files.old) name bytes.old.items (F.left files.old)
         → IsReadSoFar (F.held files.old) name bytes.new.items (F.left files.new)) }
     ensures taken { IfOk result (λ n. vec_len bytes.new ≡ vec_len bytes.old + n) }
     ensures within { OnOk result (vec_len bytes.new ≤ most) }
     ensures end { IfOk result (λ n. n ≡ 0 → IsAtEnd (F.left files.new)) }
 
-    ensures failed { IsErrOf result SourceError.Failed → HasRisen (F.faults files.old) (F.faults files.new) }
+    ensures failed { IsErrOf result SourceError.Failed
+        → HasRisen (F.faults files.old) (F.faults files.new) }
     ensures quiet { result ≢ Err SourceError.Failed → F.faults files.new ≡ F.faults files.old }
     ensures not_long { (taken : ℕ) → result ≢ Err (SourceError.TooLong taken) }
 

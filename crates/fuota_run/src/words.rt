@@ -86,7 +86,8 @@ fn fuota<'a>(alloc: Global) -> Result<Command<'a>, AllocError>
 
 /// A form of one word.
 fn of_one<'a>(alloc: Global, keyword: &'a str, first: &'a str) -> Result<Command<'a>, AllocError>
-    ensures { IfOk result (λ c. IsCommand c (with_words (new_app keyword.entry.now) (first.entry.now ∷ []))) }
+    ensures { IfOk result
+        (λ c. IsCommand c (with_words (new_app keyword.entry.now) (first.entry.now ∷ []))) }
 {
     taking(alloc, Command::new(alloc, keyword), first)
 }
@@ -98,7 +99,8 @@ fn of_two<'a>(
     first: &'a str,
     second: &'a str,
 ) -> Result<Command<'a>, AllocError>
-    ensures { IfOk result (λ c. IsCommand c (with_words (new_app keyword.entry.now) (first.entry.now ∷ second.entry.now ∷ []))) }
+    ensures { IfOk result (λ c. IsCommand c
+        (with_words (new_app keyword.entry.now) (first.entry.now ∷ second.entry.now ∷ []))) }
 {
     taking(alloc, of_one(alloc, keyword, first)?, second)
 }
@@ -111,28 +113,32 @@ fn of_three<'a>(
     second: &'a str,
     third: &'a str,
 ) -> Result<Command<'a>, AllocError>
-    ensures { IfOk result (λ c. IsCommand c (with_words (new_app keyword.entry.now) (first.entry.now ∷ second.entry.now ∷ third.entry.now ∷ []))) }
+    ensures { IfOk result (λ c. IsCommand c (with_words (new_app keyword.entry.now)
+        (first.entry.now ∷ second.entry.now ∷ third.entry.now ∷ []))) }
 {
     taking(alloc, of_two(alloc, keyword, first, second)?, third)
 }
 
 /// The command, with one word more that must be there.
 fn taking<'a>(alloc: Global, command: Command<'a>, name: &'a str) -> Result<Command<'a>, AllocError>
-    ensures { (app : App) → IsCommand command.entry app → IfOk result (λ c. IsCommand c (with_rule app (positional name.entry.now))) }
+    ensures { (app : App) → IsCommand command.entry app
+        → IfOk result (λ c. IsCommand c (with_rule app (positional name.entry.now))) }
 {
     command.arg(Arg::new(alloc, name).required(true))
 }
 
 /// The command, with one form more.
 fn offering<'a>(command: Command<'a>, form: Command<'a>) -> Result<Command<'a>, AllocError>
-    ensures { (app sub : App) → IsCommand command.entry app → IsCommand form.entry sub → IfOk result (λ c. IsCommand c (with_subcommand app sub.top)) }
+    ensures { (app sub : App) → IsCommand command.entry app → IsCommand form.entry sub
+        → IfOk result (λ c. IsCommand c (with_subcommand app sub.top)) }
 {
     command.subcommand(form)
 }
 
 /// What was found: the form that was named, and the words behind it.
 fn found_in<'a>(matches: &ArgMatches<'a>) -> Option<Invocation<'a>>
-    ensures { seen_asked result ≡ option_and_then (λ found. asked_by found.0 found.1) (subcommand_rows_of matches.now) }
+    ensures { seen_asked result
+        ≡ option_and_then (λ found. asked_by found.0 found.1) (subcommand_rows_of matches.now) }
 {
     match matches.subcommand() {
         Some((keyword, found)) => asked_by(keyword, found),

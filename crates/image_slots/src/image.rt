@@ -41,7 +41,8 @@ fn digest_of(body: &[u8]) -> [u8; 32]
 #[tactic(auto, unfolding(crate::specs::Image::image_start))]
 fn has_start(file: &[u8]) -> bool
     requires { 49 ≤ length file.now }
-    ensures { result ≡ (bytes_eq (take 5 file.now) (image_start 1) || bytes_eq (take 5 file.now) (image_start 2)) }
+    ensures { result ≡ (bytes_eq (take 5 file.now) (image_start 1)
+        || bytes_eq (take 5 file.now) (image_start 2)) }
 {
     file[..5] == b"FUIM\x01"[..] || file[..5] == b"FUIM\x02"[..]
 }

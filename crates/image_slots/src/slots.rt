@@ -48,7 +48,8 @@ impl Slots {
     /// Slots for files of at most `area` bytes on this hardware version, of format 1 alone (`formats` 1) or of both (2).
     /// Version 0 runs, without a file, and next is none.
     pub fn reserve(alloc: Global, area: u32, hw: u32, formats: u8) -> Result<Self, Memory>
-        ensures { IfOk result (λ s. s ≡ record { hw = hw; area = area; slots = first_slots formats }) }
+        ensures { IfOk result
+            (λ s. s ≡ record { hw = hw; area = area; slots = first_slots formats }) }
     {
         let Ok(running) = Vec::with_capacity(alloc, area as usize) else {
             return Err(Memory);
@@ -71,7 +72,8 @@ impl Slots {
     #[tactic(auto, unfolding(crate::specs::Slots::after_offer))]
     pub fn offer(&mut self, file: &[u8])
         requires { length file.now ≤ self.old.area }
-        ensures { self.new ≡ record self.old { slots = after_offer self.old.hw file.now self.old.slots } }
+        ensures { self.new
+            ≡ record self.old { slots = after_offer self.old.hw file.now self.old.slots } }
     {
         self.next = ImageView::read(file, self.hw, self.formats);
         self.next_file.clear();
@@ -111,8 +113,10 @@ impl Slots {
     /// version, and what runs stays.
     #[tactic(auto, unfolding(crate::specs::Slots::after_raise))]
     pub fn raise(&mut self)
-        ensures slots { self.new ≡ record self.old { slots = after_raise self.old.hw self.old.slots } }
-        ensures valid { (version : ℕ) → self.old.slots.next ≡ ImageState.Valid version → self.new.slots.next ≡ ImageState.Valid version }
+        ensures slots { self.new
+            ≡ record self.old { slots = after_raise self.old.hw self.old.slots } }
+        ensures valid { (version : ℕ) → self.old.slots.next ≡ ImageState.Valid version
+            → self.new.slots.next ≡ ImageState.Valid version }
     {
         if self.next != ImageState::None {
             self.next = ImageView::read(&self.next_file, self.hw, 2);

@@ -71,8 +71,8 @@ impl GroupTable {
         max: u32,
     ) -> GroupAnswer
         ensures id_error { (result ≡ GroupAnswer.IdError) ↔ (length self.old ≤ id) }
-        ensures ok { result ≡ GroupAnswer.Ok
-            → self.new ≡ slice_set self.old id (Some (group_of gen_app_key.now root addr wrapped.now min max)) }
+        ensures ok { result ≡ GroupAnswer.Ok → self.new ≡ slice_set self.old id
+            (Some (group_of gen_app_key.now root addr wrapped.now min max)) }
         ensures refused { result ≡ GroupAnswer.IdError → self.new ≡ self.old }
     {
         let id = id as usize;

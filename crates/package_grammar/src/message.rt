@@ -95,7 +95,8 @@ impl<'a> Message<'a> {
     /// The text of the next command, which is then taken, where it is one without fields.
     #[inline(always)]
     pub(crate) fn next_name(&mut self) -> Option<&'static str>
-        ensures named { IfSome result (λ name. (c : Command) × TakesCommand self.old self.new (Some c) × (text_of c ≡ name.now)) }
+        ensures named { IfSome result (λ name. (c : Command)
+            × TakesCommand self.old self.new (Some c) × (text_of c ≡ name.now)) }
         ensures same { IfNone result (self.new ≡ self.old) }
     {
         if self.at as usize >= self.bytes.len() {
@@ -125,7 +126,8 @@ impl<'a> Message<'a> {
     /// The DataFragment that comes next, which is then taken. None exactly where none comes next.
     #[inline(always)]
     pub(crate) fn next_fragment(&mut self) -> Option<Fragment<'a>>
-        ensures taken { IfSome result (λ f. TakesCommand self.old self.new (Some (Cast (DataFragment f.index f.n f.bytes.now)))) }
+        ensures taken { IfSome result (λ f. TakesCommand self.old self.new
+            (Some (Cast (DataFragment f.index f.n f.bytes.now)))) }
         ensures same { IfNone result (self.new ≡ self.old) }
     {
         match self.fragment() {

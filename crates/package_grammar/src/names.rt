@@ -11,7 +11,8 @@ use wire_base::{Direction, u8_at};
 /// The text of the command at a place of a payload, where it is one of those without fields.
 pub fn name_at(port: u8, dir: Direction, bytes: &[u8], at: u16) -> Option<&'static str>
     requires { at < length bytes.now }
-    ensures { IfSome result (λ name. (c : Command) × Spells c port dir bytes.now at (at + 1) × (text_of c ≡ name.now)) }
+    ensures { IfSome result
+        (λ name. (c : Command) × Spells c port dir bytes.now at (at + 1) × (text_of c ≡ name.now)) }
 {
     match dir {
         Direction::Up => None,

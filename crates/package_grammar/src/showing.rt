@@ -30,7 +30,8 @@ impl<'a> Message<'a> {
     /// Takes the next command and puts its text at the end, as `show` does; false exactly where none is left. Where memory
     /// is wanting nothing is put, and the command may be taken.
     pub fn show_next(&mut self, out: &mut Vec<u8>) -> Result<bool, AllocError>
-        ensures shown { IfOk result (λ more. ShowsCommand self.old self.new out.old.items out.new.items more) }
+        ensures shown { IfOk result
+            (λ more. ShowsCommand self.old self.new out.old.items out.new.items more) }
         ensures same { OnErr result (out.new.items ≡ out.old.items) }
     {
         match self.next_name() {
@@ -44,7 +45,8 @@ impl<'a> Message<'a> {
 
     /// The same, a DataFragment from where it lies.
     fn show_fields(&mut self, out: &mut Vec<u8>) -> Result<bool, AllocError>
-        ensures shown { IfOk result (λ more. ShowsCommand self.old self.new out.old.items out.new.items more) }
+        ensures shown { IfOk result
+            (λ more. ShowsCommand self.old self.new out.old.items out.new.items more) }
         ensures same { OnErr result (out.new.items ≡ out.old.items) }
     {
         match self.next_fragment() {
@@ -59,7 +61,8 @@ impl<'a> Message<'a> {
     /// The same. It stands alone, so that none of the others sees to the room for a whole command.
     #[inline(never)]
     fn show_whole(&mut self, out: &mut Vec<u8>) -> Result<bool, AllocError>
-        ensures shown { IfOk result (λ more. ShowsCommand self.old self.new out.old.items out.new.items more) }
+        ensures shown { IfOk result
+            (λ more. ShowsCommand self.old self.new out.old.items out.new.items more) }
         ensures same { OnErr result (out.new.items ≡ out.old.items) }
     {
         match self.next() {
@@ -74,7 +77,8 @@ impl<'a> Message<'a> {
 
 /// Puts the text of a DataFragment at the end, or nothing where memory is wanting.
 fn show_fragment(fragment: &Fragment<'_>, out: &mut Vec<u8>) -> Result<(), AllocError>
-    ensures shown { OnOk result (out.new.items ≡ out.old.items ++ fragment_text fragment.now.index fragment.now.n fragment.now.bytes.now) }
+    ensures shown { OnOk result (out.new.items
+        ≡ out.old.items ++ fragment_text fragment.now.index fragment.now.n fragment.now.bytes.now) }
     ensures same { OnErr result (out.new.items ≡ out.old.items) }
 {
     let room = (2 * fragment.bytes.len()).saturating_add(TEXT_ROOM);

@@ -74,7 +74,8 @@ pub fn put_pieces(
     frag_size: u8,
     text: &mut String,
 ) -> Result<(), AllocError>
-    ensures { OnOk result (string_bytes text.new ≡ string_bytes text.old ++ pieces_text index mask nb_frag frag_size) }
+    ensures { OnOk result (string_bytes text.new
+        ≡ string_bytes text.old ++ pieces_text index mask nb_frag frag_size) }
 {
     write!(
         text,
@@ -90,7 +91,8 @@ pub fn put_coding(
     descriptor: u32,
     text: &mut String,
 ) -> Result<(), AllocError>
-    ensures { OnOk result (string_bytes text.new ≡ string_bytes text.old ++ coding_text algo delay padding descriptor) }
+    ensures { OnOk result (string_bytes text.new
+        ≡ string_bytes text.old ++ coding_text algo delay padding descriptor) }
 {
     let descriptor = number_hex(*text.allocator(), descriptor)?;
     write!(
@@ -101,7 +103,8 @@ pub fn put_coding(
 
 /// A McGroupSetupReq's group, with its wrapped key.
 pub fn put_group_key(id: u8, addr: u32, key: &[u8], text: &mut String) -> Result<(), AllocError>
-    ensures { OnOk result (string_bytes text.new ≡ string_bytes text.old ++ group_key_text id addr key.now) }
+    ensures { OnOk result
+        (string_bytes text.new ≡ string_bytes text.old ++ group_key_text id addr key.now) }
 {
     let addr = number_hex(*text.allocator(), addr)?;
     let key = bytes_hex(*text.allocator(), key)?;
@@ -109,7 +112,8 @@ pub fn put_group_key(id: u8, addr: u32, key: &[u8], text: &mut String) -> Result
 }
 
 fn put_group_words(id: u8, addr: &str, key: &str, text: &mut String) -> Result<(), AllocError>
-    ensures { OnOk result (string_bytes text.new ≡ string_bytes text.old ++ group_words id addr.now key.now) }
+    ensures { OnOk result
+        (string_bytes text.new ≡ string_bytes text.old ++ group_words id addr.now key.now) }
 {
     write!(text, "McGroupSetupReq id={id} addr={addr} key={key}")
 }
@@ -123,7 +127,8 @@ pub fn put_frames(min: u32, max: u32, text: &mut String) -> Result<(), AllocErro
 
 /// A DataFragment.
 pub fn put_fragment(index: u8, n: u16, bytes: &[u8], text: &mut String) -> Result<(), AllocError>
-    ensures { OnOk result (string_bytes text.new ≡ string_bytes text.old ++ fragment_text index n bytes.now) }
+    ensures { OnOk result
+        (string_bytes text.new ≡ string_bytes text.old ++ fragment_text index n bytes.now) }
 {
     let bytes = bytes_hex(*text.allocator(), bytes)?;
     write!(text, "DataFragment index={index} n={n} bytes={bytes}")
@@ -136,7 +141,8 @@ pub fn put_status(
     groups: &[GroupAddress],
     text: &mut String,
 ) -> Result<(), AllocError>
-    ensures { OnOk result (string_bytes text.new ≡ string_bytes text.old ++ status_text total mask groups.now) }
+    ensures { OnOk result
+        (string_bytes text.new ≡ string_bytes text.old ++ status_text total mask groups.now) }
 {
     let groups = groups_text(*text.allocator(), groups)?;
     write!(

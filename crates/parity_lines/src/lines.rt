@@ -27,7 +27,8 @@ pub fn line<L: Ledger>(n: u16, cols: u16, out: &mut [u64], steps: &mut Steps<L>)
     requires most { cols ≤ MAX_PIECES }
     requires room { cols ≤ 64 * length out.old }
     ensures line { words_number out.new ≡ line n cols }
-    ensures columns { (c : ℕ) → IsBitSet (slice_index out.new (c / 64)) (c % 64) ↔ In c (columns_drawn n cols) }
+    ensures columns { (c : ℕ) → IsBitSet (slice_index out.new (c / 64)) (c % 64)
+        ↔ In c (columns_drawn n cols) }
     ensures words { All (λ w. w < 2 ^ 64) out.new }
     ensures draws { steps.new ≡ steps.old + draws n cols }
     ensures few { steps.new ≤ steps.old + 25 * (cols / 2) }

@@ -19,7 +19,8 @@ pub fn line_uncounted(n: u16, cols: u16, out: &mut [u64])
     requires most { cols ≤ MAX_PIECES }
     requires room { cols ≤ 64 * length out.old }
     ensures line { words_number out.new ≡ line n cols }
-    ensures columns { (c : ℕ) → IsBitSet (slice_index out.new (c / 64)) (c % 64) ↔ In c (columns_drawn n cols) }
+    ensures columns { (c : ℕ) → IsBitSet (slice_index out.new (c / 64)) (c % 64)
+        ↔ In c (columns_drawn n cols) }
     ensures words { All (λ w. w < 2 ^ 64) out.new }
 {
     line_over::<Brand>(n, cols, out, Blank::new(1))
@@ -35,7 +36,8 @@ fn line_over<L: Ledger>(n: u16, cols: u16, out: &mut [u64], blank: Blank)
     requires parts { blank.parts ≡ L.parts }
     requires counted { 0 < blank.parts }
     ensures line { words_number out.new ≡ line n cols }
-    ensures columns { (c : ℕ) → IsBitSet (slice_index out.new (c / 64)) (c % 64) ↔ In c (columns_drawn n cols) }
+    ensures columns { (c : ℕ) → IsBitSet (slice_index out.new (c / 64)) (c % 64)
+        ↔ In c (columns_drawn n cols) }
     ensures words { All (λ w. w < 2 ^ 64) out.new }
 {
     let mut steps = Steps::<L>::new(blank);

@@ -60,7 +60,8 @@ impl<const WORDS: usize, const BYTES: usize> RowArena<WORDS, BYTES> {
     /// zero. Where their words, (`cols` + 63) / 64 a row, or their bytes do not fit, the arena stays as it was.
     pub fn shape(&mut self, rows: u16, cols: u16, cell: u8) -> Result<(), NoRoom>
         ensures room { is_ok result ≡ has_room WORDS BYTES rows cols cell }
-        ensures shaped { OnOk result (self.new ≡ record { cols = cols; cell = cell; rows = replicate rows (zero_row cell) }) }
+        ensures shaped { OnOk result (self.new
+            ≡ record { cols = cols; cell = cell; rows = replicate rows (zero_row cell) }) }
         ensures refused { OnErr result (self.new ≡ self.old) }
     {
         let words = rows as usize * words_for(cols);
@@ -95,7 +96,8 @@ impl<const WORDS: usize, const BYTES: usize> RowArena<WORDS, BYTES> {
         requires into { into < length self.old.rows }
         requires from { from < length self.old.rows }
         requires apart { into ≢ from }
-        ensures { self.new ≡ with_row self.old into (row_sum (row_at self.old into) (row_at self.old from)) }
+        ensures { self.new
+            ≡ with_row self.old into (row_sum (row_at self.old into) (row_at self.old from)) }
     {
         let width = words_for(self.cols);
         let cell = self.cell as usize;
@@ -110,7 +112,8 @@ impl<const WORDS: usize, const BYTES: usize> RowArena<WORDS, BYTES> {
         requires line { length line.now ≡ words_for self.old.cols }
         requires within { line_in line.now < 2 ^ self.old.cols }
         requires part { length part.now ≡ self.old.cell }
-        ensures { self.new ≡ with_row self.old r (record { line = line_in line.now; part = part.now }) }
+        ensures { self.new
+            ≡ with_row self.old r (record { line = line_in line.now; part = part.now }) }
     {
         put_words(&mut self.words, r as usize, line);
         put_bytes(&mut self.bytes, r as usize, part);
@@ -122,7 +125,8 @@ impl<const WORDS: usize, const BYTES: usize> RowArena<WORDS, BYTES> {
         requires line { length line.now ≡ words_for self.old.cols }
         requires within { line_in line.now < 2 ^ self.old.cols }
         requires part { length part.now ≡ self.old.cell }
-        ensures { self.new ≡ with_row self.old r (row_sum (row_at self.old r) (record { line = line_in line.now; part = part.now })) }
+        ensures { self.new ≡ with_row self.old r
+            (row_sum (row_at self.old r) (record { line = line_in line.now; part = part.now })) }
     {
         add_words(&mut self.words, r as usize, line);
         add_bytes(&mut self.bytes, r as usize, part);
@@ -165,7 +169,8 @@ impl<const WORDS: usize, const BYTES: usize> RowArena<WORDS, BYTES> {
     pub fn first_set(&self, r: u16) -> Option<u16>
         requires { r < length self.now.rows }
         ensures { MatchOption result ((row_at self.now r).line ≡ 0)
-            (λ p. (p < self.now.cols) × (bit_at (row_at self.now r).line p ≡ 1) × ((c : ℕ) → c < p → bit_at (row_at self.now r).line c ≡ 0)) }
+            (λ p. (p < self.now.cols) × (bit_at (row_at self.now r).line p ≡ 1)
+            × ((c : ℕ) → c < p → bit_at (row_at self.now r).line c ≡ 0)) }
     {
         match first_bit(self.words(r)) {
             Some(p) => Some(p as u16),

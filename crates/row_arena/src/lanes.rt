@@ -22,7 +22,8 @@ pub fn xor_bytes(into: &mut [u8], from: &[u8])
 fn rest_16(into: &mut [u8], from: &[u8], at: usize)
     requires same { length into.old ≡ length from.now }
     requires inside { at ≤ length from.now }
-    ensures { (old : List ℕ) → AddedTo at old from.now into.old → AddedTo (length from.now) old from.now into.new }
+    ensures { (old : List ℕ) → AddedTo at old from.now into.old
+        → AddedTo (length from.now) old from.now into.new }
 {
     if from.len() - at >= 16 {
         let sum = u8x16::from_slice(&into[at..]) ^ u8x16::from_slice(&from[at..]);
@@ -37,7 +38,8 @@ fn rest_16(into: &mut [u8], from: &[u8], at: usize)
 fn rest_8(into: &mut [u8], from: &[u8], at: usize)
     requires same { length into.old ≡ length from.now }
     requires inside { at ≤ length from.now }
-    ensures { (old : List ℕ) → AddedTo at old from.now into.old → AddedTo (length from.now) old from.now into.new }
+    ensures { (old : List ℕ) → AddedTo at old from.now into.old
+        → AddedTo (length from.now) old from.now into.new }
 {
     if from.len() - at >= 8 {
         let sum = u8x8::from_slice(&into[at..]) ^ u8x8::from_slice(&from[at..]);
@@ -52,7 +54,8 @@ fn rest_8(into: &mut [u8], from: &[u8], at: usize)
 fn rest_4(into: &mut [u8], from: &[u8], at: usize)
     requires same { length into.old ≡ length from.now }
     requires inside { at ≤ length from.now }
-    ensures { (old : List ℕ) → AddedTo at old from.now into.old → AddedTo (length from.now) old from.now into.new }
+    ensures { (old : List ℕ) → AddedTo at old from.now into.old
+        → AddedTo (length from.now) old from.now into.new }
 {
     if from.len() - at >= 4 {
         let sum = u8x4::from_slice(&into[at..]) ^ u8x4::from_slice(&from[at..]);
@@ -67,7 +70,8 @@ fn rest_4(into: &mut [u8], from: &[u8], at: usize)
 fn rest_plain(into: &mut [u8], from: &[u8], at: usize)
     requires same { length into.old ≡ length from.now }
     requires inside { at ≤ length from.now }
-    ensures { (old : List ℕ) → AddedTo at old from.now into.old → AddedTo (length from.now) old from.now into.new }
+    ensures { (old : List ℕ) → AddedTo at old from.now into.old
+        → AddedTo (length from.now) old from.now into.new }
 {
     for i in at..from.len() {
         into[i] ^= from[i];
@@ -78,7 +82,8 @@ fn rest_plain(into: &mut [u8], from: &[u8], at: usize)
 fn xor_32(into: &mut [u8], from: &[u8], at: usize)
     requires same { length into.old ≡ length from.now }
     requires inside { at + 32 ≤ length from.now }
-    ensures { (old : List ℕ) → AddedTo at old from.now into.old → AddedTo (at + 32) old from.now into.new }
+    ensures { (old : List ℕ) → AddedTo at old from.now into.old
+        → AddedTo (at + 32) old from.now into.new }
 {
     let sum = u8x32::from_slice(&into[at..]) ^ u8x32::from_slice(&from[at..]);
     sum.copy_to_slice(&mut into[at..]);
@@ -102,7 +107,8 @@ pub fn xor_words(into: &mut [u64], from: &[u64])
 fn xor_4(into: &mut [u64], from: &[u64], at: usize)
     requires same { length into.old ≡ length from.now }
     requires inside { at + 4 ≤ length from.now }
-    ensures { (old : List ℕ) → AddedTo at old from.now into.old → AddedTo (at + 4) old from.now into.new }
+    ensures { (old : List ℕ) → AddedTo at old from.now into.old
+        → AddedTo (at + 4) old from.now into.new }
 {
     let sum = u64x4::from_slice(&into[at..]) ^ u64x4::from_slice(&from[at..]);
     sum.copy_to_slice(&mut into[at..]);

@@ -14,7 +14,8 @@ pub fn pick(line: &mut [u64], known: &[u64], picks: &mut [u16]) -> usize
     requires room { 64 * length line.old ≤ length picks.old }
     requires most { length line.old ≤ max_width }
     ensures line { line_in line.new ≡ after_flips (line_in line.old) (take result picks.new) }
-    ensures known { (n : ℕ) → n < result → bit_at (line_in known.now) (slice_index picks.new n) ≡ 1 }
+    ensures known { (n : ℕ) → n < result
+        → bit_at (line_in known.now) (slice_index picks.new n) ≡ 1 }
     ensures inside { (n : ℕ) → n < result → slice_index picks.new n < 64 * length known.now }
     ensures none { (c : ℕ) → bit_at (line_in known.now) c ≡ 1 → bit_at (line_in line.new) c ≡ 0 }
     ensures few { result ≤ length picks.new }

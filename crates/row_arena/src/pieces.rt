@@ -97,7 +97,8 @@ fn stripe(area: &[u8], picks: &[u16], part: &[u8], rest: &mut [u8], at: usize)
     requires inside { at + 64 ≤ length part.now }
     requires picks { AreInside picks.now (length part.now) area.now }
     ensures here { SumsFrom at 64 area.now picks.now part.now rest.new }
-    ensures others { (i : ℕ) → (i < at) ⊎ (at + 64 ≤ i) → slice_index rest.new i ≡ slice_index rest.old i }
+    ensures others { (i : ℕ) → (i < at) ⊎ (at + 64 ≤ i)
+        → slice_index rest.new i ≡ slice_index rest.old i }
 {
     let size = part.len();
     let mut sum = u8x64::from_slice(&part[at..]);

@@ -12,8 +12,10 @@ pub fn xor_words_at(words: &mut [u64], into: usize, from: usize, size: usize)
     requires into { into * size + size ≤ length words.old }
     requires from { from * size + size ≤ length words.old }
     requires apart { into ≢ from }
-    ensures there { stretch into size words.new ≡ zip2 bit_xor (stretch into size words.old) (stretch from size words.old) }
-    ensures line { line_in (stretch into size words.new) ≡ bit_xor (line_in (stretch into size words.old)) (line_in (stretch from size words.old)) }
+    ensures there { stretch into size words.new
+        ≡ zip2 bit_xor (stretch into size words.old) (stretch from size words.old) }
+    ensures line { line_in (stretch into size words.new)
+        ≡ bit_xor (line_in (stretch into size words.old)) (line_in (stretch from size words.old)) }
     ensures others { (j : ℕ) → j ≢ into → stretch j size words.new ≡ stretch j size words.old }
 {
     if into < from {
@@ -30,7 +32,8 @@ pub fn xor_bytes_at(bytes: &mut [u8], into: usize, from: usize, size: usize)
     requires into { into * size + size ≤ length bytes.old }
     requires from { from * size + size ≤ length bytes.old }
     requires apart { into ≢ from }
-    ensures there { stretch into size bytes.new ≡ zip2 bit_xor (stretch into size bytes.old) (stretch from size bytes.old) }
+    ensures there { stretch into size bytes.new
+        ≡ zip2 bit_xor (stretch into size bytes.old) (stretch from size bytes.old) }
     ensures others { (j : ℕ) → j ≢ into → stretch j size bytes.new ≡ stretch j size bytes.old }
 {
     if into < from {
@@ -46,7 +49,8 @@ pub fn xor_bytes_at(bytes: &mut [u8], into: usize, from: usize, size: usize)
 pub fn put_words(words: &mut [u64], k: usize, from: &[u64])
     requires { k * length from.now + length from.now ≤ length words.old }
     ensures there { stretch k (length from.now) words.new ≡ from.now }
-    ensures others { (j : ℕ) → j ≢ k → stretch j (length from.now) words.new ≡ stretch j (length from.now) words.old }
+    ensures others { (j : ℕ) → j ≢ k
+        → stretch j (length from.now) words.new ≡ stretch j (length from.now) words.old }
 {
     let at = k * from.len();
     words[at..at + from.len()].copy_from_slice(from);
@@ -56,7 +60,8 @@ pub fn put_words(words: &mut [u64], k: usize, from: &[u64])
 pub fn put_bytes(bytes: &mut [u8], k: usize, from: &[u8])
     requires { k * length from.now + length from.now ≤ length bytes.old }
     ensures there { stretch k (length from.now) bytes.new ≡ from.now }
-    ensures others { (j : ℕ) → j ≢ k → stretch j (length from.now) bytes.new ≡ stretch j (length from.now) bytes.old }
+    ensures others { (j : ℕ) → j ≢ k
+        → stretch j (length from.now) bytes.new ≡ stretch j (length from.now) bytes.old }
 {
     let at = k * from.len();
     bytes[at..at + from.len()].copy_from_slice(from);
@@ -103,8 +108,10 @@ pub fn clear_bytes(bytes: &mut [u8], k: usize, size: usize)
 /// Adds `from` to the `k`-th stretch of its length.
 pub fn add_words(words: &mut [u64], k: usize, from: &[u64])
     requires { k * length from.now + length from.now ≤ length words.old }
-    ensures line { line_in (stretch k (length from.now) words.new) ≡ bit_xor (line_in (stretch k (length from.now) words.old)) (line_in from.now) }
-    ensures others { (j : ℕ) → j ≢ k → stretch j (length from.now) words.new ≡ stretch j (length from.now) words.old }
+    ensures line { line_in (stretch k (length from.now) words.new)
+        ≡ bit_xor (line_in (stretch k (length from.now) words.old)) (line_in from.now) }
+    ensures others { (j : ℕ) → j ≢ k
+        → stretch j (length from.now) words.new ≡ stretch j (length from.now) words.old }
 {
     let at = k * from.len();
     xor_words(&mut words[at..at + from.len()], from);
@@ -113,8 +120,10 @@ pub fn add_words(words: &mut [u64], k: usize, from: &[u64])
 /// Adds `from` to the `k`-th stretch of its length.
 pub fn add_bytes(bytes: &mut [u8], k: usize, from: &[u8])
     requires { k * length from.now + length from.now ≤ length bytes.old }
-    ensures there { stretch k (length from.now) bytes.new ≡ zip2 bit_xor (stretch k (length from.now) bytes.old) from.now }
-    ensures others { (j : ℕ) → j ≢ k → stretch j (length from.now) bytes.new ≡ stretch j (length from.now) bytes.old }
+    ensures there { stretch k (length from.now) bytes.new
+        ≡ zip2 bit_xor (stretch k (length from.now) bytes.old) from.now }
+    ensures others { (j : ℕ) → j ≢ k
+        → stretch j (length from.now) bytes.new ≡ stretch j (length from.now) bytes.old }
 {
     let at = k * from.len();
     xor_bytes(&mut bytes[at..at + from.len()], from);

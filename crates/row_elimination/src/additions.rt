@@ -29,10 +29,14 @@ pub fn add_row<const W: usize, const B: usize, M: Ledger>(
     requires new { IsRowOf arena.old line.now part.now }
     requires slot { slot < length arena.old.rows }
     requires fits { slot ≤ last_slot }
-    requires alone { (c : ℕ) → get_or (take arena.old.cols columns.old) c Column.Free ≢ Column.Row slot }
-    ensures columns { take arena.old.cols columns.new ≡ set (take arena.old.cols columns.old) p (Column.Row slot) }
-    ensures places { (area : List ℕ) → places_in (length part.now) area arena.new (take arena.old.cols columns.new) ≡
-        grown p (line_in line.now) part.now (places_in (length part.now) area arena.old (take arena.old.cols columns.old)) }
+    requires alone { (c : ℕ)
+        → get_or (take arena.old.cols columns.old) c Column.Free ≢ Column.Row slot }
+    ensures columns { take arena.old.cols columns.new
+        ≡ set (take arena.old.cols columns.old) p (Column.Row slot) }
+    ensures places { (area : List ℕ)
+        → places_in (length part.now) area arena.new (take arena.old.cols columns.new)
+        ≡ grown p (line_in line.now) part.now
+        (places_in (length part.now) area arena.old (take arena.old.cols columns.old)) }
     ensures shape { SameShape arena.old arena.new }
     ensures few { sums.new ≤ sums.old + length arena.old.rows }
 {
@@ -47,8 +51,10 @@ pub fn add_piece(columns: &mut [PackedColumn], cols: usize, area: &mut [u8], k: 
     requires inside { k < cols }
     requires room { k * length part.now + length part.now ≤ length area.old }
     ensures columns { take cols columns.new ≡ set (take cols columns.old) k Column.Piece }
-    ensures places { (arena : Arena) → places_in (length part.now) area.new arena (take cols columns.new) ≡
-        set (places_in (length part.now) area.old arena (take cols columns.old)) k (piece part.now) }
+    ensures places { (arena : Arena)
+        → places_in (length part.now) area.new arena (take cols columns.new)
+        ≡ set (places_in (length part.now) area.old arena (take cols columns.old))
+        k (piece part.now) }
 {
     put_piece(&mut columns[..cols], area, k, part);
 }
@@ -73,11 +79,17 @@ pub fn add_piece_and_row<const W: usize, const B: usize, M: Ledger>(
     requires room { k * length part.now + length part.now ≤ length area.old }
     requires stored { IsStored (length part.now) arena.old (take arena.old.cols columns.old) }
     requires new { IsRowOf arena.old line.now part.now }
-    requires kind { (k ≡ p) ⊎ ((k ≢ p) × ((slot : ℕ) × (get_or (take arena.old.cols columns.old) k Column.Free ≡ Column.Row slot))) }
+    requires kind { (k ≡ p) ⊎ ((k ≢ p) × ((slot : ℕ)
+        × (get_or (take arena.old.cols columns.old) k Column.Free ≡ Column.Row slot))) }
     requires lead { get_or (take arena.old.cols columns.old) p Column.Free ≡ Column.Free }
-    ensures slots { (spare : List ℕ) (rows count : ℕ) → Slots (take arena.old.cols columns.old) spare rows count → Slots (take arena.old.cols columns.new) spare rows count }
-    ensures places { places_in (length part.now) area.new arena.new (take arena.old.cols columns.new) ≡
-        set (grown p (line_in line.now) part.now (places_in (length part.now) area.old arena.old (take arena.old.cols columns.old))) k (known piece.now) }
+    ensures slots { (spare : List ℕ) (rows count : ℕ)
+        → Slots (take arena.old.cols columns.old) spare rows count
+        → Slots (take arena.old.cols columns.new) spare rows count }
+    ensures places { places_in (length part.now) area.new arena.new
+        (take arena.old.cols columns.new)
+        ≡ set (grown p (line_in line.now) part.now
+        (places_in (length part.now) area.old arena.old (take arena.old.cols columns.old)))
+        k (known piece.now) }
     ensures shape { SameShape arena.old arena.new }
     ensures few { sums.new ≤ sums.old + length arena.old.rows }
 {
@@ -101,8 +113,10 @@ fn take_over<const W: usize, const B: usize>(
     requires slot { (slot : ℕ) → kept ≡ Column.Row slot → slot < length arena.old.rows }
     requires fits { (slot : ℕ) → kept ≡ Column.Row slot → slot ≤ last_slot }
     requires new { IsRowOf arena.old line.now part.now }
-    requires alone { (c slot : ℕ) → kept ≡ Column.Row slot → c ≢ p → get_or columns.old c Column.Free ≢ Column.Row slot }
-    ensures over { TakesOver kept p (line_in line.now) part.now arena.old arena.new columns.old columns.new }
+    requires alone { (c slot : ℕ) → kept ≡ Column.Row slot → c ≢ p
+        → get_or columns.old c Column.Free ≢ Column.Row slot }
+    ensures over { TakesOver kept p
+        (line_in line.now) part.now arena.old arena.new columns.old columns.new }
     ensures shape { SameShape arena.old arena.new }
 {
     match kept {

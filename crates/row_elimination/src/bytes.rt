@@ -16,7 +16,8 @@ pub fn chunk<T>(items: &[T], k: usize, size: usize) -> &[T]
 pub fn put_at<T: Copy>(into: &mut [T], k: usize, from: &[T])
     requires { k * length from.now + length from.now ≤ length into.old }
     ensures there { chunk k (length from.now) into.new ≡ from.now }
-    ensures others { (j : ℕ) → j ≢ k → chunk j (length from.now) into.new ≡ chunk j (length from.now) into.old }
+    ensures others { (j : ℕ) → j ≢ k
+        → chunk j (length from.now) into.new ≡ chunk j (length from.now) into.old }
 {
     let at = k * from.len();
     into[at..at + from.len()].copy_from_slice(from);

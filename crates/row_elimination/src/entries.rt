@@ -52,8 +52,10 @@ pub fn put_parts<const W: usize, const B: usize>(
     arena: &Rows<W, B>,
 )
     requires room { length columns.now * arena.now.cell ≤ length area.old }
-    requires rows { (c slot : ℕ) → get_or columns.now c Column.Free ≡ Column.Row slot → slot < length arena.now.rows }
-    ensures { (c : ℕ) → chunk c arena.now.cell area.new ≡ part_in arena.now.cell area.old arena.now c (get_or columns.now c Column.Free) }
+    requires rows { (c slot : ℕ) → get_or columns.now c Column.Free ≡ Column.Row slot
+        → slot < length arena.now.rows }
+    ensures { (c : ℕ) → chunk c arena.now.cell area.new
+        ≡ part_in arena.now.cell area.old arena.now c (get_or columns.now c Column.Free) }
 {
     for c in 0..columns.len() {
         put_part(columns[c].column(), c, area, arena);
@@ -69,8 +71,10 @@ fn put_part<const W: usize, const B: usize>(
 )
     requires room { c * arena.now.cell + arena.now.cell ≤ length area.old }
     requires rows { (slot : ℕ) → column ≡ Column.Row slot → slot < length arena.now.rows }
-    ensures here { chunk c arena.now.cell area.new ≡ part_in arena.now.cell area.old arena.now c column }
-    ensures others { (d : ℕ) → d ≢ c → chunk d arena.now.cell area.new ≡ chunk d arena.now.cell area.old }
+    ensures here { chunk c arena.now.cell area.new
+        ≡ part_in arena.now.cell area.old arena.now c column }
+    ensures others { (d : ℕ) → d ≢ c
+        → chunk d arena.now.cell area.new ≡ chunk d arena.now.cell area.old }
 {
     match column {
         Column::Free => {}

@@ -45,7 +45,8 @@ impl<const W: usize, const B: usize> Made<W, B> {
     /// rows stay as they were.
     pub fn shape(&mut self, rows: u16, cols: u16, cell: u8) -> Result<(), NoRoom>
         ensures room { is_ok result ≡ has_room W B rows cols cell }
-        ensures shaped { OnOk result (self.new ≡ record { cols = cols; cell = cell; rows = replicate rows (zero_row cell) }) }
+        ensures shaped { OnOk result (self.new
+            ≡ record { cols = cols; cell = cell; rows = replicate rows (zero_row cell) }) }
         ensures refused { OnErr result (self.new ≡ self.old) }
     {
         make(&mut self.made);
@@ -78,7 +79,8 @@ impl<const W: usize, const B: usize> Made<W, B> {
         requires line { length line.now ≡ words_for self.old.cols }
         requires within { line_in line.now < 2 ^ self.old.cols }
         requires part { length part.now ≡ self.old.cell }
-        ensures { self.new ≡ with_row self.old r (record { line = line_in line.now; part = part.now }) }
+        ensures { self.new
+            ≡ with_row self.old r (record { line = line_in line.now; part = part.now }) }
     {
         self.made[0].set_row(r, line, part);
     }
@@ -89,7 +91,8 @@ impl<const W: usize, const B: usize> Made<W, B> {
         requires line { length line.now ≡ words_for self.old.cols }
         requires within { line_in line.now < 2 ^ self.old.cols }
         requires part { length part.now ≡ self.old.cell }
-        ensures { self.new ≡ with_row self.old r (row_sum (row_at self.old r) (record { line = line_in line.now; part = part.now })) }
+        ensures { self.new ≡ with_row self.old r
+            (row_sum (row_at self.old r) (record { line = line_in line.now; part = part.now })) }
     {
         self.made[0].add_to_row(r, line, part);
     }

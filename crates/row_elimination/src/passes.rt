@@ -33,9 +33,11 @@ pub fn reduce<const W: usize, const B: usize, M: Ledger>(
     sums: &mut Steps<M>,
 )
     requires stored { IsStored (length part.now) arena.now columns.now }
-    requires marks { Marks (line_in known.now) (places_in (length part.now) area.now arena.now columns.now) }
+    requires marks { Marks (line_in known.now)
+        (places_in (length part.now) area.now arena.now columns.now) }
     requires room { length columns.now * length part.now ≤ length area.now }
-    requires reduced { IsReduced (length columns.now) (length part.now) (places_in (length part.now) area.now arena.now columns.now) }
+    requires reduced { IsReduced (length columns.now) (length part.now)
+        (places_in (length part.now) area.now arena.now columns.now) }
     requires piece { IsPiece (length part.now) part.now }
     requires words { length line.old ≡ words_for (length columns.now) }
     requires same { length line.old ≡ length known.now }
@@ -43,8 +45,8 @@ pub fn reduce<const W: usize, const B: usize, M: Ledger>(
     requires within { line_in line.old < 2 ^ length columns.now }
     requires picks { 64 * length line.old ≤ length picks.old }
     requires sized { length rest.old ≡ length part.now }
-    ensures left { Reduced (length columns.now) (length part.now) (places_in (length part.now) area.now arena.now columns.now)
-        (line_in line.old) part.now (line_in line.new) rest.new }
+    ensures left { Reduced (length columns.now) (length part.now) (places_in (length part.now)
+        area.now arena.now columns.now) (line_in line.old) part.now (line_in line.new) rest.new }
     ensures few { sums.new ≤ sums.old + columns_in (line_in line.old) }
 {
     let count = pick(line, known, picks);
@@ -82,9 +84,11 @@ fn take_rows<const W: usize, const B: usize, M: Ledger>(
     requires words { length line.old ≡ words_for (length columns.now) }
     requires few { length line.old ≤ max_line_words }
     requires within { line_in line.old < 2 ^ length columns.now }
-    requires none { (c : ℕ) → get_or columns.now c Column.Free ≡ Column.Piece → bit_at (line_in line.old) c ≡ 0 }
+    requires none { (c : ℕ) → get_or columns.now c Column.Free ≡ Column.Piece
+        → bit_at (line_in line.old) c ≡ 0 }
     requires picks { 64 * length line.old ≤ length picks.old }
-    ensures taken { TakesRows (length rest.old) arena.now columns.now (line_in line.old) rest.old (line_in line.new) rest.new }
+    ensures taken { TakesRows (length rest.old) arena.now columns.now (line_in line.old) rest.old
+        (line_in line.new) rest.new }
     ensures few { sums.new ≤ sums.old + columns_in (line_in line.old) }
 {
     let count = list_bits(line, picks);
@@ -104,7 +108,8 @@ fn take_row<const W: usize, const B: usize, M: Ledger>(
     requires rows { (slot : ℕ) → column ≡ Column.Row slot → slot < length arena.now.rows }
     requires words { length line.old ≡ words_for arena.now.cols }
     requires part { length rest.old ≡ arena.now.cell }
-    ensures taken { TakesRow arena.now column (line_in line.old) rest.old (line_in line.new) rest.new }
+    ensures taken { TakesRow arena.now column (line_in line.old) rest.old
+        (line_in line.new) rest.new }
     ensures few { sums.new ≤ sums.old + 1 }
 {
     match column {
@@ -132,8 +137,10 @@ fn add_counted<M: Ledger>(into: &mut [u8], part: &[u8], sums: &mut Steps<M>)
 fn list_bits(line: &[u64], picks: &mut [u16]) -> usize
     requires few { length line.now ≤ max_line_words }
     requires picks { 64 * length line.now ≤ length picks.old }
-    ensures listed { (c : ℕ) → bit_at (after_flips (line_in line.now) (take result picks.new)) c ≡ 0 }
-    ensures columns { (n : ℕ) → n < result → bit_at (line_in line.now) (slice_index picks.new n) ≡ 1 }
+    ensures listed { (c : ℕ)
+        → bit_at (after_flips (line_in line.now) (take result picks.new)) c ≡ 0 }
+    ensures columns { (n : ℕ) → n < result
+        → bit_at (line_in line.now) (slice_index picks.new n) ≡ 1 }
     ensures few { result ≤ length picks.new }
     ensures each { result ≤ columns_in (line_in line.now) }
 {

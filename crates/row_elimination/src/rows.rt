@@ -57,7 +57,8 @@ impl<const W: usize, const B: usize> Rows<W, B> {
     /// rows stay as they were.
     pub fn shape(&mut self, rows: u16, cols: u16, cell: u8) -> Result<(), NoRoom>
         ensures room { is_ok result ≡ has_room W B rows cols cell }
-        ensures shaped { OnOk result (self.new ≡ record { cols = cols; cell = cell; rows = replicate rows (zero_row cell) }) }
+        ensures shaped { OnOk result (self.new
+            ≡ record { cols = cols; cell = cell; rows = replicate rows (zero_row cell) }) }
         ensures refused { OnErr result (self.new ≡ self.old) }
     {
         if !has_room(W, B, rows, cols, cell) {
@@ -114,7 +115,8 @@ impl<const W: usize, const B: usize> Rows<W, B> {
         requires line { length line.now ≡ words_for self.old.cols }
         requires within { line_in line.now < 2 ^ self.old.cols }
         requires part { length part.now ≡ self.old.cell }
-        ensures { self.new ≡ with_row self.old r (record { line = line_in line.now; part = part.now }) }
+        ensures { self.new
+            ≡ with_row self.old r (record { line = line_in line.now; part = part.now }) }
     {
         match &mut self.small {
             Some(small) => {
@@ -134,7 +136,8 @@ impl<const W: usize, const B: usize> Rows<W, B> {
         requires line { length line.now ≡ words_for self.old.cols }
         requires within { line_in line.now < 2 ^ self.old.cols }
         requires part { length part.now ≡ self.old.cell }
-        ensures { self.new ≡ with_row self.old r (row_sum (row_at self.old r) (record { line = line_in line.now; part = part.now })) }
+        ensures { self.new ≡ with_row self.old r
+            (row_sum (row_at self.old r) (record { line = line_in line.now; part = part.now })) }
     {
         match &mut self.small {
             Some(small) => {

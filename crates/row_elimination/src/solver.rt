@@ -140,7 +140,8 @@ impl<const W: usize, const B: usize> Solver<W, B> {
         requires few { rows ≤ nb_frag }
         ensures room { is_ok result ≡ has_room W B self.old.extent nb_frag frag_size rows }
         ensures begun { OnOk result (IsBegun self.new) }
-        ensures shape { OnOk result (self.new.shape ≡ record { nb_frag = nb_frag; frag_size = frag_size; rows = rows }) }
+        ensures shape { OnOk result
+            (self.new.shape ≡ record { nb_frag = nb_frag; frag_size = frag_size; rows = rows }) }
         ensures two { OnOk result (TwoFit self.new) }
         ensures refused { OnErr result (self.new ≡ self.old) }
         ensures extent { self.new.extent ≡ self.old.extent }
@@ -195,7 +196,8 @@ impl<const W: usize, const B: usize> Solver<W, B> {
         ensures few_draws { draws.new ≤ draws.old + 25 * (self.old.shape.nb_frag / 2) }
         ensures sums { sums.new ≤ sums.old
             + columns_in (line_of self.old.shape.nb_frag n) + self.old.shape.rows }
-        ensures few_sums { sums.new ≤ sums.old + max 1 (self.old.shape.nb_frag / 2) + self.old.shape.rows }
+        ensures few_sums { sums.new
+            ≤ sums.old + max 1 (self.old.shape.nb_frag / 2) + self.old.shape.rows }
     {
         let kept = &mut *self.kept;
         let fed = take(
@@ -266,7 +268,8 @@ fn has_room(
     frag_size: u8,
     rows: u16,
 ) -> bool
-    ensures { result ≡ has_room words bytes (record { area = area; pieces = most }) nb_frag frag_size rows }
+    ensures { result
+        ≡ has_room words bytes (record { area = area; pieces = most }) nb_frag frag_size rows }
 {
     let lines = rows as usize * words_for(nb_frag);
     let parts = rows as usize * frag_size as usize;

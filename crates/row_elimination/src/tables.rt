@@ -74,7 +74,8 @@ impl<const W: usize, const B: usize> Table<W, B> {
         requires bytes { B ≤ max_bytes }
         requires few { most ≤ max_pieces }
         ensures room { IfOk result (λ table. table.room ≡ record { area = area; pieces = most }) }
-        ensures shape { IfOk result (λ table. table.shape ≡ record { nb_frag = 0; frag_size = 0; rows = 0 }) }
+        ensures shape { IfOk result
+            (λ table. table.shape ≡ record { nb_frag = 0; frag_size = 0; rows = 0 }) }
     {
         Ok(Table {
             nb_frag: 0,
@@ -144,7 +145,8 @@ impl<const W: usize, const B: usize> Table<W, B> {
 
     /// The bytes of the file's pieces in the area.
     pub fn content(&self) -> &[u8]
-        ensures bytes { result.now ≡ take (self.now.shape.nb_frag * self.now.shape.frag_size) self.now.area }
+        ensures bytes { result.now
+            ≡ take (self.now.shape.nb_frag * self.now.shape.frag_size) self.now.area }
         ensures within { length result.now ≤ self.now.room.area }
     {
         &self.area[..self.nb_frag as usize * self.frag_size as usize]
@@ -153,7 +155,8 @@ impl<const W: usize, const B: usize> Table<W, B> {
     /// The piece of column `k`, where it came uncoded.
     pub fn piece(&self, k: usize) -> Option<&[u8]>
         requires inside { k < self.now.shape.nb_frag }
-        ensures value { MatchOption result (is_piece (get_or self.now.places k free) ≡ false) (λ piece. get_or self.now.places k free ≡ known piece.now) }
+        ensures value { MatchOption result (is_piece (get_or self.now.places k free) ≡ false)
+            (λ piece. get_or self.now.places k free ≡ known piece.now) }
         ensures held { IsReduced self.now.shape.nb_frag self.now.shape.frag_size self.now.places }
         ensures room { rows_held self.now.places ≤ self.now.shape.rows }
     {
@@ -194,7 +197,8 @@ impl<const W: usize, const B: usize> Table<W, B> {
         requires picks { 64 * length line.old ≤ length picks.old }
         requires sized { length rest.old ≡ length part.now }
         requires piece { IsPiece self.now.shape.frag_size part.now }
-        ensures left { Reduced self.now.shape.nb_frag self.now.shape.frag_size self.now.places (line_in line.old) part.now (line_in line.new) rest.new }
+        ensures left { Reduced self.now.shape.nb_frag self.now.shape.frag_size self.now.places
+            (line_in line.old) part.now (line_in line.new) rest.new }
         ensures held { IsReduced self.now.shape.nb_frag self.now.shape.frag_size self.now.places }
         ensures room { rows_held self.now.places ≤ self.now.shape.rows }
         ensures few { sums.new ≤ sums.old + columns_in (line_in line.old) }
@@ -218,9 +222,11 @@ impl<const W: usize, const B: usize> Table<W, B> {
     pub fn push<M: Ledger>(&mut self, p: u16, line: &[u64], part: &[u8], sums: &mut Steps<M>)
         requires words { length line.now ≡ words_for self.old.shape.nb_frag }
         requires sized { length part.now ≡ self.old.shape.frag_size }
-        requires new { IsNew self.old.shape.nb_frag self.old.shape.frag_size self.old.places p (line_in line.now) part.now }
+        requires new { IsNew self.old.shape.nb_frag self.old.shape.frag_size self.old.places p
+            (line_in line.now) part.now }
         requires room { rows_held self.old.places < self.old.shape.rows }
-        ensures grown { self.new ≡ record self.old { places = grown p (line_in line.now) part.now self.old.places } }
+        ensures grown { self.new
+            ≡ record self.old { places = grown p (line_in line.now) part.now self.old.places } }
         ensures few { sums.new ≤ sums.old + self.old.shape.rows }
     {
         let slot = self.spare[self.count as usize];
@@ -270,10 +276,13 @@ impl<const W: usize, const B: usize> Table<W, B> {
     )
         requires words { length line.now ≡ words_for self.old.shape.nb_frag }
         requires sized { length part.now ≡ self.old.shape.frag_size }
-        requires new { IsNew self.old.shape.nb_frag self.old.shape.frag_size self.old.places p (line_in line.now) part.now }
-        requires known { Knows self.old.shape (grown p (line_in line.now) part.now self.old.places) k piece.now }
+        requires new { IsNew self.old.shape.nb_frag self.old.shape.frag_size self.old.places p
+            (line_in line.now) part.now }
+        requires known { Knows self.old.shape
+            (grown p (line_in line.now) part.now self.old.places) k piece.now }
         requires fresh { is_piece (get_or self.old.places k free) ≡ false }
-        ensures places { self.new.places ≡ set (grown p (line_in line.now) part.now self.old.places) k (known piece.now) }
+        ensures places { self.new.places
+            ≡ set (grown p (line_in line.now) part.now self.old.places) k (known piece.now) }
         ensures room { SameRoom self.old self.new }
         ensures few { sums.new ≤ sums.old + self.old.shape.rows }
     {
@@ -315,7 +324,8 @@ impl<const W: usize, const B: usize> Table<W, B> {
     /// Puts the parts of all rows into the area, as the pieces of the columns that lead them.
     pub fn finish(&mut self)
         ensures places { self.new.places ≡ self.old.places }
-        ensures parts { (c : ℕ) (e : Equation) → Tells self.old.places c e → chunk c self.old.shape.frag_size self.new.area ≡ e.part }
+        ensures parts { (c : ℕ) (e : Equation) → Tells self.old.places c e
+            → chunk c self.old.shape.frag_size self.new.area ≡ e.part }
         ensures room { SameRoom self.old self.new }
     {
         let columns = &self.columns[..self.nb_frag as usize];
@@ -328,7 +338,8 @@ impl<const W: usize, const B: usize> Table<W, B> {
         requires few { rows ≤ nb_frag }
         requires area { nb_frag * frag_size ≤ self.old.room.area }
         requires room { has_room W B rows nb_frag frag_size ≡ true }
-        ensures shape { self.new.shape ≡ record { nb_frag = nb_frag; frag_size = frag_size; rows = rows } }
+        ensures shape { self.new.shape
+            ≡ record { nb_frag = nb_frag; frag_size = frag_size; rows = rows } }
         ensures places { self.new.places ≡ replicate nb_frag free }
         ensures room { self.new.room ≡ self.old.room }
     {
@@ -405,7 +416,8 @@ fn count_up(spare: &mut [u16], rows: u16)
 fn mark(known: &mut [u64], cols: u16, k: usize)
     requires words { words_for cols ≤ length known.old }
     requires inside { k < cols }
-    ensures { line_in (take (words_for cols) known.new) ≡ bit_xor (line_in (take (words_for cols) known.old)) (2 ^ k) }
+    ensures { line_in (take (words_for cols) known.new)
+        ≡ bit_xor (line_in (take (words_for cols) known.old)) (2 ^ k) }
 {
     flip_bit(&mut known[..words_for(cols)], k);
 }

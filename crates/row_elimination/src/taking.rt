@@ -42,12 +42,14 @@ pub fn take<const W: usize, const B: usize, L: Ledger, M: Ledger>(
     requires first { 1 ≤ n }
     requires last { n ≤ table.old.shape.nb_frag + max_parity_index }
     requires more { gained_held table.old.places < table.old.shape.nb_frag }
-    ensures fed { FedAs result (held_of stage.Receiving table.old) (held_of (stage_after result) table.new) n part.now }
+    ensures fed { FedAs result (held_of stage.Receiving table.old)
+        (held_of (stage_after result) table.new) n part.now }
     ensures room { SameRoom table.old table.new }
     ensures held { IsReduced table.new.shape.nb_frag table.new.shape.frag_size table.new.places }
     ensures draws { draws.new ≡ draws.old + draws_of table.old.shape.nb_frag n }
     ensures few_draws { draws.new ≤ draws.old + 25 * (table.old.shape.nb_frag / 2) }
-    ensures sums { sums.new ≤ sums.old + columns_in (line_of table.old.shape.nb_frag n) + table.old.shape.rows }
+    ensures sums { sums.new
+        ≤ sums.old + columns_in (line_of table.old.shape.nb_frag n) + table.old.shape.rows }
 {
     if n <= table.nb_frag() {
         let k = n as usize - 1;
@@ -74,7 +76,8 @@ fn take_again<const W: usize, const B: usize>(
     requires ready { IsReady table.now n part.now 0 (xor_bytes part.now piece.now) }
     requires uncoded { n ≤ table.now.shape.nb_frag }
     requires before { get_or table.now.places (n - 1) free ≡ known piece.now }
-    ensures { FedAs result (held_of stage.Receiving table.now) (held_of (stage_after result) table.now) n part.now }
+    ensures { FedAs result (held_of stage.Receiving table.now)
+        (held_of (stage_after result) table.now) n part.now }
 {
     if piece == part {
         Fed::Receiving
@@ -89,7 +92,8 @@ fn take_first<const W: usize, const B: usize>(table: &mut Table<W, B>, n: u16, p
     requires uncoded { n ≤ table.old.shape.nb_frag }
     requires fresh { get_or table.old.places (n - 1) free ≡ free }
     requires none { rows_held table.old.places ≡ 0 }
-    ensures fed { FedAs result (held_of stage.Receiving table.old) (held_of (stage_after result) table.new) n part.now }
+    ensures fed { FedAs result (held_of stage.Receiving table.old)
+        (held_of (stage_after result) table.new) n part.now }
     ensures room { SameRoom table.old table.new }
     ensures held { IsReduced table.new.shape.nb_frag table.new.shape.frag_size table.new.places }
 {
@@ -116,7 +120,8 @@ fn take_in<const W: usize, const B: usize, M: Ledger>(
     requires some { 1 ≤ table.old.shape.frag_size }
     requires first { 1 ≤ n }
     requires more { gained_held table.old.places < table.old.shape.nb_frag }
-    ensures fed { FedAs result (held_of stage.Receiving table.old) (held_of (stage_after result) table.new) n part.now }
+    ensures fed { FedAs result (held_of stage.Receiving table.old)
+        (held_of (stage_after result) table.new) n part.now }
     ensures room { SameRoom table.old table.new }
     ensures held { IsReduced table.new.shape.nb_frag table.new.shape.frag_size table.new.places }
     ensures sums { sums.new ≤ sums.old + columns_in (line_in line.old) + table.old.shape.rows }
@@ -138,7 +143,8 @@ fn take_old<const W: usize, const B: usize>(
 ) -> Fed
     requires ready { IsReady table.old n part.now (line_in line.now) rest.now }
     requires none { line_in line.now ≡ 0 }
-    ensures fed { FedAs result (held_of stage.Receiving table.old) (held_of (stage_after result) table.new) n part.now }
+    ensures fed { FedAs result (held_of stage.Receiving table.old)
+        (held_of (stage_after result) table.new) n part.now }
     ensures room { SameRoom table.old table.new }
     ensures held { IsReduced table.new.shape.nb_frag table.new.shape.frag_size table.new.places }
 {
@@ -165,7 +171,8 @@ fn take_new<const W: usize, const B: usize, M: Ledger>(
     requires words { length line.now ≡ words_for table.old.shape.nb_frag }
     requires inside { p < table.old.shape.nb_frag }
     requires has { bit_at (line_in line.now) p ≡ 1 }
-    ensures fed { FedAs result (held_of stage.Receiving table.old) (held_of (stage_after result) table.new) n part.now }
+    ensures fed { FedAs result (held_of stage.Receiving table.old)
+        (held_of (stage_after result) table.new) n part.now }
     ensures room { SameRoom table.old table.new }
     ensures held { IsReduced table.new.shape.nb_frag table.new.shape.frag_size table.new.places }
     ensures sums { sums.new ≤ sums.old + table.old.shape.rows }
@@ -194,7 +201,8 @@ fn take_piece<const W: usize, const B: usize, M: Ledger>(
     requires inside { p < table.old.shape.nb_frag }
     requires has { bit_at (line_in line.now) p ≡ 1 }
     requires uncoded { n ≤ table.old.shape.nb_frag }
-    ensures fed { FedAs result (held_of stage.Receiving table.old) (held_of (stage_after result) table.new) n part.now }
+    ensures fed { FedAs result (held_of stage.Receiving table.old)
+        (held_of (stage_after result) table.new) n part.now }
     ensures room { SameRoom table.old table.new }
     ensures held { IsReduced table.new.shape.nb_frag table.new.shape.frag_size table.new.places }
     ensures sums { sums.new ≤ sums.old + table.old.shape.rows }
@@ -220,7 +228,8 @@ fn take_row<const W: usize, const B: usize, M: Ledger>(
     requires has { bit_at (line_in line.now) p ≡ 1 }
     requires coded { table.old.shape.nb_frag < n }
     requires spare { rows_held table.old.places < table.old.shape.rows }
-    ensures fed { FedAs result (held_of stage.Receiving table.old) (held_of (stage_after result) table.new) n part.now }
+    ensures fed { FedAs result (held_of stage.Receiving table.old)
+        (held_of (stage_after result) table.new) n part.now }
     ensures room { SameRoom table.old table.new }
     ensures held { IsReduced table.new.shape.nb_frag table.new.shape.frag_size table.new.places }
     ensures sums { sums.new ≤ sums.old + table.old.shape.rows }

@@ -88,14 +88,16 @@ fn run_held(
 
 /// Whether there are files of all words, those of the names that are asked for among them.
 fn all_held(files: &MemFiles, words: &[String]) -> bool
-    ensures { IsTrue result → HoldsForm (Some (held_by files.now.files)) (map string_bytes words.now) }
+    ensures { IsTrue result
+        → HoldsForm (Some (held_by files.now.files)) (map string_bytes words.now) }
 {
     names_are_words();
     are_held(files, words)
 }
 
 fn are_held(files: &MemFiles, words: &[String]) -> bool
-    ensures { result ≡ list_all (λ word. is_some (held_by files.now.files (string_bytes word))) words.now }
+    ensures { result
+        ≡ list_all (λ word. is_some (held_by files.now.files (string_bytes word))) words.now }
 {
     words.iter().all(|word| files.holds(word))
 }

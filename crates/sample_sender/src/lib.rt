@@ -55,7 +55,8 @@ pub fn fragment(encoder: &Encoder, n: u16) -> Option<Payload>
     requires { encoder.now.frag_size ≡ 48 }
     ensures spelled { IfSome result (λ payload. payload ≡ canonical
         (Cast (DataFragment 0 n (data_of encoder.now.file 48 n)))) }
-    ensures within { IsSome result ↔ ((1 ≤ n) × (n ≤ nb_frag_of (length encoder.now.file) 48 + 16)) }
+    ensures within { IsSome result
+        ↔ ((1 ≤ n) × (n ≤ nb_frag_of (length encoder.now.file) 48 + 16)) }
 {
     if n > encoder.nb_frag() + PARITY {
         return None;

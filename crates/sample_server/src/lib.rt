@@ -31,7 +31,8 @@ pub fn campaign(
     devices: Vec<PlanDevice>,
 ) -> Result<Server, ServerError>
     requires { is_image image.now ≡ true }
-    ensures fresh { IfOk result (λ s. s ≡ first_server image.now (plan_for group start devices.items)) }
+    ensures fresh { IfOk result
+        (λ s. s ≡ first_server image.now (plan_for group start devices.items)) }
     ensures bad_plan { (field : Field) → (result ≡ Err (ServerError.BadPlan field))
         ↔ (bad_field (length image.now) (plan_for group start devices.items) ≡ Some field) }
 {

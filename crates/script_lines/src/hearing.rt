@@ -36,7 +36,8 @@ pub fn hear_piece<W: HearsLine>(lines: &mut Lines, piece: &[u8], hearer: &mut W)
 
 /// Hands out the first line that ends in a piece, and says how many bytes of it are used.
 fn hear_next<W: HearsLine>(lines: &mut Lines, piece: &[u8], hearer: &mut W) -> usize
-    ensures heard { Hears W.hears lines.old lines.new hearer.old hearer.new (take result piece.now) }
+    ensures heard { Hears W.hears lines.old lines.new hearer.old hearer.new
+        (take result piece.now) }
     ensures within { result ≤ length piece.now }
     ensures moves { 0 < length piece.now → 0 < result }
 {

@@ -101,7 +101,8 @@ fn are_hex_digits(bytes: &[u8]) -> bool
 #[tactic(auto, unfolding(crate::specs::Numbers::hex_bytes_of))]
 fn spell(word: &[u8], out: &mut [u8]) -> Option<usize>
     requires { length out.old ≡ max_hex_bytes }
-    ensures spelled { MatchOption result (hex_bytes_of word.now ≡ None) (λ n. hex_bytes_of word.now ≡ Some (take n out.new)) }
+    ensures spelled { MatchOption result (hex_bytes_of word.now ≡ None)
+        (λ n. hex_bytes_of word.now ≡ Some (take n out.new)) }
     ensures few { MatchOption result (hex_bytes_of word.now ≡ None) (λ n. n ≤ max_hex_bytes) }
 {
     if is_dash(word) {

@@ -100,7 +100,8 @@ pub fn air_numbers(line: &[u8]) -> Option<DownNumbers>
 /// The parts of a line `raw D PORT HEX [WORD]`.
 #[inline(always)]
 pub fn raw_parts(line: &[u8]) -> Option<RawParts<'_>>
-    ensures { IfSome result (λ r. form_of line.now ≡ Some (Raw r.device r.port r.payload r.random)) }
+    ensures { IfSome result
+        (λ r. form_of line.now ≡ Some (Raw r.device r.port r.payload r.random)) }
 {
     match line {
         [b'r', b'a', b'w', b' ', rest @ ..] => raw_behind(rest),
@@ -189,8 +190,10 @@ pub fn time_at(line: &[u8]) -> Option<u64>
 #[inline(always)]
 #[tactic(auto, using(crate::proofs::OftenForms::down_line, crate::proofs::OftenForms::air_line))]
 fn numbers_behind(rest: &[u8]) -> Option<DownNumbers>
-    ensures down { IfSome result (λ n. form_of (codes "down " ++ rest.now) ≡ Some (Down n.number n.device n.random)) }
-    ensures air { IfSome result (λ n. form_of (codes "air " ++ rest.now) ≡ Some (Air n.number n.device n.random)) }
+    ensures down { IfSome result
+        (λ n. form_of (codes "down " ++ rest.now) ≡ Some (Down n.number n.device n.random)) }
+    ensures air { IfSome result
+        (λ n. form_of (codes "air " ++ rest.now) ≡ Some (Air n.number n.device n.random)) }
 {
     let number = spaced_decimal(rest)?;
     let last = decimal_tail(number.rest)?;
@@ -204,7 +207,8 @@ fn numbers_behind(rest: &[u8]) -> Option<DownNumbers>
 /// The parts behind the keyword of a line `raw D PORT HEX [WORD]`.
 #[tactic(auto, using(crate::proofs::OftenForms::raw_line))]
 fn raw_behind(rest: &[u8]) -> Option<RawParts<'_>>
-    ensures { IfSome result (λ r. form_of (codes "raw " ++ rest.now) ≡ Some (Raw r.device r.port r.payload r.random)) }
+    ensures { IfSome result
+        (λ r. form_of (codes "raw " ++ rest.now) ≡ Some (Raw r.device r.port r.payload r.random)) }
 {
     let device = spaced_decimal(rest)?;
     let port = spaced_decimal(device.rest)?;
@@ -220,7 +224,8 @@ fn raw_behind(rest: &[u8]) -> Option<RawParts<'_>>
 /// The parts behind the keyword of a line `rawair D HEX [WORD]`.
 #[tactic(auto, using(crate::proofs::OftenForms::raw_air_line))]
 fn raw_air_behind(rest: &[u8]) -> Option<RawAirParts<'_>>
-    ensures { IfSome result (λ r. form_of (codes "rawair " ++ rest.now) ≡ Some (RawAir r.device r.bytes r.random)) }
+    ensures { IfSome result
+        (λ r. form_of (codes "rawair " ++ rest.now) ≡ Some (RawAir r.device r.bytes r.random)) }
 {
     let device = spaced_decimal(rest)?;
     let last = hex_tail(device.rest)?;

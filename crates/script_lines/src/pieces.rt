@@ -58,7 +58,8 @@ impl Lines {
         ensures moves { 0 < length piece.now → 0 < result.0 }
         ensures ended { result.1 ≡ Cut.Line → IsSome self.new.line }
         // Whatever the stream was so far, the lines handed out are its lines, cut.
-        ensures lines { (stream : List ℕ) → LinesStand self.old stream → GoesOn self.old self.new (take result.0 piece.now) result.1 stream }
+        ensures lines { (stream : List ℕ) → LinesStand self.old stream
+            → GoesOn self.old self.new (take result.0 piece.now) result.1 stream }
     {
         open(&mut self.held, self.ended);
         match line_feed(piece) {
@@ -91,7 +92,8 @@ impl Lines {
 
     /// Takes a piece of the stream of which no line is wanted.
     pub fn pass(&mut self, piece: &[u8])
-        ensures { (stream : List ℕ) → LinesStand self.old stream → LinesStand self.new (stream ++ piece.now) }
+        ensures { (stream : List ℕ) → LinesStand self.old stream
+            → LinesStand self.new (stream ++ piece.now) }
     {
         open(&mut self.held, self.ended);
         match last_feed(piece) {
@@ -116,7 +118,8 @@ impl Lines {
     /// taken next is of a new stream.
     pub fn finish(&mut self) -> bool
         ensures held { IsTrue result ↔ (self.old.open_line ≢ []) }
-        ensures lines { (stream : List ℕ) → LinesStand self.old stream → Ends self.new stream result }
+        ensures lines { (stream : List ℕ) → LinesStand self.old stream
+            → Ends self.new stream result }
         ensures ended { IsTrue result ↔ IsSome self.new.line }
         ensures again { LinesStand self.new [] }
     {

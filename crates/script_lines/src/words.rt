@@ -17,7 +17,8 @@ pub fn count_words(line: &[u8]) -> usize
 
 /// The word at a place, counted from 0, if there is one.
 fn nth_word(line: &[u8], place: usize) -> Option<&[u8]>
-    ensures { option_map (λ w. w.now) result ≡ slice_get (slice_split (λ b. b == 32) line.now) place }
+    ensures { option_map (λ w. w.now) result
+        ≡ slice_get (slice_split (λ b. b == 32) line.now) place }
 {
     line.split(|b| *b == b' ').nth(place)
 }
@@ -36,7 +37,8 @@ pub fn word(line: &[u8], place: usize) -> &[u8]
 /// The place of the first space, behind which the second word begins.
 pub(crate) fn first_space(line: &[u8]) -> Option<usize>
     ensures within { IfSome result (λ end. end < length line.now) }
-    ensures some { IfSome result (λ end. words_of line.now ≡ take end line.now ∷ words_of (drop (end + 1) line.now)) }
+    ensures some { IfSome result
+        (λ end. words_of line.now ≡ take end line.now ∷ words_of (drop (end + 1) line.now)) }
     ensures none { result ≡ None → words_of line.now ≡ line.now ∷ [] }
 {
     memchr(b' ', line)

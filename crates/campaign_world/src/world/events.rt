@@ -96,7 +96,8 @@ impl Campaign {
         requires event { is_event_or_end form.now ≡ true }
         requires tested { IsTested self.old form.now }
         requires room { lines < max_lines }
-        ensures taken { Plays lines self.old self.new result (λ world. at_events (after_form world form.now)) }
+        ensures taken { Plays lines self.old self.new result
+            (λ world. at_events (after_form world form.now)) }
         ensures ends { OnErr result (SameEnds self.old self.new) }
     {
         let _ = &self.alloc;
@@ -160,8 +161,8 @@ impl Campaign {
 
     /// The server sends the next fragment, to any device.
     fn frag(&mut self) -> Result<(), AllocError>
-        ensures taken { (lines : ℕ) → Plays lines self.old self.new result
-            (λ world. at_events (with_sent (record world { server = after_fragment world.server }) None
+        ensures taken { (lines : ℕ) → Plays lines self.old self.new result (λ world. at_events
+            (with_sent (record world { server = after_fragment world.server }) None
             (result_ok (next_fragment world.server)))) }
         ensures ends { OnErr result (SameEnds self.old self.new) }
     {
@@ -176,8 +177,8 @@ impl Campaign {
 
     /// The server asks all devices for their status.
     fn status(&mut self) -> Result<(), AllocError>
-        ensures taken { (lines : ℕ) → Plays lines self.old self.new result
-            (λ world. at_events (with_sent (record world { server = after_status_to_all world.server }) None
+        ensures taken { (lines : ℕ) → Plays lines self.old self.new result (λ world. at_events
+            (with_sent (record world { server = after_status_to_all world.server }) None
             (status_to_all world.server))) }
         ensures ends { OnErr result (SameEnds self.old self.new) }
     {
@@ -253,8 +254,8 @@ impl Campaign {
         requires first { 1 ≤ device }
         requires last { device ≤ length self.old.devices }
         requires room { lines < max_lines }
-        ensures taken { Plays lines self.old self.new result
-            (λ world. with_event world device (Some (Receives world.time word (world.lines + 1) down.now))) }
+        ensures taken { Plays lines self.old self.new result (λ world. with_event world device
+            (Some (Receives world.time word (world.lines + 1) down.now))) }
         ensures ends { OnErr result (SameEnds self.old self.new) }
     {
         let mark = mark_behind(lines);
@@ -300,8 +301,8 @@ impl Campaign {
         requires first { 1 ≤ device }
         requires last { device ≤ length self.old.devices }
         requires room { lines < max_lines }
-        ensures taken { Plays lines self.old self.new result
-            (λ world. with_event world device (Some (HearsBytes world.time word (world.lines + 1) bytes.now))) }
+        ensures taken { Plays lines self.old self.new result (λ world. with_event world device
+            (Some (HearsBytes world.time word (world.lines + 1) bytes.now))) }
         ensures ends { OnErr result (SameEnds self.old self.new) }
     {
         let mut spelled = [0; MAX_HEX_BYTES];
@@ -314,8 +315,8 @@ impl Campaign {
         requires first { 1 ≤ device }
         requires last { device ≤ length self.old.devices }
         requires room { lines < max_lines }
-        ensures taken { Plays lines self.old self.new result
-            (λ world. with_event world device (Some (HearsBytes world.time word (world.lines + 1) bytes.now))) }
+        ensures taken { Plays lines self.old self.new result (λ world. with_event world device
+            (Some (HearsBytes world.time word (world.lines + 1) bytes.now))) }
         ensures ends { OnErr result (SameEnds self.old self.new) }
     {
         let mark = mark_behind(lines);
@@ -386,8 +387,8 @@ impl Campaign {
 
     /// The summary of what was played.
     pub fn summary(&self, alloc: Global) -> Result<Vec<u8>, AllocError>
-        ensures { (ds : List DeviceState) → DevicesRest self.now.devices ds
-            → IfOk result (λ text. text.items ≡ summary_with self.now.server (length self.now.sent) ds) }
+        ensures { (ds : List DeviceState) → DevicesRest self.now.devices ds → IfOk result
+            (λ text. text.items ≡ summary_with self.now.server (length self.now.sent) ds) }
     {
         summary(alloc, &self.server, self.sent.len(), &self.devices)
     }
@@ -439,8 +440,10 @@ fn fragment(server: &mut Server) -> Option<Downlink>
 fn answer_of(server: &mut Server, made: &MadeUplink, t: u64) -> Option<Downlink>
     requires first { 1 ≤ made.now.device }
     requires last { made.now.device ≤ length server.old.plan.devices }
-    ensures moved { server.new ≡ (uplink_step server.old made.now.device made.now.uplink.port made.now.uplink.payload t).server }
-    ensures down { result ≡ down_of (answered (uplink_step server.old made.now.device made.now.uplink.port made.now.uplink.payload t).answer) }
+    ensures moved { server.new ≡ (uplink_step server.old made.now.device made.now.uplink.port
+        made.now.uplink.payload t).server }
+    ensures down { result ≡ down_of (answered (uplink_step server.old made.now.device
+        made.now.uplink.port made.now.uplink.payload t).answer) }
 {
     match server.uplink(
         made.device,

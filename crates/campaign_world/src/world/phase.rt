@@ -51,7 +51,8 @@ impl Phase {
         requires tested { IsTested (held_of self.old) form.now }
         requires room { lines < max_lines }
         ensures phase { IsPhase self.new }
-        ensures taken { PhaseTakes lines self.old self.new result (λ world. after_form world form.now) }
+        ensures taken { PhaseTakes lines self.old self.new result
+            (λ world. after_form world form.now) }
         ensures ends { OnErr result (SameEnds (held_of self.old) (held_of self.new)) }
     {
         match self {

@@ -69,7 +69,8 @@ impl Planning {
         requires comes { may_come self.old.section form.now ≡ true }
         requires tested { IsTested (planned_by self.old) form.now }
         ensures planning { IsPlanningOf self.new }
-        ensures taken { PlanTakes lines self.old self.new result (λ world. after_form world form.now) }
+        ensures taken { PlanTakes lines self.old self.new result
+            (λ world. after_form world form.now) }
         ensures ends { OnErr result (SameEnds (planned_by self.old) (planned_by self.new)) }
     {
         match form {
@@ -189,8 +190,8 @@ impl Planning {
         requires counts { group.min < group.max }
         requires id { group.id ≤ 3 }
         ensures planning { IsPlanningOf self.new }
-        ensures taken { PlanBecomes self.old self.new
-            (λ world. with_plan world (record world.server.plan { group = Some group }) section.Window) }
+        ensures taken { PlanBecomes self.old self.new (λ world. with_plan world
+            (record world.server.plan { group = Some group }) section.Window) }
     {
         self.plan.group = Some(group);
         self.section = Section::Window;
@@ -202,8 +203,8 @@ impl Planning {
         requires planning { IsPlanningOf self.old }
         requires fits { fits_bits window ≡ true }
         ensures planning { IsPlanningOf self.new }
-        ensures taken { PlanBecomes self.old self.new
-            (λ world. with_plan world (record world.server.plan { window = Some window }) section.Device) }
+        ensures taken { PlanBecomes self.old self.new (λ world. with_plan world
+            (record world.server.plan { window = Some window }) section.Device) }
     {
         self.plan.window = Some(window);
         self.section = Section::Device;
@@ -220,9 +221,9 @@ impl Planning {
         ensures taken { (lines : ℕ) → PlanTakes lines self.old self.new result (λ world. with_plan
             (record world { devices = world.devices ++ first_device config ∷ [] })
             (record world.server.plan {
-              devices = world.server.plan.devices ++ record { key = config.key; root = config.root } ∷ [];
-            })
-            section.Devices) }
+              devices = world.server.plan.devices
+                  ++ record { key = config.key; root = config.root } ∷ [];
+            }) section.Devices) }
         ensures ends { OnErr result (SameEnds (planned_by self.old) (planned_by self.new)) }
     {
         let key = config.key;
@@ -301,7 +302,8 @@ fn join(
     key: PlanDevice,
     device: LateDevice,
 ) -> Result<(), AllocError>
-    ensures plan { OnOk result (plan.new ≡ record plan.old { devices = plan.old.devices ++ key ∷ [] }) }
+    ensures plan { OnOk result
+        (plan.new ≡ record plan.old { devices = plan.old.devices ++ key ∷ [] }) }
     ensures devices { OnOk result (devices.new.items ≡ devices.old.items ++ device ∷ []) }
     ensures unplanned { OnErr result (plan.new ≡ plan.old) }
     ensures same { OnErr result (devices.new.items ≡ devices.old.items) }

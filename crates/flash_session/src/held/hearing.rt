@@ -50,7 +50,8 @@ impl<const W: usize, const B: usize> Held<W, B> {
             (F.moment flash.old) (F.moment flash.new) (F.left_since flash.old)
             (F.left_since flash.new) }
         // Nothing is written of what is dropped, nor of what tells nothing new once the count has come to its end.
-        ensures dropped { IfOk result (λ r. (c : _) → r.1 ≡ Heard.Dropped c → flash.new ≡ flash.old) }
+        ensures dropped { IfOk result
+            (λ r. (c : _) → r.1 ≡ Heard.Dropped c → flash.new ≡ flash.old) }
         ensures full { max_received ≤ self.entry.records + self.entry.tallies
             → IfOk result (λ r. r.1 ≡ Heard.Fed News.Old → flash.new ≡ flash.old) }
         // What a stop leaves as a read gives it in another range is left so.
