@@ -19,7 +19,9 @@ ghost use Rattle.campaign_server.specs.Framing.{has_frame, frame_for};
 use crate::answers::stage_after_all;
 use crate::asking::request;
 use crate::checks::bad_field;
-use crate::fragments::{Spent, data_fragment, has_no_count, next_count, receivers, status_of_all};
+use crate::fragments::{
+    NothingLeft, data_fragment, has_no_count, next_count, receivers, status_of_all,
+};
 use crate::framing::{group_frame, is_to_group};
 use crate::plan::{Field, Plan, PlanDevice, PlanGroup};
 use crate::stage::{Request, Stage};
@@ -78,8 +80,8 @@ impl Server {
     pub fn new(alloc: Global, plan: Plan, image: &[u8]) -> Result<Server, ServerError>
         requires { is_image image.now ≡ true }
         ensures ok { IfOk result (λ s. s ≡ first_server image.now plan) }
-        ensures bad_plan { (field : Field)
-            → (result ≡ Err (ServerError.BadPlan field)) ↔ (bad_field (length image.now) plan ≡ Some field) }
+        ensures bad_plan { (field : Field) → (result ≡ Err (ServerError.BadPlan field))
+            ↔ (bad_field (length image.now) plan ≡ Some field) }
         ensures fine { IfOk result (λ s. bad_field (length image.now) plan ≡ None) }
     {
         if let Some(field) = bad_field(image.len(), &plan) {
@@ -127,16 +129,16 @@ impl Server {
     /// The next fragment to all devices: by the group with its next frame count, else as unicast.
     /// `Fragments` comes exactly where all were sent, and else `Counts` exactly where the next count is the group's MAX;
     /// nothing changes then.
-    pub fn next_fragment(&mut self) -> Result<Downlink, Spent>
+    pub fn next_fragment(&mut self) -> Result<Downlink, NothingLeft>
         ensures sent { result ≡ result_of (next_fragment self.old) }
         ensures moved { self.new ≡ after_fragment self.old }
     {
         if self.next > self.encoder.nb_frag() + self.plan.parity {
-            return Err(Spent::Fragments);
+            return Err(NothingLeft::Fragments);
         }
         let group = self.plan.group;
         if has_no_count(group, self.count) {
-            return Err(Spent::Counts);
+            return Err(NothingLeft::Counts);
         }
         let to = receivers(group, self.count);
         let down = data_fragment(&self.plan, &self.encoder, to, self.next);

@@ -23,8 +23,8 @@ use Rattle.fuota_run.specs.declared.words.ScriptForm.{ScriptForm}
 use Rattle.fuota_run.specs.declared.words.ScriptForm.TheVariants.{Campaign, Recover}
 use Rattle.fuota_run.specs.declared.words.FileForm.{FileForm}
 use Rattle.fuota_run.specs.Words.{Invocation, plays, payloads, generates, asked, asks_files}
-use Rattle.report_lines.specs.Lines.{Telling, IsTold}
-use Rattle.fuota_run.specs.Answer.{Answer, answer, read_fault, usage, image_refused, too_long, taken_text, recovered, world_answer, summary_answer, played, telling_of, text_answer, script_answer, campaign_answer, generate_answer, IsFileAnswer, IsAnswer}
+use Rattle.report_lines.specs.Lines.{FileText, IsFileText}
+use Rattle.fuota_run.specs.Answer.{Answer, answer, read_fault, usage, image_refused, too_long, taken_text, recovered, world_answer, summary_answer, played, file_text, text_answer, script_answer, campaign_answer, generate_answer, IsFileAnswer, IsAnswer}
 use Rattle.fuota_run.specs.Ending.{OutsideFiles, HoldsInvocation, HoldsForm, Gives, Effects, Ends, AppendsAnswer, AppendsAnswerFront, IsPlayed, HasText, IsCaused, IsReadUp, IsImageRead, IsSoundAnswer, ends_source}
 use Rattle.fuota_run.specs.HeldAnswer.{IsUnreadAnswer, IsMadeOf, IsTextAnswer}
 
@@ -102,7 +102,7 @@ says_played tell outcome (Err (world.Line fault)) a each made said = (
 says_played tell outcome (Err world.Memory) a each made said = absurd said
 
 -- and with what a file of payloads made
-pub says_text : (Tells : Telling) (file : List ℕ) (r : Result (List ℕ) LineError) (a : Answer) → IsTold Tells file r → IsTextAnswer r a
+pub says_text : (Tells : FileText) (file : List ℕ) (r : Result (List ℕ) LineError) (a : Answer) → IsFileText Tells file r → IsTextAnswer r a
     → ((said : Result (List ℕ) LineFault) × Tells file said × (a ≡ text_answer said)) × IsMade a
 says_text Tells file (Ok text) a made said = (
   (Ok text, made, said),
@@ -115,12 +115,12 @@ says_text Tells file (Err (world.Line fault)) a made said = (
 says_text Tells file (Err world.Memory) a made said = absurd said
 
 -- a file of payloads that is too long
-pub file_long : (Tells : Telling) (file : List ℕ) → 1048576 < length file → IsFileAnswer Tells (Some file) (too_long 1048576)
+pub file_long : (Tells : FileText) (file : List ℕ) → 1048576 < length file → IsFileAnswer Tells (Some file) (too_long 1048576)
 unfolding IsFileAnswer
 file_long Tells file long = let t : nat_lt 1048576 (length file) ≡ true = lt-ltb _ _ long in rw t refl
 
 -- one within its limit
-pub file_given : (Tells : Telling) (file : List ℕ) (a : Answer) → length file ≤ 1048576 → ((said : Result (List ℕ) LineFault) × Tells file said × (a ≡ text_answer said))
+pub file_given : (Tells : FileText) (file : List ℕ) (a : Answer) → length file ≤ 1048576 → ((said : Result (List ℕ) LineFault) × Tells file said × (a ≡ text_answer said))
     → IsFileAnswer Tells (Some file) a
 unfolding IsFileAnswer
 file_given Tells file a within said = let t : nat_lt 1048576 (length file) ≡ false = le-ltb _ _ within in rw t said
@@ -280,24 +280,24 @@ gives_script held what image_name script_name image script a read source within 
 
 -- a file of payloads that is too long, and one that was read
 gives_file : (held : Option Held) (form : FileForm) (name file : List ℕ) (a : Answer) → IsSource held name 1048576 file
-    → IsFileAnswer (telling_of form) (Some file) a → Gives held (Some (payloads form name)) a
+    → IsFileAnswer (file_text form) (Some file) a → Gives held (Some (payloads form name)) a
 gives_file None form name file a source is = (file, is)
-gives_file (Some h) form name file a source is = subst (λ (f : Option (List ℕ)). IsFileAnswer (telling_of form) f a) (sym source) is
+gives_file (Some h) form name file a source is = subst (λ (f : Option (List ℕ)). IsFileAnswer (file_text form) f a) (sym source) is
 
 pub gives_file_long : (held : Option Held) (form : FileForm) (name : List ℕ) → HoldsName held name → IsTooLong held name 1048576
     → Gives held (Some (payloads form name)) (too_long 1048576)
 gives_file_long held form name holds long =
     let is = long_source held name 1048576 holds long in
-    gives_file held form name is.0 (too_long 1048576) is.2 (file_long (telling_of form) is.0 is.1)
+    gives_file held form name is.0 (too_long 1048576) is.2 (file_long (file_text form) is.0 is.1)
 
 -- what is said behind the lines of a file of payloads
 pub sound_text : (form : FileForm) (files : OutsideFiles) (name file : List ℕ) (r : Result (List ℕ) LineError) (a : Answer)
     → IsSource files.held name 1048576 file → length file ≤ 1048576 → IsAtEnd files.left → files.after ≡ files.before
-    → IsTold (telling_of form) file r → IsTextAnswer r a → IsSoundAnswer (Some (payloads form name)) files a
+    → IsFileText (file_text form) file r → IsTextAnswer r a → IsSoundAnswer (Some (payloads form name)) files a
 sound_text form files name file r a source within ends quiet made said =
-    let told = says_text (telling_of form) file r a made said in
+    let told = says_text (file_text form) file r a made said in
     sound_read (Some (payloads form name)) files a refl
-    (gives_file files.held form name file a source (file_given (telling_of form) file a within told.0)) told.1 ends quiet
+    (gives_file files.held form name file a source (file_given (file_text form) file a within told.0)) told.1 ends quiet
 
 -- ---- a run that says it
 

@@ -3,7 +3,7 @@ use Rattle.std.proofs.Common.{◌≡◌, ℕ, ◌≤◌, Bool, false, nat_lt, Li
 use Rattle.device_core.specs.Device.{DeviceState}
 use Rattle.script_lines.specs.Lines.{lines_of}
 use Rattle.report_lines.specs.declared.faults.LineFault.{LineFault}
-use Rattle.report_lines.specs.Lines.{Telling, told_by}
+use Rattle.report_lines.specs.Lines.{FileText, text_at_end}
 use Rattle.capture_read.specs.declared.answers.Entry.{Entry}
 use Rattle.payload_replay.specs.Replay.{Replays, closing_text}
 use Rattle.payload_replay.specs.Capture.{Caught, CatchesAll, Captures, capture_text}
@@ -16,19 +16,19 @@ use Rattle.fuota_run.specs.declared.words.FileForm.TheVariants.{Replay, Capture}
 use Rattle.fuota_run.specs.declared.status.Status.TheVariants as status
 use Rattle.fuota_run.specs.Outside.{Held}
 use Rattle.fuota_run.specs.Words.{Invocation, payloads, asked}
-use Rattle.fuota_run.specs.Answer.{Answer, answer, telling_of, text_answer, IsReadAnswer, IsFileAnswer, IsAnswerTo, IsAnswer}
+use Rattle.fuota_run.specs.Answer.{Answer, answer, file_text, text_answer, IsReadAnswer, IsFileAnswer, IsAnswerTo, IsAnswer}
 use Rattle.fuota_run.specs.Headline.{IsFileHandedIn, IsCaptureAnswered}
 
 -- what is told of a file within its limit is what its words are answered
 file_answered : (words : List (List ℕ)) (held : Held) (what : FileForm) (file : List ℕ) → IsFileHandedIn words held what file
-    → (a : Answer) → IsAnswer words held a → (said : Result (List ℕ) LineFault) × telling_of what file said × (a ≡ text_answer said)
+    → (a : Answer) → IsAnswer words held a → (said : Result (List ℕ) LineFault) × file_text what file said × (a ≡ text_answer said)
 unfolding IsAnswer IsFileAnswer
 file_answered words held what file its a given =
-    let here : IsFileAnswer (telling_of what) (held its.name) a = subst (λ (o : Option Invocation). IsAnswerTo o held a) its.form given in
-    let read : IsFileAnswer (telling_of what) (Some file) a =
-    subst (λ (f : Option (List ℕ)). IsFileAnswer (telling_of what) f a) its.file_held here in
+    let here : IsFileAnswer (file_text what) (held its.name) a = subst (λ (o : Option Invocation). IsAnswerTo o held a) its.form given in
+    let read : IsFileAnswer (file_text what) (Some file) a =
+    subst (λ (f : Option (List ℕ)). IsFileAnswer (file_text what) f a) its.file_held here in
     let fine : nat_lt 1048576 (length file) ≡ false = le-ltb _ _ its.short in
-    subst (λ (b : Bool). IsReadAnswer (telling_of what) b file a) fine read
+    subst (λ (b : Bool). IsReadAnswer (file_text what) b file a) fine read
 
 text_is : (words : List (List ℕ)) (held : Held) (file : List ℕ) (all : Caught) → IsFileHandedIn words held Capture file
     → CatchesAll (lines_of file) (Ok all) → (a : Answer) → IsAnswer words held a → a ≡ answer status.Done (capture_text all)

@@ -5,31 +5,31 @@ use Rattle.fuota_run.specs.Limits.{script_limit}
 use Rattle.fuota_run.specs.declared.words.FileForm.{FileForm}
 use Rattle.fuota_run.specs.declared.words.FileForm.TheVariants.{Replay, Decode, Capture}
 use Rattle.fuota_run.specs.Outside.{Held}
-use Rattle.report_lines.specs.Lines.{Telling, TellsOnce, TellsAlways}
+use Rattle.report_lines.specs.Lines.{FileText, HasOneText, HasAText}
 use Rattle.fuota_run.specs.Words.{Invocation, plays, payloads, generates, asked}
-use Rattle.fuota_run.specs.Answer.{Answer, usage, read_fault, too_long, campaign_answer, generate_answer, telling_of, text_answer, IsReadAnswer, IsFileAnswer, IsAnswerTo, IsAnswer, HasOneAnswer, HasAnAnswer}
+use Rattle.fuota_run.specs.Answer.{Answer, usage, read_fault, too_long, campaign_answer, generate_answer, file_text, text_answer, IsReadAnswer, IsFileAnswer, IsAnswerTo, IsAnswer, HasOneAnswer, HasAnAnswer}
 use Rattle.payload_replay.proofs.CaptureLines.{capture_one, capture_always}
 use Rattle.payload_replay.proofs.Payloads.{decode_one, decode_always}
 use Rattle.payload_replay.proofs.ReplayLines.{replay_one, replay_always}
 
-read_one : (Tells : Telling) (is_long : Bool) (file : List ℕ) (one other : Answer) → TellsOnce Tells
+read_one : (Tells : FileText) (is_long : Bool) (file : List ℕ) (one other : Answer) → HasOneText Tells
     → IsReadAnswer Tells is_long file one → IsReadAnswer Tells is_long file other → one ≡ other
 read_one Tells true file one other once first second = first ∙ sym second
 read_one Tells false file one other once first second =
     first.2 ∙ ap (λ (said : Result (List ℕ) LineFault). text_answer said) (once file first.0 second.0 first.1 second.1)
     ∙ sym second.2
 
-file_one : (Tells : Telling) (file : Option (List ℕ)) (one other : Answer) → TellsOnce Tells
+file_one : (Tells : FileText) (file : Option (List ℕ)) (one other : Answer) → HasOneText Tells
     → IsFileAnswer Tells file one → IsFileAnswer Tells file other → one ≡ other
 unfolding IsFileAnswer
 file_one Tells None one other once first second = first ∙ sym second
 file_one Tells (Some file) one other once first second =
     read_one Tells (nat_lt script_limit (length file)) file one other once first second
 
-telling_one : (what : FileForm) → TellsOnce (telling_of what)
-telling_one Replay = replay_one
-telling_one (Decode port dir) = decode_one port dir
-telling_one Capture = capture_one
+file_text_one : (what : FileForm) → HasOneText (file_text what)
+file_text_one Replay = replay_one
+file_text_one (Decode port dir) = decode_one port dir
+file_text_one Capture = capture_one
 
 to_one : (what : Option Invocation) (held : Held) (one other : Answer) → IsAnswerTo what held one
     → IsAnswerTo what held other → one ≡ other
@@ -37,7 +37,7 @@ to_one None held one other first second = first ∙ sym second
 to_one (Some (plays what image script)) held one other first second = first ∙ sym second
 to_one (Some (generates seed)) held one other first second = first ∙ sym second
 to_one (Some (payloads what file)) held one other first second =
-    file_one (telling_of what) (held file) one other (telling_one what) first second
+    file_one (file_text what) (held file) one other (file_text_one what) first second
 
 pub one_answer : HasOneAnswer
 unfolding IsAnswer
@@ -45,25 +45,25 @@ one_answer words held one other first second = to_one (asked words) held one oth
 
 -- ---- and all words have one
 
-read_always : (Tells : Telling) (is_long : Bool) (file : List ℕ) → TellsAlways Tells → (a : Answer) × IsReadAnswer Tells is_long file a
+read_always : (Tells : FileText) (is_long : Bool) (file : List ℕ) → HasAText Tells → (a : Answer) × IsReadAnswer Tells is_long file a
 read_always Tells true file always = (too_long script_limit, refl)
 read_always Tells false file always = let said = always file in (text_answer said.0, (said.0, said.1, refl))
 
-file_always : (Tells : Telling) (file : Option (List ℕ)) → TellsAlways Tells → (a : Answer) × IsFileAnswer Tells file a
+file_always : (Tells : FileText) (file : Option (List ℕ)) → HasAText Tells → (a : Answer) × IsFileAnswer Tells file a
 unfolding IsFileAnswer
 file_always Tells None always = (read_fault, refl)
 file_always Tells (Some file) always = read_always Tells (nat_lt script_limit (length file)) file always
 
-telling_always : (what : FileForm) → TellsAlways (telling_of what)
-telling_always Replay = replay_always
-telling_always (Decode port dir) = decode_always port dir
-telling_always Capture = capture_always
+file_text_always : (what : FileForm) → HasAText (file_text what)
+file_text_always Replay = replay_always
+file_text_always (Decode port dir) = decode_always port dir
+file_text_always Capture = capture_always
 
 to_always : (what : Option Invocation) (held : Held) → (a : Answer) × IsAnswerTo what held a
 to_always None held = (usage, refl)
 to_always (Some (plays what image script)) held = (campaign_answer what (held image) (held script), refl)
 to_always (Some (generates seed)) held = (generate_answer seed, refl)
-to_always (Some (payloads what file)) held = file_always (telling_of what) (held file) (telling_always what)
+to_always (Some (payloads what file)) held = file_always (file_text what) (held file) (file_text_always what)
 
 pub always_answered : HasAnAnswer
 unfolding IsAnswer

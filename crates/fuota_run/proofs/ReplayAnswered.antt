@@ -3,7 +3,7 @@ use Rattle.std.proofs.Common.{◌≡◌, ℕ, ◌≤◌, Bool, false, nat_lt, Li
 use Rattle.device_core.specs.Device.{DeviceState}
 use Rattle.script_lines.specs.Lines.{lines_of}
 use Rattle.report_lines.specs.declared.faults.LineFault.{LineFault}
-use Rattle.report_lines.specs.Lines.{told_by}
+use Rattle.report_lines.specs.Lines.{text_at_end}
 use Rattle.payload_replay.specs.Replay.{Reaches, Replays, replay_text}
 use Rattle.payload_replay.proofs.ReplayLines.{reaches_once}
 use Rattle.fuota_run.specs.declared.words.FileForm.TheVariants.{Replay}
@@ -24,4 +24,4 @@ answered words held name file device form source short reaches a given =
     let fine : nat_lt 1048576 (length file) ≡ false = le-ltb _ _ short in
     let its : IsReadAnswer Replays false file a = subst (λ (b : Bool). IsReadAnswer Replays b file a) fine read in
     let one : its.1.0 ≡ Ok device = reaches_once (lines_of file) its.1.0 (Ok device) its.1.1 reaches in
-    its.2 ∙ ap text_answer its.1.2 ∙ ap (λ (o : Result DeviceState LineFault). text_answer (told_by (λ d. replay_text d) o)) one
+    its.2 ∙ ap text_answer its.1.2 ∙ ap (λ (o : Result DeviceState LineFault). text_answer (text_at_end (λ d. replay_text d) o)) one

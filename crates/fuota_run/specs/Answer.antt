@@ -12,7 +12,7 @@ use Rattle.report_lines.specs.declared.faults.LineFault.{LineFault}
 use Rattle.report_lines.specs.Faults.{fault_line}
 use Rattle.fuota_run.specs.Outside.{Held}
 use Rattle.fuota_run.specs.Words.{Invocation, plays, payloads, generates, asked}
-use Rattle.report_lines.specs.Lines.{Telling}
+use Rattle.report_lines.specs.Lines.{FileText}
 use Rattle.payload_replay.specs.Capture.{Captures}
 use Rattle.payload_replay.specs.Decode.{Decodes}
 use Rattle.payload_replay.specs.Replay.{Replays}
@@ -105,11 +105,11 @@ campaign_answer what (Some image) script =
     else if is_image image then script_answer what image script
     else image_refused
 
--- what each form tells of a file of payloads
-abbrev pub telling_of : FileForm → Telling
-telling_of Replay = Replays
-telling_of (Decode port direction) = Decodes port direction
-telling_of Capture = Captures
+-- the text of a file of payloads, form by form
+abbrev pub file_text : FileForm → FileText
+file_text Replay = Replays
+file_text (Decode port direction) = Decodes port direction
+file_text Capture = Captures
 
 -- the answer with what is told of a file of payloads: its text, or its first refused line
 abbrev pub text_answer : Result (List ℕ) LineFault → Answer
@@ -117,12 +117,12 @@ text_answer (Ok text) = answer status.Done text
 text_answer (Err fault) = refused fault
 
 -- the answer to a file of payloads that was read: it is too long, or what is told of it
-abbrev pub IsReadAnswer : Telling → Bool → List ℕ → Answer → Type 0
+abbrev pub IsReadAnswer : FileText → Bool → List ℕ → Answer → Type 0
 IsReadAnswer Tells true file a = a ≡ too_long script_limit
 IsReadAnswer Tells false file a = (said : Result (List ℕ) LineFault) × Tells file said × (a ≡ text_answer said)
 
 -- the answer to a form with one file of payloads
-unfoldable pub IsFileAnswer : Telling → Option (List ℕ) → Answer → Type 0
+unfoldable pub IsFileAnswer : FileText → Option (List ℕ) → Answer → Type 0
 IsFileAnswer Tells None a = a ≡ read_fault
 IsFileAnswer Tells (Some file) a = IsReadAnswer Tells (nat_lt script_limit (length file)) file a
 
@@ -134,7 +134,7 @@ generate_answer seed = played (summary_answer seed) (campaign_of (image_of seed)
 abbrev pub IsAnswerTo : Option Invocation → Held → Answer → Type 0
 IsAnswerTo None held a = a ≡ usage
 IsAnswerTo (Some (plays what image script)) held a = a ≡ campaign_answer what (held image) (held script)
-IsAnswerTo (Some (payloads what file)) held a = IsFileAnswer (telling_of what) (held file) a
+IsAnswerTo (Some (payloads what file)) held a = IsFileAnswer (file_text what) (held file) a
 IsAnswerTo (Some (generates seed)) held a = a ≡ generate_answer seed
 
 -- the answer to the words

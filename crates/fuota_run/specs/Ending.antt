@@ -1,5 +1,5 @@
 -- How a run of the program ends, and why: what each status says of the files and of the sink.
-use Rattle.std.specs.Prelude.{◌≡◌, ◌≢◌, ◌↔◌, ◌⊎◌, ℕ, ◌≤◌, length, Bool, true, false, List, ⊤, Option, None, Some, Result, Ok, Err}
+use Rattle.std.specs.Prelude.{◌≡◌, ◌≢◌, ◌↔◌, ◌⊎◌, ℕ, ◌≤◌, length, Bool, true, false, List, ⊤, Option, None, Some, IfSome, Result, Ok, Err}
 use Rattle.std.specs.Io.KnownBytes.{Keeps, Appends, IsAtEnd}
 use Rattle.fuota_run.specs.declared.status.Status.{Status}
 use Rattle.fuota_run.specs.declared.status.Status.TheVariants as status
@@ -12,7 +12,7 @@ use Rattle.image_slots.specs.Image.{is_image}
 use Rattle.fuota_run.specs.Limits.{image_limit}
 use Rattle.fuota_run.specs.Source.{IsSource, IsTakenOf}
 use Rattle.fuota_run.specs.Words.{Invocation, plays, payloads, generates, asked, asks_files}
-use Rattle.fuota_run.specs.Answer.{Answer, answer, read_fault, usage, telling_of, campaign_answer, generate_answer, IsFileAnswer, IsAnswerTo, IsAnswer}
+use Rattle.fuota_run.specs.Answer.{Answer, answer, read_fault, usage, file_text, campaign_answer, generate_answer, IsFileAnswer, IsAnswerTo, IsAnswer}
 
 -- where it is told what is held, something is held under the names of the files that are asked for
 abbrev pub HoldsInvocation : Option Held → Option Invocation → Type 0
@@ -50,7 +50,7 @@ abbrev pub IsAnswerToSome : Option Invocation → Answer → Type 0
 IsAnswerToSome None a = a ≡ usage
 IsAnswerToSome (Some (plays what image_name script_name)) a =
     (image : List ℕ) × (script : List ℕ) × (a ≡ campaign_answer what (Some image) (Some script))
-IsAnswerToSome (Some (payloads what name)) a = (file : List ℕ) × IsFileAnswer (telling_of what) (Some file) a
+IsAnswerToSome (Some (payloads what name)) a = (file : List ℕ) × IsFileAnswer (file_text what) (Some file) a
 IsAnswerToSome (Some (generates seed)) a = a ≡ generate_answer seed
 
 abbrev pub Gives : Option Held → Option Invocation → Answer → Type 0
@@ -90,6 +90,12 @@ pub record IsSoundAnswer (what : Option Invocation) (files : OutsideFiles) (a : 
   -- of a source that is too long so many bytes were taken
   pub taken : (taken : ℕ) → a.status ≡ status.TooLong taken → IsTakenOf files.held what taken files.left
 
+-- what is said of an answer over files that hold this, whose count of faults was the one and is the other, and of which this
+-- is left of the file chosen last
+abbrev pub IsSoundOver : Option Held → (before after : ℕ) → Option (List ℕ) → Option Invocation → Answer → Type 0
+IsSoundOver held before after left what a =
+    IsSoundAnswer what (record { held = held; before = before; after = after; left = left }) a
+
 -- an image file that was read under a name, within its limit
 pub record IsImageRead (held : Option Held) (name image : List ℕ) : Type 0 where
   pub source : IsSource held name image_limit image
@@ -97,6 +103,11 @@ pub record IsImageRead (held : Option Held) (name image : List ℕ) : Type 0 whe
   pub file : is_image image ≡ true
 
 -- ---- the run as a whole
+
+-- where it is told what the files hold, no count of faults rose and memory sufficed, this is so of what they hold
+abbrev pub WhereNoneFails : Option Held → (files_before files_after out_before out_after : ℕ) → Status → (Held → Type 0) → Type 0
+WhereNoneFails held files_before files_after out_before out_after s Claim = IfSome held (λ h.
+    ¬ HasRisen files_before files_after → ¬ HasRisen out_before out_after → s ≢ status.Memory → Claim h)
 
 -- the status is that of the answer, and its text was appended; where nothing is told of the files, of an answer to some bytes
 abbrev pub AppendsAnswer : Option Held → List (List ℕ) → Status → Option (List ℕ) → Option (List ℕ) → Type 0

@@ -10,6 +10,7 @@
 #![tactic(auto)]
 
 mod answers;
+mod campaign_answers;
 mod files;
 mod hearing;
 mod laws;
@@ -21,7 +22,6 @@ mod source;
 mod status;
 mod sure;
 mod system;
-mod telling;
 mod words;
 
 pub use files::{Failed, Files};

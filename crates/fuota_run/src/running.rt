@@ -1,14 +1,14 @@
 // The whole program: words and files in, one text and a status out.
-ghost use Rattle.std.specs.Prelude.{◌≡◌, ◌≢◌, ℕ, true, false, List, [], None, Some, map, string_bytes, IfOk, IfSome};
+ghost use Rattle.std.specs.Prelude.{◌≡◌, ℕ, true, false, List, [], None, Some, map, string_bytes, IfOk};
 ghost use Rattle.std.specs.Io.KnownBytes.{Appends};
-ghost use Rattle.fuota_run.specs.Outside.{HoldsName, HasRisen};
+ghost use Rattle.fuota_run.specs.Outside.{HoldsName};
 ghost use Rattle.image_slots.specs.Image.{is_image};
 ghost use Rattle.fuota_run.specs.declared.words.FileForm.TheVariants.{Replay, Decode, Capture};
 ghost use Rattle.fuota_run.specs.Words.{plays, payloads, generates, asked, seen_asked, asks_files};
 ghost use Rattle.payload_replay.specs.HeldCapturing.{CapturingStands};
 ghost use Rattle.payload_replay.specs.HeldDecoding.{DecodingStands};
 ghost use Rattle.payload_replay.specs.HeldReplaying.{ReplayingStands};
-ghost use Rattle.fuota_run.specs.Ending.{HoldsForm, HoldsInvocation, OutsideFiles, IsSoundAnswer, IsImageRead, IsReadUp, Ends, AppendsAnswer, IsNoForm, IsFinished, IsFaultless};
+ghost use Rattle.fuota_run.specs.Ending.{HoldsForm, HoldsInvocation, OutsideFiles, IsSoundAnswer, IsSoundOver, WhereNoneFails, IsImageRead, IsReadUp, Ends, AppendsAnswer, IsNoForm, IsFinished, IsFaultless};
 ghost use Rattle.fuota_run.specs.Headline.{IsCampaignRun, IsRecoveryRun};
 ghost use Rattle.fuota_run.specs.Source.{IsTakenOf};
 ghost use Rattle.fuota_run.specs.HeldAnswer.{answer_in};
@@ -16,13 +16,13 @@ ghost use Rattle.campaign_world.specs.World.{first_world};
 ghost use Rattle.campaign_world.specs.HeldWorld.{WorldStands};
 
 use crate::answers::{Answer, answer_of, answer_with, text_answer, unread_answer};
+use crate::campaign_answers::{seed_answer, world_answer};
 use crate::files::Files;
 use crate::hearing::hear_source;
 use crate::output::write_text;
 use crate::sink::Sink;
 use crate::source::read_source;
 use crate::status::Status;
-use crate::telling::{seed_answer, world_answer};
 use crate::words::{FileForm, Invocation, ScriptForm, read_words};
 use campaign_generator::generate;
 use campaign_world::World;
@@ -48,18 +48,24 @@ pub fn run<F: Files, O: Sink>(alloc: Global, words: &[String], files: &mut F, ou
 
     // Where it is told what the files hold, no count of faults rose and memory sufficed, status and text are those of the
     // answer to the words.
-    ensures exact { IfSome (F.held files.old) (λ held. ¬ HasRisen (F.faults files.old) (F.faults files.new) → ¬ HasRisen (O.faults out.old) (O.faults out.new) → result ≢ Status.Memory
-        → AppendsAnswer (Some held) (map string_bytes words.now) result (O.written out.old) (O.written out.new)) }
+    ensures exact { WhereNoneFails (F.held files.old)
+        (F.faults files.old) (F.faults files.new) (O.faults out.old) (O.faults out.new) result
+        (λ held. AppendsAnswer (Some held) (map string_bytes words.now) result
+        (O.written out.old) (O.written out.new)) }
 
     // So a campaign's whole report is written, and what it says of each device's session is its verdict at the first moment
     // over what the lines bring. Where the script is honest, it is the headline: the session hears what the script delivers,
     // and is complete from the first fragment on after which one file alone fits, the image.
-    ensures headline { IfSome (F.held files.old) (λ held. ¬ HasRisen (F.faults files.old) (F.faults files.new) → ¬ HasRisen (O.faults out.old) (O.faults out.new) → result ≢ Status.Memory
-        → IsCampaignRun (map string_bytes words.now) held result (O.written out.old) (O.written out.new)) }
+    ensures headline { WhereNoneFails (F.held files.old)
+        (F.faults files.old) (F.faults files.new) (O.faults out.old) (O.faults out.new) result
+        (λ held. IsCampaignRun (map string_bytes words.now) held result
+        (O.written out.old) (O.written out.new)) }
 
     // And what is recovered of a device that has its file is that file, the image where the script is honest.
-    ensures recovery { IfSome (F.held files.old) (λ held. ¬ HasRisen (F.faults files.old) (F.faults files.new) → ¬ HasRisen (O.faults out.old) (O.faults out.new) → result ≢ Status.Memory
-        → IsRecoveryRun (map string_bytes words.now) held result (O.written out.old) (O.written out.new)) }
+    ensures recovery { WhereNoneFails (F.held files.old)
+        (F.faults files.old) (F.faults files.new) (O.faults out.old) (O.faults out.new) result
+        (λ held. IsRecoveryRun (map string_bytes words.now) held result
+        (O.written out.old) (O.written out.new)) }
 
     // What each status says, whatever failed.
     ensures ends { Ends (F.held files.old) (map string_bytes words.now) (record {
@@ -71,16 +77,21 @@ pub fn run<F: Files, O: Sink>(alloc: Global, words: &[String], files: &mut F, ou
       new = O.written out.new;
     }) result }
     // No fault is passed over: where a call failed, the status says so, or that memory was wanting.
-    ensures faultless { IsFaultless result → (F.faults files.new ≡ F.faults files.old) × (O.faults out.new ≡ O.faults out.old) }
+    ensures faultless { IsFaultless result
+        → (F.faults files.new ≡ F.faults files.old) × (O.faults out.new ≡ O.faults out.old) }
     // Words that are no form are answered so, and no others.
     ensures usage { result ≡ Status.Usage → asked (map string_bytes words.now) ≡ None }
     ensures no_form { asked (map string_bytes words.now) ≡ None → IsNoForm result }
     ensures finished { IsFinished result (O.finished out.new) }
-    ensures whole { IsReadUp (asks_files (asked (map string_bytes words.now))) result (F.left files.new) }
+    ensures whole { IsReadUp (asks_files (asked (map string_bytes words.now))) result
+        (F.left files.new) }
     // Words that name no file leave the files as they were.
-    ensures untouched { asks_files (asked (map string_bytes words.now)) ≡ false → files.new ≡ files.old }
+    ensures untouched { asks_files (asked (map string_bytes words.now)) ≡ false
+        → files.new ≡ files.old }
     // Where a source is too long, so many bytes of it were taken as the status says, and no more.
-    ensures taken { (taken : ℕ) → result ≡ Status.TooLong taken → IsTakenOf (F.held files.old) (asked (map string_bytes words.now)) taken (F.left files.new) }
+    ensures taken { (taken : ℕ) → result ≡ Status.TooLong taken
+        → IsTakenOf (F.held files.old) (asked (map string_bytes words.now)) taken
+        (F.left files.new) }
 {
     match answer_to(alloc, words, files) {
         Err(_) => Status::Memory,
@@ -95,13 +106,11 @@ pub fn run<F: Files, O: Sink>(alloc: Global, words: &[String], files: &mut F, ou
 #[tactic(auto, using(crate::proofs::AnswerLemmas::holds_asked))]
 fn answer_to<F: Files>(alloc: Global, words: &[String], files: &mut F) -> Result<Answer, AllocError>
     requires { HoldsForm (F.held files.old) (map string_bytes words.now) }
-    ensures answer { IfOk result (λ r. IsSoundAnswer (asked (map string_bytes words.now)) (record {
-      held = F.held files.old;
-      before = F.faults files.old;
-      after = F.faults files.new;
-      left = F.left files.new;
-    }) (answer_in r)) }
-    ensures untouched { asks_files (asked (map string_bytes words.now)) ≡ false → files.new ≡ files.old }
+    ensures answer { IfOk result (λ r. IsSoundOver (F.held files.old)
+        (F.faults files.old) (F.faults files.new) (F.left files.new)
+        (asked (map string_bytes words.now)) (answer_in r)) }
+    ensures untouched { asks_files (asked (map string_bytes words.now)) ≡ false
+        → files.new ≡ files.old }
 {
     match read_words(alloc, words) {
         Ok(what) => answer_for(alloc, what, files),
@@ -116,12 +125,9 @@ fn answer_for<F: Files>(
     files: &mut F,
 ) -> Result<Answer, AllocError>
     requires { HoldsInvocation (F.held files.old) (seen_asked what) }
-    ensures answer { IfOk result (λ r. IsSoundAnswer (seen_asked what.entry) (record {
-      held = F.held files.old;
-      before = F.faults files.old;
-      after = F.faults files.new;
-      left = F.left files.new;
-    }) (answer_in r)) }
+    ensures answer { IfOk result (λ r. IsSoundOver (F.held files.old)
+        (F.faults files.old) (F.faults files.new) (F.left files.new)
+        (seen_asked what.entry) (answer_in r)) }
     ensures untouched { asks_files (seen_asked what.entry) ≡ false → files.new ≡ files.old }
 {
     match what {
@@ -148,12 +154,9 @@ fn campaign<F: Files>(
 ) -> Result<Answer, AllocError>
     requires image { HoldsName (F.held files.old) image_name.now }
     requires script { HoldsName (F.held files.old) script_name.now }
-    ensures { IfOk result (λ r. IsSoundAnswer (Some (plays what image_name.now script_name.now)) (record {
-      held = F.held files.old;
-      before = F.faults files.old;
-      after = F.faults files.new;
-      left = F.left files.new;
-    }) (answer_in r)) }
+    ensures { IfOk result (λ r. IsSoundOver (F.held files.old)
+        (F.faults files.old) (F.faults files.new) (F.left files.new)
+        (Some (plays what image_name.now script_name.now)) (answer_in r)) }
 {
     let image = match read_source(alloc, files, image_name, IMAGE_LIMIT) {
         Ok(image) => image,
@@ -176,12 +179,9 @@ fn script<F: Files>(
     requires image { is_image image.now ≡ true }
     requires script { HoldsName (F.held files.old) name.now }
     ensures { (image_name : List ℕ) → IsImageRead (F.held files.old) image_name image.now
-        → IfOk result (λ r. IsSoundAnswer (Some (plays what image_name name.now)) (record {
-          held = F.held files.old;
-          before = F.faults files.old;
-          after = F.faults files.new;
-          left = F.left files.new;
-        }) (answer_in r)) }
+        → IfOk result (λ r. IsSoundOver (F.held files.old)
+        (F.faults files.old) (F.faults files.new) (F.left files.new)
+        (Some (plays what image_name name.now)) (answer_in r)) }
 {
     let mut heard = World::new(alloc, image)?;
     hear_script(alloc, files, what, &mut heard, name)
@@ -199,12 +199,9 @@ fn hear_script<F: Files>(
     requires fresh { heard.old.kept ≡ None }
     ensures { (image image_name : List ℕ) → WorldStands heard.old (first_world image)
         → IsImageRead (F.held files.old) image_name image
-        → IfOk result (λ r. IsSoundAnswer (Some (plays what image_name name.now)) (record {
-          held = F.held files.old;
-          before = F.faults files.old;
-          after = F.faults files.new;
-          left = F.left files.new;
-        }) (answer_in r)) }
+        → IfOk result (λ r. IsSoundOver (F.held files.old)
+        (F.faults files.old) (F.faults files.new) (F.left files.new)
+        (Some (plays what image_name name.now)) (answer_in r)) }
 {
     match hear_source(files, name, SCRIPT_LIMIT, heard) {
         Ok(()) => answer_of(alloc, world_answer(alloc, what, heard)),
@@ -220,12 +217,9 @@ fn payloads<F: Files>(
     name: &str,
 ) -> Result<Answer, AllocError>
     requires { HoldsName (F.held files.old) name.now }
-    ensures { IfOk result (λ r. IsSoundAnswer (Some (payloads what name.now)) (record {
-      held = F.held files.old;
-      before = F.faults files.old;
-      after = F.faults files.new;
-      left = F.left files.new;
-    }) (answer_in r)) }
+    ensures { IfOk result (λ r. IsSoundOver (F.held files.old)
+        (F.faults files.old) (F.faults files.new) (F.left files.new)
+        (Some (payloads what name.now)) (answer_in r)) }
 {
     match what {
         FileForm::Replay => {
@@ -252,12 +246,9 @@ fn hear_replay<F: Files>(
 ) -> Result<Answer, AllocError>
     requires file { HoldsName (F.held files.old) name.now }
     requires fresh { ReplayingStands heard.old [] }
-    ensures { IfOk result (λ r. IsSoundAnswer (Some (payloads Replay name.now)) (record {
-      held = F.held files.old;
-      before = F.faults files.old;
-      after = F.faults files.new;
-      left = F.left files.new;
-    }) (answer_in r)) }
+    ensures { IfOk result (λ r. IsSoundOver (F.held files.old)
+        (F.faults files.old) (F.faults files.new) (F.left files.new)
+        (Some (payloads Replay name.now)) (answer_in r)) }
 {
     match hear_source(files, name, SCRIPT_LIMIT, heard) {
         Ok(()) => text_answer(alloc, heard.text()),
@@ -274,12 +265,9 @@ fn hear_decode<F: Files>(
 ) -> Result<Answer, AllocError>
     requires file { HoldsName (F.held files.old) name.now }
     requires fresh { DecodingStands heard.port heard.direction heard [] }
-    ensures { IfOk result (λ r. IsSoundAnswer (Some (payloads (Decode heard.port heard.direction) name.now)) (record {
-      held = F.held files.old;
-      before = F.faults files.old;
-      after = F.faults files.new;
-      left = F.left files.new;
-    }) (answer_in r)) }
+    ensures { IfOk result (λ r. IsSoundOver (F.held files.old)
+        (F.faults files.old) (F.faults files.new) (F.left files.new)
+        (Some (payloads (Decode heard.port heard.direction) name.now)) (answer_in r)) }
 {
     match hear_source(files, name, SCRIPT_LIMIT, &mut heard) {
         Ok(()) => text_answer(alloc, heard.text()),
@@ -296,12 +284,9 @@ fn hear_capture<F: Files>(
 ) -> Result<Answer, AllocError>
     requires file { HoldsName (F.held files.old) name.now }
     requires fresh { CapturingStands heard [] }
-    ensures { IfOk result (λ r. IsSoundAnswer (Some (payloads Capture name.now)) (record {
-      held = F.held files.old;
-      before = F.faults files.old;
-      after = F.faults files.new;
-      left = F.left files.new;
-    }) (answer_in r)) }
+    ensures { IfOk result (λ r. IsSoundOver (F.held files.old)
+        (F.faults files.old) (F.faults files.new) (F.left files.new)
+        (Some (payloads Capture name.now)) (answer_in r)) }
 {
     match hear_source(files, name, SCRIPT_LIMIT, &mut heard) {
         Ok(()) => text_answer(alloc, heard.text()),

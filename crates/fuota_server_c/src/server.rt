@@ -14,7 +14,7 @@ use crate::plan::{PlanFields, field_number, plan_of};
 use crate::sent::{DownFields, put_down};
 use crate::server_handle::ServerHandle;
 use c_base::answer::{DONE, NO_MEMORY, NO_OBJECT, NOTHING, RANGE, REFUSED, SPENT};
-use campaign_server::{Request, ServerError, Spent, Stage};
+use campaign_server::{NothingLeft, Request, ServerError, Stage};
 use image_slots::is_image;
 use package_grammar::Downlink;
 use std::alloc::{AllocError, Global};
@@ -42,7 +42,8 @@ pub extern "C" fn fuota_server_new(
     image: &[u8],
     field: &mut u8,
 ) -> u8
-    ensures { IsNewServer image.now (plan_of plan.now keys.now) handle.new.held field.old field.new result }
+    ensures { IsNewServer image.now (plan_of plan.now keys.now)
+        handle.new.held field.old field.new result }
 {
     fuota_server_free(handle, alloc);
     if !is_image(image) {
@@ -68,7 +69,8 @@ fn boxed(
     image: &[u8],
 ) -> Result<Box<Campaign>, ServerError>
     requires { is_image image.now ≡ true }
-    ensures { IsMade image.now (plan_of fields.now keys.now) (result_map_both (λ b. b.value) (λ e. e) result) }
+    ensures { IsMade image.now (plan_of fields.now keys.now)
+        (result_map_both (λ b. b.value) (λ e. e) result) }
 {
     let plan = match plan_of(alloc, fields, keys) {
         Ok(plan) => plan,
@@ -98,8 +100,8 @@ pub extern "C" fn fuota_server_next_fragment(
     alloc: Global,
     out: &mut DownFields,
 ) -> u8
-    ensures { Does handle.old.held handle.new.held
-        (λ x y. SendsFragment x y out.old out.new result) ((result ≡ no_object) × (out.new ≡ out.old)) }
+    ensures { Does handle.old.held handle.new.held (λ x y. SendsFragment x y out.old out.new result)
+        ((result ≡ no_object) × (out.new ≡ out.old)) }
 {
     match handle.take(alloc) {
         None => NO_OBJECT,
@@ -119,8 +121,8 @@ fn next_fragment(server: &mut Campaign, out: &mut DownFields) -> u8
             put_down(&down, out);
             DONE
         }
-        Err(Spent::Fragments) => NOTHING,
-        Err(Spent::Counts) => SPENT,
+        Err(NothingLeft::Fragments) => NOTHING,
+        Err(NothingLeft::Counts) => SPENT,
     }
 }
 
@@ -132,8 +134,8 @@ pub extern "C" fn fuota_server_status_all(
     alloc: Global,
     out: &mut DownFields,
 ) -> u8
-    ensures { Does handle.old.held handle.new.held
-        (λ x y. SendsStatus x y out.old out.new result) ((result ≡ no_object) × (out.new ≡ out.old)) }
+    ensures { Does handle.old.held handle.new.held (λ x y. SendsStatus x y out.old out.new result)
+        ((result ≡ no_object) × (out.new ≡ out.old)) }
 {
     match handle.take(alloc) {
         None => NO_OBJECT,

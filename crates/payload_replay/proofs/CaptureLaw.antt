@@ -14,7 +14,7 @@ use Rattle.device_core.specs.Device.{DeviceState}
 use Rattle.report_lines.specs.declared.faults.LineWhy.{LineWhy}
 use Rattle.report_lines.specs.declared.faults.LineWhy.TheVariants as why
 use Rattle.report_lines.specs.declared.faults.LineFault.{LineFault}
-use Rattle.report_lines.specs.Lines.{BehindLine, TakesLines, told_by}
+use Rattle.report_lines.specs.Lines.{BehindLine, TakesLines, text_at_end}
 use Rattle.payload_replay.specs.PayloadLines.{is_beyond, payload_of, payload_by}
 use Rattle.payload_replay.specs.Headed.{rows_of, TakesBehind, TakesFile}
 use Rattle.payload_replay.specs.Replay.{replay_device, Hears, Reaches, after_payload, closing_text, replay_text, Replays}
@@ -117,7 +117,7 @@ ends_so n (item ∷ items) (line ∷ lines) [] now end are taken = absurd are
 -- ---- the whole file
 
 of_told : (outcome : Result Caught LineFault) (text : List ℕ)
-    → Path (Result (List ℕ) LineFault) (Ok text) (told_by (λ all. capture_text all) outcome)
+    → Path (Result (List ℕ) LineFault) (Ok text) (text_at_end (λ all. capture_text all) outcome)
     → (all : Caught) × (outcome ≡ Ok all) × (text ≡ capture_text all)
 of_told (Ok all) text is = (all, refl, cc)
 of_told (Err fault) text is = absurd cc

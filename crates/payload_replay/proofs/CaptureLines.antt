@@ -9,7 +9,7 @@ use Rattle.report_lines.specs.declared.faults.LineFault.{LineFault}
 use Rattle.report_lines.specs.declared.faults.LineError.{LineError}
 use Rattle.report_lines.specs.declared.faults.LineError.TheVariants as error
 use Rattle.report_lines.specs.Texts.{seen_text}
-use Rattle.report_lines.specs.Lines.{told_by, IsLineRefused, IsTold}
+use Rattle.report_lines.specs.Lines.{text_at_end, IsLineRefused, IsFileText}
 use Rattle.payload_replay.specs.PayloadLines.{is_beyond}
 use Rattle.payload_replay.specs.Replay.{closing_text}
 use Rattle.payload_replay.specs.Capture.{Caught, line_entry, Catches, caught_next, first_caught, CatchesAll, capture_text, Captures, CapturesOnce, CapturesAlways}
@@ -28,7 +28,7 @@ catches_once lines one other =
 pub capture_one : CapturesOnce
 unfolding Captures
 capture_one file one other first second =
-    first.2 ∙ ap (told_by (λ all. capture_text all))
+    first.2 ∙ ap (text_at_end (λ all. capture_text all))
     (catches_once (lines_of file) first.0 second.0 first.1 second.1) ∙ sym second.2
 
 pub capture_always : CapturesAlways
@@ -36,7 +36,7 @@ unfolding Captures
 capture_always file =
     let t = file_leads (codes "capture") line_entry Catches (λ rows. first_caught rows) (lines_of file)
     (λ n item all. (caught_next n item all, refl)) in
-    (told_by (λ all. capture_text all) t.0, (t.0, t.1, refl))
+    (text_at_end (λ all. capture_text all) t.0, (t.0, t.1, refl))
 
 -- ---- a capture hears a line
 
@@ -83,7 +83,7 @@ captured_kept = headed_kept (codes "capture") line_entry Catches (λ rows. first
 pub captured_text : (held : HeldHeaded HeldCaught) (state : HeldCaught) (file : List ℕ) (r : Result (Vec ℕ Global) LineError)
     → held.kept ≡ None → held.state ≡ Some state
     → ((all : Caught) → CaughtStands state all → IfOk r (λ text. text.items ≡ capture_text all)) → IfErr r (λ e. e ≡ error.Memory)
-    → CapturingStands held (lines_of file) → IsTold Captures file (seen_text r)
+    → CapturingStands held (lines_of file) → IsFileText Captures file (seen_text r)
 unfolding Captures
 captured_text held state file (Ok text) none some text_is memory stands =
     let its = headed_state (codes "capture") line_entry Catches (λ rows. first_caught rows) CaughtStands held state (lines_of file) none some stands in (
@@ -92,7 +92,7 @@ captured_text held state file (Ok text) none some text_is memory stands =
       ap (λ (t : List ℕ). let answer : Result (List ℕ) LineFault = Ok t in answer) (text_is its.0 its.2),
     )
 captured_text held state file (Err e) none some text_is memory stands =
-    subst (λ (x : LineError). IsTold Captures file (Err x)) (sym memory) tt
+    subst (λ (x : LineError). IsFileText Captures file (Err x)) (sym memory) tt
 
 -- the closing lines go behind what is held
 pub text_behind : (held : HeldCaught) (all : Caught) → CaughtStands held all
@@ -104,7 +104,7 @@ text_behind held all stands =
 
 -- there was no line
 pub captured_nothing : (held : HeldHeaded HeldCaught) (file : List ℕ) → held.kept ≡ None → held.state ≡ None
-    → CapturingStands held (lines_of file) → IsTold Captures file (Err (error.Line (record { line = 1; why = why.Syntax })))
+    → CapturingStands held (lines_of file) → IsFileText Captures file (Err (error.Line (record { line = 1; why = why.Syntax })))
 unfolding Captures
 captured_nothing held file none nothing stands = (
   Err (record { line = 1; why = why.Syntax }),
@@ -114,7 +114,7 @@ captured_nothing held file none nothing stands = (
 
 -- a line was refused, or memory was wanting
 pub captured_error : (held : HeldHeaded HeldCaught) (file : List ℕ) (e : LineError) → held.kept ≡ Some e
-    → CapturingStands held (lines_of file) → IsTold Captures file (Err e)
+    → CapturingStands held (lines_of file) → IsFileText Captures file (Err e)
 unfolding Captures
 captured_error held file (error.Line fault) kept stands =
     (Err fault, headed_fault (codes "capture") line_entry Catches (λ rows. first_caught rows) CaughtStands held fault (lines_of file) kept stands, refl)

@@ -11,7 +11,7 @@ use Rattle.report_lines.specs.declared.faults.LineError.TheVariants as error
 use Rattle.report_lines.specs.Texts.{seen_text}
 use Rattle.script_lines.specs.Lines.{lines_of}
 use Rattle.payload_replay.specs.PayloadLines.{payload_of}
-use Rattle.report_lines.specs.Lines.{TakesLines, told_by, IsLineRefused, IsTold}
+use Rattle.report_lines.specs.Lines.{TakesLines, text_at_end, IsLineRefused, IsFileText}
 use Rattle.payload_replay.specs.Decode.{payload_text, numbered_text, Writes, Decodes, HasOneAnswer, HasAnAnswer}
 use Rattle.payload_replay.specs.HeldDecoding.{HeldDecoding, IsDecodedBy, DecodingStands, HearsDecoded}
 use Rattle.payload_replay.proofs.PayloadLines.{payload_cut}
@@ -85,7 +85,7 @@ decoded_kept old line e kept port direction lines whole same stands =
 
 pub decoded_told : (held : HeldDecoding) (port : ℕ) (direction : Direction) (file text : List ℕ) (r : Result (Vec ℕ Global) LineError)
     → held.kept ≡ None → text ≡ held.text → IfOk r (λ all. all.items ≡ text ++ codes "end\n") → IfErr r (λ e. e ≡ error.Memory)
-    → DecodingStands port direction held (lines_of file) → IsTold (Decodes port direction) file (seen_text r)
+    → DecodingStands port direction held (lines_of file) → IsFileText (Decodes port direction) file (seen_text r)
 unfolding Decodes
 decoded_told held port direction file text (Ok all) none text_is is memory stands =
     let taken = subst (λ (k : Option LineError). IsDecodedBy held (lines_of file) k) none stands.behind in
@@ -95,10 +95,10 @@ decoded_told held port direction file text (Ok all) none text_is is memory stand
       ap (λ (t : List ℕ). let r : Result (List ℕ) LineFault = Ok t in r) (is ∙ ap (λ (t : List ℕ). t ++ codes "end\n") text_is),
     )
 decoded_told held port direction file text (Err e) none text_is is memory stands =
-    subst (λ (x : LineError). IsTold (Decodes port direction) file (Err x)) (sym memory) tt
+    subst (λ (x : LineError). IsFileText (Decodes port direction) file (Err x)) (sym memory) tt
 
 pub decoded_error : (held : HeldDecoding) (port : ℕ) (direction : Direction) (file : List ℕ) (e : LineError) → held.kept ≡ Some e
-    → DecodingStands port direction held (lines_of file) → IsTold (Decodes port direction) file (Err e)
+    → DecodingStands port direction held (lines_of file) → IsFileText (Decodes port direction) file (Err e)
 unfolding Decodes
 decoded_error held port direction file (error.Line fault) kept stands =
     let refused = subst (λ (k : Option LineError). IsDecodedBy held (lines_of file) k) kept stands.behind in
@@ -113,7 +113,7 @@ pub decode_one : HasOneAnswer
 unfolding Decodes
 decode_one port dir file one other first second =
     first.2
-    ∙ ap (told_by (λ text. text ++ codes "end\n")) (lines_once payload_of (Writes port dir) 0 [] (lines_of file) first.0 second.0
+    ∙ ap (text_at_end (λ text. text ++ codes "end\n")) (lines_once payload_of (Writes port dir) 0 [] (lines_of file) first.0 second.0
     (λ n payload text one other written again. written ∙ sym again) first.1 second.1)
     ∙ sym second.2
 
@@ -123,4 +123,4 @@ unfolding Decodes
 decode_always port dir file =
     let t = lines_lead payload_of (Writes port dir) 0 [] (lines_of file)
     (λ n payload text. (text ++ numbered_text n (payload_text (reading_of port dir payload)), refl)) in
-    (told_by (λ text. text ++ codes "end\n") t.0, (t.0, t.1, refl))
+    (text_at_end (λ text. text ++ codes "end\n") t.0, (t.0, t.1, refl))

@@ -10,7 +10,7 @@ use Rattle.report_lines.specs.declared.faults.LineFault.{LineFault}
 use Rattle.report_lines.specs.declared.faults.LineError.{LineError}
 use Rattle.report_lines.specs.declared.faults.LineError.TheVariants as error
 use Rattle.report_lines.specs.Texts.{seen_text}
-use Rattle.report_lines.specs.Lines.{told_by, IsLineRefused, IsTold}
+use Rattle.report_lines.specs.Lines.{text_at_end, IsLineRefused, IsFileText}
 use Rattle.payload_replay.specs.PayloadLines.{payload_of}
 use Rattle.payload_replay.specs.Replay.{replay_device, Hears, Reaches, replay_text, after_payload, Replays, ReplaysOnce, ReplaysAlways}
 use Rattle.payload_replay.specs.HeldHeaded.{HeldHeaded, IsBegun}
@@ -29,7 +29,7 @@ reaches_once lines one other =
 pub replay_one : ReplaysOnce
 unfolding Replays
 replay_one file one other first second =
-    first.2 ∙ ap (told_by (λ device. replay_text device))
+    first.2 ∙ ap (text_at_end (λ device. replay_text device))
     (reaches_once (lines_of file) first.0 second.0 first.1 second.1) ∙ sym second.2
 
 pub replay_always : ReplaysAlways
@@ -37,7 +37,7 @@ unfolding Replays
 replay_always file =
     let t = file_leads (codes "replay") payload_of Hears (λ rows. replay_device rows) (lines_of file)
     (λ n payload device. (after_payload n payload device, refl)) in
-    (told_by (λ device. replay_text device) t.0, (t.0, t.1, refl))
+    (text_at_end (λ device. replay_text device) t.0, (t.0, t.1, refl))
 
 -- ---- a replay hears a line
 
@@ -79,7 +79,7 @@ replayed_kept = headed_kept (codes "replay") payload_of Hears (λ rows. replay_d
 pub replayed_text : (held : HeldHeaded HeldDevice) (device : HeldDevice) (file : List ℕ) (r : Result (Vec ℕ Global) LineError)
     → held.kept ≡ None → held.state ≡ Some device
     → ((d : DeviceState) → DeviceStands device d → IfOk r (λ text. text.items ≡ replay_text d)) → IfErr r (λ e. e ≡ error.Memory)
-    → ReplayingStands held (lines_of file) → IsTold Replays file (seen_text r)
+    → ReplayingStands held (lines_of file) → IsFileText Replays file (seen_text r)
 unfolding Replays
 replayed_text held device file (Ok text) none some text_is memory stands =
     let its = headed_state (codes "replay") payload_of Hears (λ rows. replay_device rows) DeviceStands held device (lines_of file) none some stands in (
@@ -88,11 +88,11 @@ replayed_text held device file (Ok text) none some text_is memory stands =
       ap (λ (t : List ℕ). let answer : Result (List ℕ) LineFault = Ok t in answer) (text_is its.0 its.2),
     )
 replayed_text held device file (Err e) none some text_is memory stands =
-    subst (λ (x : LineError). IsTold Replays file (Err x)) (sym memory) tt
+    subst (λ (x : LineError). IsFileText Replays file (Err x)) (sym memory) tt
 
 -- there was no line
 pub replayed_nothing : (held : HeldHeaded HeldDevice) (file : List ℕ) → held.kept ≡ None → held.state ≡ None
-    → ReplayingStands held (lines_of file) → IsTold Replays file (Err (error.Line (record { line = 1; why = why.Syntax })))
+    → ReplayingStands held (lines_of file) → IsFileText Replays file (Err (error.Line (record { line = 1; why = why.Syntax })))
 unfolding Replays
 replayed_nothing held file none nothing stands = (
   Err (record { line = 1; why = why.Syntax }),
@@ -102,7 +102,7 @@ replayed_nothing held file none nothing stands = (
 
 -- a line was refused, or memory was wanting
 pub replayed_error : (held : HeldHeaded HeldDevice) (file : List ℕ) (e : LineError) → held.kept ≡ Some e
-    → ReplayingStands held (lines_of file) → IsTold Replays file (Err e)
+    → ReplayingStands held (lines_of file) → IsFileText Replays file (Err e)
 unfolding Replays
 replayed_error held file (error.Line fault) kept stands =
     (Err fault, headed_fault (codes "replay") payload_of Hears (λ rows. replay_device rows) DeviceStands held fault (lines_of file) kept stands, refl)

@@ -15,7 +15,7 @@ use Rattle.report_lines.specs.declared.faults.LineWhy.TheVariants as why
 use Rattle.report_lines.specs.declared.faults.LineFault.{LineFault}
 use Rattle.script_lines.specs.Lines.{lines_of}
 use Rattle.report_lines.specs.Devices.{◌⧺◌}
-use Rattle.report_lines.specs.Lines.{told_by, TellsOnce, TellsAlways}
+use Rattle.report_lines.specs.Lines.{text_at_end, HasOneText, HasAText}
 use Rattle.payload_replay.specs.PayloadLines.{is_beyond}
 use Rattle.payload_replay.specs.Headed.{TakesFile}
 use Rattle.payload_replay.specs.Decode.{payload_text}
@@ -95,12 +95,12 @@ capture_text all = codes "fuota capture 1\n" ++ (all.text ++ closing_text all.de
 unfoldable pub Captures : List ℕ → Result (List ℕ) LineFault → Type 0
 Captures file answer =
     (outcome : Result Caught LineFault) × CatchesAll (lines_of file) outcome
-    × (answer ≡ told_by (λ all. capture_text all) outcome)
+    × (answer ≡ text_at_end (λ all. capture_text all) outcome)
 
 -- no file is told in two ways
 abbrev pub CapturesOnce : Type 0
-CapturesOnce = TellsOnce Captures
+CapturesOnce = HasOneText Captures
 
 -- and each in one
 abbrev pub CapturesAlways : Type 0
-CapturesAlways = TellsAlways Captures
+CapturesAlways = HasAText Captures

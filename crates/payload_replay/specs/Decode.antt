@@ -11,7 +11,7 @@ use Rattle.package_grammar.specs.Texts.{text_of}
 use Rattle.report_lines.specs.declared.faults.LineFault.{LineFault}
 use Rattle.script_lines.specs.Lines.{lines_of}
 use Rattle.payload_replay.specs.PayloadLines.{payload_of}
-use Rattle.report_lines.specs.Lines.{TakesLines, told_by, TellsOnce, TellsAlways}
+use Rattle.report_lines.specs.Lines.{TakesLines, text_at_end, HasOneText, HasAText}
 
 -- ---- the text of a payload
 
@@ -49,12 +49,12 @@ Writes port direction n payload text next = next ≡ text ++ numbered_text n (pa
 unfoldable pub Decodes : ℕ → Direction → List ℕ → Result (List ℕ) LineFault → Type 0
 Decodes port direction file answer =
     (outcome : Result (List ℕ) LineFault) × TakesLines payload_of (Writes port direction) 0 [] (lines_of file) outcome
-    × (answer ≡ told_by (λ text. text ++ codes "end\n") outcome)
+    × (answer ≡ text_at_end (λ text. text ++ codes "end\n") outcome)
 
 -- no file is decoded in two ways
 abbrev pub HasOneAnswer : Type 0
-HasOneAnswer = (port : ℕ) (direction : Direction) → TellsOnce (Decodes port direction)
+HasOneAnswer = (port : ℕ) (direction : Direction) → HasOneText (Decodes port direction)
 
 -- and each in one
 abbrev pub HasAnAnswer : Type 0
-HasAnAnswer = (port : ℕ) (direction : Direction) → TellsAlways (Decodes port direction)
+HasAnAnswer = (port : ℕ) (direction : Direction) → HasAText (Decodes port direction)

@@ -15,7 +15,7 @@ use Rattle.report_lines.specs.Devices.{counts_line}
 use Rattle.report_lines.specs.Sessions.{whole, session_lines}
 use Rattle.payload_replay.specs.PayloadLines.{payload_of}
 use Rattle.payload_replay.specs.Headed.{rows_of, TakesBehind, TakesFile}
-use Rattle.report_lines.specs.Lines.{told_by, TellsOnce, TellsAlways}
+use Rattle.report_lines.specs.Lines.{text_at_end, HasOneText, HasAText}
 
 -- ---- the header
 
@@ -71,12 +71,12 @@ replay_text device = codes "fuota replay 1\n" ++ closing_text device
 
 -- what is told of a file: the text, or the first refused line
 unfoldable pub Replays : List ℕ → Result (List ℕ) LineFault → Type 0
-Replays file answer = (outcome : Result DeviceState LineFault) × Reaches (lines_of file) outcome × (answer ≡ told_by (λ device. replay_text device) outcome)
+Replays file answer = (outcome : Result DeviceState LineFault) × Reaches (lines_of file) outcome × (answer ≡ text_at_end (λ device. replay_text device) outcome)
 
 -- no file is replayed in two ways
 abbrev pub ReplaysOnce : Type 0
-ReplaysOnce = TellsOnce Replays
+ReplaysOnce = HasOneText Replays
 
 -- and each in one
 abbrev pub ReplaysAlways : Type 0
-ReplaysAlways = TellsAlways Replays
+ReplaysAlways = HasAText Replays

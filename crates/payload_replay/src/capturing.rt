@@ -5,7 +5,7 @@ ghost use Rattle.script_lines.specs.Lines.{lines_of};
 ghost use Rattle.device_core.specs.Device.{DeviceState};
 ghost use Rattle.device_core.specs.HeldDevice.{Becomes};
 ghost use Rattle.report_lines.specs.Texts.{seen_text};
-ghost use Rattle.report_lines.specs.Lines.{IsLineRefused, IsTold};
+ghost use Rattle.report_lines.specs.Lines.{IsLineRefused, IsFileText};
 ghost use Rattle.capture_read.specs.declared.answers.Entry.{Entry};
 ghost use Rattle.payload_replay.specs.HeldHeaded.{IsBegun};
 ghost use Rattle.payload_replay.specs.Capture.{Caught, cause_of, line_entry, direction_word, entry_line, entry_text, is_heard, after_entry, caught_next, first_caught, capture_text, Captures};
@@ -144,7 +144,8 @@ impl Capturing {
     /// no such header; `LineWhy::Range` where a port or ROWS is out of its range; and `LineWhy::Limit` where a
     /// payload is too long. An empty file is refused at line 1. `LineError::Memory` comes where memory is wanting.
     pub fn text(self) -> Result<Vec<u8>, LineError>
-        ensures { (file : List ℕ) → CapturingStands self (lines_of file) → IsTold Captures file (seen_text result) }
+        ensures { (file : List ℕ) → CapturingStands self (lines_of file)
+            → IsFileText Captures file (seen_text result) }
     {
         let Capturing {
             alloc,
@@ -280,7 +281,8 @@ fn is_heard(item: &Entry) -> bool
 
 /// The text over what was caught.
 fn told(alloc: Global, caught: Catch) -> Result<Vec<u8>, LineError>
-    ensures text { (all : Caught) → CaughtStands caught all → IfOk result (λ text. text.items ≡ capture_text all) }
+    ensures text { (all : Caught) → CaughtStands caught all
+        → IfOk result (λ text. text.items ≡ capture_text all) }
     ensures memory { IfErr result (λ e. e ≡ LineError.Memory) }
 {
     match text_of(alloc, caught) {
@@ -290,7 +292,8 @@ fn told(alloc: Global, caught: Catch) -> Result<Vec<u8>, LineError>
 }
 
 fn text_of(alloc: Global, caught: Catch) -> Result<Vec<u8>, AllocError>
-    ensures { (all : Caught) → CaughtStands caught all → IfOk result (λ text. text.items ≡ capture_text all) }
+    ensures { (all : Caught) → CaughtStands caught all
+        → IfOk result (λ text. text.items ≡ capture_text all) }
 {
     let closing = closing_text(alloc, &caught.device)?;
     let mut text = caught.text;

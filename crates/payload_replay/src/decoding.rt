@@ -4,9 +4,9 @@ ghost use Rattle.std.specs.Prelude.{◌≡◌, ℕ, ◌+◌, ◌<◌, ◌≤◌,
 ghost use Rattle.std.specs.Fmt.{decimal};
 ghost use Rattle.package_grammar.specs.Reading.{reading_of};
 ghost use Rattle.script_lines.specs.Lines.{lines_of};
-ghost use Rattle.report_lines.specs.Texts.{seen_text};
+ghost use Rattle.report_lines.specs.Texts.{seen_text, IsText};
 ghost use Rattle.payload_replay.specs.PayloadLines.{payload_of};
-ghost use Rattle.report_lines.specs.Lines.{IsLineRefused, IsTold};
+ghost use Rattle.report_lines.specs.Lines.{IsLineRefused, IsFileText};
 ghost use Rattle.payload_replay.specs.Decode.{commands_text, stop_word, stop_text, payload_text, numbered_text, Writes, Decodes};
 ghost use Rattle.payload_replay.specs.HeldDecoding.{DecodingStands, HearsDecoded};
 
@@ -126,8 +126,9 @@ impl Decoding {
     /// `LineWhy::Limit` where a bound is exceeded and else `LineWhy::Syntax`; `LineError::Memory` comes where memory was
     /// wanting.
     pub fn text(self) -> Result<Vec<u8>, LineError>
-        ensures { (port : ℕ) (dir : Direction) (file : List ℕ) → DecodingStands port dir self (lines_of file)
-            → IsTold (Decodes port dir) file (seen_text result) }
+        ensures { (port : ℕ) (dir : Direction) (file : List ℕ)
+            → DecodingStands port dir self (lines_of file)
+            → IsFileText (Decodes port dir) file (seen_text result) }
     {
         match self.kept {
             Some(error) => Err(error),
@@ -200,7 +201,8 @@ fn show_numbered(
 
 /// Makes the line that gives a line's number.
 fn set_line_head(number: u32, head: &mut String) -> Result<(), AllocError>
-    ensures { OnOk result (string_bytes head.new ≡ codes "line " ++ (decimal number ++ codes "\n")) }
+    ensures { OnOk result
+        (string_bytes head.new ≡ codes "line " ++ (decimal number ++ codes "\n")) }
 {
     head.clear();
     write!(head, "line {number}\n")?;
@@ -215,7 +217,8 @@ pub fn show_payload(
     payload: &[u8],
     text: &mut Vec<u8>,
 ) -> Result<(), AllocError>
-    ensures { OnOk result (text.new.items ≡ text.old.items ++ payload_text (reading_of port dir payload.now)) }
+    ensures { OnOk result
+        (text.new.items ≡ text.old.items ++ payload_text (reading_of port dir payload.now)) }
 {
     match Message::read(port, dir, payload) {
         Ok(message) => show_commands(message, text),
@@ -228,7 +231,8 @@ pub fn show_payload(
 
 /// Writes the commands of a message, each on a line.
 fn show_commands(mut message: Message<'_>, text: &mut Vec<u8>) -> Result<(), AllocError>
-    ensures { OnOk result (text.new.items ≡ text.old.items ++ commands_text message.entry.commands) }
+    ensures { OnOk result
+        (text.new.items ≡ text.old.items ++ commands_text message.entry.commands) }
 {
     while message.show_next(text)? {
         text.push(b'\n')?;
@@ -237,7 +241,8 @@ fn show_commands(mut message: Message<'_>, text: &mut Vec<u8>) -> Result<(), All
 }
 
 fn stop_line(alloc: Global, at: u16, why: &str) -> Result<String, AllocError>
-    ensures { IfOk result (λ text. string_bytes text ≡ codes "refused " ++ decimal at ++ (codes " " ++ why.now ++ codes "\n")) }
+    ensures { IsText result
+        (codes "refused " ++ decimal at ++ (codes " " ++ why.now ++ codes "\n")) }
 {
     format!(in alloc; "refused {at} {why}\n")
 }

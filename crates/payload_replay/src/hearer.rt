@@ -1,6 +1,7 @@
 //! The device that hears captured payloads: made over a header, told of behind all lines.
 
-ghost use Rattle.std.specs.Prelude.{◌≡◌, ◌≤◌, ◌++◌, [], length, IfOk, codes, string_bytes};
+ghost use Rattle.report_lines.specs.Texts.{IsText};
+ghost use Rattle.std.specs.Prelude.{◌≡◌, ◌≤◌, ◌++◌, [], length, codes};
 ghost use Rattle.wire_base.specs.Payload.{max_payload};
 ghost use Rattle.device_core.specs.Device.{DeviceState};
 ghost use Rattle.device_core.specs.HeldDevice.{DeviceStands, Becomes};
@@ -102,7 +103,8 @@ fn throw_away(device: &mut Device)
 
 /// What is told of the device: from the counts on, to the last line.
 pub fn closing_text(alloc: Global, device: &Device) -> Result<String, AllocError>
-    ensures { (d : DeviceState) → DeviceStands device.now d → IfOk result (λ text. string_bytes text ≡ closing_text d) }
+    ensures { (d : DeviceState) → DeviceStands device.now d
+        → IsText result (closing_text d) }
 {
     let counts = counts_line(alloc, device.counts())?;
     let sessions = session_lines(alloc, device, Tail::File)?;
@@ -110,7 +112,7 @@ pub fn closing_text(alloc: Global, device: &Device) -> Result<String, AllocError
 }
 
 fn closing_lines(alloc: Global, counts: &str, sessions: &str) -> Result<String, AllocError>
-    ensures { IfOk result (λ text. string_bytes text ≡ counts.now ++ (sessions.now ++ codes "end\n")) }
+    ensures { IsText result (counts.now ++ (sessions.now ++ codes "end\n")) }
 {
     format!(in alloc; "{counts}{sessions}end\n")
 }

@@ -1,11 +1,11 @@
 //! What `replay` tells of a file of captured payloads: where a device stands that hears them.
 
-ghost use Rattle.std.specs.Prelude.{◌≡◌, ◌+◌, ◌<◌, ◌≤◌, [], ◌++◌, List, ℕ, IsTrue, is_some, Ok, IfOk, IfErr, OnOk, codes, string_bytes};
+ghost use Rattle.std.specs.Prelude.{◌≡◌, ◌+◌, ◌<◌, ◌≤◌, [], ◌++◌, List, ℕ, IsTrue, is_some, Ok, IfOk, IfErr, OnOk, codes};
 ghost use Rattle.script_lines.specs.Lines.{lines_of};
 ghost use Rattle.device_core.specs.Device.{DeviceState};
 ghost use Rattle.device_core.specs.HeldDevice.{DeviceStands, Becomes};
-ghost use Rattle.report_lines.specs.Texts.{seen_text};
-ghost use Rattle.report_lines.specs.Lines.{IsLineRefused, IsTold};
+ghost use Rattle.report_lines.specs.Texts.{seen_text, IsText};
+ghost use Rattle.report_lines.specs.Lines.{IsLineRefused, IsFileText};
 ghost use Rattle.payload_replay.specs.PayloadLines.{payload_of};
 ghost use Rattle.payload_replay.specs.Replay.{after_payload, replay_text, Replays};
 ghost use Rattle.payload_replay.specs.HeldReplaying.{ReplayingStands, HearsReplayed};
@@ -122,7 +122,8 @@ impl Replaying {
     /// exceeded, `LineWhy::Range` where ROWS is above 256, and else `LineWhy::Syntax`; an empty file is refused at line 1.
     /// `LineError::Memory` comes where memory is wanting.
     pub fn text(&self) -> Result<Vec<u8>, LineError>
-        ensures { (file : List ℕ) → ReplayingStands self.now (lines_of file) → IsTold Replays file (seen_text result) }
+        ensures { (file : List ℕ) → ReplayingStands self.now (lines_of file)
+            → IsFileText Replays file (seen_text result) }
     {
         match self.kept {
             Some(error) => Err(error),
@@ -158,7 +159,8 @@ fn hear_line(
 
 /// The text over the device.
 fn told(alloc: Global, device: &Device) -> Result<Vec<u8>, LineError>
-    ensures text { (d : DeviceState) → DeviceStands device.now d → IfOk result (λ text. text.items ≡ replay_text d) }
+    ensures text { (d : DeviceState) → DeviceStands device.now d
+        → IfOk result (λ text. text.items ≡ replay_text d) }
     ensures memory { IfErr result (λ e. e ≡ LineError.Memory) }
 {
     match text_of(alloc, device) {
@@ -168,14 +170,15 @@ fn told(alloc: Global, device: &Device) -> Result<Vec<u8>, LineError>
 }
 
 fn text_of(alloc: Global, device: &Device) -> Result<String, AllocError>
-    ensures { (d : DeviceState) → DeviceStands device.now d → IfOk result (λ text. string_bytes text ≡ replay_text d) }
+    ensures { (d : DeviceState) → DeviceStands device.now d
+        → IsText result (replay_text d) }
 {
     let closing = closing_text(alloc, device)?;
     whole_text(alloc, closing.as_str())
 }
 
 fn whole_text(alloc: Global, closing: &str) -> Result<String, AllocError>
-    ensures { IfOk result (λ text. string_bytes text ≡ codes "fuota replay 1\n" ++ closing.now) }
+    ensures { IsText result (codes "fuota replay 1\n" ++ closing.now) }
 {
     format!(in alloc; "fuota replay 1\n{closing}")
 }

@@ -29,27 +29,27 @@ TakesLines reading Takes lines state (line ∷ rest) outcome =
 -- ---- what is told of a file
 
 -- a file's text, or its first refused line
-abbrev pub Telling : Type 1
-Telling = (file : List ℕ) → Result (List ℕ) LineFault → Type 0
+abbrev pub FileText : Type 1
+FileText = (file : List ℕ) → Result (List ℕ) LineFault → Type 0
 
 -- the text of the last state, or the first refused line
-abbrev pub told_by : {S : Type 0} → (S → List ℕ) → Result S LineFault → Result (List ℕ) LineFault
-told_by text (Ok state) = Ok (text state)
-told_by text (Err fault) = Err fault
+abbrev pub text_at_end : {S : Type 0} → (S → List ℕ) → Result S LineFault → Result (List ℕ) LineFault
+text_at_end text (Ok state) = Ok (text state)
+text_at_end text (Err fault) = Err fault
 
--- no file is told in two ways
-abbrev pub TellsOnce : Telling → Type 0
-TellsOnce Tells = (file : List ℕ) (one other : Result (List ℕ) LineFault) → Tells file one → Tells file other → one ≡ other
+-- no file has two texts
+abbrev pub HasOneText : FileText → Type 0
+HasOneText Tells = (file : List ℕ) (one other : Result (List ℕ) LineFault) → Tells file one → Tells file other → one ≡ other
 
--- and each file is told in some way
-abbrev pub TellsAlways : Telling → Type 0
-TellsAlways Tells = (file : List ℕ) → (said : Result (List ℕ) LineFault) × Tells file said
+-- and each file has one, or its first refused line
+abbrev pub HasAText : FileText → Type 0
+HasAText Tells = (file : List ℕ) → (said : Result (List ℕ) LineFault) × Tells file said
 
--- what was computed is what is told, or memory was wanting
-abbrev pub IsTold : Telling → (file : List ℕ) → Result (List ℕ) LineError → Type 0
-IsTold Tells file (Ok text) = Tells file (Ok text)
-IsTold Tells file (Err (error.Line fault)) = Tells file (Err fault)
-IsTold Tells file (Err error.Memory) = Unit {0}
+-- what was computed is a file's text or its first refused line, or memory was wanting
+abbrev pub IsFileText : FileText → (file : List ℕ) → Result (List ℕ) LineError → Type 0
+IsFileText Tells file (Ok text) = Tells file (Ok text)
+IsFileText Tells file (Err (error.Line fault)) = Tells file (Err fault)
+IsFileText Tells file (Err error.Memory) = Unit {0}
 
 -- ---- as it is computed
 

@@ -1,9 +1,10 @@
 //! The lines of a device: where it stands, and what it counted.
 
-ghost use Rattle.std.specs.Prelude.{◌≡◌, ◌++◌, IfOk, codes, string_bytes};
+ghost use Rattle.std.specs.Prelude.{◌≡◌, codes};
 ghost use Rattle.std.specs.Fmt.{decimal};
 ghost use Rattle.device_core.specs.Device.{DeviceState};
 ghost use Rattle.device_core.specs.HeldDevice.{DeviceStands};
+ghost use Rattle.report_lines.specs.Texts.{IsText};
 ghost use Rattle.report_lines.specs.Devices.{◌⧺◌, request_word, stage_text, next_text, device_text, device_line, counts_line};
 
 use campaign_server::{Request, Stage};
@@ -20,7 +21,7 @@ pub fn device_line(
     device: &Device,
 ) -> Result<String, AllocError>
     ensures { (d : DeviceState) → DeviceStands device.now d
-        → IfOk result (λ text. string_bytes text ≡ device_line name.now stage d) }
+        → IsText result (device_line name.now stage d) }
 {
     let stage = stage_text(alloc, stage)?;
     let next = next_text(alloc, device.slots().next())?;
@@ -37,22 +38,24 @@ fn stands_text(
     offset: u32,
     token: u8,
 ) -> Result<String, AllocError>
-    ensures { IfOk result (λ text. string_bytes text
-        ≡ codes "device " ⧺ name.now ⧺ codes " " ⧺ stage.now ⧺ codes " clock " ⧺ decimal offset ⧺ codes " token " ⧺ decimal token) }
+    ensures { IsText result
+        (codes "device " ⧺ name.now ⧺ codes " " ⧺ stage.now
+        ⧺ codes " clock " ⧺ decimal offset ⧺ codes " token " ⧺ decimal token) }
 {
     format!(in alloc; "device {name} {stage} clock {offset} token {token}")
 }
 
 fn device_text(alloc: Global, stands: &str, running: u32, next: &str) -> Result<String, AllocError>
-    ensures { IfOk result (λ text. string_bytes text
-        ≡ stands.now ⧺ codes " running " ⧺ decimal running ⧺ codes " next " ⧺ next.now ⧺ codes "\n") }
+    ensures { IsText result
+        (stands.now ⧺ codes " running " ⧺ decimal running
+        ⧺ codes " next " ⧺ next.now ⧺ codes "\n") }
 {
     format!(in alloc; "{stands} running {running} next {next}\n")
 }
 
 /// Where a device stands in the campaign, as its line says it.
 pub fn stage_text(alloc: Global, stage: Stage) -> Result<String, AllocError>
-    ensures { IfOk result (λ text. string_bytes text ≡ stage_text stage) }
+    ensures { IsText result (stage_text stage) }
 {
     match stage {
         Stage::At(request) => String::from_str(alloc, request_word(request)),
@@ -80,7 +83,7 @@ fn request_word(request: Request) -> &'static str
 }
 
 fn next_text(alloc: Global, next: ImageState) -> Result<String, AllocError>
-    ensures { IfOk result (λ text. string_bytes text ≡ next_text next) }
+    ensures { IsText result (next_text next) }
 {
     match next {
         ImageState::None => String::from_str(alloc, "none"),
@@ -93,7 +96,7 @@ fn next_text(alloc: Global, next: ImageState) -> Result<String, AllocError>
 /// What a device counted: payloads that it did not hear, that it refused and that its outbox had no room for, and
 /// fragments that it dropped.
 pub fn counts_line(alloc: Global, counts: Counts) -> Result<String, AllocError>
-    ensures { IfOk result (λ text. string_bytes text ≡ counts_line counts) }
+    ensures { IsText result (counts_line counts) }
 {
     let Counts {
         deaf,

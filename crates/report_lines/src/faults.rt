@@ -1,8 +1,9 @@
 //! Refused lines, and why a call over lines answers nothing else.
 
-ghost use Rattle.std.specs.Prelude.{◌≡◌, ◌≤◌, ◌+◌, ◌++◌, IfOk, codes, string_bytes};
+ghost use Rattle.std.specs.Prelude.{◌≡◌, ◌≤◌, ◌+◌, ◌++◌, codes};
 ghost use Rattle.std.specs.Fmt.{decimal};
 ghost use Rattle.script_lines.specs.Limits.{max_lines};
+ghost use Rattle.report_lines.specs.Texts.{IsText};
 ghost use Rattle.report_lines.specs.Faults.{why_word, fault_line};
 
 use std::alloc::{AllocError, Global};
@@ -70,14 +71,15 @@ pub fn refused_behind(lines: u32, why: LineWhy) -> LineError
 
 /// What is said of a refused line: `line K WHY`.
 pub fn fault_line(alloc: Global, fault: LineFault) -> Result<String, AllocError>
-    ensures { IfOk result (λ text. string_bytes text ≡ fault_line fault) }
+    ensures { IsText result (fault_line fault) }
 {
     let why = why_word(fault.why);
     said_of(alloc, fault.line, why)
 }
 
 fn said_of(alloc: Global, line: u32, why: &str) -> Result<String, AllocError>
-    ensures { IfOk result (λ text. string_bytes text ≡ codes "line " ++ decimal line ++ (codes " " ++ why.now ++ codes "\n")) }
+    ensures { IsText result
+        (codes "line " ++ decimal line ++ (codes " " ++ why.now ++ codes "\n")) }
 {
     format!(in alloc; "line {line} {why}\n")
 }

@@ -1,12 +1,13 @@
 //! The lines of a device's sessions, each with its verdict.
 
-ghost use Rattle.std.specs.Prelude.{◌≡◌, ◌<◌, ◌++◌, Some, IfOk, codes, string_bytes};
+ghost use Rattle.std.specs.Prelude.{◌≡◌, ◌<◌, ◌++◌, Some, codes};
 ghost use Rattle.std.specs.Fmt.{decimal};
 ghost use Rattle.frag_session.specs.Session.{view_of};
 ghost use Rattle.frag_session.specs.HeldView.{seen};
 ghost use Rattle.device_core.specs.SessionTable.{session_at};
 ghost use Rattle.device_core.specs.Device.{DeviceState};
 ghost use Rattle.device_core.specs.HeldDevice.{DeviceStands};
+ghost use Rattle.report_lines.specs.Texts.{IsText};
 ghost use Rattle.report_lines.specs.Sessions.{same_word, file_line, verdict_text, session_text, session_line, session_lines, same, whole};
 ghost use Rattle.report_lines.specs.HeldTail.{tail_of};
 
@@ -27,7 +28,7 @@ pub enum Tail<'a> {
 /// verdict with the mark of the fragment that decided it.
 pub fn session_lines(alloc: Global, device: &Device, tail: Tail) -> Result<String, AllocError>
     ensures { (d : DeviceState) → DeviceStands device.now d
-        → IfOk result (λ text. string_bytes text ≡ session_lines (tail_of tail.entry) d.sessions) }
+        → IsText result (session_lines (tail_of tail.entry) d.sessions) }
 {
     let first = session_line(alloc, device, 0, tail)?;
     let second = session_line(alloc, device, 1, tail)?;
@@ -49,7 +50,7 @@ fn four_texts(
     third: &str,
     fourth: &str,
 ) -> Result<String, AllocError>
-    ensures { IfOk result (λ text. string_bytes text ≡ first.now ++ (second.now ++ (third.now ++ fourth.now))) }
+    ensures { IsText result (first.now ++ (second.now ++ (third.now ++ fourth.now))) }
 {
     format!(in alloc; "{first}{second}{third}{fourth}")
 }
@@ -58,7 +59,8 @@ fn four_texts(
 fn session_line(alloc: Global, device: &Device, index: u8, tail: Tail) -> Result<String, AllocError>
     requires { index < 4 }
     ensures { (d : DeviceState) → DeviceStands device.now d
-        → IfOk result (λ text. string_bytes text ≡ session_line (tail_of tail.entry) index (view_of (session_at d.sessions index))) }
+        → IsText result
+        (session_line (tail_of tail.entry) index (view_of (session_at d.sessions index))) }
 {
     match device.session(index) {
         Some(view) => seen_line(alloc, index, view, tail),
@@ -67,7 +69,7 @@ fn session_line(alloc: Global, device: &Device, index: u8, tail: Tail) -> Result
 }
 
 fn seen_line(alloc: Global, index: u8, view: View, tail: Tail) -> Result<String, AllocError>
-    ensures { IfOk result (λ text. string_bytes text ≡ session_line (tail_of tail.entry) index (Some (seen view.entry))) }
+    ensures { IsText result (session_line (tail_of tail.entry) index (Some (seen view.entry))) }
 {
     match tail {
         Tail::Same(image) => compared_line(alloc, index, view, image),
@@ -78,7 +80,7 @@ fn seen_line(alloc: Global, index: u8, view: View, tail: Tail) -> Result<String,
 /// The line of a session, with whether its file is the image.
 #[tactic(auto, unfolding(frag_session::specs::HeldView::seen))]
 fn compared_line(alloc: Global, index: u8, view: View, image: &[u8]) -> Result<String, AllocError>
-    ensures { IfOk result (λ text. string_bytes text ≡ session_line (same image.now) index (Some (seen view.entry))) }
+    ensures { IsText result (session_line (same image.now) index (Some (seen view.entry))) }
 {
     let verdict = verdict_text(alloc, view.verdict, same_word(view.file == image))?;
     session_text(alloc, index, view.received, view.missing, verdict.as_str())
@@ -87,7 +89,7 @@ fn compared_line(alloc: Global, index: u8, view: View, image: &[u8]) -> Result<S
 /// The line of a session, with its file behind it.
 #[tactic(auto, unfolding(frag_session::specs::HeldView::seen))]
 fn whole_lines(alloc: Global, index: u8, view: View) -> Result<String, AllocError>
-    ensures { IfOk result (λ text. string_bytes text ≡ session_line whole index (Some (seen view.entry))) }
+    ensures { IsText result (session_line whole index (Some (seen view.entry))) }
 {
     let verdict = verdict_text(alloc, view.verdict, "")?;
     let session = session_text(alloc, index, view.received, view.missing, verdict.as_str())?;
@@ -96,7 +98,7 @@ fn whole_lines(alloc: Global, index: u8, view: View) -> Result<String, AllocErro
 }
 
 fn two_texts(alloc: Global, one: &str, more: &str) -> Result<String, AllocError>
-    ensures { IfOk result (λ text. string_bytes text ≡ one.now ++ more.now) }
+    ensures { IsText result (one.now ++ more.now) }
 {
     format!(in alloc; "{one}{more}")
 }
@@ -108,14 +110,14 @@ fn session_text(
     missing: u16,
     verdict: &str,
 ) -> Result<String, AllocError>
-    ensures { IfOk result (λ text. string_bytes text ≡ session_text index received missing verdict.now) }
+    ensures { IsText result (session_text index received missing verdict.now) }
 {
     format!(in alloc; "session {index} received {received} missing {missing} {verdict}\n")
 }
 
 /// The verdict; of a whole file what stands behind its line may be more.
 fn verdict_text(alloc: Global, verdict: Verdict, behind: &str) -> Result<String, AllocError>
-    ensures { IfOk result (λ text. string_bytes text ≡ verdict_text verdict behind.now) }
+    ensures { IsText result (verdict_text verdict behind.now) }
 {
     match verdict {
         Verdict::Receiving => String::from_str(alloc, "receiving"),
@@ -126,7 +128,7 @@ fn verdict_text(alloc: Global, verdict: Verdict, behind: &str) -> Result<String,
 }
 
 fn complete_text(alloc: Global, line: u64, behind: &str) -> Result<String, AllocError>
-    ensures { IfOk result (λ text. string_bytes text ≡ codes "complete at " ++ decimal line ++ behind.now) }
+    ensures { IsText result (codes "complete at " ++ decimal line ++ behind.now) }
 {
     format!(in alloc; "complete at {line}{behind}")
 }
@@ -139,7 +141,7 @@ fn same_word(same: bool) -> &'static str
 
 /// The file in hex, on a line of its own, where it is whole.
 fn file_line(alloc: Global, verdict: Verdict, file: &[u8]) -> Result<String, AllocError>
-    ensures { IfOk result (λ text. string_bytes text ≡ file_line verdict file.now) }
+    ensures { IsText result (file_line verdict file.now) }
 {
     match verdict {
         Verdict::Complete(_) => {
@@ -151,7 +153,7 @@ fn file_line(alloc: Global, verdict: Verdict, file: &[u8]) -> Result<String, All
 }
 
 fn hex_line(alloc: Global, hex: &str) -> Result<String, AllocError>
-    ensures { IfOk result (λ text. string_bytes text ≡ codes "file " ++ (hex.now ++ codes "\n")) }
+    ensures { IsText result (codes "file " ++ (hex.now ++ codes "\n")) }
 {
     format!(in alloc; "file {hex}\n")
 }

@@ -1,8 +1,8 @@
 ghost use Rattle.std.specs.Prelude.{◌≡◌, length, IfOk};
 
 use campaign_server::{
-    Field, Kind, Plan, PlanDevice, PlanGroup, PlanWindow, Request, Server, ServerError, Spent,
-    Stage,
+    Field, Kind, NothingLeft, Plan, PlanDevice, PlanGroup, PlanWindow, Request, Server,
+    ServerError, Stage,
 };
 use device_core::{Aired, Class, Delivered, Device, DeviceConfig, MAX_AREA};
 use image_slots::is_image;
@@ -459,7 +459,7 @@ impl OneDevice {
     }
 
     #[tactic(auto, unfolding(campaign_server::specs::Fragments::after_fragment))]
-    fn fragment(&mut self) -> Result<Downlink, Spent> {
+    fn fragment(&mut self) -> Result<Downlink, NothingLeft> {
         self.server.next_fragment()
     }
 
@@ -492,7 +492,7 @@ fn a_campaign_is_sent_in_bytes(rt: HostRuntime) -> Result<(), Fail> {
             Err(_) => assert!(rt; false),
         }
     }
-    assert!(rt; matches!(campaign.fragment(), Err(Spent::Fragments)));
+    assert!(rt; matches!(campaign.fragment(), Err(NothingLeft::Fragments)));
     asked(&rt, &mut campaign, &CAMPAIGN);
     campaign.asks(&rt, 0, &[]);
     Ok(())
@@ -526,11 +526,11 @@ fn a_group_is_asked_and_sent_to_in_bytes(rt: HostRuntime) -> Result<(), Fail> {
         }
         None => assert!(rt; false),
     }
-    assert!(rt; matches!(short.fragment(), Err(Spent::Counts)));
+    assert!(rt; matches!(short.fragment(), Err(NothingLeft::Counts)));
     assert!(rt; short.status_all().is_none());
     let mut even = OneDevice::begin(&rt, rt.alloc(), 26, 0, Some(few), Some(WINDOW))?;
     assert!(rt; even.fragment().is_ok() && even.fragment().is_ok());
-    assert!(rt; matches!(even.fragment(), Err(Spent::Fragments)));
+    assert!(rt; matches!(even.fragment(), Err(NothingLeft::Fragments)));
     Ok(())
 }
 

@@ -8,7 +8,7 @@ use Rattle.campaign_world.proofs.HeardWorld.{script_heard}
 use Rattle.fuota_run.specs.Answer.{summary_answer}
 use Rattle.fuota_run.specs.HeldAnswer.{seen_answer}
 use Rattle.fuota_run.proofs.BehindScript.{script_answered}
-use Rattle.fuota_run.proofs.telling.seed_answer.Goals as goal
+use Rattle.fuota_run.proofs.campaign_answers.seed_answer.Goals as goal
 
 pub returns : goal.returns
 returns c =

@@ -1,8 +1,9 @@
 //! What is told of a campaign: its report, the file that a device recovered, or its summary.
 
-ghost use Rattle.std.specs.Prelude.{◌≡◌, ◌++◌, true, Result, IfOk, codes, string_bytes};
+ghost use Rattle.std.specs.Prelude.{◌≡◌, ◌++◌, true, Result, IfOk, codes};
 ghost use Rattle.std.specs.Fmt.{decimal};
 ghost use Rattle.image_slots.specs.Image.{is_image};
+ghost use Rattle.report_lines.specs.Texts.{IsText};
 ghost use Rattle.report_lines.specs.declared.faults.LineFault.{LineFault};
 ghost use Rattle.campaign_world.specs.Recovery.{recovery};
 ghost use Rattle.campaign_world.specs.World.{WorldState};
@@ -30,7 +31,8 @@ pub fn seed_answer(
     script: &[u8],
 ) -> Result<Answer, LineError>
     requires { is_image image.now ≡ true }
-    ensures { IsPlayed (summary_answer seed) (campaign_of image.now (said_in script.now)) (seen_answer result) }
+    ensures { IsPlayed (summary_answer seed) (campaign_of image.now (said_in script.now))
+        (seen_answer result) }
 {
     let Ok(mut heard) = World::new(alloc, image) else {
         return Err(LineError::Memory);
@@ -59,7 +61,8 @@ fn summary_answer(alloc: Global, seed: u32, world: &World) -> Result<Answer, Lin
 }
 
 fn summary_text(alloc: Global, seed: u32, summary: &[u8]) -> Result<Vec<u8>, AllocError>
-    ensures { IfOk result (λ text. text.items ≡ codes "generate " ++ decimal seed ++ (codes "\n" ++ summary.now)) }
+    ensures { IfOk result
+        (λ text. text.items ≡ codes "generate " ++ decimal seed ++ (codes "\n" ++ summary.now)) }
 {
     let mut text = first_line_of(alloc, seed)?.into_bytes();
     text.extend_from_slice(summary)?;
@@ -67,7 +70,7 @@ fn summary_text(alloc: Global, seed: u32, summary: &[u8]) -> Result<Vec<u8>, All
 }
 
 fn first_line_of(alloc: Global, seed: u32) -> Result<String, AllocError>
-    ensures { IfOk result (λ text. string_bytes text ≡ codes "generate " ++ decimal seed ++ codes "\n") }
+    ensures { IsText result (codes "generate " ++ decimal seed ++ codes "\n") }
 {
     format!(in alloc; "generate {seed}\n")
 }
@@ -116,7 +119,8 @@ fn recovery(alloc: Global, device: u8, world: &World) -> Result<Answer, LineErro
 }
 
 fn not_complete_text(alloc: Global, device: u8, why: &str) -> Result<String, AllocError>
-    ensures { IfOk result (λ text. string_bytes text ≡ codes "device " ++ decimal device ++ (codes " " ++ why.now ++ codes "\n")) }
+    ensures { IsText result
+        (codes "device " ++ decimal device ++ (codes " " ++ why.now ++ codes "\n")) }
 {
     format!(in alloc; "device {device} {why}\n")
 }

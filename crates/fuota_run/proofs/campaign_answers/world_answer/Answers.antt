@@ -1,5 +1,5 @@
 use Rattle.fuota_run.proofs.BehindScript.{report_behind, recovery_behind}
-use Rattle.fuota_run.proofs.telling.world_answer.Goals as goal
+use Rattle.fuota_run.proofs.campaign_answers.world_answer.Goals as goal
 
 pub returns-in-Ok : goal.returns-in-Ok
 returns-in-Ok c = λ so_far is.

@@ -1,7 +1,7 @@
 use Rattle.std.proofs.Common.{List, ℕ, ◌++◌, codes, ap, ◌∙◌}
 use Rattle.std.specs.Fmt.{decimal}
 use Rattle.fuota_run.proofs.BehindScript.{summary_behind}
-use Rattle.fuota_run.proofs.telling.summary_answer.Goals as goal
+use Rattle.fuota_run.proofs.campaign_answers.summary_answer.Goals as goal
 
 pub returns-in-Ok-summary_text : goal.returns-in-Ok-summary_text
 returns-in-Ok-summary_text c = λ so_far is.
