@@ -12,6 +12,8 @@ use Rattle.device_core.specs.declared.config.DeviceConfig.{DeviceConfig}
 use Rattle.device_core.specs.declared.counts.Counts.{Counts}
 use Rattle.device_core.specs.declared.uplink.Uplink.{Uplink}
 use Rattle.device_core.specs.SessionTable.{SessionTable, no_sessions}
+-- what is kept for the rows of a session
+pub use Rattle.session_store.specs.Rows.{row_words, row_bytes}
 
 -- clock: its offset and token; last_due: when the uplink that it made last is due, in ms of true time;
 -- groups: a place for each id; reboot: the moment that is set, in seconds of its clock;
@@ -63,13 +65,6 @@ max_rows = 256
 -- bytes of a session's file area
 abbrev pub max_area : ℕ
 max_area = 262382
-
--- what is kept for the rows of a session: 256 rows of 4,096 columns in words of 64, and of 239 bytes
-abbrev pub row_words : ℕ
-row_words = 16384
-
-abbrev pub row_bytes : ℕ
-row_bytes = 61184
 
 -- the last ms of true time at which a device is called
 abbrev pub max_moment : ℕ

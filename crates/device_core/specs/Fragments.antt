@@ -8,10 +8,10 @@ use Rattle.frag_session.specs.declared.setups.SetupReq.{SetupReq}
 use Rattle.frag_session.specs.declared.answers.Via.{Via}
 use Rattle.frag_session.specs.declared.answers.Via.TheVariants as via
 use Rattle.frag_session.specs.declared.answers.StatusAns.{StatusAns}
-use Rattle.frag_session.specs.declared.answers.Verdict.{Verdict}
-use Rattle.frag_session.specs.declared.answers.Verdict.TheVariants as verdict
 use Rattle.frag_session.specs.Setup.{setup_bits}
 use Rattle.frag_session.specs.Session.{Seen, drop_cause, status_of, view_of}
+-- the verdict is that the file is whole, and a session has it so
+pub use Rattle.session_store.specs.Whole.{is_complete, is_whole}
 use Rattle.device_core.specs.SessionTable.{session_at, with_session, table_after_setup, table_after_fragment}
 use Rattle.image_slots.specs.Slots.{Slots, after_offer}
 use Rattle.device_core.specs.Device.{DeviceState, room_of, limits_of, after_dropped, with_counts}
@@ -74,16 +74,7 @@ status_step here device index all =
 
 -- ---- DataFragment
 
--- the verdict is that the file is whole
-abbrev pub is_complete : Verdict → Bool
-is_complete (verdict.Complete mark) = true
-is_complete other = false
-
--- a session has its file whole, and that file
-abbrev pub is_whole : Option Seen → Bool
-is_whole None = false
-is_whole (Some seen) = is_complete seen.verdict
-
+-- a session that has its file whole has that file
 abbrev pub whole_file : Option Seen → Option (List ℕ)
 whole_file None = None
 whole_file (Some seen) = if is_complete seen.verdict then Some seen.file else None

@@ -20,7 +20,6 @@ mod device;
 mod laws;
 mod moment;
 mod outbox;
-mod session_slots;
 mod uplink;
 
 pub use arrival::Arrival;

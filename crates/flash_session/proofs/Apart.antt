@@ -49,7 +49,7 @@ others_stored base span base2 span2 o some apart holds0 left0 holds left stored 
 
 -- ---- sessions that are held
 
-within_as : (k : HeldSession) (o : Option Session) (x : Option Stored) → FitsAs k.span x → 0 < k.span → (b c : List ℕ) → SameWithin k.base k.span b c → LiesAs k.base x b → LiesAs k.base x c
+pub within_as : (k : HeldSession) (o : Option Session) (x : Option Stored) → FitsAs k.span x → 0 < k.span → (b c : List ℕ) → SameWithin k.base k.span b c → LiesAs k.base x b → LiesAs k.base x c
 within_as k o None fits some b c same none = λ is. none (sym (subst (λ (j : ℕ). byte_at c j ≡ byte_at b j) (omega arith) (same.within 0 some)) ∙ is)
 within_as k o (Some s) fits some b c same lies = lies_within k.base k.span s fits b c same lies
 

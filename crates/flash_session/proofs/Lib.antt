@@ -15,4 +15,5 @@ pub mod Renewing
 pub mod HeardAgain
 pub mod Runs
 pub mod Steps
+pub mod StillHeld
 pub mod Unique

@@ -15,11 +15,11 @@ ghost use Rattle.device_core.specs.Sendable.{IsSendable};
 use super::Device;
 use crate::arrival::Arrival;
 use crate::config::DeviceConfig;
-use crate::session_slots::SessionSlots;
 use cast_wire::{Cmd, setup_answer};
 use frag_session::{Heard, Limits, SetupReq, StatusAns, Verdict, Via};
 use image_slots::Slots;
 use package_grammar::Command;
+use session_store::SessionSlots;
 
 impl Device {
     ghost use Rattle.device_core.specs.HeldDevice.{Steps};

@@ -8,6 +8,7 @@ ghost use Rattle.flash_session.specs.Lies.{Stored, IsStored, with_record, IsBefo
 ghost use Rattle.frag_session.specs.Limits.{max_received};
 ghost use Rattle.frag_session.specs.Session.{Session, fragment, drop_cause, news_in, answer_of, after_fragment};
 ghost use Rattle.frag_session.specs.HeldSteps.{extent_of};
+ghost use Rattle.flash_session.specs.Replayed.{IsPlaceOf};
 ghost use Rattle.flash_session.specs.Sessions.{HeldStandsAs, CountsAs, IsHeldAs, LiesForAs};
 
 use super::{Held, MAX_RECEIVED};
@@ -52,6 +53,8 @@ impl<const W: usize, const B: usize> Held<W, B> {
         // Nothing is written of what is dropped, nor of what tells nothing new once the count has come to its end.
         ensures dropped { IfOk result
             (λ r. (c : _) → r.1 ≡ Heard.Dropped c → flash.new ≡ flash.old) }
+        ensures same { IfOk result
+            (λ r. (c : _) → r.1 ≡ Heard.Dropped c → r.0 ≡ self.entry) }
         ensures full { max_received ≤ self.entry.records + self.entry.tallies
             → IfOk result (λ r. r.1 ≡ Heard.Fed News.Old → flash.new ≡ flash.old) }
         // What a stop leaves as a read gives it in another range is left so.
@@ -61,6 +64,9 @@ impl<const W: usize, const B: usize> Held<W, B> {
             → OnOk result
             (Follows (SameWithin at n) (F.holds flash.new)
             (F.left_since flash.new (F.moment flash.new))) }
+        ensures place { IfOk result
+            (λ r. IsPlaceOf r.0 W B self.entry.base self.entry.span self.entry.limits
+            (extent_of self.entry.slot)) }
         ensures extent { IfErr result (λ idle. idle ≡ extent_of self.entry.slot) }
         ensures held { Follows (SameOutside self.entry.base self.entry.span) (F.holds flash.old)
             (F.holds flash.new) }

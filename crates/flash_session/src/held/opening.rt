@@ -1,7 +1,7 @@
 //! A session in flash is opened.
 
-ghost use Rattle.std.specs.Prelude.{◌≡◌, ℕ, ◌+◌, ◌≤◌, List, Option, IfOk, IfErr, MatchResult};
-ghost use Rattle.flash_session.specs.Contents.{Same, Follows, HasRisen};
+ghost use Rattle.std.specs.Prelude.{◌≡◌, ℕ, ◌+◌, ◌≤◌, List, Option, OnOk, IfOk, IfErr, MatchResult};
+ghost use Rattle.flash_session.specs.Contents.{Same, Follows, IsKept, HasRisen};
 ghost use Rattle.flash_session.specs.Layout.{records_place};
 ghost use Rattle.flash_session.specs.Moments.{Elapses};
 ghost use Rattle.flash_session.specs.Opening.{IsFirstForeign, NothingForeign};
@@ -47,6 +47,9 @@ impl<const W: usize, const B: usize> Held<W, B> {
             → IsFirstForeign (place_in W B base span limits idle.entry) b p) }
         ensures place { IfOk result (λ h. IsPlaceOf h W B base span limits idle.entry) }
         ensures area { IfErr result (λ e. e.0 ≡ idle.entry) }
+        // A stop behind it leaves all that a read gives, outside the range too.
+        ensures kept { OnOk result
+            (IsKept (F.holds flash.new) (F.left_since flash.new (F.moment flash.new))) }
         ensures held { Follows Same (F.holds flash.old) (F.holds flash.new) }
         ensures stops { Elapses Same (F.moment flash.old) (F.moment flash.new)
             (F.left_since flash.old) (F.left_since flash.new) }

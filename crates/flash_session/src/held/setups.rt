@@ -7,6 +7,7 @@ ghost use Rattle.flash_session.specs.Contents.{SameOutside, SameWithin, Follows,
 ghost use Rattle.flash_session.specs.HeldSession.{room_in};
 ghost use Rattle.flash_session.specs.Lies.{NoSession};
 ghost use Rattle.flash_session.specs.Moments.{Elapses, LeavesOnly};
+ghost use Rattle.flash_session.specs.Replayed.{IsPlaceOf};
 ghost use Rattle.flash_session.specs.Sessions.{HeldStandsAs, CountsAs, IsHeldAs, LiesForAs};
 ghost use Rattle.frag_session.specs.Session.{Session, after_setup, new_session};
 ghost use Rattle.frag_session.specs.Setup.{lives, setup_bits};
@@ -64,6 +65,9 @@ impl<const W: usize, const B: usize> Held<W, B> {
             → OnOk result
             (Follows (SameWithin at n) (F.holds flash.new)
             (F.left_since flash.new (F.moment flash.new))) }
+        ensures place { IfOk result
+            (λ r. IsPlaceOf r.0 W B self.entry.base self.entry.span self.entry.limits
+            (extent_of self.entry.slot)) }
         ensures extent { IfErr result (λ idle. idle ≡ extent_of self.entry.slot) }
         ensures held { Follows (SameOutside self.entry.base self.entry.span) (F.holds flash.old)
             (F.holds flash.new) }
@@ -113,6 +117,9 @@ impl<const W: usize, const B: usize> Held<W, B> {
             → OnOk result
             (Follows (SameWithin at n) (F.holds flash.new)
             (F.left_since flash.new (F.moment flash.new))) }
+        ensures place { IfOk result
+            (λ h. IsPlaceOf h W B self.entry.base self.entry.span self.entry.limits
+            (extent_of self.entry.slot)) }
         ensures extent { IfErr result (λ idle. idle ≡ extent_of self.entry.slot) }
         ensures held { Follows (SameOutside self.entry.base self.entry.span) (F.holds flash.old)
             (F.holds flash.new) }
@@ -174,6 +181,9 @@ impl<const W: usize, const B: usize> Held<W, B> {
             → OnOk result
             (Follows (SameWithin at n) (F.holds flash.new)
             (F.left_since flash.new (F.moment flash.new))) }
+        ensures place { IfOk result
+            (λ r. IsPlaceOf r.0 W B self.entry.base self.entry.span self.entry.limits
+            (extent_of self.entry.slot)) }
         ensures extent { IfErr result (λ idle. idle ≡ extent_of self.entry.slot) }
         ensures held { Follows (SameOutside self.entry.base self.entry.span) (F.holds flash.old)
             (F.holds flash.new) }

@@ -1,4 +1,4 @@
-use Rattle.std.proofs.Common.{◌≡◌, ℕ, Some, None, subst, ◌∙◌, arith, rules}
+use Rattle.std.proofs.Common.{◌≡◌, Some, None, subst, ◌∙◌, arith, rules}
 use Rattle.row_elimination.specs.Room.{Extent}
 use Rattle.frag_session.specs.HeldSteps.{extent_of}
 use Rattle.flash_session.specs.Opening.{IsFirstForeign}

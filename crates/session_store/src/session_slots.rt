@@ -7,8 +7,8 @@ ghost use Rattle.frag_session.specs.HeldView.{seen};
 ghost use Rattle.frag_session.specs.HeldHistory.{Stands};
 ghost use Rattle.frag_session.specs.HeldSteps.{extent_of};
 ghost use Rattle.row_elimination.specs.Room.{extent_for};
-ghost use Rattle.device_core.specs.SessionTable.{SessionTable, no_sessions, session_at, with_session, table_after_setup, table_after_fragment};
-ghost use Rattle.device_core.specs.HeldSessions.{SessionsStand, TableBecomes, room_in};
+ghost use Rattle.session_store.specs.SessionTable.{SessionTable, no_sessions, session_at, with_session, table_after_setup, table_after_fragment};
+ghost use Rattle.session_store.specs.HeldSessions.{SessionsStand, TableBecomes, room_in};
 
 use frag_session::{Heard, Idle, Limits, SetupReq, Slot, StatusAns, Via, View};
 use row_elimination::{Memory, Solver};
@@ -32,7 +32,7 @@ pub struct SessionSlots {
 
 impl Model for SessionSlots {
     ghost use Rattle.frag_session.specs.HeldSteps.{extent_of};
-    ghost use Rattle.device_core.specs.HeldSessions.{HeldSessions, HaveArea};
+    ghost use Rattle.session_store.specs.HeldSessions.{HeldSessions, HaveArea};
 
     ghost Value = { HeldSessions };
 

@@ -1,0 +1,25 @@
+use Rattle.std.proofs.Common.{◌≡◌, Option, Some, subst, rules, arith}
+use Rattle.session_store.specs.HeldStore.{StateFits, kept}
+use Rattle.session_store.specs.declared.store.State.{State}
+use Rattle.session_store.specs.declared.store.State.TheVariants.{Down}
+use Rattle.session_store.proofs.PlaceSteps.{held_stands}
+use Rattle.session_store.proofs.store.SessionStore.power.Goals as goal
+
+pub open-requires-clause-idle : goal.open-requires-clause-idle
+open-requires-clause-idle g c =
+    let is : c.self.inside.state ≡ Some c.in-Some.state = first_of (search rules, cc, grind arith) in
+    c.put_down-idles.ensures.idle c.self.inside.layout c.self.inside.held (g.F.Flash.room c.self.inside.flash)
+    (subst (λ (o : Option State). StateFits c.self.inside.layout c.self.inside.held (g.F.Flash.room c.self.inside.flash) (kept o)) is c.self.invariant.1)
+
+pub returns-in-Ok-clause-opened : goal.returns-in-Ok-clause-opened
+returns-in-Ok-clause-opened g c = rw (← c.self.view_is) (λ table b now lies.
+    let held = c.in-Ok.ensures.opened table b now lies in
+    (held_stands c.in-Ok.slots table _ _ held, held))
+
+pub returns-in-Ok-clause-was : goal.returns-in-Ok-clause-was
+returns-in-Ok-clause-was g c = rw (← c.self.view_is) (λ idles w at.
+    let is : c.self.inside.state ≡ Some c.in-Some.state = first_of (search rules, cc, grind arith) in
+    c.put_down-idles.ensures.was idles w (subst (λ (o : Option State). kept o ≡ Down idles w) is at))
+
+pub returns-in-Err-clause-opened : goal.returns-in-Err-clause-opened
+returns-in-Err-clause-opened g c = rw (← c.self.view_is) (λ table b now lies. c.in-Err.ensures.opened table b now lies)

@@ -1,0 +1,19 @@
+//! The four sessions of a device, by their index: in memory alone, or held in one flash, each in a range of its own, or down
+//! until power comes. Whatever call is stopped, opening them again gives the sessions as they were, or as they are behind the
+//! call; of a setup and a delete none at that index, too.
+//!
+//!     let mut store = SessionStore::reserve(alloc, flash, layout, true)?; // all memory; `flash` is a `Flash`
+//!     store.power()?;                                          // the sessions that lie there, or none
+//!     match store.fragment(0, Via::Unicast, n, part, mark) {
+//!         Ok(heard) => ..,                                     // what was heard outlasts a stop
+//!         Err(FlashFault) => store.power()?,                   // the flash failed: they are down
+//!     }
+#![tactic(auto)]
+
+mod held_slots;
+mod session_slots;
+mod store;
+
+pub use held_slots::{HeldSlots, Idles, Layout};
+pub use session_slots::SessionSlots;
+pub use store::{FlashFault, SessionStore, Whole};

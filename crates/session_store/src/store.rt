@@ -1,0 +1,418 @@
+//! The sessions of a device, wherever they lie, with its flash: in memory alone, in flash, or down until power comes.
+
+ghost use Rattle.std.specs.Prelude.{◌≡◌, ◌≢◌, ℕ, ◌*◌, ◌<◌, ◌≤◌, Bool, List, Option, Some, None, true, false, OnOk, OnErr, IfOk, IfSome, MatchResult, is_ok, is_some, option_map, length};
+ghost use Rattle.frag_session.specs.Setup.{setup_bits};
+ghost use Rattle.frag_session.specs.Session.{answer_of, drop_cause, news_in, status_of, view_of};
+ghost use Rattle.frag_session.specs.HeldView.{seen};
+ghost use Rattle.flash_session.specs.Body.{FieldsFit};
+ghost use Rattle.flash_session.specs.Contents.{HasRisen, HasCause};
+ghost use Rattle.session_store.specs.SessionTable.{SessionTable, no_sessions, session_at, with_session, table_after_setup, table_after_fragment};
+ghost use Rattle.session_store.specs.HeldPlaces.{AreIdle, PlacesStand, TableLies};
+ghost use Rattle.session_store.specs.HeldStore.{IsUp, IsDown, IsInFlash, StateFits, StateStands, StateIsStored, HasRanges, IsLaidOut, store_room};
+ghost use Rattle.session_store.specs.Whole.{is_complete, is_whole, whole_of, none_whole};
+ghost use Rattle.session_store.specs.declared.store.State.TheVariants.{Down};
+
+use crate::held_slots::{HeldSlots, Idles, Layout};
+use crate::session_slots::SessionSlots;
+use flash_session::{Flash, OpenFault};
+use frag_session::{Heard, SetupReq, StatusAns, Verdict, Via, View};
+use row_elimination::Memory;
+use std::alloc::Global;
+use std::marker::Model;
+
+/// A call of the flash failed. The sessions are down until power comes.
+#[derive(Clone, Copy, Debug, PartialEq, Eq)]
+pub struct FlashFault;
+
+/// Which sessions had their file whole when the device was last up.
+#[derive(Clone, Copy, Debug, PartialEq, Eq)]
+pub struct Whole {
+    pub first: bool,
+    pub second: bool,
+    pub third: bool,
+    pub fourth: bool,
+}
+
+/// Where the sessions are.
+#[derive(Drop)]
+pub enum State {
+    Memory(SessionSlots),
+    Flash(HeldSlots),
+    Down(Idles, Whole),
+}
+
+/// The four sessions of a device, and the flash that they lie in, if they do. Contracts see where they are, and for which
+/// sessions they stand; what is down stands for none.
+#[derive(Drop)]
+pub struct SessionStore<F: Flash + Drop> {
+    flash: F,
+    layout: Layout,
+    held: bool,
+    state: Option<State>,
+}
+
+impl<F: Flash + Drop> Model for SessionStore<F> {
+    ghost use Rattle.std.specs.Prelude.{◌≡◌, true, is_some};
+    ghost use Rattle.session_store.specs.HeldStore.{HeldStore, kept, StateFits};
+
+    ghost Value = { HeldStore F };
+
+    ghost view = { λ s. record {
+      flash = s.flash;
+      layout = s.layout;
+      held = s.held;
+      state = kept s.state;
+    } };
+
+    ghost invariant = { λ s. (is_some s.state ≡ true)
+        × StateFits s.layout s.held (F.room s.flash) (kept s.state) };
+}
+
+impl<F: Flash + Drop> SessionStore<F> {
+    /// In memory alone, and no flash is called; or down over a flash, in ranges that lie within it.
+    pub fn reserve(alloc: Global, flash: F, layout: Layout, held: bool) -> Result<Self, Memory>
+        requires { held ≡ true → HasRanges layout (F.room flash) }
+        ensures memory { held ≡ false → IfOk result (λ s. StateStands s.state no_sessions) }
+        ensures down { held ≡ true → IfOk result (λ s. (idles : _) × (s.state ≡ Down idles none_whole)) }
+        ensures laid { IfOk result (λ s. (s.layout ≡ layout) × (s.held ≡ held)) }
+        ensures flash { IfOk result (λ s. s.flash ≡ flash) }
+    {
+        let state = if held {
+            State::Down(
+                Idles::reserve(alloc, layout.area)?,
+                Whole {
+                    first: false,
+                    second: false,
+                    third: false,
+                    fourth: false,
+                },
+            )
+        } else {
+            State::Memory(SessionSlots::reserve(alloc, layout.area)?)
+        };
+        Ok(SessionStore {
+            flash,
+            layout,
+            held,
+            state: Some(state),
+        })
+    }
+
+    /// Whether they are down until power comes.
+    pub fn is_down(&self) -> bool
+        ensures down { result ≡ true → IsDown self.now.state }
+        ensures up { result ≡ false → IsUp self.now.state }
+    {
+        match &self.state {
+            Some(State::Memory(_)) => false,
+            Some(State::Flash(_)) => false,
+            _ => true,
+        }
+    }
+
+    /// Whether they are held in flash.
+    pub fn is_held(&self) -> bool
+        ensures { result ≡ self.now.held }
+    {
+        self.held
+    }
+
+    /// Gives the flash back.
+    pub fn close(self) -> F
+        ensures { result ≡ self.flash }
+    {
+        let SessionStore {
+            flash,
+            layout: _layout,
+            held: _held,
+            state: _,
+        } = self;
+        flash
+    }
+
+    /// Answers FragSessionSetupReq with all refusal bits: without one the session there stays, or gives way to a new one.
+    pub fn setup(&mut self, req: SetupReq) -> Result<u8, FlashFault>
+        requires up { IsUp self.old.state }
+        requires fields { FieldsFit req }
+        ensures bits { IfOk result
+            (λ bits. bits ≡ setup_bits self.old.layout.limits
+            (store_room self.old.layout self.old.held) req) }
+        ensures stands { (table : SessionTable) → StateStands self.old.state table
+            → OnOk result (StateStands self.new.state
+            (table_after_setup self.old.layout.limits (store_room self.old.layout self.old.held)
+            req table)) }
+        ensures stored { (table : SessionTable)
+            → StateIsStored self.old.state table (F.holds self.old.flash)
+            (F.left_since self.old.flash (F.moment self.old.flash))
+            → OnOk result (StateIsStored self.new.state
+            (table_after_setup self.old.layout.limits (store_room self.old.layout self.old.held)
+            req table)
+            (F.holds self.new.flash) (F.left_since self.new.flash (F.moment self.new.flash))) }
+        ensures up { OnOk result (IsUp self.new.state) }
+        ensures down { (table : SessionTable) → StateStands self.old.state table
+            → OnErr result ((idles : _) × (self.new.state ≡ Down idles (whole_of table))) }
+        ensures laid { IsLaidOut self.old self.new }
+        ensures quiet { self.old.held ≡ false
+            → (is_ok result ≡ true) × (self.new.flash ≡ self.old.flash) }
+        ensures size { F.room self.new.flash ≡ F.room self.old.flash }
+        ensures cause { HasCause (F.faults self.old.flash) (F.faults self.new.flash) result }
+    {
+        match self.state.take() {
+            Some(State::Memory(mut slots)) => {
+                let bits = slots.setup(req, self.layout.limits);
+                self.state = Some(State::Memory(slots));
+                Ok(bits)
+            }
+            Some(State::Flash(slots)) => {
+                let whole = whole_now(&slots);
+                match slots.setup(&mut self.flash, req) {
+                    Ok((slots, bits)) => {
+                        self.state = Some(State::Flash(slots));
+                        Ok(bits)
+                    }
+                    Err(idles) => {
+                        self.state = Some(State::Down(idles, whole));
+                        Err(FlashFault)
+                    }
+                }
+            }
+            other => {
+                self.state = other;
+                Err(FlashFault)
+            }
+        }
+    }
+
+    /// A session hears a fragment, or drops it.
+    pub fn fragment(
+        &mut self,
+        index: u8,
+        via: Via,
+        n: u16,
+        part: &[u8],
+        mark: u64,
+    ) -> Result<Heard, FlashFault>
+        requires up { IsUp self.old.state }
+        requires index { index < 4 }
+        ensures answer { (table : SessionTable) → StateStands self.old.state table
+            → IfOk result
+            (λ heard. heard ≡ answer_of (drop_cause (session_at table index) via n part.now)
+            (news_in (session_at table index) n part.now mark)) }
+        ensures stands { (table : SessionTable) → StateStands self.old.state table
+            → OnOk result (StateStands self.new.state
+            (table_after_fragment index via n part.now mark table)) }
+        ensures stored { (table : SessionTable)
+            → StateIsStored self.old.state table (F.holds self.old.flash)
+            (F.left_since self.old.flash (F.moment self.old.flash))
+            → OnOk result (StateIsStored self.new.state
+            (table_after_fragment index via n part.now mark table)
+            (F.holds self.new.flash) (F.left_since self.new.flash (F.moment self.new.flash))) }
+        ensures dropped { IfOk result
+            (λ heard. (c : _) → heard ≡ Heard.Dropped c → self.new ≡ self.old) }
+        ensures up { OnOk result (IsUp self.new.state) }
+        ensures down { (table : SessionTable) → StateStands self.old.state table
+            → OnErr result ((idles : _) × (self.new.state ≡ Down idles (whole_of table))) }
+        ensures laid { IsLaidOut self.old self.new }
+        ensures quiet { self.old.held ≡ false
+            → (is_ok result ≡ true) × (self.new.flash ≡ self.old.flash) }
+        ensures size { F.room self.new.flash ≡ F.room self.old.flash }
+        ensures cause { HasCause (F.faults self.old.flash) (F.faults self.new.flash) result }
+    {
+        match self.state.take() {
+            Some(State::Memory(mut slots)) => {
+                let heard = slots.fragment(index, via, n, part, mark);
+                self.state = Some(State::Memory(slots));
+                Ok(heard)
+            }
+            Some(State::Flash(slots)) => {
+                let whole = whole_now(&slots);
+                match slots.fragment(&mut self.flash, index, via, n, part, mark) {
+                    Ok((slots, heard)) => {
+                        self.state = Some(State::Flash(slots));
+                        Ok(heard)
+                    }
+                    Err(idles) => {
+                        self.state = Some(State::Down(idles, whole));
+                        Err(FlashFault)
+                    }
+                }
+            }
+            other => {
+                self.state = other;
+                Err(FlashFault)
+            }
+        }
+    }
+
+    /// Ends a session; false exactly where there is none.
+    pub fn delete(&mut self, index: u8) -> Result<bool, FlashFault>
+        requires up { IsUp self.old.state }
+        requires index { index < 4 }
+        ensures answer { (table : SessionTable) → StateStands self.old.state table
+            → IfOk result (λ lived. lived ≡ is_some (session_at table index)) }
+        ensures stands { (table : SessionTable) → StateStands self.old.state table
+            → OnOk result (StateStands self.new.state (with_session table index None)) }
+        ensures stored { (table : SessionTable)
+            → StateIsStored self.old.state table (F.holds self.old.flash)
+            (F.left_since self.old.flash (F.moment self.old.flash))
+            → OnOk result (StateIsStored self.new.state (with_session table index None)
+            (F.holds self.new.flash) (F.left_since self.new.flash (F.moment self.new.flash))) }
+        ensures up { OnOk result (IsUp self.new.state) }
+        ensures down { (table : SessionTable) → StateStands self.old.state table
+            → OnErr result ((idles : _) × (self.new.state ≡ Down idles (whole_of table))) }
+        ensures laid { IsLaidOut self.old self.new }
+        ensures quiet { self.old.held ≡ false
+            → (is_ok result ≡ true) × (self.new.flash ≡ self.old.flash) }
+        ensures size { F.room self.new.flash ≡ F.room self.old.flash }
+        ensures cause { HasCause (F.faults self.old.flash) (F.faults self.new.flash) result }
+    {
+        match self.state.take() {
+            Some(State::Memory(mut slots)) => {
+                let lived = slots.delete(index);
+                self.state = Some(State::Memory(slots));
+                Ok(lived)
+            }
+            Some(State::Flash(slots)) => {
+                let whole = whole_now(&slots);
+                match slots.delete(&mut self.flash, index) {
+                    Ok((slots, lived)) => {
+                        self.state = Some(State::Flash(slots));
+                        Ok(lived)
+                    }
+                    Err(idles) => {
+                        self.state = Some(State::Down(idles, whole));
+                        Err(FlashFault)
+                    }
+                }
+            }
+            other => {
+                self.state = other;
+                Err(FlashFault)
+            }
+        }
+    }
+
+    /// What a session answers to a status request, if anything.
+    pub fn status(&self, index: u8, via: Via, all: bool) -> Option<StatusAns>
+        requires { index < 4 }
+        ensures value { (table : SessionTable) → StateStands self.now.state table
+            → result ≡ status_of (session_at table index) via all }
+        ensures few { IfSome result (λ a. a.received ≤ 16383) }
+    {
+        match &self.state {
+            Some(State::Memory(slots)) => slots.status(index, via, all),
+            Some(State::Flash(slots)) => slots.status(index, via, all),
+            _ => None,
+        }
+    }
+
+    /// What a session shows; None exactly where there is none, or all are down.
+    pub fn view(&self, index: u8) -> Option<View<'_>>
+        requires { index < 4 }
+        ensures value { (table : SessionTable) → StateStands self.now.state table
+            → option_map seen result ≡ view_of (session_at table index) }
+        ensures down { IsDown self.now.state → result ≡ None }
+        ensures within { IfSome result (λ v. length v.file.now ≤ self.now.layout.area) }
+    {
+        match &self.state {
+            Some(State::Memory(slots)) => slots.view(index),
+            Some(State::Flash(slots)) => slots.view(index),
+            _ => None,
+        }
+    }
+
+    /// Opens the sessions of a device that holds them in flash, and says which had their file whole when they were last up.
+    pub fn power(&mut self) -> Result<Whole, OpenFault>
+        requires { self.old.held ≡ true }
+        // What lies for these sessions is what they are behind it, or the flash failed.
+        ensures opened { (table : SessionTable) (b : List ℕ) → F.holds self.new.flash b
+            → TableLies self.old.layout table b
+            → MatchResult result
+            (λ w. StateStands self.new.state table
+            × StateIsStored self.new.state table (F.holds self.new.flash)
+            (F.left_since self.new.flash (F.moment self.new.flash)))
+            (λ e. e ≡ OpenFault.Flash) }
+        ensures whole { (table : SessionTable) → StateStands self.old.state table
+            → IfOk result (λ w. w ≡ whole_of table) }
+        ensures was { (idles : _) (w : Whole) → self.old.state ≡ Down idles w
+            → IfOk result (λ now. now ≡ w) }
+        ensures up { OnOk result (IsUp self.new.state) }
+        ensures down { OnErr result (IsDown self.new.state) }
+        ensures laid { IsLaidOut self.old self.new }
+        ensures size { F.room self.new.flash ≡ F.room self.old.flash }
+        ensures later { F.faults self.old.flash ≤ F.faults self.new.flash }
+        ensures fault { result ≡ Err OpenFault.Flash
+            → HasRisen (F.faults self.old.flash) (F.faults self.new.flash) }
+    {
+        match self.state.take() {
+            Some(state) => {
+                let (idles, whole) = put_down(state);
+                match HeldSlots::open(&mut self.flash, idles, self.layout) {
+                    Ok(slots) => {
+                        self.state = Some(State::Flash(slots));
+                        Ok(whole)
+                    }
+                    Err((idles, fault)) => {
+                        self.state = Some(State::Down(idles, whole));
+                        Err(fault)
+                    }
+                }
+            }
+            None => Err(OpenFault::Flash),
+        }
+    }
+}
+
+/// The memory of sessions that are held in flash, and which had their file whole.
+fn put_down(state: State) -> (Idles, Whole)
+    requires { IsInFlash state }
+    ensures idle { (layout : _) (held : Bool) (room : ℕ) → StateFits layout held room state
+        → AreIdle layout.area result.0 }
+    ensures whole { (table : SessionTable) → StateStands state table
+        → result.1 ≡ whole_of table }
+    ensures was { (idles : _) (whole : _) → state ≡ Down idles whole → result.1 ≡ whole }
+{
+    match state {
+        State::Memory(_) => unreachable!(),
+        State::Flash(slots) => {
+            let whole = whole_now(&slots);
+            (slots.close(), whole)
+        }
+        State::Down(idles, whole) => (idles, whole),
+    }
+}
+
+/// Which sessions have their file whole now.
+fn whole_now(slots: &HeldSlots) -> Whole
+    ensures { (table : SessionTable) → PlacesStand slots.now table → result ≡ whole_of table }
+{
+    Whole {
+        first: is_whole(slots, 0),
+        second: is_whole(slots, 1),
+        third: is_whole(slots, 2),
+        fourth: is_whole(slots, 3),
+    }
+}
+
+/// Whether the file of a session is whole.
+#[tactic(auto, unfolding(frag_session::specs::HeldView::seen))]
+fn is_whole(slots: &HeldSlots, index: u8) -> bool
+    requires { index < 4 }
+    ensures { (table : SessionTable) → PlacesStand slots.now table
+        → result ≡ is_whole (view_of (session_at table index)) }
+{
+    match slots.view(index) {
+        Some(view) => is_complete(view.verdict),
+        None => false,
+    }
+}
+
+/// Whether the verdict is that the file is whole.
+fn is_complete(verdict: Verdict) -> bool
+    ensures { result ≡ is_complete verdict }
+{
+    match verdict {
+        Verdict::Complete(_) => true,
+        _ => false,
+    }
+}
