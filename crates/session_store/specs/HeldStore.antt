@@ -53,6 +53,12 @@ StateIsStored (Memory slots) table holds left = Unit {0}
 StateIsStored (Flash slots) table holds left = AreHeld slots table holds left
 StateIsStored (Down idles whole) table holds left = ⊥
 
+-- they are up in flash, and lie there
+abbrev pub StateIsHeld : State → SessionTable → (holds left : List ℕ → Type 0) → Type 0
+StateIsHeld (Memory slots) table holds left = ⊥
+StateIsHeld (Flash slots) table holds left = AreHeld slots table holds left
+StateIsHeld (Down idles whole) table holds left = ⊥
+
 -- the ranges are long enough, and lie within so many bytes
 abbrev pub HasRanges : Layout → (room : ℕ) → Type 0
 HasRanges layout room = (records_place ≤ layout.span) × (4 * layout.span ≤ room)

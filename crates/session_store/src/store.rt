@@ -1,14 +1,15 @@
 //! The sessions of a device, wherever they lie, with its flash: in memory alone, in flash, or down until power comes.
 
-ghost use Rattle.std.specs.Prelude.{◌≡◌, ◌≢◌, ℕ, ◌*◌, ◌<◌, ◌≤◌, Bool, List, Option, Some, None, true, false, OnOk, OnErr, IfOk, IfSome, MatchResult, is_ok, is_some, option_map, length};
+ghost use Rattle.std.specs.Prelude.{◌≡◌, ◌≢◌, ◌⊎◌, ℕ, ◌*◌, ◌<◌, ◌≤◌, Bool, List, Option, Some, None, true, false, OnOk, OnErr, IfOk, IfSome, MatchResult, is_ok, is_some, option_map, length};
 ghost use Rattle.frag_session.specs.Setup.{setup_bits};
 ghost use Rattle.frag_session.specs.Session.{answer_of, drop_cause, news_in, status_of, view_of};
 ghost use Rattle.frag_session.specs.HeldView.{seen};
 ghost use Rattle.flash_session.specs.Body.{FieldsFit};
 ghost use Rattle.flash_session.specs.Contents.{HasRisen, HasCause};
+ghost use Rattle.flash_session.specs.Moments.{LeavesOnly};
 ghost use Rattle.session_store.specs.SessionTable.{SessionTable, no_sessions, session_at, with_session, table_after_setup, table_after_fragment};
 ghost use Rattle.session_store.specs.HeldPlaces.{AreIdle, PlacesStand, TableLies};
-ghost use Rattle.session_store.specs.HeldStore.{IsUp, IsDown, IsInFlash, StateFits, StateStands, StateIsStored, HasRanges, IsLaidOut, store_room};
+ghost use Rattle.session_store.specs.HeldStore.{IsUp, IsDown, IsInFlash, StateFits, StateStands, StateIsStored, StateIsHeld, HasRanges, IsLaidOut, store_room};
 ghost use Rattle.session_store.specs.Whole.{is_complete, is_whole, whole_of, none_whole};
 ghost use Rattle.session_store.specs.declared.store.State.TheVariants.{Down};
 
@@ -148,6 +149,18 @@ impl<F: Flash + Drop> SessionStore<F> {
             (table_after_setup self.old.layout.limits (store_room self.old.layout self.old.held)
             req table)
             (F.holds self.new.flash) (F.left_since self.new.flash (F.moment self.new.flash))) }
+        // A stop at any moment leaves the sessions as they were, none at that index, or the new one there.
+        ensures any_moment { (table : SessionTable)
+            → StateIsHeld self.old.state table (F.holds self.old.flash)
+            (F.left_since self.old.flash (F.moment self.old.flash))
+            → LeavesOnly
+            (λ c. TableLies self.old.layout table c
+            ⊎ TableLies self.old.layout (with_session table req.index None) c
+            ⊎ TableLies self.old.layout
+            (table_after_setup self.old.layout.limits
+            (store_room self.old.layout self.old.held) req table) c)
+            (F.moment self.old.flash) (F.moment self.new.flash) (F.left_since self.old.flash)
+            (F.left_since self.new.flash) }
         ensures up { OnOk result (IsUp self.new.state) }
         ensures down { (table : SessionTable) → StateStands self.old.state table
             → OnErr result ((idles : _) × (self.new.state ≡ Down idles (whole_of table))) }
@@ -209,6 +222,16 @@ impl<F: Flash + Drop> SessionStore<F> {
             (F.holds self.new.flash) (F.left_since self.new.flash (F.moment self.new.flash))) }
         ensures dropped { IfOk result
             (λ heard. (c : _) → heard ≡ Heard.Dropped c → self.new ≡ self.old) }
+        // A stop at any moment leaves the sessions as they were, or that one followed by the fragment.
+        ensures any_moment { (table : SessionTable)
+            → StateIsHeld self.old.state table (F.holds self.old.flash)
+            (F.left_since self.old.flash (F.moment self.old.flash))
+            → LeavesOnly
+            (λ c. TableLies self.old.layout table c
+            ⊎ TableLies self.old.layout
+            (table_after_fragment index via n part.now mark table) c)
+            (F.moment self.old.flash) (F.moment self.new.flash) (F.left_since self.old.flash)
+            (F.left_since self.new.flash) }
         ensures up { OnOk result (IsUp self.new.state) }
         ensures down { (table : SessionTable) → StateStands self.old.state table
             → OnErr result ((idles : _) × (self.new.state ≡ Down idles (whole_of table))) }
@@ -257,6 +280,15 @@ impl<F: Flash + Drop> SessionStore<F> {
             (F.left_since self.old.flash (F.moment self.old.flash))
             → OnOk result (StateIsStored self.new.state (with_session table index None)
             (F.holds self.new.flash) (F.left_since self.new.flash (F.moment self.new.flash))) }
+        // A stop at any moment leaves the sessions as they were, or none at that index.
+        ensures any_moment { (table : SessionTable)
+            → StateIsHeld self.old.state table (F.holds self.old.flash)
+            (F.left_since self.old.flash (F.moment self.old.flash))
+            → LeavesOnly
+            (λ c. TableLies self.old.layout table c
+            ⊎ TableLies self.old.layout (with_session table index None) c)
+            (F.moment self.old.flash) (F.moment self.new.flash) (F.left_since self.old.flash)
+            (F.left_since self.new.flash) }
         ensures up { OnOk result (IsUp self.new.state) }
         ensures down { (table : SessionTable) → StateStands self.old.state table
             → OnErr result ((idles : _) × (self.new.state ≡ Down idles (whole_of table))) }
