@@ -146,12 +146,12 @@ fn goes_on(rt: &impl Abort, alloc: Global, all: &[Shown; 9], calls: u64) -> Resu
     let mut at = 0;
     let mut stopped = !power(rt, &mut first);
     if !stopped {
-        for call in &UPDATE {
+        for (number, call) in UPDATE.iter().enumerate() {
             if make(rt, &mut first, *call).is_err() {
                 stopped = true;
                 break;
             }
-            at += 1;
+            at = number + 1;
         }
     }
     assert_eq!(rt; stopped, first.is_down());
@@ -181,13 +181,11 @@ fn goes_on(rt: &impl Abort, alloc: Global, all: &[Shown; 9], calls: u64) -> Resu
 #[test]
 fn an_update_goes_on_after_a_stop_at_any_call(rt: HostRuntime) -> Result<(), Fail> {
     let all = all_shown(&rt, rt.alloc())?;
-    let mut calls = 0;
-    let mut done = false;
-    while !done && calls < 1_000 {
-        done = goes_on(&rt, rt.alloc(), &all, calls)?;
-        calls += 1;
+    for calls in 0..1_000 {
+        if goes_on(&rt, rt.alloc(), &all, calls)? {
+            assert!(&rt; calls > 35);
+            return Ok(());
+        }
     }
-    assert!(&rt; done);
-    assert!(&rt; calls > 35);
-    Ok(())
+    panic!(&rt; "it never ends");
 }
