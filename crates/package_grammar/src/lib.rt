@@ -22,6 +22,7 @@ mod reading;
 mod showing;
 mod showing_cast;
 mod showing_parts;
+mod showing_place;
 mod showing_sync;
 mod writing;
 

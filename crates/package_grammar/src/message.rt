@@ -1,10 +1,10 @@
 //! A message, command by command.
-ghost use Rattle.std.specs.Prelude.{◌≡◌, ◌<◌, ◌≤◌, length, IfOk, IfSome, IfNone, Some};
+ghost use Rattle.std.specs.Prelude.{◌≡◌, ◌<◌, ◌≤◌, [], length, string_bytes, IfOk, IfSome, IfNone, Some};
 ghost use Rattle.wire_base.specs.Payload.{max_payload};
 ghost use Rattle.wire_base.specs.Rows.{IsListed};
 ghost use Rattle.package_grammar.specs.Grammar.{row, IsValid};
 ghost use Rattle.package_grammar.specs.Reading.{reading_of};
-ghost use Rattle.package_grammar.specs.HeldMessage.{message_of, TakesCommand, LeavesFragment};
+ghost use Rattle.package_grammar.specs.HeldMessage.{message_of, TakesCommand, ShowsCommand, LeavesFragment};
 ghost use Rattle.package_grammar.specs.Texts.{text_of};
 ghost use Rattle.cast_wire.specs.declared.cmd.Cmd.TheVariants.{DataFragment};
 ghost use Rattle.package_grammar.specs.declared.command.Command.{Command};
@@ -13,7 +13,9 @@ ghost use Rattle.package_grammar.specs.declared.command.Command.TheVariants.{Cas
 use crate::command::Command;
 use crate::names::{is_port, name_at};
 use crate::reading::read_one;
+use crate::showing_place::put_at;
 use cast_wire::{FRAGMENT_PORT, Fragment, fragment_at};
+use std::alloc::AllocError;
 use std::marker::Model;
 use wire_base::{Direction, MAX_PAYLOAD, Refusal};
 
@@ -108,6 +110,26 @@ impl<'a> Message<'a> {
                 Some(name)
             }
             None => None,
+        }
+    }
+
+    /// Makes `text` the text of the next command, and takes it; false exactly where none is left. Where memory is wanting
+    /// it is not taken.
+    #[inline(always)]
+    pub(crate) fn text_next(&mut self, text: &mut String) -> Result<bool, AllocError>
+        ensures shown { IfOk result
+            (λ more. ShowsCommand self.old self.new [] (string_bytes text.new) more) }
+    {
+        text.clear();
+        if self.bytes.len() == self.at as usize {
+            return Ok(false);
+        }
+        match put_at(self.port, self.direction, self.bytes, self.at, text)? {
+            Some(next) => {
+                self.at = next;
+                Ok(true)
+            }
+            None => Ok(false),
         }
     }
 

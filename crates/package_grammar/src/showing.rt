@@ -8,7 +8,6 @@ use crate::message::Message;
 use crate::showing_cast::put_cast;
 use crate::showing_parts::put_fragment;
 use crate::showing_sync::put_sync;
-use cast_wire::Fragment;
 use std::alloc::AllocError;
 
 /// The room that a text has at first, without the bytes of a fragment: enough but for a list of groups.
@@ -27,9 +26,9 @@ pub fn show(command: &Command, out: &mut Vec<u8>) -> Result<(), AllocError>
 }
 
 impl<'a> Message<'a> {
-    /// Takes the next command and puts its text at the end, as `show` does; false exactly where none is left. Where memory
-    /// is wanting nothing is put, and the command may be taken.
-    pub fn show_next(&mut self, out: &mut Vec<u8>) -> Result<bool, AllocError>
+    /// Takes the next command and puts its text at the end, as `show` does; false exactly where none is left. The text is
+    /// made in `room`, of which nothing is kept but its memory. Where memory is wanting nothing is put.
+    pub fn show_next(&mut self, room: &mut String, out: &mut Vec<u8>) -> Result<bool, AllocError>
         ensures shown { IfOk result
             (λ more. ShowsCommand self.old self.new out.old.items out.new.items more) }
         ensures same { OnErr result (out.new.items ≡ out.old.items) }
@@ -39,52 +38,40 @@ impl<'a> Message<'a> {
                 out.extend_from_slice(name.as_bytes())?;
                 Ok(true)
             }
-            None => self.show_fields(out),
+            None => self.show_fields(room, out),
         }
     }
 
     /// The same, a DataFragment from where it lies.
-    fn show_fields(&mut self, out: &mut Vec<u8>) -> Result<bool, AllocError>
+    fn show_fields(&mut self, room: &mut String, out: &mut Vec<u8>) -> Result<bool, AllocError>
         ensures shown { IfOk result
             (λ more. ShowsCommand self.old self.new out.old.items out.new.items more) }
         ensures same { OnErr result (out.new.items ≡ out.old.items) }
     {
         match self.next_fragment() {
             Some(fragment) => {
-                show_fragment(&fragment, out)?;
+                room.clear();
+                put_fragment(fragment.index, fragment.n, fragment.bytes, room)?;
+                out.extend_from_slice(room.as_bytes())?;
                 Ok(true)
             }
-            None => self.show_whole(out),
+            None => self.show_whole(room, out),
         }
     }
 
     /// The same. It stands alone, so that none of the others sees to the room for a whole command.
     #[inline(never)]
-    fn show_whole(&mut self, out: &mut Vec<u8>) -> Result<bool, AllocError>
+    fn show_whole(&mut self, room: &mut String, out: &mut Vec<u8>) -> Result<bool, AllocError>
         ensures shown { IfOk result
             (λ more. ShowsCommand self.old self.new out.old.items out.new.items more) }
         ensures same { OnErr result (out.new.items ≡ out.old.items) }
     {
-        match self.next() {
-            Some(command) => {
-                show(&command, out)?;
-                Ok(true)
-            }
-            None => Ok(false),
+        if self.text_next(room)? {
+            out.extend_from_slice(room.as_bytes())?;
+            return Ok(true);
         }
+        Ok(false)
     }
-}
-
-/// Puts the text of a DataFragment at the end, or nothing where memory is wanting.
-fn show_fragment(fragment: &Fragment<'_>, out: &mut Vec<u8>) -> Result<(), AllocError>
-    ensures shown { OnOk result (out.new.items
-        ≡ out.old.items ++ fragment_text fragment.now.index fragment.now.n fragment.now.bytes.now) }
-    ensures same { OnErr result (out.new.items ≡ out.old.items) }
-{
-    let room = (2 * fragment.bytes.len()).saturating_add(TEXT_ROOM);
-    let mut text = String::with_capacity(*out.allocator(), room)?;
-    put_fragment(fragment.index, fragment.n, fragment.bytes, &mut text)?;
-    out.extend_from_slice(text.as_bytes())
 }
 
 fn put(command: &Command, text: &mut String) -> Result<(), AllocError>

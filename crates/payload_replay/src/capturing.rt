@@ -235,9 +235,15 @@ fn show_entry(
 ) -> Result<(), AllocError>
     ensures { OnOk result (text.new.items ≡ text.old.items ++ entry_text number item.now) }
 {
-    let head = entry_line(alloc, number, item.port, item.dir)?;
-    text.extend_from_slice(head.as_bytes())?;
-    show_payload(alloc, item.port, item.dir, item.payload.as_slice(), text)
+    let mut room = entry_line(alloc, number, item.port, item.dir)?;
+    text.extend_from_slice(room.as_bytes())?;
+    show_payload(
+        item.port,
+        item.dir,
+        item.payload.as_slice(),
+        &mut room,
+        text,
+    )
 }
 
 /// The line that gives a line's number, and the port and direction of its payload.

@@ -4,7 +4,7 @@ ghost use Rattle.std.specs.Prelude.{◌≡◌, ℕ, ◌+◌, ◌<◌, ◌≤◌,
 ghost use Rattle.std.specs.Fmt.{decimal};
 ghost use Rattle.package_grammar.specs.Reading.{reading_of};
 ghost use Rattle.script_lines.specs.Lines.{lines_of};
-ghost use Rattle.report_lines.specs.Texts.{seen_text, IsText};
+ghost use Rattle.report_lines.specs.Texts.{seen_text};
 ghost use Rattle.payload_replay.specs.PayloadLines.{payload_of};
 ghost use Rattle.report_lines.specs.Lines.{IsLineRefused, IsFileText};
 ghost use Rattle.payload_replay.specs.Decode.{commands_text, stop_word, stop_text, payload_text, numbered_text, Writes, Decodes};
@@ -27,7 +27,6 @@ use wire_base::{Direction, Why};
 /// profile.)
 #[derive(Drop)]
 pub struct Decoding {
-    alloc: Global,
     port: u8,
     dir: Direction,
     lines: u32,
@@ -36,11 +35,12 @@ pub struct Decoding {
     room: Room,
 }
 
-/// Room for the bytes of a line, and for the text of its number. It is kept, so that no line makes it anew.
+/// Room for the bytes of a line, and for the text of one line of what is said of it. It is kept, so that no line makes it
+/// anew.
 #[derive(Drop)]
 struct Room {
     bytes: [u8; MAX_HEX_BYTES],
-    head: String,
+    text: String,
 }
 
 impl Model for Decoding {
@@ -80,7 +80,6 @@ impl Decoding {
         ensures { DecodingStands port dir result [] }
     {
         Decoding {
-            alloc,
             port,
             dir,
             lines: 0,
@@ -88,7 +87,7 @@ impl Decoding {
             kept: None,
             room: Room {
                 bytes: [0; MAX_HEX_BYTES],
-                head: String::new(alloc),
+                text: String::new(alloc),
             },
         }
     }
@@ -100,7 +99,6 @@ impl Decoding {
         match self.kept {
             Some(_) => {}
             None => match decode_line(
-                self.alloc,
                 self.port,
                 self.dir,
                 self.lines,
@@ -150,7 +148,6 @@ fn ended(mut text: Vec<u8>) -> Result<Vec<u8>, LineError>
 
 /// Writes the number of a line, which comes after so many, and what its payload says; or the line is refused.
 fn decode_line(
-    alloc: Global,
     port: u8,
     dir: Direction,
     lines: u32,
@@ -169,12 +166,11 @@ fn decode_line(
         Err(error) => return Err(error),
     };
     match show_numbered(
-        alloc,
         port,
         dir,
         lines + 1,
         &room.bytes[..count],
-        &mut room.head,
+        &mut room.text,
         text,
     ) {
         Ok(()) => Ok(()),
@@ -184,19 +180,18 @@ fn decode_line(
 
 /// Writes a line's number, and what its payload says.
 fn show_numbered(
-    alloc: Global,
     port: u8,
     dir: Direction,
     number: u32,
     payload: &[u8],
-    head: &mut String,
+    room: &mut String,
     text: &mut Vec<u8>,
 ) -> Result<(), AllocError>
     ensures { OnOk result (Writes port dir number payload.now text.old.items text.new.items) }
 {
-    set_line_head(number, head)?;
-    text.extend_from_slice(head.as_bytes())?;
-    show_payload(alloc, port, dir, payload, text)
+    set_line_head(number, room)?;
+    text.extend_from_slice(room.as_bytes())?;
+    show_payload(port, dir, payload, room, text)
 }
 
 /// Makes the line that gives a line's number.
@@ -209,42 +204,49 @@ fn set_line_head(number: u32, head: &mut String) -> Result<(), AllocError>
     Ok(())
 }
 
-/// Writes what a payload says: its commands, or where and why reading stops.
+/// Writes what a payload says: its commands, or where and why reading stops. Each line is made in `room`.
 pub fn show_payload(
-    alloc: Global,
     port: u8,
     dir: Direction,
     payload: &[u8],
+    room: &mut String,
     text: &mut Vec<u8>,
 ) -> Result<(), AllocError>
     ensures { OnOk result
         (text.new.items ≡ text.old.items ++ payload_text (reading_of port dir payload.now)) }
 {
     match Message::read(port, dir, payload) {
-        Ok(message) => show_commands(message, text),
+        Ok(message) => show_commands(message, room, text),
         Err(refusal) => {
-            let line = stop_line(alloc, refusal.at, stop_word(refusal.why))?;
-            text.extend_from_slice(line.as_bytes())
+            set_stop_line(refusal.at, stop_word(refusal.why), room)?;
+            text.extend_from_slice(room.as_bytes())
         }
     }
 }
 
 /// Writes the commands of a message, each on a line.
-fn show_commands(mut message: Message<'_>, text: &mut Vec<u8>) -> Result<(), AllocError>
+fn show_commands(
+    mut message: Message<'_>,
+    room: &mut String,
+    text: &mut Vec<u8>,
+) -> Result<(), AllocError>
     ensures { OnOk result
         (text.new.items ≡ text.old.items ++ commands_text message.entry.commands) }
 {
-    while message.show_next(text)? {
+    while message.show_next(room, text)? {
         text.push(b'\n')?;
     }
     Ok(())
 }
 
-fn stop_line(alloc: Global, at: u16, why: &str) -> Result<String, AllocError>
-    ensures { IsText result
-        (codes "refused " ++ decimal at ++ (codes " " ++ why.now ++ codes "\n")) }
+/// Makes the line that says where and why reading stops.
+fn set_stop_line(at: u16, why: &str, line: &mut String) -> Result<(), AllocError>
+    ensures { OnOk result (string_bytes line.new
+        ≡ codes "refused " ++ decimal at ++ (codes " " ++ why.now ++ codes "\n")) }
 {
-    format!(in alloc; "refused {at} {why}\n")
+    line.clear();
+    write!(line, "refused {at} {why}\n")?;
+    Ok(())
 }
 
 fn stop_word(why: Why) -> &'static str

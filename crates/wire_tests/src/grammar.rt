@@ -403,10 +403,11 @@ fn values_have_their_texts(rt: HostRuntime) -> Result<(), Fail> {
     ];
     for (port, dir, digits, text) in &rows {
         let bytes = bytes_of(rt.alloc(), digits);
+        let mut room = String::new(rt.alloc());
         let mut shown = Vec::new(rt.alloc());
         if let Ok(mut message) = Message::read(*port, *dir, &bytes) {
-            let shows = message.show_next(&mut shown)?;
-            let shows_more = message.show_next(&mut shown)?;
+            let shows = message.show_next(&mut room, &mut shown)?;
+            let shows_more = message.show_next(&mut room, &mut shown)?;
             assert!(rt; shows && !shows_more);
         }
         assert_eq!(rt; shown.as_slice(), text.as_bytes());
