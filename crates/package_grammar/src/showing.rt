@@ -27,7 +27,8 @@ pub fn show(command: &Command, out: &mut Vec<u8>) -> Result<(), AllocError>
 
 impl<'a> Message<'a> {
     /// Takes the next command and puts its text at the end, as `show` does; false exactly where none is left. The text is
-    /// made in `room`, of which nothing is kept but its memory. Where memory is wanting nothing is put.
+    /// made in `room`, of which nothing is kept but its memory. Where memory is wanting nothing is put, and the command may
+    /// be taken.
     pub fn show_next(&mut self, room: &mut String, out: &mut Vec<u8>) -> Result<bool, AllocError>
         ensures shown { IfOk result
             (λ more. ShowsCommand self.old self.new out.old.items out.new.items more) }

@@ -10,6 +10,7 @@ ghost use Rattle.package_grammar.specs.MessageInside.{IsPutAt};
 
 use crate::showing_cast::put_cast;
 use crate::showing_sync::put_sync;
+use cast_wire::FRAGMENT_PORT;
 use std::alloc::AllocError;
 use sync_wire::{CLOCK_PORT, FIRMWARE_PORT};
 use wire_base::Direction;
@@ -33,7 +34,16 @@ pub(crate) fn put_at(
     if port == CLOCK_PORT || port == FIRMWARE_PORT {
         return put_sync_at(port, dir, bytes, at, text);
     }
-    put_cast_at(port, dir, bytes, at, text)
+    if port == FRAGMENT_PORT {
+        return match dir {
+            Direction::Down => put_cast_at(FRAGMENT_PORT, Direction::Down, bytes, at, text),
+            Direction::Up => put_cast_at(FRAGMENT_PORT, Direction::Up, bytes, at, text),
+        };
+    }
+    match dir {
+        Direction::Down => put_cast_at(port, Direction::Down, bytes, at, text),
+        Direction::Up => put_cast_at(port, Direction::Up, bytes, at, text),
+    }
 }
 
 /// The same of the commands of ports 202 and 203.
@@ -60,7 +70,9 @@ fn put_sync_at(
     }
 }
 
-/// The same of the commands of ports 200 and 201.
+/// The same of the commands of ports 200 and 201. It is made for each port and direction by itself, since the compiler then
+/// sees which commands there are.
+#[inline(always)]
 fn put_cast_at(
     port: u8,
     dir: Direction,
