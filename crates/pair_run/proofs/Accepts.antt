@@ -99,9 +99,9 @@ both_fine held f all =
     )
 
 -- what a payload that crosses over is besides
-pub record MayCross (held : HeldPair) (word : ℕ) : Type 0 where
-  pub a : takes_events held.a.section ≡ true
-  pub b : takes_events held.b.section ≡ true
+pub record MayCross (a b : Section) (word : ℕ) : Type 0 where
+  pub a_takes : takes_events a ≡ true
+  pub b_takes : takes_events b ≡ true
   pub random : word < 2 ^ 32
 
 pub cut_cause : (b : Bool) (cause : LineWhy) (rest : Option LineWhy) → cond (not b) (Some cause) rest ≡ None → (b ≡ true) × (rest ≡ None)
@@ -129,7 +129,7 @@ crosses_well by from to a b number device word long none comes random =
     }
 
 pub fine_target : (held : HeldPair) (target : Target) → OfBoth held (λ pair. target_cause pair target ≡ None)
-    → ((x : Campaign) (by : Way) (number device word : ℕ) → target ≡ Across x by number device word → MayCross held word) → IsFineTarget held target
+    → ((x : Campaign) (by : Way) (number device word : ℕ) → target ≡ Across x by number device word → MayCross held.a.section held.b.section word) → IsFineTarget held target
 fine_target held Header all may = both_fine held form.Header all
 fine_target held (At time) all may = both_fine held (form.At time) all
 fine_target held End all may = both_fine held form.End all
@@ -141,12 +141,12 @@ fine_target held (Across campaign.A by number device word) all may =
     let of_a = some_devices (length held.a.devices) in
     let of_b = some_devices (length held.b.devices) in
     let m = may campaign.A by number device word refl in
-    crosses_well by held.a held.b of_a.0 of_b.0 number device word of_b.1 (all of_a.0 of_b.0 of_a.1 of_b.1) m.b m.random
+    crosses_well by held.a held.b of_a.0 of_b.0 number device word of_b.1 (all of_a.0 of_b.0 of_a.1 of_b.1) m.b_takes m.random
 fine_target held (Across campaign.B by number device word) all may =
     let of_a = some_devices (length held.a.devices) in
     let of_b = some_devices (length held.b.devices) in
     let m = may campaign.B by number device word refl in
-    crosses_well by held.b held.a of_b.0 of_a.0 number device word of_a.1 (all of_a.0 of_b.0 of_a.1 of_b.1) m.a m.random
+    crosses_well by held.b held.a of_b.0 of_a.0 number device word of_a.1 (all of_a.0 of_b.0 of_a.1 of_b.1) m.a_takes m.random
 fine_target held Nobody all may =
     let of_a = some_devices (length held.a.devices) in
     let of_b = some_devices (length held.b.devices) in
@@ -232,20 +232,21 @@ come_both a b named way.Downlink number device word is = is
 come_both a b named way.Air number device word is = is
 
 -- so it may come to both
-pub may_cross_over : (held : HeldPair) (a b : List DeviceState) (pair_form : PairForm) (target : Target) (x : Campaign) (by : Way)
-    (number device word : ℕ) → None ≡ common_cause (pair_of held a b) pair_form → target ≡ target_in (pair_of held a b) pair_form
-    → target ≡ Across x by number device word → MayCross held word
+pub may_cross_over : (pair : PairState) (pair_form : PairForm) (target : Target) (x : Campaign) (by : Way)
+    (number device word : ℕ) → None ≡ common_cause pair pair_form → target ≡ target_in pair pair_form
+    → target ≡ Across x by number device word → MayCross pair.a.section pair.b.section word
 unfolding target_of
-may_cross_over held a b pair_form target x by number device word none is crossing =
-    let over = across_over held.owners (length a) (length b) pair_form.campaign pair_form.form x by number device word (sym is ∙ crossing) in
-    let passed = common_passed (pair_of held a b) pair_form none in
-    let comes : pair_may_come held.a.section held.b.section pair_form.campaign (carried_form over.by over.number over.device word) ≡ true =
-    subst (λ (f : Form). pair_may_come held.a.section held.b.section pair_form.campaign f ≡ true) over.is passed.comes in
-    let both = and_parts (takes_events held.a.section) (takes_events held.b.section)
-    (come_both held.a.section held.b.section pair_form.campaign over.by over.number over.device word comes) in
+may_cross_over pair pair_form target x by number device word none is crossing =
+    let over = across_over pair.owners (length pair.a.devices) (length pair.b.devices) pair_form.campaign pair_form.form x by number device word
+    (sym is ∙ crossing) in
+    let passed = common_passed pair pair_form none in
+    let comes : pair_may_come pair.a.section pair.b.section pair_form.campaign (carried_form over.by over.number over.device word) ≡ true =
+    subst (λ (f : Form). pair_may_come pair.a.section pair.b.section pair_form.campaign f ≡ true) over.is passed.comes in
+    let both = and_parts (takes_events pair.a.section) (takes_events pair.b.section)
+    (come_both pair.a.section pair.b.section pair_form.campaign over.by over.number over.device word comes) in
     record {
-      a = both.0;
-      b = both.1;
+      a_takes = both.0;
+      b_takes = both.1;
       random = low_word over.by over.number over.device word (subst (λ (f : Form). in_range f ≡ true) over.is passed.ranges);
     }
 

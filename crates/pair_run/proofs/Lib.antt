@@ -3,3 +3,4 @@ pub mod Pairs
 pub mod Accepts
 pub mod Parts
 pub mod HeardPair
+pub mod ReadAlone

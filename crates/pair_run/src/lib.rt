@@ -13,11 +13,13 @@
 
 mod causes;
 mod hearing;
+mod laws;
 mod owners;
 mod pair;
 mod report;
 mod steps;
 mod targets;
 
+pub use laws::each_campaign_reads_its_lines;
 pub use owners::Owner;
 pub use pair::Pair;

@@ -55,6 +55,6 @@ returns-in-None-clause-target c = let few_a = c.if-lines-ge-MAX_LINES.false in l
           (sym c.pair_form.ensures ∙ c.in-Some.is) (same a b count_a count_b);
       fine = fine_target c.args.self.now c.target_of-target.result (λ a b count_a count_b. sym (c.target_cause.ensures a b count_a count_b) ∙ c.in-None.is)
           (λ x by number device word crossing. let of = some_both c.args.self.now in
-          may_cross_over c.args.self.now of.a of.b c.in-Some.pair_form c.target_of-target.result x by number device word
+          may_cross_over (pair_of c.args.self.now of.a of.b) c.in-Some.pair_form c.target_of-target.result x by number device word
           (sym c.in_default-common_cause.is ∙ c.common_cause.ensures of.a of.b of.long_a of.long_b) (same of.a of.b of.long_a of.long_b) crossing);
     }
