@@ -226,6 +226,13 @@ impl Server {
         numbered(&self.stages, dev)
     }
 
+    /// What it is to do.
+    pub fn plan(&self) -> &Plan
+        ensures { result.now ≡ self.now.plan }
+    {
+        &self.plan
+    }
+
     /// The image that is sent.
     pub fn image(&self) -> &[u8]
         ensures { result.now ≡ self.now.image }

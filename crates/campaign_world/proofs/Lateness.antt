@@ -11,7 +11,7 @@ use Rattle.frag_session.specs.Session.{view_of}
 use Rattle.campaign_server.specs.declared.stage.Stage.{Stage}
 use Rattle.campaign_world.specs.declared.recovery.NoFile.TheVariants as no_file
 use Rattle.campaign_world.specs.Recovery.{recovery_by}
-use Rattle.campaign_world.specs.Report.{first_part, device_part}
+use Rattle.campaign_world.specs.Report.{first_part, named_part}
 use Rattle.campaign_world.specs.HeldLate.{Late, HeldRests, RestsBy, DeviceRests}
 
 -- what is here rests as the device does
@@ -68,8 +68,8 @@ first_told name stage offset zero is =
     rw (is) (sym (joined_on (codes "device ") name (codes " ") stage (codes " clock ") offset (codes " token 0 running 0 next none\n")
     (codes "counts deaf 0 refused 0 full 0 dropped 0\n")))
 
-pub first_lines : (image : List ℕ) (id : ℕ) (stage : Stage) (late : Late) (d : DeviceState) → late.came ≡ None → DeviceRests late d
-    → first_part id stage late.config.offset ≡ device_part image id stage d
+pub first_lines : (image name : List ℕ) (stage : Stage) (late : Late) (d : DeviceState) → late.came ≡ None → DeviceRests late d
+    → first_part name stage late.config.offset ≡ named_part image name stage d
 unfolding view_of
-first_lines image id stage late d none rests =
-    rw (first_rests late d none rests) (first_told (decimal id) (stage_text stage) (decimal late.config.offset) (decimal 0) nought)
+first_lines image name stage late d none rests =
+    rw (first_rests late d none rests) (first_told name (stage_text stage) (decimal late.config.offset) (decimal 0) nought)

@@ -3,6 +3,7 @@ pub mod Lateness
 pub mod Outboxes
 pub mod OutboxRoom
 pub mod FormCauses
+pub mod Beside
 pub mod Steps
 pub mod Lines
 pub mod HeardWorld

@@ -145,6 +145,12 @@ takes_events section.Devices = true
 takes_events section.Events = true
 takes_events here = false
 
+-- events, or the end, have come
+abbrev pub has_begun : Section → Bool
+has_begun section.Events = true
+has_begun section.Ended = true
+has_begun here = false
+
 abbrev pub said_cause : WorldState → Said → Option LineWhy
 said_cause world (Own form) = form_cause world form
 said_cause world Elsewhere = None

@@ -1,10 +1,11 @@
 -- The report of a campaign (this project's profile).
-use Rattle.std.specs.Prelude.{ℕ, ◌+◌, List, [], ◌∷◌, length, codes}
+use Rattle.std.specs.Prelude.{ℕ, ◌+◌, List, [], ◌∷◌, length, codes, Option, Some, None}
 use Rattle.std.specs.Fmt.{decimal}
 use Rattle.frag_encoder.specs.Encoding.{nb_frag_of, padding_of}
 use Rattle.device_core.specs.Device.{DeviceState}
 use Rattle.campaign_server.specs.declared.stage.Stage.{Stage}
-use Rattle.campaign_server.specs.Server.{ServerState}
+use Rattle.campaign_server.specs.Server.{ServerState, ledger}
+use Rattle.wire_base.specs.Numbered.{numbered}
 use Rattle.report_lines.specs.Devices.{◌⧺◌, stage_text, device_line, counts_line}
 use Rattle.report_lines.specs.Sessions.{same, session_lines}
 use Rattle.campaign_world.specs.World.{WorldState}
@@ -25,18 +26,35 @@ image_line server =
 
 -- ---- the report
 
+-- the lines of a device under a name, its files compared with the image
+abbrev pub named_part : (image name : List ℕ) → Stage → DeviceState → List ℕ
+named_part image name stage device =
+    device_line name stage device ⧺ counts_line device.counts ⧺ session_lines (same image) device.sessions
+
+-- its name is its ID
 abbrev pub device_part : (image : List ℕ) → (id : ℕ) → Stage → DeviceState → List ℕ
-device_part image id stage device =
-    device_line (decimal id) stage device ⧺ counts_line device.counts ⧺ session_lines (same image) device.sessions
+device_part image id stage device = named_part image (decimal id) stage device
 
 -- those of one to which nothing happened yet
-abbrev pub first_text : (id : ℕ) → (stage : List ℕ) → (offset : ℕ) → List ℕ
-first_text id stage offset =
-    codes "device " ⧺ decimal id ⧺ codes " " ⧺ stage ⧺ codes " clock " ⧺ decimal offset
+abbrev pub first_text : (name stage : List ℕ) → (offset : ℕ) → List ℕ
+first_text name stage offset =
+    codes "device " ⧺ name ⧺ codes " " ⧺ stage ⧺ codes " clock " ⧺ decimal offset
     ⧺ codes " token 0 running 0 next none\ncounts deaf 0 refused 0 full 0 dropped 0\n"
 
-abbrev pub first_part : (id : ℕ) → Stage → (offset : ℕ) → List ℕ
-first_part id stage offset = first_text id (stage_text stage) offset
+abbrev pub first_part : (name : List ℕ) → Stage → (offset : ℕ) → List ℕ
+first_part name stage offset = first_text name (stage_text stage) offset
+
+-- those of the device with a number, counted from 1, under a name; none where there is no such device
+abbrev pub found_lines : (image name : List ℕ) → Option Stage → Option DeviceState → List ℕ
+found_lines image name (Some stage) (Some device) = named_part image name stage device
+found_lines image name stage device = []
+
+abbrev pub numbered_lines : (name : List ℕ) → (number : ℕ) → ServerState → List DeviceState → List ℕ
+numbered_lines name number server devices =
+    found_lines server.image name (ledger server number) (numbered devices number)
+
+abbrev pub lines_under : (name : List ℕ) → (number : ℕ) → WorldState → List ℕ
+lines_under name number world = numbered_lines name number world.server world.devices
 
 -- the lines of each device, in order, from a number on
 unfoldable pub device_parts : (image : List ℕ) → (id : ℕ) → List Stage → List DeviceState → List ℕ

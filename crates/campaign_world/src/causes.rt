@@ -61,7 +61,8 @@ pub fn fits_script(len: usize, count: usize, form: &Form) -> bool
     }
 }
 
-fn is_device(count: usize, device: u64) -> bool
+/// Whether so many devices, numbered from 1, have this one.
+pub fn is_device(count: usize, device: u64) -> bool
     ensures { result ≡ is_device count device }
 {
     1 <= device && device <= count as u64

@@ -1,6 +1,7 @@
 //! A campaign of a firmware update over LoRaWAN (TS003 to TS006, 1.0.0) as a script tells it, line by line: a server, its
 //! devices, what was sent and what was heard. The forms of a script, their order and the report are this project's profile.
 //! `World` takes one line after another, or refuses the first wrong one with its first cause, and gives the report.
+//! A campaign can play beside another one: it says what it has, and lets pass what concerns the other alone.
 //! Files and words of a command line are left to the program above.
 //!
 //!     let mut world = World::new(alloc, image)?;
@@ -23,5 +24,8 @@ mod section;
 mod summary;
 mod world;
 
+pub use causes::{is_device, is_event_or_end, may_come, names_device};
+pub use numbered::SentPayload;
 pub use recovery::NoFile;
+pub use section::Section;
 pub use world::World;

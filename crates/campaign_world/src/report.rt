@@ -6,7 +6,7 @@ ghost use Rattle.device_core.specs.Device.{DeviceState};
 ghost use Rattle.device_core.specs.HeldDevice.{DeviceStands};
 ghost use Rattle.campaign_world.specs.HeldWorld.{DevicesRest};
 ghost use Rattle.campaign_world.specs.HeldLate.{DeviceRests};
-ghost use Rattle.campaign_world.specs.Report.{image_text, image_line, first_text, first_part, device_part, device_parts, report_with};
+ghost use Rattle.campaign_world.specs.Report.{image_text, image_line, first_text, first_part, named_part, device_parts, report_with};
 
 use crate::late::LateDevice;
 use campaign_server::{Server, Stage};
@@ -53,43 +53,45 @@ fn device_parts(
     let mut text = Vec::new(alloc);
     let mut id = 1u8;
     for device in devices {
-        let part = device_part(alloc, server.image(), id, server.ledger(id), device)?;
+        let name = name_of(alloc, id)?;
+        let stage = server.ledger(id);
+        let part = device_part(alloc, server.image(), name.as_str(), stage, device)?;
         text.extend_from_slice(part.as_bytes())?;
         id += 1;
     }
     Ok(text)
 }
 
-/// The lines of one device.
-fn device_part(
+/// The lines of one device, under its name.
+pub fn device_part(
     alloc: Global,
     image: &[u8],
-    id: u8,
+    name: &str,
     stage: Stage,
     late: &LateDevice,
 ) -> Result<String, AllocError>
     ensures { (d : DeviceState) → DeviceRests late.now d
-        → IfOk result (λ text. string_bytes text ≡ device_part image.now id stage d) }
+        → IfOk result (λ text. string_bytes text ≡ named_part image.now name.now stage d) }
 {
     match late.device() {
-        Some(device) => came_part(alloc, image, id, stage, device),
-        None => first_part(alloc, id, stage, late.config().offset),
+        Some(device) => came_part(alloc, image, name, stage, device),
+        None => first_part(alloc, name, stage, late.config().offset),
     }
 }
 
 /// Those of one to which nothing happened yet.
-fn first_part(alloc: Global, id: u8, stage: Stage, offset: u32) -> Result<String, AllocError>
-    ensures { IfOk result (λ text. string_bytes text ≡ first_part id stage offset) }
+fn first_part(alloc: Global, name: &str, stage: Stage, offset: u32) -> Result<String, AllocError>
+    ensures { IfOk result (λ text. string_bytes text ≡ first_part name.now stage offset) }
 {
     let stage = stage_text(alloc, stage)?;
-    first_text(alloc, id, stage.as_str(), offset)
+    first_text(alloc, name, stage.as_str(), offset)
 }
 
-fn first_text(alloc: Global, id: u8, stage: &str, offset: u32) -> Result<String, AllocError>
-    ensures { IfOk result (λ text. string_bytes text ≡ first_text id stage.now offset) }
+fn first_text(alloc: Global, name: &str, stage: &str, offset: u32) -> Result<String, AllocError>
+    ensures { IfOk result (λ text. string_bytes text ≡ first_text name.now stage.now offset) }
 {
     format!(in alloc;
-        "device {id} {stage} clock {offset} token 0 running 0 next none\ncounts deaf 0 refused 0 full 0 dropped 0\n"
+        "device {name} {stage} clock {offset} token 0 running 0 next none\ncounts deaf 0 refused 0 full 0 dropped 0\n"
     )
 }
 
@@ -97,15 +99,14 @@ fn first_text(alloc: Global, id: u8, stage: &str, offset: u32) -> Result<String,
 fn came_part(
     alloc: Global,
     image: &[u8],
-    id: u8,
+    name: &str,
     stage: Stage,
     device: &Device,
 ) -> Result<String, AllocError>
     ensures { (d : DeviceState) → DeviceStands device.now d
-        → IfOk result (λ text. string_bytes text ≡ device_part image.now id stage d) }
+        → IfOk result (λ text. string_bytes text ≡ named_part image.now name.now stage d) }
 {
-    let name = name_of(alloc, id)?;
-    let stand = device_line(alloc, name.as_str(), stage, device)?;
+    let stand = device_line(alloc, name, stage, device)?;
     let counts = counts_line(alloc, device.counts())?;
     let sessions = session_lines(alloc, device, Tail::Same(image))?;
     three_texts(alloc, stand.as_str(), counts.as_str(), sessions.as_str())

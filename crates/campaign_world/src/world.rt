@@ -1,6 +1,6 @@
 //! A campaign as its script tells it, line by line: what was sent, what was heard, and where each end stands.
 
-ghost use Rattle.std.specs.Prelude.{◌≡◌, ◌<◌, ◌+◌, true, List, length, None, Some, Ok, Err, IfOk, IfErr, IfSome, OnOk, OnErr, is_some, option_map};
+ghost use Rattle.std.specs.Prelude.{◌≡◌, ◌≤◌, ◌<◌, ◌+◌, true, List, length, None, Some, Ok, Err, IfOk, IfErr, IfSome, OnOk, OnErr, is_some, option_map};
 ghost use Rattle.image_slots.specs.Image.{is_image};
 ghost use Rattle.device_core.specs.Device.{DeviceState};
 ghost use Rattle.device_core.specs.Sendable.{IsUplink};
@@ -13,6 +13,7 @@ ghost use Rattle.campaign_world.specs.Script.{one_line_more};
 ghost use Rattle.campaign_world.specs.Making.{after_form};
 ghost use Rattle.campaign_world.specs.Recovery.{recovery};
 
+mod beside;
 mod events;
 mod phase;
 mod planning;
@@ -97,7 +98,8 @@ impl World {
 
     /// Lines so far.
     pub fn lines(&self) -> u32
-        ensures { result ≡ self.now.lines }
+        ensures lines { result ≡ self.now.lines }
+        ensures few { result ≤ max_lines }
     {
         self.lines
     }
@@ -107,6 +109,8 @@ impl World {
     pub fn cause(&self, form: &Form) -> Option<LineWhy>
         ensures cause { (world : WorldState) → WorldStands self.now world
             → result ≡ form_cause world form.now }
+        ensures held { (devices : List DeviceState) → length devices ≡ length self.now.devices
+            → result ≡ form_cause (world_of self.now devices) form.now }
         ensures fine { result ≡ None → IsFine self.now form.now }
     {
         self.first_cause(form)

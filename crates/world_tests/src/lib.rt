@@ -1,5 +1,7 @@
-//! Tests of `campaign_world`, by scripts and their reports. There is no other code here.
+//! Tests of `campaign_world` and `pair_run`, by scripts and their reports. There is no other code here.
 #![tactic(auto)]
 
+#[cfg(test)]
+mod pairs;
 #[cfg(test)]
 mod tests;

@@ -1,6 +1,6 @@
 //! A campaign that plays, and its events.
 
-ghost use Rattle.std.specs.Prelude.{◌≡◌, ◌≤◌, ◌<◌, ◌+◌, ◌++◌, ◌^◌, ℕ, true, List, [], length, None, Some, IfOk, IfSome, OnOk, OnErr, option_map, vec_len, vec_capacity};
+ghost use Rattle.std.specs.Prelude.{◌≡◌, ◌≤◌, ◌<◌, ◌+◌, ◌++◌, ◌^◌, ℕ, true, List, [], length, None, Some, IfOk, IfSome, OnOk, OnErr, option_map, string_bytes, vec_len, vec_capacity};
 ghost use Rattle.std.specs.Result.{result_ok};
 ghost use Rattle.wire_base.specs.Numbered.{numbered};
 ghost use Rattle.image_slots.specs.Image.{is_image};
@@ -15,7 +15,7 @@ ghost use Rattle.campaign_server.specs.Uplinks.{uplink_step};
 ghost use Rattle.campaign_server.specs.Sent.{down_of};
 ghost use Rattle.campaign_world.specs.Causes.{is_event_or_end, has_more};
 ghost use Rattle.campaign_world.specs.Making.{with_sent, with_event, reception, raw_down, sent_frame, hearing, after_up, at_events, after_form};
-ghost use Rattle.campaign_world.specs.Report.{report_with};
+ghost use Rattle.campaign_world.specs.Report.{numbered_lines, report_with};
 ghost use Rattle.campaign_world.specs.Summary.{summary_with};
 ghost use Rattle.campaign_world.specs.HeldWorld.{sent_by, answered};
 ghost use Rattle.campaign_world.specs.declared.numbered.SentPayload.{SentPayload};
@@ -24,7 +24,7 @@ ghost use Rattle.campaign_world.specs.declared.numbered.MadeUplink.{MadeUplink};
 use crate::deliveries::{deliver, hear_bytes, migrate, wake};
 use crate::late::LateDevice;
 use crate::numbered::{MadeUplink, SentPayload, numbered};
-use crate::report::report;
+use crate::report::{device_part, report};
 use crate::summary::summary;
 use campaign_server::Server;
 use device_core::{Moment, Uplink};
@@ -250,7 +250,13 @@ impl Campaign {
 
     /// Anybody's payload reaches a device, whose uplinks are then numbered, oldest first. It is no sent payload, and has no
     /// number.
-    fn raw(&mut self, lines: u32, device: u8, down: &Downlink, word: u32) -> Result<(), AllocError>
+    pub fn raw(
+        &mut self,
+        lines: u32,
+        device: u8,
+        down: &Downlink,
+        word: u32,
+    ) -> Result<(), AllocError>
         requires first { 1 ≤ device }
         requires last { device ≤ length self.old.devices }
         requires room { lines < max_lines }
@@ -375,6 +381,22 @@ impl Campaign {
             Some(made) => Some(&made.uplink),
             None => None,
         }
+    }
+
+    /// The report's lines of a device, counted from 1, under a name; none where there is no such device.
+    pub fn device_lines(&self, alloc: Global, number: u64, name: &str) -> Result<String, AllocError>
+        ensures { (ds : List DeviceState) → DevicesRest self.now.devices ds → IfOk result
+            (λ text. string_bytes text ≡ numbered_lines name.now number self.now.server ds) }
+    {
+        if number == 0 {
+            return Ok(String::new(alloc));
+        }
+        if number > self.devices.len() as u64 {
+            return Ok(String::new(alloc));
+        }
+        let device = &self.devices[number as usize - 1];
+        let stage = self.server.ledger(number as u8);
+        device_part(alloc, self.server.image(), name, stage, device)
     }
 
     /// The report of what was played.

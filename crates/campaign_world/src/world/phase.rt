@@ -4,8 +4,9 @@ ghost use Rattle.std.specs.Prelude.{◌≡◌, ◌≤◌, ◌<◌, true, length,
 ghost use Rattle.image_slots.specs.Image.{max_image};
 ghost use Rattle.script_lines.specs.Limits.{max_lines};
 ghost use Rattle.campaign_server.specs.Plan.{max_devices};
-ghost use Rattle.campaign_world.specs.Causes.{may_come};
-ghost use Rattle.campaign_world.specs.Making.{after_form};
+ghost use Rattle.campaign_world.specs.Causes.{may_come, takes_events};
+ghost use Rattle.campaign_world.specs.Said.{Reached};
+ghost use Rattle.campaign_world.specs.Making.{after_form, after_said};
 ghost use Rattle.campaign_world.specs.PhaseInside.{section_by, is_end};
 
 use super::events::Campaign;
@@ -14,6 +15,7 @@ use crate::causes::is_event_or_end;
 use crate::late::LateDevice;
 use crate::numbered::{MadeUplink, SentPayload};
 use crate::section::Section;
+use package_grammar::Downlink;
 use script_lines::Form;
 use std::alloc::{AllocError, Global};
 
@@ -78,6 +80,43 @@ impl Phase {
                 *has_ended = is_end(form);
                 campaign.event(lines, form)
             }
+        }
+    }
+
+    /// A payload of another campaign's server reaches a device, behind so many lines. It may be the first event. All memory
+    /// that it needs is taken before the device is called.
+    pub fn reach(
+        &mut self,
+        alloc: Global,
+        lines: u32,
+        device: u8,
+        down: &Downlink,
+        word: u32,
+    ) -> Result<(), AllocError>
+        requires phase { IsPhase self.old }
+        requires comes { takes_events (section_of self.old) ≡ true }
+        requires first { 1 ≤ device }
+        requires last { device ≤ length (held_of self.old).devices }
+        requires room { lines < max_lines }
+        ensures phase { IsPhase self.new }
+        ensures taken { PhaseTakes lines self.old self.new result
+            (λ world. after_said world (Reached device word down.now)) }
+        ensures ends { OnErr result (SameEnds (held_of self.old) (held_of self.new)) }
+    {
+        match self {
+            Phase::Planning(planning) => {
+                let mut campaign = match planning.begin(alloc) {
+                    Ok(campaign) => campaign,
+                    Err(error) => return Err(error),
+                };
+                let played = campaign.raw(lines, device, down, word);
+                *self = Phase::Playing {
+                    campaign,
+                    has_ended: false,
+                };
+                played
+            }
+            Phase::Playing { campaign, .. } => campaign.raw(lines, device, down, word),
         }
     }
 

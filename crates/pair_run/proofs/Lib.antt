@@ -1,0 +1,6 @@
+pub mod Sides
+pub mod Pairs
+pub mod Accepts
+pub mod Parts
+pub mod HeardPair
+pub mod ReadAlone

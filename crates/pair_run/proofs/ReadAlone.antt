@@ -1,0 +1,190 @@
+-- Each campaign of a pair is what its own image, and what the lines say to it, define.
+use Rattle.std.proofs.Common.{◌≡◌, ℕ, ◌+◌, Bool, true, false, not, cond, ◌&&◌, ◌||◌, nat_le, nat_lt, List, [], ◌∷◌, length, Option, Some, None, Result, Ok, Err, refl, sym, ap, ◌∙◌, subst}
+use Rattle.std.proofs.lemmas.Bool.{and_parts}
+use Rattle.wire_base.specs.Numbered.{numbered}
+use Rattle.script_lines.specs.declared.forms.Campaign.{Campaign}
+use Rattle.script_lines.specs.declared.forms.Campaign.TheVariants as campaign
+use Rattle.script_lines.specs.declared.forms.Form.{Form}
+use Rattle.script_lines.specs.declared.forms.Form.TheVariants as form
+use Rattle.script_lines.specs.declared.forms.PairForm.{PairForm}
+use Rattle.script_lines.specs.PairForms.{pair_form_of}
+use Rattle.script_lines.specs.Limits.{max_lines, max_line}
+use Rattle.report_lines.specs.declared.faults.LineWhy.{LineWhy}
+use Rattle.report_lines.specs.declared.faults.LineWhy.TheVariants as why
+use Rattle.report_lines.specs.declared.faults.LineFault.{LineFault}
+use Rattle.campaign_world.specs.declared.numbered.SentPayload.{SentPayload}
+use Rattle.campaign_world.specs.declared.section.Section.{Section}
+use Rattle.campaign_world.specs.World.{WorldState}
+use Rattle.campaign_world.specs.Said.{Said, Own, Elsewhere, Line}
+use Rattle.campaign_world.specs.Causes.{takes_events, is_device, has_ended, form_cause, said_cause, line_cause, cause_of}
+use Rattle.campaign_world.specs.Script.{after_line, line_result, read_line, read_lines, end_result, campaign_of}
+use Rattle.campaign_world.proofs.Lines.{ended, is_ended}
+use Rattle.pair_run.specs.declared.targets.Way.{Way}
+use Rattle.pair_run.specs.declared.targets.Target.{Target}
+use Rattle.pair_run.specs.declared.targets.Target.TheVariants.{Header, At, End, One, Across, Nobody}
+use Rattle.pair_run.specs.Pair.{PairState, first_pair, side, other}
+use Rattle.pair_run.specs.PairCauses.{pair_cause_of, cause_of_pair_form, pair_form_cause, common_cause, crossing_cause, may_cross, target_cause, target_in, first_of}
+use Rattle.pair_run.specs.PairMaking.{said_to, reached_by, after_target}
+use Rattle.pair_run.specs.PairScript.{after_pair_line, pair_line_result, read_pair_line, read_pair_lines, pair_has_ended, pair_end, campaigns_of}
+use Rattle.pair_run.specs.PairLines.{line_to, lines_to, image_of, EachReadsItsLines}
+use Rattle.pair_run.proofs.Accepts.{neither, cut_cause, may_cross_over, MayCross}
+
+-- ---- a line of which no cause holds
+
+record Unrefused (pair : PairState) (line : List ℕ) : Type 0 where
+  few_a : nat_le max_lines pair.a.lines ≡ false
+  few_b : nat_le max_lines pair.b.lines ≡ false
+  pair_form : PairForm
+  spells : pair_form_of line ≡ Some pair_form
+  fine : pair_form_cause pair pair_form ≡ None
+
+by_form : (pair : PairState) (found : Option PairForm) → cause_of_pair_form pair found ≡ None
+    → (pair_form : PairForm) × (found ≡ Some pair_form) × (pair_form_cause pair pair_form ≡ None)
+by_form pair None none = absurd cc
+by_form pair (Some pair_form) none = (pair_form, refl, none)
+
+by_tests : (many_a many_b long : Bool) (rest : Option LineWhy) → cond (many_a || many_b || long) (Some why.Limit) rest ≡ None
+    → (many_a ≡ false) × (many_b ≡ false) × (rest ≡ None)
+by_tests true many_b long rest none = absurd cc
+by_tests false true long rest none = absurd cc
+by_tests false false true rest none = absurd cc
+by_tests false false false rest none = (refl, refl, none)
+
+unrefused : (pair : PairState) (line : List ℕ) → pair_cause_of pair line ≡ None → Unrefused pair line
+unfolding pair_cause_of
+unrefused pair line none =
+    let tests = by_tests (nat_le max_lines pair.a.lines) (nat_le max_lines pair.b.lines) (nat_lt max_line (length line)) _ none in
+    let found = by_form pair (pair_form_of line) tests.2 in
+    record { few_a = tests.0; few_b = tests.1; pair_form = found.0; spells = found.1; fine = found.2 }
+
+-- ---- is refused in neither campaign
+
+reached_fine : (by : Way) (world : WorldState) (found : Option SentPayload) (device word : ℕ) → takes_events world.section ≡ true
+    → is_device (length world.devices) device ≡ true → said_cause world (reached_by device word found) ≡ None
+reached_fine by world None device word takes is = refl
+reached_fine by world (Some sent) device word takes is = rw (takes, is) refl
+
+crosses_fine : (by : Way) (from to : WorldState) (number device word : ℕ) → takes_events to.section ≡ true
+    → crossing_cause by from to number device ≡ None → said_cause to (reached_by device word (numbered from.sent number)) ≡ None
+crosses_fine by from to number device word takes none =
+    let one = cut_cause (is_device (length to.devices) device) why.Device _ none in
+    reached_fine by to (numbered from.sent number) device word takes one.0
+
+said_fine : (x : Campaign) (pair : PairState) (target : Target)
+    → ((y : Campaign) (by : Way) (number device word : ℕ) → target ≡ Across y by number device word → MayCross pair.a.section pair.b.section word)
+    → target_cause pair target ≡ None → said_cause (side pair x) (said_to x pair target) ≡ None
+said_fine campaign.A pair Header may none = (neither (form_cause pair.a form.Header) (form_cause pair.b form.Header) none).0
+said_fine campaign.B pair Header may none = (neither (form_cause pair.a form.Header) (form_cause pair.b form.Header) none).1
+said_fine campaign.A pair (At time) may none = (neither (form_cause pair.a (form.At time)) (form_cause pair.b (form.At time)) none).0
+said_fine campaign.B pair (At time) may none = (neither (form_cause pair.a (form.At time)) (form_cause pair.b (form.At time)) none).1
+said_fine campaign.A pair End may none = (neither (form_cause pair.a form.End) (form_cause pair.b form.End) none).0
+said_fine campaign.B pair End may none = (neither (form_cause pair.a form.End) (form_cause pair.b form.End) none).1
+said_fine campaign.A pair (One campaign.A f) may none = none
+said_fine campaign.A pair (One campaign.B f) may none = refl
+said_fine campaign.B pair (One campaign.A f) may none = refl
+said_fine campaign.B pair (One campaign.B f) may none = none
+said_fine campaign.A pair (Across campaign.A by number device word) may none = refl
+said_fine campaign.A pair (Across campaign.B by number device word) may none =
+    crosses_fine by pair.b pair.a number device word (may campaign.B by number device word refl).a_takes none
+said_fine campaign.B pair (Across campaign.A by number device word) may none =
+    crosses_fine by pair.a pair.b number device word (may campaign.A by number device word refl).b_takes none
+said_fine campaign.B pair (Across campaign.B by number device word) may none = refl
+said_fine x pair Nobody may none = absurd cc
+
+few_of : (x : Campaign) (pair : PairState) → nat_le max_lines pair.a.lines ≡ false → nat_le max_lines pair.b.lines ≡ false
+    → nat_le max_lines (side pair x).lines ≡ false
+few_of campaign.A pair a b = a
+few_of campaign.B pair a b = b
+
+cause_is : (world : WorldState) (line : Line) (said : Said) → line ≡ Ok said → nat_le max_lines world.lines ≡ false
+    → said_cause world said ≡ None → cause_of world line ≡ None
+unfolding cause_of
+cause_is world line said is few none = rw (is, few) none
+
+-- ---- and makes the same of each
+
+behind_is : (x : Campaign) (pair : PairState) (target : Target)
+    → after_line (side pair x) (Ok (said_to x pair target)) ≡ side (after_target pair target) x
+unfolding after_target
+behind_is campaign.A pair target = refl
+behind_is campaign.B pair target = refl
+
+after_is : (pair : PairState) (line : List ℕ) (pair_form : PairForm) → pair_form_of line ≡ Some pair_form
+    → after_pair_line pair line ≡ after_target pair (target_in pair pair_form)
+unfolding after_pair_line
+after_is pair line pair_form spells = rw spells refl
+
+said_by : (x : Campaign) (pair : PairState) (line : List ℕ) (pair_form : PairForm) → pair_form_of line ≡ Some pair_form
+    → line_to x pair line ≡ Ok (said_to x pair (target_in pair pair_form))
+said_by x pair line pair_form spells = rw spells refl
+
+read_is : (world : WorldState) (line : Line) → cause_of world line ≡ None → read_line world line ≡ Ok (after_line world line)
+unfolding read_line
+read_is world line none = ap (λ (c : Option LineWhy). line_result world line c) none
+
+one_read : (x : Campaign) (pair : PairState) (line : List ℕ) → pair_cause_of pair line ≡ None
+    → read_line (side pair x) (line_to x pair line) ≡ Ok (side (after_pair_line pair line) x)
+one_read x pair line none =
+    let u = unrefused pair line none in
+    let both = neither (common_cause pair u.pair_form) (target_cause pair (target_in pair u.pair_form)) u.fine in
+    let fine = said_fine x pair (target_in pair u.pair_form)
+    (λ y by number device word is. may_cross_over pair u.pair_form (target_in pair u.pair_form) y by number device word (sym both.0) refl is) both.1 in
+    let says = said_by x pair line u.pair_form u.spells in
+    read_is (side pair x) (line_to x pair line)
+    (cause_is (side pair x) (line_to x pair line) _ says (few_of x pair u.few_a u.few_b) fine)
+    ∙ ap (λ (w : WorldState). let o : Result WorldState LineFault = Ok w in o)
+    (ap (λ (l : Line). after_line (side pair x) l) says
+    ∙ (behind_is x pair (target_in pair u.pair_form)
+    ∙ ap (λ (p : PairState). side p x) (sym (after_is pair line u.pair_form u.spells))))
+
+-- ---- line by line
+
+all_read : (x : Campaign) (lines : List (List ℕ)) (pair last : PairState) → read_pair_lines (Ok pair) lines ≡ Ok last
+    → read_lines (Ok (side pair x)) (lines_to x pair lines) ≡ Ok (side last x)
+unfolding read_pair_lines read_pair_line read_lines lines_to
+all_read x [] pair last is =
+    let same : pair ≡ last = cc in ap (λ (p : PairState). let o : Result WorldState LineFault = Ok (side p x) in o) same
+all_read x (line ∷ lines) pair last is =
+    by_cause (λ behind read. all_read x lines behind last read) (pair_cause_of pair line) refl is
+  where
+    by_cause : ((behind : PairState) → read_pair_lines (Ok behind) lines ≡ Ok last
+        → read_lines (Ok (side behind x)) (lines_to x behind lines) ≡ Ok (side last x))
+        → (cause : Option LineWhy) → pair_cause_of pair line ≡ cause → read_pair_lines (pair_line_result pair line cause) lines ≡ Ok last
+        → read_lines (read_line (side pair x) (line_to x pair line)) (lines_to x (after_pair_line pair line) lines) ≡ Ok (side last x)
+    by_cause others (Some cause) none is = absurd cc
+    by_cause others None none is = rw (one_read x pair line none) (others (after_pair_line pair line) is)
+
+-- ---- to its end
+
+ended_side : (x : Campaign) (pair : PairState) → pair_has_ended pair ≡ true → has_ended (side pair x).section ≡ true
+ended_side campaign.A pair is = (and_parts (has_ended pair.a.section) (has_ended pair.b.section) is).0
+ended_side campaign.B pair is = (and_parts (has_ended pair.a.section) (has_ended pair.b.section) is).1
+
+record Ended (read : Result PairState LineFault) (pair : PairState) : Type 0 where
+  is : read ≡ Ok pair
+  ends : pair_has_ended pair ≡ true
+
+by_end : (b : Bool) (read pair : PairState) (fault : LineFault) → pair_has_ended read ≡ b
+    → cond b (let o : Result PairState LineFault = Ok read in o) (Err fault) ≡ Ok pair → (read ≡ pair) × (pair_has_ended read ≡ true)
+by_end true read pair fault ends is = let same : read ≡ pair = cc in (same, ends)
+by_end false read pair fault ends is = absurd cc
+
+ended_well : (read : Result PairState LineFault) (pair : PairState) → pair_end read ≡ Ok pair → Ended read pair
+ended_well (Err fault) pair is = absurd cc
+ended_well (Ok last) pair is =
+    let both = by_end (pair_has_ended last) last pair _ refl is in
+    record {
+      is = ap (λ (p : PairState). let o : Result PairState LineFault = Ok p in o) both.0;
+      ends = subst (λ (p : PairState). pair_has_ended p ≡ true) both.0 both.1;
+    }
+
+pub reads_alone : EachReadsItsLines
+unfolding campaigns_of campaign_of
+reads_alone campaign.A image_a image_b lines pair is =
+    let ends = ended_well (read_pair_lines (Ok (first_pair image_a image_b)) lines) pair is in
+    rw (all_read campaign.A lines (first_pair image_a image_b) pair ends.is)
+    (ended pair.a (is_ended pair.a.section (ended_side campaign.A pair ends.ends)))
+reads_alone campaign.B image_a image_b lines pair is =
+    let ends = ended_well (read_pair_lines (Ok (first_pair image_a image_b)) lines) pair is in
+    rw (all_read campaign.B lines (first_pair image_a image_b) pair ends.is)
+    (ended pair.b (is_ended pair.b.section (ended_side campaign.B pair ends.ends)))

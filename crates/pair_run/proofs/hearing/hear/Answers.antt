@@ -1,0 +1,5 @@
+use Rattle.pair_run.proofs.HeardPair.{hears}
+use Rattle.pair_run.proofs.hearing.hear.Goals as goal
+
+pub returns : goal.returns
+returns c = hears c.args.pair.now c.line-kept.new.self c.args.line.now c.line-kept.result c.line-kept.ensures.step c.line-kept.ensures.kept c.line-kept.ensures.same

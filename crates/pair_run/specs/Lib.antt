@@ -1,0 +1,10 @@
+pub mod Pair
+pub mod Targets
+pub mod PairCauses
+pub mod PairMaking
+pub mod PairScript
+pub mod PairLines
+pub mod PairReport
+pub mod Sides
+pub mod HeldPair
+pub mod HeardPair

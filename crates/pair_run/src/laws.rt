@@ -1,0 +1,10 @@
+//! Laws about the definitions, each the contract of a function that does nothing.
+
+ghost use Rattle.pair_run.specs.PairLines.{EachReadsItsLines};
+
+/// Whatever two images and accepted script there are: each campaign is the one that its own image, and what the lines say to
+/// it, define. So the laws of one campaign over its lines hold of each.
+#[tactic(auto, using(crate::proofs::ReadAlone::reads_alone))]
+pub fn each_campaign_reads_its_lines()
+    ensures { EachReadsItsLines }
+{}

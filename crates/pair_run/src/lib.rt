@@ -1,0 +1,25 @@
+//! Two campaigns of firmware updates over LoRaWAN at once (TS003 to TS006, 1.0.0), as one script tells them line by line: two
+//! servers, each with its image, session index and group, and the devices of both. `Pair` is two worlds: each line goes to the
+//! campaign whose it is and passes the other by, and what a server sends to all may reach a device of the other campaign. Whose
+//! a line is, and the report of both, are this project's profile. What one campaign makes of a line is left to
+//! `campaign_world`, files and words of a command line to the program above.
+//!
+//!     let mut pair = Pair::new(alloc, image_a, image_b)?;
+//!     for line in lines {
+//!         pair.line(line)?;                                    // the first refused line, and why
+//!     }
+//!     let report = pair.report(alloc)?;
+#![tactic(auto)]
+
+mod causes;
+mod hearing;
+mod laws;
+mod owners;
+mod pair;
+mod report;
+mod steps;
+mod targets;
+
+pub use laws::each_campaign_reads_its_lines;
+pub use owners::Owner;
+pub use pair::Pair;
