@@ -39,6 +39,7 @@ pub record IsPlain (d : DeviceState) : Type 0 where
   pub descriptor : d.config.descriptor ≡ None
   pub sessions : d.config.sessions ≡ 4
   pub area : d.config.area ≡ max_area
+  pub memory : d.config.held ≡ false
   pub reboot : d.reboot ≡ None
   pub outbox : d.outbox ≡ []
 

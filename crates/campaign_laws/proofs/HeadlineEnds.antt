@@ -79,6 +79,7 @@ pub record IsBounded (config : DeviceConfig) : Type 0 where
   pub sessions : config.sessions ≡ 4
   pub area : config.area ≡ max_area
   pub rows : config.rows ≤ max_rows
+  pub memory : config.held ≡ false
 
 -- the session has the rows that the device keeps, or a row a piece
 abbrev pub HasRows : List ℕ → Cut → DeviceConfig → Session → Type 0

@@ -84,6 +84,7 @@ takes_setup image cut config fine is k takes =
       le-ltb max_pieces (nb_frag_of (length image) cut.size) is.few,
       le-ltb max_frag_size cut.size is.small,
       room,
+      k.memory,
       k.sessions,
       not_le 4 cut.index (omega (arith, is.indexed)),
       takes,

@@ -211,7 +211,7 @@ turn_keeps image said w v k turn = elim turn.how [
             (subst (DevicesAre image (cut_of w.server.plan)) (sym j.devices)
             (joined_devices image (cut_of w.server.plan) w.devices
             (config_of j.class j.hw j.rows j.offset j.key j.descriptor j.v1 j.k11)
-            (record { sessions = refl; area = refl; rows = j.few }) k.devices));
+            (record { sessions = refl; area = refl; rows = j.few; memory = refl }) k.devices));
       }
       | inr r ↦
           let its = if_some (IsDeviceFor image (cut_of w.server.plan)) (numbered w.devices r.id) r.old r.before

@@ -73,7 +73,7 @@ no_bits image d made plain =
     let f : nat_le (64 * ((m + 63) / 64)) row_words ≡ true = (let small : (m + 63) / 64 ≤ 3 = omega (arith, h.high) in grind (arith, small)) in
     let g : nat_le (m * 64) max_area ≡ true = grind (arith, h.high) in
     let n : nat_le m max_pieces ≡ true = grind (arith, h.high) in
-    rw (plain.sessions, plain.rows, plain.descriptor, plain.area, a, b, c, e, f, g, n) refl
+    rw (plain.sessions, plain.rows, plain.descriptor, plain.area, plain.memory, a, b, c, e, f, g, n) refl
 
 pub record IsNew (d : DeviceState) : Type 0 where
   pub plain : IsPlain d
@@ -213,6 +213,7 @@ hears_fragment image n m m' skipped d s made low high go (at, (x, h, order)) mar
         descriptor = h.plain.descriptor;
         sessions = h.plain.sessions;
         area = h.plain.area;
+        memory = h.plain.memory;
         reboot = h.plain.reboot;
         outbox = refl;
       };

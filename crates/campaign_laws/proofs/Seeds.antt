@@ -251,7 +251,7 @@ device_to image k g w few j =
           new,
           numbered_last w.devices new n (grind (arith, is, j.count)),
           record {
-            plain = record { class = refl; hw = refl; rows = refl; descriptor = refl; sessions = refl; area = refl; reboot = refl; outbox = refl };
+            plain = record { class = refl; hw = refl; rows = refl; descriptor = refl; sessions = refl; area = refl; memory = refl; reboot = refl; outbox = refl };
             session = refl;
             version = refl;
           },

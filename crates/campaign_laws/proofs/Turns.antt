@@ -40,6 +40,7 @@ plain_holding e plain = record {
   descriptor = plain.descriptor;
   sessions = plain.sessions;
   area = plain.area;
+  memory = plain.memory;
   reboot = plain.reboot;
   outbox = refl;
 }
@@ -114,6 +115,7 @@ setup_turn image d s made (is, new) =
             descriptor = new.plain.descriptor;
             sessions = new.plain.sessions;
             area = new.plain.area;
+            memory = new.plain.memory;
             reboot = new.plain.reboot;
             outbox = refl;
           };
@@ -293,6 +295,7 @@ reboot_turn image d s x mark made plain session ours whole (is, next) =
             descriptor = plain.descriptor;
             sessions = plain.sessions;
             area = plain.area;
+            memory = plain.memory;
             reboot = refl;
             outbox = refl;
           };

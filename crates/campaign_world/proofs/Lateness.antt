@@ -4,6 +4,7 @@ use Rattle.std.specs.Prelude.{codes}
 use Rattle.std.specs.Fmt.{decimal, digits}
 use Rattle.report_lines.specs.Devices.{stage_text}
 use Rattle.device_core.specs.Device.{DeviceState, first_device}
+use Rattle.flash_session.specs.Flashes.{Cells}
 use Rattle.device_core.specs.HeldDevice.{HeldDevice, DeviceStands}
 use Rattle.device_core.specs.declared.config.DeviceConfig.{DeviceConfig}
 use Rattle.device_core.proofs.Outboxes.{outbox_is}
@@ -15,22 +16,22 @@ use Rattle.campaign_world.specs.Report.{first_part, named_part}
 use Rattle.campaign_world.specs.HeldLate.{Late, HeldRests, RestsBy, DeviceRests}
 
 -- what is here rests as the device does
-pub here_rests : (late : Late) (held : HeldDevice) (d : DeviceState) → late.came ≡ Some held → DeviceRests late d → HeldRests held d
-here_rests late held d here rests = subst (λ (o : Option HeldDevice). RestsBy late.config o d) here rests
+pub here_rests : (late : Late) (held : HeldDevice Cells) (d : DeviceState) → late.came ≡ Some held → DeviceRests late d → HeldRests held d
+here_rests late held d here rests = subst (λ (o : Option (HeldDevice Cells)). RestsBy late.config o d) here rests
 
-pub rests_here : (late : Late) (held : HeldDevice) (d : DeviceState) → late.came ≡ Some held → HeldRests held d → DeviceRests late d
-rests_here late held d here rests = subst (λ (o : Option HeldDevice). RestsBy late.config o d) (sym here) rests
+pub rests_here : (late : Late) (held : HeldDevice Cells) (d : DeviceState) → late.came ≡ Some held → HeldRests held d → DeviceRests late d
+rests_here late held d here rests = subst (λ (o : Option (HeldDevice Cells)). RestsBy late.config o d) (sym here) rests
 
 -- before the first event it is as its configuration says
 pub first_rests : (late : Late) (d : DeviceState) → late.came ≡ None → DeviceRests late d → d ≡ first_device late.config
-first_rests late d none rests = subst (λ (o : Option HeldDevice). RestsBy late.config o d) none rests
+first_rests late d none rests = subst (λ (o : Option (HeldDevice Cells)). RestsBy late.config o d) none rests
 
 -- a device at its start rests
-pub starts_resting : (held : HeldDevice) (config : DeviceConfig) → DeviceStands held (first_device config) → HeldRests held (first_device config)
+pub starts_resting : (held : HeldDevice Cells) (config : DeviceConfig) → DeviceStands held (first_device config) → HeldRests held (first_device config)
 starts_resting held config stands = record { stands = stands; empty = sym (outbox_is held (first_device config) stands) }
 
 -- its outbox is empty
-empty_by : (config : DeviceConfig) (came : Option HeldDevice) (d : DeviceState) → RestsBy config came d → d.outbox ≡ []
+empty_by : (config : DeviceConfig) (came : Option (HeldDevice Cells)) (d : DeviceState) → RestsBy config came d → d.outbox ≡ []
 empty_by config None d is = ap (λ (x : DeviceState). x.outbox) is
 empty_by config (Some held) d rests = outbox_is held d rests.stands ∙ rests.empty
 

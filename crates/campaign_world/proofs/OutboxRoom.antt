@@ -24,6 +24,7 @@ use Rattle.device_core.specs.Groups.{groups_step, group_setup_step, group_delete
 use Rattle.device_core.specs.ClassSessions.{class_session_step}
 use Rattle.device_core.specs.Firmware.{version_step, upgrade_step, delete_image_step, reboot_time_step, countdown_step, after_due_reboot}
 use Rattle.device_core.specs.Step.{command_step, acts, step, after_commands, weight, weights}
+use Rattle.flash_session.specs.Flashes.{Cells}
 use Rattle.device_core.specs.HeldDevice.{HeldDevice, DeviceStands}
 use Rattle.campaign_world.specs.declared.numbered.MadeUplink.{MadeUplink}
 use Rattle.campaign_world.specs.HeldWorld.{numbered_behind}
@@ -177,7 +178,7 @@ woken_few t d empty =
     )
 
 -- so few as they are, all of them were numbered
-pub numbered_few : (held : HeldDevice) (d : DeviceState) (id : ℕ) (old new : List MadeUplink) → DeviceStands held d → length d.outbox ≤ 8
+pub numbered_few : (held : HeldDevice Cells) (d : DeviceState) (id : ℕ) (old new : List MadeUplink) → DeviceStands held d → length d.outbox ≤ 8
     → (length held.outbox ≤ 8 → new ≡ numbered_behind old id held.outbox) → new ≡ numbered_behind old id d.outbox
 numbered_few held d id old new stands few numbered =
     rw (outbox_is held d stands) (numbered (subst (λ (us : List Uplink). length us ≤ 8) (outbox_is held d stands) few))

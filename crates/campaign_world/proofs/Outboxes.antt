@@ -4,6 +4,7 @@ use Rattle.device_core.specs.declared.uplink.Uplink.{Uplink}
 use Rattle.device_core.specs.Device.{DeviceState}
 use Rattle.device_core.specs.Deliver.{taking}
 use Rattle.device_core.specs.Firmware.{after_migration}
+use Rattle.flash_session.specs.Flashes.{Cells}
 use Rattle.device_core.specs.HeldDevice.{HeldDevice, DeviceStands, Becomes, TakesOldest}
 use Rattle.device_core.proofs.Outboxes.{outbox_is, all_taken}
 use Rattle.campaign_world.specs.declared.numbered.MadeUplink.{MadeUplink}
@@ -12,7 +13,7 @@ use Rattle.campaign_world.specs.HeldWorld.{resting}
 use Rattle.campaign_world.specs.HeldLate.{HeldRests}
 
 -- none is left: the device rests
-pub rests_now : (d : DeviceState) (old new : HeldDevice) → Becomes old new (λ x. (taking x).device) → TakesOldest old.outbox new.outbox None
+pub rests_now : (d : DeviceState) (old new : HeldDevice Cells) → Becomes old new (λ x. (taking x).device) → TakesOldest old.outbox new.outbox None
     → DeviceStands old (record d { outbox = old.outbox }) → HeldRests new (record d { outbox = [] })
 rests_now d old new makes takes stands = record { stands = all_taken d old new makes takes stands; empty = takes.1 }
 
@@ -27,7 +28,7 @@ pub all_moved : (id : ℕ) (now all : List MadeUplink) (old : List Uplink) → o
 all_moved id now all old none so_far = sym (append-nil now) ∙ ap (λ (us : List Uplink). now ++ map (λ (x : Uplink). made_by id x) us) (sym none) ∙ so_far
 
 -- a device that rests and knows both image formats from now on rests
-pub rests_raised : (old new : HeldDevice) (d : DeviceState) → Becomes old new after_migration → HeldRests old d → HeldRests new (resting (after_migration d))
+pub rests_raised : (old new : HeldDevice Cells) (d : DeviceState) → Becomes old new after_migration → HeldRests old d → HeldRests new (resting (after_migration d))
 unfolding after_migration
 rests_raised old new d becomes rests =
     let stands : DeviceStands new (after_migration d) = becomes d rests.stands in

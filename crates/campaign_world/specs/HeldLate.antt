@@ -1,25 +1,26 @@
 -- A device of a campaign, whose memory is taken when its first event comes.
 use Rattle.std.specs.Prelude.{◌≡◌, List, [], Option, Some, None}
 use Rattle.device_core.specs.Device.{DeviceState, first_device}
+use Rattle.flash_session.specs.Flashes.{Cells}
 use Rattle.device_core.specs.HeldDevice.{HeldDevice, DeviceStands}
 use Rattle.device_core.specs.declared.config.DeviceConfig.{DeviceConfig}
 
 -- what it is configured with, and what it holds from its first event on
 pub record Late : Type 0 where
   pub config : DeviceConfig
-  pub came : Option HeldDevice
+  pub came : Option (HeldDevice Cells)
 
 -- its memory is taken
 abbrev pub IsHere : Late → Type 0
-IsHere late = (held : HeldDevice) × (late.came ≡ Some held)
+IsHere late = (held : HeldDevice Cells) × (late.came ≡ Some held)
 
 -- a device between two events: it stands for its record, and its uplinks are taken
-pub record HeldRests (held : HeldDevice) (device : DeviceState) : Type 0 where
+pub record HeldRests (held : HeldDevice Cells) (device : DeviceState) : Type 0 where
   pub stands : DeviceStands held device
   pub empty : held.outbox ≡ []
 
 -- before its first event it stands for the first record of its configuration
-abbrev pub RestsBy : DeviceConfig → Option HeldDevice → DeviceState → Type 0
+abbrev pub RestsBy : DeviceConfig → Option (HeldDevice Cells) → DeviceState → Type 0
 RestsBy config None device = device ≡ first_device config
 RestsBy config (Some held) device = HeldRests held device
 

@@ -71,6 +71,8 @@ config_of class hw rows offset key descriptor v1 k11 = record {
   sessions = 4;
   groups = 4;
   area = max_area;
+  held = false;
+  span = 0;
 }
 
 abbrev pub device_of : Class → (hw rows offset : ℕ) → (key : List ℕ) → (descriptor : Option ℕ) → (v1 k11 : Bool) → DeviceState

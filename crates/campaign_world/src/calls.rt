@@ -12,6 +12,7 @@ ghost use Rattle.campaign_world.specs.WorldInside.{StayMade};
 
 use crate::numbered::MadeUplink;
 use device_core::{Device, Moment};
+use flash_session::CellFlash;
 use package_grammar::Downlink;
 
 /// Uplinks that a device holds at most, and so those that one event can make.
@@ -19,7 +20,7 @@ pub const OUTBOX: usize = 8;
 
 /// A payload reaches a device, whose uplinks are taken.
 pub fn reach_device(
-    device: &mut Device,
+    device: &mut Device<CellFlash>,
     uplinks: &mut Vec<MadeUplink>,
     id: u8,
     down: &Downlink,
@@ -41,7 +42,7 @@ pub fn reach_device(
 
 /// Bytes reach the radio of a device, whose uplinks are taken.
 pub fn air_device(
-    device: &mut Device,
+    device: &mut Device<CellFlash>,
     uplinks: &mut Vec<MadeUplink>,
     id: u8,
     bytes: &[u8],
@@ -62,7 +63,7 @@ pub fn air_device(
 }
 
 /// A device wakes, and its uplinks are taken.
-pub fn rouse_device(device: &mut Device, uplinks: &mut Vec<MadeUplink>, id: u8, t: u64)
+pub fn rouse_device(device: &mut Device<CellFlash>, uplinks: &mut Vec<MadeUplink>, id: u8, t: u64)
     requires first { 1 ≤ id }
     requires moment { t ≤ max_moment }
     requires room { vec_len uplinks.old + outbox_size ≤ vec_capacity uplinks.old }
@@ -76,14 +77,14 @@ pub fn rouse_device(device: &mut Device, uplinks: &mut Vec<MadeUplink>, id: u8, 
 }
 
 /// A device knows both image formats from now on.
-pub fn raise_device(device: &mut Device)
+pub fn raise_device(device: &mut Device<CellFlash>)
     ensures { ComesToRest HeldRests after_migration device.old device.new }
 {
     device.raise();
 }
 
 /// Takes all uplinks of a device, oldest first. It has no more of them than there is room for.
-fn take_uplinks(id: u8, device: &mut Device, uplinks: &mut Vec<MadeUplink>)
+fn take_uplinks(id: u8, device: &mut Device<CellFlash>, uplinks: &mut Vec<MadeUplink>)
     requires first { 1 ≤ id }
     requires room { vec_len uplinks.old + outbox_size ≤ vec_capacity uplinks.old }
     ensures made { StayMade id uplinks.old.items uplinks.new.items }

@@ -1,6 +1,6 @@
 //! A device of a campaign, whose memory is taken when its first event comes.
 
-ghost use Rattle.std.specs.Prelude.{◌≡◌, ◌≤◌, ◌+◌, true, None, OnOk, OnErr, IfOk, option_map, vec_len, vec_capacity};
+ghost use Rattle.std.specs.Prelude.{◌≡◌, ◌≤◌, ◌+◌, true, false, None, OnOk, OnErr, IfOk, option_map, vec_len, vec_capacity};
 ghost use Rattle.device_core.specs.Device.{DeviceState, first_device, is_config, max_moment, outbox_size};
 ghost use Rattle.device_core.specs.HeldDevice.{DeviceStands};
 ghost use Rattle.device_core.specs.Deliver.{delivery, waking};
@@ -13,20 +13,21 @@ ghost use Rattle.campaign_world.specs.WorldInside.{StayMade};
 use crate::calls::{air_device, raise_device, reach_device, rouse_device};
 use crate::numbered::MadeUplink;
 use device_core::{Device, DeviceConfig, Moment, ReserveError};
+use flash_session::CellFlash;
 use package_grammar::Downlink;
 use std::alloc::{AllocError, Global};
 use std::marker::Model;
 
-/// A device to which nothing happened yet costs no more than its configuration.
+/// A device to which nothing happened yet costs no more than its configuration. Its sessions are in memory alone.
 #[derive(Drop)]
 pub struct LateDevice {
     config: DeviceConfig,
     /// None before its first event.
-    came: Option<Box<Device>>,
+    came: Option<Box<Device<CellFlash>>>,
 }
 
 impl Model for LateDevice {
-    ghost use Rattle.std.specs.Prelude.{◌≡◌, true};
+    ghost use Rattle.std.specs.Prelude.{◌≡◌, true, false};
     ghost use Rattle.device_core.specs.Device.{is_config};
     ghost use Rattle.std.specs.Prelude.{option_map};
     ghost use Rattle.campaign_world.specs.HeldLate.{Late};
@@ -35,20 +36,21 @@ impl Model for LateDevice {
 
     ghost view = { λ d. record { config = d.config; came = option_map (λ device. device.value) d.came } };
 
-    ghost invariant = { λ d. is_config d.config ≡ true };
+    ghost invariant = { λ d. (is_config d.config ≡ true) × (d.config.held ≡ false) };
 }
 
 impl LateDevice {
     /// A device to which nothing happened yet.
     pub fn new(config: DeviceConfig) -> Self
-        requires { is_config config ≡ true }
+        requires fine { is_config config ≡ true }
+        requires memory { config.held ≡ false }
         ensures { result ≡ record { config = config; came = None } }
     {
         LateDevice { config, came: None }
     }
 
     /// The device that came; None where nothing happened to it yet.
-    pub fn device(&self) -> Option<&Device>
+    pub fn device(&self) -> Option<&Device<CellFlash>>
         ensures { option_map (λ device. device.now) result ≡ self.now.came }
     {
         match &self.came {
@@ -86,11 +88,16 @@ impl LateDevice {
 /// The device at its start, with all memory that it will ever need. It stands alone, so that no line sees to the room
 /// for a whole device.
 #[inline(never)]
-fn reserved(alloc: Global, config: DeviceConfig) -> Result<Box<Device>, AllocError>
-    requires { is_config config ≡ true }
+fn reserved(alloc: Global, config: DeviceConfig) -> Result<Box<Device<CellFlash>>, AllocError>
+    requires fine { is_config config ≡ true }
+    requires memory { config.held ≡ false }
     ensures { IfOk result (λ device. DeviceStands device.value (first_device config)) }
 {
-    let device = match Device::reserve(alloc, config) {
+    let flash = match CellFlash::reserve(alloc, 0) {
+        Ok(flash) => flash,
+        Err(error) => return Err(error),
+    };
+    let device = match Device::reserve(alloc, config, flash) {
         Ok(device) => device,
         Err(ReserveError::Memory) => return Err(AllocError),
         Err(ReserveError::BadConfig) => unreachable!(),

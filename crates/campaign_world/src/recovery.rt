@@ -9,6 +9,7 @@ ghost use Rattle.campaign_world.specs.Recovery.{file_of, recovery_by};
 
 use crate::late::LateDevice;
 use device_core::Device;
+use flash_session::CellFlash;
 use frag_session::{Verdict, View};
 
 /// Why a device has no file.
@@ -38,7 +39,7 @@ pub fn recovered_by(late: &LateDevice) -> Result<&[u8], NoFile>
 }
 
 /// That of its first session.
-fn first_file(device: &Device) -> Result<&[u8], NoFile>
+fn first_file(device: &Device<CellFlash>) -> Result<&[u8], NoFile>
     ensures file { (d : DeviceState) → DeviceStands device.now d
         → IfOk result (λ file. recovery_by (Some d) ≡ Ok file.now) }
     ensures why { (d : DeviceState) → DeviceStands device.now d

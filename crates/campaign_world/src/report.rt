@@ -11,6 +11,7 @@ ghost use Rattle.campaign_world.specs.Report.{image_text, image_line, first_text
 use crate::late::LateDevice;
 use campaign_server::{Server, Stage};
 use device_core::Device;
+use flash_session::CellFlash;
 use report_lines::{Tail, counts_line, device_line, session_lines, stage_text};
 use std::alloc::{AllocError, Global};
 
@@ -101,7 +102,7 @@ fn came_part(
     image: &[u8],
     name: &str,
     stage: Stage,
-    device: &Device,
+    device: &Device<CellFlash>,
 ) -> Result<String, AllocError>
     ensures { (d : DeviceState) → DeviceStands device.now d
         → IfOk result (λ text. string_bytes text ≡ named_part image.now name.now stage d) }

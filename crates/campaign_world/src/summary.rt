@@ -12,6 +12,7 @@ ghost use Rattle.campaign_world.specs.Summary.{heard_by, has_file, is_complete, 
 use crate::late::LateDevice;
 use campaign_server::{Server, Stage};
 use device_core::Device;
+use flash_session::CellFlash;
 use frag_session::{Verdict, View};
 use std::alloc::{AllocError, Global};
 
@@ -125,7 +126,7 @@ fn first_session(late: &LateDevice) -> (u16, bool)
     }
 }
 
-fn first_of(device: &Device) -> (u16, bool)
+fn first_of(device: &Device<CellFlash>) -> (u16, bool)
     ensures heard { (d : DeviceState) → DeviceStands device.now d
         → result.0 ≡ heard_by (view_of d.sessions.first) }
     ensures file { (d : DeviceState) → DeviceStands device.now d

@@ -12,3 +12,8 @@ pub mod SessionSteps
 pub mod HeardSessions
 pub mod Multicast
 pub mod Running
+pub mod Keeping
+pub mod Quiet
+pub mod Stored
+pub mod Powered
+pub mod Downs

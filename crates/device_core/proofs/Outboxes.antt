@@ -6,15 +6,15 @@ use Rattle.device_core.specs.Deliver.{taking}
 use Rattle.device_core.specs.HeldDevice.{HeldDevice, DeviceStands, Becomes, TakesOldest}
 
 -- the outbox of a record is the one that is held
-pub outbox_is : (held : HeldDevice) (d : DeviceState) → DeviceStands held d → d.outbox ≡ held.outbox
+pub outbox_is : {F : Type 0} (held : HeldDevice F) (d : DeviceState) → DeviceStands held d → d.outbox ≡ held.outbox
 outbox_is held d stands = ap (λ (x : DeviceState). x.outbox) stands.rest
 
 -- at first nothing was taken
-pub none_taken : (held : HeldDevice) (d : DeviceState) → DeviceStands held d → DeviceStands held (record d { outbox = held.outbox })
+pub none_taken : {F : Type 0} (held : HeldDevice F) (d : DeviceState) → DeviceStands held d → DeviceStands held (record d { outbox = held.outbox })
 none_taken held d stands = subst (λ (o : List Uplink). DeviceStands held (record d { outbox = o })) (outbox_is held d stands) stands
 
 -- one uplink fewer
-pub one_taken : (d : DeviceState) (old new : HeldDevice) (u : Uplink) → Becomes old new (λ x. (taking x).device) → TakesOldest old.outbox new.outbox (Some u)
+pub one_taken : {F : Type 0} (d : DeviceState) (old new : HeldDevice F) (u : Uplink) → Becomes old new (λ x. (taking x).device) → TakesOldest old.outbox new.outbox (Some u)
     → DeviceStands old (record d { outbox = old.outbox }) → DeviceStands new (record d { outbox = new.outbox })
 one_taken d old new u makes takes stands =
     let x : DeviceState = record d { outbox = old.outbox } in
@@ -24,7 +24,7 @@ pub fewer : (old new : List Uplink) (u : Uplink) → TakesOldest old new (Some u
 fewer old new u takes = omega (arith, ap length takes)
 
 -- none is left
-pub all_taken : (d : DeviceState) (old new : HeldDevice) → Becomes old new (λ x. (taking x).device) → TakesOldest old.outbox new.outbox None
+pub all_taken : {F : Type 0} (d : DeviceState) (old new : HeldDevice F) → Becomes old new (λ x. (taking x).device) → TakesOldest old.outbox new.outbox None
     → DeviceStands old (record d { outbox = old.outbox }) → DeviceStands new (record d { outbox = [] })
 all_taken d old new makes takes stands =
     let x : DeviceState = record d { outbox = old.outbox } in

@@ -226,4 +226,8 @@ configs = record {
   no_area = refl;
   least = refl;
   area = refl;
+  memory = refl;
+  flash = refl;
+  short_flash = refl;
+  short_span = refl;
 }

@@ -1,12 +1,14 @@
 -- A device: what it is at a moment, and at its start.
-use Rattle.std.specs.Prelude.{ℕ, ◌+◌, ◌-◌, ◌^◌, min, Bool, ◌&&◌, nat_le, List, [], Option, None, replicate}
+use Rattle.std.specs.Prelude.{ℕ, ◌+◌, ◌-◌, ◌*◌, ◌^◌, min, Bool, true, ◌&&◌, nat_le, if◌then◌else◌, List, [], Option, None, replicate}
 use Rattle.clock_sync.specs.Clock.{Clock, first_clock}
 use Rattle.mc_group.specs.Groups.{max_groups}
 use Rattle.mc_group.specs.declared.group.Group.{Group}
 use Rattle.image_slots.specs.Slots.{Slots, first_slots}
 use Rattle.frag_session.specs.declared.setups.Limits.{Limits}
-use Rattle.row_elimination.specs.Room.{extent_for}
-use Rattle.frag_session.specs.Setup.{Room, memory_room}
+use Rattle.frag_session.specs.Setup.{Room}
+use Rattle.flash_session.specs.Layout.{records_place}
+use Rattle.session_store.specs.declared.held_slots.Layout.{Layout}
+use Rattle.session_store.specs.HeldStore.{store_room}
 use Rattle.device_core.specs.declared.class_session.ClassSession.{ClassSession}
 use Rattle.device_core.specs.declared.config.DeviceConfig.{DeviceConfig}
 use Rattle.device_core.specs.declared.counts.Counts.{Counts}
@@ -81,11 +83,20 @@ is_config config =
     && (nat_le 1 config.groups && nat_le config.groups max_groups)
     && (nat_le 1 config.area && nat_le config.area max_area)
 
-abbrev pub room_of : DeviceConfig → Room
-room_of config = memory_room row_words row_bytes (extent_for config.area)
+-- where its sessions are held in flash, their ranges are long enough and lie within so many bytes
+abbrev pub has_ranges : DeviceConfig → (room : ℕ) → Bool
+has_ranges config room =
+    if config.held then nat_le records_place config.span && nat_le (4 * config.span) room else true
 
 abbrev pub limits_of : DeviceConfig → Limits
 limits_of config = record { sessions = config.sessions; rows = config.rows; descriptor = config.descriptor }
+
+abbrev pub layout_of : DeviceConfig → Layout
+layout_of config = record { area = config.area; span = config.span; limits = limits_of config }
+
+-- the room for a session: where it is held in flash, its range too
+abbrev pub room_of : DeviceConfig → Room
+room_of config = store_room (layout_of config) config.held
 
 -- ---- counters
 

@@ -5,7 +5,8 @@ use Rattle.device_core.specs.declared.class_session.ClassSession.{ClassSession}
 use Rattle.device_core.specs.declared.class_session.Kind.{Kind}
 use Rattle.device_core.specs.declared.class_session.Kind.TheVariants.{ClassC, ClassB}
 use Rattle.device_core.specs.declared.config.DeviceConfig.{DeviceConfig}
-use Rattle.device_core.specs.HeldSessions.{HeldSessions}
+use Rattle.device_core.specs.Device.{layout_of}
+use Rattle.device_core.specs.HeldSessions.{HeldStore}
 
 -- the fields of a class session are within their bits
 abbrev pub KindFits : Kind → Type 0
@@ -17,9 +18,10 @@ SessionFits None = Unit {0}
 SessionFits (Some session) = (session.timeout < 16) × KindFits session.kind
 
 -- sessions and slots are as the configuration says, and the class session is one
-pub record IsDevice (config : DeviceConfig) (sessions : HeldSessions) (slots : HeldSlots)
+pub record IsDevice {F : Type 0} (config : DeviceConfig) (sessions : HeldStore F) (slots : HeldSlots)
     (session : Option ClassSession) : Type 0 where
-  pub sessions_area : sessions.area ≡ config.area
+  pub layout : sessions.layout ≡ layout_of config
+  pub held : sessions.held ≡ config.held
   pub slots_area : slots.area ≡ config.area
   pub hw : slots.hw ≡ config.hw
   pub session_fits : SessionFits session

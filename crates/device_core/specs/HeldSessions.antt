@@ -1,2 +1,2 @@
--- What the four slots of sessions hold, and when they stand for sessions.
-pub use Rattle.session_store.specs.HeldSessions.{HeldSessions, SessionsStand, TableBecomes, room_in}
+-- Where the four sessions of a device are, and for which they stand.
+pub use Rattle.session_store.specs.HeldStore.{HeldStore, IsUp, IsDown, IsInFlash, StateStands, StateIsStored, StateIsHeld, IsLaidOut, store_room}

@@ -19,3 +19,7 @@ pub mod DeviceInside
 pub mod Events
 pub mod Multicast
 pub mod Running
+pub mod Power
+pub mod Passed
+pub mod HeldCalls
+pub mod Aside

@@ -19,6 +19,7 @@ use Rattle.device_core.specs.declared.uplink.Uplink.{Uplink}
 use Rattle.device_core.specs.declared.delivered.Delivered.{Delivered}
 use Rattle.device_core.specs.declared.delivered.Delivered.TheVariants.{Deaf, Refused, OutboxFull, Done}
 use Rattle.device_core.specs.Device.{DeviceState, first_device, is_config, counter_after}
+use Rattle.device_core.specs.HeldDevice.{can_reserve}
 use Rattle.device_core.specs.declared.uplink.UplinkCommand.{UplinkCommand}
 use Rattle.sync_wire.specs.declared.cmd.Cmd.TheVariants.{PackageVersionAns}
 use Rattle.package_grammar.specs.declared.command.Command.TheVariants.{Sync}
@@ -45,6 +46,8 @@ worked_config class offset = record {
   sessions = 4;
   groups = 4;
   area = 262382;
+  held = false;
+  span = 0;
 }
 
 -- one of class C, whose clock is right
@@ -453,3 +456,8 @@ pub record ConfigSteps : Type 0 where
   pub no_area : is_config (record (worked_config C 0) { area = 0 }) ≡ false
   pub least : is_config (record (worked_config A 0) { formats = 1; rows = 0; sessions = 1; groups = 1; area = 1 }) ≡ true
   pub area : is_config (record (worked_config C 0) { area = 262383 }) ≡ false
+  -- what is not held needs no flash; what is held needs four ranges, each of 24,640 bytes at least
+  pub memory : can_reserve (worked_config C 0) 0 ≡ true
+  pub flash : can_reserve (record (worked_config C 0) { held = true; span = 24640 }) 98560 ≡ true
+  pub short_flash : can_reserve (record (worked_config C 0) { held = true; span = 24640 }) 98559 ≡ false
+  pub short_span : can_reserve (record (worked_config C 0) { held = true; span = 24639 }) 98560 ≡ false

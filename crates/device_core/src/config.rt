@@ -1,9 +1,11 @@
 //! What a device is configured with.
 
 ghost use Rattle.std.specs.Prelude.{◌≡◌};
-ghost use Rattle.device_core.specs.Device.{is_config};
+ghost use Rattle.device_core.specs.Device.{is_config, has_ranges, limits_of, layout_of};
 
+use frag_session::Limits;
 use mc_keys::RootKind;
+use session_store::Layout;
 
 /// When a device hears unicast payloads (LoRaWAN 1.0).
 #[derive(Clone, Copy, Debug, PartialEq, Eq)]
@@ -19,6 +21,9 @@ pub const MAX_ROWS: u16 = 256;
 
 /// The most bytes of the file area of a session.
 pub const MAX_AREA: u32 = 262_382;
+
+/// The bytes of flash of a session before its records.
+const RECORDS_PLACE: u32 = 24_640;
 
 /// What a device is configured with.
 #[derive(Clone, Copy, Debug)]
@@ -44,12 +49,16 @@ pub struct DeviceConfig {
     pub groups: u8,
     /// Bytes of the file area of a session, 1 to 262,382.
     pub area: u32,
+    /// Whether its sessions are held in its flash, and so outlast a stop.
+    pub held: bool,
+    /// Bytes of flash of a session that is held, from 24,640 on; that of index i lies from i * span.
+    pub span: u32,
 }
 
 /// Why there is no device.
 #[derive(Clone, Copy, Debug, PartialEq, Eq)]
 pub enum ReserveError {
-    /// A number of the configuration is out of its bounds.
+    /// A number of the configuration is out of its bounds, or the flash has no room for four sessions.
     BadConfig,
     /// There was not enough memory.
     Memory,
@@ -64,4 +73,37 @@ pub fn is_config(config: &DeviceConfig) -> bool
         && (1 <= config.sessions && config.sessions <= 4)
         && (1 <= config.groups && config.groups <= 4)
         && (1 <= config.area && config.area <= MAX_AREA)
+}
+
+/// Whether the sessions that are held have ranges that are long enough, and lie within so many bytes of flash.
+pub(crate) fn has_ranges(config: &DeviceConfig, room: u32) -> bool
+    ensures { result ≡ has_ranges config.now room }
+{
+    if config.held {
+        RECORDS_PLACE <= config.span && 4 * config.span as u64 <= room as u64
+    } else {
+        true
+    }
+}
+
+/// What the sessions of a device are limited to.
+pub(crate) fn limits_of(config: &DeviceConfig) -> Limits
+    ensures { result ≡ limits_of config.now }
+{
+    Limits {
+        sessions: config.sessions,
+        rows: config.rows,
+        descriptor: config.descriptor,
+    }
+}
+
+/// How the sessions of a device lie in its flash.
+pub(crate) fn layout_of(config: &DeviceConfig) -> Layout
+    ensures { result ≡ layout_of config.now }
+{
+    Layout {
+        area: config.area,
+        span: config.span,
+        limits: limits_of(config),
+    }
 }

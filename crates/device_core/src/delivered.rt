@@ -14,6 +14,10 @@ pub enum Delivered {
     OutboxFull(u16),
     /// Its commands acted in order.
     Done,
+    /// The flash that holds its sessions failed at a command: those before it acted, and the sessions are down.
+    FlashFault,
+    /// Its sessions are down until power comes; nothing acted or was counted.
+    Down,
 }
 
 /// What became of bytes that the radio heard.

@@ -1,18 +1,27 @@
 //! A device: the calls of whoever runs it, and the order of their checks.
 
-ghost use Rattle.std.specs.Prelude.{◌≡◌, ◌≢◌, ◌+◌, ◌<◌, ◌≤◌, length, Option, Result, IfSome, option_map};
+ghost use Rattle.std.specs.Prelude.{◌≡◌, ◌≢◌, ◌⊎◌, ◌↔◌, ℕ, ◌+◌, ◌<◌, ◌≤◌, true, false, List, length, Option, None, Result, OnOk, OnErr, IfOk, IfSome, MatchResult, option_map};
 ghost use Rattle.wire_base.specs.declared.refusal.Direction.{Direction};
 ghost use Rattle.wire_base.specs.Payload.{max_payload};
 ghost use Rattle.cast_wire.specs.declared.cmd.Cmd.TheVariants.{DataFragment};
 ghost use Rattle.package_grammar.specs.declared.command.Command.TheVariants.{Cast};
 ghost use Rattle.frag_session.specs.Session.{view_of};
 ghost use Rattle.frag_session.specs.HeldView.{seen};
-ghost use Rattle.device_core.specs.SessionTable.{session_at};
+ghost use Rattle.flash_session.specs.Contents.{HasRisen};
+ghost use Rattle.flash_session.specs.Moments.{LeavesOnly};
+ghost use Rattle.session_store.specs.declared.store.Whole.{Whole};
+ghost use Rattle.session_store.specs.declared.store.FlashFault.{FlashFault};
+ghost use Rattle.session_store.specs.HeldPlaces.{TableLies};
+ghost use Rattle.device_core.specs.SessionTable.{SessionTable, session_at};
 ghost use Rattle.device_core.specs.Device.{DeviceState, max_moment, after_deaf, after_refused, after_full, after_dropped, with_counts};
 ghost use Rattle.device_core.specs.Step.{weights, after_commands};
 ghost use Rattle.device_core.specs.Firmware.{after_due_reboot, after_migration};
-ghost use Rattle.device_core.specs.Deliver.{message_delivery, read_delivery, heard_delivery, delivery, time_asking, waking, taking, commands_read, commands_of};
+ghost use Rattle.device_core.specs.Deliver.{message_delivery, read_delivery, heard_delivery, arrival, delivery, time_asking, waking, taking, commands_read, commands_of};
 ghost use Rattle.device_core.specs.Radio.{radio};
+ghost use Rattle.device_core.specs.HeldSessions.{IsUp, IsDown, StateIsStored, StateIsHeld, IsLaidOut};
+ghost use Rattle.device_core.specs.HeldCalls.{Keeps, FailsAt, FailsIn, FailsWithin, IsPlain};
+ghost use Rattle.device_core.specs.Passed.{tables_of, message_tables, read_tables, heard_tables, tables_passed, LiesOneOf};
+ghost use Rattle.device_core.specs.Power.{HadWhole, after_power};
 ghost use Rattle.package_grammar.specs.Reading.{reading_of};
 
 mod acting;
@@ -25,7 +34,7 @@ mod windows;
 
 use crate::arrival::Arrival;
 use crate::class_session::ClassSession;
-use crate::config::{DeviceConfig, ReserveError, is_config};
+use crate::config::{DeviceConfig, ReserveError, has_ranges, is_config, layout_of};
 use crate::counts::Counts;
 use crate::delivered::{Aired, Delivered, OutboxFull};
 use crate::moment::Moment;
@@ -34,29 +43,32 @@ use crate::uplink::{Uplink, UplinkCommand};
 use acting::weights;
 use cast_wire::Fragment;
 use clock_sync::DeviceClock;
+use flash_session::{Flash, OpenFault};
 use frag_session::View;
 use image_slots::Slots;
 use mc_group::GroupTable;
 use package_grammar::{Command, Downlink, Message};
 use parity_lines::Steps;
-use session_store::SessionSlots;
+use session_store::{FlashFault, SessionStore};
 use std::alloc::Global;
 use std::marker::{Brand, Model};
 use std::sync::ledger::{Blank, Ledger};
+use fragments::offer;
 use windows::via_of;
 use wire_base::{Direction, Payload};
 
 /// A device with its clock, groups, sessions and image slots. Contracts see what it holds, and say what each call makes of
 /// every record of `specs/Device` that it stands for.
 #[derive(Drop)]
-pub struct Device {
+pub struct Device<F: Flash + Drop> {
     config: DeviceConfig,
     clock: DeviceClock,
     /// When the uplink that it made last is due, in ms of true time.
     last_due: Option<u64>,
     groups: GroupTable,
     class_session: Option<ClassSession>,
-    sessions: SessionSlots,
+    /// In memory, in its flash, or down.
+    sessions: SessionStore<F>,
     slots: Slots,
     /// The moment at which it reboots, in seconds of its clock.
     reboot: Option<u32>,
@@ -64,11 +76,11 @@ pub struct Device {
     counts: Counts,
 }
 
-impl Model for Device {
+impl<F: Flash + Drop> Model for Device<F> {
     ghost use Rattle.device_core.specs.HeldDevice.{HeldDevice};
     ghost use Rattle.device_core.specs.DeviceInside.{IsDevice};
 
-    ghost Value = { HeldDevice };
+    ghost Value = { HeldDevice F };
 
     ghost view = { λ d. record {
       config = d.config;
@@ -86,25 +98,27 @@ impl Model for Device {
     ghost invariant = { λ d. IsDevice d.config d.sessions d.slots d.class_session };
 }
 
-impl Device {
+impl<F: Flash + Drop> Device<F> {
     ghost use Rattle.std.specs.Prelude.{◌∷◌, []};
     ghost use Rattle.device_core.specs.declared.uplink.Uplink.{Uplink};
     ghost use Rattle.device_core.specs.declared.uplink.UplinkCommand.{UplinkCommand};
     ghost use Rattle.device_core.specs.declared.delivered.Aired.{Aired};
     ghost use Rattle.device_core.specs.declared.delivered.Delivered.{Delivered};
     ghost use Rattle.device_core.specs.declared.delivered.OutboxFull.{OutboxFull};
-    ghost use Rattle.device_core.specs.HeldDevice.{DeviceStands, Becomes, Makes, IsReserved, TakesOldest, held_with_answers};
+    ghost use Rattle.device_core.specs.HeldDevice.{DeviceStands, Becomes, Makes, GoesAside, IsReserved, TakesOldest, device_of, held_with_answers};
     ghost use Rattle.device_core.specs.Sendable.{IsSendable, IsUplink};
 
     /// A device at its start, with all memory that it will ever need. BadConfig comes exactly where a number of the
-    /// configuration is out of its bounds.
-    pub fn reserve(alloc: Global, config: DeviceConfig) -> Result<Self, ReserveError>
-        ensures { IsReserved config result }
+    /// configuration is out of its bounds, or its sessions are to be held and the flash has no room for them. No flash is
+    /// called; a device whose sessions are held is down until `power`.
+    pub fn reserve(alloc: Global, config: DeviceConfig, flash: F) -> Result<Self, ReserveError>
+        ensures { IsReserved config (F.room flash) flash result }
     {
-        if !is_config(&config) {
+        if !(has_ranges(&config, flash.size()) && is_config(&config)) {
             return Err(ReserveError::BadConfig);
         }
-        let Ok(sessions) = SessionSlots::reserve(alloc, config.area) else {
+        let layout = layout_of(&config);
+        let Ok(sessions) = SessionStore::reserve(alloc, flash, layout, config.held) else {
             return Err(ReserveError::Memory);
         };
         let Ok(slots) = Slots::reserve(alloc, config.area, config.hw, config.formats) else {
@@ -131,10 +145,44 @@ impl Device {
 
     /// A payload comes at `t` ms of true time. If it is heard, can be read and the outbox has room, its commands act in
     /// order. `word` is a random word, and `mark` the number at which a verdict on a file is reported. A reboot that is due
-    /// is carried out before and behind all this.
+    /// is carried out before and behind all this. While its sessions are down the answer is Down. FlashFault comes only
+    /// where the flash failed: the commands before acted, no other did, no reboot is carried out behind, and the sessions
+    /// are down.
     pub fn deliver(&mut self, t: u64, down: &Downlink, word: u32, mark: u64) -> Delivered
         requires { t ≤ max_moment }
-        ensures { Makes Delivered self.old self.new result (delivery t word mark down.now) }
+        ensures makes { result ≢ Delivered.FlashFault
+            → Makes Delivered self.old self.new result (delivery t word mark down.now) }
+        // Down comes exactly where the sessions are down, and changes nothing.
+        ensures down { result ≡ Delivered.Down → IsDown self.old.sessions.state }
+        ensures up { result ≢ Delivered.Down → IsUp self.old.sessions.state }
+        ensures still { result ≡ Delivered.Down → self.new ≡ self.old }
+        // The flash failed at a command: those before it acted, and neither it nor those behind it.
+        ensures fails { result ≡ Delivered.FlashFault → (device : DeviceState)
+            → DeviceStands self.old device
+            → FailsWithin t word mark down.now device self.new }
+        ensures fault { result ≡ Delivered.FlashFault
+            → HasRisen (F.faults self.old.sessions.flash) (F.faults self.new.sessions.flash) }
+        // Sessions that are not held call no flash.
+        ensures quiet { self.old.sessions.held ≡ false
+            → (result ≢ Delivered.FlashFault) × (self.new.sessions.flash ≡ self.old.sessions.flash) }
+        // Those that are held are stored as the payload leaves them,
+        ensures stored { (device : DeviceState) → DeviceStands self.old device
+            → StateIsStored self.old.sessions.state device.sessions (F.holds self.old.sessions.flash)
+            (F.left_since self.old.sessions.flash (F.moment self.old.sessions.flash))
+            → result ≢ Delivered.FlashFault
+            → StateIsStored self.new.sessions.state (delivery t word mark down.now device).device.sessions
+            (F.holds self.new.sessions.flash)
+            (F.left_since self.new.sessions.flash (F.moment self.new.sessions.flash)) }
+        // and a stop at any moment leaves them as they were, or as the payload's commands pass them.
+        ensures any_moment { (device : DeviceState) → DeviceStands self.old device
+            → StateIsHeld self.old.sessions.state device.sessions (F.holds self.old.sessions.flash)
+            (F.left_since self.old.sessions.flash (F.moment self.old.sessions.flash))
+            → LeavesOnly
+            (λ c. TableLies self.old.sessions.layout device.sessions c
+            ⊎ LiesOneOf self.old.sessions.layout (tables_passed t word mark down.now device) c)
+            (F.moment self.old.sessions.flash) (F.moment self.new.sessions.flash)
+            (F.left_since self.old.sessions.flash) (F.left_since self.new.sessions.flash) }
+        ensures laid { IsLaidOut self.old.sessions self.new.sessions }
     {
         self.deliver_over::<Brand>(t, down, word, mark, Blank::new(1))
     }
@@ -147,19 +195,51 @@ impl Device {
         mark: u64,
         no_steps: Blank,
     ) -> Delivered
-        requires moment { t ≤ max_moment }
         requires name { no_steps.name ≡ L.name }
         requires parts { no_steps.parts ≡ L.parts }
         requires counted { 0 < no_steps.parts }
-        ensures { Makes Delivered self.old self.new result (delivery t word mark down.now) }
+        requires moment { t ≤ max_moment }
+        ensures makes { result ≢ Delivered.FlashFault
+            → Makes Delivered self.old self.new result (delivery t word mark down.now) }
+        // Down comes exactly where the sessions are down, and changes nothing.
+        ensures down { result ≡ Delivered.Down → IsDown self.old.sessions.state }
+        ensures up { result ≢ Delivered.Down → IsUp self.old.sessions.state }
+        ensures still { result ≡ Delivered.Down → self.new ≡ self.old }
+        // The flash failed at a command: those before it acted, and neither it nor those behind it.
+        ensures fails { result ≡ Delivered.FlashFault → (device : DeviceState)
+            → DeviceStands self.old device
+            → FailsWithin t word mark down.now device self.new }
+        ensures fault { result ≡ Delivered.FlashFault
+            → HasRisen (F.faults self.old.sessions.flash) (F.faults self.new.sessions.flash) }
+        // Sessions that are not held call no flash.
+        ensures quiet { self.old.sessions.held ≡ false
+            → (result ≢ Delivered.FlashFault) × (self.new.sessions.flash ≡ self.old.sessions.flash) }
+        // Those that are held are stored as the payload leaves them,
+        ensures stored { (device : DeviceState) → DeviceStands self.old device
+            → StateIsStored self.old.sessions.state device.sessions (F.holds self.old.sessions.flash)
+            (F.left_since self.old.sessions.flash (F.moment self.old.sessions.flash))
+            → result ≢ Delivered.FlashFault
+            → StateIsStored self.new.sessions.state (delivery t word mark down.now device).device.sessions
+            (F.holds self.new.sessions.flash)
+            (F.left_since self.new.sessions.flash (F.moment self.new.sessions.flash)) }
+        // and a stop at any moment leaves them as they were, or as the payload's commands pass them.
+        ensures any_moment { (device : DeviceState) → DeviceStands self.old device
+            → StateIsHeld self.old.sessions.state device.sessions (F.holds self.old.sessions.flash)
+            (F.left_since self.old.sessions.flash (F.moment self.old.sessions.flash))
+            → LeavesOnly
+            (λ c. TableLies self.old.sessions.layout device.sessions c
+            ⊎ LiesOneOf self.old.sessions.layout (tables_passed t word mark down.now device) c)
+            (F.moment self.old.sessions.flash) (F.moment self.new.sessions.flash)
+            (F.left_since self.old.sessions.flash) (F.left_since self.new.sessions.flash) }
+        ensures laid { IsLaidOut self.old.sessions self.new.sessions }
     {
         let mut steps = Steps::<L>::new(no_steps);
         self.deliver_counted(t, down, word, mark, &mut steps)
     }
 
     /// As `deliver`, and counts the commands that are taken up, one after another: where the answer is `Done` all of the
-    /// payload, those included that do not act by multicast, and else none.
-    #[tactic(auto, unfolding(crate::specs::Deliver::delivery))]
+    /// payload, those included that do not act by multicast, where it is `FlashFault` those up to the failing one, and
+    /// else none.
     pub fn deliver_counted<L: Ledger>(
         &mut self,
         t: u64,
@@ -169,26 +249,78 @@ impl Device {
         steps: &mut Steps<L>,
     ) -> Delivered
         requires { t ≤ max_moment }
-        ensures makes { Makes Delivered self.old self.new result (delivery t word mark down.now) }
+        ensures makes { result ≢ Delivered.FlashFault
+            → Makes Delivered self.old self.new result (delivery t word mark down.now) }
+        // Down comes exactly where the sessions are down, and changes nothing.
+        ensures down { result ≡ Delivered.Down → IsDown self.old.sessions.state }
+        ensures up { result ≢ Delivered.Down → IsUp self.old.sessions.state }
+        ensures still { result ≡ Delivered.Down → self.new ≡ self.old }
+        // The flash failed at a command: those before it acted, and neither it nor those behind it.
+        ensures fails { result ≡ Delivered.FlashFault → (device : DeviceState)
+            → DeviceStands self.old device
+            → FailsWithin t word mark down.now device self.new }
+        ensures fault { result ≡ Delivered.FlashFault
+            → HasRisen (F.faults self.old.sessions.flash) (F.faults self.new.sessions.flash) }
+        // Sessions that are not held call no flash.
+        ensures quiet { self.old.sessions.held ≡ false
+            → (result ≢ Delivered.FlashFault) × (self.new.sessions.flash ≡ self.old.sessions.flash) }
+        // Those that are held are stored as the payload leaves them,
+        ensures stored { (device : DeviceState) → DeviceStands self.old device
+            → StateIsStored self.old.sessions.state device.sessions (F.holds self.old.sessions.flash)
+            (F.left_since self.old.sessions.flash (F.moment self.old.sessions.flash))
+            → result ≢ Delivered.FlashFault
+            → StateIsStored self.new.sessions.state (delivery t word mark down.now device).device.sessions
+            (F.holds self.new.sessions.flash)
+            (F.left_since self.new.sessions.flash (F.moment self.new.sessions.flash)) }
+        // and a stop at any moment leaves them as they were, or as the payload's commands pass them.
+        ensures any_moment { (device : DeviceState) → DeviceStands self.old device
+            → StateIsHeld self.old.sessions.state device.sessions (F.holds self.old.sessions.flash)
+            (F.left_since self.old.sessions.flash (F.moment self.old.sessions.flash))
+            → LeavesOnly
+            (λ c. TableLies self.old.sessions.layout device.sessions c
+            ⊎ LiesOneOf self.old.sessions.layout (tables_passed t word mark down.now device) c)
+            (F.moment self.old.sessions.flash) (F.moment self.new.sessions.flash)
+            (F.left_since self.old.sessions.flash) (F.left_since self.new.sessions.flash) }
+        ensures laid { IsLaidOut self.old.sessions self.new.sessions }
         ensures done { result ≡ Delivered.Done → steps.new ≡ steps.old + commands_of down.now }
-        ensures idle { result ≢ Delivered.Done → steps.new ≡ steps.old }
+        ensures idle { result ≢ Delivered.Done → result ≢ Delivered.FlashFault → steps.new ≡ steps.old }
         ensures few { steps.new ≤ steps.old + max_payload }
     {
+        if self.sessions.is_down() {
+            return Delivered::Down;
+        }
         self.reboot_where_due(t);
-        let delivered = self.hear(t, down, word, mark, steps);
-        self.reboot_where_due(t);
-        delivered
+        match self.hear(t, down, word, mark, steps) {
+            Ok(delivered) => {
+                self.reboot_where_due(t);
+                delivered
+            }
+            Err(FlashFault) => Delivered::FlashFault,
+        }
     }
 
     /// Bytes that the radio heard come at `t` ms of true time. Where they are a frame of the class session's group, with a
     /// count from its minMcFCount to below its maxMcFCount, and one of the 65,536 from minMcFCount on, their payload comes
     /// to that group as in `deliver`. Other bytes are foreign: they change nothing but a reboot that is due and the deaf
     /// counter.
+    /// While its sessions are down the answer is Heard(Down), whatever they are.
     #[tactic(auto, unfolding(crate::specs::Radio::radio))]
     pub fn radio(&mut self, t: u64, bytes: &[u8], word: u32, mark: u64) -> Aired
         requires { t ≤ max_moment }
-        ensures { Makes Aired self.old self.new result (radio t word mark bytes.now) }
+        ensures makes { result ≢ Aired.Heard Delivered.FlashFault
+            → Makes Aired self.old self.new result (radio t word mark bytes.now) }
+        ensures down { result ≡ Aired.Heard Delivered.Down → IsDown self.old.sessions.state }
+        ensures up { result ≢ Aired.Heard Delivered.Down → IsUp self.old.sessions.state }
+        ensures still { result ≡ Aired.Heard Delivered.Down → self.new ≡ self.old }
+        ensures fault { result ≡ Aired.Heard Delivered.FlashFault
+            → HasRisen (F.faults self.old.sessions.flash) (F.faults self.new.sessions.flash) }
+        ensures quiet { self.old.sessions.held ≡ false → (result ≢ Aired.Heard Delivered.FlashFault)
+            × (self.new.sessions.flash ≡ self.old.sessions.flash) }
+        ensures laid { IsLaidOut self.old.sessions self.new.sessions }
     {
+        if self.sessions.is_down() {
+            return Aired::Heard(Delivered::Down);
+        }
         match self.brought(bytes) {
             Ok(down) => Aired::Heard(self.deliver(t, &down, word, mark)),
             Err(fault) => {
@@ -203,7 +335,11 @@ impl Device {
     #[tactic(auto, unfolding(crate::specs::Deliver::waking))]
     pub fn wake(&mut self, t: u64) -> Result<(), OutboxFull>
         requires { t ≤ max_moment }
-        ensures { Makes (Result (Unit {0}) OutboxFull) self.old self.new result (waking t) }
+        ensures makes { Makes (Result (Unit {0}) OutboxFull) self.old self.new result (waking t) }
+        // So it does while its sessions are down, and they are untouched.
+        ensures aside { GoesAside self.old self.new (λ device. (waking t device).device) }
+        ensures answer { (table : SessionTable)
+            → result ≡ (waking t (device_of self.old table)).answer }
     {
         self.reboot_where_due(t);
         let asked = self.ask_time(t);
@@ -214,6 +350,7 @@ impl Device {
     /// The oldest uplink that is held; None exactly where none is. Its payload is one command in its canonical spelling.
     pub fn take_uplink(&mut self) -> Option<Uplink>
         ensures makes { Makes (Option Uplink) self.old self.new result taking }
+        ensures aside { GoesAside self.old self.new (λ device. (taking device).device) }
         ensures oldest { TakesOldest self.old.outbox self.new.outbox result }
         ensures uplink { IfSome result (λ u. IsUplink u) }
     {
@@ -223,16 +360,81 @@ impl Device {
     /// Both image formats are known from now on, and what was received to run next is read again. No reboot is carried out.
     #[tactic(auto, unfolding(crate::specs::Firmware::after_migration))]
     pub fn raise(&mut self)
-        ensures { Becomes self.old self.new after_migration }
+        ensures becomes { Becomes self.old self.new after_migration }
+        ensures aside { GoesAside self.old self.new after_migration }
     {
         self.slots.raise();
     }
 
-    /// What the session of an index shows; None exactly where there is none.
+    /// Opens the sessions that are held in its flash, and offers to next each file that is whole now and was not when the
+    /// device was last up, by rising index. At an error they are down.
+    pub fn power(&mut self) -> Result<(), OpenFault>
+        requires { self.old.sessions.held ≡ true }
+        // What lies there for sessions is what they are behind it, or the flash failed.
+        ensures opened { (whole : Whole) → HadWhole self.old.sessions.state whole
+            → (table : SessionTable) (b : List ℕ) → F.holds self.new.sessions.flash b
+            → TableLies self.old.sessions.layout table b
+            → MatchResult result
+            (λ ok. DeviceStands self.new (after_power whole table (device_of self.old table))
+            × StateIsStored self.new.sessions.state table (F.holds self.new.sessions.flash)
+            (F.left_since self.new.sessions.flash (F.moment self.new.sessions.flash)))
+            (λ e. e ≡ OpenFault.Flash) }
+        // A device that was up has them as they were, and nothing of its record changes.
+        ensures again { (device : DeviceState) → DeviceStands self.old device
+            → StateIsHeld self.old.sessions.state device.sessions (F.holds self.old.sessions.flash)
+            (F.left_since self.old.sessions.flash (F.moment self.old.sessions.flash))
+            → (b : List ℕ) → F.holds self.new.sessions.flash b
+            → MatchResult result
+            (λ ok. DeviceStands self.new device
+            × StateIsStored self.new.sessions.state device.sessions (F.holds self.new.sessions.flash)
+            (F.left_since self.new.sessions.flash (F.moment self.new.sessions.flash)))
+            (λ e. e ≡ OpenFault.Flash) }
+        ensures up { OnOk result (IsUp self.new.sessions.state) }
+        ensures down { OnErr result (IsDown self.new.sessions.state) }
+        ensures laid { IsLaidOut self.old.sessions self.new.sessions }
+        // At an error all but the sessions is as it was.
+        ensures rest { OnErr result
+            ((table : SessionTable) → device_of self.new table ≡ device_of self.old table) }
+        ensures fault { result ≡ Err OpenFault.Flash
+            → HasRisen (F.faults self.old.sessions.flash) (F.faults self.new.sessions.flash) }
+    {
+        match self.sessions.power() {
+            Ok(whole) => {
+                offer(&mut self.slots, &self.sessions, 0, whole.first);
+                offer(&mut self.slots, &self.sessions, 1, whole.second);
+                offer(&mut self.slots, &self.sessions, 2, whole.third);
+                offer(&mut self.slots, &self.sessions, 3, whole.fourth);
+                Ok(())
+            }
+            Err(fault) => Err(fault),
+        }
+    }
+
+    /// Gives the flash back.
+    pub fn close(self) -> F
+        ensures { result ≡ self.sessions.flash }
+    {
+        let Device {
+            config: _config,
+            clock: _clock,
+            last_due: _last_due,
+            groups: _groups,
+            class_session: _class_session,
+            sessions,
+            slots: _slots,
+            reboot: _reboot,
+            outbox: _outbox,
+            counts: _counts,
+        } = self;
+        sessions.close()
+    }
+
+    /// What the session of an index shows; None exactly where there is none, or its sessions are down.
     pub fn session(&self, index: u8) -> Option<View<'_>>
         requires { index < 4 }
-        ensures { (device : DeviceState) → DeviceStands self.now device
+        ensures shows { (device : DeviceState) → DeviceStands self.now device
             → option_map seen result ≡ view_of (session_at device.sessions index) }
+        ensures down { IsDown self.now.sessions.state → result ≡ None }
     {
         self.sessions.view(index)
     }
@@ -261,15 +463,16 @@ impl Device {
 
     /// Bytes that are no frame for it are counted.
     fn pass_over(&mut self, t: u64)
-        ensures { Becomes self.old self.new
+        ensures becomes { Becomes self.old self.new
             (λ device. with_counts after_deaf (after_due_reboot t device)) }
+        ensures untouched { self.new.sessions ≡ self.old.sessions }
     {
         self.reboot_where_due(t);
         self.count_deaf();
     }
 
     /// A payload that is heard is read, and one that is not is counted.
-    #[tactic(auto, unfolding(crate::specs::Deliver::heard_delivery))]
+    #[tactic(auto, unfolding(crate::specs::Deliver::heard_delivery, crate::specs::Passed::heard_tables))]
     fn hear<L: Ledger>(
         &mut self,
         t: u64,
@@ -277,16 +480,27 @@ impl Device {
         word: u32,
         mark: u64,
         steps: &mut Steps<L>,
-    ) -> Delivered
-        requires { t ≤ max_moment }
-        ensures makes { Makes Delivered self.old self.new result (heard_delivery t word mark down.now) }
-        ensures done { result ≡ Delivered.Done → steps.new ≡ steps.old + commands_of down.now }
-        ensures idle { result ≢ Delivered.Done → steps.new ≡ steps.old }
+    ) -> Result<Delivered, FlashFault>
+        requires moment { t ≤ max_moment }
+        requires up { IsUp self.old.sessions.state }
+        ensures makes { IfOk result
+            (λ delivered. Makes Delivered self.old self.new delivered (heard_delivery t word mark down.now)) }
+        ensures fails { OnErr result ((device : DeviceState) → DeviceStands self.old device
+            → FailsIn (heard_delivery t word mark down.now device)
+            (arrival t word mark down.now device) device (reading_of down.now.port Direction.Down down.now.payload) self.new) }
+        ensures keeps { Keeps F.holds F.left_since F.moment F.faults self.old self.new.sessions result
+            (λ device. (heard_delivery t word mark down.now device).device)
+            (λ device. heard_tables t word mark down.now device) }
+        ensures done { IfOk result
+            (λ delivered. delivered ≡ Delivered.Done → steps.new ≡ steps.old + commands_of down.now) }
+        ensures idle { IfOk result
+            (λ delivered. delivered ≢ Delivered.Done → steps.new ≡ steps.old) }
+        ensures answers { IfOk result IsPlain }
         ensures few { steps.new ≤ steps.old + max_payload }
     {
         if !self.hears(t, down.to) {
             self.count_deaf();
-            return Delivered::Deaf;
+            return Ok(Delivered::Deaf);
         }
         let here = Arrival {
             moment: Moment { t, word, mark },
@@ -297,86 +511,130 @@ impl Device {
     }
 
     /// What is read of a payload acts, and one that is refused is counted.
-    #[tactic(auto, unfolding(crate::specs::Deliver::read_delivery, crate::specs::Deliver::commands_read))]
+    #[tactic(auto, unfolding(crate::specs::Deliver::read_delivery, crate::specs::Deliver::commands_read, crate::specs::Passed::read_tables))]
     fn read<L: Ledger>(
         &mut self,
         here: Arrival,
         payload: &Payload,
         steps: &mut Steps<L>,
-    ) -> Delivered
-        requires { here.moment.t ≤ max_moment }
+    ) -> Result<Delivered, FlashFault>
+        requires moment { here.moment.t ≤ max_moment }
+        requires up { IsUp self.old.sessions.state }
         ensures makes { let reading = reading_of here.port Direction.Down payload.now in
-            Makes Delivered self.old self.new result (λ device. read_delivery here device reading) }
-        ensures done { result ≡ Delivered.Done → let reading = reading_of here.port Direction.Down payload.now in
-            steps.new ≡ steps.old + commands_read reading }
-        ensures idle { result ≢ Delivered.Done → steps.new ≡ steps.old }
+            IfOk result
+            (λ delivered. Makes Delivered self.old self.new delivered (λ device. read_delivery here device reading)) }
+        ensures fails { let reading = reading_of here.port Direction.Down payload.now in
+            OnErr result ((device : DeviceState) → DeviceStands self.old device
+            → FailsIn (read_delivery here device reading) here device reading self.new) }
+        ensures keeps { let reading = reading_of here.port Direction.Down payload.now in
+            Keeps F.holds F.left_since F.moment F.faults self.old self.new.sessions result
+            (λ device. (read_delivery here device reading).device)
+            (λ device. read_tables here device reading) }
+        ensures done { let reading = reading_of here.port Direction.Down payload.now in
+            IfOk result
+            (λ delivered. delivered ≡ Delivered.Done → steps.new ≡ steps.old + commands_read reading) }
+        ensures idle { IfOk result
+            (λ delivered. delivered ≢ Delivered.Done → steps.new ≡ steps.old) }
+        ensures answers { IfOk result IsPlain }
         ensures few { steps.new ≤ steps.old + max_payload }
     {
         match Message::read(here.port, Direction::Down, payload.as_slice()) {
             Ok(message) => self.take(here, message, steps),
             Err(refusal) => {
                 self.count_refused();
-                Delivered::Refused(refusal)
+                Ok(Delivered::Refused(refusal))
             }
         }
     }
 
     /// A message acts where the outbox has room for its weights.
-    #[tactic(auto, unfolding(crate::specs::Deliver::message_delivery))]
+    #[tactic(auto, unfolding(crate::specs::Deliver::message_delivery, crate::specs::Passed::message_tables))]
     fn take<L: Ledger>(
         &mut self,
         here: Arrival,
         message: Message<'_>,
         steps: &mut Steps<L>,
-    ) -> Delivered
+    ) -> Result<Delivered, FlashFault>
         requires moment { here.moment.t ≤ max_moment }
+        requires up { IsUp self.old.sessions.state }
         requires port { message.port ≡ here.port }
         requires direction { message.direction ≡ Direction.Down }
         requires few { length message.commands ≤ 242 }
-        ensures makes { Makes Delivered self.old self.new result
-            (λ device. message_delivery here device message.entry.commands) }
-        ensures done { result ≡ Delivered.Done → steps.new ≡ steps.old + length message.entry.commands }
-        ensures idle { result ≢ Delivered.Done → steps.new ≡ steps.old }
+        ensures makes { IfOk result (λ delivered. Makes Delivered self.old self.new delivered
+            (λ device. message_delivery here device message.entry.commands)) }
+        ensures fails { OnErr result ((device : DeviceState) → DeviceStands self.old device
+            → ((message_delivery here device message.entry.commands).answer ≡ Delivered.Done)
+            × FailsAt here device message.entry.commands self.new) }
+        ensures keeps { Keeps F.holds F.left_since F.moment F.faults self.old self.new.sessions result
+            (λ device. (message_delivery here device message.entry.commands).device)
+            (λ device. message_tables here device message.entry.commands) }
+        ensures done { IfOk result
+            (λ delivered. delivered ≡ Delivered.Done → steps.new ≡ steps.old + length message.entry.commands) }
+        ensures idle { IfOk result
+            (λ delivered. delivered ≢ Delivered.Done → steps.new ≡ steps.old) }
+        ensures answers { IfOk result IsPlain }
         ensures few { steps.new ≤ steps.old + length message.entry.commands }
     {
         let held = self.outbox.len() as u16;
         if let Some(fragment) = message.fragment() {
-            self.take_fragment(here, fragment);
             steps.tick();
-            return Delivered::Done;
+            self.take_fragment(here, fragment)?;
+            return Ok(Delivered::Done);
         }
         let n = held + weights(message.again());
         if n as usize > OUTBOX {
             self.count_full();
-            return Delivered::OutboxFull(n);
+            return Ok(Delivered::OutboxFull(n));
         }
-        self.act_on(here, message, steps);
-        Delivered::Done
+        self.act_on(here, message, steps)?;
+        Ok(Delivered::Done)
     }
 
     /// Acts on a DataFragment that is a message by itself.
-    fn take_fragment(&mut self, here: Arrival, fragment: Fragment<'_>)
-        requires { fragment.index < 4 }
-        ensures { Becomes self.old self.new (λ device. after_commands here device
+    fn take_fragment(&mut self, here: Arrival, fragment: Fragment<'_>) -> Result<(), FlashFault>
+        requires up { IsUp self.old.sessions.state }
+        requires index { fragment.index < 4 }
+        ensures becomes { OnOk result (Becomes self.old self.new (λ device. after_commands here device
+            (Cast (DataFragment fragment.entry.index fragment.entry.n fragment.entry.bytes.now) ∷ []))) }
+        ensures fails { OnErr result ((device : DeviceState) → DeviceStands self.old device
+            → FailsAt here device
+            (Cast (DataFragment fragment.entry.index fragment.entry.n fragment.entry.bytes.now) ∷ []) self.new) }
+        ensures keeps { Keeps F.holds F.left_since F.moment F.faults self.old self.new.sessions result
+            (λ device. after_commands here device
+            (Cast (DataFragment fragment.entry.index fragment.entry.n fragment.entry.bytes.now) ∷ []))
+            (λ device. tables_of here device
             (Cast (DataFragment fragment.entry.index fragment.entry.n fragment.entry.bytes.now) ∷ [])) }
     {
-        self.fragment(here, fragment.index, fragment.n, fragment.bytes);
+        self.fragment(here, fragment.index, fragment.n, fragment.bytes)
     }
 
     /// Acts on the commands of a message, one after another, and counts them.
-    fn act_on<L: Ledger>(&mut self, here: Arrival, mut message: Message<'_>, steps: &mut Steps<L>)
+    fn act_on<L: Ledger>(
+        &mut self,
+        here: Arrival,
+        mut message: Message<'_>,
+        steps: &mut Steps<L>,
+    ) -> Result<(), FlashFault>
         requires moment { here.moment.t ≤ max_moment }
+        requires up { IsUp self.old.sessions.state }
         requires port { message.port ≡ here.port }
         requires direction { message.direction ≡ Direction.Down }
         requires room { length self.old.outbox + weights message.commands ≤ 8 }
-        ensures becomes { Becomes self.old self.new
-            (λ device. after_commands here device message.entry.commands) }
-        ensures each { steps.new ≡ steps.old + length message.entry.commands }
+        ensures becomes { OnOk result (Becomes self.old self.new
+            (λ device. after_commands here device message.entry.commands)) }
+        ensures fails { OnErr result ((device : DeviceState) → DeviceStands self.old device
+            → FailsAt here device message.entry.commands self.new) }
+        ensures keeps { Keeps F.holds F.left_since F.moment F.faults self.old self.new.sessions result
+            (λ device. after_commands here device message.entry.commands)
+            (λ device. tables_of here device message.entry.commands) }
+        ensures each { OnOk result (steps.new ≡ steps.old + length message.entry.commands) }
+        ensures few { steps.new ≤ steps.old + length message.entry.commands }
     {
         while let Some(command) = message.next() {
-            self.act(here, &command);
             steps.tick();
+            self.act(here, &command)?;
         }
+        Ok(())
     }
 
     /// Puts an answer into the outbox.

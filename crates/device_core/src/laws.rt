@@ -15,6 +15,7 @@ ghost use Rattle.device_core.specs.Firmware.{after_due_reboot};
 ghost use Rattle.device_core.specs.Deliver.{delivery, waking};
 ghost use Rattle.device_core.specs.Radio.{heard_group, session_keys, aired, radio};
 ghost use Rattle.device_core.specs.Multicast.{MulticastActs};
+ghost use Rattle.device_core.specs.Power.{PowerIsQuiet};
 ghost use Rattle.device_core.specs.Running.{RunsImagesAlone};
 ghost use Rattle.device_core.specs.WholeFiles.{WholeFiles};
 ghost use Rattle.device_core.specs.WorkedSteps.{UplinkSteps, WeightSteps, ClockSteps, StatusSteps, SessionSteps, KeySteps, GroupSteps, HearingSteps, FirmwareSteps, ConfigSteps};
@@ -79,6 +80,12 @@ pub fn two_commands_act_by_multicast()
 #[tactic(auto, using(crate::proofs::Running::runs_images))]
 pub fn runs_images_alone()
     ensures { RunsImagesAlone }
+{}
+
+/// Power at a device that was up, and found its own sessions, changes nothing.
+#[tactic(auto, using(crate::proofs::Quiet::power_is_quiet))]
+pub fn power_is_quiet()
+    ensures { PowerIsQuiet }
 {}
 
 /// What a device sends, holds and hears, worked out in bytes.

@@ -2,10 +2,12 @@
 //! remote multicast setup (TS005-1.0.0) and firmware management (TS006-1.0.0).
 //! A device is seen as the record of `specs/Device.antt`, with the lists of all fragments that its sessions heard: each call
 //! leaves what one function of `specs/Deliver.antt` makes of that record, and answers what that function answers.
-//! Only `Device::reserve` takes memory. Radio, clocks, random numbers and what runs the image are left to the caller.
+//! Only `Device::reserve` takes memory. Radio, clocks, random numbers, the flash and what runs the image are left to the caller.
+//! Its sessions are in memory alone, or held in the flash, and then outlast a stop: `power` opens them again.
 //!
-//!     let mut device = Device::reserve(alloc, config)?;        // all memory
-//!     device.deliver(t, &downlink, random_word, mark);         // deaf, refused, outbox full, or done
+//!     let mut device = Device::reserve(alloc, config, flash)?; // all memory
+//!     device.power()?;                                         // where its sessions are held: they are up
+//!     device.deliver(t, &downlink, random_word, mark);         // deaf, refused, outbox full, done, flash fault, or down
 //!     device.radio(t, &bytes, random_word, mark);              // a multicast frame: foreign, or heard
 //!     while let Some(uplink) = device.take_uplink() { .. }     // uplink.due, uplink.port, uplink.payload
 //!     let file = device.session(0).map(|view| view.file);
@@ -30,7 +32,7 @@ pub use delivered::{Aired, Delivered, OutboxFull};
 pub use device::Device;
 pub use laws::{
     a_frame_is_delivered, a_full_device_wakes_for_its_reboot_alone, a_whole_file_comes_once,
-    due_reboot_is_once, runs_images_alone, two_commands_act_by_multicast,
+    due_reboot_is_once, power_is_quiet, runs_images_alone, two_commands_act_by_multicast,
     what_does_not_act_is_counted, worked_steps,
 };
 pub use moment::Moment;

@@ -4,6 +4,7 @@ ghost use Rattle.std.specs.Prelude.{◌≤◌, length};
 ghost use Rattle.wire_base.specs.declared.payload.TheConstants.{MAX_PAYLOAD};
 
 use device_core::*;
+use flash_session::CellFlash;
 use image_slots::ImageState;
 use mc_frames::FrameFault;
 use mc_keys::RootKind;
@@ -25,6 +26,8 @@ const CONFIG: DeviceConfig = DeviceConfig {
     sessions: 4,
     groups: 4,
     area: MAX_AREA,
+    held: false,
+    span: 0,
 };
 
 /// An image file for hardware 1 with firmware 2, its body and digest those of the text abc.
@@ -370,8 +373,13 @@ const WEIGHTS: [(u8, &[u8], u16); 6] = [
     (201, &[0, 0, 0, 0, 0, 0, 0, 0, 0], 9),
 ];
 
-fn reserved(rt: &impl Abort, alloc: Global, config: DeviceConfig) -> Device {
-    Device::reserve(alloc, config).expect(rt, "no device")
+/// A device whose sessions are in memory alone needs no flash.
+fn no_flash(rt: &impl Abort, alloc: Global) -> CellFlash {
+    CellFlash::reserve(alloc, 0).expect(rt, "no flash")
+}
+
+fn reserved(rt: &impl Abort, alloc: Global, config: DeviceConfig) -> Device<CellFlash> {
+    Device::reserve(alloc, config, no_flash(rt, alloc)).expect(rt, "no device")
 }
 
 fn unicast(port: u8, bytes: &[u8]) -> Downlink
@@ -387,7 +395,7 @@ fn unicast(port: u8, bytes: &[u8]) -> Downlink
 /// What becomes of a payload at a moment.
 fn delivered(
     rt: &impl Abort,
-    device: &mut Device,
+    device: &mut Device<CellFlash>,
     t: u64,
     to: To,
     port: u8,
@@ -400,7 +408,7 @@ fn delivered(
 }
 
 /// The uplink that was made, as its port, due moment and bytes; none where there are no bytes.
-fn taken(rt: &impl Abort, device: &mut Device, due: u64, port: u8, bytes: &[u8]) {
+fn taken(rt: &impl Abort, device: &mut Device<CellFlash>, due: u64, port: u8, bytes: &[u8]) {
     match device.take_uplink() {
         Some(uplink) => {
             assert_eq!(rt; uplink.due, due);
@@ -412,7 +420,7 @@ fn taken(rt: &impl Abort, device: &mut Device, due: u64, port: u8, bytes: &[u8])
 }
 
 /// How many uplinks are held, at most 8; none is afterwards.
-fn uplinks(device: &mut Device) -> u16 {
+fn uplinks(device: &mut Device<CellFlash>) -> u16 {
     let mut number = 0;
     for taken in 0..9 {
         if device.take_uplink().is_some() {
@@ -423,7 +431,7 @@ fn uplinks(device: &mut Device) -> u16 {
 }
 
 /// Payloads that come at one moment.
-fn exchanges(rt: &impl Abort, device: &mut Device, t: u64, all: &[Exchange]) {
+fn exchanges(rt: &impl Abort, device: &mut Device<CellFlash>, t: u64, all: &[Exchange]) {
     for (port, payload, answer) in all {
         assert_eq!(rt;
             delivered(rt, device, t, To::Unicast, *port, payload),
@@ -457,14 +465,14 @@ fn commands_are_answered(rt: HostRuntime) {
 }
 
 /// A device that received the image at 0 ms.
-fn with_image(rt: &impl Abort, alloc: Global, config: DeviceConfig) -> Device {
+fn with_image(rt: &impl Abort, alloc: Global, config: DeviceConfig) -> Device<CellFlash> {
     let mut device = reserved(rt, alloc, config);
     receive_image(rt, &mut device);
     device
 }
 
 /// The image comes in one fragment, at 0 ms.
-fn receive_image(rt: &impl Abort, device: &mut Device) {
+fn receive_image(rt: &impl Abort, device: &mut Device<CellFlash>) {
     let setup = [0x02, 0x00, 1, 0, 52, 0x00, 0, 0, 0, 0, 0];
     exchanges(rt, device, 0, &[(201, &[0x01, 0x01], &[])]);
     assert!(rt; delivered(rt, device, 0, To::Unicast, 201, &setup) == Delivered::Done);
@@ -749,7 +757,7 @@ fn numbers_out_of_bounds_make_no_device(rt: HostRuntime) {
         },
     ];
     for config in table {
-        match Device::reserve(rt.alloc(), config) {
+        match Device::reserve(rt.alloc(), config, no_flash(&rt, rt.alloc())) {
             Ok(_) => assert!(rt; false),
             Err(why) => assert!(rt; why == ReserveError::BadConfig),
         }
@@ -760,7 +768,8 @@ fn numbers_out_of_bounds_make_no_device(rt: HostRuntime) {
             DeviceConfig {
                 rows: 256,
                 ..CONFIG
-            }
+            },
+            no_flash(&rt, rt.alloc())
         )
         .is_ok()
     );

@@ -27,6 +27,7 @@ use Rattle.std.proofs.alloc.Global.TheLaws as heap_laws
 use Rattle.std.specs.contracts.impls.GlobalAllocator.TheImpl.{ghosts}
 use Rattle.std.proofs.GlobalToken.{dealloc_token-Testable}
 use Rattle.std_alloc.specs.Box.Ownership.{box_owns}
+use Rattle.flash_session.specs.Flashes.{Cells}
 use Rattle.device_core.specs.HeldDevice.{HeldDevice}
 use Rattle.fuota_c.specs.Held.{device_row, device_at}
 use Rattle.fuota_c.specs.contracts.device_handle.DeviceHandle as handle
@@ -38,13 +39,13 @@ Heap = heap.the_row
 abbrev pub Handle : RattleType
 Handle = handle.the_row
 
-abbrev pub nothing_held : Option HeldDevice
+abbrev pub nothing_held : Option (HeldDevice Cells)
 nothing_held = None
 
 abbrev al : Al
 al = record { row = Heap; laws = heap_laws.the_row_laws; g = ghosts; d = impl [] tnil dnil; drops = impl [] tnil dnil }
 
-abbrev pub boxed : Global → Ptr → HeldDevice → base.Fml.Fml
+abbrev pub boxed : Global → Ptr → HeldDevice Cells → base.Fml.Fml
 boxed a = box_owns (ghosts.dealloc_token a) device_row
 
 module _ {M : Type 1} {𝓤 : Ura M} {𝓛 : Logic 𝓤} {K : Type 0} {Γ : List (Item 𝓤)} {G : Goal 𝓤 𝓛.H} where
@@ -56,15 +57,15 @@ module _ {M : Type 1} {𝓤 : Ura M} {𝓛 : Logic 𝓤} {K : Type 0} {Γ : List
       k h (subst (λ (ws : List Val). vs ≡ vstruct (of_list (ptr_val d.at ∷ (ws ++ []))) ∷ []) ea
       (subst (λ (ps : List Val). vs ≡ vstruct (of_list (ps ++ (vss.1.0 ++ []))) ∷ []) ep ev)) fits))))
 
-  pub handle_in : K → (p : Ptr) (h : Val) (a : Global) (x : Option HeldDevice)
+  pub handle_in : K → (p : Ptr) (h : Val) (a : Global) (x : Option (HeldDevice Cells))
       → Step K 𝓛 (‵ (Handle.own_val (record { at = p; alloc = a; held = x }) (both (ptr_val p) h ∷ [])) ∷ Γ) G (‵ (device_at a p x) ∷ ‵ (Heap.own_val a (h ∷ [])) ∷ Γ) G
   handle_in t p h a x = step (λ s. let v : Val = both (ptr_val p) h in
       nothing t $ move t (2 ∷ 0 ∷ []) $ fjoin t $ feq_i t (List Val) (ptr_val p ∷ []) (ptr_val p ∷ []) refl $ fjoin t $ feq_i t (List Val) (v ∷ []) (v ∷ []) refl $ fjoin t $
       fpack t (Valss (RawPtr ∷ Heap ∷ [])) (within (shape handle.the_type) (to handle.the_type (record { at = p; alloc = a; held = x })) (v ∷ [])) (ptr_val p ∷ [], (h ∷ [], tt)) $ fjoin t $ s)
 
-  pub held_either : K → (a : Global) (p : Ptr) (x : Option HeldDevice)
+  pub held_either : K → (a : Global) (p : Ptr) (x : Option (HeldDevice Cells))
       → (x ≡ None → p ≡ null_ptr → Seq K 𝓛 Γ G)
-      → ((b o : ℕ) (s : HeldDevice) → x ≡ Some s → p ≡ block_ptr b o → Testable (block_ptr b o) → Seq K 𝓛 (‵ (boxed a (block_ptr b o) s) ∷ Γ) G)
+      → ((b o : ℕ) (s : HeldDevice Cells) → x ≡ Some s → p ≡ block_ptr b o → Testable (block_ptr b o) → Seq K 𝓛 (‵ (boxed a (block_ptr b o) s) ∷ Γ) G)
       → Seq K 𝓛 (‵ (device_at a p x) ∷ Γ) G
   held_either t a p None none one = feq_l t (λ e. none refl e)
   held_either t a p (Some s) none one =

@@ -17,8 +17,9 @@ use Rattle.device_core.specs.declared.uplink.Uplink.{Uplink}
 use Rattle.device_core.specs.SessionTable.{session_at}
 use Rattle.device_core.specs.Device.{DeviceState, max_moment, max_sessions}
 use Rattle.device_core.specs.Deliver.{Outcome, delivery, waking, taking}
+use Rattle.flash_session.specs.Flashes.{Cells}
 use Rattle.device_core.specs.HeldDevice.{HeldDevice, DeviceStands, Becomes, Makes, IsReserved}
-use Rattle.c_base.specs.Answer.{done, nothing, range, no_memory, refused, deaf, full}
+use Rattle.c_base.specs.Answer.{done, nothing, range, no_memory, no_object, refused, deaf, full}
 use Rattle.c_base.specs.Bytes.{IsPut, Copied}
 use Rattle.fuota_c.specs.declared.device.ConfigFields.{ConfigFields}
 use Rattle.fuota_c.specs.declared.device.ArrivalFields.{ArrivalFields}
@@ -49,10 +50,12 @@ config_of fields = record {
   sessions = fields.sessions;
   groups = fields.groups;
   area = fields.area;
+  held = false;
+  span = 0;
 }
 
 -- a device at its start; none where a number is out of its bounds, or memory was wanting
-abbrev pub IsNewDevice : DeviceConfig → Option HeldDevice → (answer : ℕ) → Type 0
+abbrev pub IsNewDevice : DeviceConfig → Option (HeldDevice Cells) → (answer : ℕ) → Type 0
 IsNewDevice config (Some x) answer = (answer ≡ done) × IsReserved config (Ok x)
 IsNewDevice config None answer =
     ((answer ≡ range) × IsReserved config (Err BadConfig)) ⊎ ((answer ≡ no_memory) × IsReserved config (Err Memory))
@@ -75,6 +78,9 @@ delivered_number delivered.Done = done
 delivered_number delivered.Deaf = deaf
 delivered_number (delivered.Refused refusal) = refused
 delivered_number (delivered.OutboxFull n) = full
+-- sessions that are in memory alone give neither
+delivered_number delivered.FlashFault = no_object
+delivered_number delivered.Down = no_object
 
 abbrev pub woken_number : Result (Unit {0}) OutboxFull → ℕ
 woken_number (Ok x) = done
@@ -85,7 +91,7 @@ abbrev pub as_number : {A : Type 0} → (A → ℕ) → Outcome A → Outcome �
 as_number number outcome = record { device = outcome.device; answer = number outcome.answer }
 
 -- a payload that a radio can bring, at a moment that a device knows, is delivered; any other changes nothing
-pub record DeliversOrNot (x y : HeldDevice) (port : ℕ) (payload : List ℕ) (arrival : ArrivalFields) (answer : ℕ)
+pub record DeliversOrNot (x y : HeldDevice Cells) (port : ℕ) (payload : List ℕ) (arrival : ArrivalFields) (answer : ℕ)
     : Type 0 where
   pub delivers : length payload ≤ max_payload → arrival.t ≤ max_moment → Makes ℕ x y answer (λ device.
       as_number delivered_number
@@ -93,7 +99,7 @@ pub record DeliversOrNot (x y : HeldDevice) (port : ℕ) (payload : List ℕ) (a
   pub long : max_payload < length payload → (answer ≡ range) × (y ≡ x)
   pub late : max_moment < arrival.t → (answer ≡ range) × (y ≡ x)
 
-pub record WakesOrNot (x y : HeldDevice) (t : ℕ) (answer : ℕ) : Type 0 where
+pub record WakesOrNot (x y : HeldDevice Cells) (t : ℕ) (answer : ℕ) : Type 0 where
   pub wakes : t ≤ max_moment → Makes ℕ x y answer (λ device. as_number woken_number (waking t device))
   pub late : max_moment < t → (answer ≡ range) × (y ≡ x)
 
@@ -111,19 +117,19 @@ IsOldestOut [] old new answer = (answer ≡ nothing) × (new ≡ old)
 IsOldestOut (uplink ∷ uplinks) old new answer = (answer ≡ done) × IsUplinkOut uplink old new
 
 -- the oldest uplink is taken and written, if one is held
-pub record TakesUplink (x y : HeldDevice) (old new : UplinkFields) (answer : ℕ) : Type 0 where
+pub record TakesUplink (x y : HeldDevice Cells) (old new : UplinkFields) (answer : ℕ) : Type 0 where
   pub taken : Becomes x y (λ device. (taking device).device)
   pub out : IsOldestOut x.outbox old new answer
 
 -- ---- what is shown
 
-pub record IsSessionShown (x : HeldDevice) (index : ℕ) (old new : ViewFields) (answer : ℕ) : Type 0 where
+pub record IsSessionShown (x : HeldDevice Cells) (index : ℕ) (old new : ViewFields) (answer : ℕ) : Type 0 where
   pub shown : index < max_sessions → (device : DeviceState) → DeviceStands x device
       → IsShown (view_of (session_at device.sessions index)) old new answer
   pub beyond : max_sessions ≤ index → (answer ≡ range) × (new ≡ old)
 
 -- a window of the whole file of a session
-pub record IsSessionFile (x : HeldDevice) (index offset : ℕ) (old new : List ℕ) (n : ℕ) : Type 0 where
+pub record IsSessionFile (x : HeldDevice Cells) (index offset : ℕ) (old new : List ℕ) (n : ℕ) : Type 0 where
   pub file : index < max_sessions → (device : DeviceState) → DeviceStands x device
       → Copied (file_or_none (view_of (session_at device.sessions index))) offset old new n
   pub beyond : max_sessions ≤ index → (n ≡ 0) × (new ≡ old)

@@ -5,6 +5,7 @@ use Rattle.std.specs.contracts.impls.GlobalAllocator.TheImpl.{ghosts}
 use Rattle.std.specs.Box.Ownership.{box_owns}
 use Rattle.frag_session.specs.Held.{HeldSlot}
 use Rattle.frag_session.specs.contracts.slots.Slot as slot
+use Rattle.flash_session.specs.Flashes.{Cells}
 use Rattle.device_core.specs.HeldDevice.{HeldDevice}
 use Rattle.device_core.specs.contracts.device.Device as device
 use base.Fml.{Fml, feq}
@@ -23,6 +24,6 @@ receiver_at a p (Some x) = box_owns (ghosts.dealloc_token a) receiver_row p x
 abbrev pub device_row : RattleType
 device_row = device.the_row
 
-abbrev pub device_at : Global → Ptr → Option HeldDevice → Fml
+abbrev pub device_at : Global → Ptr → Option (HeldDevice Cells) → Fml
 device_at a p None = feq Ptr p null_ptr
 device_at a p (Some x) = box_owns (ghosts.dealloc_token a) device_row p x

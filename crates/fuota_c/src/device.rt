@@ -13,6 +13,7 @@ use crate::shown::{ViewFields, file_in, show};
 use c_base::answer::{DEAF, DONE, FULL, NO_MEMORY, NO_OBJECT, NOTHING, RANGE, REFUSED};
 use c_base::{copy_part, put_whole};
 use device_core::{Class, Delivered, Device, DeviceConfig, OutboxFull, ReserveError, Uplink};
+use flash_session::CellFlash;
 use mc_keys::RootKind;
 use package_grammar::{Downlink, To};
 use std::alloc::Global;
@@ -88,10 +89,13 @@ pub extern "C" fn fuota_device_new(
     }
 }
 
-fn boxed(alloc: Global, config: DeviceConfig) -> Result<Box<Device>, ReserveError>
+fn boxed(alloc: Global, config: DeviceConfig) -> Result<Box<Device<CellFlash>>, ReserveError>
     ensures { IsReserved config (result_map_both (λ b. b.value) (λ e. e) result) }
 {
-    match Device::reserve(alloc, config) {
+    let Ok(flash) = CellFlash::reserve(alloc, 0) else {
+        return Err(ReserveError::Memory);
+    };
+    match Device::reserve(alloc, config, flash) {
         Err(error) => Err(error),
         Ok(device) => match Box::new(alloc, device) {
             Err(_) => Err(ReserveError::Memory),
@@ -125,6 +129,8 @@ fn config_of(fields: &ConfigFields) -> DeviceConfig
         sessions: fields.sessions,
         groups: fields.groups,
         area: fields.area,
+        held: false,
+        span: 0,
     }
 }
 
@@ -159,7 +165,7 @@ pub extern "C" fn fuota_device_deliver(
     }
 }
 
-fn deliver_or_not(device: &mut Device, port: u8, payload: &[u8], arrival: &ArrivalFields) -> u8
+fn deliver_or_not(device: &mut Device<CellFlash>, port: u8, payload: &[u8], arrival: &ArrivalFields) -> u8
     ensures { DeliversOrNot device.old device.new port payload.now arrival.now result }
 {
     if payload.len() > MAX_PAYLOAD || arrival.t > MAX_MOMENT {
@@ -196,6 +202,8 @@ fn delivered_number(delivered: Delivered) -> u8
         Delivered::Deaf => DEAF,
         Delivered::Refused(_) => REFUSED,
         Delivered::OutboxFull(_) => FULL,
+        // Sessions that are in memory alone give neither.
+        Delivered::FlashFault | Delivered::Down => NO_OBJECT,
     }
 }
 
@@ -216,7 +224,7 @@ pub extern "C" fn fuota_device_wake(handle: &mut DeviceHandle, alloc: Global, t:
     }
 }
 
-fn wake_or_not(device: &mut Device, t: u64) -> u8
+fn wake_or_not(device: &mut Device<CellFlash>, t: u64) -> u8
     ensures { WakesOrNot device.old device.new t result }
 {
     if t > MAX_MOMENT {
@@ -248,7 +256,7 @@ pub extern "C" fn fuota_device_take_uplink(
     }
 }
 
-fn take_uplink(device: &mut Device, out: &mut UplinkFields) -> u8
+fn take_uplink(device: &mut Device<CellFlash>, out: &mut UplinkFields) -> u8
     ensures { TakesUplink device.old device.new out.old out.new result }
 {
     match device.take_uplink() {
@@ -291,7 +299,7 @@ pub extern "C" fn fuota_device_view(
     }
 }
 
-fn show_session(device: &Device, index: u8, out: &mut ViewFields) -> u8
+fn show_session(device: &Device<CellFlash>, index: u8, out: &mut ViewFields) -> u8
     ensures { IsSessionShown device.now index out.old out.new result }
 {
     if index >= SESSIONS {
@@ -325,7 +333,7 @@ pub extern "C" fn fuota_device_file(
     }
 }
 
-fn copy_session(device: &Device, index: u8, offset: usize, into: &mut [u8]) -> usize
+fn copy_session(device: &Device<CellFlash>, index: u8, offset: usize, into: &mut [u8]) -> usize
     ensures { IsSessionFile device.now index offset into.old into.new result }
 {
     if index >= SESSIONS {
@@ -355,7 +363,7 @@ pub extern "C" fn fuota_device_running(
     }
 }
 
-fn running(device: &Device) -> u32
+fn running(device: &Device<CellFlash>) -> u32
     ensures { result ≡ device.now.slots.version }
 {
     let (version, _file) = device.slots().running();

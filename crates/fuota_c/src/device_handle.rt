@@ -1,10 +1,12 @@
 //! A device as C holds it.
 
 ghost use Rattle.std.specs.Prelude.{◌≡◌, Option, None, Some, option_map};
+ghost use Rattle.flash_session.specs.Flashes.{Cells};
 ghost use Rattle.device_core.specs.HeldDevice.{HeldDevice};
 
 use c_base::Loose;
 use device_core::Device;
+use flash_session::CellFlash;
 use std::alloc::Global;
 use std::marker::Model;
 use std::mem::replace;
@@ -15,7 +17,7 @@ use std::ptr::null_mut;
 pub struct DeviceHandle {
     at: *mut u8,
     alloc: Global,
-    ghost held: { Option HeldDevice },
+    ghost held: { Option (HeldDevice Cells) },
 }
 
 impl Model for DeviceHandle {
@@ -43,14 +45,14 @@ impl DeviceHandle {
     }
 
     /// The handle of a device.
-    pub fn of(device: Box<Device>) -> DeviceHandle
+    pub fn of(device: Box<Device<CellFlash>>) -> DeviceHandle
         ensures { result.held ≡ Some device.value }
     {
         DeviceHandle::of_loose(Loose::of(device))
     }
 
     /// The device, if there is one, of which the handle then has none.
-    pub fn take(&mut self, alloc: Global) -> Option<Box<Device>>
+    pub fn take(&mut self, alloc: Global) -> Option<Box<Device<CellFlash>>>
         ensures value { option_map (λ b. b.value) result ≡ self.old.held }
         ensures none { self.new.held ≡ None }
     {
@@ -58,7 +60,7 @@ impl DeviceHandle {
     }
 
     /// The device, if there is one.
-    pub fn into_box(self) -> Option<Box<Device>>
+    pub fn into_box(self) -> Option<Box<Device<CellFlash>>>
         ensures { option_map (λ b. b.value) result ≡ self.held }
     {
         match self.into_loose() {
@@ -67,7 +69,7 @@ impl DeviceHandle {
         }
     }
 
-    fn of_loose(device: Loose<Device, Global>) -> DeviceHandle
+    fn of_loose(device: Loose<Device<CellFlash>, Global>) -> DeviceHandle
         ensures { result.held ≡ Some device.value }
     {
         let Loose { at, alloc } = device;
@@ -77,7 +79,7 @@ impl DeviceHandle {
         }
     }
 
-    fn into_loose(self) -> Option<Loose<Device, Global>>
+    fn into_loose(self) -> Option<Loose<Device<CellFlash>, Global>>
         ensures { option_map (λ l. l.value) result ≡ self.held }
     {
         let DeviceHandle { at, alloc } = self;
@@ -85,7 +87,7 @@ impl DeviceHandle {
             None
         } else {
             Some(Loose {
-                at: at as *mut Device,
+                at: at as *mut Device<CellFlash>,
                 alloc,
             })
         }

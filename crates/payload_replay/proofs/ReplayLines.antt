@@ -3,6 +3,7 @@ use Rattle.std.proofs.Common.{◌≡◌, ℕ, ◌+◌, List, Option, Some, None,
 use Rattle.std.specs.Global.{Global}
 use Rattle.std.specs.declared.vec.Vec.{Vec}
 use Rattle.device_core.specs.Device.{DeviceState}
+use Rattle.flash_session.specs.Flashes.{Cells}
 use Rattle.device_core.specs.HeldDevice.{HeldDevice, DeviceStands, Becomes}
 use Rattle.script_lines.specs.Lines.{lines_of}
 use Rattle.report_lines.specs.declared.faults.LineWhy.TheVariants as why
@@ -42,19 +43,19 @@ replay_always file =
 -- ---- a replay hears a line
 
 -- the header
-pub replayed_begun : (old : HeldHeaded HeldDevice) (line : List ℕ) (held : HeldDevice) → old.kept ≡ None → old.state ≡ None
+pub replayed_begun : (old : HeldHeaded (HeldDevice Cells)) (line : List ℕ) (held : HeldDevice Cells) → old.kept ≡ None → old.state ≡ None
     → IsBegun (codes "replay") (λ rows. replay_device rows) DeviceStands line (Ok held)
     → HearsReplayed old line (record old { lines = 1; state = Some held })
 replayed_begun = headed_begun (codes "replay") payload_of Hears (λ rows. replay_device rows) DeviceStands
 
 -- a header that is refused, or there is no memory
-pub replayed_unbegun : (old : HeldHeaded HeldDevice) (line : List ℕ) (e : LineError) → old.kept ≡ None → old.state ≡ None
+pub replayed_unbegun : (old : HeldHeaded (HeldDevice Cells)) (line : List ℕ) (e : LineError) → old.kept ≡ None → old.state ≡ None
     → IsBegun (codes "replay") (λ rows. replay_device rows) DeviceStands line (Err e)
     → HearsReplayed old line (record old { kept = Some e })
 replayed_unbegun = headed_unbegun (codes "replay") payload_of Hears (λ rows. replay_device rows) DeviceStands
 
 -- a line whose payload the device hears
-pub replayed_heard : (old : HeldHeaded HeldDevice) (before after : HeldDevice) (line payload : List ℕ) → old.kept ≡ None
+pub replayed_heard : (old : HeldHeaded (HeldDevice Cells)) (before after : HeldDevice Cells) (line payload : List ℕ) → old.kept ≡ None
     → old.state ≡ Some before → payload_of old.lines line ≡ Ok payload
     → Becomes before after (λ device. after_payload (old.lines + 1) payload device)
     → HearsReplayed old line (record old { lines = old.lines + 1; state = Some after })
@@ -63,20 +64,20 @@ replayed_heard old before after line payload none some is becomes =
     none some is (λ device stands. (after_payload (old.lines + 1) payload device, refl, becomes device stands))
 
 -- one that is refused, or there is no memory
-pub replayed_refused : (old : HeldHeaded HeldDevice) (before : HeldDevice) (after : Option HeldDevice) (line : List ℕ) (e : LineError)
+pub replayed_refused : (old : HeldHeaded (HeldDevice Cells)) (before : HeldDevice Cells) (after : Option (HeldDevice Cells)) (line : List ℕ) (e : LineError)
     → old.kept ≡ None → old.state ≡ Some before → IsLineRefused payload_of old.lines line e
     → HearsReplayed old line (record old { state = after; kept = Some e })
 replayed_refused old before after line e =
     headed_refused (codes "replay") payload_of Hears (λ rows. replay_device rows) DeviceStands old before after line e payload_cut
 
 -- behind a refused line, or want of memory
-pub replayed_kept : (old : HeldHeaded HeldDevice) (line : List ℕ) (e : LineError) → old.kept ≡ Some e → HearsReplayed old line old
+pub replayed_kept : (old : HeldHeaded (HeldDevice Cells)) (line : List ℕ) (e : LineError) → old.kept ≡ Some e → HearsReplayed old line old
 replayed_kept = headed_kept (codes "replay") payload_of Hears (λ rows. replay_device rows) DeviceStands
 
 -- ---- what it tells behind all lines
 
 -- the text of the device behind them
-pub replayed_text : (held : HeldHeaded HeldDevice) (device : HeldDevice) (file : List ℕ) (r : Result (Vec ℕ Global) LineError)
+pub replayed_text : (held : HeldHeaded (HeldDevice Cells)) (device : HeldDevice Cells) (file : List ℕ) (r : Result (Vec ℕ Global) LineError)
     → held.kept ≡ None → held.state ≡ Some device
     → ((d : DeviceState) → DeviceStands device d → IfOk r (λ text. text.items ≡ replay_text d)) → IfErr r (λ e. e ≡ error.Memory)
     → ReplayingStands held (lines_of file) → IsFileText Replays file (seen_text r)
@@ -91,7 +92,7 @@ replayed_text held device file (Err e) none some text_is memory stands =
     subst (λ (x : LineError). IsFileText Replays file (Err x)) (sym memory) tt
 
 -- there was no line
-pub replayed_nothing : (held : HeldHeaded HeldDevice) (file : List ℕ) → held.kept ≡ None → held.state ≡ None
+pub replayed_nothing : (held : HeldHeaded (HeldDevice Cells)) (file : List ℕ) → held.kept ≡ None → held.state ≡ None
     → ReplayingStands held (lines_of file) → IsFileText Replays file (Err (error.Line (record { line = 1; why = why.Syntax })))
 unfolding Replays
 replayed_nothing held file none nothing stands = (
@@ -101,7 +102,7 @@ replayed_nothing held file none nothing stands = (
 )
 
 -- a line was refused, or memory was wanting
-pub replayed_error : (held : HeldHeaded HeldDevice) (file : List ℕ) (e : LineError) → held.kept ≡ Some e
+pub replayed_error : (held : HeldHeaded (HeldDevice Cells)) (file : List ℕ) (e : LineError) → held.kept ≡ Some e
     → ReplayingStands held (lines_of file) → IsFileText Replays file (Err e)
 unfolding Replays
 replayed_error held file (error.Line fault) kept stands =

@@ -1,5 +1,6 @@
 -- What a capture holds that is heard line by line, and behind which lines it stands.
 use Rattle.std.specs.Prelude.{◌≡◌, ℕ, List, ◌++◌, codes}
+use Rattle.flash_session.specs.Flashes.{Cells}
 use Rattle.device_core.specs.HeldDevice.{HeldDevice, DeviceStands}
 use Rattle.report_lines.specs.Behind.{GoesBehind}
 use Rattle.payload_replay.specs.HeldHeaded.{HeldHeaded, HeadedStands}
@@ -8,7 +9,7 @@ use Rattle.payload_replay.specs.Capture.{Caught, CatchesAll}
 -- the text so far, its first line included, and the device
 pub record HeldCaught : Type 0 where
   pub text : List ℕ
-  pub device : HeldDevice
+  pub device : HeldDevice Cells
 
 -- it stands for what was caught
 pub record CaughtStands (held : HeldCaught) (all : Caught) : Type 0 where

@@ -17,6 +17,7 @@ use crate::payload_lines::is_beyond;
 use capture_read::{Entry, EntryError, EntryFault, entry};
 use cast_wire::FRAGMENT_PORT;
 use device_core::Device;
+use flash_session::CellFlash;
 use report_lines::{LineError, LineWhy, refused_behind};
 use script_lines::HearsLine;
 use std::alloc::{AllocError, Global};
@@ -46,7 +47,7 @@ pub struct Capturing {
 #[derive(Drop)]
 struct Catch {
     text: Vec<u8>,
-    device: Device,
+    device: Device<CellFlash>,
 }
 
 impl Model for Catch {
@@ -267,7 +268,7 @@ fn direction_word(dir: Direction) -> &'static str
 
 /// The device hears an entry that is for it, and stays as it is at another.
 #[tactic(auto, unfolding(crate::specs::Capture::after_entry))]
-fn hear_entry(device: &mut Device, item: &Entry, mark: u64)
+fn hear_entry(device: &mut Device<CellFlash>, item: &Entry, mark: u64)
     ensures { Becomes device.old device.new (λ before. after_entry mark item.now before) }
 {
     if is_heard(item) {

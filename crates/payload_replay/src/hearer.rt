@@ -11,6 +11,7 @@ ghost use Rattle.payload_replay.specs.HeldHeaded.{IsBegun};
 
 use cast_wire::FRAGMENT_PORT;
 use device_core::{Class, Device, DeviceConfig, MAX_AREA, MAX_ROWS};
+use flash_session::CellFlash;
 use mc_keys::RootKind;
 use package_grammar::{Downlink, To};
 use report_lines::{
@@ -21,20 +22,24 @@ use std::alloc::{AllocError, Global};
 use wire_base::Payload;
 
 /// The device that a header asks for, which begins with this keyword.
-pub fn begin(alloc: Global, keyword: &str, header: &[u8]) -> Result<Device, LineError>
+pub fn begin(alloc: Global, keyword: &str, header: &[u8]) -> Result<Device<CellFlash>, LineError>
     ensures { IsBegun keyword.now (λ rows. replay_device rows) DeviceStands header.now result }
 {
     let rows = match read_header(keyword, header) {
         Ok(rows) => rows,
         Err(why) => return Err(refused_behind(0, why)),
     };
-    match Device::reserve(alloc, config(rows)) {
+    let Ok(flash) = CellFlash::reserve(alloc, 0) else {
+        return Err(LineError::Memory);
+    };
+    match Device::reserve(alloc, config(rows), flash) {
         Ok(device) => Ok(device),
         Err(_) => Err(LineError::Memory),
     }
 }
 
-/// The configuration of the device: class C, hardware version 0, a clock that is right, and so many rows.
+/// The configuration of the device: class C, hardware version 0, a clock that is right, and so many rows. Its sessions are in
+/// memory alone.
 fn config(rows: u16) -> DeviceConfig
     ensures { result ≡ (replay_device rows).config }
 {
@@ -50,6 +55,8 @@ fn config(rows: u16) -> DeviceConfig
         sessions: 4,
         groups: 4,
         area: MAX_AREA,
+        held: false,
+        span: 0,
     }
 }
 
@@ -79,7 +86,7 @@ fn rows_by(rows: Option<u64>) -> Result<u16, LineWhy>
 
 /// The device hears a payload at moment 0, and its uplinks are thrown away.
 #[inline(always)]
-pub fn hear(device: &mut Device, payload: &[u8], mark: u64)
+pub fn hear(device: &mut Device<CellFlash>, payload: &[u8], mark: u64)
     requires { length payload.now ≤ max_payload }
     ensures { Becomes device.old device.new (λ before. after_payload mark payload.now before) }
 {
@@ -95,14 +102,14 @@ pub fn hear(device: &mut Device, payload: &[u8], mark: u64)
 }
 
 /// Takes all uplinks of the device, which go nowhere.
-fn throw_away(device: &mut Device)
+fn throw_away(device: &mut Device<CellFlash>)
     ensures { Becomes device.old device.new (λ before. record before { outbox = [] }) }
 {
     while let Some(_uplink) = device.take_uplink() {}
 }
 
 /// What is told of the device: from the counts on, to the last line.
-pub fn closing_text(alloc: Global, device: &Device) -> Result<String, AllocError>
+pub fn closing_text(alloc: Global, device: &Device<CellFlash>) -> Result<String, AllocError>
     ensures { (d : DeviceState) → DeviceStands device.now d
         → IsText result (closing_text d) }
 {

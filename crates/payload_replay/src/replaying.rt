@@ -13,6 +13,7 @@ ghost use Rattle.payload_replay.specs.HeldReplaying.{ReplayingStands, HearsRepla
 use crate::hearer::{begin, closing_text, hear};
 use crate::payload_lines::read_payload;
 use device_core::Device;
+use flash_session::CellFlash;
 use report_lines::{LineError, LineWhy, refused_behind};
 use script_lines::{HearsLine, MAX_HEX_BYTES};
 use std::alloc::{AllocError, Global};
@@ -29,7 +30,7 @@ use std::marker::Model;
 pub struct Replaying {
     alloc: Global,
     lines: u32,
-    device: Option<Device>,
+    device: Option<Device<CellFlash>>,
     kept: Option<LineError>,
     /// Room for the bytes of a line, kept so that no line clears it.
     room: [u8; MAX_HEX_BYTES],
@@ -38,9 +39,10 @@ pub struct Replaying {
 impl Model for Replaying {
     ghost use Rattle.std.specs.Prelude.{◌≤◌};
     ghost use Rattle.device_core.specs.HeldDevice.{HeldDevice};
+    ghost use Rattle.flash_session.specs.Flashes.{Cells};
     ghost use Rattle.payload_replay.specs.HeldHeaded.{HeldHeaded};
 
-    ghost Value = { HeldHeaded HeldDevice };
+    ghost Value = { HeldHeaded (HeldDevice Cells) };
 
     ghost view = { λ r. record { lines = r.lines; state = r.device; kept = r.kept } };
 
@@ -137,7 +139,7 @@ impl Replaying {
 
 /// The device hears the payload of a line that comes after so many; or the line is refused.
 fn hear_line(
-    device: &mut Device,
+    device: &mut Device<CellFlash>,
     lines: u32,
     line: &[u8],
     room: &mut [u8; MAX_HEX_BYTES],
@@ -158,7 +160,7 @@ fn hear_line(
 }
 
 /// The text over the device.
-fn told(alloc: Global, device: &Device) -> Result<Vec<u8>, LineError>
+fn told(alloc: Global, device: &Device<CellFlash>) -> Result<Vec<u8>, LineError>
     ensures text { (d : DeviceState) → DeviceStands device.now d
         → IfOk result (λ text. text.items ≡ replay_text d) }
     ensures memory { IfErr result (λ e. e ≡ LineError.Memory) }
@@ -169,7 +171,7 @@ fn told(alloc: Global, device: &Device) -> Result<Vec<u8>, LineError>
     }
 }
 
-fn text_of(alloc: Global, device: &Device) -> Result<String, AllocError>
+fn text_of(alloc: Global, device: &Device<CellFlash>) -> Result<String, AllocError>
     ensures { (d : DeviceState) → DeviceStands device.now d
         → IsText result (replay_text d) }
 {

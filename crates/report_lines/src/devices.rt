@@ -9,16 +9,17 @@ ghost use Rattle.report_lines.specs.Devices.{◌⧺◌, request_word, stage_text
 
 use campaign_server::{Request, Stage};
 use device_core::{Counts, Device};
+use flash_session::Flash;
 use image_slots::ImageState;
 use std::alloc::{AllocError, Global};
 
 /// Where a device stands: its name in the report (the ID), its stage, its clock's offset in s, the token of its next
 /// request for the time, the version that it runs and what it runs next.
-pub fn device_line(
+pub fn device_line<F: Flash + Drop>(
     alloc: Global,
     name: &str,
     stage: Stage,
-    device: &Device,
+    device: &Device<F>,
 ) -> Result<String, AllocError>
     ensures { (d : DeviceState) → DeviceStands device.now d
         → IsText result (device_line name.now stage d) }

@@ -12,6 +12,7 @@ ghost use Rattle.report_lines.specs.Sessions.{same_word, file_line, verdict_text
 ghost use Rattle.report_lines.specs.HeldTail.{tail_of};
 
 use device_core::Device;
+use flash_session::Flash;
 use frag_session::{Verdict, View};
 use std::alloc::{AllocError, Global};
 
@@ -26,7 +27,11 @@ pub enum Tail<'a> {
 
 /// The lines of the sessions that a device has, in the order of their indexes: fragments received and missing, and the
 /// verdict with the mark of the fragment that decided it.
-pub fn session_lines(alloc: Global, device: &Device, tail: Tail) -> Result<String, AllocError>
+pub fn session_lines<F: Flash + Drop>(
+    alloc: Global,
+    device: &Device<F>,
+    tail: Tail,
+) -> Result<String, AllocError>
     ensures { (d : DeviceState) → DeviceStands device.now d
         → IsText result (session_lines (tail_of tail.entry) d.sessions) }
 {
@@ -56,7 +61,12 @@ fn four_texts(
 }
 
 /// The line of a session, if there is one.
-fn session_line(alloc: Global, device: &Device, index: u8, tail: Tail) -> Result<String, AllocError>
+fn session_line<F: Flash + Drop>(
+    alloc: Global,
+    device: &Device<F>,
+    index: u8,
+    tail: Tail,
+) -> Result<String, AllocError>
     requires { index < 4 }
     ensures { (d : DeviceState) → DeviceStands device.now d
         → IsText result

@@ -5,6 +5,7 @@ use campaign_server::{
     ServerError, Stage,
 };
 use device_core::{Aired, Class, Delivered, Device, DeviceConfig, MAX_AREA};
+use flash_session::CellFlash;
 use image_slots::is_image;
 use mc_keys::RootKind;
 use package_grammar::{Downlink, To};
@@ -53,6 +54,8 @@ const CONFIG: DeviceConfig = DeviceConfig {
     sessions: 4,
     groups: 4,
     area: MAX_AREA,
+    held: false,
+    span: 0,
 };
 
 const WINDOW: PlanWindow = PlanWindow {
@@ -538,7 +541,8 @@ fn a_group_is_asked_and_sent_to_in_bytes(rt: HostRuntime) -> Result<(), Fail> {
 #[test]
 fn frames_reach_a_device_with_the_group(rt: HostRuntime) -> Result<(), Fail> {
     let mut campaign = OneDevice::begin(&rt, rt.alloc(), 13, 4, Some(GROUP), Some(WINDOW))?;
-    let mut device = Device::reserve(rt.alloc(), CONFIG).expect(&rt, "no device");
+    let flash = CellFlash::reserve(rt.alloc(), 0).expect(&rt, "no flash");
+    let mut device = Device::reserve(rt.alloc(), CONFIG, flash).expect(&rt, "no device");
     for _ in 0..4 {
         let down = campaign.server.ask(1).expect(&rt, "nothing asked");
         assert!(rt; !campaign.server.has_frame(&down));

@@ -16,7 +16,7 @@ use Rattle.flash_session.specs.Replayed.{place_in, IsPlaceOf}
 use Rattle.flash_session.specs.Sessions.{stored_of, LiesForAs, IsHeldAs}
 use Rattle.flash_session.proofs.Apart.{other_held, other_moments, both_moments}
 use Rattle.flash_session.proofs.Moments.{weaker}
-use Rattle.flash_session.proofs.Openable.{openable_same}
+use Rattle.flash_session.proofs.Openable.{openable_same, lies_for}
 use Rattle.flash_session.proofs.StillHeld.{same_back, lies_for_same, still_held}
 use Rattle.session_store.specs.declared.held_slots.Layout.{Layout}
 use Rattle.session_store.specs.declared.held_slots.Others.{Others}
@@ -329,4 +329,44 @@ held_stands h t holds left held = record {
   second = record { stands = held.second.stands; counted = held.second.counted };
   third = record { stands = held.third.stands; counted = held.third.counted };
   fourth = record { stands = held.fourth.stands; counted = held.fourth.counted };
+}
+
+-- ---- what lies there for those that are held
+
+lies_read : (h : HeldSession) (o : Option Session) (holds left : List ℕ → Type 0) → IsHeldAs h o holds left → (b : List ℕ) → holds b → LiesForAs h o b
+lies_read h None holds left held b now = held.stored.read b now
+lies_read h (Some s) holds left held b now = record {
+  openable = held.stands.openable;
+  body = held.body;
+  tallies = h.tallies;
+  its_body = held.its_body;
+  counted = held.counted;
+  lies = held.stored.read b now;
+}
+
+-- what a read gives
+pub held_read : (h : HeldPlaces) (t : SessionTable) (holds left : List ℕ → Type 0) → ArePlaces h → AreHeld h t holds left → (b : List ℕ) → holds b → TableLies h.layout t b
+held_read h t holds left are held b now = table_placed h h.layout t b (λ i. h.layout) are (record {
+  first = lies_read h.first t.first holds left held.first b now;
+  second = lies_read h.second t.second holds left held.second b now;
+  third = lies_read h.third t.third holds left held.third b now;
+  fourth = lies_read h.fourth t.fourth holds left held.fourth b now;
+})
+
+-- what a stop leaves between two calls
+pub held_left : (h : HeldPlaces) (t : SessionTable) (holds left : List ℕ → Type 0) → ArePlaces h → AreHeld h t holds left → (c : List ℕ) → left c → TableLies h.layout t c
+held_left h t holds left are held c now = table_placed h h.layout t c (λ i. h.layout) are (record {
+  first = lies_for h.first t.first holds left (omega (arith, are.first.span_is, are.long)) held.first c now;
+  second = lies_for h.second t.second holds left (omega (arith, are.second.span_is, are.long)) held.second c now;
+  third = lies_for h.third t.third holds left (omega (arith, are.third.span_is, are.long)) held.third c now;
+  fourth = lies_for h.fourth t.fourth holds left (omega (arith, are.fourth.span_is, are.long)) held.fourth c now;
+})
+
+-- what lay there lies there still, where nothing was written
+pub lies_still : (l : Layout) (t : SessionTable) (b c : List ℕ) → Same b c → TableLies l t b → TableLies l t c
+lies_still l t b c same lies = record {
+  first = lies_for_same (place_at l 0) t.first b c same lies.first;
+  second = lies_for_same (place_at l l.span) t.second b c same lies.second;
+  third = lies_for_same (place_at l (2 * l.span)) t.third b c same lies.third;
+  fourth = lies_for_same (place_at l (3 * l.span)) t.fourth b c same lies.fourth;
 }

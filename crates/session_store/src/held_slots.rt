@@ -348,6 +348,22 @@ impl HeldSlots {
         }
     }
 
+    /// What a stop between two calls leaves opens for the sessions that are held, and so does what a read gives.
+    pub fn lie<F: Flash>(&self, flash: &F)
+        ensures left { (table : SessionTable)
+            → AreHeld self.now table (F.holds flash.now)
+            (F.left_since flash.now (F.moment flash.now))
+            → (c : List ℕ) → F.left_since flash.now (F.moment flash.now) c
+            → TableLies self.now.layout table c }
+        ensures read { (table : SessionTable)
+            → AreHeld self.now table (F.holds flash.now)
+            (F.left_since flash.now (F.moment flash.now))
+            → (b : List ℕ) → F.holds flash.now b → TableLies self.now.layout table b }
+    {
+        let _layout = &self.layout;
+        let _flash = flash;
+    }
+
     /// Gives the memory back, for another opening. No flash is called.
     pub fn close(self) -> Idles
         ensures { AreIdle self.layout.area result }

@@ -5,8 +5,8 @@ ghost use Rattle.frag_session.specs.Setup.{setup_bits};
 ghost use Rattle.frag_session.specs.Session.{answer_of, drop_cause, news_in, status_of, view_of};
 ghost use Rattle.frag_session.specs.HeldView.{seen};
 ghost use Rattle.flash_session.specs.Body.{FieldsFit};
-ghost use Rattle.flash_session.specs.Contents.{HasRisen, HasCause};
-ghost use Rattle.flash_session.specs.Moments.{LeavesOnly};
+ghost use Rattle.flash_session.specs.Contents.{Same, Follows, HasRisen, HasCause};
+ghost use Rattle.flash_session.specs.Moments.{Elapses, LeavesOnly};
 ghost use Rattle.session_store.specs.SessionTable.{SessionTable, no_sessions, session_at, with_session, table_after_setup, table_after_fragment};
 ghost use Rattle.session_store.specs.HeldPlaces.{AreIdle, PlacesStand, TableLies};
 ghost use Rattle.session_store.specs.HeldStore.{IsUp, IsDown, IsInFlash, StateFits, StateStands, StateIsStored, StateIsHeld, HasRanges, IsLaidOut, store_room};
@@ -103,10 +103,19 @@ impl<F: Flash + Drop> SessionStore<F> {
     pub fn is_down(&self) -> bool
         ensures down { result ≡ true → IsDown self.now.state }
         ensures up { result ≡ false → IsUp self.now.state }
+        // What a stop between two calls leaves opens for the sessions that are held in flash.
+        ensures between { (table : SessionTable)
+            → StateIsHeld self.now.state table (F.holds self.now.flash)
+            (F.left_since self.now.flash (F.moment self.now.flash))
+            → (c : List ℕ) → F.left_since self.now.flash (F.moment self.now.flash) c
+            → TableLies self.now.layout table c }
     {
         match &self.state {
             Some(State::Memory(_)) => false,
-            Some(State::Flash(_)) => false,
+            Some(State::Flash(slots)) => {
+                slots.lie(&self.flash);
+                false
+            }
             _ => true,
         }
     }
@@ -162,6 +171,7 @@ impl<F: Flash + Drop> SessionStore<F> {
             (F.moment self.old.flash) (F.moment self.new.flash) (F.left_since self.old.flash)
             (F.left_since self.new.flash) }
         ensures up { OnOk result (IsUp self.new.state) }
+        ensures in_flash { IsInFlash self.old.state → OnOk result (IsInFlash self.new.state) }
         ensures down { (table : SessionTable) → StateStands self.old.state table
             → OnErr result ((idles : _) × (self.new.state ≡ Down idles (whole_of table))) }
         ensures laid { IsLaidOut self.old self.new }
@@ -233,6 +243,7 @@ impl<F: Flash + Drop> SessionStore<F> {
             (F.moment self.old.flash) (F.moment self.new.flash) (F.left_since self.old.flash)
             (F.left_since self.new.flash) }
         ensures up { OnOk result (IsUp self.new.state) }
+        ensures in_flash { IsInFlash self.old.state → OnOk result (IsInFlash self.new.state) }
         ensures down { (table : SessionTable) → StateStands self.old.state table
             → OnErr result ((idles : _) × (self.new.state ≡ Down idles (whole_of table))) }
         ensures laid { IsLaidOut self.old self.new }
@@ -290,6 +301,7 @@ impl<F: Flash + Drop> SessionStore<F> {
             (F.moment self.old.flash) (F.moment self.new.flash) (F.left_since self.old.flash)
             (F.left_since self.new.flash) }
         ensures up { OnOk result (IsUp self.new.state) }
+        ensures in_flash { IsInFlash self.old.state → OnOk result (IsInFlash self.new.state) }
         ensures down { (table : SessionTable) → StateStands self.old.state table
             → OnErr result ((idles : _) × (self.new.state ≡ Down idles (whole_of table))) }
         ensures laid { IsLaidOut self.old self.new }
@@ -368,7 +380,16 @@ impl<F: Flash + Drop> SessionStore<F> {
             → IfOk result (λ w. w ≡ whole_of table) }
         ensures was { (idles : _) (w : Whole) → self.old.state ≡ Down idles w
             → IfOk result (λ now. now ≡ w) }
+        // What lay for the sessions that were held lies there still, so that power at them gives them again.
+        ensures again { (table : SessionTable)
+            → StateIsHeld self.old.state table (F.holds self.old.flash)
+            (F.left_since self.old.flash (F.moment self.old.flash))
+            → (b : List ℕ) → F.holds self.new.flash b → TableLies self.old.layout table b }
+        ensures held { Follows Same (F.holds self.old.flash) (F.holds self.new.flash) }
+        ensures stops { Elapses Same (F.moment self.old.flash) (F.moment self.new.flash)
+            (F.left_since self.old.flash) (F.left_since self.new.flash) }
         ensures up { OnOk result (IsUp self.new.state) }
+        ensures in_flash { OnOk result (IsInFlash self.new.state) }
         ensures down { OnErr result (IsDown self.new.state) }
         ensures laid { IsLaidOut self.old self.new }
         ensures size { F.room self.new.flash ≡ F.room self.old.flash }
@@ -378,7 +399,7 @@ impl<F: Flash + Drop> SessionStore<F> {
     {
         match self.state.take() {
             Some(state) => {
-                let (idles, whole) = put_down(state);
+                let (idles, whole) = put_down(state, &self.flash, self.layout);
                 match HeldSlots::open(&mut self.flash, idles, self.layout) {
                     Ok(slots) => {
                         self.state = Some(State::Flash(slots));
@@ -396,17 +417,22 @@ impl<F: Flash + Drop> SessionStore<F> {
 }
 
 /// The memory of sessions that are held in flash, and which had their file whole.
-fn put_down(state: State) -> (Idles, Whole)
-    requires { IsInFlash state }
-    ensures idle { (layout : _) (held : Bool) (room : ℕ) → StateFits layout held room state
-        → AreIdle layout.area result.0 }
+fn put_down<F: Flash>(state: State, flash: &F, layout: Layout) -> (Idles, Whole)
+    requires there { IsInFlash state }
+    requires fits { StateFits layout true (F.room flash.now) state }
+    ensures idle { AreIdle layout.area result.0 }
     ensures whole { (table : SessionTable) → StateStands state table
         → result.1 ≡ whole_of table }
     ensures was { (idles : _) (whole : _) → state ≡ Down idles whole → result.1 ≡ whole }
+    ensures lies { (table : SessionTable)
+        → StateIsHeld state table (F.holds flash.now)
+        (F.left_since flash.now (F.moment flash.now))
+        → (b : List ℕ) → F.holds flash.now b → TableLies layout table b }
 {
     match state {
         State::Memory(_) => unreachable!(),
         State::Flash(slots) => {
+            slots.lie(flash);
             let whole = whole_now(&slots);
             (slots.close(), whole)
         }

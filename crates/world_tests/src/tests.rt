@@ -1,5 +1,6 @@
 use campaign_world::{NoFile, World};
 use device_core::{Class, Delivered, Device, DeviceConfig, MAX_AREA};
+use flash_session::CellFlash;
 use image_slots::{ImageState, is_image};
 use mc_keys::RootKind;
 use package_grammar::{Downlink, To};
@@ -278,9 +279,12 @@ fn cut_commands_change_nothing(rt: HostRuntime) {
         sessions: 4,
         groups: 4,
         area: MAX_AREA,
+        held: false,
+        span: 0,
         formats: 2,
     };
-    let mut device = Device::reserve(rt.alloc(), config).expect(&rt, "no device");
+    let flash = CellFlash::reserve(rt.alloc(), 0).expect(&rt, "no flash");
+    let mut device = Device::reserve(rt.alloc(), config, flash).expect(&rt, "no device");
     let mut refused = 0u64;
     for (port, command) in &COMMANDS {
         let mut bytes = [0; 40];
@@ -302,7 +306,7 @@ fn cut_commands_change_nothing(rt: HostRuntime) {
     assert!(rt; device.clock() == (5, 0));
 }
 
-fn refuses(rt: &impl Abort, device: &mut Device, port: u8, bytes: &[u8], at: u16) {
+fn refuses(rt: &impl Abort, device: &mut Device<CellFlash>, port: u8, bytes: &[u8], at: u16) {
     assert!(rt; bytes.len() <= 242);
     let down = Downlink {
         to: To::Unicast,

@@ -160,6 +160,8 @@ impl Planning {
                     sessions: SESSIONS,
                     groups: GROUPS,
                     area: MAX_AREA,
+                    held: false,
+                    span: 0,
                 })
             }
             _ => Ok(()),
@@ -213,6 +215,7 @@ impl Planning {
     /// One device more.
     fn add_device(&mut self, config: DeviceConfig) -> Result<(), AllocError>
         requires fine { is_config config ≡ true }
+        requires memory { config.held ≡ false }
         requires planning { IsPlanningOf self.old }
         requires sized { IsSized self.old.image.items self.old.plan self.old.devices.items }
         requires windowed { IsWindowed self.old.plan }

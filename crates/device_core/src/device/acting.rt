@@ -1,48 +1,69 @@
 //! A command to its package, and the weights of a message.
 
-ghost use Rattle.std.specs.Prelude.{◌≡◌, ◌+◌, ◌<◌, ◌≤◌, length};
+ghost use Rattle.std.specs.Prelude.{◌≡◌, ◌+◌, ◌<◌, ◌≤◌, length, OnOk, OnErr};
 ghost use Rattle.package_grammar.specs.declared.command.Command.{Command};
 ghost use Rattle.package_grammar.specs.Grammar.{IsValid};
 ghost use Rattle.sync_wire.specs.declared.cmd.Cmd.TheVariants.{PackageVersionAns};
 ghost use Rattle.cast_wire.specs.declared.cmd.Cmd.TheVariants as cast;
-ghost use Rattle.device_core.specs.Answers.{one_answer};
+ghost use Rattle.device_core.specs.Answers.{one_answer, after_answers};
 ghost use Rattle.device_core.specs.Device.{max_moment};
 ghost use Rattle.device_core.specs.Step.{identifier_of, command_step, acts, step, weight, weights};
+ghost use Rattle.device_core.specs.Passed.{command_tables, step_tables};
+ghost use Rattle.device_core.specs.HeldSessions.{IsUp};
+ghost use Rattle.device_core.specs.HeldCalls.{Fails, Keeps};
 ghost use Rattle.device_core.specs.Sendable.{IsSendable, IsReceivable};
+ghost use Rattle.device_core.specs.Aside.{IsAside};
 
 use super::Device;
 use crate::arrival::Arrival;
 use crate::class_session::{ClassSession, Kind};
+use flash_session::Flash;
 use frag_session::{SetupReq, Via};
 use package_grammar::{Command, Message};
+use session_store::FlashFault;
 
-impl Device {
-    ghost use Rattle.device_core.specs.HeldDevice.{Steps};
+impl<F: Flash + Drop> Device<F> {
+    ghost use Rattle.device_core.specs.HeldDevice.{Steps, StepsAside};
 
     /// Acts on one command; by multicast only DataFragment and FragSessionStatusReq act (this project's profile).
-    #[tactic(auto, unfolding(crate::specs::Step::step, crate::specs::Answers::after_answers))]
-    pub(super) fn act(&mut self, here: Arrival, command: &Command)
+    #[tactic(auto, unfolding(crate::specs::Step::step, crate::specs::Answers::after_answers, crate::specs::Passed::step_tables))]
+    pub(super) fn act(&mut self, here: Arrival, command: &Command) -> Result<(), FlashFault>
+        requires up { IsUp self.old.sessions.state }
         requires moment { here.moment.t ≤ max_moment }
         requires command { IsReceivable here.port command.now }
         requires room { length self.old.outbox + weight command.now ≤ 8 }
-        ensures { Steps self.old self.new (weight command.now)
-            (λ device. step here device command.now) }
+        ensures steps { OnOk result
+            (Steps self.old self.new (weight command.now) (λ device. step here device command.now)) }
+        ensures fails { OnErr result (Fails self.old self.new) }
+        ensures keeps { Keeps F.holds F.left_since F.moment F.faults self.old self.new.sessions result
+            (λ device. after_answers (step here device command.now))
+            (λ device. step_tables here device command.now) }
     {
         if acts(here.via, command) {
-            self.act_on_one(here, command);
+            self.act_on_one(here, command)
+        } else {
+            Ok(())
         }
     }
 
     /// Acts on one command that came by unicast, or acts by multicast too.
-    fn act_on_one(&mut self, here: Arrival, command: &Command)
+    fn act_on_one(&mut self, here: Arrival, command: &Command) -> Result<(), FlashFault>
+        requires up { IsUp self.old.sessions.state }
         requires moment { here.moment.t ≤ max_moment }
         requires command { IsReceivable here.port command.now }
         requires room { length self.old.outbox + weight command.now ≤ 8 }
-        ensures { Steps self.old self.new (weight command.now)
-            (λ device. command_step here device command.now) }
+        ensures steps { OnOk result
+            (Steps self.old self.new (weight command.now) (λ device. command_step here device command.now)) }
+        ensures fails { OnErr result (Fails self.old self.new) }
+        ensures keeps { Keeps F.holds F.left_since F.moment F.faults self.old self.new.sessions result
+            (λ device. after_answers (command_step here device command.now))
+            (λ device. command_tables here device command.now) }
     {
         match command {
-            Command::Sync(cmd) => self.act_on_sync(here, cmd),
+            Command::Sync(cmd) => {
+                self.act_on_sync(here, cmd);
+                Ok(())
+            }
             Command::Cast(cmd) => self.act_on_cast(here, cmd),
         }
     }
@@ -52,7 +73,7 @@ impl Device {
     fn act_on_sync(&mut self, here: Arrival, cmd: &sync_wire::Cmd)
         requires command { IsReceivable here.port (Command.Sync cmd.now) }
         requires room { length self.old.outbox + weight (Command.Sync cmd.now) ≤ 8 }
-        ensures { Steps self.old self.new (weight (Command.Sync cmd.now))
+        ensures { StepsAside self.old self.new (weight (Command.Sync cmd.now))
             (λ device. command_step here device (Command.Sync cmd.now)) }
     {
         use sync_wire::Cmd;
@@ -71,18 +92,22 @@ impl Device {
     }
 
     /// TS004 and TS005.
-    #[tactic(auto, unfolding(crate::specs::Step::command_step, crate::specs::Answers::after_answers))]
-    fn act_on_cast(&mut self, here: Arrival, cmd: &cast_wire::Cmd)
+    #[tactic(auto, unfolding(crate::specs::Step::command_step, crate::specs::Answers::after_answers, crate::specs::Passed::command_tables))]
+    fn act_on_cast(&mut self, here: Arrival, cmd: &cast_wire::Cmd) -> Result<(), FlashFault>
+        requires up { IsUp self.old.sessions.state }
         requires moment { here.moment.t ≤ max_moment }
         requires command { IsReceivable here.port (Command.Cast cmd.now) }
         requires room { length self.old.outbox + weight (Command.Cast cmd.now) ≤ 8 }
-        ensures { Steps self.old self.new (weight (Command.Cast cmd.now))
-            (λ device. command_step here device (Command.Cast cmd.now)) }
+        ensures steps { OnOk result
+            (Steps self.old self.new (weight (Command.Cast cmd.now))
+            (λ device. command_step here device (Command.Cast cmd.now))) }
+        ensures fails { OnErr result (Fails self.old self.new) }
+        ensures keeps { Keeps F.holds F.left_since F.moment F.faults self.old self.new.sessions result
+            (λ device. after_answers (command_step here device (Command.Cast cmd.now)))
+            (λ device. command_tables here device (Command.Cast cmd.now)) }
     {
         use cast_wire::Cmd;
         match cmd {
-            Cmd::PackageVersionReq => self.cast_package(here),
-            Cmd::FragSessionStatusReq { index, all } => self.status(here, *index, *all),
             Cmd::FragSessionSetupReq {
                 index,
                 mask,
@@ -107,8 +132,31 @@ impl Device {
             ),
             Cmd::FragSessionDeleteReq { index } => self.delete(here, *index),
             Cmd::DataFragment { index, n, bytes } => {
-                self.fragment(here, *index, *n, bytes.as_slice());
+                self.fragment(here, *index, *n, bytes.as_slice())
             }
+            Cmd::FragSessionStatusReq { index, all } => {
+                self.status(here, *index, *all);
+                Ok(())
+            }
+            _ => {
+                self.act_aside(here, cmd);
+                Ok(())
+            }
+        }
+    }
+
+    /// Those of TS004 and TS005 that are of no session.
+    #[tactic(auto, unfolding(crate::specs::Step::command_step, crate::specs::Answers::after_answers))]
+    fn act_aside(&mut self, here: Arrival, cmd: &cast_wire::Cmd)
+        requires aside { IsAside cmd.now }
+        requires command { IsReceivable here.port (Command.Cast cmd.now) }
+        requires room { length self.old.outbox + weight (Command.Cast cmd.now) ≤ 8 }
+        ensures { StepsAside self.old self.new (weight (Command.Cast cmd.now))
+            (λ device. command_step here device (Command.Cast cmd.now)) }
+    {
+        use cast_wire::Cmd;
+        match cmd {
+            Cmd::PackageVersionReq => self.cast_package(here),
             Cmd::McGroupStatusReq { mask } => self.groups(here, *mask),
             Cmd::McGroupSetupReq {
                 id,
@@ -164,7 +212,7 @@ impl Device {
         requires port { IsSendable here.port
             (Command.Sync (PackageVersionAns (identifier_of here.port) 1)) }
         requires room { length self.old.outbox < 8 }
-        ensures { Steps self.old self.new 1
+        ensures { StepsAside self.old self.new 1
             (λ device. one_answer here device
             (Command.Sync (PackageVersionAns (identifier_of here.port) 1))) }
     {
@@ -183,7 +231,7 @@ impl Device {
         requires port { IsSendable here.port
             (Command.Cast (cast.PackageVersionAns (identifier_of here.port) 1)) }
         requires room { length self.old.outbox < 8 }
-        ensures { Steps self.old self.new 1
+        ensures { StepsAside self.old self.new 1
             (λ device. one_answer here device
             (Command.Cast (cast.PackageVersionAns (identifier_of here.port) 1))) }
     {

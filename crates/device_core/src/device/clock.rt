@@ -6,6 +6,7 @@ ghost use Rattle.sync_wire.specs.declared.cmd.Cmd.TheVariants.{DeviceAppTimePeri
 ghost use Rattle.clock_sync.specs.Clock.{after_answer};
 ghost use Rattle.device_core.specs.Clock.{time_request, periodicity_step, resync_step};
 ghost use Rattle.device_core.specs.Deliver.{time_asking};
+ghost use Rattle.device_core.specs.SessionTable.{SessionTable};
 ghost use Rattle.device_core.specs.Sendable.{IsSendable};
 
 use super::Device;
@@ -13,17 +14,20 @@ use crate::arrival::Arrival;
 use crate::delivered::OutboxFull;
 use crate::outbox::OUTBOX;
 use clock_sync::DeviceClock;
+use flash_session::Flash;
 use package_grammar::Command;
 use sync_wire::Cmd;
 
-impl Device {
+impl<F: Flash + Drop> Device<F> {
     ghost use Rattle.device_core.specs.declared.delivered.OutboxFull.{OutboxFull};
-    ghost use Rattle.device_core.specs.HeldDevice.{Makes, Steps};
+    ghost use Rattle.device_core.specs.HeldDevice.{device_of, GoesAside, StepsAside};
 
     /// AppTimeReq, where the outbox has room.
     #[tactic(auto, unfolding(crate::specs::Deliver::time_asking, crate::specs::Answers::after_answers))]
     pub(super) fn ask_time(&mut self, t: u64) -> Result<(), OutboxFull>
-        ensures { Makes (Result (Unit {0}) OutboxFull) self.old self.new result (time_asking t) }
+        ensures aside { GoesAside self.old self.new (λ device. (time_asking t device).device) }
+        ensures answer { (table : SessionTable)
+            → result ≡ (time_asking t (device_of self.old table)).answer }
     {
         if self.outbox.len() >= OUTBOX {
             return Err(OutboxFull);
@@ -46,7 +50,7 @@ impl Device {
     pub(super) fn periodicity(&mut self, here: Arrival)
         requires port { here.port ≡ 202 }
         requires room { length self.old.outbox < 8 }
-        ensures { Steps self.old self.new 1 (λ device. periodicity_step here device) }
+        ensures { StepsAside self.old self.new 1 (λ device. periodicity_step here device) }
     {
         let answer = periodicity_answer(self.clock.now(here.moment.t));
         self.send(here.moment.t, here.port, answer);
@@ -57,7 +61,7 @@ impl Device {
     pub(super) fn resync(&mut self, here: Arrival, count: u8)
         requires port { here.port ≡ 202 }
         requires room { length self.old.outbox + count ≤ 8 }
-        ensures { Steps self.old self.new count (λ device. resync_step here device count) }
+        ensures { StepsAside self.old self.new count (λ device. resync_step here device count) }
     {
         let request = self.clock.request(here.moment.t, false);
         'requests: for _ in 0..count {

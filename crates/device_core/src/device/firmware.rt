@@ -8,18 +8,19 @@ ghost use Rattle.device_core.specs.Sendable.{IsSendable};
 
 use super::Device;
 use crate::arrival::Arrival;
+use flash_session::Flash;
 use image_slots::ImageState;
 use package_grammar::Command;
 use sync_wire::Cmd;
 
-impl Device {
-    ghost use Rattle.device_core.specs.HeldDevice.{Becomes, Steps};
+impl<F: Flash + Drop> Device<F> {
+    ghost use Rattle.device_core.specs.HeldDevice.{Becomes, GoesAside, StepsAside};
 
     /// DevVersionReq.
     pub(super) fn version(&mut self, here: Arrival)
         requires port { here.port ≡ 203 }
         requires room { length self.old.outbox < 8 }
-        ensures { Steps self.old self.new 1 (λ device. version_step here device) }
+        ensures { StepsAside self.old self.new 1 (λ device. version_step here device) }
     {
         let answer = version_answer(self.slots.running().0, self.config.hw);
         self.send(here.moment.t, here.port, answer);
@@ -29,7 +30,7 @@ impl Device {
     pub(super) fn upgrade(&mut self, here: Arrival)
         requires port { here.port ≡ 203 }
         requires room { length self.old.outbox < 8 }
-        ensures { Steps self.old self.new 1 (λ device. upgrade_step here device) }
+        ensures { StepsAside self.old self.new 1 (λ device. upgrade_step here device) }
     {
         let answer = upgrade_answer(self.slots.next());
         self.send(here.moment.t, here.port, answer);
@@ -39,7 +40,7 @@ impl Device {
     pub(super) fn delete_image(&mut self, here: Arrival, version: u32)
         requires port { here.port ≡ 203 }
         requires room { length self.old.outbox < 8 }
-        ensures { Steps self.old self.new 1 (λ device. delete_image_step here device version) }
+        ensures { StepsAside self.old self.new 1 (λ device. delete_image_step here device version) }
     {
         let bits = self.slots.delete(version);
         self.send(here.moment.t, here.port, delete_answer(bits));
@@ -49,7 +50,7 @@ impl Device {
     pub(super) fn reboot_time(&mut self, here: Arrival, time: u32)
         requires port { here.port ≡ 203 }
         requires room { length self.old.outbox < 8 }
-        ensures { Steps self.old self.new 1 (λ device. reboot_time_step here device time) }
+        ensures { StepsAside self.old self.new 1 (λ device. reboot_time_step here device time) }
     {
         self.reboot = chosen_moment(time, u32::MAX, self.clock.now(here.moment.t), time);
         self.send(here.moment.t, here.port, time_answer(time));
@@ -60,7 +61,7 @@ impl Device {
         requires port { here.port ≡ 203 }
         requires fits { count < 2 ^ 24 }
         requires room { length self.old.outbox < 8 }
-        ensures { Steps self.old self.new 1 (λ device. countdown_step here device count) }
+        ensures { StepsAside self.old self.new 1 (λ device. countdown_step here device count) }
     {
         let now = self.clock.now(here.moment.t);
         self.reboot = chosen_moment(count, (1 << 24) - 1, now, now.wrapping_add(count));
@@ -70,7 +71,8 @@ impl Device {
     /// Carries out a reboot that is due.
     #[tactic(auto, unfolding(crate::specs::Firmware::after_due_reboot))]
     pub(super) fn reboot_where_due(&mut self, t: u64)
-        ensures { Becomes self.old self.new (after_due_reboot t) }
+        ensures becomes { Becomes self.old self.new (after_due_reboot t) }
+        ensures aside { GoesAside self.old self.new (after_due_reboot t) }
     {
         if is_due(self.clock.now(t), self.reboot) {
             self.reboot = None;

@@ -1,61 +1,85 @@
 //! Fragmented data blocks on the device (TS004-1.0.0).
 
-ghost use Rattle.std.specs.Prelude.{◌≡◌, ◌+◌, ◌%◌, ◌^◌, ◌<◌, ◌≤◌, length};
+ghost use Rattle.std.specs.Prelude.{◌≡◌, ◌+◌, ◌%◌, ◌^◌, ◌<◌, ◌≤◌, [], ◌∷◌, length, None, OnOk, OnErr};
 ghost use Rattle.package_grammar.specs.declared.command.Command.{Command};
 ghost use Rattle.cast_wire.specs.declared.cmd.Cmd.TheVariants.{FragSessionStatusAns, FragSessionDeleteAns};
 ghost use Rattle.cast_wire.specs.SetupRefusal.{setup_answer};
 ghost use Rattle.frag_session.specs.declared.setups.SetupReq.{SetupReq};
 ghost use Rattle.frag_session.specs.Session.{view_of};
-ghost use Rattle.device_core.specs.SessionTable.{SessionTable, session_at};
-ghost use Rattle.device_core.specs.Device.{max_moment, limits_of};
-ghost use Rattle.device_core.specs.HeldSessions.{SessionsStand};
+ghost use Rattle.flash_session.specs.Body.{FieldsFit};
+ghost use Rattle.device_core.specs.SessionTable.{SessionTable, session_at, with_session};
+ghost use Rattle.device_core.specs.Answers.{after_answers};
+ghost use Rattle.device_core.specs.Device.{max_moment};
+ghost use Rattle.device_core.specs.HeldSessions.{IsUp, StateStands};
+ghost use Rattle.device_core.specs.HeldCalls.{Fails, Keeps};
 ghost use Rattle.device_core.specs.Fragments.{setup_step, delete_step, answer_delay, status_step, is_complete, is_whole, whole_file, slots_after, fragment_step};
 ghost use Rattle.device_core.specs.Sendable.{IsSendable};
 
 use super::Device;
 use crate::arrival::Arrival;
-use crate::config::DeviceConfig;
 use cast_wire::{Cmd, setup_answer};
-use frag_session::{Heard, Limits, SetupReq, StatusAns, Verdict, Via};
+use flash_session::Flash;
+use frag_session::{Heard, SetupReq, StatusAns, Verdict, Via};
 use image_slots::Slots;
 use package_grammar::Command;
-use session_store::SessionSlots;
+use session_store::{FlashFault, SessionStore};
 
-impl Device {
+impl<F: Flash + Drop> Device<F> {
     ghost use Rattle.device_core.specs.HeldDevice.{Steps};
 
-    /// FragSessionSetupReq.
-    #[tactic(auto, unfolding(crate::specs::Fragments::setup_step, crate::specs::Answers::after_answers))]
-    pub(super) fn setup(&mut self, here: Arrival, req: SetupReq)
+    /// FragSessionSetupReq. Where the flash fails there is no answer.
+    pub(super) fn setup(&mut self, here: Arrival, req: SetupReq) -> Result<(), FlashFault>
+        requires up { IsUp self.old.sessions.state }
         requires port { here.port ≡ 201 }
-        requires index { req.index < 4 }
+        requires fields { FieldsFit req }
         requires room { length self.old.outbox < 8 }
-        ensures { Steps self.old self.new 1 (λ device. setup_step here device req) }
+        ensures steps { OnOk result (Steps self.old self.new 1 (λ device. setup_step here device req)) }
+        ensures fails { OnErr result (Fails self.old self.new) }
+        ensures keeps { Keeps F.holds F.left_since F.moment F.faults self.old self.new.sessions result
+            (λ device. after_answers (setup_step here device req))
+            (λ device. device.sessions ∷ with_session device.sessions req.index None
+            ∷ (setup_step here device req).device.sessions ∷ []) }
     {
-        let bits = self.sessions.setup(req, limits_of(&self.config));
-        self.send(here.moment.t, here.port, setup_refusal(req.index, bits));
+        match self.sessions.setup(req) {
+            Ok(bits) => {
+                self.send(here.moment.t, here.port, setup_refusal(req.index, bits));
+                Ok(())
+            }
+            Err(FlashFault) => Err(FlashFault),
+        }
     }
 
-    /// FragSessionDeleteReq.
-    #[tactic(auto, unfolding(crate::specs::Fragments::delete_step, crate::specs::Answers::after_answers))]
-    pub(super) fn delete(&mut self, here: Arrival, index: u8)
+    /// FragSessionDeleteReq. Where the flash fails there is no answer.
+    pub(super) fn delete(&mut self, here: Arrival, index: u8) -> Result<(), FlashFault>
+        requires up { IsUp self.old.sessions.state }
         requires port { here.port ≡ 201 }
         requires index { index < 4 }
         requires room { length self.old.outbox < 8 }
-        ensures { Steps self.old self.new 1 (λ device. delete_step here device index) }
+        ensures steps { OnOk result (Steps self.old self.new 1 (λ device. delete_step here device index)) }
+        ensures fails { OnErr result (Fails self.old self.new) }
+        ensures keeps { Keeps F.holds F.left_since F.moment F.faults self.old self.new.sessions result
+            (λ device. after_answers (delete_step here device index))
+            (λ device. device.sessions ∷ with_session device.sessions index None
+            ∷ (delete_step here device index).device.sessions ∷ []) }
     {
-        let lived = self.sessions.delete(index);
-        self.send(here.moment.t, here.port, delete_answer(index, !lived));
+        match self.sessions.delete(index) {
+            Ok(lived) => {
+                self.send(here.moment.t, here.port, delete_answer(index, !lived));
+                Ok(())
+            }
+            Err(FlashFault) => Err(FlashFault),
+        }
     }
 
-    /// FragSessionStatusReq.
+    /// FragSessionStatusReq. No flash is called.
     #[tactic(auto, unfolding(crate::specs::Fragments::status_step, crate::specs::Answers::after_answers))]
     pub(super) fn status(&mut self, here: Arrival, index: u8, all: bool)
         requires port { here.port ≡ 201 }
         requires moment { here.moment.t ≤ max_moment }
         requires index { index < 4 }
         requires room { length self.old.outbox < 8 }
-        ensures { Steps self.old self.new 1 (λ device. status_step here device index all) }
+        ensures steps { Steps self.old self.new 1 (λ device. status_step here device index all) }
+        ensures untouched { self.new.sessions ≡ self.old.sessions }
     {
         if let Some(status) = self.sessions.status(index, here.via, all) {
             let due = here.moment.t + answer_delay(here.via, here.moment.word, status.delay);
@@ -63,27 +87,41 @@ impl Device {
         }
     }
 
-    /// DataFragment.
-    pub(super) fn fragment(&mut self, here: Arrival, index: u8, n: u16, part: &[u8])
+    /// DataFragment. Where the flash fails nothing is offered or counted.
+    pub(super) fn fragment(
+        &mut self,
+        here: Arrival,
+        index: u8,
+        n: u16,
+        part: &[u8],
+    ) -> Result<(), FlashFault>
+        requires up { IsUp self.old.sessions.state }
         requires index { index < 4 }
-        ensures { Steps self.old self.new 0 (λ device. fragment_step here device index n part.now) }
+        ensures steps { OnOk result
+            (Steps self.old self.new 0 (λ device. fragment_step here device index n part.now)) }
+        ensures fails { OnErr result (Fails self.old self.new) }
+        ensures keeps { Keeps F.holds F.left_since F.moment F.faults self.old self.new.sessions result
+            (λ device. after_answers (fragment_step here device index n part.now))
+            (λ device. device.sessions
+            ∷ (fragment_step here device index n part.now).device.sessions ∷ []) }
     {
         let was_whole = is_whole(&self.sessions, index);
-        match self
+        let heard = self
             .sessions
-            .fragment(index, here.via, n, part, here.moment.mark)
-        {
+            .fragment(index, here.via, n, part, here.moment.mark)?;
+        match heard {
             Heard::Fed(_) => offer(&mut self.slots, &self.sessions, index, was_whole),
             Heard::Dropped(_) => self.count_dropped(),
         }
+        Ok(())
     }
 }
 
 /// Whether the file of a session is whole.
 #[tactic(auto, unfolding(frag_session::specs::HeldView::seen))]
-fn is_whole(sessions: &SessionSlots, index: u8) -> bool
+pub(super) fn is_whole<F: Flash + Drop>(sessions: &SessionStore<F>, index: u8) -> bool
     requires { index < 4 }
-    ensures { (table : SessionTable) → SessionsStand sessions.now table
+    ensures { (table : SessionTable) → StateStands sessions.now.state table
         → result ≡ is_whole (view_of (session_at table index)) }
 {
     match sessions.view(index) {
@@ -94,12 +132,17 @@ fn is_whole(sessions: &SessionSlots, index: u8) -> bool
 
 /// The file of a session that was not whole becomes next, if it is whole now.
 #[tactic(auto, unfolding(frag_session::specs::HeldView::seen))]
-fn offer(slots: &mut Slots, sessions: &SessionSlots, index: u8, was_whole: bool)
+pub(super) fn offer<F: Flash + Drop>(
+    slots: &mut Slots,
+    sessions: &SessionStore<F>,
+    index: u8,
+    was_whole: bool,
+)
     requires index { index < 4 }
-    requires area { sessions.now.area ≤ slots.old.area }
+    requires area { sessions.now.layout.area ≤ slots.old.area }
     ensures hw { slots.new.hw ≡ slots.old.hw }
     ensures area { slots.new.area ≡ slots.old.area }
-    ensures offers { (table : SessionTable) → SessionsStand sessions.now table
+    ensures offers { (table : SessionTable) → StateStands sessions.now.state table
         → let file = whole_file (view_of (session_at table index)) in
         slots.new ≡ record slots.old { slots = slots_after slots.old.hw was_whole file slots.old.slots } }
 {
@@ -116,17 +159,6 @@ fn is_complete(verdict: Verdict) -> bool
     match verdict {
         Verdict::Complete(_) => true,
         _ => false,
-    }
-}
-
-/// What the sessions of a device are limited to.
-fn limits_of(config: &DeviceConfig) -> Limits
-    ensures { result ≡ limits_of config.now }
-{
-    Limits {
-        sessions: config.sessions,
-        rows: config.rows,
-        descriptor: config.descriptor,
     }
 }
 

@@ -11,18 +11,19 @@ use super::Device;
 use crate::arrival::Arrival;
 use crate::class_session::ClassSession;
 use cast_wire::Cmd;
+use flash_session::Flash;
 use mc_group::{GroupAnswer, GroupEnd};
 use mc_keys::Key;
 use package_grammar::Command;
 
-impl Device {
-    ghost use Rattle.device_core.specs.HeldDevice.{Steps};
+impl<F: Flash + Drop> Device<F> {
+    ghost use Rattle.device_core.specs.HeldDevice.{StepsAside};
 
     /// McGroupStatusReq.
     pub(super) fn groups(&mut self, here: Arrival, mask: u8)
         requires port { here.port ≡ 200 }
         requires room { length self.old.outbox < 8 }
-        ensures { Steps self.old self.new 1 (λ device. groups_step here device mask) }
+        ensures { StepsAside self.old self.new 1 (λ device. groups_step here device mask) }
     {
         let answer = self.groups.status(mask);
         self.send(here.moment.t, here.port, Command::Cast(answer));
@@ -41,7 +42,7 @@ impl Device {
         requires port { here.port ≡ 200 }
         requires id { id < 4 }
         requires room { length self.old.outbox < 8 }
-        ensures { Steps self.old self.new 1 (λ device.
+        ensures { StepsAside self.old self.new 1 (λ device.
             group_setup_step here device id
             (group_of device.config.key device.config.root addr wrapped.now min max)) }
     {
@@ -64,7 +65,7 @@ impl Device {
         requires port { here.port ≡ 200 }
         requires id { id < 4 }
         requires room { length self.old.outbox < 8 }
-        ensures { Steps self.old self.new 1 (λ device. group_delete_step here device id) }
+        ensures { StepsAside self.old self.new 1 (λ device. group_delete_step here device id) }
     {
         match self.groups.delete(id) {
             GroupEnd::Undefined => self.send(here.moment.t, here.port, delete_answer(id, true)),

@@ -7,11 +7,12 @@ ghost use Rattle.device_core.specs.SessionTable.{SessionTable};
 ghost use Rattle.device_core.specs.Radio.{session_keys, brought, brought_to};
 
 use super::Device;
+use flash_session::Flash;
 use mc_frames::{FrameFault, Keys, fault_without_group, open};
 use mc_group::{Group, GroupTable};
 use package_grammar::{Downlink, To};
 
-impl Device {
+impl<F: Flash + Drop> Device<F> {
     ghost use Rattle.device_core.specs.HeldDevice.{device_of};
 
     /// What bytes bring to the group of the class session.

@@ -15,11 +15,12 @@ use crate::class_session::{ClassSession, Kind};
 use crate::config::Class;
 use cast_wire::Cmd;
 use class_windows::{ClassA, ClassB, ClassC, session_answer};
+use flash_session::Flash;
 use frag_session::Via;
 use package_grammar::{Command, To};
 
-impl Device {
-    ghost use Rattle.device_core.specs.HeldDevice.{device_of, Steps};
+impl<F: Flash + Drop> Device<F> {
+    ghost use Rattle.device_core.specs.HeldDevice.{device_of, StepsAside};
 
     /// Whether a payload is heard.
     #[tactic(auto, unfolding(crate::specs::ClassSessions::hears))]
@@ -45,7 +46,7 @@ impl Device {
         requires timeout { session.timeout < 16 }
         requires kind { KindFits session.kind }
         requires room { length self.old.outbox < 8 }
-        ensures { Steps self.old self.new 1
+        ensures { StepsAside self.old self.new 1
             (λ device. class_session_step here device session freq dr) }
     {
         let there = self.groups.get(session.id).is_some();

@@ -1,5 +1,6 @@
 use Rattle.std.proofs.Common.{◌≡◌, List, ℕ, ◌++◌, IsOk, length, ap, subst, ◌∙◌, arith}
 use Rattle.device_core.specs.HeldDevice.{DeviceStands}
+use Rattle.device_core.proofs.Keeping.{no_rise}
 use Rattle.report_lines.proofs.Outcomes.{on_ok_then}
 use Rattle.payload_replay.specs.Replay.{after_payload}
 use Rattle.payload_replay.proofs.hearer.hear.Goals as goal
@@ -12,4 +13,4 @@ returns c = λ before stands.
     let payload : c.append-fits.new.self ≡ c.args.payload.now =
     on_ok_then c.append-fits.result fits appends.appended ∙ ap (λ (l : List ℕ). l ++ c.args.payload.now) c.new.ensures in
     subst (λ (p : List ℕ). DeviceStands c.throw_away.new.device (after_payload c.args.mark p before)) payload
-    (c.throw_away.ensures _ (c.deliver-delivered.ensures.stands before stands))
+    (c.throw_away.ensures _ ((c.deliver-delivered.ensures.makes (λ is. no_rise (c.deliver-delivered.ensures.fault is))).stands before stands))

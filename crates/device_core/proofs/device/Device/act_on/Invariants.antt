@@ -1,8 +1,9 @@
-use Rattle.std.proofs.Common.{◌≡◌, ◌≤◌, ◌+◌, length}
+use Rattle.std.proofs.Common.{◌≡◌, ◌≤◌, ◌+◌, false, length}
 use Rattle.wire_base.specs.declared.refusal.Direction.TheVariants.{Down}
 use Rattle.device_core.specs.Device.{DeviceState}
 use Rattle.device_core.specs.Step.{weights}
 use Rattle.device_core.specs.HeldDevice.{DeviceStands}
+use Rattle.device_core.specs.HeldSessions.{IsUp, IsInFlash, IsLaidOut}
 use Rattle.device_core.proofs.Acting.{HasActed}
 use Rattle.device_core.proofs.device.Device.act_on.Given as goal
 
@@ -12,8 +13,14 @@ invariant-loop-command g l = record {
   direction : l.message.direction ≡ Down;
   room : length l.self.outbox + weights l.message.commands ≤ 8;
   counted : l.steps + length l.message.commands ≡ l.initial.steps + length l.fn.message.commands;
+  up : IsUp l.self.sessions.state;
+  in_flash : IsInFlash l.fn.self.sessions.state → IsInFlash l.self.sessions.state;
+  laid : IsLaidOut l.fn.self.sessions l.self.sessions;
+  quiet : l.fn.self.sessions.held ≡ false → l.self.sessions.flash ≡ l.fn.self.sessions.flash;
+  later : g.F.Flash.faults l.fn.self.sessions.flash ≤ g.F.Flash.faults l.self.sessions.flash;
   acted : (device : DeviceState) → DeviceStands l.fn.self device
-      → HasActed l.here l.self device l.fn.message.commands l.message.commands;
+      → HasActed g.F.Flash.holds g.F.Flash.left_since g.F.Flash.moment
+      l.here l.fn.self l.self device l.fn.message.commands l.message.commands;
 }
 
 abbrev pub decreases-loop-command : goal.decreases-loop-command

@@ -1,16 +1,27 @@
-use Rattle.device_core.proofs.Acting.{cast_stays}
+use Rattle.device_core.specs.Step.{command_step}
+use Rattle.device_core.proofs.Acting.{is_aside, status_goes}
+use Rattle.device_core.proofs.Keeping.{keeps_untouched}
+use Rattle.device_core.proofs.Sending.{steps_aside, aside_sessions}
 use Rattle.device_core.proofs.device.Device.act_on_cast.Goals as goal
 
-pub returns-in_default : goal.returns-in_default
-returns-in_default c = cast_stays c.args.here c.args.self.now c.args.cmd.now (record {
-  version = c.in_default.not-PackageVersionReq;
+pub act_aside-requires-clause-aside : goal.act_aside-requires-clause-aside
+act_aside-requires-clause-aside g c = is_aside c.args.cmd.now (record {
   status = c.in_default.not-FragSessionStatusReq;
   setup = c.in_default.not-FragSessionSetupReq;
   delete = c.in_default.not-FragSessionDeleteReq;
   fragment = c.in_default.not-DataFragment;
-  groups = c.in_default.not-McGroupStatusReq;
-  group_setup = c.in_default.not-McGroupSetupReq;
-  group_delete = c.in_default.not-McGroupDeleteReq;
-  class_c = c.in_default.not-McClassCSessionReq;
-  class_b = c.in_default.not-McClassBSessionReq;
 })
+
+pub returns-in_default-clause-steps : goal.returns-in_default-clause-steps
+returns-in_default-clause-steps g c = steps_aside _ _ _ _ c.act_aside.ensures
+
+pub returns-in_default-clause-keeps : goal.returns-in_default-clause-keeps
+returns-in_default-clause-keeps g c = keeps_untouched g.F.Flash.holds g.F.Flash.left_since g.F.Flash.moment g.F.Flash.faults c.args.self.now c.act_aside.new.self.sessions _ _ _
+    c.act_aside.ensures.goes.untouched c.requires.up
+    (λ device stands. aside_sessions c.args.self.now c.act_aside.new.self _ device c.act_aside.ensures.goes stands)
+
+pub returns-in-FragSessionStatusReq-clause-keeps : goal.returns-in-FragSessionStatusReq-clause-keeps
+unfolding command_step
+returns-in-FragSessionStatusReq-clause-keeps g c = rw c.in-FragSessionStatusReq.is (keeps_untouched g.F.Flash.holds g.F.Flash.left_since g.F.Flash.moment g.F.Flash.faults c.args.self.now c.status.new.self.sessions _ _ _
+    c.status.ensures.untouched c.requires.up
+    (λ device stands. status_goes c.args.here device c.in-FragSessionStatusReq.index c.in-FragSessionStatusReq.all))

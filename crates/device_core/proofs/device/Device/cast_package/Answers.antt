@@ -7,7 +7,7 @@ use Rattle.device_core.proofs.Sending.{step_of}
 use Rattle.device_core.proofs.device.Device.cast_package.Goals as goal
 
 pub returns : goal.returns
-returns c =
+returns g c =
     let answer : UplinkCommand = answer_at_once c.args.here (Cast (PackageVersionAns c.identifier_of.result 1)) in
     step_of c.args.self.now c.args.self.now c.send.new.self answer _
     c.send.ensures refl refl

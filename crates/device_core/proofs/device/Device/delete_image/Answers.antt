@@ -7,7 +7,7 @@ use Rattle.device_core.proofs.device.Device.delete_image.Goals as goal
 
 pub returns : goal.returns
 unfolding delete_image_step
-returns c =
+returns g c =
     let answer : UplinkCommand = answer_at_once c.args.here c.delete_answer.result in
     step_of c.args.self.now (record c.args.self.now { slots = c.delete-bits.new.self.slots }) c.send.new.self answer _
     (rw (← c.self.view_is) c.send.ensures) refl refl

@@ -9,7 +9,7 @@ use Rattle.device_core.proofs.device.Device.group_delete.Goals as goal
 
 pub returns-in-Undefined : goal.returns-in-Undefined
 unfolding group_delete_step
-returns-in-Undefined c =
+returns-in-Undefined g c =
     let answer : UplinkCommand = answer_at_once c.args.here c.delete_answer.result in
     step_of c.args.self.now (record c.args.self.now { groups = c.delete.new.self }) c.send.new.self answer _
     (rw (← c.self.view_is) c.send.ensures) refl refl
@@ -17,7 +17,7 @@ returns-in-Undefined c =
 
 pub returns-in-Ok : goal.returns-in-Ok
 unfolding group_delete_step
-returns-in-Ok c =
+returns-in-Ok g c =
     let there = some_there (group_at c.self.inside.groups c.args.id) (λ none. let other = c.in-Ok.ensures.undefined.1 none in cc) in
     let answer : UplinkCommand = answer_at_once c.args.here c.delete_answer-in-Ok.result in
     step_of c.args.self.now (record c.args.self.now { groups = c.delete.new.self; class_session = c.without_group-self-inside.result }) c.send-in-Ok.new.self answer _

@@ -8,7 +8,7 @@ use Rattle.device_core.proofs.device.Device.group_setup.Goals as goal
 
 pub returns-in-IdError : goal.returns-in-IdError
 unfolding group_setup_step
-returns-in-IdError c =
+returns-in-IdError g c =
     let past : leb (length c.self.inside.groups) c.args.id ≡ true = le-leb _ _ (c.in-IdError.ensures.id_error.0 refl) in
     let answer : UplinkCommand = answer_at_once c.args.here c.setup_answer.result in
     step_of c.args.self.now (record c.args.self.now { groups = c.setup.new.self }) c.send.new.self answer _
@@ -17,7 +17,7 @@ returns-in-IdError c =
 
 pub returns-in-Ok : goal.returns-in-Ok
 unfolding group_setup_step
-returns-in-Ok c =
+returns-in-Ok g c =
     let within : length c.self.inside.groups ≤ c.args.id → ⊥ = λ past. let other = c.in-Ok.ensures.id_error.1 past in cc in
     let before : leb (length c.self.inside.groups) c.args.id ≡ false = lt-leb _ _ (omega arith) in
     let answer : UplinkCommand = answer_at_once c.args.here c.setup_answer-in-Ok.result in

@@ -7,7 +7,7 @@ use Rattle.device_core.proofs.device.Device.reboot_time.Goals as goal
 
 pub returns : goal.returns
 unfolding reboot_time_step
-returns c =
+returns g c =
     let answer : UplinkCommand = answer_at_once c.args.here c.time_answer.result in
     step_of c.args.self.now (record c.args.self.now { reboot = c.chosen_moment-self-inside.result }) c.send.new.self answer _
     (rw (← c.self.view_is) c.send.ensures) refl refl

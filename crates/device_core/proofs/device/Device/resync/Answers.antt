@@ -8,17 +8,17 @@ use Rattle.device_core.proofs.Sending.{steps_of, sent_again, sent_none, outbox_l
 use Rattle.device_core.proofs.device.Device.resync.Goals as goal
 
 pub requests-init : goal.requests-init
-requests-init c = sent_none _
+requests-init g c = sent_none _
 
 pub send-requires-clause-room : goal.send-requires-clause-room
-send-requires-clause-room c = omega (arith, outbox_length _ _ _ _ c.requests.invariant)
+send-requires-clause-room g c = omega (arith, outbox_length _ _ _ _ c.requests.invariant)
 
 pub requests-preserved : goal.requests-preserved
-requests-preserved c = sent_again _ _ _ _ _ c.requests.invariant c.send.ensures
+requests-preserved g c = sent_again _ _ _ _ _ c.requests.invariant c.send.ensures
 
 pub returns : goal.returns
 unfolding resync_step
-returns c =
+returns g c =
     let request = answer_at_once c.args.here (Sync c.request-request.result) in
     let all : c.requests.counter ≡ c.args.count = omega arith in
     let few : length (replicate c.args.count request) ≤ c.args.count = omega (arith, length-replicate c.args.count request) in

@@ -5,4 +5,4 @@ use Rattle.device_core.specs.HeldDevice.{held_with_answers}
 use Rattle.device_core.proofs.device.Device.resync.Given as goal
 
 abbrev pub invariant-requests : goal.invariant-requests
-invariant-requests l = l.self ≡ held_with_answers l.fn.self (replicate l.counter (answer_at_once l.here (Sync l.request)))
+invariant-requests g l = l.self ≡ held_with_answers l.fn.self (replicate l.counter (answer_at_once l.here (Sync l.request)))

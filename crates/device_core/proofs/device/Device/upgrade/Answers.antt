@@ -7,7 +7,7 @@ use Rattle.device_core.proofs.device.Device.upgrade.Goals as goal
 
 pub returns : goal.returns
 unfolding upgrade_step
-returns c =
+returns g c =
     let answer : UplinkCommand = answer_at_once c.args.here c.upgrade_answer-answer.result in
     step_of c.args.self.now c.args.self.now c.send.new.self answer _
     c.send.ensures refl refl

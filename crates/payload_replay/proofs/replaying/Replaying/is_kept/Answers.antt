@@ -1,5 +1,6 @@
 use Rattle.std.proofs.Common.{◌≡◌, ◌∙◌, Some, sym, ap}
 use Rattle.report_lines.proofs.Outcomes.{some_of}
+use Rattle.flash_session.specs.Flashes.{Cells}
 use Rattle.device_core.specs.HeldDevice.{HeldDevice}
 use Rattle.payload_replay.specs.HeldHeaded.{HeldHeaded}
 use Rattle.payload_replay.proofs.ReplayLines.{replayed_kept}
@@ -8,5 +9,5 @@ use Rattle.payload_replay.proofs.replaying.Replaying.is_kept.Goals as goal
 pub returns-clause-stays : goal.returns-clause-stays
 returns-clause-stays c = λ over line.
     let one = some_of c.self.inside.kept (rw (← c.is_some.ensures) over) in
-    let kept : c.args.self.now.kept ≡ Some one.0 = ap (λ (h : HeldHeaded HeldDevice). h.kept) (sym c.self.view_is) ∙ one.1 in
+    let kept : c.args.self.now.kept ≡ Some one.0 = ap (λ (h : HeldHeaded (HeldDevice Cells)). h.kept) (sym c.self.view_is) ∙ one.1 in
     replayed_kept c.args.self.now line one.0 kept

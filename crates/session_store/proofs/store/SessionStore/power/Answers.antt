@@ -1,15 +1,12 @@
 use Rattle.std.proofs.Common.{◌≡◌, Option, Some, subst, rules, arith}
-use Rattle.session_store.specs.HeldStore.{StateFits, kept}
+use Rattle.session_store.specs.HeldStore.{StateIsHeld, kept}
 use Rattle.session_store.specs.declared.store.State.{State}
 use Rattle.session_store.specs.declared.store.State.TheVariants.{Down}
-use Rattle.session_store.proofs.PlaceSteps.{held_stands}
+use Rattle.session_store.proofs.PlaceSteps.{held_stands, lies_still}
 use Rattle.session_store.proofs.store.SessionStore.power.Goals as goal
 
 pub open-requires-clause-idle : goal.open-requires-clause-idle
-open-requires-clause-idle g c =
-    let is : c.self.inside.state ≡ Some c.in-Some.state = first_of (search rules, cc, grind arith) in
-    c.put_down-idles.ensures.idle c.self.inside.layout c.self.inside.held (g.F.Flash.room c.self.inside.flash)
-    (subst (λ (o : Option State). StateFits c.self.inside.layout c.self.inside.held (g.F.Flash.room c.self.inside.flash) (kept o)) is c.self.invariant.1)
+open-requires-clause-idle g c = c.put_down-idles.ensures.idle
 
 pub returns-in-Ok-clause-opened : goal.returns-in-Ok-clause-opened
 returns-in-Ok-clause-opened g c = rw (← c.self.view_is) (λ table b now lies.
@@ -23,3 +20,19 @@ returns-in-Ok-clause-was g c = rw (← c.self.view_is) (λ idles w at.
 
 pub returns-in-Err-clause-opened : goal.returns-in-Err-clause-opened
 returns-in-Err-clause-opened g c = rw (← c.self.view_is) (λ table b now lies. c.in-Err.ensures.opened table b now lies)
+
+pub returns-in-Ok-clause-again : goal.returns-in-Ok-clause-again
+returns-in-Ok-clause-again g c = rw (← c.self.view_is) (λ table held b now.
+    let is : c.self.inside.state ≡ Some c.in-Some.state = first_of (search rules, cc, grind arith) in
+    let was = subst (λ (o : Option State). StateIsHeld (kept o) table (g.F.Flash.holds c.self.inside.flash)
+    (g.F.Flash.left_since c.self.inside.flash (g.F.Flash.moment c.self.inside.flash))) is held in
+    let from = c.open.ensures.held.from b now in
+    lies_still c.self.inside.layout table from.0 b from.2 (c.put_down-idles.ensures.lies table was from.0 from.1))
+
+pub returns-in-Err-clause-again : goal.returns-in-Err-clause-again
+returns-in-Err-clause-again g c = rw (← c.self.view_is) (λ table held b now.
+    let is : c.self.inside.state ≡ Some c.in-Some.state = first_of (search rules, cc, grind arith) in
+    let was = subst (λ (o : Option State). StateIsHeld (kept o) table (g.F.Flash.holds c.self.inside.flash)
+    (g.F.Flash.left_since c.self.inside.flash (g.F.Flash.moment c.self.inside.flash))) is held in
+    let from = c.open.ensures.held.from b now in
+    lies_still c.self.inside.layout table from.0 b from.2 (c.put_down-idles.ensures.lies table was from.0 from.1))

@@ -1,0 +1,90 @@
+-- What calls of a device promise of its flash, beside what they make of the record.
+use Rattle.std.specs.Prelude.{◌≡◌, ◌⊎◌, ℕ, ◌≤◌, true, false, List, ◌∷◌, ◌++◌, Result, Ok, is_ok, OnOk}
+use Rattle.wire_base.specs.declared.refusal.Direction.TheVariants as direction
+use Rattle.package_grammar.specs.declared.command.Command.{Command}
+use Rattle.package_grammar.specs.declared.downlink.Downlink.{Downlink}
+use Rattle.package_grammar.specs.Reading.{Reading, reading_of}
+use Rattle.flash_session.specs.Contents.{HasCause}
+use Rattle.session_store.specs.declared.held_slots.Idles.{Idles}
+use Rattle.session_store.specs.declared.store.FlashFault.{FlashFault}
+use Rattle.session_store.specs.declared.store.State.TheVariants.{Down}
+use Rattle.session_store.specs.Whole.{whole_of}
+use Rattle.device_core.specs.declared.arrival.Arrival.{Arrival}
+use Rattle.device_core.specs.declared.delivered.Delivered.{Delivered}
+use Rattle.device_core.specs.declared.delivered.Delivered.TheVariants.{Done}
+use Rattle.device_core.specs.declared.delivered.Delivered.TheVariants as answer
+use Rattle.device_core.specs.Deliver.{Outcome, arrival, delivery}
+use Rattle.device_core.specs.Device.{DeviceState}
+use Rattle.device_core.specs.Firmware.{after_due_reboot}
+use Rattle.device_core.specs.HeldDevice.{HeldDevice, device_of, DeviceStands}
+use Rattle.device_core.specs.HeldSessions.{HeldStore, IsUp, IsInFlash, StateStands, StateIsStored, StateIsHeld, IsLaidOut}
+use Rattle.device_core.specs.Passed.{LiesOneOf}
+use Rattle.device_core.specs.SessionTable.{SessionTable}
+use Rattle.device_core.specs.Step.{after_commands}
+
+-- ---- what a stop leaves
+
+-- what a stop might leave now is what it might have left before, or has P
+pub record LeavesBesides (P : List ℕ → Type 0) (before now : ℕ) (past since : ℕ → List ℕ → Type 0) : Type 0 where
+  pub later : before ≤ now
+  pub earlier : (t : ℕ) (c : List ℕ) → t ≤ before → since t c → past t c ⊎ P c
+
+-- ---- a call that may fail
+
+-- the sessions went down, and all else is as it was
+pub record Fails {F : Type 0} (old new : HeldDevice F) : Type 0 where
+  pub down : (table : SessionTable) → StateStands old.sessions.state table
+      → (idles : Idles) × (new.sessions.state ≡ Down idles (whole_of table))
+  pub rest : (table : SessionTable) → device_of new table ≡ device_of old table
+
+-- what its flash holds and may be left with, and why it failed: behind Ok the sessions are stored as they are then
+pub record Keeps {F A : Type 0} (holds : F → List ℕ → Type 0) (left_since : F → ℕ → List ℕ → Type 0) (moment faults : F → ℕ)
+    (old : HeldDevice F) (new : HeldStore F) (result : Result A FlashFault)
+    (after : DeviceState → DeviceState) (tables : DeviceState → List SessionTable) : Type 0 where
+  pub up : OnOk result (IsUp new.state)
+  pub in_flash : IsInFlash old.sessions.state → OnOk result (IsInFlash new.state)
+  pub stored : (device : DeviceState) → DeviceStands old device
+      → StateIsStored old.sessions.state device.sessions (holds old.sessions.flash)
+      (left_since old.sessions.flash (moment old.sessions.flash))
+      → OnOk result (StateIsStored new.state (after device).sessions (holds new.flash)
+      (left_since new.flash (moment new.flash)))
+  pub moments : (device : DeviceState) → DeviceStands old device
+      → StateIsHeld old.sessions.state device.sessions (holds old.sessions.flash)
+      (left_since old.sessions.flash (moment old.sessions.flash))
+      → LeavesBesides (LiesOneOf old.sessions.layout (tables device)) (moment old.sessions.flash) (moment new.flash)
+      (left_since old.sessions.flash) (left_since new.flash)
+  pub laid : IsLaidOut old.sessions new
+  pub quiet : old.sessions.held ≡ false → (is_ok result ≡ true) × (new.flash ≡ old.sessions.flash)
+  pub cause : HasCause (faults old.sessions.flash) (faults new.flash) result
+
+-- ---- where a payload's commands stopped
+
+-- the flash failed at one command: those before it have acted; it made no uplink, and those behind it did not act
+pub record FailsAt {F : Type 0} (here : Arrival) (device : DeviceState) (cs : List Command) (new : HeldDevice F) : Type 0 where
+  pub front : List Command
+  pub failing : Command
+  pub behind : List Command
+  pub parted : cs ≡ front ++ failing ∷ behind
+  pub rest : (table : SessionTable) → device_of new table ≡ record (after_commands here device front) { sessions = table }
+  pub down : (idles : Idles) × (new.sessions.state ≡ Down idles (whole_of (after_commands here device front).sessions))
+
+-- what was read of it would have acted, and the flash failed at one of its commands
+pub record FailsIn {F : Type 0} (made : Outcome Delivered) (here : Arrival) (device : DeviceState) (reading : Reading)
+    (new : HeldDevice F) : Type 0 where
+  pub commands : List Command
+  pub read : reading ≡ Ok commands
+  pub acts : made.answer ≡ Done
+  pub fails : FailsAt here device commands new
+
+-- of a payload that would have acted: a reboot that was due is carried out before it, and none behind
+abbrev pub FailsWithin : {F : Type 0} → (t word mark : ℕ) → Downlink → DeviceState → HeldDevice F → Type 0
+FailsWithin t word mark down device new =
+    let before = after_due_reboot t device in
+    FailsIn (delivery t word mark down device) (arrival t word mark down before) before
+    (reading_of down.port direction.Down down.payload) new
+
+-- an answer of a device that is up, whose flash did not fail
+abbrev pub IsPlain : Delivered → Type 0
+IsPlain answer.FlashFault = ⊥
+IsPlain answer.Down = ⊥
+IsPlain delivered = Unit {0}
