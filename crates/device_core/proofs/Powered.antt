@@ -12,7 +12,8 @@ use Rattle.device_core.specs.Device.{DeviceState}
 use Rattle.device_core.specs.Fragments.{whole_file, slots_after}
 use Rattle.device_core.specs.HeldDevice.{HeldDevice, device_of, DeviceStands}
 use Rattle.device_core.specs.HeldSessions.{HeldStore, StateStands}
-use Rattle.device_core.specs.Power.{HadWhole, powered, after_power}
+use Rattle.device_core.specs.HeldCalls.{HadWhole}
+use Rattle.device_core.specs.Power.{powered, after_power}
 use Rattle.device_core.specs.SessionTable.{SessionTable}
 use Rattle.device_core.proofs.Quiet.{power_is_quiet}
 

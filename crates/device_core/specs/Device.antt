@@ -8,7 +8,7 @@ use Rattle.frag_session.specs.declared.setups.Limits.{Limits}
 use Rattle.frag_session.specs.Setup.{Room}
 use Rattle.flash_session.specs.Layout.{records_place}
 use Rattle.session_store.specs.declared.held_slots.Layout.{Layout}
-use Rattle.session_store.specs.HeldStore.{store_room}
+use Rattle.session_store.specs.Rows.{store_room}
 use Rattle.device_core.specs.declared.class_session.ClassSession.{ClassSession}
 use Rattle.device_core.specs.declared.config.DeviceConfig.{DeviceConfig}
 use Rattle.device_core.specs.declared.counts.Counts.{Counts}

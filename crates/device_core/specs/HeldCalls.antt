@@ -7,7 +7,9 @@ use Rattle.package_grammar.specs.Reading.{Reading, reading_of}
 use Rattle.flash_session.specs.Contents.{HasCause}
 use Rattle.session_store.specs.declared.held_slots.Idles.{Idles}
 use Rattle.session_store.specs.declared.store.FlashFault.{FlashFault}
-use Rattle.session_store.specs.declared.store.State.TheVariants.{Down}
+use Rattle.session_store.specs.declared.store.State.{State}
+use Rattle.session_store.specs.declared.store.State.TheVariants.{Memory, Flash, Down}
+use Rattle.session_store.specs.declared.store.Whole.{Whole}
 use Rattle.session_store.specs.Whole.{whole_of}
 use Rattle.device_core.specs.declared.arrival.Arrival.{Arrival}
 use Rattle.device_core.specs.declared.delivered.Delivered.{Delivered}
@@ -88,3 +90,11 @@ abbrev pub IsPlain : Delivered → Type 0
 IsPlain answer.FlashFault = ⊥
 IsPlain answer.Down = ⊥
 IsPlain delivered = Unit {0}
+
+-- ---- power
+
+-- these had their file whole when the device was last up: now, or when it went down
+abbrev pub HadWhole : State → Whole → Type 0
+HadWhole (Memory slots) whole = (table : SessionTable) × StateStands (Memory slots) table × (whole ≡ whole_of table)
+HadWhole (Flash slots) whole = (table : SessionTable) × StateStands (Flash slots) table × (whole ≡ whole_of table)
+HadWhole (Down idles was) whole = whole ≡ was

@@ -2,20 +2,11 @@
 use Rattle.std.specs.Prelude.{◌≡◌, ℕ}
 use Rattle.frag_session.specs.Session.{view_of}
 use Rattle.image_slots.specs.Slots.{Slots}
-use Rattle.session_store.specs.declared.store.State.{State}
-use Rattle.session_store.specs.declared.store.State.TheVariants.{Memory, Flash, Down}
 use Rattle.session_store.specs.declared.store.Whole.{Whole}
 use Rattle.session_store.specs.Whole.{whole_of}
 use Rattle.device_core.specs.Device.{DeviceState}
 use Rattle.device_core.specs.Fragments.{whole_file, slots_after}
-use Rattle.device_core.specs.HeldSessions.{StateStands}
 use Rattle.device_core.specs.SessionTable.{SessionTable}
-
--- these had their file whole when the device was last up: now, or when it went down
-abbrev pub HadWhole : State → Whole → Type 0
-HadWhole (Memory slots) whole = (table : SessionTable) × StateStands (Memory slots) table × (whole ≡ whole_of table)
-HadWhole (Flash slots) whole = (table : SessionTable) × StateStands (Flash slots) table × (whole ≡ whole_of table)
-HadWhole (Down idles was) whole = whole ≡ was
 
 -- the file of each session that is whole now and was not is offered to the next slot, by rising index
 abbrev pub powered : (hw : ℕ) → Whole → SessionTable → Slots → Slots

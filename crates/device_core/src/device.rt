@@ -19,9 +19,9 @@ ghost use Rattle.device_core.specs.Firmware.{after_due_reboot, after_migration};
 ghost use Rattle.device_core.specs.Deliver.{message_delivery, read_delivery, heard_delivery, arrival, delivery, time_asking, waking, taking, commands_read, commands_of};
 ghost use Rattle.device_core.specs.Radio.{radio};
 ghost use Rattle.device_core.specs.HeldSessions.{IsUp, IsDown, StateIsStored, StateIsHeld, IsLaidOut};
-ghost use Rattle.device_core.specs.HeldCalls.{Keeps, FailsAt, FailsIn, FailsWithin, IsPlain};
+ghost use Rattle.device_core.specs.HeldCalls.{HadWhole, Keeps, FailsAt, FailsIn, FailsWithin, IsPlain};
 ghost use Rattle.device_core.specs.Passed.{tables_of, message_tables, read_tables, heard_tables, tables_passed, LiesOneOf};
-ghost use Rattle.device_core.specs.Power.{HadWhole, after_power};
+ghost use Rattle.device_core.specs.Power.{after_power};
 ghost use Rattle.package_grammar.specs.Reading.{reading_of};
 
 mod acting;

@@ -1,12 +1,11 @@
 -- What the sessions of a device are, wherever they lie, with its flash, and for which they stand.
 use Rattle.std.specs.Prelude.{◌≡◌, ℕ, ◌*◌, ◌≤◌, Bool, true, false, if◌then◌else◌, List, Option, Some, None}
-use Rattle.frag_session.specs.Setup.{Room}
 use Rattle.row_elimination.specs.Room.{extent_for}
 use Rattle.flash_session.specs.Layout.{records_place}
 use Rattle.session_store.specs.declared.held_slots.Layout.{Layout}
 use Rattle.session_store.specs.declared.store.State.{State}
 use Rattle.session_store.specs.declared.store.State.TheVariants.{Memory, Flash, Down}
-use Rattle.session_store.specs.Rows.{row_words, row_bytes}
+pub use Rattle.session_store.specs.Rows.{store_room}
 use Rattle.session_store.specs.HeldPlaces.{PlacesStand, AreHeld, AreIdle}
 use Rattle.session_store.specs.HeldSessions.{SessionsStand}
 use Rattle.session_store.specs.Whole.{none_whole}
@@ -68,15 +67,6 @@ abbrev pub StateFits : Layout → (held : Bool) → (room : ℕ) → State → T
 StateFits layout held room (Memory slots) = (held ≡ false) × (slots.area ≡ layout.area)
 StateFits layout held room (Flash slots) = (held ≡ true) × (slots.layout ≡ layout) × HasRanges layout room
 StateFits layout held room (Down idles whole) = (held ≡ true) × AreIdle layout.area idles × HasRanges layout room
-
--- the room for a session: where it is held in flash, its range too
-abbrev pub store_room : Layout → (held : Bool) → Room
-store_room layout held = record {
-  words = row_words;
-  bytes = row_bytes;
-  extent = extent_for layout.area;
-  span = if held then Some layout.span else None;
-}
 
 -- it is laid out as it was
 pub record IsLaidOut {F : Type 0} (old new : HeldStore F) : Type 0 where

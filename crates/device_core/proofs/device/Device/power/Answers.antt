@@ -3,7 +3,7 @@ use Rattle.session_store.specs.declared.store.State.{State}
 use Rattle.session_store.specs.Whole.{whole_of}
 use Rattle.device_core.specs.HeldDevice.{HeldDevice}
 use Rattle.device_core.specs.HeldSessions.{HeldStore, StateStands, StateIsHeld}
-use Rattle.device_core.specs.Power.{HadWhole}
+use Rattle.device_core.specs.HeldCalls.{HadWhole}
 use Rattle.session_store.specs.HeldPlaces.{TableLies}
 use Rattle.device_core.proofs.Powered.{had_whole, offered, powered_stands, powered_again}
 use Rattle.device_core.proofs.device.Device.power.Goals as goal
