@@ -3,4 +3,5 @@ pub mod Pairs
 pub mod Accepts
 pub mod Parts
 pub mod HeardPair
+pub mod Frames
 pub mod ReadAlone
