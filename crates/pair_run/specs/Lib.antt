@@ -3,6 +3,7 @@ pub mod Targets
 pub mod PairCauses
 pub mod PairMaking
 pub mod PairScript
+pub mod Counting
 pub mod Crossing
 pub mod PairLines
 pub mod PairReport

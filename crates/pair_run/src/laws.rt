@@ -1,5 +1,6 @@
 //! Laws about the definitions, each the contract of a function that does nothing.
 
+ghost use Rattle.pair_run.specs.Counting.{CountersAreUnread};
 ghost use Rattle.pair_run.specs.Crossing.{FramesCrossAsPayloads};
 ghost use Rattle.pair_run.specs.PairLines.{EachReadsItsLines};
 
@@ -14,4 +15,10 @@ pub fn each_campaign_reads_its_lines()
 #[tactic(auto, using(crate::proofs::Frames::frames_cross))]
 pub fn frames_cross_as_payloads()
     ensures { FramesCrossAsPayloads }
+{}
+
+/// Devices that differ in their counters alone go the same way, whatever happens: no counter is ever read.
+#[tactic(auto, using(crate::proofs::CountsUnread::unread))]
+pub fn counters_are_unread()
+    ensures { CountersAreUnread }
 {}
