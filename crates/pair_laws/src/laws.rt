@@ -1,5 +1,6 @@
 //! Laws about the definitions, each the contract of a function that does nothing.
 
+ghost use Rattle.pair_laws.specs.Crossing.{CrossingIsCountedAlone};
 ghost use Rattle.pair_laws.specs.EachCampaign.{EachHasItsDevices, EachHasItsVerdicts};
 
 /// Whatever two images and accepted script there are: each session of either campaign hears nothing but what the lines bring its
@@ -15,4 +16,11 @@ pub fn each_campaign_has_its_verdicts()
 #[tactic(auto, using(crate::proofs::EachCampaign::devices))]
 pub fn each_campaign_has_its_devices()
     ensures { EachHasItsDevices }
+{}
+
+/// What another campaign's server sends to all changes nothing of a device but its counters, where the device has no session but
+/// its own campaign's and no reboot is to come.
+#[tactic(auto, using(crate::proofs::Crossing::counted_alone))]
+pub fn crossing_is_counted_alone()
+    ensures { CrossingIsCountedAlone }
 {}

@@ -4,4 +4,6 @@
 
 mod laws;
 
-pub use laws::{each_campaign_has_its_devices, each_campaign_has_its_verdicts};
+pub use laws::{
+    crossing_is_counted_alone, each_campaign_has_its_devices, each_campaign_has_its_verdicts,
+};
