@@ -3,4 +3,6 @@ pub mod Pairs
 pub mod Accepts
 pub mod Parts
 pub mod HeardPair
+pub mod CountsUnread
+pub mod Frames
 pub mod ReadAlone

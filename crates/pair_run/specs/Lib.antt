@@ -3,6 +3,8 @@ pub mod Targets
 pub mod PairCauses
 pub mod PairMaking
 pub mod PairScript
+pub mod Counting
+pub mod Crossing
 pub mod PairLines
 pub mod PairReport
 pub mod Sides

@@ -1,6 +1,6 @@
 -- What the lines of a script say to each of its two campaigns (this project's profile), and that each is the campaign that they
 -- tell it, as if it had a script of its own.
-use Rattle.std.specs.Prelude.{◌≡◌, ℕ, List, [], ◌∷◌, Option, Some, None, Result, Ok, Err}
+use Rattle.std.specs.Prelude.{◌≡◌, ℕ, List, [], ◌∷◌, Option, Some, None, Ok, Err}
 use Rattle.script_lines.specs.declared.forms.Campaign.{Campaign}
 use Rattle.script_lines.specs.declared.forms.Campaign.TheVariants as campaign
 use Rattle.script_lines.specs.declared.forms.PairForm.{PairForm}

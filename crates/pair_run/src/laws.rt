@@ -1,5 +1,7 @@
 //! Laws about the definitions, each the contract of a function that does nothing.
 
+ghost use Rattle.pair_run.specs.Counting.{CountersAreUnread};
+ghost use Rattle.pair_run.specs.Crossing.{FramesCrossAsPayloads};
 ghost use Rattle.pair_run.specs.PairLines.{EachReadsItsLines};
 
 /// Whatever two images and accepted script there are: each campaign is the one that its own image, and what the lines say to
@@ -7,4 +9,16 @@ ghost use Rattle.pair_run.specs.PairLines.{EachReadsItsLines};
 #[tactic(auto, using(crate::proofs::ReadAlone::reads_alone))]
 pub fn each_campaign_reads_its_lines()
     ensures { EachReadsItsLines }
+{}
+
+/// A frame for a group that a device does not hear makes of it what the payload makes that it carries.
+#[tactic(auto, using(crate::proofs::Frames::frames_cross))]
+pub fn frames_cross_as_payloads()
+    ensures { FramesCrossAsPayloads }
+{}
+
+/// Devices that differ in their counters alone go the same way, whatever happens: no counter is ever read.
+#[tactic(auto, using(crate::proofs::CountsUnread::unread))]
+pub fn counters_are_unread()
+    ensures { CountersAreUnread }
 {}

@@ -20,6 +20,6 @@ mod report;
 mod steps;
 mod targets;
 
-pub use laws::each_campaign_reads_its_lines;
+pub use laws::{counters_are_unread, each_campaign_reads_its_lines, frames_cross_as_payloads};
 pub use owners::Owner;
 pub use pair::Pair;

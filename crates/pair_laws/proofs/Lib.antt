@@ -1,0 +1,2 @@
+pub mod EachCampaign
+pub mod Crossing

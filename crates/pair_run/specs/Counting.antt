@@ -1,0 +1,17 @@
+-- A device's counters (this project's profile): what is told of them is told in the report alone.
+use Rattle.std.specs.Prelude.{◌≡◌}
+use Rattle.device_core.specs.declared.counts.Counts.{Counts}
+use Rattle.device_core.specs.Device.{DeviceState}
+use Rattle.device_core.specs.Events.{Event, event_step}
+
+-- the device with these counters
+abbrev pub counting : Counts → DeviceState → DeviceState
+counting counts device = record device { counts = counts }
+
+-- one is the other but for its counters
+abbrev pub IsAlike : (d e : DeviceState) → Type 0
+IsAlike d e = counting e.counts d ≡ e
+
+-- no counter is ever read: devices that differ in their counters alone go the same way, whatever happens
+abbrev pub CountersAreUnread : Type 0
+CountersAreUnread = (event : Event) (d e : DeviceState) → IsAlike d e → IsAlike (event_step d event) (event_step e event)
