@@ -1,6 +1,6 @@
 -- A device whose memory is taken when its first event comes.
-use Rattle.std.proofs.Common.{◌≡◌, ◌∙◌, ◌++◌, ℕ, List, [], Option, Some, None, Err, refl, sym, ap, subst, append_assoc}
-use Rattle.std.specs.Prelude.{codes}
+use Rattle.std.proofs.Common.{◌≡◌, ◌∙◌, ◌++◌, ℕ, true, List, [], Option, Some, None, Err, refl, sym, ap, subst, append_assoc}
+use Rattle.std.specs.Prelude.{codes, is_some, option_map}
 use Rattle.std.specs.Fmt.{decimal, digits}
 use Rattle.report_lines.specs.Devices.{stage_text}
 use Rattle.device_core.specs.Device.{DeviceState, first_device}
@@ -37,6 +37,11 @@ empty_by config (Some held) d rests = outbox_is held d rests.stands ∙ rests.em
 
 pub rests_empty : (late : Late) (d : DeviceState) → DeviceRests late d → d.outbox ≡ []
 rests_empty late d rests = empty_by late.config late.came d rests
+
+-- its memory is taken where something is there
+pub is_here : {A B : Type 0} (f : A → B) (o : Option A) → is_some o ≡ true → (x : B) × (option_map f o ≡ Some x)
+is_here f None there = absurd cc
+is_here f (Some a) there = (f a, refl)
 
 -- ---- what is told of one to which nothing happened yet
 

@@ -28,6 +28,8 @@ worked_device = record (first_device (record {
   sessions = 4;
   groups = 4;
   area = 100;
+  held = false;
+  span = 0;
 })) {
   clock = record { offset = 7; token = 3 };
   slots = record { formats = 2; version = 2; running = 9 ∷ []; next = next.Valid 5; next_file = 8 ∷ [] };
