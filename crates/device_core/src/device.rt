@@ -45,6 +45,7 @@ use cast_wire::Fragment;
 use clock_sync::DeviceClock;
 use flash_session::{Flash, OpenFault};
 use frag_session::View;
+use fragments::offer;
 use image_slots::Slots;
 use mc_group::GroupTable;
 use package_grammar::{Command, Downlink, Message};
@@ -53,7 +54,6 @@ use session_store::{FlashFault, SessionStore};
 use std::alloc::Global;
 use std::marker::{Brand, Model};
 use std::sync::ledger::{Blank, Ledger};
-use fragments::offer;
 use windows::via_of;
 use wire_base::{Direction, Payload};
 

@@ -165,7 +165,12 @@ pub extern "C" fn fuota_device_deliver(
     }
 }
 
-fn deliver_or_not(device: &mut Device<CellFlash>, port: u8, payload: &[u8], arrival: &ArrivalFields) -> u8
+fn deliver_or_not(
+    device: &mut Device<CellFlash>,
+    port: u8,
+    payload: &[u8],
+    arrival: &ArrivalFields,
+) -> u8
     ensures { DeliversOrNot device.old device.new port payload.now arrival.now result }
 {
     if payload.len() > MAX_PAYLOAD || arrival.t > MAX_MOMENT {
