@@ -50,7 +50,7 @@ replayed_begun = headed_begun (codes "replay") payload_of Hears (λ rows. replay
 
 -- a header that is refused, or there is no memory
 pub replayed_unbegun : (old : HeldHeaded (HeldDevice Cells)) (line : List ℕ) (e : LineError) → old.kept ≡ None → old.state ≡ None
-    → IsBegun (codes "replay") (λ rows. replay_device rows) DeviceStands line (Err e)
+    → IsBegun (codes "replay") (λ rows. replay_device rows) (DeviceStands {F = Cells}) line (Err e)
     → HearsReplayed old line (record old { kept = Some e })
 replayed_unbegun = headed_unbegun (codes "replay") payload_of Hears (λ rows. replay_device rows) DeviceStands
 
