@@ -1,5 +1,5 @@
 -- What the calls of a device do for C.
-use Rattle.std.specs.Prelude.{◌≡◌, ◌⊎◌, ◌≤◌, ◌<◌, ℕ, Bool, true, false, List, [], ◌∷◌, length, Option, Some, None, Result, Ok, Err}
+use Rattle.std.specs.Prelude.{◌≡◌, ◌⊎◌, ◌≤◌, ◌<◌, ℕ, Bool, true, false, not, IsTrue, List, [], ◌∷◌, length, Option, Some, None, Result, Ok, Err}
 use Rattle.wire_base.specs.Payload.{max_payload}
 use Rattle.package_grammar.specs.declared.downlink.To.{To}
 use Rattle.package_grammar.specs.declared.downlink.To.TheVariants.{Unicast, Group}
@@ -9,16 +9,15 @@ use Rattle.mc_keys.specs.declared.root_kind.RootKind.TheVariants.{V10}
 use Rattle.device_core.specs.declared.config.Class.{Class}
 use Rattle.device_core.specs.declared.config.Class.TheVariants.{A, C}
 use Rattle.device_core.specs.declared.config.DeviceConfig.{DeviceConfig}
-use Rattle.device_core.specs.declared.config.ReserveError.TheVariants.{BadConfig, Memory}
 use Rattle.device_core.specs.declared.delivered.Delivered.{Delivered}
 use Rattle.device_core.specs.declared.delivered.Delivered.TheVariants as delivered
 use Rattle.device_core.specs.declared.delivered.OutboxFull.{OutboxFull}
 use Rattle.device_core.specs.declared.uplink.Uplink.{Uplink}
 use Rattle.device_core.specs.SessionTable.{session_at}
-use Rattle.device_core.specs.Device.{DeviceState, max_moment, max_sessions}
+use Rattle.device_core.specs.Device.{DeviceState, first_device, is_config, max_moment, max_sessions}
 use Rattle.device_core.specs.Deliver.{Outcome, delivery, waking, taking}
 use Rattle.flash_session.specs.Flashes.{Cells}
-use Rattle.device_core.specs.HeldDevice.{HeldDevice, DeviceStands, Becomes, Makes, IsReserved}
+use Rattle.device_core.specs.HeldDevice.{HeldDevice, DeviceStands, Becomes, Makes}
 use Rattle.c_base.specs.Answer.{done, nothing, range, no_memory, no_object, refused, deaf, full}
 use Rattle.c_base.specs.Bytes.{IsPut, Copied}
 use Rattle.fuota_c.specs.declared.device.ConfigFields.{ConfigFields}
@@ -56,9 +55,9 @@ config_of fields = record {
 
 -- a device at its start; none where a number is out of its bounds, or memory was wanting
 abbrev pub IsNewDevice : DeviceConfig → Option (HeldDevice Cells) → (answer : ℕ) → Type 0
-IsNewDevice config (Some x) answer = (answer ≡ done) × IsReserved config (Ok x)
+IsNewDevice config (Some x) answer = (answer ≡ done) × IsTrue (is_config config) × DeviceStands x (first_device config)
 IsNewDevice config None answer =
-    ((answer ≡ range) × IsReserved config (Err BadConfig)) ⊎ ((answer ≡ no_memory) × IsReserved config (Err Memory))
+    ((answer ≡ range) × IsTrue (not (is_config config))) ⊎ ((answer ≡ no_memory) × IsTrue (is_config config))
 
 -- ---- what comes
 

@@ -1,9 +1,10 @@
 //! A device of all four packages.
 
-ghost use Rattle.std.specs.Prelude.{◌≡◌, ◌≤◌, None, length};
-ghost use Rattle.core.specs.Result.{result_map_both};
+ghost use Rattle.std.specs.Prelude.{◌≡◌, ◌≤◌, false, not, None, length, IfOk, OnOk, IsErrOf, IsTrue};
 ghost use Rattle.wire_base.specs.Payload.{max_payload};
-ghost use Rattle.device_core.specs.HeldDevice.{IsReserved};
+ghost use Rattle.device_core.specs.Device.{first_device, is_config};
+ghost use Rattle.device_core.specs.HeldDevice.{DeviceStands};
+ghost use Rattle.device_core.specs.declared.config.ReserveError.{ReserveError};
 ghost use Rattle.c_base.specs.Answer.{done, no_object};
 ghost use Rattle.c_base.specs.Calls.{Does, Tells};
 ghost use Rattle.fuota_c.specs.Device.{IsNewDevice, DeliversOrNot, WakesOrNot, TakesUplink, IsUplinkOut, IsSessionShown, IsSessionFile, config_of, downlink_of, delivered_number};
@@ -12,7 +13,9 @@ use crate::device_handle::DeviceHandle;
 use crate::shown::{ViewFields, file_in, show};
 use c_base::answer::{DEAF, DONE, FULL, NO_MEMORY, NO_OBJECT, NOTHING, RANGE, REFUSED};
 use c_base::{copy_part, put_whole};
-use device_core::{Class, Delivered, Device, DeviceConfig, OutboxFull, ReserveError, Uplink};
+use device_core::{
+    Class, Delivered, Device, DeviceConfig, OutboxFull, ReserveError, Uplink, is_config,
+};
 use flash_session::CellFlash;
 use mc_keys::RootKind;
 use package_grammar::{Downlink, To};
@@ -90,8 +93,15 @@ pub extern "C" fn fuota_device_new(
 }
 
 fn boxed(alloc: Global, config: DeviceConfig) -> Result<Box<Device<CellFlash>>, ReserveError>
-    ensures { IsReserved config (result_map_both (λ b. b.value) (λ e. e) result) }
+    requires { config.held ≡ false }
+    ensures stands { IfOk result (λ b. DeviceStands b.value (first_device config)) }
+    ensures fits { OnOk result (IsTrue (is_config config)) }
+    ensures range { IsErrOf result ReserveError.BadConfig → IsTrue (not (is_config config)) }
+    ensures memory { IsErrOf result ReserveError.Memory → IsTrue (is_config config) }
 {
+    if !is_config(&config) {
+        return Err(ReserveError::BadConfig);
+    }
     let Ok(flash) = CellFlash::reserve(alloc, 0) else {
         return Err(ReserveError::Memory);
     };
