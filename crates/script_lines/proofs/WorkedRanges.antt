@@ -71,6 +71,7 @@ ranges = record {
   header = refl;
   any_wake = refl;
   any_migrate = refl;
+  any_power = refl;
   any_ask = refl;
   frag = refl;
   status = refl;

@@ -3,7 +3,7 @@ use Rattle.std.specs.Prelude.{ℕ, ◌+◌, ◌-◌, Bool, true, false, ◌&&◌
 use Rattle.script_lines.specs.declared.forms.Class.{Class}
 use Rattle.script_lines.specs.declared.forms.Class.TheVariants as class
 use Rattle.script_lines.specs.declared.forms.Form.{Form}
-use Rattle.script_lines.specs.declared.forms.Form.TheVariants.{Header, Image, Group, WindowC, WindowB, Device, At, Wake, Migrate, Ask, Frag, Status, Down, Raw, Air, RawAir, Up, End}
+use Rattle.script_lines.specs.declared.forms.Form.TheVariants.{Header, Image, Group, WindowC, WindowB, Device, At, Wake, Migrate, Power, Ask, Frag, Status, Down, Raw, Air, RawAir, Up, End}
 use Rattle.script_lines.specs.Lines.{words_of, word, is_word}
 use Rattle.script_lines.specs.Numbers.{decimal_of, key_of, hex_number_of, hex_bytes_of, ◌>>=◌}
 
@@ -97,39 +97,47 @@ window_from line k =
 abbrev pub window_form : List ℕ → Option Form
 window_form line = window_from line 1
 
--- device ID CLASS HW ROWS OFFSET KEY, with DESCRIPTOR behind it or none; and whether v1 stands behind that, and k11 at the end;
--- CLASS stands at a place
-abbrev pub device_words : List ℕ → (k : ℕ) → Option ℕ → (v1 k11 : Bool) → Option Form
-device_words line k descriptor v1 k11 = do
+-- device ID CLASS HW ROWS OFFSET KEY, with DESCRIPTOR behind it or none; and whether v1 stands behind that, then k11, and flash
+-- at the end; CLASS stands at a place
+abbrev pub device_words : List ℕ → (k : ℕ) → Option ℕ → (v1 k11 flash : Bool) → Option Form
+device_words line k descriptor v1 k11 flash = do
   id ← decimal_at line 1
   class ← class_at line k
   hw ← decimal_at line (k + 1)
   rows ← decimal_at line (k + 2)
   offset ← decimal_at line (k + 3)
   key ← key_at line (k + 4)
-  Some (Device id class hw rows offset key descriptor v1 k11)
+  Some (Device id class hw rows offset key descriptor v1 k11 flash)
 
 -- the same in so many words, those before k11
-abbrev pub device_of_words : List ℕ → (k count : ℕ) → (k11 : Bool) → Option Form
-device_of_words line k count k11 =
-    if count == k + 5 then device_words line k None false k11
-    else if count == k + 6 && is_word line (k + 5) (codes "v1") then device_words line k None true k11
-    else if count == k + 6 then hex_at line (k + 5) >>= (λ descriptor. device_words line k (Some descriptor) false k11)
+abbrev pub device_of_words : List ℕ → (k count : ℕ) → (k11 flash : Bool) → Option Form
+device_of_words line k count k11 flash =
+    if count == k + 5 then device_words line k None false k11 flash
+    else if count == k + 6 && is_word line (k + 5) (codes "v1") then device_words line k None true k11 flash
+    else if count == k + 6
+    then hex_at line (k + 5) >>= (λ descriptor. device_words line k (Some descriptor) false k11 flash)
     else if count == k + 7 && is_word line (k + 6) (codes "v1")
-    then hex_at line (k + 5) >>= (λ descriptor. device_words line k (Some descriptor) true k11)
+    then hex_at line (k + 5) >>= (λ descriptor. device_words line k (Some descriptor) true k11 flash)
     else None
 
--- k11 can only be the last word
+-- in so many words, those before flash: k11 can only be the last of them
+abbrev pub device_to : List ℕ → (k count : ℕ) → (flash : Bool) → Option Form
+device_to line k count flash =
+    if nat_lt (k + 5) count && is_word line (count - 1) (codes "k11")
+    then device_of_words line k (count - 1) true flash
+    else device_of_words line k count false flash
+
+-- flash can only be the last word
 abbrev pub device_from : List ℕ → (k : ℕ) → Option Form
 device_from line k =
-    if nat_lt (k + 5) (count_of line) && is_word line (count_of line - 1) (codes "k11")
-    then device_of_words line k (count_of line - 1) true
-    else device_of_words line k (count_of line) false
+    if nat_lt (k + 5) (count_of line) && is_word line (count_of line - 1) (codes "flash")
+    then device_to line k (count_of line - 1) true
+    else device_to line k (count_of line) false
 
 abbrev pub device_form : List ℕ → Option Form
 device_form line = device_from line 2
 
--- at MS, wake D, migrate D, ask D and up U
+-- at MS, wake D, migrate D, power D, ask D and up U
 abbrev pub at_form : List ℕ → Option Form
 at_form line = with_decimal line (λ time. At time)
 
@@ -138,6 +146,9 @@ wake_form line = with_decimal line (λ device. Wake device)
 
 abbrev pub migrate_form : List ℕ → Option Form
 migrate_form line = with_decimal line (λ device. Migrate device)
+
+abbrev pub power_form : List ℕ → Option Form
+power_form line = with_decimal line (λ device. Power device)
 
 abbrev pub ask_form : List ℕ → Option Form
 ask_form line = with_decimal line (λ device. Ask device)
@@ -209,6 +220,7 @@ form_of line =
     else if is_word line 0 (codes "at") then at_form line
     else if is_word line 0 (codes "wake") then wake_form line
     else if is_word line 0 (codes "migrate") then migrate_form line
+    else if is_word line 0 (codes "power") then power_form line
     else if is_word line 0 (codes "ask") then ask_form line
     else if is_word line 0 (codes "frag") then alone line Frag
     else if is_word line 0 (codes "status") then alone line Status

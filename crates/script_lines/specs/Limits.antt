@@ -33,6 +33,10 @@ max_rows = 256
 abbrev pub max_devices : ℕ
 max_devices = 64
 
+-- devices whose sessions are held in flash
+abbrev pub max_flash_devices : ℕ
+max_flash_devices = 4
+
 -- the index of a session, and the id of a group
 abbrev pub max_index : ℕ
 max_index = 3

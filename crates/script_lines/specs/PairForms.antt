@@ -8,7 +8,7 @@ use Rattle.script_lines.specs.declared.forms.Form.TheVariants.{Header, Frag, Sta
 use Rattle.script_lines.specs.declared.forms.PairForm.{PairForm}
 use Rattle.script_lines.specs.Lines.{word, is_word}
 use Rattle.script_lines.specs.Numbers.{decimal_of, ◌>>=◌}
-use Rattle.script_lines.specs.Forms.{count_of, decimal_at, image_words, group_words, window_from, device_from, at_form, wake_form, migrate_form, ask_form, down_of, in_the_air, alone}
+use Rattle.script_lines.specs.Forms.{count_of, decimal_at, image_words, group_words, window_from, device_from, at_form, wake_form, migrate_form, power_form, ask_form, down_of, in_the_air, alone}
 
 -- ---- the campaign that a line names
 
@@ -76,6 +76,7 @@ pair_form_of line =
     else if is_word line 0 (codes "at") then of_none (at_form line)
     else if is_word line 0 (codes "wake") then of_none (wake_form line)
     else if is_word line 0 (codes "migrate") then of_none (migrate_form line)
+    else if is_word line 0 (codes "power") then of_none (power_form line)
     else if is_word line 0 (codes "ask") then of_none (ask_form line)
     else if is_word line 0 (codes "frag") then of_named (campaign_at line 1) (pair_alone line Frag)
     else if is_word line 0 (codes "status") then of_named (campaign_at line 1) (pair_alone line Status)

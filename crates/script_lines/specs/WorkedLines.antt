@@ -1,7 +1,7 @@
 -- Lines of a script, each with the form that it spells, or with none.
 use Rattle.std.specs.Prelude.{◌≡◌, ◌-◌, ◌^◌, true, false, [], ◌∷◌, codes, Some, None}
 use Rattle.script_lines.specs.declared.forms.Class.TheVariants as class
-use Rattle.script_lines.specs.declared.forms.Form.TheVariants.{Header, Image, Group, WindowC, WindowB, Device, At, Wake, Migrate, Ask, Frag, Status, Down, Raw, Air, RawAir, Up, End}
+use Rattle.script_lines.specs.declared.forms.Form.TheVariants.{Header, Image, Group, WindowC, WindowB, Device, At, Wake, Migrate, Power, Ask, Frag, Status, Down, Raw, Air, RawAir, Up, End}
 use Rattle.script_lines.specs.Lines.{lines_of, words_of}
 use Rattle.script_lines.specs.Numbers.{decimal_of, hex_number_of}
 use Rattle.script_lines.specs.Forms.{form_of}
@@ -14,24 +14,33 @@ pub record AreForms : Type 0 where
   pub window_c : form_of (codes "window c 1000 1 8695250 5") ≡ Some (WindowC 1000 1 8695250 5)
   pub window_b : form_of (codes "window b 1000 3 1 8695250 5") ≡ Some (WindowB 1000 3 1 8695250 5)
   pub device_a : form_of (codes "device 1 a 2 3 4 000102030405060708090a0b0c0d0e0f")
-      ≡ Some (Device 1 class.A 2 3 4 (0 ∷ 1 ∷ 2 ∷ 3 ∷ 4 ∷ 5 ∷ 6 ∷ 7 ∷ 8 ∷ 9 ∷ 10 ∷ 11 ∷ 12 ∷ 13 ∷ 14 ∷ 15 ∷ []) None false false)
+      ≡ Some (Device 1 class.A 2 3 4 (0 ∷ 1 ∷ 2 ∷ 3 ∷ 4 ∷ 5 ∷ 6 ∷ 7 ∷ 8 ∷ 9 ∷ 10 ∷ 11 ∷ 12 ∷ 13 ∷ 14 ∷ 15 ∷ []) None false false false)
   pub device_c : form_of (codes "device 2 c 2 3 4 000102030405060708090a0b0c0d0e0f 0000000a")
-      ≡ Some (Device 2 class.C 2 3 4 (0 ∷ 1 ∷ 2 ∷ 3 ∷ 4 ∷ 5 ∷ 6 ∷ 7 ∷ 8 ∷ 9 ∷ 10 ∷ 11 ∷ 12 ∷ 13 ∷ 14 ∷ 15 ∷ []) (Some 10) false false)
+      ≡ Some (Device 2 class.C 2 3 4 (0 ∷ 1 ∷ 2 ∷ 3 ∷ 4 ∷ 5 ∷ 6 ∷ 7 ∷ 8 ∷ 9 ∷ 10 ∷ 11 ∷ 12 ∷ 13 ∷ 14 ∷ 15 ∷ []) (Some 10) false false false)
   pub device_v1 : form_of (codes "device 2 c 2 3 4 000102030405060708090a0b0c0d0e0f v1")
-      ≡ Some (Device 2 class.C 2 3 4 (0 ∷ 1 ∷ 2 ∷ 3 ∷ 4 ∷ 5 ∷ 6 ∷ 7 ∷ 8 ∷ 9 ∷ 10 ∷ 11 ∷ 12 ∷ 13 ∷ 14 ∷ 15 ∷ []) None true false)
+      ≡ Some (Device 2 class.C 2 3 4 (0 ∷ 1 ∷ 2 ∷ 3 ∷ 4 ∷ 5 ∷ 6 ∷ 7 ∷ 8 ∷ 9 ∷ 10 ∷ 11 ∷ 12 ∷ 13 ∷ 14 ∷ 15 ∷ []) None true false false)
   pub device_with_both : form_of (codes "device 2 c 2 3 4 000102030405060708090a0b0c0d0e0f 0000000a v1")
-      ≡ Some (Device 2 class.C 2 3 4 (0 ∷ 1 ∷ 2 ∷ 3 ∷ 4 ∷ 5 ∷ 6 ∷ 7 ∷ 8 ∷ 9 ∷ 10 ∷ 11 ∷ 12 ∷ 13 ∷ 14 ∷ 15 ∷ []) (Some 10) true false)
+      ≡ Some (Device 2 class.C 2 3 4 (0 ∷ 1 ∷ 2 ∷ 3 ∷ 4 ∷ 5 ∷ 6 ∷ 7 ∷ 8 ∷ 9 ∷ 10 ∷ 11 ∷ 12 ∷ 13 ∷ 14 ∷ 15 ∷ []) (Some 10) true false false)
   pub device_k11 : form_of (codes "device 2 c 2 3 4 000102030405060708090a0b0c0d0e0f k11")
-      ≡ Some (Device 2 class.C 2 3 4 (0 ∷ 1 ∷ 2 ∷ 3 ∷ 4 ∷ 5 ∷ 6 ∷ 7 ∷ 8 ∷ 9 ∷ 10 ∷ 11 ∷ 12 ∷ 13 ∷ 14 ∷ 15 ∷ []) None false true)
+      ≡ Some (Device 2 class.C 2 3 4 (0 ∷ 1 ∷ 2 ∷ 3 ∷ 4 ∷ 5 ∷ 6 ∷ 7 ∷ 8 ∷ 9 ∷ 10 ∷ 11 ∷ 12 ∷ 13 ∷ 14 ∷ 15 ∷ []) None false true false)
   pub device_v1_k11 : form_of (codes "device 2 c 2 3 4 000102030405060708090a0b0c0d0e0f v1 k11")
-      ≡ Some (Device 2 class.C 2 3 4 (0 ∷ 1 ∷ 2 ∷ 3 ∷ 4 ∷ 5 ∷ 6 ∷ 7 ∷ 8 ∷ 9 ∷ 10 ∷ 11 ∷ 12 ∷ 13 ∷ 14 ∷ 15 ∷ []) None true true)
+      ≡ Some (Device 2 class.C 2 3 4 (0 ∷ 1 ∷ 2 ∷ 3 ∷ 4 ∷ 5 ∷ 6 ∷ 7 ∷ 8 ∷ 9 ∷ 10 ∷ 11 ∷ 12 ∷ 13 ∷ 14 ∷ 15 ∷ []) None true true false)
   pub device_k11_behind_descriptor : form_of (codes "device 2 c 2 3 4 000102030405060708090a0b0c0d0e0f 0000000a k11")
-      ≡ Some (Device 2 class.C 2 3 4 (0 ∷ 1 ∷ 2 ∷ 3 ∷ 4 ∷ 5 ∷ 6 ∷ 7 ∷ 8 ∷ 9 ∷ 10 ∷ 11 ∷ 12 ∷ 13 ∷ 14 ∷ 15 ∷ []) (Some 10) false true)
+      ≡ Some (Device 2 class.C 2 3 4 (0 ∷ 1 ∷ 2 ∷ 3 ∷ 4 ∷ 5 ∷ 6 ∷ 7 ∷ 8 ∷ 9 ∷ 10 ∷ 11 ∷ 12 ∷ 13 ∷ 14 ∷ 15 ∷ []) (Some 10) false true false)
   pub device_with_all : form_of (codes "device 2 c 2 3 4 000102030405060708090a0b0c0d0e0f 0000000a v1 k11")
-      ≡ Some (Device 2 class.C 2 3 4 (0 ∷ 1 ∷ 2 ∷ 3 ∷ 4 ∷ 5 ∷ 6 ∷ 7 ∷ 8 ∷ 9 ∷ 10 ∷ 11 ∷ 12 ∷ 13 ∷ 14 ∷ 15 ∷ []) (Some 10) true true)
+      ≡ Some (Device 2 class.C 2 3 4 (0 ∷ 1 ∷ 2 ∷ 3 ∷ 4 ∷ 5 ∷ 6 ∷ 7 ∷ 8 ∷ 9 ∷ 10 ∷ 11 ∷ 12 ∷ 13 ∷ 14 ∷ 15 ∷ []) (Some 10) true true false)
+  pub device_flash : form_of (codes "device 2 c 2 3 4 000102030405060708090a0b0c0d0e0f flash")
+      ≡ Some (Device 2 class.C 2 3 4 (0 ∷ 1 ∷ 2 ∷ 3 ∷ 4 ∷ 5 ∷ 6 ∷ 7 ∷ 8 ∷ 9 ∷ 10 ∷ 11 ∷ 12 ∷ 13 ∷ 14 ∷ 15 ∷ []) None false false true)
+  pub device_flash_behind_descriptor : form_of (codes "device 2 c 2 3 4 000102030405060708090a0b0c0d0e0f 0000000a flash")
+      ≡ Some (Device 2 class.C 2 3 4 (0 ∷ 1 ∷ 2 ∷ 3 ∷ 4 ∷ 5 ∷ 6 ∷ 7 ∷ 8 ∷ 9 ∷ 10 ∷ 11 ∷ 12 ∷ 13 ∷ 14 ∷ 15 ∷ []) (Some 10) false false true)
+  pub device_k11_flash : form_of (codes "device 2 c 2 3 4 000102030405060708090a0b0c0d0e0f k11 flash")
+      ≡ Some (Device 2 class.C 2 3 4 (0 ∷ 1 ∷ 2 ∷ 3 ∷ 4 ∷ 5 ∷ 6 ∷ 7 ∷ 8 ∷ 9 ∷ 10 ∷ 11 ∷ 12 ∷ 13 ∷ 14 ∷ 15 ∷ []) None false true true)
+  pub device_with_flash_too : form_of (codes "device 2 c 2 3 4 000102030405060708090a0b0c0d0e0f 0000000a v1 k11 flash")
+      ≡ Some (Device 2 class.C 2 3 4 (0 ∷ 1 ∷ 2 ∷ 3 ∷ 4 ∷ 5 ∷ 6 ∷ 7 ∷ 8 ∷ 9 ∷ 10 ∷ 11 ∷ 12 ∷ 13 ∷ 14 ∷ 15 ∷ []) (Some 10) true true true)
   pub at : form_of (codes "at 4294967295999") ≡ Some (At 4294967295999)
   pub wake : form_of (codes "wake 7") ≡ Some (Wake 7)
   pub migrate : form_of (codes "migrate 7") ≡ Some (Migrate 7)
+  pub power : form_of (codes "power 7") ≡ Some (Power 7)
   pub ask : form_of (codes "ask 7") ≡ Some (Ask 7)
   pub frag : form_of (codes "frag") ≡ Some Frag
   pub status : form_of (codes "status") ≡ Some Status
@@ -72,6 +81,12 @@ pub record AreNone : Type 0 where
   pub capital_root : form_of (codes "device 2 c 2 3 4 000102030405060708090a0b0c0d0e0f K11") ≡ None
   pub behind_all : form_of (codes "device 2 c 2 3 4 000102030405060708090a0b0c0d0e0f 0000000a v1 k11 k11") ≡ None
   pub root_for_key : form_of (codes "device 2 c 2 3 4 k11") ≡ None
+  pub flash_before_root : form_of (codes "device 2 c 2 3 4 000102030405060708090a0b0c0d0e0f flash k11") ≡ None
+  pub flash_before_formats : form_of (codes "device 2 c 2 3 4 000102030405060708090a0b0c0d0e0f flash v1") ≡ None
+  pub flash_before_descriptor : form_of (codes "device 2 c 2 3 4 000102030405060708090a0b0c0d0e0f flash 0000000a") ≡ None
+  pub flash_twice : form_of (codes "device 2 c 2 3 4 000102030405060708090a0b0c0d0e0f flash flash") ≡ None
+  pub flash_for_key : form_of (codes "device 2 c 2 3 4 flash") ≡ None
+  pub power_of_none : form_of (codes "power") ≡ None
   pub window_a : form_of (codes "window a 1000 1 8695250 5") ≡ None
   pub odd_hex : form_of (codes "raw 7 201 080") ≡ None
   pub no_hex : form_of (codes "raw 7 201 08g1") ≡ None

@@ -4,7 +4,7 @@ use Rattle.script_lines.specs.declared.forms.Class.TheVariants as class
 use Rattle.script_lines.specs.declared.forms.Campaign.{Campaign}
 use Rattle.script_lines.specs.declared.forms.Campaign.TheVariants.{A, B}
 use Rattle.script_lines.specs.declared.forms.Form.{Form}
-use Rattle.script_lines.specs.declared.forms.Form.TheVariants.{Header, Image, Group, WindowC, WindowB, Device, At, Wake, Migrate, Ask, Frag, Status, Down, Air, Up, End}
+use Rattle.script_lines.specs.declared.forms.Form.TheVariants.{Header, Image, Group, WindowC, WindowB, Device, At, Wake, Migrate, Power, Ask, Frag, Status, Down, Air, Up, End}
 use Rattle.script_lines.specs.declared.forms.PairForm.{PairForm}
 use Rattle.script_lines.specs.PairForms.{pair_form_of}
 
@@ -22,12 +22,15 @@ pub record ArePairForms : Type 0 where
   pub window_c : spells (codes "window a c 1000 1 8695250 5") ≡ by (Some A) (WindowC 1000 1 8695250 5)
   pub window_b : spells (codes "window b b 1000 3 1 8695250 5") ≡ by (Some B) (WindowB 1000 3 1 8695250 5)
   pub device : spells (codes "device 1 b a 2 3 4 00000000000000000000000000000000")
-      ≡ by (Some B) (Device 1 class.A 2 3 4 (replicate 16 0) None false false)
+      ≡ by (Some B) (Device 1 class.A 2 3 4 (replicate 16 0) None false false false)
   pub device_with_all : spells (codes "device 2 a c 2 3 4 00000000000000000000000000000000 0000000a v1 k11")
-      ≡ by (Some A) (Device 2 class.C 2 3 4 (replicate 16 0) (Some 10) true true)
+      ≡ by (Some A) (Device 2 class.C 2 3 4 (replicate 16 0) (Some 10) true true false)
+  pub device_with_flash : spells (codes "device 2 a c 2 3 4 00000000000000000000000000000000 v1 k11 flash")
+      ≡ by (Some A) (Device 2 class.C 2 3 4 (replicate 16 0) None true true true)
   pub at : spells (codes "at 5") ≡ by None (At 5)
   pub wake : spells (codes "wake 7") ≡ by None (Wake 7)
   pub migrate : spells (codes "migrate 7") ≡ by None (Migrate 7)
+  pub power : spells (codes "power 7") ≡ by None (Power 7)
   pub ask : spells (codes "ask 7") ≡ by None (Ask 7)
   pub frag : spells (codes "frag b") ≡ by (Some B) Frag
   pub status : spells (codes "status a") ≡ by (Some A) Status
@@ -50,5 +53,6 @@ pub record AreNoPairForms : Type 0 where
   pub capital : spells (codes "down A3 7") ≡ None
   pub letter_apart : spells (codes "up a 3") ≡ None
   pub letter_behind_class : spells (codes "device 1 c a 2 3 4 00000000000000000000000000000000") ≡ None
+  pub power_of_campaign : spells (codes "power a 7") ≡ None
   pub raw : spells (codes "raw 7 201 0801") ≡ None
   pub raw_air : spells (codes "rawair 7 60") ≡ None

@@ -2,7 +2,7 @@
 use Rattle.std.specs.Prelude.{◌≡◌, ℕ, ◌+◌, ◌-◌, ◌^◌, true, false, [], length, replicate, Some, None}
 use Rattle.script_lines.specs.declared.forms.Class.TheVariants as class
 use Rattle.script_lines.specs.declared.forms.Form.{Form}
-use Rattle.script_lines.specs.declared.forms.Form.TheVariants.{Header, Image, Group, WindowC, WindowB, Device, At, Wake, Migrate, Ask, Frag, Status, Down, Raw, Air, RawAir, Up, End}
+use Rattle.script_lines.specs.declared.forms.Form.TheVariants.{Header, Image, Group, WindowC, WindowB, Device, At, Wake, Migrate, Power, Ask, Frag, Status, Down, Raw, Air, RawAir, Up, End}
 use Rattle.script_lines.specs.Limits.{max_lines}
 use Rattle.script_lines.specs.Numbers.{hex_bytes_of}
 use Rattle.script_lines.specs.Pieces.{cut}
@@ -12,7 +12,7 @@ abbrev pub group : (min max : ℕ) → Form
 group min max = Group 0 0 (replicate 16 0) min max
 
 abbrev pub device : (id hw rows offset : ℕ) → Form
-device id hw rows offset = Device id class.A hw rows offset (replicate 16 0) None false false
+device id hw rows offset = Device id class.A hw rows offset (replicate 16 0) None false false false
 
 pub record AreRanges : Type 0 where
   -- image: FRAGSIZE 1 to 239, PARITY to 512
@@ -87,6 +87,7 @@ pub record AreRanges : Type 0 where
   pub header : in_range Header ≡ true
   pub any_wake : in_range (Wake (2 ^ 64 - 1)) ≡ true
   pub any_migrate : in_range (Migrate (2 ^ 64 - 1)) ≡ true
+  pub any_power : in_range (Power (2 ^ 64 - 1)) ≡ true
   pub any_ask : in_range (Ask (2 ^ 64 - 1)) ≡ true
   pub frag : in_range Frag ≡ true
   pub status : in_range Status ≡ true

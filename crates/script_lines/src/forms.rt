@@ -51,8 +51,9 @@ pub enum Form<'a> {
         freq: u64,
         dr: u64,
     },
-    /// `device ID CLASS HW ROWS OFFSET KEY [DESCRIPTOR] [v1] [k11]`: OFFSET in seconds; with `v1` it knows image format 1
-    /// alone, else both. KEY is the GenAppKey of LoRaWAN 1.0, with `k11` the AppKey of LoRaWAN 1.1.
+    /// `device ID CLASS HW ROWS OFFSET KEY [DESCRIPTOR] [v1] [k11] [flash]`: OFFSET in seconds; with `v1` it knows image
+    /// format 1 alone, else both. KEY is the GenAppKey of LoRaWAN 1.0, with `k11` the AppKey of LoRaWAN 1.1. With `flash` its
+    /// sessions are held in flash.
     Device {
         id: u64,
         class: Class,
@@ -63,6 +64,7 @@ pub enum Form<'a> {
         descriptor: Option<u32>,
         v1: bool,
         k11: bool,
+        flash: bool,
     },
     /// `at MS`: the time now, in milliseconds since the GPS epoch.
     At {
@@ -74,6 +76,10 @@ pub enum Form<'a> {
     },
     /// `migrate D`: device D knows both image formats from now on.
     Migrate {
+        device: u64,
+    },
+    /// `power D`: the power of device D goes off and comes back; its sessions are held in flash.
+    Power {
         device: u64,
     },
     /// `ask D`: the server sends the request of the device's stage.

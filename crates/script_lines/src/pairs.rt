@@ -7,7 +7,7 @@ use crate::forms::{Campaign, Form, PairForm};
 use crate::numbers::decimal;
 use crate::reading::{
     alone, ask_form, at_form, device_from, down_of, group_words, image_words, in_the_air,
-    is_keyword, migrate_form, wake_form, window_from,
+    is_keyword, migrate_form, power_form, wake_form, window_from,
 };
 use crate::words::{count_words, is_word, word};
 
@@ -33,6 +33,8 @@ pub fn pair_form(line: &[u8]) -> Option<PairForm<'_>>
         of_none(wake_form(line))
     } else if is_keyword(keyword, "migrate") {
         of_none(migrate_form(line))
+    } else if is_keyword(keyword, "power") {
+        of_none(power_form(line))
     } else if is_keyword(keyword, "ask") {
         of_none(ask_form(line))
     } else if is_keyword(keyword, "frag") {

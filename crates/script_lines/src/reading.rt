@@ -2,7 +2,7 @@
 
 ghost use Rattle.std.specs.Prelude.{◌≡◌, ◌≤◌, ◌+◌};
 ghost use Rattle.std.specs.Str.{bytes_eq};
-ghost use Rattle.script_lines.specs.Forms.{form_of, alone, header_form, image_form, image_words, group_form, group_words, window_from, window_c_words, window_b_words, device_from, device_of_words, device_words, at_form, wake_form, migrate_form, ask_form, down_form, down_of, down_words, raw_form, raw_words, in_the_air, air_form, raw_air_form, raw_air_words, up_form, class_at};
+ghost use Rattle.script_lines.specs.Forms.{form_of, alone, header_form, image_form, image_words, group_form, group_words, window_from, window_c_words, window_b_words, device_from, device_to, device_of_words, device_words, at_form, wake_form, migrate_form, power_form, ask_form, down_form, down_of, down_words, raw_form, raw_words, in_the_air, air_form, raw_air_form, raw_air_words, up_form, class_at};
 
 use crate::forms::{Class, Form};
 use crate::hex_bytes::HexBytes;
@@ -82,6 +82,8 @@ fn any_form(line: &[u8]) -> Option<Form<'_>>
         wake_form(line)
     } else if is_keyword(keyword, "migrate") {
         migrate_form(line)
+    } else if is_keyword(keyword, "power") {
+        power_form(line)
     } else if is_keyword(keyword, "ask") {
         ask_form(line)
     } else if is_keyword(keyword, "frag") {
@@ -244,49 +246,68 @@ fn window_b_words(line: &[u8], place: usize) -> Option<Form<'_>>
     })
 }
 
-/// `device ID CLASS HW ROWS OFFSET KEY [DESCRIPTOR] [v1] [k11]`, CLASS at a place.
+/// `device ID CLASS HW ROWS OFFSET KEY [DESCRIPTOR] [v1] [k11] [flash]`, CLASS at a place.
 #[inline(never)]
 pub(crate) fn device_from(line: &[u8], place: usize) -> Option<Form<'_>>
     requires { place ≤ 8 }
     ensures { result ≡ device_from line.now place }
 {
     let count = count_words(line);
-    if place + 5 < count && is_word(line, count - 1, "k11") {
-        device_of_words(line, place, count - 1, true)
+    if place + 5 < count && is_word(line, count - 1, "flash") {
+        device_to(line, place, count - 1, true)
     } else {
-        device_of_words(line, place, count, false)
+        device_to(line, place, count, false)
+    }
+}
+
+/// The same in so many words, those before `flash`.
+#[inline(never)]
+fn device_to(line: &[u8], place: usize, count: usize, flash: bool) -> Option<Form<'_>>
+    requires { place ≤ 8 }
+    ensures { result ≡ device_to line.now place count flash }
+{
+    if place + 5 < count && is_word(line, count - 1, "k11") {
+        device_of_words(line, place, count - 1, true, flash)
+    } else {
+        device_of_words(line, place, count, false, flash)
     }
 }
 
 /// The same in so many words, those before `k11`.
 #[inline(never)]
-fn device_of_words(line: &[u8], place: usize, count: usize, k11: bool) -> Option<Form<'_>>
+fn device_of_words(
+    line: &[u8],
+    place: usize,
+    count: usize,
+    k11: bool,
+    flash: bool,
+) -> Option<Form<'_>>
     requires { place ≤ 8 }
-    ensures { result ≡ device_of_words line.now place count k11 }
+    ensures { result ≡ device_of_words line.now place count k11 flash }
 {
     if count == place + 5 {
-        return device_words(line, place, None, false, k11);
+        return device_words(line, place, None, false, k11, flash);
     }
     if count == place + 6 {
-        return device_of_one_more(line, place, k11);
+        return device_of_one_more(line, place, k11, flash);
     }
     if count == place + 7 && is_word(line, place + 6, "v1") {
         let descriptor = hex_number(word(line, place + 5))?;
-        return device_words(line, place, Some(descriptor), true, k11);
+        return device_words(line, place, Some(descriptor), true, k11, flash);
     }
     None
 }
 
 /// With one word behind KEY, `v1` or DESCRIPTOR.
-fn device_of_one_more(line: &[u8], place: usize, k11: bool) -> Option<Form<'_>>
+fn device_of_one_more(line: &[u8], place: usize, k11: bool, flash: bool) -> Option<Form<'_>>
     requires { place ≤ 8 }
-    ensures { result ≡ device_of_words line.now place (place + 6) k11 }
+    ensures { result ≡ device_of_words line.now place (place + 6) k11 flash }
 {
     if is_word(line, place + 5, "v1") {
-        return device_words(line, place, None, true, k11);
+        return device_words(line, place, None, true, k11, flash);
     }
     let descriptor = hex_number(word(line, place + 5))?;
-    device_words(line, place, Some(descriptor), false, k11)
+    device_words(line, place, Some(descriptor), false, k11, flash)
 }
 
 fn device_words(
@@ -295,9 +316,10 @@ fn device_words(
     descriptor: Option<u32>,
     v1: bool,
     k11: bool,
+    flash: bool,
 ) -> Option<Form<'_>>
     requires { place ≤ 8 }
-    ensures { result ≡ device_words line.now place descriptor v1 k11 }
+    ensures { result ≡ device_words line.now place descriptor v1 k11 flash }
 {
     let id = decimal(word(line, 1))?;
     let class = class_at(line, place)?;
@@ -315,6 +337,7 @@ fn device_words(
         descriptor,
         v1,
         k11,
+        flash,
     })
 }
 
@@ -365,6 +388,18 @@ pub(crate) fn migrate_form(line: &[u8]) -> Option<Form<'_>>
     }
     let device = decimal(word(line, 1))?;
     Some(Form::Migrate { device })
+}
+
+/// `power D`
+#[inline(never)]
+pub(crate) fn power_form(line: &[u8]) -> Option<Form<'_>>
+    ensures { result ≡ power_form line.now }
+{
+    if count_words(line) != 2 {
+        return None;
+    }
+    let device = decimal(word(line, 1))?;
+    Some(Form::Power { device })
 }
 
 /// `ask D`
