@@ -1,5 +1,5 @@
 -- The first cause for which a form is refused, test by test.
-use Rattle.std.proofs.Common.{◌≡◌, ℕ, ◌≤◌, ◌<◌, ◌*◌, ◌^◌, ◌+◌, zero, suc, Bool, true, false, not, cond, ◌==◌, ◌&&◌, List, [], ◌∷◌, length, nat_lt, nat_le, Option, Some, None, Ok, Err, refl, sym, ap, ◌∙◌, arith, is_ok, subst, inl, inr, ◌⊎◌, is_some, ne_eqb}
+use Rattle.std.proofs.Common.{◌≡◌, ℕ, ◌≤◌, ◌<◌, ◌*◌, ◌^◌, ◌+◌, zero, suc, Bool, true, false, not, cond, ◌==◌, ◌&&◌, List, [], ◌∷◌, length, nat_lt, nat_le, Option, Some, None, refl, sym, ap, ◌∙◌, arith, is_ok, subst, inl, inr, ◌⊎◌, is_some, ne_eqb}
 use Rattle.std.proofs.lemmas.Grind.{div_ceil_times}
 use Rattle.std.proofs.lemmas.Bool.{leb-true, le-leb, ltb-true, lt-ltb, and_parts}
 use Rattle.std.proofs.lemmas.Bool.Decides.{nat_tests}
@@ -20,8 +20,8 @@ use Rattle.report_lines.specs.declared.faults.LineWhy.TheVariants as why
 use Rattle.campaign_world.specs.declared.section.Section.{Section}
 use Rattle.campaign_world.specs.declared.section.Section.TheVariants as place
 use Rattle.campaign_world.specs.World.{WorldState}
-use Rattle.campaign_world.specs.Causes.{is_device, is_event_or_end, may_come, fits_script, names_device, has_come, is_to_come, fits_payload, has_more, form_cause, line_cause, cause_of}
-use Rattle.campaign_world.specs.Said.{Own, Line, own, line_of}
+use Rattle.campaign_world.specs.Causes.{is_device, is_event_or_end, may_come, fits_script, names_device, has_flash, has_come, is_to_come, fits_flash, fits_payload, has_more, form_cause, line_cause, cause_of}
+use Rattle.campaign_world.specs.Said.{Line, own, line_of}
 use Rattle.script_lines.specs.Forms.{form_of}
 use Rattle.campaign_world.specs.declared.numbered.SentPayload.{SentPayload}
 use Rattle.campaign_world.specs.declared.numbered.MadeUplink.{MadeUplink}
@@ -62,35 +62,52 @@ pub device : (world : WorldState) (form : Form) → Fits world form → names_de
 unfolding form_cause
 device world form so_far fails = rw (so_far.comes, so_far.ranges, so_far.fits, fails) refl
 
-pub unsent : (world : WorldState) (form : Form) → Fits world form → names_device (length world.devices) form ≡ true
-    → has_come world.sent world.uplinks world.time form ≡ false → form_cause world form ≡ Some why.Unsent
+pub unflashed : (world : WorldState) (form : Form) → Fits world form → names_device (length world.devices) form ≡ true
+    → has_flash world.flash form ≡ false → form_cause world form ≡ Some why.Device
 unfolding form_cause
-unsent world form so_far names fails = rw (so_far.comes, so_far.ranges, so_far.fits, names, fails) refl
+unflashed world form so_far names fails = rw (so_far.comes, so_far.ranges, so_far.fits, names, fails) refl
+
+pub unsent : (world : WorldState) (form : Form) → Fits world form → names_device (length world.devices) form ≡ true
+    → has_flash world.flash form ≡ true → has_come world.sent world.uplinks world.time form ≡ false → form_cause world form ≡ Some why.Unsent
+unfolding form_cause
+unsent world form so_far names flash fails = rw (so_far.comes, so_far.ranges, so_far.fits, names, flash, fails) refl
 
 pub time : (world : WorldState) (form : Form) → Fits world form → names_device (length world.devices) form ≡ true
-    → has_come world.sent world.uplinks world.time form ≡ true → is_to_come world.time form ≡ false → form_cause world form ≡ Some why.Time
+    → has_flash world.flash form ≡ true → has_come world.sent world.uplinks world.time form ≡ true → is_to_come world.time form ≡ false → form_cause world form ≡ Some why.Time
 unfolding form_cause
-time world form so_far names come fails = rw (so_far.comes, so_far.ranges, so_far.fits, names, come, fails) refl
+time world form so_far names flash come fails =
+    rw (so_far.comes, so_far.ranges, so_far.fits, names, flash, come, fails) refl
+
+pub full : (world : WorldState) (form : Form) → Fits world form → names_device (length world.devices) form ≡ true
+    → has_flash world.flash form ≡ true → has_come world.sent world.uplinks world.time form ≡ true
+    → is_to_come world.time form ≡ true → fits_flash (length world.flash) form ≡ false → form_cause world form ≡ Some why.Limit
+unfolding form_cause
+full world form so_far names flash come timed fails =
+    rw (so_far.comes, so_far.ranges, so_far.fits, names, flash, come, timed, fails) refl
 
 pub long : (world : WorldState) (form : Form) → Fits world form → names_device (length world.devices) form ≡ true
-    → has_come world.sent world.uplinks world.time form ≡ true → is_to_come world.time form ≡ true → fits_payload form ≡ false
+    → has_flash world.flash form ≡ true → has_come world.sent world.uplinks world.time form ≡ true
+    → is_to_come world.time form ≡ true → fits_flash (length world.flash) form ≡ true → fits_payload form ≡ false
     → form_cause world form ≡ Some why.Limit
 unfolding form_cause
-long world form so_far names come timed fails = rw (so_far.comes, so_far.ranges, so_far.fits, names, come, timed, fails) refl
+long world form so_far names flash come timed room fails =
+    rw (so_far.comes, so_far.ranges, so_far.fits, names, flash, come, timed, room, fails) refl
 
 pub limit : (world : WorldState) (form : Form) → Fits world form → names_device (length world.devices) form ≡ true
-    → has_come world.sent world.uplinks world.time form ≡ true → is_to_come world.time form ≡ true → fits_payload form ≡ true
+    → has_flash world.flash form ≡ true → has_come world.sent world.uplinks world.time form ≡ true
+    → is_to_come world.time form ≡ true → fits_flash (length world.flash) form ≡ true → fits_payload form ≡ true
     → has_more world.server form ≡ false → form_cause world form ≡ Some why.Limit
 unfolding form_cause
-limit world form so_far names come timed short fails =
-    rw (so_far.comes, so_far.ranges, so_far.fits, names, come, timed, short, fails) refl
+limit world form so_far names flash come timed room short fails =
+    rw (so_far.comes, so_far.ranges, so_far.fits, names, flash, come, timed, room, short, fails) refl
 
 pub none : (world : WorldState) (form : Form) → Fits world form → names_device (length world.devices) form ≡ true
-    → has_come world.sent world.uplinks world.time form ≡ true → is_to_come world.time form ≡ true → fits_payload form ≡ true
+    → has_flash world.flash form ≡ true → has_come world.sent world.uplinks world.time form ≡ true
+    → is_to_come world.time form ≡ true → fits_flash (length world.flash) form ≡ true → fits_payload form ≡ true
     → has_more world.server form ≡ true → form_cause world form ≡ None
 unfolding form_cause
-none world form so_far names come timed short more =
-    rw (so_far.comes, so_far.ranges, so_far.fits, names, come, timed, short, more) refl
+none world form so_far names flash come timed room short more =
+    rw (so_far.comes, so_far.ranges, so_far.fits, names, flash, come, timed, room, short, more) refl
 
 -- ---- at its start the server has something to send
 
@@ -155,10 +172,11 @@ unmade_sends image section plan devices (form.Image frag_size parity index) fine
 unmade_sends image section plan devices (form.Group id addr key min max) fine planned comes = refl
 unmade_sends image section plan devices (form.WindowC start timeout freq dr) fine planned comes = refl
 unmade_sends image section plan devices (form.WindowB start periodicity timeout freq dr) fine planned comes = refl
-unmade_sends image section plan devices (form.Device id class hw rows offset key descriptor v1 k11) fine planned comes = refl
+unmade_sends image section plan devices (form.Device id class hw rows offset key descriptor v1 k11 flash) fine planned comes = refl
 unmade_sends image section plan devices (form.At time) fine planned comes = refl
 unmade_sends image section plan devices (form.Wake device) fine planned comes = refl
 unmade_sends image section plan devices (form.Migrate device) fine planned comes = refl
+unmade_sends image section plan devices (form.Power device) fine planned comes = refl
 unmade_sends image section plan devices (form.Down number device word) fine planned comes = refl
 unmade_sends image section plan devices (form.Raw device port payload word) fine planned comes = refl
 unmade_sends image section plan devices (form.Air number device word) fine planned comes = refl
@@ -187,6 +205,14 @@ fits_in image held devices f test size count size_is count_is long is = rw (long
 pub names_in : (held : List Late) (devices : List DeviceState) (f : Form) (test : Bool) (count : ℕ)
     → count ≡ length held → length devices ≡ length held → test ≡ names_device count f → names_device (length devices) f ≡ test
 names_in held devices f test count count_is long is = rw (long, ← count_is) (sym is)
+
+pub flash_in : (ids : List ℕ) (f : Form) (test : Bool) (found : List ℕ) → found ≡ ids → test ≡ has_flash found f
+    → has_flash ids f ≡ test
+flash_in ids f test found found_is is = rw (← found_is) (sym is)
+
+pub room_in : (ids : List ℕ) (f : Form) (test : Bool) (count : ℕ) (found : List ℕ) → found ≡ ids → test ≡ fits_flash count f
+    → count ≡ length found → fits_flash (length ids) f ≡ test
+room_in ids f test count found found_is is count_is = rw (← found_is, ← count_is) (sym is)
 
 pub come_in : (sent : List SentPayload) (uplinks : List MadeUplink) (now : ℕ) (f : Form) (test : Bool) (ss : List SentPayload) (us : List MadeUplink) (t : ℕ)
     → ss ≡ sent → us ≡ uplinks → t ≡ now → test ≡ has_come ss us t f → has_come sent uplinks now f ≡ test
@@ -255,8 +281,10 @@ pub record Passes (world : WorldState) (form : Form) : Type 0 where
   pub ranges : in_range form ≡ true
   pub fits : fits_script (length world.server.image) (length world.devices) form ≡ true
   pub names : names_device (length world.devices) form ≡ true
+  pub flash : has_flash world.flash form ≡ true
   pub come : has_come world.sent world.uplinks world.time form ≡ true
   pub timed : is_to_come world.time form ≡ true
+  pub room : fits_flash (length world.flash) form ≡ true
   pub short : fits_payload form ≡ true
 
 -- a test that fails gives no cause
@@ -270,11 +298,23 @@ passes world form fine =
     let one = passed (may_come world.section form) _ _ fine in
     let two = passed (in_range form && fits_script (length world.server.image) (length world.devices) form) _ _ one.1 in
     let both = and_parts _ _ two.0 in
-    let three = passed (names_device (length world.devices) form) _ _ two.1 in
+    let three = passed (names_device (length world.devices) form && has_flash world.flash form) _ _ two.1 in
+    let named = and_parts _ _ three.0 in
     let four = passed (has_come world.sent world.uplinks world.time form) _ _ three.1 in
     let five = passed (is_to_come world.time form) _ _ four.1 in
-    let six = passed (fits_payload form) _ _ five.1 in
-    record { comes = one.0; ranges = both.0; fits = both.1; names = three.0; come = four.0; timed = five.0; short = six.0 }
+    let six = passed (fits_flash (length world.flash) form && fits_payload form) _ _ five.1 in
+    let last = and_parts _ _ six.0 in
+    record {
+      comes = one.0;
+      ranges = both.0;
+      fits = both.1;
+      names = named.0;
+      flash = named.1;
+      come = four.0;
+      timed = five.0;
+      room = last.0;
+      short = last.1;
+    }
 
 -- ---- what it is that the form of an event names
 
@@ -344,7 +384,7 @@ time_within f time ranges is = let fits : nat_le time max_time ≡ true = rw is 
 
 some_devices : (n : ℕ) → (ds : List DeviceState) × (length ds ≡ n)
 some_devices zero = ([], refl)
-some_devices (suc n) = let more = some_devices n in (device_of class.C 0 0 0 [] None false false ∷ more.0, ap suc more.1)
+some_devices (suc n) = let more = some_devices n in (device_of class.C 0 0 0 [] None false false false ∷ more.0, ap suc more.1)
 
 pub fine_of : (lines : ℕ) (section : Section) (kept : Option LineError) (held : HeldCampaign) (form : Form)
     → IsFine (held_with lines section kept held) form → (may_come section form ≡ true) × IsTested held form
@@ -380,10 +420,11 @@ event_at s (form.Image frag_size parity index) event comes = absurd cc
 event_at s (form.Group id addr key min max) event comes = absurd cc
 event_at s (form.WindowC start timeout freq dr) event comes = absurd cc
 event_at s (form.WindowB start periodicity timeout freq dr) event comes = absurd cc
-event_at s (form.Device id class hw rows offset key descriptor v1 k11) event comes = absurd cc
+event_at s (form.Device id class hw rows offset key descriptor v1 k11 flash) event comes = absurd cc
 event_at s (form.At time) event comes = at_events_only (λ (x : Section). may_come x (form.At time)) refl refl refl refl refl refl s comes
 event_at s (form.Wake device) event comes = at_events_only (λ (x : Section). may_come x (form.Wake device)) refl refl refl refl refl refl s comes
 event_at s (form.Migrate device) event comes = at_events_only (λ (x : Section). may_come x (form.Migrate device)) refl refl refl refl refl refl s comes
+event_at s (form.Power device) event comes = at_events_only (λ (x : Section). may_come x (form.Power device)) refl refl refl refl refl refl s comes
 event_at s (form.Ask device) event comes = at_events_only (λ (x : Section). may_come x (form.Ask device)) refl refl refl refl refl refl s comes
 event_at s form.Frag event comes = at_events_only (λ (x : Section). may_come x form.Frag) refl refl refl refl refl refl s comes
 event_at s form.Status event comes = at_events_only (λ (x : Section). may_come x form.Status) refl refl refl refl refl refl s comes
@@ -442,11 +483,11 @@ header_at s f is comes = by_section s (rw is at comes)
 alone : (plan : Plan) → plan.group ≡ None → plan.window ≡ None → IsWindowed plan
 alone plan no_group no_window = rw (no_group, no_window) refl
 
-pub joins_at : (image : List ℕ) (s : Section) (plan : Plan) (devices : List Late) (f : Form) (id hw rows offset : ℕ) (k : Class) (key : List ℕ) (descriptor : Option ℕ) (v1 k11 : Bool)
-    → f ≡ form.Device id k hw rows offset key descriptor v1 k11 → may_come s f ≡ true → IsPlanned image s plan devices → IsSized image plan devices × IsWindowed plan
-joins_at image s plan devices f id hw rows offset k key descriptor v1 k11 is comes planned = by_section s (rw is at comes) planned
+pub joins_at : (image : List ℕ) (s : Section) (plan : Plan) (devices : List Late) (f : Form) (id hw rows offset : ℕ) (k : Class) (key : List ℕ) (descriptor : Option ℕ) (v1 k11 flash : Bool)
+    → f ≡ form.Device id k hw rows offset key descriptor v1 k11 flash → may_come s f ≡ true → IsPlanned image s plan devices → IsSized image plan devices × IsWindowed plan
+joins_at image s plan devices f id hw rows offset k key descriptor v1 k11 flash is comes planned = by_section s (rw is at comes) planned
   where
-    by_section : (s : Section) → may_come s (form.Device id k hw rows offset key descriptor v1 k11) ≡ true → IsPlanned image s plan devices → IsSized image plan devices × IsWindowed plan
+    by_section : (s : Section) → may_come s (form.Device id k hw rows offset key descriptor v1 k11 flash) ≡ true → IsPlanned image s plan devices → IsSized image plan devices × IsWindowed plan
     by_section place.Header comes planned = absurd cc
     by_section place.Image comes planned = absurd cc
     by_section place.Group comes planned = (planned.0, alone plan planned.1 planned.2)
@@ -559,10 +600,10 @@ pub record Fitting (count id hw rows offset : ℕ) : Type 0 where
   pub offset_fits : offset < 2 ^ 32
   pub next : count < max_devices
 
-pub fitting : (len count : ℕ) (f : Form) (id hw rows offset : ℕ) (k : Class) (key : List ℕ) (descriptor : Option ℕ) (v1 k11 : Bool) → f ≡ form.Device id k hw rows offset key descriptor v1 k11 → in_range f ≡ true
+pub fitting : (len count : ℕ) (f : Form) (id hw rows offset : ℕ) (k : Class) (key : List ℕ) (descriptor : Option ℕ) (v1 k11 flash : Bool) → f ≡ form.Device id k hw rows offset key descriptor v1 k11 flash → in_range f ≡ true
     → fits_script len count f ≡ true → Fitting count id hw rows offset
 unfolding in_range
-fitting len count f id hw rows offset k key descriptor v1 k11 is ranges fits =
+fitting len count f id hw rows offset k key descriptor v1 k11 flash is ranges fits =
     let all : (nat_le 1 id && nat_le id max_devices && nat_lt hw (2 ^ 32) && nat_le rows max_rows && nat_lt offset (2 ^ 32)) ≡ true = rw is at ranges in
     let a = and_parts (nat_le 1 id && nat_le id max_devices && nat_lt hw (2 ^ 32) && nat_le rows max_rows) (nat_lt offset (2 ^ 32)) all in
     let b = and_parts (nat_le 1 id && nat_le id max_devices && nat_lt hw (2 ^ 32)) (nat_le rows max_rows) a.0 in

@@ -26,7 +26,7 @@ use Rattle.script_lines.specs.declared.forms.Form.{Form}
 use Rattle.script_lines.specs.declared.forms.Form.TheVariants as form
 use Rattle.campaign_world.specs.Causes.{is_event_or_end}
 use Rattle.campaign_world.specs.World.{WorldState}
-use Rattle.campaign_world.specs.Making.{with_plan, with_device, after_form, reception, sent_frame, hearing, with_event, at_events}
+use Rattle.campaign_world.specs.Making.{with_joined, with_flash, with_device, after_form, reception, sent_frame, hearing, with_event, at_events}
 use Rattle.campaign_world.specs.Script.{one_line_more}
 use Rattle.campaign_world.specs.HeldWorld.{HeldCampaign, HeldWorld, WorldStands, KeepsEnds, Becomes, Plays, DevicesRest, OneComesToRest, OnesAreNumbered, held_with, world_of}
 use Rattle.campaign_world.specs.HeldLate.{Late, DeviceRests}
@@ -182,31 +182,38 @@ stays_reached time server old new uplinks new_uplinks id long stay last is = rec
 -- ---- a device joins
 
 -- what a plan holds
-abbrev Planned : (image : List ℕ) → Plan → List Late → HeldCampaign
-Planned image plan devices = record { time = 0; server = first_server image plan; devices = devices; sent = []; uplinks = [] }
+abbrev Planned : (image : List ℕ) → Plan → List Late → (flash : List ℕ) → HeldCampaign
+Planned image plan devices flash =
+    record { time = 0; server = first_server image plan; devices = devices; flash = flash; sent = []; uplinks = [] }
 
-join_held : (lines : ℕ) (here : Section) (kept : Option LineError) (image : List ℕ) (plan new_plan : Plan) (devices new_devices : List Late)
-    (ds : List DeviceState) (config : DeviceConfig) (device : Late) → DevicesRest devices ds
-    → new_plan ≡ record plan { devices = plan.devices ++ record { key = config.key; root = config.root } ∷ [] }
-    → new_devices ≡ devices ++ device ∷ [] → DeviceRests device (first_device config)
-    → WorldStands (held_with lines section.Devices kept (Planned image new_plan new_devices))
-    (with_plan (record (world_of (held_with lines here kept (Planned image plan devices)) ds) { devices = ds ++ first_device config ∷ [] })
-    (record plan { devices = plan.devices ++ record { key = config.key; root = config.root } ∷ [] }) section.Devices)
-join_held lines here kept image plan new_plan devices new_devices ds config device all plan_is devices_are joins =
-    rw (plan_is, devices_are) (record { devices = zip_more DeviceRests devices ds device (first_device config) all joins; rest = refl })
+-- the plan with one device more
+abbrev planned_more : Plan → DeviceConfig → Plan
+planned_more plan config = record plan { devices = plan.devices ++ record { key = config.key; root = config.root } ∷ [] }
 
-pub join_step : (lines : ℕ) (here : Section) (kept : Option LineError) (image : List ℕ) (plan new_plan : Plan) (devices new_devices : List Late)
-    (world : WorldState) (config : DeviceConfig) (device : Late) → WorldStands (held_with lines here kept (Planned image plan devices)) world
-    → new_plan ≡ record plan { devices = plan.devices ++ record { key = config.key; root = config.root } ∷ [] }
-    → new_devices ≡ devices ++ device ∷ [] → DeviceRests device (first_device config)
-    → WorldStands (held_with lines section.Devices kept (Planned image new_plan new_devices))
-    (with_plan (record world { devices = world.devices ++ first_device config ∷ [] })
-    (record world.server.plan { devices = world.server.plan.devices ++ record { key = config.key; root = config.root } ∷ [] }) section.Devices)
-join_step lines here kept image plan new_plan devices new_devices world config device stands plan_is devices_are joins =
-    subst (λ (w : WorldState). WorldStands (held_with lines section.Devices kept (Planned image new_plan new_devices))
-    (with_plan (record w { devices = w.devices ++ first_device config ∷ [] })
-    (record w.server.plan { devices = w.server.plan.devices ++ record { key = config.key; root = config.root } ∷ [] }) section.Devices)) (sym stands.rest)
-    (join_held lines here kept image plan new_plan devices new_devices world.devices config device stands.devices plan_is devices_are joins)
+join_held : (lines : ℕ) (here : Section) (kept : Option LineError) (image : List ℕ) (plan new_plan : Plan)
+    (devices new_devices : List Late) (ids new_ids : List ℕ) (id : ℕ) (flash : Bool)
+    (ds : List DeviceState) (config : DeviceConfig) (device : Late) → DevicesRest devices ds → new_plan ≡ planned_more plan config
+    → new_devices ≡ devices ++ device ∷ [] → new_ids ≡ with_flash ids id flash → DeviceRests device (first_device config)
+    → WorldStands (held_with lines section.Devices kept (Planned image new_plan new_devices new_ids))
+    (with_joined (world_of (held_with lines here kept (Planned image plan devices ids)) ds) id config flash)
+join_held lines here kept image plan new_plan devices new_devices ids new_ids id flash ds config device all plan_is devices_are
+    ids_are joins =
+    rw (plan_is, devices_are, ids_are)
+    (record { devices = zip_more DeviceRests devices ds device (first_device config) all joins; rest = refl })
+
+pub join_step : (lines : ℕ) (here : Section) (kept : Option LineError) (image : List ℕ) (plan new_plan : Plan)
+    (devices new_devices : List Late) (ids new_ids : List ℕ) (id : ℕ) (flash : Bool)
+    (world : WorldState) (config : DeviceConfig) (device : Late)
+    → WorldStands (held_with lines here kept (Planned image plan devices ids)) world → new_plan ≡ planned_more plan config
+    → new_devices ≡ devices ++ device ∷ [] → new_ids ≡ with_flash ids id flash → DeviceRests device (first_device config)
+    → WorldStands (held_with lines section.Devices kept (Planned image new_plan new_devices new_ids))
+    (with_joined world id config flash)
+join_step lines here kept image plan new_plan devices new_devices ids new_ids id flash world config device stands plan_is
+    devices_are ids_are joins =
+    subst (λ (w : WorldState). WorldStands (held_with lines section.Devices kept (Planned image new_plan new_devices new_ids))
+    (with_joined w id config flash)) (sym stands.rest)
+    (join_held lines here kept image plan new_plan devices new_devices ids new_ids id flash world.devices config device
+    stands.devices plan_is devices_are ids_are joins)
 
 -- ---- an event, and the end
 
@@ -219,10 +226,11 @@ event_section world (form.Image frag_size parity index) event = absurd cc
 event_section world (form.Group id addr key min max) event = absurd cc
 event_section world (form.WindowC start timeout freq dr) event = absurd cc
 event_section world (form.WindowB start periodicity timeout freq dr) event = absurd cc
-event_section world (form.Device id class hw rows offset key descriptor v1 k11) event = absurd cc
+event_section world (form.Device id class hw rows offset key descriptor v1 k11 flash) event = absurd cc
 event_section world (form.At time) event = refl
 event_section world (form.Wake device) event = refl
 event_section world (form.Migrate device) event = refl
+event_section world (form.Power device) event = refl
 event_section world (form.Ask device) event = refl
 event_section world form.Frag event = refl
 event_section world form.Status event = refl

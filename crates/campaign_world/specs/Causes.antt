@@ -1,5 +1,6 @@
 -- When a line is refused (this project's profile): the causes in their order, tried after the lines before it.
-use Rattle.std.specs.Prelude.{ℕ, ◌+◌, Bool, true, false, ◌&&◌, ◌||◌, not, ◌==◌, nat_le, if◌then◌else◌, List, length, Option, Some, None, is_some, is_ok, Ok, Err}
+use Rattle.std.specs.Prelude.{ℕ, ◌+◌, Bool, true, false, ◌&&◌, ◌||◌, not, ◌==◌, nat_le, nat_lt, if◌then◌else◌, List, length, Option, Some, None, is_some, is_ok, Ok, Err}
+use Rattle.std.specs.List.{list_any}
 use Rattle.wire_base.specs.Payload.{max_payload}
 use Rattle.package_grammar.specs.declared.downlink.To.{To}
 use Rattle.package_grammar.specs.declared.downlink.To.TheVariants as to
@@ -9,12 +10,12 @@ use Rattle.campaign_server.specs.Server.{ServerState}
 use Rattle.wire_base.specs.Numbered.{numbered}
 use Rattle.campaign_server.specs.Fragments.{next_fragment, status_to_all}
 use Rattle.script_lines.specs.declared.forms.Form.{Form}
-use Rattle.script_lines.specs.declared.forms.Form.TheVariants.{Header, Image, Group, WindowC, WindowB, Device, At, Wake, Migrate, Ask, Frag, Status, Down, Raw, Air, RawAir, Up}
+use Rattle.script_lines.specs.declared.forms.Form.TheVariants.{Header, Image, Group, WindowC, WindowB, Device, At, Wake, Migrate, Power, Ask, Frag, Status, Down, Raw, Air, RawAir, Up}
 use Rattle.report_lines.specs.declared.faults.LineWhy.{LineWhy}
 use Rattle.report_lines.specs.declared.faults.LineWhy.TheVariants as why
 use Rattle.campaign_world.specs.declared.section.Section.{Section}
 use Rattle.campaign_world.specs.declared.section.Section.TheVariants as section
-use Rattle.script_lines.specs.Limits.{max_lines}
+use Rattle.script_lines.specs.Limits.{max_lines, max_flash_devices}
 use Rattle.script_lines.specs.Ranges.{in_range}
 use Rattle.campaign_world.specs.declared.numbered.SentPayload.{SentPayload}
 use Rattle.campaign_world.specs.declared.numbered.MadeUplink.{MadeUplink}
@@ -30,7 +31,7 @@ is_event_or_end (Image frag_size parity index) = false
 is_event_or_end (Group id addr key min max) = false
 is_event_or_end (WindowC start timeout freq dr) = false
 is_event_or_end (WindowB start periodicity timeout freq dr) = false
-is_event_or_end (Device id class hw rows offset key descriptor v1 k11) = false
+is_event_or_end (Device id class hw rows offset key descriptor v1 k11 flash) = false
 is_event_or_end form = true
 
 -- the form may come here
@@ -38,11 +39,11 @@ abbrev pub may_come : Section → Form → Bool
 may_come section.Header Header = true
 may_come section.Image (Image frag_size parity index) = true
 may_come section.Group (Group id addr key min max) = true
-may_come section.Group (Device id class hw rows offset key descriptor v1 k11) = true
+may_come section.Group (Device id class hw rows offset key descriptor v1 k11 flash) = true
 may_come section.Window (WindowC start timeout freq dr) = true
 may_come section.Window (WindowB start periodicity timeout freq dr) = true
-may_come section.Device (Device id class hw rows offset key descriptor v1 k11) = true
-may_come section.Devices (Device id class hw rows offset key descriptor v1 k11) = true
+may_come section.Device (Device id class hw rows offset key descriptor v1 k11 flash) = true
+may_come section.Devices (Device id class hw rows offset key descriptor v1 k11 flash) = true
 may_come section.Devices form = is_event_or_end form
 may_come section.Events form = is_event_or_end form
 may_come here form = false
@@ -57,7 +58,7 @@ has_ended here = false
 -- an image of this length has at most 4,096 fragments; behind so many devices the ID is the next
 abbrev pub fits_script : (len count : ℕ) → Form → Bool
 fits_script len count (Image frag_size parity index) = nat_le (nb_frag_of len frag_size) max_pieces
-fits_script len count (Device id class hw rows offset key descriptor v1 k11) = id == count + 1
+fits_script len count (Device id class hw rows offset key descriptor v1 k11 flash) = id == count + 1
 fits_script len count form = true
 
 -- ---- device, unsent, time
@@ -69,12 +70,18 @@ is_device count device = nat_le 1 device && nat_le device count
 abbrev pub names_device : (count : ℕ) → Form → Bool
 names_device count (Wake device) = is_device count device
 names_device count (Migrate device) = is_device count device
+names_device count (Power device) = is_device count device
 names_device count (Ask device) = is_device count device
 names_device count (Down number device word) = is_device count device
 names_device count (Raw device port payload word) = is_device count device
 names_device count (Air number device word) = is_device count device
 names_device count (RawAir device bytes word) = is_device count device
 names_device count form = true
+
+-- the device whose power goes and comes back is one of those with a flash
+abbrev pub has_flash : (flash : List ℕ) → Form → Bool
+has_flash flash (Power device) = list_any (λ id. id == device) flash
+has_flash flash form = true
 
 -- the payload was sent, to this device or to any
 abbrev pub may_reach : (device : ℕ) → Option SentPayload → Bool
@@ -113,6 +120,11 @@ is_to_come now form = true
 
 -- ---- limit, last of all
 
+-- behind so many devices with a flash one more has its place
+abbrev pub fits_flash : (count : ℕ) → Form → Bool
+fits_flash count (Device id class hw rows offset key descriptor v1 k11 flash) = not flash || nat_lt count max_flash_devices
+fits_flash count form = true
+
 -- anybody's payload has at most 242 bytes
 abbrev pub fits_payload : Form → Bool
 fits_payload (Raw device port payload word) = nat_le (length payload) max_payload
@@ -130,10 +142,10 @@ unfoldable pub form_cause : WorldState → Form → Option LineWhy
 form_cause world form =
     if not (may_come world.section form) then Some why.Order
     else if not (in_range form && fits_script (length world.server.image) (length world.devices) form) then Some why.Range
-    else if not (names_device (length world.devices) form) then Some why.Device
+    else if not (names_device (length world.devices) form && has_flash world.flash form) then Some why.Device
     else if not (has_come world.sent world.uplinks world.time form) then Some why.Unsent
     else if not (is_to_come world.time form) then Some why.Time
-    else if not (fits_payload form) then Some why.Limit
+    else if not (fits_flash (length world.flash) form && fits_payload form) then Some why.Limit
     else if not (has_more world.server form) then Some why.Limit
     else None
 

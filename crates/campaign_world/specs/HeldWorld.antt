@@ -28,6 +28,7 @@ pub record HeldCampaign : Type 0 where
   pub time : ℕ
   pub server : ServerState
   pub devices : List Late
+  pub flash : List ℕ
   pub sent : List SentPayload
   pub uplinks : List MadeUplink
 
@@ -38,6 +39,7 @@ pub record HeldWorld : Type 0 where
   pub time : ℕ
   pub server : ServerState
   pub devices : List Late
+  pub flash : List ℕ
   pub sent : List SentPayload
   pub uplinks : List MadeUplink
   pub kept : Option LineError
@@ -50,6 +52,7 @@ held_with lines section kept held = record {
   time = held.time;
   server = held.server;
   devices = held.devices;
+  flash = held.flash;
   sent = held.sent;
   uplinks = held.uplinks;
   kept = kept;
@@ -63,6 +66,7 @@ world_of held devices = record {
   time = held.time;
   server = held.server;
   devices = devices;
+  flash = held.flash;
   sent = held.sent;
   uplinks = held.uplinks;
 }

@@ -25,7 +25,7 @@ use Rattle.campaign_server.specs.Uplinks.{UplinkStep, uplink_step}
 use Rattle.script_lines.specs.declared.forms.Class.{Class}
 use Rattle.script_lines.specs.declared.forms.Class.TheVariants as class
 use Rattle.script_lines.specs.declared.forms.Form.{Form}
-use Rattle.script_lines.specs.declared.forms.Form.TheVariants.{Header, Image, Group, WindowC, WindowB, Device, At, Wake, Migrate, Ask, Frag, Status, Down, Raw, Air, RawAir, Up, End}
+use Rattle.script_lines.specs.declared.forms.Form.TheVariants.{Header, Image, Group, WindowC, WindowB, Device, At, Wake, Migrate, Power, Ask, Frag, Status, Down, Raw, Air, RawAir, Up, End}
 use Rattle.campaign_world.specs.declared.section.Section.{Section}
 use Rattle.campaign_world.specs.declared.section.Section.TheVariants as section
 use Rattle.campaign_world.specs.declared.numbered.SentPayload.{SentPayload}
@@ -57,9 +57,17 @@ abbrev pub root_of : (k11 : Bool) → RootKind
 root_of true = V11
 root_of false = V10
 
+-- bytes of flash for a session, whichever file the area takes
+abbrev pub flash_span : ℕ
+flash_span = 631573
+
+abbrev pub span_of : (held : Bool) → ℕ
+span_of held = if held then flash_span else 0
+
 -- a device has 4 sessions, 4 groups, and an area for the largest file
-abbrev pub config_of : Class → (hw rows offset : ℕ) → (key : List ℕ) → (descriptor : Option ℕ) → (v1 k11 : Bool) → DeviceConfig
-config_of class hw rows offset key descriptor v1 k11 = record {
+abbrev pub config_of : Class → (hw rows offset : ℕ) → (key : List ℕ) → (descriptor : Option ℕ) → (v1 k11 flash : Bool)
+    → DeviceConfig
+config_of class hw rows offset key descriptor v1 k11 flash = record {
   class = class_of class;
   hw = hw;
   formats = formats_of v1;
@@ -75,8 +83,25 @@ config_of class hw rows offset key descriptor v1 k11 = record {
   span = 0;
 }
 
-abbrev pub device_of : Class → (hw rows offset : ℕ) → (key : List ℕ) → (descriptor : Option ℕ) → (v1 k11 : Bool) → DeviceState
-device_of class hw rows offset key descriptor v1 k11 = first_device (config_of class hw rows offset key descriptor v1 k11)
+abbrev pub device_of : Class → (hw rows offset : ℕ) → (key : List ℕ) → (descriptor : Option ℕ) → (v1 k11 flash : Bool)
+    → DeviceState
+device_of class hw rows offset key descriptor v1 k11 flash =
+    first_device (config_of class hw rows offset key descriptor v1 k11 flash)
+
+-- behind its line a device with a flash is one of them
+abbrev pub with_flash : (ids : List ℕ) → (id : ℕ) → (flash : Bool) → List ℕ
+with_flash ids id flash = if flash then ids ++ id ∷ [] else ids
+
+-- one device more, the last line of the plan so far
+abbrev pub with_joined : WorldState → (id : ℕ) → DeviceConfig → (flash : Bool) → WorldState
+with_joined world id config flash =
+    let plan = record world.server.plan {
+      devices = world.server.plan.devices ++ record { key = config.key; root = config.root } ∷ [];
+    } in
+    with_plan (record world {
+      devices = world.devices ++ first_device config ∷ [];
+      flash = with_flash world.flash id flash;
+    }) plan section.Devices
 
 -- ---- what goes down
 
@@ -170,12 +195,13 @@ after_form world (WindowC start timeout freq dr) =
     with_plan world (with_window world.server.plan kind.C start timeout freq dr) section.Device
 after_form world (WindowB start periodicity timeout freq dr) =
     with_plan world (with_window world.server.plan (kind.B periodicity) start timeout freq dr) section.Device
-after_form world (Device id class hw rows offset key descriptor v1 k11) =
-    let plan = record world.server.plan { devices = world.server.plan.devices ++ record { key = key; root = root_of k11 } ∷ [] } in
-    with_plan (record world { devices = world.devices ++ device_of class hw rows offset key descriptor v1 k11 ∷ [] }) plan section.Devices
+after_form world (Device id class hw rows offset key descriptor v1 k11 flash) =
+    with_joined world id (config_of class hw rows offset key descriptor v1 k11 flash) flash
 after_form world (At time) = at_events (record world { time = time })
 after_form world (Wake device) = with_event_of world device (Wake device)
 after_form world (Migrate device) = with_event_of world device (Migrate device)
+-- all that a device holds in flash is there again: nothing is another than before
+after_form world (Power device) = at_events world
 after_form world (Ask device) = at_events (with_sent world (Some device) (request_of world.server device))
 after_form world Frag =
     at_events (with_sent (record world { server = after_fragment world.server }) None (result_ok (next_fragment world.server)))

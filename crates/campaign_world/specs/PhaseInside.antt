@@ -20,6 +20,7 @@ planned_by planning = record {
   time = 0;
   server = first_server planning.image.items planning.plan;
   devices = planning.devices.items;
+  flash = planning.flash.items;
   sent = [];
   uplinks = [];
 }

@@ -8,7 +8,8 @@ use Rattle.campaign_server.specs.Server.{ServerState, first_server}
 use Rattle.campaign_world.specs.declared.section.Section.{Section}
 use Rattle.campaign_world.specs.declared.section.Section.TheVariants as section
 
--- how many lines there were; what may come next; the time in ms; both ends; the payloads and uplinks, numbered from 1.
+-- how many lines there were; what may come next; the time in ms; both ends, and which devices have a flash, by their IDs; the
+-- payloads and uplinks, numbered from 1.
 -- Until the first event the server is the first one of the plan so far
 pub record WorldState : Type 0 where
   pub lines : ℕ
@@ -16,6 +17,7 @@ pub record WorldState : Type 0 where
   pub time : ℕ
   pub server : ServerState
   pub devices : List DeviceState
+  pub flash : List ℕ
   pub sent : List SentPayload
   pub uplinks : List MadeUplink
 
@@ -31,6 +33,7 @@ first_world image = record {
   time = 0;
   server = first_server image first_plan;
   devices = [];
+  flash = [];
   sent = [];
   uplinks = [];
 }

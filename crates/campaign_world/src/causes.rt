@@ -3,7 +3,7 @@
 ghost use Rattle.std.specs.Prelude.{◌≡◌, ◌≤◌, ◌<◌, ◌^◌, ℕ, length};
 ghost use Rattle.script_lines.specs.declared.forms.Form.TheVariants.{Image};
 ghost use Rattle.image_slots.specs.Image.{max_image};
-ghost use Rattle.campaign_world.specs.Causes.{is_event_or_end, may_come, fits_script, is_device, names_device, may_reach, is_to_group, goes_out, is_due_by, has_come, is_to_come, fits_payload};
+ghost use Rattle.campaign_world.specs.Causes.{is_event_or_end, may_come, fits_script, is_device, names_device, has_flash, fits_flash, may_reach, is_to_group, goes_out, is_due_by, has_come, is_to_come, fits_payload};
 ghost use Rattle.wire_base.specs.Numbered.{numbered};
 
 use crate::numbered::{MadeUplink, SentPayload, numbered};
@@ -12,6 +12,9 @@ use frag_model::lines::MAX_PIECES;
 use package_grammar::To;
 use script_lines::Form;
 use wire_base::MAX_PAYLOAD;
+
+/// The most devices of a script whose sessions are held in flash.
+const MAX_FLASH_DEVICES: usize = 4;
 
 /// Whether the form stands behind the plan: an event, or the end.
 pub fn is_event_or_end(form: &Form) -> bool
@@ -75,11 +78,22 @@ pub fn names_device(count: usize, form: &Form) -> bool
     match form {
         Form::Wake { device } => is_device(count, *device),
         Form::Migrate { device } => is_device(count, *device),
+        Form::Power { device } => is_device(count, *device),
         Form::Ask { device } => is_device(count, *device),
         Form::Down { device, .. } => is_device(count, *device),
         Form::Raw { device, .. } => is_device(count, *device),
         Form::Air { device, .. } => is_device(count, *device),
         Form::RawAir { device, .. } => is_device(count, *device),
+        _ => true,
+    }
+}
+
+/// Whether the device whose power goes, if the form tells of one, is one of those with a flash.
+pub fn has_flash(flash: &[u64], form: &Form) -> bool
+    ensures { result ≡ has_flash flash.now form.now }
+{
+    match form {
+        Form::Power { device } => flash.contains(device),
         _ => true,
     }
 }
@@ -150,6 +164,16 @@ pub fn is_to_come(now: u64, form: &Form) -> bool
 {
     match form {
         Form::At { time } => now <= *time,
+        _ => true,
+    }
+}
+
+/// Whether a device with a flash, if the form tells of one, has its place behind so many of them.
+pub fn fits_flash(count: usize, form: &Form) -> bool
+    ensures { result ≡ fits_flash count form.now }
+{
+    match form {
+        Form::Device { flash, .. } => !*flash || count < MAX_FLASH_DEVICES,
         _ => true,
     }
 }

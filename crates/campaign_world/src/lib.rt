@@ -24,7 +24,7 @@ mod section;
 mod summary;
 mod world;
 
-pub use causes::{is_device, is_event_or_end, may_come, names_device};
+pub use causes::{fits_flash, is_device, is_event_or_end, may_come, names_device};
 pub use numbered::SentPayload;
 pub use recovery::NoFile;
 pub use section::Section;

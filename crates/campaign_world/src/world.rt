@@ -21,7 +21,9 @@ mod planning;
 use self::events::Campaign;
 use self::phase::Phase;
 use self::planning::Planning;
-use crate::causes::{fits_payload, fits_script, has_come, is_to_come, may_come, names_device};
+use crate::causes::{
+    fits_flash, fits_payload, fits_script, has_come, has_flash, is_to_come, may_come, names_device,
+};
 use crate::numbered::numbered;
 use crate::recovery::{NoFile, recovered_by};
 use device_core::Uplink;
@@ -286,11 +288,17 @@ impl World {
         if !names_device(stand.count, form) {
             return Some(LineWhy::Device);
         }
+        if !has_flash(stand.flash, form) {
+            return Some(LineWhy::Device);
+        }
         if !has_come(stand.sent, stand.uplinks, stand.time, form) {
             return Some(LineWhy::Unsent);
         }
         if !is_to_come(stand.time, form) {
             return Some(LineWhy::Time);
+        }
+        if !fits_flash(stand.flash.len(), form) {
+            return Some(LineWhy::Limit);
         }
         if !fits_payload(form) {
             return Some(LineWhy::Limit);

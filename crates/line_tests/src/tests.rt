@@ -7,7 +7,7 @@ use std::test::Fail;
 #[test]
 fn lines_spell_their_forms(rt: HostRuntime) -> Result<(), Fail> {
     let largest = u64::MAX;
-    let cases: [(&str, Option<Form>, bool); 28] = [
+    let cases: [(&str, Option<Form>, bool); 30] = [
         ("fuota 1", Some(Form::Header), true),
         (
             "image 13 4",
@@ -66,6 +66,7 @@ fn lines_spell_their_forms(rt: HostRuntime) -> Result<(), Fail> {
         ),
         ("wake 7", Some(Form::Wake { device: 7 }), true),
         ("migrate 7", Some(Form::Migrate { device: 7 }), true),
+        ("power 7", Some(Form::Power { device: 7 }), true),
         ("ask 0", Some(Form::Ask { device: 0 }), true),
         ("frag", Some(Form::Frag), true),
         ("status", Some(Form::Status), true),
@@ -107,6 +108,7 @@ fn lines_spell_their_forms(rt: HostRuntime) -> Result<(), Fail> {
         ("up -1", None, true),
         ("at +1", None, true),
         ("at 007", None, true),
+        ("power", None, true),
         ("", None, true),
     ];
     for (line, wanted, ranged) in cases {
@@ -143,6 +145,7 @@ fn hex_words_are_read(rt: HostRuntime) -> Result<(), Fail> {
         descriptor: Some(2),
         v1: false,
         k11: false,
+        flash: false,
     };
     assert!(rt; shown(&rt, &device)? == shown(&rt, &Some(wanted))?);
     assert!(rt; form(b"device 1 b 2 64 5 00000000000000000000000000000000").is_none());
@@ -214,6 +217,7 @@ fn kinds_of_root_keys_are_read(rt: HostRuntime) -> Result<(), Fail> {
             descriptor,
             v1,
             k11,
+            flash: false,
         };
         assert!(rt; shown(&rt, &form(line))? == shown(&rt, &Some(wanted))?);
     }
@@ -227,6 +231,64 @@ fn kinds_of_root_keys_are_read(rt: HostRuntime) -> Result<(), Fail> {
         b"device 1 c 2 3 4 00000000000000000000000000000000 k10",
         b"device 1 c 2 3 4 00000000000000000000000000000000 K11",
         b"device 1 c 2 3 4 00000000000000000000000000000000 k11 ",
+    ];
+    for line in none {
+        assert!(rt; form(line).is_none());
+    }
+    Ok(())
+}
+
+/// `flash` is the last word of a device's line, behind `k11` where that is there.
+#[test]
+fn devices_with_a_flash_are_read(rt: HostRuntime) -> Result<(), Fail> {
+    let read: [(&[u8], Option<u32>, bool, bool); 4] = [
+        (
+            b"device 1 c 2 3 4 00000000000000000000000000000000 flash",
+            None,
+            false,
+            false,
+        ),
+        (
+            b"device 1 c 2 3 4 00000000000000000000000000000000 0000000a flash",
+            Some(10),
+            false,
+            false,
+        ),
+        (
+            b"device 1 c 2 3 4 00000000000000000000000000000000 k11 flash",
+            None,
+            false,
+            true,
+        ),
+        (
+            b"device 1 c 2 3 4 00000000000000000000000000000000 0000000a v1 k11 flash",
+            Some(10),
+            true,
+            true,
+        ),
+    ];
+    for (line, descriptor, v1, k11) in read {
+        let wanted = Form::Device {
+            id: 1,
+            class: Class::C,
+            hw: 2,
+            rows: 3,
+            offset: 4,
+            key: [0; 16],
+            descriptor,
+            v1,
+            k11,
+            flash: true,
+        };
+        assert!(rt; shown(&rt, &form(line))? == shown(&rt, &Some(wanted))?);
+    }
+    let none: [&[u8]; 6] = [
+        b"device 1 c 2 3 4 flash",
+        b"device 1 c 2 3 4 00000000000000000000000000000000 flash k11",
+        b"device 1 c 2 3 4 00000000000000000000000000000000 flash v1",
+        b"device 1 c 2 3 4 00000000000000000000000000000000 flash 0000000a",
+        b"device 1 c 2 3 4 00000000000000000000000000000000 flash flash",
+        b"device 1 c 2 3 4 00000000000000000000000000000000 Flash",
     ];
     for line in none {
         assert!(rt; form(line).is_none());

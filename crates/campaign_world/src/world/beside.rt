@@ -1,6 +1,6 @@
 //! A campaign beside another one: what is asked of it, and a payload of the other's that reaches one of its devices.
 
-ghost use Rattle.std.specs.Prelude.{◌≡◌, ◌≤◌, ◌<◌, true, false, None, Some, Ok, length, IfErr, IfOk, IfSome, OnErr, OnOk, option_map, string_bytes};
+ghost use Rattle.std.specs.Prelude.{◌≡◌, ◌≤◌, ◌<◌, ◌^◌, true, false, None, Some, Ok, length, IfErr, IfOk, IfSome, OnErr, OnOk, option_map, string_bytes};
 ghost use Rattle.wire_base.specs.Numbered.{numbered};
 ghost use Rattle.script_lines.specs.Limits.{max_lines};
 ghost use Rattle.campaign_server.specs.Plan.{max_devices};
@@ -36,6 +36,14 @@ impl World {
         ensures few { result ≤ max_devices }
     {
         self.phase.stand().count
+    }
+
+    /// How many of them have a flash.
+    pub fn flash_count(&self) -> usize
+        ensures count { result ≡ length self.now.flash }
+        ensures few { result < 2 ^ 63 }
+    {
+        self.phase.stand().flash.len()
     }
 
     /// What its server is to do, as far as it is planned.

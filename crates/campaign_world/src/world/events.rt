@@ -43,6 +43,8 @@ pub struct Campaign {
     pub(super) time: u64,
     pub(super) server: Server,
     pub(super) devices: Vec<LateDevice>,
+    /// Those of them that have a flash, by their IDs.
+    pub(super) flash: Vec<u64>,
     pub(super) sent: Vec<SentPayload>,
     pub(super) uplinks: Vec<MadeUplink>,
 }
@@ -57,6 +59,7 @@ impl Model for Campaign {
       time = c.time;
       server = c.server;
       devices = c.devices.items;
+      flash = c.flash.items;
       sent = c.sent.items;
       uplinks = c.uplinks.items;
     } };
@@ -68,7 +71,7 @@ impl Campaign {
     ghost use Rattle.campaign_world.specs.HeldWorld.{DevicesRest, Plays, SameEnds, IsTested};
 
     /// A campaign in which no event came yet.
-    pub fn new(alloc: Global, server: Server, devices: Vec<LateDevice>) -> Self
+    pub fn new(alloc: Global, server: Server, devices: Vec<LateDevice>, flash: Vec<u64>) -> Self
         requires image { is_image server.image ≡ true }
         requires few { length devices.items ≤ max_devices }
         requires numbers { length server.plan.devices ≡ length devices.items }
@@ -76,6 +79,7 @@ impl Campaign {
           time = 0;
           server = server;
           devices = devices.items;
+          flash = flash.items;
           sent = [];
           uplinks = [];
         } }
@@ -85,6 +89,7 @@ impl Campaign {
             time: 0,
             server,
             devices,
+            flash,
             sent: Vec::new(alloc),
             uplinks: Vec::new(alloc),
         }
@@ -108,6 +113,7 @@ impl Campaign {
             }
             Form::Wake { device } => self.wake(*device as u8),
             Form::Migrate { device } => self.migrate(*device as u8),
+            Form::Power { .. } => Ok(()),
             Form::Ask { device } => self.ask(*device as u8),
             Form::Frag => self.frag(),
             Form::Status => self.status(),

@@ -35,6 +35,8 @@ pub struct Stand<'a> {
     pub size: usize,
     /// Devices so far.
     pub count: usize,
+    /// Those of them that have a flash.
+    pub flash: &'a [u64],
     /// In ms.
     pub time: u64,
     pub sent: &'a [SentPayload],
@@ -126,6 +128,7 @@ impl Phase {
         ensures section { result.section ≡ section_of self.now }
         ensures size { result.size ≡ length (held_of self.now).server.image }
         ensures count { result.count ≡ length (held_of self.now).devices }
+        ensures flash { result.flash.now ≡ (held_of self.now).flash }
         ensures time { result.time ≡ (held_of self.now).time }
         ensures sent { result.sent.now ≡ (held_of self.now).sent }
         ensures uplinks { result.uplinks.now ≡ (held_of self.now).uplinks }
@@ -137,6 +140,7 @@ impl Phase {
                 section: planning.section,
                 size: planning.image.len(),
                 count: planning.devices.len(),
+                flash: &planning.flash,
                 time: 0,
                 sent: &[],
                 uplinks: &[],
@@ -148,6 +152,7 @@ impl Phase {
                 section: section_by(*has_ended),
                 size: campaign.server.image().len(),
                 count: campaign.devices.len(),
+                flash: &campaign.flash,
                 time: campaign.time,
                 sent: &campaign.sent,
                 uplinks: &campaign.uplinks,

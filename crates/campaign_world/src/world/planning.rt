@@ -6,8 +6,8 @@ ghost use Rattle.campaign_server.specs.Plan.{is_frag_size, fits_bits, max_device
 ghost use Rattle.campaign_server.specs.Server.{first_server};
 ghost use Rattle.campaign_world.specs.World.{first_plan};
 ghost use Rattle.campaign_world.specs.Causes.{is_event_or_end, may_come};
-ghost use Rattle.device_core.specs.Device.{is_config, first_device};
-ghost use Rattle.campaign_world.specs.Making.{with_plan, class_of, formats_of, root_of, after_form};
+ghost use Rattle.device_core.specs.Device.{is_config};
+ghost use Rattle.campaign_world.specs.Making.{with_plan, with_joined, with_flash, class_of, formats_of, root_of, after_form};
 ghost use Rattle.campaign_world.specs.declared.section.Section.TheVariants as section;
 
 use super::events::Campaign;
@@ -33,6 +33,8 @@ pub struct Planning {
     pub(super) section: Section,
     pub(super) plan: Plan,
     pub(super) devices: Vec<LateDevice>,
+    /// Those of them that have a flash, by their IDs.
+    pub(super) flash: Vec<u64>,
 }
 
 impl Planning {
@@ -49,6 +51,7 @@ impl Planning {
           time = 0;
           server = first_server image.items first_plan;
           devices = [];
+          flash = [];
           sent = [];
           uplinks = [];
         } }
@@ -58,6 +61,7 @@ impl Planning {
             section: Section::Header,
             plan: first_plan(alloc),
             devices: Vec::new(alloc),
+            flash: Vec::new(alloc),
         }
     }
 
@@ -137,6 +141,7 @@ impl Planning {
                 Ok(())
             }
             Form::Device {
+                id,
                 class,
                 hw,
                 rows,
@@ -145,24 +150,28 @@ impl Planning {
                 descriptor,
                 v1,
                 k11,
-                ..
+                flash,
             } => {
                 let key = *key;
-                self.add_device(DeviceConfig {
-                    class: class_of(*class),
-                    hw: *hw as u32,
-                    formats: formats_of(*v1),
-                    rows: *rows as u16,
-                    offset: *offset as u32,
-                    key,
-                    root: root_of(*k11),
-                    descriptor: *descriptor,
-                    sessions: SESSIONS,
-                    groups: GROUPS,
-                    area: MAX_AREA,
-                    held: false,
-                    span: 0,
-                })
+                self.add_device(
+                    *id,
+                    DeviceConfig {
+                        class: class_of(*class),
+                        hw: *hw as u32,
+                        formats: formats_of(*v1),
+                        rows: *rows as u16,
+                        offset: *offset as u32,
+                        key,
+                        root: root_of(*k11),
+                        descriptor: *descriptor,
+                        sessions: SESSIONS,
+                        groups: GROUPS,
+                        area: MAX_AREA,
+                        held: false,
+                        span: 0,
+                    },
+                    *flash,
+                )
             }
             _ => Ok(()),
         }
@@ -213,7 +222,7 @@ impl Planning {
     }
 
     /// One device more.
-    fn add_device(&mut self, config: DeviceConfig) -> Result<(), AllocError>
+    fn add_device(&mut self, id: u64, config: DeviceConfig, flash: bool) -> Result<(), AllocError>
         requires fine { is_config config ≡ true }
         requires memory { config.held ≡ false }
         requires planning { IsPlanningOf self.old }
@@ -221,14 +230,14 @@ impl Planning {
         requires windowed { IsWindowed self.old.plan }
         requires room { length self.old.devices.items < max_devices }
         ensures planning { IsPlanningOf self.new }
-        ensures taken { (lines : ℕ) → PlanTakes lines self.old self.new result (λ world. with_plan
-            (record world { devices = world.devices ++ first_device config ∷ [] })
-            (record world.server.plan {
-              devices = world.server.plan.devices
-                  ++ record { key = config.key; root = config.root } ∷ [];
-            }) section.Devices) }
+        ensures taken { (lines : ℕ) → PlanTakes lines self.old self.new result
+            (λ world. with_joined world id config flash) }
         ensures ends { OnErr result (SameEnds (planned_by self.old) (planned_by self.new)) }
     {
+        match add_flash(&mut self.flash, id, flash) {
+            Ok(()) => {}
+            Err(error) => return Err(error),
+        }
         let key = config.key;
         let root = config.root;
         let planned = PlanDevice { key, root };
@@ -259,7 +268,8 @@ impl Planning {
         match Server::new(alloc, plan, &self.image) {
             Ok(server) => {
                 let devices = replace(&mut self.devices, Vec::new(alloc));
-                Ok(Campaign::new(alloc, server, devices))
+                let flash = replace(&mut self.flash, Vec::new(alloc));
+                Ok(Campaign::new(alloc, server, devices, flash))
             }
             Err(ServerError::Memory) => Err(AllocError),
             Err(ServerError::BadPlan(_)) => unreachable!(),
@@ -320,6 +330,19 @@ fn join(
             devices.push_reserved(device);
             Ok(())
         }
+        Err(_) => Err(AllocError),
+    }
+}
+
+/// A device with a flash is one of them.
+fn add_flash(ids: &mut Vec<u64>, id: u64, flash: bool) -> Result<(), AllocError>
+    ensures { OnOk result (ids.new.items ≡ with_flash ids.old.items id flash) }
+{
+    if !flash {
+        return Ok(());
+    }
+    match ids.push(id) {
+        Ok(()) => Ok(()),
         Err(_) => Err(AllocError),
     }
 }

@@ -1,4 +1,4 @@
-use Rattle.std.proofs.Common.{◌∙◌, sym}
+use Rattle.std.proofs.Common.{◌∙◌, refl, sym}
 use Rattle.campaign_world.specs.PhaseInside.{held_of}
 use Rattle.campaign_world.proofs.FormCauses as causes
 use Rattle.campaign_world.proofs.world.World.first_cause.Goals as goal
@@ -30,6 +30,16 @@ returns-then-not-names_device c = rw (← c.self.view_is) (λ devices count. let
     })
     (causes.names_in held.devices devices c.args.form.now _ _ c.stand-stand.ensures.count count c.names_device.ensures ∙ c.if-not-names_device.true)))
 
+pub returns-then-not-has_flash : goal.returns-then-not-has_flash
+returns-then-not-has_flash c = rw (← c.self.view_is) (λ devices count. let held = held_of c.self.inside.phase in sym (causes.unflashed _ _
+    (record {
+      comes = rw (← c.stand-stand.ensures.section) (sym c.may_come.ensures ∙ c.if-not-may_come.false);
+      ranges = sym c.in_range.ensures ∙ c.if-not-in_range.false;
+      fits = causes.fits_in held.server.image held.devices devices c.args.form.now _ _ _ c.stand-stand.ensures.size c.stand-stand.ensures.count count c.fits_script.ensures ∙ c.if-not-fits_script.false;
+    })
+    (causes.names_in held.devices devices c.args.form.now _ _ c.stand-stand.ensures.count count c.names_device.ensures ∙ c.if-not-names_device.false)
+    (causes.flash_in held.flash c.args.form.now _ _ c.stand-stand.ensures.flash c.has_flash.ensures ∙ c.if-not-has_flash.true)))
+
 pub returns-then-not-has_come : goal.returns-then-not-has_come
 returns-then-not-has_come c = rw (← c.self.view_is) (λ devices count. let held = held_of c.self.inside.phase in sym (causes.unsent _ _
     (record {
@@ -38,6 +48,7 @@ returns-then-not-has_come c = rw (← c.self.view_is) (λ devices count. let hel
       fits = causes.fits_in held.server.image held.devices devices c.args.form.now _ _ _ c.stand-stand.ensures.size c.stand-stand.ensures.count count c.fits_script.ensures ∙ c.if-not-fits_script.false;
     })
     (causes.names_in held.devices devices c.args.form.now _ _ c.stand-stand.ensures.count count c.names_device.ensures ∙ c.if-not-names_device.false)
+    (causes.flash_in held.flash c.args.form.now _ _ c.stand-stand.ensures.flash c.has_flash.ensures ∙ c.if-not-has_flash.false)
     (causes.come_in held.sent held.uplinks held.time c.args.form.now _ _ _ _ c.stand-stand.ensures.sent c.stand-stand.ensures.uplinks c.stand-stand.ensures.time c.has_come.ensures ∙ c.if-not-has_come.true)))
 
 pub returns-then-not-is_to_come : goal.returns-then-not-is_to_come
@@ -48,8 +59,22 @@ returns-then-not-is_to_come c = rw (← c.self.view_is) (λ devices count. let h
       fits = causes.fits_in held.server.image held.devices devices c.args.form.now _ _ _ c.stand-stand.ensures.size c.stand-stand.ensures.count count c.fits_script.ensures ∙ c.if-not-fits_script.false;
     })
     (causes.names_in held.devices devices c.args.form.now _ _ c.stand-stand.ensures.count count c.names_device.ensures ∙ c.if-not-names_device.false)
+    (causes.flash_in held.flash c.args.form.now _ _ c.stand-stand.ensures.flash c.has_flash.ensures ∙ c.if-not-has_flash.false)
     (causes.come_in held.sent held.uplinks held.time c.args.form.now _ _ _ _ c.stand-stand.ensures.sent c.stand-stand.ensures.uplinks c.stand-stand.ensures.time c.has_come.ensures ∙ c.if-not-has_come.false)
     (causes.timed_in held.time c.args.form.now _ _ c.stand-stand.ensures.time c.is_to_come.ensures ∙ c.if-not-is_to_come.true)))
+
+pub returns-then-not-fits_flash : goal.returns-then-not-fits_flash
+returns-then-not-fits_flash c = rw (← c.self.view_is) (λ devices count. let held = held_of c.self.inside.phase in sym (causes.full _ _
+    (record {
+      comes = rw (← c.stand-stand.ensures.section) (sym c.may_come.ensures ∙ c.if-not-may_come.false);
+      ranges = sym c.in_range.ensures ∙ c.if-not-in_range.false;
+      fits = causes.fits_in held.server.image held.devices devices c.args.form.now _ _ _ c.stand-stand.ensures.size c.stand-stand.ensures.count count c.fits_script.ensures ∙ c.if-not-fits_script.false;
+    })
+    (causes.names_in held.devices devices c.args.form.now _ _ c.stand-stand.ensures.count count c.names_device.ensures ∙ c.if-not-names_device.false)
+    (causes.flash_in held.flash c.args.form.now _ _ c.stand-stand.ensures.flash c.has_flash.ensures ∙ c.if-not-has_flash.false)
+    (causes.come_in held.sent held.uplinks held.time c.args.form.now _ _ _ _ c.stand-stand.ensures.sent c.stand-stand.ensures.uplinks c.stand-stand.ensures.time c.has_come.ensures ∙ c.if-not-has_come.false)
+    (causes.timed_in held.time c.args.form.now _ _ c.stand-stand.ensures.time c.is_to_come.ensures ∙ c.if-not-is_to_come.false)
+    (causes.room_in held.flash c.args.form.now _ _ _ c.stand-stand.ensures.flash c.fits_flash.ensures refl ∙ c.if-not-fits_flash.true)))
 
 pub returns-then-not-fits_payload : goal.returns-then-not-fits_payload
 returns-then-not-fits_payload c = rw (← c.self.view_is) (λ devices count. let held = held_of c.self.inside.phase in sym (causes.long _ _
@@ -59,8 +84,10 @@ returns-then-not-fits_payload c = rw (← c.self.view_is) (λ devices count. let
       fits = causes.fits_in held.server.image held.devices devices c.args.form.now _ _ _ c.stand-stand.ensures.size c.stand-stand.ensures.count count c.fits_script.ensures ∙ c.if-not-fits_script.false;
     })
     (causes.names_in held.devices devices c.args.form.now _ _ c.stand-stand.ensures.count count c.names_device.ensures ∙ c.if-not-names_device.false)
+    (causes.flash_in held.flash c.args.form.now _ _ c.stand-stand.ensures.flash c.has_flash.ensures ∙ c.if-not-has_flash.false)
     (causes.come_in held.sent held.uplinks held.time c.args.form.now _ _ _ _ c.stand-stand.ensures.sent c.stand-stand.ensures.uplinks c.stand-stand.ensures.time c.has_come.ensures ∙ c.if-not-has_come.false)
     (causes.timed_in held.time c.args.form.now _ _ c.stand-stand.ensures.time c.is_to_come.ensures ∙ c.if-not-is_to_come.false)
+    (causes.room_in held.flash c.args.form.now _ _ _ c.stand-stand.ensures.flash c.fits_flash.ensures refl ∙ c.if-not-fits_flash.false)
     (sym c.fits_payload.ensures ∙ c.if-not-fits_payload.true)))
 
 pub returns-else-has_more : goal.returns-else-has_more
@@ -71,8 +98,10 @@ returns-else-has_more c = rw (← c.self.view_is) (λ devices count. let held = 
       fits = causes.fits_in held.server.image held.devices devices c.args.form.now _ _ _ c.stand-stand.ensures.size c.stand-stand.ensures.count count c.fits_script.ensures ∙ c.if-not-fits_script.false;
     })
     (causes.names_in held.devices devices c.args.form.now _ _ c.stand-stand.ensures.count count c.names_device.ensures ∙ c.if-not-names_device.false)
+    (causes.flash_in held.flash c.args.form.now _ _ c.stand-stand.ensures.flash c.has_flash.ensures ∙ c.if-not-has_flash.false)
     (causes.come_in held.sent held.uplinks held.time c.args.form.now _ _ _ _ c.stand-stand.ensures.sent c.stand-stand.ensures.uplinks c.stand-stand.ensures.time c.has_come.ensures ∙ c.if-not-has_come.false)
     (causes.timed_in held.time c.args.form.now _ _ c.stand-stand.ensures.time c.is_to_come.ensures ∙ c.if-not-is_to_come.false)
+    (causes.room_in held.flash c.args.form.now _ _ _ c.stand-stand.ensures.flash c.fits_flash.ensures refl ∙ c.if-not-fits_flash.false)
     (sym c.fits_payload.ensures ∙ c.if-not-fits_payload.false)
     (causes.played_from _ _ c.in-Playing.has_ended c.args.form.now _ c.in-Playing.is c.has_more.ensures ∙ c.if-has_more.false)))
 
@@ -84,8 +113,10 @@ returns-then-has_more c = rw (← c.self.view_is) (λ devices count. let held = 
       fits = causes.fits_in held.server.image held.devices devices c.args.form.now _ _ _ c.stand-stand.ensures.size c.stand-stand.ensures.count count c.fits_script.ensures ∙ c.if-not-fits_script.false;
     })
     (causes.names_in held.devices devices c.args.form.now _ _ c.stand-stand.ensures.count count c.names_device.ensures ∙ c.if-not-names_device.false)
+    (causes.flash_in held.flash c.args.form.now _ _ c.stand-stand.ensures.flash c.has_flash.ensures ∙ c.if-not-has_flash.false)
     (causes.come_in held.sent held.uplinks held.time c.args.form.now _ _ _ _ c.stand-stand.ensures.sent c.stand-stand.ensures.uplinks c.stand-stand.ensures.time c.has_come.ensures ∙ c.if-not-has_come.false)
     (causes.timed_in held.time c.args.form.now _ _ c.stand-stand.ensures.time c.is_to_come.ensures ∙ c.if-not-is_to_come.false)
+    (causes.room_in held.flash c.args.form.now _ _ _ c.stand-stand.ensures.flash c.fits_flash.ensures refl ∙ c.if-not-fits_flash.false)
     (sym c.fits_payload.ensures ∙ c.if-not-fits_payload.false)
     (causes.played_from _ _ c.in-Playing.has_ended c.args.form.now _ c.in-Playing.is c.has_more.ensures ∙ c.if-has_more.true)))
 
@@ -97,7 +128,9 @@ returns-in-Planning c = rw (← c.self.view_is) (λ devices count. let held = he
       fits = causes.fits_in held.server.image held.devices devices c.args.form.now _ _ _ c.stand-stand.ensures.size c.stand-stand.ensures.count count c.fits_script.ensures ∙ c.if-not-fits_script.false;
     })
     (causes.names_in held.devices devices c.args.form.now _ _ c.stand-stand.ensures.count count c.names_device.ensures ∙ c.if-not-names_device.false)
+    (causes.flash_in held.flash c.args.form.now _ _ c.stand-stand.ensures.flash c.has_flash.ensures ∙ c.if-not-has_flash.false)
     (causes.come_in held.sent held.uplinks held.time c.args.form.now _ _ _ _ c.stand-stand.ensures.sent c.stand-stand.ensures.uplinks c.stand-stand.ensures.time c.has_come.ensures ∙ c.if-not-has_come.false)
     (causes.timed_in held.time c.args.form.now _ _ c.stand-stand.ensures.time c.is_to_come.ensures ∙ c.if-not-is_to_come.false)
+    (causes.room_in held.flash c.args.form.now _ _ _ c.stand-stand.ensures.flash c.fits_flash.ensures refl ∙ c.if-not-fits_flash.false)
     (sym c.fits_payload.ensures ∙ c.if-not-fits_payload.false)
     (causes.planned_from _ _ c.args.form.now c.in-Planning.is c.self.invariant.phase_is (rw (← c.stand-stand.ensures.section) (sym c.may_come.ensures ∙ c.if-not-may_come.false)))))

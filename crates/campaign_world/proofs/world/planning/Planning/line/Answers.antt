@@ -27,25 +27,25 @@ pub cut-requires-clause-indexed : goal.cut-requires-clause-indexed
 cut-requires-clause-indexed c = let cuts = causes.cuts_well c.args.self.now.image.items (length c.args.self.now.devices.items) c.args.form.now c.in-Image.frag_size c.in-Image.parity c.in-Image.index c.in-Image.is c.requires.tested.ranges c.requires.tested.fits in cuts.3
 
 pub overflow_cast-hw : goal.overflow_cast-hw
-overflow_cast-hw c = let fit = causes.fitting (length c.args.self.now.image.items) (length c.args.self.now.devices.items) c.args.form.now c.in-Device.id c.in-Device.hw c.in-Device.rows c.in-Device.offset c.in-Device.class c.in-Device.key c.in-Device.descriptor c.in-Device.v1 c.in-Device.k11 c.in-Device.is c.requires.tested.ranges c.requires.tested.fits in omega (arith, fit.hw_fits)
+overflow_cast-hw c = let fit = causes.fitting (length c.args.self.now.image.items) (length c.args.self.now.devices.items) c.args.form.now c.in-Device.id c.in-Device.hw c.in-Device.rows c.in-Device.offset c.in-Device.class c.in-Device.key c.in-Device.descriptor c.in-Device.v1 c.in-Device.k11 c.in-Device.flash c.in-Device.is c.requires.tested.ranges c.requires.tested.fits in omega (arith, fit.hw_fits)
 
 pub overflow_cast-rows : goal.overflow_cast-rows
-overflow_cast-rows c = let fit = causes.fitting (length c.args.self.now.image.items) (length c.args.self.now.devices.items) c.args.form.now c.in-Device.id c.in-Device.hw c.in-Device.rows c.in-Device.offset c.in-Device.class c.in-Device.key c.in-Device.descriptor c.in-Device.v1 c.in-Device.k11 c.in-Device.is c.requires.tested.ranges c.requires.tested.fits in omega (arith, fit.few)
+overflow_cast-rows c = let fit = causes.fitting (length c.args.self.now.image.items) (length c.args.self.now.devices.items) c.args.form.now c.in-Device.id c.in-Device.hw c.in-Device.rows c.in-Device.offset c.in-Device.class c.in-Device.key c.in-Device.descriptor c.in-Device.v1 c.in-Device.k11 c.in-Device.flash c.in-Device.is c.requires.tested.ranges c.requires.tested.fits in omega (arith, fit.few)
 
 pub overflow_cast-offset : goal.overflow_cast-offset
-overflow_cast-offset c = let fit = causes.fitting (length c.args.self.now.image.items) (length c.args.self.now.devices.items) c.args.form.now c.in-Device.id c.in-Device.hw c.in-Device.rows c.in-Device.offset c.in-Device.class c.in-Device.key c.in-Device.descriptor c.in-Device.v1 c.in-Device.k11 c.in-Device.is c.requires.tested.ranges c.requires.tested.fits in omega (arith, fit.offset_fits)
+overflow_cast-offset c = let fit = causes.fitting (length c.args.self.now.image.items) (length c.args.self.now.devices.items) c.args.form.now c.in-Device.id c.in-Device.hw c.in-Device.rows c.in-Device.offset c.in-Device.class c.in-Device.key c.in-Device.descriptor c.in-Device.v1 c.in-Device.k11 c.in-Device.flash c.in-Device.is c.requires.tested.ranges c.requires.tested.fits in omega (arith, fit.offset_fits)
 
 pub add_device-requires-clause-fine : goal.add_device-requires-clause-fine
-add_device-requires-clause-fine c = let fit = causes.fitting (length c.args.self.now.image.items) (length c.args.self.now.devices.items) c.args.form.now c.in-Device.id c.in-Device.hw c.in-Device.rows c.in-Device.offset c.in-Device.class c.in-Device.key c.in-Device.descriptor c.in-Device.v1 c.in-Device.k11 c.in-Device.is c.requires.tested.ranges c.requires.tested.fits in rw (le-leb c.in-Device.rows max_rows fit.few, c.formats_of.ensures, causes.known_formats c.in-Device.v1) refl
+add_device-requires-clause-fine c = let fit = causes.fitting (length c.args.self.now.image.items) (length c.args.self.now.devices.items) c.args.form.now c.in-Device.id c.in-Device.hw c.in-Device.rows c.in-Device.offset c.in-Device.class c.in-Device.key c.in-Device.descriptor c.in-Device.v1 c.in-Device.k11 c.in-Device.flash c.in-Device.is c.requires.tested.ranges c.requires.tested.fits in rw (le-leb c.in-Device.rows max_rows fit.few, c.formats_of.ensures, causes.known_formats c.in-Device.v1) refl
 
 pub add_device-requires-clause-sized : goal.add_device-requires-clause-sized
-add_device-requires-clause-sized c = (causes.joins_at c.args.self.now.image.items c.args.self.now.section c.args.self.now.plan c.args.self.now.devices.items c.args.form.now c.in-Device.id c.in-Device.hw c.in-Device.rows c.in-Device.offset c.in-Device.class c.in-Device.key c.in-Device.descriptor c.in-Device.v1 c.in-Device.k11 c.in-Device.is c.requires.comes c.requires.planning.planned).0
+add_device-requires-clause-sized c = (causes.joins_at c.args.self.now.image.items c.args.self.now.section c.args.self.now.plan c.args.self.now.devices.items c.args.form.now c.in-Device.id c.in-Device.hw c.in-Device.rows c.in-Device.offset c.in-Device.class c.in-Device.key c.in-Device.descriptor c.in-Device.v1 c.in-Device.k11 c.in-Device.flash c.in-Device.is c.requires.comes c.requires.planning.planned).0
 
 pub add_device-requires-clause-windowed : goal.add_device-requires-clause-windowed
-add_device-requires-clause-windowed c = (causes.joins_at c.args.self.now.image.items c.args.self.now.section c.args.self.now.plan c.args.self.now.devices.items c.args.form.now c.in-Device.id c.in-Device.hw c.in-Device.rows c.in-Device.offset c.in-Device.class c.in-Device.key c.in-Device.descriptor c.in-Device.v1 c.in-Device.k11 c.in-Device.is c.requires.comes c.requires.planning.planned).1
+add_device-requires-clause-windowed c = (causes.joins_at c.args.self.now.image.items c.args.self.now.section c.args.self.now.plan c.args.self.now.devices.items c.args.form.now c.in-Device.id c.in-Device.hw c.in-Device.rows c.in-Device.offset c.in-Device.class c.in-Device.key c.in-Device.descriptor c.in-Device.v1 c.in-Device.k11 c.in-Device.flash c.in-Device.is c.requires.comes c.requires.planning.planned).1
 
 pub add_device-requires-clause-room : goal.add_device-requires-clause-room
-add_device-requires-clause-room c = let fit = causes.fitting (length c.args.self.now.image.items) (length c.args.self.now.devices.items) c.args.form.now c.in-Device.id c.in-Device.hw c.in-Device.rows c.in-Device.offset c.in-Device.class c.in-Device.key c.in-Device.descriptor c.in-Device.v1 c.in-Device.k11 c.in-Device.is c.requires.tested.ranges c.requires.tested.fits in fit.next
+add_device-requires-clause-room c = let fit = causes.fitting (length c.args.self.now.image.items) (length c.args.self.now.devices.items) c.args.form.now c.in-Device.id c.in-Device.hw c.in-Device.rows c.in-Device.offset c.in-Device.class c.in-Device.key c.in-Device.descriptor c.in-Device.v1 c.in-Device.k11 c.in-Device.flash c.in-Device.is c.requires.tested.ranges c.requires.tested.fits in fit.next
 
 pub overflow_cast-min : goal.overflow_cast-min
 overflow_cast-min c = let count = causes.counting c.args.form.now c.in-Group.id c.in-Group.addr c.in-Group.min c.in-Group.max c.in-Group.key c.in-Group.is c.requires.tested.ranges in omega (arith, count.first)
