@@ -17,7 +17,7 @@ a ⧺ b = a ++ b
 
 -- a device of class C and hardware version 1, with 64 rows and a key of zeros
 abbrev pub device_form : (device offset : ℕ) → Form
-device_form device offset = Device device class.C 1 64 offset (replicate 16 0) None false false
+device_form device offset = Device device class.C 1 64 offset (replicate 16 0) None false false false
 
 -- a payload reaches a device, with no random word
 abbrev pub down_form : (sent device : ℕ) → Form

@@ -66,7 +66,7 @@ air_fine : (w : WorldState) (number n word : ℕ) → form_cause w (Down number 
 unfolding form_cause in_range
 air_fine w number n word fine goes =
     let ranged : Bool = in_range (Air number n word) && true in
-    let names : Bool = names_device (length w.devices) (Air number n word) in
+    let names : Bool = names_device (length w.devices) (Air number n word) && true in
     let one : Bool = may_reach n (numbered w.sent number) in
     let more : Bool = goes_out (numbered w.sent number) in
     more_sent (may_come w.section (Air number n word)) ranged names one more
@@ -91,7 +91,7 @@ went_out sent end number p grows got goes =
     let late : numbered end number ≡ Some p = rw (grows.1) (numbered_more sent grows.0 number p got) in
     ap goes_out (got ∙ sym late) ∙ goes
 
-read_same : (w : WorldState) (line : Line) → cause_of w line ≡ None → read_line w line ≡ Ok (after_line w line)
+pub read_same : (w : WorldState) (line : Line) → cause_of w line ≡ None → read_line w line ≡ Ok (after_line w line)
 unfolding read_line
 read_same w line fine = ap (λ (c : Option LineWhy). line_result w line c) fine
 

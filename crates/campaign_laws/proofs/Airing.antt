@@ -29,7 +29,7 @@ use Rattle.campaign_server.specs.declared.plan.PlanGroup.{PlanGroup}
 use Rattle.campaign_server.specs.Server.{ServerState, DownlinkCommand, port_of, downlink_of}
 use Rattle.campaign_server.specs.Framing.{has_frame, group_frame, frame_for}
 use Rattle.script_lines.specs.declared.forms.Form.{Form}
-use Rattle.script_lines.specs.declared.forms.Form.TheVariants.{Header, Image, Group as GroupLine, WindowC, WindowB, Device, At, Wake, Migrate, Ask, Frag, Status, Down, Raw, Air, RawAir, Up, End}
+use Rattle.script_lines.specs.declared.forms.Form.TheVariants.{Header, Image, Group as GroupLine, WindowC, WindowB, Device, At, Wake, Migrate, Power, Ask, Frag, Status, Down, Raw, Air, RawAir, Up, End}
 use Rattle.script_lines.specs.Ranges.{in_range}
 use Rattle.script_lines.specs.Forms.{form_of}
 use Rattle.report_lines.specs.declared.faults.LineWhy.{LineWhy}
@@ -251,7 +251,7 @@ pub down_fine : (w : WorldState) (number n word : ℕ) → form_cause w (Air num
 unfolding form_cause in_range
 down_fine w number n word fine =
     let ranged : Bool = in_range (Down number n word) && true in
-    let names : Bool = names_device (length w.devices) (Down number n word) in
+    let names : Bool = names_device (length w.devices) (Down number n word) && true in
     let one : Bool = may_reach n (numbered w.sent number) in
     let more : Bool = goes_out (numbered w.sent number) in
     less_sent (may_come w.section (Down number n word)) ranged names one more
@@ -282,11 +282,12 @@ is_heard image w (Image size parity index) bytes keeps k fine honest = record { 
 is_heard image w (GroupLine id addr key min max) bytes keeps k fine honest = record { plain = refl; fine = fine; same = refl }
 is_heard image w (WindowC start timeout freq dr) bytes keeps k fine honest = record { plain = refl; fine = fine; same = refl }
 is_heard image w (WindowB start periodicity timeout freq dr) bytes keeps k fine honest = record { plain = refl; fine = fine; same = refl }
-is_heard image w (Device id class hw rows offset key descriptor v1 k11) bytes keeps k fine honest =
+is_heard image w (Device id class hw rows offset key descriptor v1 k11 flash) bytes keeps k fine honest =
     record { plain = refl; fine = fine; same = refl }
 is_heard image w (At time) bytes keeps k fine honest = record { plain = refl; fine = fine; same = refl }
 is_heard image w (Wake n) bytes keeps k fine honest = record { plain = refl; fine = fine; same = refl }
 is_heard image w (Migrate n) bytes keeps k fine honest = record { plain = refl; fine = fine; same = refl }
+is_heard image w (Power n) bytes keeps k fine honest = record { plain = refl; fine = fine; same = refl }
 is_heard image w (Ask n) bytes keeps k fine honest = record { plain = refl; fine = fine; same = refl }
 is_heard image w Frag bytes keeps k fine honest = record { plain = refl; fine = fine; same = refl }
 is_heard image w Status bytes keeps k fine honest = record { plain = refl; fine = fine; same = refl }

@@ -45,17 +45,17 @@ with_line : (lines : List Line) (w : WorldState) (said : Said) → said_cause w 
     → numbered lines (w.lines + 1) ≡ Some (Ok said) → AllConfigured lines w.devices
     → AllConfigured lines (w.devices ++ filter_map device_in (Ok said ∷ []))
 unfolding in_range
-with_line lines w (Own (Device name class hw rows offset key descriptor v1 k11)) fine line_is h id =
-    elim (numbered_push w.devices (device_of class hw rows offset key descriptor v1 k11) id) [
+with_line lines w (Own (Device name class hw rows offset key descriptor v1 k11 flash)) fine line_is h id =
+    elim (numbered_push w.devices (device_of class hw rows offset key descriptor v1 k11 flash) id) [
       | inl same ↦ subst (λ (o : Option DeviceState). IfSome o (λ d. IsOfItsLine lines id d.config)) (sym same) (h id)
       | inr new ↦
           let both = and_parts _ (name == length w.devices + 1)
-          (passes w (Device name class hw rows offset key descriptor v1 k11) fine).ranged in
+          (passes w (Device name class hw rows offset key descriptor v1 k11 flash) fine).ranged in
           let next : name ≡ length w.devices + 1 = eqb-true _ _ both.1 in
           some_is (λ (d : DeviceState). IsOfItsLine lines id d.config) _
-          (device_of class hw rows offset key descriptor v1 k11) new.1 (
+          (device_of class hw rows offset key descriptor v1 k11 flash) new.1 (
             w.lines + 1,
-            Ok (Own (Device name class hw rows offset key descriptor v1 k11)),
+            Ok (Own (Device name class hw rows offset key descriptor v1 k11 flash)),
             class,
             hw,
             rows,
@@ -64,9 +64,10 @@ with_line lines w (Own (Device name class hw rows offset key descriptor v1 k11))
             descriptor,
             v1,
             k11,
+            flash,
             record {
               line_is = line_is;
-              says = ap (λ (n : ℕ). let l : Line = Ok (Own (Device n class hw rows offset key descriptor v1 k11)) in l) (next ∙ sym new.2);
+              says = ap (λ (n : ℕ). let l : Line = Ok (Own (Device n class hw rows offset key descriptor v1 k11 flash)) in l) (next ∙ sym new.2);
               class_is = class_same class;
               hw_is = refl;
               rows_are = refl;

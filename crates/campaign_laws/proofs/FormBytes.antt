@@ -7,14 +7,14 @@ use Rattle.hex.specs.Hex.{decode_pairs}
 use Rattle.hex.proofs.HexLemmas.{decode_pairs-ok}
 use Rattle.aes_block.specs.Cipher.{IsBlock}
 use Rattle.script_lines.specs.declared.forms.Form.{Form}
-use Rattle.script_lines.specs.declared.forms.Form.TheVariants.{Header, Image, Group, WindowC, WindowB, Device, At, Wake, Migrate, Ask, Frag, Status, Down, Raw, Air, RawAir, Up, End}
+use Rattle.script_lines.specs.declared.forms.Form.TheVariants.{Header, Image, Group, WindowC, WindowB, Device, At, Wake, Migrate, Power, Ask, Frag, Status, Down, Raw, Air, RawAir, Up, End}
 use Rattle.script_lines.specs.Lines.{word, is_word, lines_of}
 use Rattle.script_lines.specs.Numbers.{key_of, hex_number_of, read_part, ◌>>=◌}
 use Rattle.script_lines.specs.Limits.{max_line}
 use Rattle.report_lines.specs.declared.faults.LineWhy.TheVariants as why
 use Rattle.campaign_world.specs.Said.{own, line_of, said_in}
 use Rattle.campaign_laws.specs.Fields.{HasFields, LineFits, AllFit}
-use Rattle.script_lines.specs.Forms.{count_of, alone, at_form, wake_form, migrate_form, ask_form, up_form, decimal_at, hex_at, key_at, bytes_at, class_at, header_form, image_words, image_form, group_words, group_form, window_from, window_form, device_words, device_of_words, device_from, device_form, down_words, down_of, down_form, raw_words, raw_form, in_the_air, air_form, raw_air_words, raw_air_form, form_of}
+use Rattle.script_lines.specs.Forms.{count_of, alone, at_form, wake_form, migrate_form, power_form, ask_form, up_form, decimal_at, hex_at, key_at, bytes_at, class_at, header_form, image_words, image_form, group_words, group_form, window_from, window_form, device_words, device_of_words, device_to, device_from, device_form, down_words, down_of, down_form, raw_words, raw_form, in_the_air, air_form, raw_air_words, raw_air_form, form_of}
 
 -- ---- what hex digits spell
 
@@ -97,23 +97,27 @@ group_words_fit index line k id =
 group_fits : (index : ℕ) (line : List ℕ) → Fits index (group_form line)
 group_fits index line = either index _ _ None (group_words_fit index line 1 0) (nothing index)
 
-device_words_fit : (index : ℕ) (line : List ℕ) (k : ℕ) (descriptor : Option ℕ) (v1 k11 : Bool) → Fits index (device_words line k descriptor v1 k11)
-device_words_fit index line k descriptor v1 k11 =
+device_words_fit : (index : ℕ) (line : List ℕ) (k : ℕ) (descriptor : Option ℕ) (v1 k11 flash : Bool) → Fits index (device_words line k descriptor v1 k11 flash)
+device_words_fit index line k descriptor v1 k11 flash =
     behind index (decimal_at line 1) _ (λ id id_is. behind index (class_at line k) _ (λ class class_is. behind index (decimal_at line (k + 1)) _ (λ hw hw_is.
     behind index (decimal_at line (k + 2)) _ (λ rows rows_are. behind index (decimal_at line (k + 3)) _ (λ offset offset_is.
-    behind index (key_at line (k + 4)) _ (λ key key_is. leaf index (Device id class hw rows offset key descriptor v1 k11)
+    behind index (key_at line (k + 4)) _ (λ key key_is. leaf index (Device id class hw rows offset key descriptor v1 k11 flash)
     (at_some IsBlock (key_at line (k + 4)) key (key_block (word line (k + 4))) key_is)))))))
 
-device_of_words_fit : (index : ℕ) (line : List ℕ) (k count : ℕ) (k11 : Bool) → Fits index (device_of_words line k count k11)
-device_of_words_fit index line k count k11 =
-    either index _ _ _ (device_words_fit index line k None false k11)
-    (either index _ _ _ (device_words_fit index line k None true k11)
-    (either index _ _ _ (behind index (hex_at line (k + 5)) _ (λ d is. device_words_fit index line k (Some d) false k11))
-    (either index _ _ None (behind index (hex_at line (k + 5)) _ (λ d is. device_words_fit index line k (Some d) true k11)) (nothing index))))
+device_of_words_fit : (index : ℕ) (line : List ℕ) (k count : ℕ) (k11 flash : Bool) → Fits index (device_of_words line k count k11 flash)
+device_of_words_fit index line k count k11 flash =
+    either index _ _ _ (device_words_fit index line k None false k11 flash)
+    (either index _ _ _ (device_words_fit index line k None true k11 flash)
+    (either index _ _ _ (behind index (hex_at line (k + 5)) _ (λ d is. device_words_fit index line k (Some d) false k11 flash))
+    (either index _ _ None (behind index (hex_at line (k + 5)) _ (λ d is. device_words_fit index line k (Some d) true k11 flash)) (nothing index))))
+
+device_to_fit : (index : ℕ) (line : List ℕ) (k count : ℕ) (flash : Bool) → Fits index (device_to line k count flash)
+device_to_fit index line k count flash =
+    either index _ _ _ (device_of_words_fit index line k (count - 1) true flash) (device_of_words_fit index line k count false flash)
 
 device_fits : (index : ℕ) (line : List ℕ) (k : ℕ) → Fits index (device_from line k)
 device_fits index line k =
-    either index _ _ _ (device_of_words_fit index line k (count_of line - 1) true) (device_of_words_fit index line k (count_of line) false)
+    either index _ _ _ (device_to_fit index line k (count_of line - 1) true) (device_to_fit index line k (count_of line) false)
 
 image_words_fit : (index : ℕ) (line : List ℕ) (k : ℕ) → Fits index (image_words line k index)
 image_words_fit index line k =
@@ -180,6 +184,7 @@ all_fit line =
     (either 0 (is_word line 0 (codes "at")) (at_form line) _ (lone_fits 0 line (count_of line == 2) (λ n. At n) (λ n. tt))
     (either 0 (is_word line 0 (codes "wake")) (wake_form line) _ (lone_fits 0 line (count_of line == 2) (λ n. Wake n) (λ n. tt))
     (either 0 (is_word line 0 (codes "migrate")) (migrate_form line) _ (lone_fits 0 line (count_of line == 2) (λ n. Migrate n) (λ n. tt))
+    (either 0 (is_word line 0 (codes "power")) (power_form line) _ (lone_fits 0 line (count_of line == 2) (λ n. Power n) (λ n. tt))
     (either 0 (is_word line 0 (codes "ask")) (ask_form line) _ (lone_fits 0 line (count_of line == 2) (λ n. Ask n) (λ n. tt))
     (either 0 (is_word line 0 (codes "frag")) (alone line Frag) _ (alone_fits 0 (count_of line == 1) Frag tt)
     (either 0 (is_word line 0 (codes "status")) (alone line Status) _ (alone_fits 0 (count_of line == 1) Status tt)
@@ -188,7 +193,7 @@ all_fit line =
     (either 0 (is_word line 0 (codes "air")) (air_form line) _ (air_fits 0 (down_form line))
     (either 0 (is_word line 0 (codes "rawair")) (raw_air_form line) _ (raw_air_fits 0 line)
     (either 0 (is_word line 0 (codes "up")) (up_form line) _ (lone_fits 0 line (count_of line == 2) (λ n. Up n) (λ n. tt))
-    (either 0 (is_word line 0 (codes "end")) (alone line End) _ (alone_fits 0 (count_of line == 1) End tt) (nothing 0)))))))))))))))))
+    (either 0 (is_word line 0 (codes "end")) (alone line End) _ (alone_fits 0 (count_of line == 1) End tt) (nothing 0))))))))))))))))))
 
 pub form_fits : (line : List ℕ) → IfSome (form_of line) (HasFields 0)
 form_fits line = (all_fit line).its

@@ -18,7 +18,7 @@ use Rattle.campaign_server.specs.Asking.{request_of}
 use Rattle.campaign_server.specs.Fragments.{after_count, next_fragment, after_fragment as server_after_fragment, status_to_all, after_status_to_all}
 use Rattle.campaign_server.specs.Uplinks.{with_answers, read_uplink, uplink_step}
 use Rattle.script_lines.specs.declared.forms.Form.{Form}
-use Rattle.script_lines.specs.declared.forms.Form.TheVariants.{Header, Image, Group, WindowC, WindowB, Device, At, Wake, Migrate, Ask, Frag, Status, Down, Raw, Air, RawAir, Up, End}
+use Rattle.script_lines.specs.declared.forms.Form.TheVariants.{Header, Image, Group, WindowC, WindowB, Device, At, Wake, Migrate, Power, Ask, Frag, Status, Down, Raw, Air, RawAir, Up, End}
 use Rattle.campaign_world.specs.declared.section.Section.{Section}
 use Rattle.campaign_world.specs.declared.section.Section.TheVariants as section
 use Rattle.report_lines.specs.declared.faults.LineWhy.{LineWhy}
@@ -168,7 +168,7 @@ form_counted w (WindowB start periodicity timeout freq dr) fine k = record {
   some = tt;
   even = record { stages = planned_even w.server.plan _ k.even.planned; planned = k.even.planned };
 }
-form_counted w (Device id class hw rows offset key descriptor v1 k11) fine k =
+form_counted w (Device id class hw rows offset key descriptor v1 k11 flash) fine k =
     let more = length_push w.devices _ in
     let planned : length (w.server.plan.devices ++ record { key = key; root = root_of k11 } ∷ []) ≡ _ =
     length_push w.server.plan.devices (record { key = key; root = root_of k11 }) ∙ ap (λ (n : ℕ). n + 1) k.even.planned ∙ sym more in
@@ -182,6 +182,9 @@ form_counted w (Device id class hw rows offset key descriptor v1 k11) fine k =
     }
 form_counted w (At time) fine k =
     event_counted w (record w { time = time }) (At time) refl (passes w (At time) fine).comes k
+    (record { devices = refl; stages = refl; planned = refl })
+form_counted w (Power device) fine k =
+    event_counted w w (Power device) refl (passes w (Power device) fine).comes k
     (record { devices = refl; stages = refl; planned = refl })
 form_counted w (Wake device) fine k =
     form_event_counted w device (Wake device) refl (passes w (Wake device) fine).comes k

@@ -30,6 +30,7 @@ use Rattle.campaign_server.specs.declared.fragments.NothingLeft.TheVariants.{Fra
 use Rattle.campaign_server.specs.Plan.{Plan, own_id}
 use Rattle.campaign_server.specs.Server.{ServerState, DownlinkCommand, port_of, ledger}
 use Rattle.wire_base.specs.Numbered.{numbered}
+use Rattle.campaign_world.specs.Making.{span_of}
 use Rattle.campaign_server.specs.Asking.{mask_of, window_request_of, window_request, group_request, cast_of, request_at, command_for, by_unicast, request_of}
 use Rattle.campaign_server.specs.Fragments.{receivers, has_no_count, after_count, next_fragment, after_fragment as server_after_fragment, status_to_all, after_status_to_all}
 use Rattle.campaign_server.specs.Time.{time_answer_to, first_answer, time_answer}
@@ -79,7 +80,7 @@ pub record IsBounded (config : DeviceConfig) : Type 0 where
   pub sessions : config.sessions ≡ 4
   pub area : config.area ≡ max_area
   pub rows : config.rows ≤ max_rows
-  pub memory : config.held ≡ false
+  pub flash : config.span ≡ span_of config.held
 
 -- the session has the rows that the device keeps, or a row a piece
 abbrev pub HasRows : List ℕ → Cut → DeviceConfig → Session → Type 0

@@ -22,7 +22,7 @@ use Rattle.campaign_server.specs.Fragments.{next_fragment, after_fragment as ser
 use Rattle.campaign_server.specs.Time.{time_answer}
 use Rattle.campaign_server.specs.Uplinks.{with_answers, read_uplink, uplink_step}
 use Rattle.script_lines.specs.declared.forms.Form.{Form}
-use Rattle.script_lines.specs.declared.forms.Form.TheVariants.{Header, Image, Group, WindowC, WindowB, Device, At as Time, Wake, Migrate, Ask, Frag, Status, Down, Raw, Air, RawAir, Up, End}
+use Rattle.script_lines.specs.declared.forms.Form.TheVariants.{Header, Image, Group, WindowC, WindowB, Device, At as Time, Wake, Migrate, Power, Ask, Frag, Status, Down, Raw, Air, RawAir, Up, End}
 use Rattle.script_lines.specs.Ranges.{in_range, is_device as ranged}
 use Rattle.campaign_world.specs.declared.section.Section.{Section}
 use Rattle.campaign_world.specs.declared.section.Section.TheVariants as section
@@ -31,7 +31,7 @@ use Rattle.campaign_world.specs.declared.numbered.SentPayload.{SentPayload}
 use Rattle.campaign_world.specs.declared.numbered.MadeUplink.{MadeUplink}
 use Rattle.campaign_world.specs.World.{WorldState}
 use Rattle.campaign_world.specs.Said.{Said, Own, Elsewhere, Reached}
-use Rattle.campaign_world.specs.Causes.{may_come, fits_script, is_device, names_device, may_reach, has_come, form_cause, takes_events, said_cause}
+use Rattle.campaign_world.specs.Causes.{may_come, fits_script, is_device, names_device, has_flash, may_reach, has_come, form_cause, takes_events, said_cause}
 use Rattle.campaign_world.specs.Making.{with_sent, with_device, with_event, with_event_of, after_answer, after_up, at_events, after_form, after_said}
 use Rattle.campaign_world.specs.Honest.{are_for_others}
 use Rattle.campaign_server.proofs.Plans.{few_masks}
@@ -64,7 +64,8 @@ passes w form fine =
     let b = test_passed _ _ _ a.1 in
     let c = test_passed _ _ _ b.1 in
     let d = test_passed _ _ _ c.1 in
-    record { may = a.0; ranged = b.0; names = c.0; come = d.0 }
+    let named = and_parts (names_device (length w.devices) form) (has_flash w.flash form) c.0 in
+    record { may = a.0; ranged = b.0; names = named.0; come = d.0 }
 
 at_header : (image : List ℕ) (w : WorldState) (here : Section) → may_come here Header ≡ true → StandsIn image w here
     → (w.sent ≡ []) × (w.devices ≡ [])
@@ -401,14 +402,14 @@ form_turn image w (WindowB start periodicity timeout freq dr) bytes k fine hones
     (record { image_is = k.server.image_is; next = omega arith; few = k.server.few; indexed = k.server.indexed; masked = k.server.masked })
     (late_cut image w (WindowB start periodicity timeout freq dr) w.section refl
     (passes w (WindowB start periodicity timeout freq dr) fine).may k.stands) refl refl refl refl
-form_turn image w (Device id class hw rows offset key descriptor v1 k11) bytes k fine honest =
-    let p = passes w (Device id class hw rows offset key descriptor v1 k11) fine in
+form_turn image w (Device id class hw rows offset key descriptor v1 k11 flash) bytes k fine honest =
+    let p = passes w (Device id class hw rows offset key descriptor v1 k11 flash) fine in
     let both = and_parts (ranged id hw rows offset) (id == length w.devices + 1) p.ranged in
     let next : id ≡ length w.devices + 1 = eqb-true _ _ both.1 in
     record {
       lines = refl;
       server = record { image_is = k.server.image_is; next = omega arith; few = k.server.few; indexed = k.server.indexed; masked = k.server.masked };
-      stands = late_cut image w (Device id class hw rows offset key descriptor v1 k11) w.section refl p.may k.stands;
+      stands = late_cut image w (Device id class hw rows offset key descriptor v1 k11 flash) w.section refl p.may k.stands;
       how = inr (inr (inl (record {
         other = refl;
         cut = refl;
@@ -420,7 +421,8 @@ form_turn image w (Device id class hw rows offset key descriptor v1 k11) bytes k
         descriptor = descriptor;
         v1 = v1;
         k11 = k11;
-        said_is = ap (λ (n : ℕ). Own (Device n class hw rows offset key descriptor v1 k11)) next;
+        flash = flash;
+        said_is = ap (λ (n : ℕ). Own (Device n class hw rows offset key descriptor v1 k11 flash)) next;
         few = few_rows id hw rows offset both.0;
         devices = refl;
         sent = refl;
@@ -429,6 +431,9 @@ form_turn image w (Device id class hw rows offset key descriptor v1 k11) bytes k
 form_turn image w (Time time) bytes k fine honest =
     still_turn image (Own (Time time)) w _ refl k.server
     (late_cut image w (Time time) w.section refl (passes w (Time time) fine).may k.stands) refl refl refl refl
+form_turn image w (Power device) bytes k fine honest =
+    still_turn image (Own (Power device)) w _ refl k.server
+    (late_cut image w (Power device) w.section refl (passes w (Power device) fine).may k.stands) refl refl refl refl
 form_turn image w (Wake device) bytes k fine honest =
     let p = passes w (Wake device) fine in
     let there = number_there (length w.devices) device p.names in

@@ -1,11 +1,12 @@
 -- A device to which the setup was brought, and that takes its descriptor, has its session.
-use Rattle.std.proofs.Common.{◌≡◌, ℕ, zero, suc, ◌*◌, ◌^◌, ◌<◌, ◌≤◌, true, false, nat_le, List, length, min, drop, All, Option, None, Some, is_some, Result, Ok, Err, refl, sym, ap, ◌∙◌, subst, arith, ne_eqb, le-ltb, length-drop, mul-le-mul}
+use Rattle.std.proofs.Common.{◌≡◌, ℕ, zero, suc, ◌*◌, ◌^◌, ◌<◌, ◌≤◌, ◌+◌, Bool, true, false, nat_le, List, length, min, drop, All, Option, None, Some, is_some, Result, Ok, Err, refl, sym, ap, ◌∙◌, subst, arith, ne_eqb, le-ltb, length-drop, mul-le-mul}
 use Rattle.std.proofs.lemmas.Bool.{le-leb}
 use Rattle.std.proofs.lemmas.Bool.Decides.{nat_tests}
 use Rattle.std.proofs.lemmas.Grind.{div_ceil_times}
 use Rattle.frag_encoder.specs.Encoding.{nb_frag_of, padding_of}
 use Rattle.row_elimination.specs.Room.{extent_for, words_for, has_room}
-use Rattle.frag_session.specs.Setup.{wrong_coding, too_large, other_descriptor, setup_bits}
+use Rattle.frag_session.specs.declared.setups.SetupReq.{SetupReq}
+use Rattle.frag_session.specs.Setup.{flash_for, too_long, wrong_coding, too_large, other_descriptor, setup_bits}
 use Rattle.frag_session.specs.Session.{Session}
 use Rattle.image_slots.specs.Image.{is_image, firmware_of}
 use Rattle.image_slots.proofs.ImageLemmas.{image_long, image_short}
@@ -17,6 +18,7 @@ use Rattle.row_elimination.specs.HeldTable.{max_line_words}
 use Rattle.campaign_world.specs.declared.section.Section.{Section}
 use Rattle.campaign_world.specs.declared.section.Section.TheVariants as section
 use Rattle.report_lines.specs.declared.faults.LineFault.{LineFault}
+use Rattle.campaign_world.specs.Making.{flash_span, span_of}
 use Rattle.campaign_world.specs.World.{WorldState, first_world}
 use Rattle.campaign_world.specs.Said.{Line}
 use Rattle.device_core.specs.SessionTable.{session_at}
@@ -65,6 +67,20 @@ room_there config pieces size k few small fits =
       le-leb pieces max_pieces few,
     ) refl
 
+-- so has its flash, where it is held there
+flash_there : (pieces size : ℕ) → pieces ≤ max_pieces → size ≤ max_frag_size → pieces * size ≤ max_area
+    → 24640 + (2 * pieces + 1) * (10 + size) ≤ flash_span
+flash_there pieces size few small fits =
+    let product : (2 * pieces + 1) * (10 + size) ≡ 20 * pieces + 2 * (pieces * size) + 10 + size = grind arith in
+    omega (arith, product, few, small, fits)
+
+enough_flash : (config : DeviceConfig) (req : SetupReq) (held : Bool) → config.held ≡ held → config.span ≡ span_of config.held
+    → flash_for req ≤ flash_span → too_long (room_of config).span req ≡ false
+enough_flash config req false is span fits = rw (is) refl
+enough_flash config req true is span fits =
+    let long : config.span ≡ flash_span = span ∙ ap span_of is in
+    rw (is) (le-ltb config.span (flash_for req) (omega (arith, fits, long)))
+
 pub takes_setup : (image : List ℕ) (cut : Cut) (config : DeviceConfig) → is_image image ≡ true → IsCut image cut
     → IsBounded config → other_descriptor config.descriptor (firmware_of image) ≡ false
     → setup_bits (limits_of config) (room_of config) (setup_req image cut) ≡ 0
@@ -84,7 +100,7 @@ takes_setup image cut config fine is k takes =
       le-ltb max_pieces (nb_frag_of (length image) cut.size) is.few,
       le-ltb max_frag_size cut.size is.small,
       room,
-      k.memory,
+      enough_flash config (setup_req image cut) config.held refl k.flash (flash_there _ cut.size is.few is.small fits),
       k.sessions,
       not_le 4 cut.index (omega (arith, is.indexed)),
       takes,

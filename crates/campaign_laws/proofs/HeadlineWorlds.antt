@@ -106,9 +106,10 @@ pub record IsJoined (said : Said) (w v : WorldState) : Type 0 where
   pub descriptor : Option ℕ
   pub v1 : Bool
   pub k11 : Bool
-  pub said_is : said ≡ Own (Device (length w.devices + 1) class hw rows offset key descriptor v1 k11)
+  pub flash : Bool
+  pub said_is : said ≡ Own (Device (length w.devices + 1) class hw rows offset key descriptor v1 k11 flash)
   pub few : rows ≤ max_rows
-  pub devices : v.devices ≡ w.devices ++ device_of class hw rows offset key descriptor v1 k11 ∷ []
+  pub devices : v.devices ≡ w.devices ++ device_of class hw rows offset key descriptor v1 k11 flash ∷ []
   pub sent : v.sent ≡ w.sent
 
 -- a payload reaches a device
@@ -210,8 +211,8 @@ turn_keeps image said w v k turn = elim turn.how [
         devices = subst (λ (x : Cut). DevicesAre image x v.devices) (sym j.cut)
             (subst (DevicesAre image (cut_of w.server.plan)) (sym j.devices)
             (joined_devices image (cut_of w.server.plan) w.devices
-            (config_of j.class j.hw j.rows j.offset j.key j.descriptor j.v1 j.k11)
-            (record { sessions = refl; area = refl; rows = j.few; memory = refl }) k.devices));
+            (config_of j.class j.hw j.rows j.offset j.key j.descriptor j.v1 j.k11 j.flash)
+            (record { sessions = refl; area = refl; rows = j.few; flash = refl }) k.devices));
       }
       | inr r ↦
           let its = if_some (IsDeviceFor image (cut_of w.server.plan)) (numbered w.devices r.id) r.old r.before

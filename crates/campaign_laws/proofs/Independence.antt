@@ -16,7 +16,7 @@ use Rattle.campaign_server.specs.Fragments.{next_fragment, after_fragment, statu
 use Rattle.campaign_server.specs.Time.{time_answer}
 use Rattle.campaign_server.specs.Uplinks.{with_answers, read_uplink, uplink_step}
 use Rattle.script_lines.specs.declared.forms.Form.{Form}
-use Rattle.script_lines.specs.declared.forms.Form.TheVariants.{Header, Image, Group, WindowC, WindowB, Device, At, Wake, Migrate, Ask, Frag, Status, Down, Raw, Air, RawAir, Up, End}
+use Rattle.script_lines.specs.declared.forms.Form.TheVariants.{Header, Image, Group, WindowC, WindowB, Device, At, Wake, Migrate, Power, Ask, Frag, Status, Down, Raw, Air, RawAir, Up, End}
 use Rattle.report_lines.specs.declared.faults.LineWhy.{LineWhy}
 use Rattle.report_lines.specs.declared.faults.LineFault.{LineFault}
 use Rattle.campaign_world.specs.declared.numbered.SentPayload.{SentPayload}
@@ -262,7 +262,7 @@ form_told id group all w (WindowC start timeout freq dr) fine =
 form_told id group all w (WindowB start periodicity timeout freq dr) fine =
     still_told id group all w _ (Own (WindowB start periodicity timeout freq dr))
     (same_still w _ refl refl refl refl) refl refl refl
-form_told id group all w (Device name class hw rows offset key descriptor v1 k11) fine = record {
+form_told id group all w (Device name class hw rows offset key descriptor v1 k11 flash) fine = record {
   lines = refl;
   time = refl;
   sent = same_sent w;
@@ -270,6 +270,12 @@ form_told id group all w (Device name class hw rows offset key descriptor v1 k11
       (append_assoc w.devices (_ ∷ []) (filter_map device_in later));
 }
 form_told id group all w (At time) fine = record {
+  lines = refl;
+  time = refl;
+  sent = same_sent w;
+  record_is = λ grows has later events. refl;
+}
+form_told id group all w (Power device) fine = record {
   lines = refl;
   time = refl;
   sent = same_sent w;

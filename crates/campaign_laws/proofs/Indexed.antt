@@ -7,7 +7,7 @@ use Rattle.campaign_server.specs.Plan.{Plan}
 use Rattle.campaign_server.specs.Asking.{request_of}
 use Rattle.campaign_server.specs.Fragments.{next_fragment, after_fragment, status_to_all, after_status_to_all}
 use Rattle.script_lines.specs.declared.forms.Form.{Form}
-use Rattle.script_lines.specs.declared.forms.Form.TheVariants.{Header, Image, Group, WindowC, WindowB, Device, At, Wake, Migrate, Ask, Frag, Status, Down, Raw, Air, RawAir, Up, End}
+use Rattle.script_lines.specs.declared.forms.Form.TheVariants.{Header, Image, Group, WindowC, WindowB, Device, At, Wake, Migrate, Power, Ask, Frag, Status, Down, Raw, Air, RawAir, Up, End}
 use Rattle.campaign_world.specs.declared.section.Section.{Section}
 use Rattle.campaign_world.specs.declared.section.Section.TheVariants as section
 use Rattle.campaign_world.specs.World.{WorldState}
@@ -64,10 +64,12 @@ form_indexed index w (WindowC start timeout freq dr) fine fits k =
 form_indexed index w (WindowB start periodicity timeout freq dr) fine fits k =
     let form : Form = WindowB start periodicity timeout freq dr in
     late_index index w.server.plan form w.section refl (passes w form fine).may k
-form_indexed index w (Device id class hw rows offset key descriptor v1 k11) fine fits k =
-    let form : Form = Device id class hw rows offset key descriptor v1 k11 in
+form_indexed index w (Device id class hw rows offset key descriptor v1 k11 flash) fine fits k =
+    let form : Form = Device id class hw rows offset key descriptor v1 k11 flash in
     late_index index w.server.plan form w.section refl (passes w form fine).may k
 form_indexed index w (At time) fine fits k = late_index index w.server.plan (At time) w.section refl (passes w (At time) fine).may k
+form_indexed index w (Power n) fine fits k =
+    late_index index w.server.plan (Power n) w.section refl (passes w (Power n) fine).may k
 form_indexed index w (Wake n) fine fits k =
     same_index w _ (event_settled w n (Wake n)) ∙ late_index index w.server.plan (Wake n) w.section refl (passes w (Wake n) fine).may k
 form_indexed index w (Migrate n) fine fits k =

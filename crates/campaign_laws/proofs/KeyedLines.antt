@@ -27,7 +27,7 @@ use Rattle.campaign_server.specs.Time.{time_answer}
 use Rattle.campaign_server.specs.Uplinks.{with_answers, read_uplink, uplink_step}
 use Rattle.campaign_server.proofs.LineItems.{numbered_more, numbered_push, numbered_put, numbered_there}
 use Rattle.script_lines.specs.declared.forms.Form.{Form}
-use Rattle.script_lines.specs.declared.forms.Form.TheVariants.{Header, Image, Group, WindowC, WindowB, Device, At, Wake, Migrate, Ask, Frag, Status, Down, Raw, Air, RawAir, Up, End}
+use Rattle.script_lines.specs.declared.forms.Form.TheVariants.{Header, Image, Group, WindowC, WindowB, Device, At, Wake, Migrate, Power, Ask, Frag, Status, Down, Raw, Air, RawAir, Up, End}
 use Rattle.script_lines.specs.Ranges.{in_range}
 use Rattle.campaign_world.specs.declared.section.Section.{Section}
 use Rattle.campaign_world.specs.declared.section.Section.TheVariants as section
@@ -309,11 +309,13 @@ form_keyed index w (WindowB start periodicity timeout freq dr) fine fits plain f
         by false true true false e is = absurd cc
         by false true false d e is = absurd cc
         by false false c d e is = absurd cc
-form_keyed index w (Device id class hw rows offset key descriptor v1 k11) fine fits plain few k =
-    let form : Form = Device id class hw rows offset key descriptor v1 k11 in
+form_keyed index w (Device id class hw rows offset key descriptor v1 k11 flash) fine fits plain few k =
+    let form : Form = Device id class hw rows offset key descriptor v1 k11 flash in
     let here = plan_at w.section form refl (passes w form fine).may in
-    joined_keyed w (config_of class hw rows offset key descriptor v1 k11) here fits k
+    joined_keyed w (config_of class hw rows offset key descriptor v1 k11 flash) here fits k
 form_keyed index w (At time) fine fits plain few k =
+    still_keyed w.lines w.section section.Events w.server w.devices w.sent (λ plan. absurd (true≢false (sym plan))) k
+form_keyed index w (Power n) fine fits plain few k =
     still_keyed w.lines w.section section.Events w.server w.devices w.sent (λ plan. absurd (true≢false (sym plan))) k
 form_keyed index w (Wake n) fine fits plain few k =
     let there = there_at w.devices n (passes w (Wake n) fine).names in

@@ -25,7 +25,7 @@ use Rattle.campaign_server.specs.Time.{time_answer}
 use Rattle.campaign_server.specs.Answers.{stage_after_all}
 use Rattle.campaign_server.specs.Uplinks.{with_answers, read_uplink, uplink_step}
 use Rattle.script_lines.specs.declared.forms.Form.{Form}
-use Rattle.script_lines.specs.declared.forms.Form.TheVariants.{Header, Image, Group, WindowC, WindowB, Device, At, Wake, Migrate, Ask, Frag, Status, Down, Raw, Air, RawAir, Up, End}
+use Rattle.script_lines.specs.declared.forms.Form.TheVariants.{Header, Image, Group, WindowC, WindowB, Device, At, Wake, Migrate, Power, Ask, Frag, Status, Down, Raw, Air, RawAir, Up, End}
 use Rattle.script_lines.specs.Limits.{max_rows, max_devices}
 use Rattle.script_lines.specs.Ranges.{in_range}
 use Rattle.campaign_world.specs.declared.section.Section.{Section}
@@ -360,10 +360,10 @@ joined_holds image w d fit h id x is =
     ⊎_elim (λ same. h.devices id x (sym same ∙ is)) (λ new. let e : d ≡ x = cc in subst (IsFit image) e fit)
     (numbered_push w.devices d id)
 
-device_joins : (image : List ℕ) (w : WorldState) (d : DeviceState) (plan : Plan) (next : Section)
+device_joins : (image : List ℕ) (w : WorldState) (d : DeviceState) (flash : List ℕ) (plan : Plan) (next : Section)
     → IsFit image d → Holds image w
-    → Holds image (with_plan (record w { devices = w.devices ++ d ∷ [] }) plan next)
-device_joins image w d plan next fit h = record {
+    → Holds image (with_plan (record w { devices = w.devices ++ d ∷ []; flash = flash }) plan next)
+device_joins image w d flash plan next fit h = record {
   devices = joined_holds image w d fit h;
   sent = h.sent;
   uplinks = made_on image w.devices (w.devices ++ d ∷ []) w.uplinks
@@ -398,18 +398,19 @@ form_holds image w (Image frag_size parity index) bytes is k h fine honest = pla
 form_holds image w (Group id addr key min max) bytes is k h fine honest = plan_holds image w _ _ h
 form_holds image w (WindowC start timeout freq dr) bytes is k h fine honest = plan_holds image w _ _ h
 form_holds image w (WindowB start periodicity timeout freq dr) bytes is k h fine honest = plan_holds image w _ _ h
-form_holds image w (Device id class hw rows offset key descriptor v1 k11) bytes is k h fine honest =
-    let form : Form = Device id class hw rows offset key descriptor v1 k11 in
+form_holds image w (Device id class hw rows offset key descriptor v1 k11 flash) bytes is k h fine honest =
+    let form : Form = Device id class hw rows offset key descriptor v1 k11 flash in
     let both = and_parts (in_range form) (fits_script (length w.server.image) (length w.devices) form)
     (passes w form fine).ranged in
     let small : hw < 2 ^ 32 = ltb-true hw (2 ^ 32)
     (hw_small (nat_le 1 id) (nat_le id max_devices) (nat_lt hw (2 ^ 32)) (nat_le rows max_rows)
     (nat_lt offset (2 ^ 32)) both.0) in
-    device_joins image w _ _ _ (record {
+    device_joins image w _ _ _ _ (record {
       hardware = small;
       slots = record { running = inl refl; next = inl refl };
     }) h
 form_holds image w (At time) bytes is k h fine honest = still_holds image w _ refl refl refl refl h
+form_holds image w (Power device) bytes is k h fine honest = still_holds image w _ refl refl refl refl h
 form_holds image w (Wake device) bytes is k h fine honest =
     let d = is_there w.devices device (passes w (Wake device) fine).names in
     woken_holds image w device d.1.0 k h d.1.1

@@ -29,6 +29,7 @@ pub mod KeyedLines
 pub mod Airing
 pub mod HonestLines
 pub mod AirLaw
+pub mod PowerLaw
 pub mod LedgerSlots
 pub mod LedgerDevices
 pub mod LedgerServers

@@ -23,7 +23,7 @@ use Rattle.campaign_server.specs.Fragments.{next_fragment, after_fragment, after
 use Rattle.campaign_server.specs.Time.{time_answer}
 use Rattle.campaign_server.specs.Uplinks.{with_answers, read_uplink, uplink_step}
 use Rattle.script_lines.specs.declared.forms.Form.{Form}
-use Rattle.script_lines.specs.declared.forms.Form.TheVariants.{Header, Image, Group, WindowC, WindowB, Device, At as AtTime, Wake, Migrate, Ask, Frag, Status, Down, Raw, Air, RawAir, Up, End}
+use Rattle.script_lines.specs.declared.forms.Form.TheVariants.{Header, Image, Group, WindowC, WindowB, Device, At as AtTime, Wake, Migrate, Power, Ask, Frag, Status, Down, Raw, Air, RawAir, Up, End}
 use Rattle.campaign_world.specs.declared.numbered.SentPayload.{SentPayload}
 use Rattle.campaign_world.specs.declared.numbered.MadeUplink.{MadeUplink}
 use Rattle.campaign_world.specs.World.{WorldState, first_world}
@@ -138,11 +138,12 @@ form_goes w (Image frag_size parity index) fine over = no_plan w (Image frag_siz
 form_goes w (Group id addr key min max) fine over = no_plan w (Group id addr key min max) fine over (plan_at w.section (Group id addr key min max) refl)
 form_goes w (WindowC start timeout freq dr) fine over = no_plan w (WindowC start timeout freq dr) fine over (plan_at w.section (WindowC start timeout freq dr) refl)
 form_goes w (WindowB start periodicity timeout freq dr) fine over = no_plan w (WindowB start periodicity timeout freq dr) fine over (plan_at w.section (WindowB start periodicity timeout freq dr) refl)
-form_goes w (Device id class hw rows offset key descriptor v1 k11) fine over =
-    no_plan w (Device id class hw rows offset key descriptor v1 k11) fine over (plan_at w.section (Device id class hw rows offset key descriptor v1 k11) refl)
+form_goes w (Device id class hw rows offset key descriptor v1 k11 flash) fine over =
+    no_plan w (Device id class hw rows offset key descriptor v1 k11 flash) fine over (plan_at w.section (Device id class hw rows offset key descriptor v1 k11 flash) refl)
 form_goes w (AtTime time) fine over = still w _ refl refl refl
 form_goes w (Wake n) fine over = form_event_goes w n (Wake n)
 form_goes w (Migrate n) fine over = form_event_goes w n (Migrate n)
+form_goes w (Power n) fine over = still w _ refl refl refl
 form_goes w (Ask n) fine over = sends_go w w.server (Some n) (request_of w.server n) (same_on w.server w.server refl refl)
 form_goes w Frag fine over = sends_go w (after_fragment w.server) None (result_ok (next_fragment w.server)) (fragment_on w.server)
 form_goes w Status fine over = sends_go w (after_status_to_all w.server) None (status_to_all w.server) (status_on w.server)
@@ -224,10 +225,11 @@ form_image w (Image frag_size parity index) = refl
 form_image w (Group id addr key min max) = refl
 form_image w (WindowC start timeout freq dr) = refl
 form_image w (WindowB start periodicity timeout freq dr) = refl
-form_image w (Device id class hw rows offset key descriptor v1 k11) = refl
+form_image w (Device id class hw rows offset key descriptor v1 k11 flash) = refl
 form_image w (AtTime time) = refl
 form_image w (Wake n) = (form_event_goes w n (Wake n)).image
 form_image w (Migrate n) = (form_event_goes w n (Migrate n)).image
+form_image w (Power n) = refl
 form_image w (Ask n) = (sends_go w w.server (Some n) (request_of w.server n) (same_on w.server w.server refl refl)).image
 form_image w Frag = (sends_go w (after_fragment w.server) None (result_ok (next_fragment w.server)) (fragment_on w.server)).image
 form_image w Status = (sends_go w (after_status_to_all w.server) None (status_to_all w.server) (status_on w.server)).image

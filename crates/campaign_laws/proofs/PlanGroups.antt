@@ -15,7 +15,7 @@ use Rattle.campaign_server.specs.Fragments.{next_fragment, after_fragment, statu
 use Rattle.campaign_server.specs.Time.{time_answer}
 use Rattle.campaign_server.specs.Uplinks.{with_answers, read_uplink, uplink_step}
 use Rattle.script_lines.specs.declared.forms.Form.{Form}
-use Rattle.script_lines.specs.declared.forms.Form.TheVariants.{Header, Image, Group, WindowC, WindowB, Device, At, Wake, Migrate, Ask, Frag, Status, Down, Raw, Air, RawAir, Up, End}
+use Rattle.script_lines.specs.declared.forms.Form.TheVariants.{Header, Image, Group, WindowC, WindowB, Device, At, Wake, Migrate, Power, Ask, Frag, Status, Down, Raw, Air, RawAir, Up, End}
 use Rattle.campaign_world.specs.declared.section.Section.{Section}
 use Rattle.campaign_world.specs.declared.section.Section.TheVariants as section
 use Rattle.campaign_world.specs.declared.numbered.MadeUplink.{MadeUplink}
@@ -116,10 +116,11 @@ form_settled w (WindowC start timeout freq dr) fine over =
 form_settled w (WindowB start periodicity timeout freq dr) fine over =
     no_plan w (WindowB start periodicity timeout freq dr) fine over
     (plan_at w.section (WindowB start periodicity timeout freq dr) refl)
-form_settled w (Device id class hw rows offset key descriptor v1 k11) fine over =
-    no_plan w (Device id class hw rows offset key descriptor v1 k11) fine over
-    (plan_at w.section (Device id class hw rows offset key descriptor v1 k11) refl)
+form_settled w (Device id class hw rows offset key descriptor v1 k11 flash) fine over =
+    no_plan w (Device id class hw rows offset key descriptor v1 k11 flash) fine over
+    (plan_at w.section (Device id class hw rows offset key descriptor v1 k11 flash) refl)
 form_settled w (At time) fine over = record { over = refl; plan = refl }
+form_settled w (Power n) fine over = record { over = refl; plan = refl }
 form_settled w (Wake n) fine over = event_settled w n (Wake n)
 form_settled w (Migrate n) fine over = event_settled w n (Migrate n)
 form_settled w (Ask n) fine over = sends_settled w w.server (Some n) (request_of w.server n) refl

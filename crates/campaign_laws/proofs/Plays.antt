@@ -13,7 +13,7 @@ use Rattle.campaign_server.specs.Fragments.{next_fragment, after_fragment, statu
 use Rattle.campaign_server.specs.Time.{time_answer}
 use Rattle.campaign_server.specs.Uplinks.{with_answers, read_uplink, uplink_step}
 use Rattle.script_lines.specs.declared.forms.Form.{Form}
-use Rattle.script_lines.specs.declared.forms.Form.TheVariants.{Header, Image, Group, WindowC, WindowB, Device, At, Wake, Migrate, Ask, Frag, Status, Down, Raw, Air, RawAir, Up, End}
+use Rattle.script_lines.specs.declared.forms.Form.TheVariants.{Header, Image, Group, WindowC, WindowB, Device, At, Wake, Migrate, Power, Ask, Frag, Status, Down, Raw, Air, RawAir, Up, End}
 use Rattle.campaign_world.specs.declared.numbered.SentPayload.{SentPayload}
 use Rattle.campaign_world.specs.declared.numbered.MadeUplink.{MadeUplink}
 use Rattle.script_lines.specs.Forms.{form_of}
@@ -88,10 +88,11 @@ lines_kept w (Image frag_size parity index) = refl
 lines_kept w (Group id addr key min max) = refl
 lines_kept w (WindowC start timeout freq dr) = refl
 lines_kept w (WindowB start periodicity timeout freq dr) = refl
-lines_kept w (Device id class hw rows offset key descriptor v1 k11) = refl
+lines_kept w (Device id class hw rows offset key descriptor v1 k11 flash) = refl
 lines_kept w (At time) = refl
 lines_kept w (Wake device) = form_event_keeps w device (Wake device)
 lines_kept w (Migrate device) = form_event_keeps w device (Migrate device)
+lines_kept w (Power device) = refl
 lines_kept w (Ask device) = sent_keeps w w (Some device) (request_of w.server device) refl
 lines_kept w Frag = sent_keeps w (record w { server = after_fragment w.server }) None (result_ok (next_fragment w.server)) refl
 lines_kept w Status = sent_keeps w (record w { server = after_status_to_all w.server }) None (status_to_all w.server) refl

@@ -164,7 +164,7 @@ numbered_replicate count n x low high =
 
 -- another device may come
 abbrev pub TakesDevice : Section → Type 0
-TakesDevice here = (id hw rows offset : ℕ) (key : List ℕ) (descriptor : Option ℕ) (v1 k11 : Bool) → may_come here (Device id class.C hw rows offset key descriptor v1 k11) ≡ true
+TakesDevice here = (id hw rows offset : ℕ) (key : List ℕ) (descriptor : Option ℕ) (v1 k11 flash : Bool) → may_come here (Device id class.C hw rows offset key descriptor v1 k11 flash) ≡ true
 
 -- so many devices have joined
 pub record Joined (image : List ℕ) (devices : ℕ) (w : WorldState) : Type 0 where
@@ -183,15 +183,15 @@ start : (image : List ℕ) → count_of image ≤ 129 → To (first_world image)
 unfolding after_form in_range
 start image few =
     both (first_world image) (Header ∷ []) (Image 64 128 0 ∷ []) (λ v. v ≡ one_line_more (after_form (first_world image) Header)) (Joined image 0)
-    (one (first_world image) Header _ (no_cause (first_world image) Header (record { comes = refl; ranges = refl; fits = refl }) refl refl refl refl refl) refl)
+    (one (first_world image) Header _ (no_cause (first_world image) Header (record { comes = refl; ranges = refl; fits = refl }) refl refl refl refl refl refl refl) refl)
     (λ v is. subst (λ (w : WorldState). To w (Image 64 128 0 ∷ []) (Joined image 0)) (sym is)
     (one (one_line_more (after_form (first_world image) Header)) (Image 64 128 0) (Joined image 0)
-    (no_cause (one_line_more (after_form (first_world image) Header)) (Image 64 128 0) (record { comes = refl; ranges = refl; fits = fits }) refl refl refl refl refl)
+    (no_cause (one_line_more (after_form (first_world image) Header)) (Image 64 128 0) (record { comes = refl; ranges = refl; fits = fits }) refl refl refl refl refl refl refl)
     (record {
       server = refl;
       plan = record { size = refl; parity = refl; index = refl; group = refl };
       time = refl;
-      takes = λ id hw rows offset key descriptor v1 k11. refl;
+      takes = λ id hw rows offset key descriptor v1 k11 flash. refl;
       events = λ some. absurd (omega (arith, some));
       keys = refl;
       count = refl;
@@ -211,12 +211,12 @@ device_to : (image : List ℕ) (k g : ℕ) (w : WorldState) → k < 8 → Joined
 unfolding after_form in_range
 device_to image k g w few j =
     one w (device_form (k + 1) (drawn g)) (Joined image (k + 1))
-    (no_cause w (device_form (k + 1) (drawn g)) (record { comes = j.takes (k + 1) 1 64 (drawn g) (replicate 16 0) None false false; ranges = ranged; fits = rw j.count same }) refl refl refl refl refl)
+    (no_cause w (device_form (k + 1) (drawn g)) (record { comes = j.takes (k + 1) 1 64 (drawn g) (replicate 16 0) None false false false; ranges = ranged; fits = rw j.count same }) refl refl refl refl refl refl refl)
     (record {
       server = ap (λ (s : ServerState). first_server s.image plan') j.server;
       plan = record { size = j.plan.size; parity = j.plan.parity; index = j.plan.index; group = j.plan.group };
       time = j.time;
-      takes = λ id hw rows offset key descriptor v1 k11. refl;
+      takes = λ id hw rows offset key descriptor v1 k11 flash. refl;
       events = λ some. takes_first_event;
       keys = rw length-append (ap (λ (i : ℕ). i + 1) j.keys);
       count = rw length-append (ap (λ (i : ℕ). i + 1) j.count);
@@ -241,7 +241,7 @@ device_to image k g w few j =
     same = grind arith
 
     new : DeviceState
-    new = device_of class.C 1 64 (drawn g) (replicate 16 0) None false false
+    new = device_of class.C 1 64 (drawn g) (replicate 16 0) None false false false
 
     each : (n : ℕ) → 1 ≤ n → n ≤ k + 1 → (d : DeviceState) × (numbered (w.devices ++ new ∷ []) n ≡ Some d) × IsNew d
     each n l h = by (n == k + 1) refl
@@ -354,7 +354,7 @@ pub record Done (image : List ℕ) (w : WorldState) : Type 0 where
 end_to : (image : List ℕ) (from : ℕ) (w : WorldState) → Stand image (16 + (count_of image + 128) + 32) 48 from (AtTurn (Late image) 4 8 0) w → To w (End ∷ []) (Done image)
 unfolding after_form in_range
 end_to image from w k =
-    one w End (Done image) (no_cause w End (record { comes = k.takes.end; ranges = refl; fits = refl }) refl refl refl refl refl)
+    one w End (Done image) (no_cause w End (record { comes = k.takes.end; ranges = refl; fits = refl }) refl refl refl refl refl refl refl)
     (record {
       section = refl;
       sent = k.sent;

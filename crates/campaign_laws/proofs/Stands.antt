@@ -162,7 +162,7 @@ ask_plays : (w : WorldState) (n : ℕ) (k : PlanDevice) (s : Stage) (c : Command
 unfolding after_form request_of in_range
 ask_plays w n k s c may key stage ask =
     one w (Ask n) (λ v. v ≡ asks w n c)
-    (no_cause w (Ask n) (record { comes = may.takes.ask n; ranges = refl; fits = refl }) may.device refl refl refl refl) (rw (key, stage, ask) refl)
+    (no_cause w (Ask n) (record { comes = may.takes.ask n; ranges = refl; fits = refl }) may.device refl refl refl refl refl refl) (rw (key, stage, ask) refl)
 
 -- device n became this one, and its uplinks are taken
 abbrev pub reached : WorldState → (n : ℕ) → DeviceState → WorldState
@@ -179,7 +179,7 @@ pub down_plays : (w : WorldState) (payload n : ℕ) (d : DeviceState) (s : SentP
 unfolding after_form with_device in_range
 down_plays w payload n d s may device sent to =
     one w (Down payload n 0) (λ v. v ≡ reached w n (delivery w.time 0 (w.lines + 1) s.down d).device)
-    (no_cause w (Down payload n 0) (record { comes = may.takes.down payload n 0; ranges = refl; fits = refl }) may.device (rw sent to) refl refl refl)
+    (no_cause w (Down payload n 0) (record { comes = may.takes.down payload n 0; ranges = refl; fits = refl }) may.device refl (rw sent to) refl refl refl refl)
     (rw (device, sent) refl)
 
 -- the server behind an answer of device n
@@ -203,7 +203,7 @@ unfolding after_form in_range
 up_plays w number n p due s a takes now there stage read silent =
     let by_now : nat_le due w.time ≡ true = grind (arith, now) in
     one w (Up number) (λ v. v ≡ upped w n s a)
-    (no_cause w (Up number) (record { comes = takes.up number; ranges = refl; fits = refl }) refl (rw there by_now) refl refl refl)
+    (no_cause w (Up number) (record { comes = takes.up number; ranges = refl; fits = refl }) refl refl (rw there by_now) refl refl refl refl)
     (rw (there, answer_moves w.server n p w.time s a stage read silent) refl)
 
 -- ---- a turn: the request, its delivery, and that of its answer
@@ -341,7 +341,7 @@ unfolding after_form next_fragment after_fragment in_range
 frag_plays image w from takes image_is plan next low =
     let more : nat_lt (nb_frag_of (length image) 64 + 128) from ≡ false = grind (arith, low) in
     one w Frag _
-    (no_cause w Frag (record { comes = takes.frag; ranges = refl; fits = refl }) refl refl refl refl (rw (image_is, plan.size, plan.parity, plan.index, plan.group, next, more) refl))
+    (no_cause w Frag (record { comes = takes.frag; ranges = refl; fits = refl }) refl refl refl refl refl refl (rw (image_is, plan.size, plan.parity, plan.index, plan.group, next, more) refl))
     (rw (image_is, plan.size, plan.parity, plan.index, plan.group, next, more) refl)
 
 -- so it stands behind the next fragment

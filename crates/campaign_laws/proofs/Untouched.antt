@@ -28,7 +28,7 @@ use Rattle.campaign_server.specs.Fragments.{next_fragment, after_fragment, statu
 use Rattle.campaign_server.specs.Time.{time_answer_to, first_answer, time_answer}
 use Rattle.campaign_server.specs.Uplinks.{with_answers, read_uplink, uplink_step}
 use Rattle.script_lines.specs.declared.forms.Form.{Form}
-use Rattle.script_lines.specs.declared.forms.Form.TheVariants.{Header, Image, Group, WindowC, WindowB, Device, At as AtTime, Wake, Migrate, Ask, Frag, Status, Down, Raw, Air, RawAir, Up, End}
+use Rattle.script_lines.specs.declared.forms.Form.TheVariants.{Header, Image, Group, WindowC, WindowB, Device, At as AtTime, Wake, Migrate, Power, Ask, Frag, Status, Down, Raw, Air, RawAir, Up, End}
 use Rattle.campaign_world.specs.declared.section.Section.{Section}
 use Rattle.campaign_world.specs.declared.section.Section.TheVariants as section
 use Rattle.campaign_world.specs.declared.numbered.SentPayload.{SentPayload}
@@ -262,9 +262,9 @@ plan_waits w plan next here k = record {
   sent = subst (AllByRecursion (IsFor _)) (sym (k.none_sent here)) tt;
 }
 
-joins_wait : (w : WorldState) (new : DeviceState) (plan : Plan) → is_planning w.section ≡ true → IsUntouched new → Waits w
-    → Waits (with_plan (record w { devices = w.devices ++ new ∷ [] }) plan section.Devices)
-joins_wait w new plan here fresh k = record {
+joins_wait : (w : WorldState) (new : DeviceState) (flash : List ℕ) (plan : Plan) → is_planning w.section ≡ true → IsUntouched new → Waits w
+    → Waits (with_plan (record w { devices = w.devices ++ new ∷ []; flash = flash }) plan section.Devices)
+joins_wait w new flash plan here fresh k = record {
   none_sent = λ still. k.none_sent here;
   all = λ still. everyone;
   devices = λ id d there at. everyone id d there;
@@ -285,10 +285,11 @@ form_waits w (Group id addr key min max) fine honest k = plan_waits w _ section.
 form_waits w (WindowC start timeout freq dr) fine honest k = plan_waits w _ section.Device (plan_at w.section (WindowC start timeout freq dr) refl (passes w (WindowC start timeout freq dr) fine).may) k
 form_waits w (WindowB start periodicity timeout freq dr) fine honest k =
     plan_waits w _ section.Device (plan_at w.section (WindowB start periodicity timeout freq dr) refl (passes w (WindowB start periodicity timeout freq dr) fine).may) k
-form_waits w (Device id class hw rows offset key descriptor v1 k11) fine honest k =
-    joins_wait w (device_of class hw rows offset key descriptor v1 k11) _ (plan_at w.section (Device id class hw rows offset key descriptor v1 k11) refl (passes w (Device id class hw rows offset key descriptor v1 k11) fine).may)
+form_waits w (Device id class hw rows offset key descriptor v1 k11 flash) fine honest k =
+    joins_wait w (device_of class hw rows offset key descriptor v1 k11 flash) _ _ (plan_at w.section (Device id class hw rows offset key descriptor v1 k11 flash) refl (passes w (Device id class hw rows offset key descriptor v1 k11 flash) fine).may)
     (record { reboot = refl; version = refl }) k
 form_waits w (AtTime time) fine honest k = record { none_sent = λ plan. absurd cc; all = λ plan. absurd cc; devices = k.devices; sent = k.sent }
+form_waits w (Power n) fine honest k = record { none_sent = λ plan. absurd cc; all = λ plan. absurd cc; devices = k.devices; sent = k.sent }
 form_waits w (Wake n) fine honest k =
     let there = is_there w.devices n (passes w (Wake n) fine).names in
     subst (λ (o : Option DeviceState). Waits (at_events (after_event_at w n o (Some (Wakes w.time))))) (sym there.1.1)

@@ -61,9 +61,9 @@ IsClass class.A k = k ≡ device_class.A
 IsClass class.C k = k ≡ device_class.C
 
 -- line n of the script is the line of device id, which says this configuration
-pub record IsConfigured (lines : List Line) (id : ℕ) (config : DeviceConfig) (n : ℕ) (line : Line) (class : Class) (hw rows offset : ℕ) (key : List ℕ) (descriptor : Option ℕ) (v1 k11 : Bool) : Type 0 where
+pub record IsConfigured (lines : List Line) (id : ℕ) (config : DeviceConfig) (n : ℕ) (line : Line) (class : Class) (hw rows offset : ℕ) (key : List ℕ) (descriptor : Option ℕ) (v1 k11 flash : Bool) : Type 0 where
   pub line_is : numbered lines n ≡ Some line
-  pub says : line ≡ Ok (Own (Device id class hw rows offset key descriptor v1 k11))
+  pub says : line ≡ Ok (Own (Device id class hw rows offset key descriptor v1 k11 flash))
   pub class_is : IsClass class config.class
   pub hw_is : config.hw ≡ hw
   pub rows_are : config.rows ≡ rows
@@ -78,8 +78,8 @@ pub record IsConfigured (lines : List Line) (id : ℕ) (config : DeviceConfig) (
 
 -- the configuration is that of the device's line
 abbrev pub IsOfItsLine : List Line → (id : ℕ) → DeviceConfig → Type 0
-IsOfItsLine lines id config = (n : ℕ) × (line : Line) × (class : Class) × (hw : ℕ) × (rows : ℕ) × (offset : ℕ) × (key : List ℕ) × (descriptor : Option ℕ) × (v1 : Bool) × (k11 : Bool)
-    × IsConfigured lines id config n line class hw rows offset key descriptor v1 k11
+IsOfItsLine lines id config = (n : ℕ) × (line : Line) × (class : Class) × (hw : ℕ) × (rows : ℕ) × (offset : ℕ) × (key : List ℕ) × (descriptor : Option ℕ) × (v1 : Bool) × (k11 : Bool) × (flash : Bool)
+    × IsConfigured lines id config n line class hw rows offset key descriptor v1 k11 flash
 
 -- the session is the one that the server sets up for the image on a device with so many rows, and hears nothing but the
 -- image's fragments

@@ -18,8 +18,8 @@ use Rattle.campaign_world.specs.Script.{campaign_of}
 
 -- a device line gives a device, as it is first
 abbrev pub device_in : Line → Option DeviceState
-device_in (Ok (Own (Device id class hw rows offset key descriptor v1 k11))) =
-    Some (device_of class hw rows offset key descriptor v1 k11)
+device_in (Ok (Own (Device id class hw rows offset key descriptor v1 k11 flash))) =
+    Some (device_of class hw rows offset key descriptor v1 k11 flash)
 device_in line = None
 
 -- the devices of a script, in the order of their IDs, as they are first

@@ -11,3 +11,4 @@ pub mod Accepted
 pub mod Once
 pub mod OnceInWorld
 pub mod Airing
+pub mod Power

@@ -190,7 +190,7 @@ heard_session = record {
 
 abbrev pub counted_device : Option Session → DeviceState
 counted_device session =
-    let device = device_of class.C 1 0 0 [] None false false in
+    let device = device_of class.C 1 0 0 [] None false false false in
     record device { sessions = record device.sessions { first = session } }
 
 -- what a session shows, with this verdict

@@ -10,6 +10,7 @@ ghost use Rattle.campaign_laws.specs.WorkedCampaigns.{AreCauses, AreCounted, Are
 ghost use Rattle.campaign_laws.specs.Accepted.{AllSeedsHaveCampaigns};
 ghost use Rattle.campaign_laws.specs.Once.{MovesOnce, PastMovesNone};
 ghost use Rattle.campaign_laws.specs.Airing.{AirIsDown};
+ghost use Rattle.campaign_laws.specs.Power.{PowerIsAt};
 
 /// Whatever image and accepted honest script there are: the session of each device hears what the script brings, it is complete from
 /// the first heard fragment on after which one file alone fits, that file is the server's image, and the report says so.
@@ -86,4 +87,11 @@ pub fn an_uplink_moves_once()
 #[tactic(auto, using(crate::proofs::AirLaw::air_is_down))]
 pub fn air_is_down()
     ensures { AirIsDown }
+{}
+
+/// Whatever image and accepted lines there are: `at` the time now in the place of each `power`, or of any of them, leaves the
+/// campaign as it is, and so its report.
+#[tactic(auto, using(crate::proofs::PowerLaw::power_is_at))]
+pub fn power_is_at()
+    ensures { PowerIsAt }
 {}

@@ -8,7 +8,8 @@ mod uplinks;
 
 pub use laws::{
     a_past_answer_moves_none, a_script_has_its_devices, air_is_down, an_uplink_moves_once,
-    devices_are_independent, generated_campaigns_are_accepted, headline, recovers_the_image,
-    sessions_are_decided_at_first, sessions_live, the_ledger_is_true, worked_campaigns,
+    devices_are_independent, generated_campaigns_are_accepted, headline, power_is_at,
+    recovers_the_image, sessions_are_decided_at_first, sessions_live, the_ledger_is_true,
+    worked_campaigns,
 };
 pub use uplinks::each_uplink_moves_once;
