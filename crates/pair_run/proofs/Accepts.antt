@@ -84,7 +84,7 @@ target_is held a b owners count_a count_b form target is owners_are a_is b_is lo
 
 some_devices : (n : ℕ) → (ds : List DeviceState) × (length ds ≡ n)
 some_devices zero = ([], refl)
-some_devices (suc n) = let more = some_devices n in (device_of class.C 0 0 0 [] None false false ∷ more.0, ap suc more.1)
+some_devices (suc n) = let more = some_devices n in (device_of class.C 0 0 0 [] None false false false ∷ more.0, ap suc more.1)
 
 pub neither : (one other : Option LineWhy) → first_of one other ≡ None → (one ≡ None) × (other ≡ None)
 neither None other is = (refl, is)
@@ -184,6 +184,8 @@ common_across owners (form.Wake n) x by number device word is =
     to_one (numbered owners n) (λ o. One o.campaign (form.Wake o.number)) x by number device word (λ o same. absurd cc) is
 common_across owners (form.Migrate n) x by number device word is =
     to_one (numbered owners n) (λ o. One o.campaign (form.Migrate o.number)) x by number device word (λ o same. absurd cc) is
+common_across owners (form.Power n) x by number device word is =
+    to_one (numbered owners n) (λ o. One o.campaign (form.Power o.number)) x by number device word (λ o same. absurd cc) is
 common_across owners (form.Ask n) x by number device word is =
     to_one (numbered owners n) (λ o. One o.campaign (form.Ask o.number)) x by number device word (λ o same. absurd cc) is
 common_across owners f x by number device word is = absurd cc
@@ -202,7 +204,7 @@ named_across owners count y (form.Air n d w) x by number device word is = record
   device = d;
   is = ap (λ (k : ℕ). form.Air n d k) (over_across (numbered owners d) y x by way.Air number device word n w is);
 }
-named_across owners count y (form.Device id k hw rows offset key descriptor v1 k11) x by number device word is = absurd cc
+named_across owners count y (form.Device id k hw rows offset key descriptor v1 k11 flash) x by number device word is = absurd cc
 named_across owners count y f x by number device word is = absurd cc
 
 across_over : (owners : List Owner) (count_a count_b : ℕ) (named : Option Campaign) (f : Form) (x : Campaign) (by : Way)

@@ -18,7 +18,7 @@ use Rattle.campaign_world.specs.declared.numbered.SentPayload.{SentPayload}
 use Rattle.campaign_world.specs.declared.section.Section.{Section}
 use Rattle.campaign_world.specs.declared.section.Section.TheVariants as section
 use Rattle.campaign_world.specs.World.{WorldState}
-use Rattle.campaign_world.specs.Causes.{is_event_or_end, may_come, takes_events, is_device, names_device, is_to_group, form_cause}
+use Rattle.campaign_world.specs.Causes.{is_event_or_end, may_come, takes_events, is_device, names_device, fits_flash, is_to_group, form_cause}
 use Rattle.pair_run.specs.declared.targets.Way.{Way}
 use Rattle.pair_run.specs.declared.targets.Way.TheVariants as way
 use Rattle.pair_run.specs.declared.targets.Target.{Target}
@@ -41,8 +41,8 @@ is_planned here = false
 
 -- the plan of a stands before that of b, and both before the devices
 abbrev pub plan_may_come : (a b : Section) → Option Campaign → Form → Bool
-plan_may_come a b named (form.Device id class hw rows offset key descriptor v1 k11) =
-    let device : Form = form.Device id class hw rows offset key descriptor v1 k11 in
+plan_may_come a b named (form.Device id class hw rows offset key descriptor v1 k11 flash) =
+    let device : Form = form.Device id class hw rows offset key descriptor v1 k11 flash in
     may_come a device && may_come b device
 plan_may_come a b None f = may_come a f && may_come b f
 plan_may_come a b (Some campaign.A) f = may_come a f && is_unplanned b
@@ -68,7 +68,7 @@ is_apart plan named f = true
 
 -- behind so many devices in all the ID is the next
 abbrev pub is_next : (count : ℕ) → Form → Bool
-is_next count (form.Device id class hw rows offset key descriptor v1 k11) = id == count + 1
+is_next count (form.Device id class hw rows offset key descriptor v1 k11 flash) = id == count + 1
 is_next count f = true
 
 -- ---- what refuses it in the campaign whose it is
@@ -118,6 +118,7 @@ common_cause pair pair_form =
     if not (pair_may_come pair.a.section pair.b.section named f) then Some why.Order
     else if not (in_range f && is_next (length pair.owners) f && is_apart pair.a.server.plan named f) then Some why.Range
     else if not (names_device (length pair.owners) f) then Some why.Device
+    else if not (fits_flash (length pair.a.flash + length pair.b.flash) f) then Some why.Limit
     else None
 
 -- and then what refuses it in the campaign whose it is

@@ -37,6 +37,8 @@ common_target owners (form.Wake device) =
     to_owner (λ owner. One owner.campaign (form.Wake owner.number)) (numbered owners device)
 common_target owners (form.Migrate device) =
     to_owner (λ owner. One owner.campaign (form.Migrate owner.number)) (numbered owners device)
+common_target owners (form.Power device) =
+    to_owner (λ owner. One owner.campaign (form.Power owner.number)) (numbered owners device)
 common_target owners (form.Ask device) =
     to_owner (λ owner. One owner.campaign (form.Ask owner.number)) (numbered owners device)
 common_target owners f = Nobody
@@ -47,8 +49,8 @@ named_target owners count x (form.Down number device word) =
     to_owner (λ owner. carried_target x way.Downlink number word owner) (numbered owners device)
 named_target owners count x (form.Air number device word) =
     to_owner (λ owner. carried_target x way.Air number word owner) (numbered owners device)
-named_target owners count x (form.Device id class hw rows offset key descriptor v1 k11) =
-    One x (form.Device (count + 1) class hw rows offset key descriptor v1 k11)
+named_target owners count x (form.Device id class hw rows offset key descriptor v1 k11 flash) =
+    One x (form.Device (count + 1) class hw rows offset key descriptor v1 k11 flash)
 named_target owners count x f = One x f
 
 -- behind so many devices of the one and of the other

@@ -15,7 +15,7 @@ use crate::owners::Owner;
 use crate::report::report;
 use crate::steps::{cross, take_both, take_one};
 use crate::targets::{Target, Way, target_of};
-use campaign_world::{Section, World, is_device, names_device};
+use campaign_world::{Section, World, fits_flash, is_device, names_device};
 use report_lines::{LineError, LineWhy, MAX_LINE, MAX_LINES, refused_behind};
 use script_lines::{Campaign, Form, PairForm, in_range, pair_form};
 use std::alloc::{AllocError, Global};
@@ -183,6 +183,9 @@ impl Pair {
         }
         if !names_device(count, form) {
             return Some(LineWhy::Device);
+        }
+        if !fits_flash(self.a.flash_count() + self.b.flash_count(), form) {
+            return Some(LineWhy::Limit);
         }
         None
     }

@@ -91,6 +91,15 @@ fn common_target<'a>(owners: &[Owner], form: Form<'a>) -> Target<'a>
             },
             None => Target::Nobody,
         },
+        Form::Power { device } => match owner_of(owners, device) {
+            Some(owner) => Target::One {
+                campaign: owner.campaign,
+                form: Form::Power {
+                    device: owner.number,
+                },
+            },
+            None => Target::Nobody,
+        },
         Form::Ask { device } => match owner_of(owners, device) {
             Some(owner) => Target::One {
                 campaign: owner.campaign,
@@ -141,6 +150,7 @@ fn named_target<'a>(
             descriptor,
             v1,
             k11,
+            flash,
             ..
         } => Target::One {
             campaign,
@@ -154,6 +164,7 @@ fn named_target<'a>(
                 descriptor,
                 v1,
                 k11,
+                flash,
             },
         },
         other => Target::One {

@@ -83,3 +83,45 @@ fn campaigns_have_different_indexes(rt: HostRuntime) -> Result<(), Fail> {
     }
     Ok(())
 }
+
+/// Four devices have a flash, whose campaign they are: the fifth is one too many. Power goes where one is.
+#[test]
+fn flashes_are_counted_over_both(rt: HostRuntime) -> Result<(), Fail> {
+    let cases = [
+        (
+            "device 5 b c 1 0 0 00000000000000000000000000000000 flash",
+            "at 0",
+            LineWhy::Limit,
+        ),
+        (
+            "device 5 b c 1 0 0 00000000000000000000000000000000",
+            "power 5",
+            LineWhy::Device,
+        ),
+        ("power 4", "power 6", LineWhy::Device),
+    ];
+    assert!(rt; is_image(&IMAGE_A));
+    assert!(rt; is_image(&IMAGE_B));
+    for (sixth, seventh, why) in cases {
+        let mut pair = Pair::new(rt.alloc(), &IMAGE_A, &IMAGE_B)?;
+        for fine in [
+            "fuota 2",
+            "image a 52 0 0",
+            "image b 56 0 1",
+            "device 1 a c 1 0 0 00000000000000000000000000000000 flash",
+            "device 2 b c 1 0 0 00000000000000000000000000000000 flash",
+            "device 3 b c 1 0 0 00000000000000000000000000000000 flash",
+            "device 4 a c 1 0 0 00000000000000000000000000000000 k11 flash",
+        ] {
+            assert!(rt; pair.line(fine.as_bytes()) == Ok(()));
+        }
+        match pair.line(sixth.as_bytes()) {
+            Ok(()) => {
+                let fault = LineError::Line(LineFault { line: 9, why });
+                assert!(rt; pair.line(seventh.as_bytes()) == Err(fault));
+            }
+            Err(error) => assert!(rt; error == LineError::Line(LineFault { line: 8, why })),
+        }
+    }
+    Ok(())
+}

@@ -74,6 +74,85 @@ fn a_campaign_is_reported(rt: HostRuntime) -> Result<(), Fail> {
     Ok(())
 }
 
+/// The same campaign over a device with a flash, whose power goes between two fragments: only the line's number moves.
+#[test]
+fn power_comes_back(rt: HostRuntime) -> Result<(), Fail> {
+    let lines = [
+        "fuota 1",
+        "image 13 0",
+        "device 1 c 1 0 0 00000000000000000000000000000000 flash",
+        "ask 1",
+        "down 1 1",
+        "up 1",
+        "ask 1",
+        "down 2 1",
+        "up 2",
+        "frag",
+        "frag",
+        "frag",
+        "frag",
+        "down 6 1",
+        "down 3 1",
+        "power 1",
+        "down 3 1",
+        "down 5 1",
+        "down 4 1",
+        "end",
+    ];
+    assert!(rt; is_image(&IMAGE));
+    let mut world = World::new(rt.alloc(), &IMAGE)?;
+    for line in lines {
+        assert!(rt; world.line(line.as_bytes()) == Ok(()));
+    }
+    match world.report(rt.alloc()) {
+        Ok(text) => assert!(rt;
+            text.as_slice()
+                == b"fuota report 1\nimage 52 fragments 4 size 13 padding 0 parity 0\ndevice 1 status clock 0 token 0 running 0 next valid 2\ncounts deaf 0 refused 0 full 0 dropped 0\nsession 0 received 5 missing 0 complete at 19 same\nend\n".as_slice()
+        ),
+        Err(_) => assert!(rt; false),
+    }
+    Ok(())
+}
+
+/// Four devices have a flash and the fifth none; power goes only where one is.
+#[test]
+fn four_devices_have_a_flash(rt: HostRuntime) -> Result<(), Fail> {
+    let cases = [
+        (
+            "device 6 c 1 0 0 00000000000000000000000000000000 flash",
+            LineWhy::Limit,
+        ),
+        (
+            "device 7 c 1 0 0 00000000000000000000000000000000 flash",
+            LineWhy::Range,
+        ),
+        ("power 5", LineWhy::Device),
+        ("power 6", LineWhy::Device),
+        ("power 0", LineWhy::Device),
+    ];
+    assert!(rt; is_image(&IMAGE));
+    for (line, why) in cases {
+        let mut world = World::new(rt.alloc(), &IMAGE)?;
+        for fine in [
+            "fuota 1",
+            "image 13 0",
+            "device 1 c 1 0 0 00000000000000000000000000000000 flash",
+            "device 2 c 1 0 0 00000000000000000000000000000000 flash",
+            "device 3 a 1 0 0 00000000000000000000000000000000 v1 k11 flash",
+            "device 4 c 1 0 0 00000000000000000000000000000000 0000000a flash",
+            "device 5 c 1 0 0 00000000000000000000000000000000",
+            "power 4",
+        ] {
+            let taken = fine == "power 4" && line.starts_with("device");
+            assert!(rt; taken || world.line(fine.as_bytes()) == Ok(()));
+        }
+        let number = if line.starts_with("device") { 8 } else { 9 };
+        let fault = LineError::Line(LineFault { line: number, why });
+        assert!(rt; world.line(line.as_bytes()) == Err(fault));
+    }
+    Ok(())
+}
+
 /// A fragment to a group comes as a frame: before and behind its window it is not heard, in it it makes the file whole, and
 /// with one bit turned it is no frame. What goes by unicast has none.
 #[test]
