@@ -68,6 +68,10 @@ pub record AreReported : Type 0 where
   -- uplinks are numbered in the order of their making
   pub numbers : told (one_device (codes "wake 1\nask 1\ndown 1 1\nup 2\nend\n")) ≡ reported (codes
       "fuota report 1\nimage 52 fragments 4 size 13 padding 0 parity 0\ndevice 1 fragments clock 5 token 0 running 0 next none\ncounts deaf 0 refused 0 full 0 dropped 0\nend\n")
+  -- power that comes back changes nothing
+  pub power : told (codes
+      "fuota 1\nimage 13 0\ndevice 1 c 1 0 5 00000000000000000000000000000000 flash\npower 1\nask 1\ndown 1 1\nup 1\npower 1\nask 1\nfrag\nend\n") ≡ reported (codes
+      "fuota report 1\nimage 52 fragments 4 size 13 padding 0 parity 0\ndevice 1 fragments clock 5 token 0 running 0 next none\ncounts deaf 0 refused 0 full 0 dropped 0\nend\n")
   -- other hardware is refused, and a device of class A is deaf before its first uplink
   pub others : told (codes
       "fuota 1\nimage 50 2\ndevice 1 c 7 0 0 00000000000000000000000000000000\ndevice 2 a 1 0 0 00000000000000000000000000000000\nask 1\nask 2\ndown 1 1\nup 1\ndown 2 2\nend\n")
@@ -107,6 +111,11 @@ pub record AreRefused : Type 0 where
   pub range : told (one_device (codes "at 4294967296000\n")) ≡ refused 4 why.Range
   pub next_id : told (one_device (codes "device 3 c 1 0 0 00000000000000000000000000000000\n")) ≡ refused 4 why.Range
   pub device : told (one_device (codes "ask 2\n")) ≡ refused 4 why.Device
+  pub device_to_power : told (one_device (codes "power 2\n")) ≡ refused 4 why.Device
+  pub no_flash : told (one_device (codes "power 1\n")) ≡ refused 4 why.Device
+  pub fifth_flash : told (codes
+      "fuota 1\nimage 13 0\ndevice 1 c 1 0 0 00000000000000000000000000000000 flash\ndevice 2 c 1 0 0 00000000000000000000000000000000 flash\ndevice 3 c 1 0 0 00000000000000000000000000000000 flash\ndevice 4 c 1 0 0 00000000000000000000000000000000 flash\ndevice 5 c 1 0 0 00000000000000000000000000000000 flash\n")
+      ≡ refused 7 why.Limit
   pub device_to_migrate : told (one_device (codes "migrate 2\n")) ≡ refused 4 why.Device
   -- the device is asked for before the payload
   pub device_of_no_payload : told (one_device (codes "down 1 2\n")) ≡ refused 4 why.Device
