@@ -180,12 +180,13 @@ impl<F: Flash + Drop> SessionStore<F> {
         ensures size { F.room self.new.flash ≡ F.room self.old.flash }
         ensures cause { HasCause (F.faults self.old.flash) (F.faults self.new.flash) result }
     {
-        match self.state.take() {
-            Some(State::Memory(mut slots)) => {
-                let bits = slots.setup(req, self.layout.limits);
-                self.state = Some(State::Memory(slots));
-                Ok(bits)
+        if !self.held {
+            if let Some(State::Memory(slots)) = &mut self.state {
+                return Ok(slots.setup(req, self.layout.limits));
             }
+            unreachable!()
+        }
+        match self.state.take() {
             Some(State::Flash(slots)) => {
                 let whole = whole_now(&slots);
                 match slots.setup(&mut self.flash, req) {
@@ -252,12 +253,13 @@ impl<F: Flash + Drop> SessionStore<F> {
         ensures size { F.room self.new.flash ≡ F.room self.old.flash }
         ensures cause { HasCause (F.faults self.old.flash) (F.faults self.new.flash) result }
     {
-        match self.state.take() {
-            Some(State::Memory(mut slots)) => {
-                let heard = slots.fragment(index, via, n, part, mark);
-                self.state = Some(State::Memory(slots));
-                Ok(heard)
+        if !self.held {
+            if let Some(State::Memory(slots)) = &mut self.state {
+                return Ok(slots.fragment(index, via, n, part, mark));
             }
+            unreachable!()
+        }
+        match self.state.take() {
             Some(State::Flash(slots)) => {
                 let whole = whole_now(&slots);
                 match slots.fragment(&mut self.flash, index, via, n, part, mark) {
@@ -310,12 +312,13 @@ impl<F: Flash + Drop> SessionStore<F> {
         ensures size { F.room self.new.flash ≡ F.room self.old.flash }
         ensures cause { HasCause (F.faults self.old.flash) (F.faults self.new.flash) result }
     {
-        match self.state.take() {
-            Some(State::Memory(mut slots)) => {
-                let lived = slots.delete(index);
-                self.state = Some(State::Memory(slots));
-                Ok(lived)
+        if !self.held {
+            if let Some(State::Memory(slots)) = &mut self.state {
+                return Ok(slots.delete(index));
             }
+            unreachable!()
+        }
+        match self.state.take() {
             Some(State::Flash(slots)) => {
                 let whole = whole_now(&slots);
                 match slots.delete(&mut self.flash, index) {
