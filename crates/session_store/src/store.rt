@@ -1,6 +1,6 @@
 //! The sessions of a device, wherever they lie, with its flash: in memory alone, in flash, or down until power comes.
 
-ghost use Rattle.std.specs.Prelude.{◌≡◌, ◌≢◌, ◌⊎◌, ℕ, ◌*◌, ◌<◌, ◌≤◌, Bool, List, Option, Some, None, true, false, OnOk, OnErr, IfOk, IfSome, MatchResult, is_ok, is_some, option_map, length};
+ghost use Rattle.std.specs.Prelude.{◌≡◌, ◌≢◌, ◌⊎◌, ℕ, ◌*◌, ◌<◌, ◌≤◌, Bool, List, Option, Some, None, true, false, OnOk, OnErr, IfOk, IfErr, IfSome, MatchResult, is_ok, is_some, option_map, length};
 ghost use Rattle.frag_session.specs.Setup.{setup_bits};
 ghost use Rattle.frag_session.specs.Session.{answer_of, drop_cause, news_in, status_of, view_of};
 ghost use Rattle.frag_session.specs.HeldView.{seen};
@@ -8,6 +8,7 @@ ghost use Rattle.flash_session.specs.Body.{FieldsFit};
 ghost use Rattle.flash_session.specs.Contents.{Same, Follows, HasRisen, HasCause};
 ghost use Rattle.flash_session.specs.Moments.{Elapses, LeavesOnly};
 ghost use Rattle.session_store.specs.SessionTable.{SessionTable, no_sessions, session_at, with_session, table_after_setup, table_after_fragment};
+ghost use Rattle.session_store.specs.HeldForeign.{NoneForeign, IsForeignIn};
 ghost use Rattle.session_store.specs.HeldPlaces.{AreIdle, PlacesStand, TableLies};
 ghost use Rattle.session_store.specs.HeldStore.{IsUp, IsDown, IsInFlash, StateFits, StateStands, StateIsStored, StateIsHeld, HasRanges, IsLaidOut, store_room};
 ghost use Rattle.session_store.specs.Whole.{is_complete, is_whole, whole_of, none_whole};
@@ -74,7 +75,8 @@ impl<F: Flash + Drop> SessionStore<F> {
     pub fn reserve(alloc: Global, flash: F, layout: Layout, held: bool) -> Result<Self, Memory>
         requires { held ≡ true → HasRanges layout (F.room flash) }
         ensures memory { held ≡ false → IfOk result (λ s. StateStands s.state no_sessions) }
-        ensures down { held ≡ true → IfOk result (λ s. (idles : _) × (s.state ≡ Down idles none_whole)) }
+        ensures down { held ≡ true
+            → IfOk result (λ s. (idles : _) × (s.state ≡ Down idles none_whole)) }
         ensures laid { IfOk result (λ s. (s.layout ≡ layout) × (s.held ≡ held)) }
         ensures flash { IfOk result (λ s. s.flash ≡ flash) }
     {
@@ -388,6 +390,12 @@ impl<F: Flash + Drop> SessionStore<F> {
             → StateIsHeld self.old.state table (F.holds self.old.flash)
             (F.left_since self.old.flash (F.moment self.old.flash))
             → (b : List ℕ) → F.holds self.new.flash b → TableLies self.old.layout table b }
+        // Foreign comes exactly where the header's gate of a range is open and something there is no session's.
+        ensures nothing_foreign { OnOk result
+            ((b : List ℕ) → F.holds self.new.flash b → NoneForeign self.old.layout b) }
+        ensures foreign { IfErr result
+            (λ e. (p : ℕ) → e ≡ OpenFault.Foreign p → (b : List ℕ) → F.holds self.new.flash b
+            → IsForeignIn self.old.layout b p) }
         ensures held { Follows Same (F.holds self.old.flash) (F.holds self.new.flash) }
         ensures stops { Elapses Same (F.moment self.old.flash) (F.moment self.new.flash)
             (F.left_since self.old.flash) (F.left_since self.new.flash) }
