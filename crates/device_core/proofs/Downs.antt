@@ -1,6 +1,5 @@
 -- A device that is up or down, and what a payload makes of it between the reboots that are due.
-use Rattle.std.proofs.Common.{◌≡◌, ◌⊎◌, ℕ, List, Result, Ok, Err, OnOk, refl, sym, ap, subst, ◌∙◌}
-use Rattle.std.specs.Prelude.{◌≢◌}
+use Rattle.std.proofs.Common.{◌≡◌, ◌⊎◌, ℕ, List, Result, Ok, Err, sym, ap, subst, ◌∙◌}
 use Rattle.flash_session.specs.Moments.{LeavesOnly}
 use Rattle.wire_base.specs.declared.refusal.Direction.TheVariants as direction
 use Rattle.package_grammar.specs.declared.downlink.Downlink.{Downlink}
@@ -15,13 +14,13 @@ use Rattle.device_core.specs.declared.delivered.Delivered.{Delivered}
 use Rattle.device_core.specs.Deliver.{Outcome, arrival, heard_delivery, delivery}
 use Rattle.device_core.specs.Device.{DeviceState}
 use Rattle.device_core.specs.Firmware.{after_due_reboot}
-use Rattle.device_core.specs.HeldCalls.{LeavesBesides, StaysStored, LeavesPassed, Keeps, FailsIn, FailsWithin, FailsOnAir}
+use Rattle.device_core.specs.HeldCalls.{LeavesBesides, StaysStored, Keeps, FailsIn, FailsWithin}
 use Rattle.device_core.specs.HeldDevice.{HeldDevice, device_of, DeviceStands, Becomes, Makes}
 use Rattle.device_core.specs.HeldSessions.{HeldStore, IsDown, IsUp, StateStands, StateIsStored, StateIsHeld}
-use Rattle.device_core.specs.Passed.{heard_tables, tables_passed, frame_tables, tables_aired, LiesOneOf}
+use Rattle.device_core.specs.Passed.{heard_tables, tables_passed, LiesOneOf}
 use Rattle.device_core.specs.Radio.{brought, after_frame, radio}
 use Rattle.device_core.specs.SessionTable.{SessionTable}
-use Rattle.device_core.proofs.Keeping.{leaves_only, besides_none}
+use Rattle.device_core.proofs.Keeping.{leaves_only}
 use Rattle.device_core.proofs.Stays.{reboot_keeps}
 
 -- what is down stands for nothing

@@ -7,7 +7,8 @@ ghost use Rattle.cast_wire.specs.declared.cmd.Cmd.TheVariants.{DataFragment};
 ghost use Rattle.package_grammar.specs.declared.command.Command.TheVariants.{Cast};
 ghost use Rattle.frag_session.specs.Session.{view_of};
 ghost use Rattle.frag_session.specs.HeldView.{seen};
-ghost use Rattle.flash_session.specs.Contents.{HasRisen};
+ghost use Rattle.flash_session.specs.Contents.{Same, Follows, HasRisen};
+ghost use Rattle.flash_session.specs.Moments.{Elapses};
 ghost use Rattle.session_store.specs.declared.store.Whole.{Whole};
 ghost use Rattle.session_store.specs.declared.store.FlashFault.{FlashFault};
 ghost use Rattle.session_store.specs.HeldForeign.{NoneForeign, IsForeignIn};
@@ -18,7 +19,7 @@ ghost use Rattle.device_core.specs.Step.{weights, after_commands};
 ghost use Rattle.device_core.specs.Firmware.{after_due_reboot, after_migration};
 ghost use Rattle.device_core.specs.Deliver.{message_delivery, read_delivery, heard_delivery, arrival, delivery, time_asking, waking, taking, commands_read, commands_of};
 ghost use Rattle.device_core.specs.Radio.{radio};
-ghost use Rattle.device_core.specs.HeldSessions.{IsUp, IsDown, StateIsStored, StateIsHeld, IsLaidOut};
+ghost use Rattle.device_core.specs.HeldSessions.{IsUp, IsDown, IsInFlash, StateIsStored, StateIsHeld, IsLaidOut};
 ghost use Rattle.device_core.specs.HeldCalls.{StaysStored, LeavesPassed, HadWhole, Keeps, FailsAt, FailsIn, FailsWithin, FailsOnAir, IsPlain};
 ghost use Rattle.device_core.specs.Passed.{tables_of, message_tables, read_tables, heard_tables, tables_passed, tables_aired};
 ghost use Rattle.device_core.specs.Power.{after_power};
@@ -383,6 +384,12 @@ impl<F: Flash + Drop> Device<F> {
             (λ e. (p : ℕ) → e ≡ OpenFault.Foreign p
             → (b : List ℕ) → F.holds self.new.sessions.flash b
             → IsForeignIn self.old.sessions.layout b p) }
+        // What lies in the flash is as it was, and what a stop leaves too.
+        ensures held { Follows Same (F.holds self.old.sessions.flash)
+            (F.holds self.new.sessions.flash) }
+        ensures stops { Elapses Same (F.moment self.old.sessions.flash)
+            (F.moment self.new.sessions.flash) (F.left_since self.old.sessions.flash)
+            (F.left_since self.new.sessions.flash) }
         ensures up { OnOk result (IsUp self.new.sessions.state) }
         ensures down { OnErr result (IsDown self.new.sessions.state) }
         ensures laid { IsLaidOut self.old.sessions self.new.sessions }
@@ -406,7 +413,8 @@ impl<F: Flash + Drop> Device<F> {
 
     /// Whether its sessions are held in its flash.
     pub fn is_held(&self) -> bool
-        ensures { result ≡ self.now.sessions.held }
+        ensures held { result ≡ self.now.sessions.held }
+        ensures in_flash { result ≡ true → IsInFlash self.now.sessions.state }
     {
         self.sessions.is_held()
     }

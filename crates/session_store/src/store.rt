@@ -124,7 +124,8 @@ impl<F: Flash + Drop> SessionStore<F> {
 
     /// Whether they are held in flash.
     pub fn is_held(&self) -> bool
-        ensures { result ≡ self.now.held }
+        ensures held { result ≡ self.now.held }
+        ensures in_flash { result ≡ true → IsInFlash self.now.state }
     {
         self.held
     }

@@ -1,5 +1,4 @@
-use Rattle.std.proofs.Common.{◌≡◌, sym, ap, subst, ◌∙◌}
-use Rattle.session_store.specs.declared.store.State.{State}
+use Rattle.std.proofs.Common.{sym, ap, subst}
 use Rattle.session_store.specs.Whole.{whole_of}
 use Rattle.device_core.specs.HeldDevice.{HeldDevice}
 use Rattle.device_core.specs.HeldSessions.{HeldStore, StateStands, StateIsHeld}
