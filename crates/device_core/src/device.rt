@@ -415,6 +415,7 @@ impl<F: Flash + Drop> Device<F> {
     pub fn is_held(&self) -> bool
         ensures held { result ≡ self.now.sessions.held }
         ensures in_flash { result ≡ true → IsInFlash self.now.sessions.state }
+        ensures in_memory { result ≡ false → IsInFlash self.now.sessions.state → ⊥ }
     {
         self.sessions.is_held()
     }

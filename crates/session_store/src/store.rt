@@ -126,6 +126,7 @@ impl<F: Flash + Drop> SessionStore<F> {
     pub fn is_held(&self) -> bool
         ensures held { result ≡ self.now.held }
         ensures in_flash { result ≡ true → IsInFlash self.now.state }
+        ensures in_memory { result ≡ false → IsInFlash self.now.state → ⊥ }
     {
         self.held
     }
