@@ -1,5 +1,5 @@
 -- When a line is refused (this project's profile): the causes in their order, tried after the lines before it.
-use Rattle.std.specs.Prelude.{ℕ, ◌+◌, Bool, true, false, ◌&&◌, ◌||◌, not, ◌==◌, nat_le, if◌then◌else◌, List, length, Option, Some, None, is_some, is_ok, Ok, Err}
+use Rattle.std.specs.Prelude.{ℕ, ◌+◌, Bool, true, false, ◌&&◌, not, ◌==◌, nat_le, if◌then◌else◌, List, length, Option, Some, None, is_some, is_ok, Ok, Err}
 use Rattle.wire_base.specs.Payload.{max_payload}
 use Rattle.package_grammar.specs.declared.downlink.To.{To}
 use Rattle.package_grammar.specs.declared.downlink.To.TheVariants as to

@@ -4,6 +4,7 @@ ghost use Rattle.std.specs.Prelude.{◌≡◌, ◌≤◌, ◌<◌, ◌++◌, ◌
 ghost use Rattle.image_slots.specs.Image.{is_image};
 ghost use Rattle.campaign_server.specs.Plan.{is_frag_size, fits_bits, max_devices};
 ghost use Rattle.campaign_server.specs.Server.{first_server};
+ghost use Rattle.campaign_world.specs.HeldLate.{HasSpan};
 ghost use Rattle.campaign_world.specs.World.{first_plan};
 ghost use Rattle.campaign_world.specs.Causes.{is_event_or_end, may_come};
 ghost use Rattle.device_core.specs.Device.{is_config, first_device};
@@ -215,7 +216,7 @@ impl Planning {
     /// One device more.
     fn add_device(&mut self, config: DeviceConfig) -> Result<(), AllocError>
         requires fine { is_config config ≡ true }
-        requires memory { config.held ≡ false }
+        requires span { HasSpan config }
         requires planning { IsPlanningOf self.old }
         requires sized { IsSized self.old.image.items self.old.plan self.old.devices.items }
         requires windowed { IsWindowed self.old.plan }
