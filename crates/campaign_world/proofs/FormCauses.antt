@@ -34,7 +34,8 @@ use Rattle.campaign_world.specs.declared.world.phase.Phase.{Phase}
 use Rattle.campaign_world.specs.declared.world.phase.Phase.TheVariants as phases
 use Rattle.campaign_world.specs.PhaseInside.{IsPhase, IsPlanningOf, held_of, section_of, section_by}
 use Rattle.report_lines.specs.declared.faults.LineError.{LineError}
-use Rattle.campaign_world.specs.Making.{device_of, formats_of}
+use Rattle.flash_session.specs.Layout.{records_place}
+use Rattle.campaign_world.specs.Making.{device_of, formats_of, span_of}
 use Rattle.script_lines.specs.declared.forms.Class.{Class}
 use Rattle.script_lines.specs.declared.forms.Class.TheVariants as class
 use Rattle.campaign_world.specs.WorldInside.{IsPlanned, IsPlanning, IsSized, IsWindowed, IsToBegin}
@@ -327,6 +328,9 @@ woken_within count f device names is = named_within count device (rw is at names
 pub migrated_within : (count : ℕ) (f : Form) (device : ℕ) → names_device count f ≡ true → f ≡ form.Migrate device → (1 ≤ device) × (device ≤ count)
 migrated_within count f device names is = named_within count device (rw is at names)
 
+pub powered_within : (count : ℕ) (f : Form) (device : ℕ) → names_device count f ≡ true → f ≡ form.Power device → (1 ≤ device) × (device ≤ count)
+powered_within count f device names is = named_within count device (rw is at names)
+
 pub asked_within : (count : ℕ) (f : Form) (device : ℕ) → names_device count f ≡ true → f ≡ form.Ask device → (1 ≤ device) × (device ≤ count)
 asked_within count f device names is = named_within count device (rw is at names)
 
@@ -592,6 +596,11 @@ cuts_well image count f frag_size parity index is ranges fits =
 pub known_formats : (v1 : Bool) → (nat_le 1 (formats_of v1) && nat_le (formats_of v1) max_formats) ≡ true
 known_formats true = refl
 known_formats false = refl
+
+-- sessions that are held in flash have ranges there
+pub spans : (flash : Bool) → flash ≡ true → (records_place ≤ span_of flash) × (span_of flash < 2 ^ 30)
+spans true is = (omega arith, omega arith)
+spans false is = absurd cc
 
 -- and a device line, numbers that a device takes
 pub record Fitting (count id hw rows offset : ℕ) : Type 0 where

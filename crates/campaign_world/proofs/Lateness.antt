@@ -5,7 +5,7 @@ use Rattle.std.specs.Fmt.{decimal, digits}
 use Rattle.report_lines.specs.Devices.{stage_text}
 use Rattle.device_core.specs.Device.{DeviceState, first_device}
 use Rattle.flash_session.specs.Flashes.{Cells}
-use Rattle.device_core.specs.HeldDevice.{HeldDevice, DeviceStands}
+use Rattle.device_core.specs.HeldDevice.{HeldDevice}
 use Rattle.device_core.specs.declared.config.DeviceConfig.{DeviceConfig}
 use Rattle.device_core.proofs.Outboxes.{outbox_is}
 use Rattle.frag_session.specs.Session.{view_of}
@@ -25,10 +25,6 @@ rests_here late held d here rests = subst (λ (o : Option (HeldDevice Cells)). R
 -- before the first event it is as its configuration says
 pub first_rests : (late : Late) (d : DeviceState) → late.came ≡ None → DeviceRests late d → d ≡ first_device late.config
 first_rests late d none rests = subst (λ (o : Option (HeldDevice Cells)). RestsBy late.config o d) none rests
-
--- a device at its start rests
-pub starts_resting : (held : HeldDevice Cells) (config : DeviceConfig) → DeviceStands held (first_device config) → HeldRests held (first_device config)
-starts_resting held config stands = record { stands = stands; empty = sym (outbox_is held (first_device config) stands) }
 
 -- its outbox is empty
 empty_by : (config : DeviceConfig) (came : Option (HeldDevice Cells)) (d : DeviceState) → RestsBy config came d → d.outbox ≡ []

@@ -1,6 +1,7 @@
 pub mod Zips
 pub mod Lateness
 pub mod Outboxes
+pub mod Powering
 pub mod OutboxRoom
 pub mod FormCauses
 pub mod Beside

@@ -5,17 +5,37 @@ use Rattle.device_core.specs.Device.{DeviceState}
 use Rattle.device_core.specs.Deliver.{taking}
 use Rattle.device_core.specs.Firmware.{after_migration}
 use Rattle.flash_session.specs.Flashes.{Cells}
-use Rattle.device_core.specs.HeldDevice.{HeldDevice, DeviceStands, Becomes, TakesOldest}
+use Rattle.device_core.specs.HeldDevice.{HeldDevice, DeviceStands, Becomes, GoesAside, TakesOldest}
+use Rattle.device_core.specs.HeldSessions.{HeldStore, StateIsStored}
+use Rattle.device_core.specs.SessionTable.{SessionTable}
 use Rattle.device_core.proofs.Outboxes.{outbox_is, all_taken}
 use Rattle.campaign_world.specs.declared.numbered.MadeUplink.{MadeUplink}
 use Rattle.campaign_world.specs.Making.{made_by}
 use Rattle.campaign_world.specs.HeldWorld.{resting}
-use Rattle.campaign_world.specs.HeldLate.{HeldRests}
+use Rattle.campaign_world.specs.HeldLate.{IsStored, HeldRests}
+
+-- what is stored is stored where the sessions were not touched
+pub stored_still : (old new : HeldDevice Cells) (d : DeviceState) → new.sessions ≡ old.sessions → IsStored old d → IsStored new d
+stored_still old new d same stored =
+    subst (λ (s : HeldStore Cells). StateIsStored s.state d.sessions (λ c. c ≡ s.flash.bytes) (λ c. ⊥)) (sym same) stored
+
+pub stored_aside : (old new : HeldDevice Cells) (after : DeviceState → DeviceState) (d : DeviceState) → GoesAside old new after
+    → DeviceStands old d → IsStored old d → IsStored new (after d)
+stored_aside old new after d goes stands stored =
+    let same : (after d).sessions ≡ d.sessions =
+    ap (λ (x : DeviceState). (after x).sessions) stands.rest ∙ sym (ap (λ (x : DeviceState). x.sessions) (goes.rest d.sessions)) in
+    subst (λ (t : SessionTable). StateIsStored new.sessions.state t (λ c. c ≡ new.sessions.flash.bytes) (λ c. ⊥)) (sym same)
+    (stored_still old new d goes.untouched stored)
 
 -- none is left: the device rests
-pub rests_now : (d : DeviceState) (old new : HeldDevice Cells) → Becomes old new (λ x. (taking x).device) → TakesOldest old.outbox new.outbox None
+pub rests_now : (d : DeviceState) (first old new : HeldDevice Cells) → Becomes old new (λ x. (taking x).device) → TakesOldest old.outbox new.outbox None
+    → new.sessions ≡ first.sessions → IsStored first d
     → DeviceStands old (record d { outbox = old.outbox }) → HeldRests new (record d { outbox = [] })
-rests_now d old new makes takes stands = record { stands = all_taken d old new makes takes stands; empty = takes.1 }
+rests_now d first old new makes takes same stored stands = record {
+  stands = all_taken d old new makes takes stands;
+  stored = stored_still first new d same stored;
+  empty = takes.1;
+}
 
 -- ---- their list
 
@@ -28,10 +48,14 @@ pub all_moved : (id : ℕ) (now all : List MadeUplink) (old : List Uplink) → o
 all_moved id now all old none so_far = sym (append-nil now) ∙ ap (λ (us : List Uplink). now ++ map (λ (x : Uplink). made_by id x) us) (sym none) ∙ so_far
 
 -- a device that rests and knows both image formats from now on rests
-pub rests_raised : (old new : HeldDevice Cells) (d : DeviceState) → Becomes old new after_migration → HeldRests old d → HeldRests new (resting (after_migration d))
+pub rests_raised : (old new : HeldDevice Cells) (d : DeviceState) → Becomes old new after_migration → GoesAside old new after_migration → HeldRests old d → HeldRests new (resting (after_migration d))
 unfolding after_migration
-rests_raised old new d becomes rests =
+rests_raised old new d becomes goes rests =
     let stands : DeviceStands new (after_migration d) = becomes d rests.stands in
     let none : (after_migration d).outbox ≡ [] = outbox_is old d rests.stands ∙ rests.empty in
     let empty : new.outbox ≡ [] = sym (outbox_is new (after_migration d) stands) ∙ none in
-    record { stands = subst (λ (o : List Uplink). DeviceStands new (record (after_migration d) { outbox = o })) none stands; empty = empty }
+    record {
+      stands = subst (λ (o : List Uplink). DeviceStands new (record (after_migration d) { outbox = o })) none stands;
+      stored = stored_aside old new after_migration d goes rests.stands rests.stored;
+      empty = empty;
+    }

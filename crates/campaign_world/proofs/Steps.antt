@@ -191,29 +191,38 @@ abbrev planned_more : Plan → DeviceConfig → Plan
 planned_more plan config = record plan { devices = plan.devices ++ record { key = config.key; root = config.root } ∷ [] }
 
 join_held : (lines : ℕ) (here : Section) (kept : Option LineError) (image : List ℕ) (plan new_plan : Plan)
-    (devices new_devices : List Late) (ids new_ids : List ℕ) (id : ℕ) (flash : Bool)
+    (devices new_devices : List Late) (ids new_ids : List ℕ) (id : ℕ)
     (ds : List DeviceState) (config : DeviceConfig) (device : Late) → DevicesRest devices ds → new_plan ≡ planned_more plan config
-    → new_devices ≡ devices ++ device ∷ [] → new_ids ≡ with_flash ids id flash → DeviceRests device (first_device config)
+    → new_devices ≡ devices ++ device ∷ [] → new_ids ≡ with_flash ids id config.held → DeviceRests device (first_device config)
     → WorldStands (held_with lines section.Devices kept (Planned image new_plan new_devices new_ids))
-    (with_joined (world_of (held_with lines here kept (Planned image plan devices ids)) ds) id config flash)
-join_held lines here kept image plan new_plan devices new_devices ids new_ids id flash ds config device all plan_is devices_are
+    (with_joined (world_of (held_with lines here kept (Planned image plan devices ids)) ds) id config)
+join_held lines here kept image plan new_plan devices new_devices ids new_ids id ds config device all plan_is devices_are
     ids_are joins =
     rw (plan_is, devices_are, ids_are)
     (record { devices = zip_more DeviceRests devices ds device (first_device config) all joins; rest = refl })
 
 pub join_step : (lines : ℕ) (here : Section) (kept : Option LineError) (image : List ℕ) (plan new_plan : Plan)
-    (devices new_devices : List Late) (ids new_ids : List ℕ) (id : ℕ) (flash : Bool)
+    (devices new_devices : List Late) (ids new_ids : List ℕ) (id : ℕ)
     (world : WorldState) (config : DeviceConfig) (device : Late)
     → WorldStands (held_with lines here kept (Planned image plan devices ids)) world → new_plan ≡ planned_more plan config
-    → new_devices ≡ devices ++ device ∷ [] → new_ids ≡ with_flash ids id flash → DeviceRests device (first_device config)
+    → new_devices ≡ devices ++ device ∷ [] → new_ids ≡ with_flash ids id config.held → DeviceRests device (first_device config)
     → WorldStands (held_with lines section.Devices kept (Planned image new_plan new_devices new_ids))
-    (with_joined world id config flash)
-join_step lines here kept image plan new_plan devices new_devices ids new_ids id flash world config device stands plan_is
+    (with_joined world id config)
+join_step lines here kept image plan new_plan devices new_devices ids new_ids id world config device stands plan_is
     devices_are ids_are joins =
     subst (λ (w : WorldState). WorldStands (held_with lines section.Devices kept (Planned image new_plan new_devices new_ids))
-    (with_joined w id config flash)) (sym stands.rest)
-    (join_held lines here kept image plan new_plan devices new_devices ids new_ids id flash world.devices config device
+    (with_joined w id config)) (sym stands.rest)
+    (join_held lines here kept image plan new_plan devices new_devices ids new_ids id world.devices config device
     stands.devices plan_is devices_are ids_are joins)
+
+-- ---- power that comes anew
+
+-- whichever record a device rested as, it rests as that
+pub power_stands : (held : HeldWorld) (new_devices : List Late) (world : WorldState) → WorldStands held world
+    → ((all : List DeviceState) → DevicesRest held.devices all → DevicesRest new_devices all)
+    → WorldStands (record held { section = section.Events; devices = new_devices }) (at_events world)
+power_stands held new_devices world stands rests =
+    record { devices = rests world.devices stands.devices; rest = ap (λ (w : WorldState). at_events w) stands.rest }
 
 -- ---- an event, and the end
 

@@ -56,6 +56,14 @@ zip_long R [] (b ∷ ys) all = absurd all
 zip_long R (a ∷ xs) [] all = absurd all
 zip_long R (a ∷ xs) (b ∷ ys) all = let more = zip_long R xs ys all.1 in cc
 
+-- another one at a place, that stands for the same
+pub zip_put : {A B : Type 0} (R : A → B → Type 0) (xs : List A) (ys : List B) (i : ℕ) (x : A) → AllZip R xs ys
+    → ((y : B) → slice_get ys i ≡ Some y → R x y) → AllZip R (slice_set xs i x) ys
+zip_put R [] ys i x all one = all
+zip_put R (a ∷ xs) [] i x all one = absurd all
+zip_put R (a ∷ xs) (b ∷ ys) zero x all one = (one b refl, all.1)
+zip_put R (a ∷ xs) (b ∷ ys) (suc i) x all one = (all.0, zip_put R xs ys i x all.1 one)
+
 pub zip_set : {A B : Type 0} (R : A → B → Type 0) (xs : List A) (ys : List B) (i : ℕ) (x : A) (y : B) → AllZip R xs ys → R x y → AllZip R (slice_set xs i x) (slice_set ys i y)
 zip_set R [] [] i x y all one = tt
 zip_set R [] (b ∷ ys) i x y all one = absurd all

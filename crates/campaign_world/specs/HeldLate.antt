@@ -1,8 +1,10 @@
 -- A device of a campaign, whose memory is taken when its first event comes.
-use Rattle.std.specs.Prelude.{◌≡◌, List, [], Option, Some, None}
+use Rattle.std.specs.Prelude.{◌≡◌, ◌≤◌, ◌<◌, ◌^◌, true, [], Option, Some, None}
 use Rattle.device_core.specs.Device.{DeviceState, first_device}
 use Rattle.flash_session.specs.Flashes.{Cells}
+use Rattle.flash_session.specs.Layout.{records_place}
 use Rattle.device_core.specs.HeldDevice.{HeldDevice, DeviceStands}
+use Rattle.device_core.specs.HeldSessions.{StateIsStored}
 use Rattle.device_core.specs.declared.config.DeviceConfig.{DeviceConfig}
 
 -- what it is configured with, and what it holds from its first event on
@@ -14,9 +16,19 @@ pub record Late : Type 0 where
 abbrev pub IsHere : Late → Type 0
 IsHere late = (held : HeldDevice Cells) × (late.came ≡ Some held)
 
--- a device between two events: it stands for its record, and its uplinks are taken
+-- sessions that are held in flash have ranges there
+abbrev pub HasSpan : DeviceConfig → Type 0
+HasSpan config = config.held ≡ true → (records_place ≤ config.span) × (config.span < 2 ^ 30)
+
+-- its sessions lie in its cells, if they are held there
+abbrev pub IsStored : HeldDevice Cells → DeviceState → Type 0
+IsStored held device =
+    StateIsStored held.sessions.state device.sessions (λ c. c ≡ held.sessions.flash.bytes) (λ c. ⊥)
+
+-- a device between two events: it stands for its record, its sessions are stored, and its uplinks are taken
 pub record HeldRests (held : HeldDevice Cells) (device : DeviceState) : Type 0 where
   pub stands : DeviceStands held device
+  pub stored : IsStored held device
   pub empty : held.outbox ≡ []
 
 -- before its first event it stands for the first record of its configuration

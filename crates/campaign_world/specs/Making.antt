@@ -79,8 +79,8 @@ config_of class hw rows offset key descriptor v1 k11 flash = record {
   sessions = 4;
   groups = 4;
   area = max_area;
-  held = false;
-  span = 0;
+  held = flash;
+  span = span_of flash;
 }
 
 abbrev pub device_of : Class → (hw rows offset : ℕ) → (key : List ℕ) → (descriptor : Option ℕ) → (v1 k11 flash : Bool)
@@ -93,14 +93,14 @@ abbrev pub with_flash : (ids : List ℕ) → (id : ℕ) → (flash : Bool) → L
 with_flash ids id flash = if flash then ids ++ id ∷ [] else ids
 
 -- one device more, the last line of the plan so far
-abbrev pub with_joined : WorldState → (id : ℕ) → DeviceConfig → (flash : Bool) → WorldState
-with_joined world id config flash =
+abbrev pub with_joined : WorldState → (id : ℕ) → DeviceConfig → WorldState
+with_joined world id config =
     let plan = record world.server.plan {
       devices = world.server.plan.devices ++ record { key = config.key; root = config.root } ∷ [];
     } in
     with_plan (record world {
       devices = world.devices ++ first_device config ∷ [];
-      flash = with_flash world.flash id flash;
+      flash = with_flash world.flash id config.held;
     }) plan section.Devices
 
 -- ---- what goes down
@@ -196,7 +196,7 @@ after_form world (WindowC start timeout freq dr) =
 after_form world (WindowB start periodicity timeout freq dr) =
     with_plan world (with_window world.server.plan (kind.B periodicity) start timeout freq dr) section.Device
 after_form world (Device id class hw rows offset key descriptor v1 k11 flash) =
-    with_joined world id (config_of class hw rows offset key descriptor v1 k11 flash) flash
+    with_joined world id (config_of class hw rows offset key descriptor v1 k11 flash)
 after_form world (At time) = at_events (record world { time = time })
 after_form world (Wake device) = with_event_of world device (Wake device)
 after_form world (Migrate device) = with_event_of world device (Migrate device)

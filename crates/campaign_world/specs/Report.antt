@@ -1,5 +1,5 @@
 -- The report of a campaign (this project's profile).
-use Rattle.std.specs.Prelude.{ℕ, ◌+◌, List, [], ◌∷◌, length, codes, Option, Some, None}
+use Rattle.std.specs.Prelude.{ℕ, ◌+◌, List, [], ◌∷◌, length, codes, Option, Some}
 use Rattle.std.specs.Fmt.{decimal}
 use Rattle.frag_encoder.specs.Encoding.{nb_frag_of, padding_of}
 use Rattle.device_core.specs.Device.{DeviceState}

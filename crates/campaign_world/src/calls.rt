@@ -1,13 +1,14 @@
 //! What reaches a device, and the uplinks that are then taken of it.
 
-ghost use Rattle.std.specs.Prelude.{◌≡◌, ◌≤◌, ◌+◌, length, vec_len, vec_capacity};
-ghost use Rattle.device_core.specs.Device.{DeviceState, max_moment, outbox_size};
+ghost use Rattle.std.specs.Prelude.{◌≡◌, ℕ, ◌≤◌, ◌+◌, List, length, replicate, vec_len, vec_capacity};
+ghost use Rattle.device_core.specs.Device.{DeviceState, first_device, max_moment, outbox_size};
 ghost use Rattle.device_core.specs.Deliver.{delivery, waking};
 ghost use Rattle.device_core.specs.Radio.{radio};
 ghost use Rattle.device_core.specs.Firmware.{after_migration};
-ghost use Rattle.device_core.specs.HeldDevice.{DeviceStands};
+ghost use Rattle.device_core.specs.HeldDevice.{DeviceStands, Starts};
+ghost use Rattle.device_core.specs.declared.config.DeviceConfig.{DeviceConfig};
 ghost use Rattle.campaign_world.specs.HeldWorld.{resting, numbered_behind, ComesToRest, AreNumbered};
-ghost use Rattle.campaign_world.specs.HeldLate.{HeldRests};
+ghost use Rattle.campaign_world.specs.HeldLate.{IsStored, HeldRests};
 ghost use Rattle.campaign_world.specs.WorldInside.{StayMade};
 
 use crate::numbered::MadeUplink;
@@ -83,13 +84,33 @@ pub fn raise_device(device: &mut Device<CellFlash>)
     device.raise();
 }
 
+/// Power comes to a device for the first time, over cells in which nothing lies. One in memory alone is up without it.
+pub fn power_first(device: &mut Device<CellFlash>)
+    ensures { (config : DeviceConfig) (n : ℕ) → Starts config device.old.sessions.flash device.old
+        → device.old.sessions.flash.bytes ≡ replicate n 0
+        → HeldRests device.new (first_device config) }
+{
+    if device.is_held() {
+        let _powered = device.power();
+    }
+}
+
+/// Power comes to a device anew. Where its sessions are in memory alone no flash is called.
+pub fn power_device(device: &mut Device<CellFlash>)
+    ensures { (d : DeviceState) → HeldRests device.old d → HeldRests device.new d }
+{
+    if device.is_held() {
+        let _powered = device.power();
+    }
+}
+
 /// Takes all uplinks of a device, oldest first. It has no more of them than there is room for.
 fn take_uplinks(id: u8, device: &mut Device<CellFlash>, uplinks: &mut Vec<MadeUplink>)
     requires first { 1 ≤ id }
     requires room { vec_len uplinks.old + outbox_size ≤ vec_capacity uplinks.old }
     ensures made { StayMade id uplinks.old.items uplinks.new.items }
-    ensures rests { (d : DeviceState) → DeviceStands device.old d → length d.outbox ≤ outbox_size
-        → HeldRests device.new (resting d) }
+    ensures rests { (d : DeviceState) → DeviceStands device.old d → IsStored device.old d
+        → length d.outbox ≤ outbox_size → HeldRests device.new (resting d) }
     ensures uplinks { length device.old.outbox ≤ outbox_size
         → uplinks.new.items ≡ numbered_behind uplinks.old.items id device.old.outbox }
 {

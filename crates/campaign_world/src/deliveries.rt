@@ -1,15 +1,15 @@
 //! Events at devices: a payload or bytes of the air that reach one, and one that wakes. Its uplinks are then taken.
 
-ghost use Rattle.std.specs.Prelude.{◌≡◌, ◌≤◌, ◌+◌, length, OnOk, OnErr, vec_len, vec_capacity};
-ghost use Rattle.device_core.specs.Device.{max_moment, outbox_size};
+ghost use Rattle.std.specs.Prelude.{◌≡◌, ◌≤◌, ◌+◌, List, length, OnOk, OnErr, vec_len, vec_capacity};
+ghost use Rattle.device_core.specs.Device.{DeviceState, max_moment, outbox_size};
 ghost use Rattle.device_core.specs.Deliver.{delivery, waking};
 ghost use Rattle.device_core.specs.Radio.{radio};
 ghost use Rattle.device_core.specs.Firmware.{after_migration};
-ghost use Rattle.campaign_world.specs.HeldWorld.{OneComesToRest, OnesAreNumbered};
+ghost use Rattle.campaign_world.specs.HeldWorld.{DevicesRest, OneComesToRest, OnesAreNumbered};
 ghost use Rattle.campaign_world.specs.WorldInside.{StayMade};
 
 use crate::calls::OUTBOX;
-use crate::late::{LateDevice, air, raise, reach, rouse};
+use crate::late::{LateDevice, air, power, raise, reach, rouse};
 use crate::numbered::MadeUplink;
 use device_core::Moment;
 use package_grammar::Downlink;
@@ -125,4 +125,17 @@ pub fn migrate(devices: &mut Vec<LateDevice>, alloc: Global, id: u8) -> Result<(
 {
     let device = &mut devices[id as usize - 1];
     raise(device, alloc)
+}
+
+/// Power comes anew to the device with a number: all are as they were.
+pub fn restart(devices: &mut Vec<LateDevice>, alloc: Global, id: u8) -> Result<(), AllocError>
+    requires first { 1 ≤ id }
+    requires last { id ≤ length devices.old.items }
+    ensures count { length devices.new.items ≡ length devices.old.items }
+    ensures devices { (all : List DeviceState) → DevicesRest devices.old.items all
+        → DevicesRest devices.new.items all }
+    ensures same { OnErr result (devices.new.items ≡ devices.old.items) }
+{
+    let device = &mut devices[id as usize - 1];
+    power(device, alloc)
 }

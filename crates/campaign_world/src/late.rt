@@ -1,16 +1,17 @@
 //! A device of a campaign, whose memory is taken when its first event comes.
 
-ghost use Rattle.std.specs.Prelude.{◌≡◌, ◌≤◌, ◌+◌, true, false, None, OnOk, OnErr, IfOk, option_map, vec_len, vec_capacity};
+ghost use Rattle.std.specs.Prelude.{◌≡◌, ◌≤◌, ◌+◌, true, None, OnOk, OnErr, IfOk, option_map, vec_len, vec_capacity};
 ghost use Rattle.device_core.specs.Device.{DeviceState, first_device, is_config, max_moment, outbox_size};
-ghost use Rattle.device_core.specs.HeldDevice.{DeviceStands};
 ghost use Rattle.device_core.specs.Deliver.{delivery, waking};
 ghost use Rattle.device_core.specs.Radio.{radio};
 ghost use Rattle.device_core.specs.Firmware.{after_migration};
 ghost use Rattle.campaign_world.specs.HeldWorld.{ComesToRest, AreNumbered};
-ghost use Rattle.campaign_world.specs.HeldLate.{IsHere, DeviceRests};
+ghost use Rattle.campaign_world.specs.HeldLate.{IsHere, HasSpan, HeldRests, DeviceRests};
 ghost use Rattle.campaign_world.specs.WorldInside.{StayMade};
 
-use crate::calls::{air_device, raise_device, reach_device, rouse_device};
+use crate::calls::{
+    air_device, power_device, power_first, raise_device, reach_device, rouse_device,
+};
 use crate::numbered::MadeUplink;
 use device_core::{Device, DeviceConfig, Moment, ReserveError};
 use flash_session::CellFlash;
@@ -18,7 +19,8 @@ use package_grammar::Downlink;
 use std::alloc::{AllocError, Global};
 use std::marker::Model;
 
-/// A device to which nothing happened yet costs no more than its configuration. Its sessions are in memory alone.
+/// A device to which nothing happened yet costs no more than its configuration. Its sessions are in memory alone, or held in
+/// four ranges of a flash of cells.
 #[derive(Drop)]
 pub struct LateDevice {
     config: DeviceConfig,
@@ -27,23 +29,23 @@ pub struct LateDevice {
 }
 
 impl Model for LateDevice {
-    ghost use Rattle.std.specs.Prelude.{◌≡◌, true, false};
+    ghost use Rattle.std.specs.Prelude.{◌≡◌, true};
     ghost use Rattle.device_core.specs.Device.{is_config};
     ghost use Rattle.std.specs.Prelude.{option_map};
-    ghost use Rattle.campaign_world.specs.HeldLate.{Late};
+    ghost use Rattle.campaign_world.specs.HeldLate.{Late, HasSpan};
 
     ghost Value = { Late };
 
     ghost view = { λ d. record { config = d.config; came = option_map (λ device. device.value) d.came } };
 
-    ghost invariant = { λ d. (is_config d.config ≡ true) × (d.config.held ≡ false) };
+    ghost invariant = { λ d. (is_config d.config ≡ true) × HasSpan d.config };
 }
 
 impl LateDevice {
     /// A device to which nothing happened yet.
     pub fn new(config: DeviceConfig) -> Self
         requires fine { is_config config ≡ true }
-        requires memory { config.held ≡ false }
+        requires span { HasSpan config }
         ensures { result ≡ record { config = config; came = None } }
     {
         LateDevice { config, came: None }
@@ -90,18 +92,20 @@ impl LateDevice {
 #[inline(never)]
 fn reserved(alloc: Global, config: DeviceConfig) -> Result<Box<Device<CellFlash>>, AllocError>
     requires fine { is_config config ≡ true }
-    requires memory { config.held ≡ false }
-    ensures { IfOk result (λ device. DeviceStands device.value (first_device config)) }
+    requires span { HasSpan config }
+    ensures { IfOk result (λ device. HeldRests device.value (first_device config)) }
 {
-    let flash = match CellFlash::reserve(alloc, 0) {
+    let size = if config.held { 4 * config.span } else { 0 };
+    let flash = match CellFlash::reserve(alloc, size) {
         Ok(flash) => flash,
         Err(error) => return Err(error),
     };
-    let device = match Device::reserve(alloc, config, flash) {
+    let mut device = match Device::reserve(alloc, config, flash) {
         Ok(device) => device,
         Err(ReserveError::Memory) => return Err(AllocError),
         Err(ReserveError::BadConfig) => unreachable!(),
     };
+    power_first(&mut device);
     match Box::new(alloc, device) {
         Ok(boxed) => Ok(boxed),
         Err(_) => Err(AllocError),
@@ -212,5 +216,21 @@ pub fn raise(late: &mut LateDevice, alloc: Global) -> Result<(), AllocError>
         unreachable!()
     };
     raise_device(device);
+    Ok(())
+}
+
+/// Power comes to a device anew: it is as it was. Where there is no memory for the device nothing happened.
+pub fn power(late: &mut LateDevice, alloc: Global) -> Result<(), AllocError>
+    ensures rests { (d : DeviceState) → DeviceRests late.old d → DeviceRests late.new d }
+    ensures same { OnErr result (late.new ≡ late.old) }
+{
+    match late.come(alloc) {
+        Ok(()) => {}
+        Err(error) => return Err(error),
+    }
+    let Some(device) = &mut late.came else {
+        unreachable!()
+    };
+    power_device(device);
     Ok(())
 }

@@ -16,13 +16,12 @@ use Rattle.device_core.specs.declared.delivered.Delivered.{Delivered}
 use Rattle.device_core.specs.declared.delivered.Delivered.TheVariants.{Done}
 use Rattle.device_core.specs.Deliver.{message_delivery}
 use Rattle.session_store.specs.declared.held_slots.Layout.{Layout}
-use Rattle.session_store.specs.declared.held_slots.Idles.{Idles}
 use Rattle.session_store.specs.declared.store.FlashFault.{FlashFault}
 use Rattle.session_store.specs.declared.store.State.TheVariants.{Down}
 use Rattle.session_store.specs.Whole.{whole_of}
 use Rattle.device_core.specs.Aside.{IsAside}
 use Rattle.device_core.specs.HeldCalls.{LeavesBesides, Fails, Keeps, FailsAt}
-use Rattle.device_core.specs.HeldDevice.{HeldDevice, device_of, DeviceStands, Becomes, Makes, Steps, StepsAside}
+use Rattle.device_core.specs.HeldDevice.{HeldDevice, DeviceStands, Becomes, Makes, Steps, StepsAside}
 use Rattle.device_core.specs.HeldSessions.{HeldStore, IsUp, IsInFlash, StateIsStored, StateIsHeld, IsLaidOut}
 use Rattle.device_core.specs.Passed.{step_tables, command_tables, tables_of, LiesOneOf}
 use Rattle.device_core.specs.SessionTable.{SessionTable}

@@ -1,6 +1,5 @@
 -- A device that is up or down, and what a payload makes of it between the reboots that are due.
-use Rattle.std.proofs.Common.{◌≡◌, ◌⊎◌, ℕ, List, Result, Ok, Err, OnOk, refl, sym, ap, subst, ◌∙◌}
-use Rattle.std.specs.Prelude.{◌≢◌}
+use Rattle.std.proofs.Common.{◌≡◌, ◌⊎◌, ℕ, List, Result, Ok, Err, sym, ap, subst, ◌∙◌}
 use Rattle.flash_session.specs.Moments.{LeavesOnly}
 use Rattle.wire_base.specs.declared.refusal.Direction.TheVariants as direction
 use Rattle.package_grammar.specs.declared.downlink.Downlink.{Downlink}
@@ -9,14 +8,17 @@ use Rattle.session_store.specs.declared.store.FlashFault.{FlashFault}
 use Rattle.session_store.specs.declared.store.State.{State}
 use Rattle.session_store.specs.declared.store.State.TheVariants.{Memory, Flash, Down}
 use Rattle.session_store.specs.HeldPlaces.{TableLies}
+use Rattle.mc_frames.specs.declared.fault.FrameFault.{FrameFault}
+use Rattle.device_core.specs.declared.delivered.Aired.{Aired}
 use Rattle.device_core.specs.declared.delivered.Delivered.{Delivered}
 use Rattle.device_core.specs.Deliver.{Outcome, arrival, heard_delivery, delivery}
 use Rattle.device_core.specs.Device.{DeviceState}
 use Rattle.device_core.specs.Firmware.{after_due_reboot}
-use Rattle.device_core.specs.HeldCalls.{LeavesBesides, Keeps, FailsIn, FailsWithin}
-use Rattle.device_core.specs.HeldDevice.{HeldDevice, DeviceStands, Becomes, Makes}
+use Rattle.device_core.specs.HeldCalls.{LeavesBesides, StaysStored, Keeps, FailsIn, FailsWithin}
+use Rattle.device_core.specs.HeldDevice.{HeldDevice, device_of, DeviceStands, Becomes, Makes}
 use Rattle.device_core.specs.HeldSessions.{HeldStore, IsDown, IsUp, StateStands, StateIsStored, StateIsHeld}
 use Rattle.device_core.specs.Passed.{heard_tables, tables_passed, LiesOneOf}
+use Rattle.device_core.specs.Radio.{brought, after_frame, radio}
 use Rattle.device_core.specs.SessionTable.{SessionTable}
 use Rattle.device_core.proofs.Keeping.{leaves_only}
 use Rattle.device_core.proofs.Stays.{reboot_keeps}
@@ -107,3 +109,28 @@ pub failed_within : {F : Type 0} (t word mark : ℕ) (down : Downlink) (device :
 unfolding delivery
 failed_within t word mark down device new fails =
     record { commands = fails.commands; read = fails.read; acts = fails.acts; fails = fails.fails }
+
+-- ---- bytes that the radio heard
+
+pub brought_is : {F : Type 0} (held : HeldDevice F) (bytes : List ℕ) (r : Result Downlink FrameFault)
+    → ((table : SessionTable) → r ≡ brought (device_of held table) bytes)
+    → (device : DeviceState) → DeviceStands held device → brought device bytes ≡ r
+brought_is held bytes r is device stands = ap (λ (d : DeviceState). brought d bytes) stands.rest ∙ sym (is device.sessions)
+
+-- what they make of the record, by what they brought
+pub radio_is : (t word mark : ℕ) (bytes : List ℕ) (r : Result Downlink FrameFault) (device : DeviceState)
+    → brought device bytes ≡ r → radio t word mark bytes device ≡ after_frame t word mark r device
+unfolding radio
+radio_is t word mark bytes r device is = ap (λ (b : Result Downlink FrameFault). after_frame t word mark b device) is
+
+-- bytes that are foreign leave it all
+pub foreign_stored : {F : Type 0} (holds : F → List ℕ → Type 0) (left : F → ℕ → List ℕ → Type 0) (moment : F → ℕ)
+    (old new : HeldDevice F) (t word mark : ℕ) (bytes : List ℕ) (fault : FrameFault) → new.sessions ≡ old.sessions
+    → ((table : SessionTable) → Err fault ≡ brought (device_of old table) bytes)
+    → StaysStored holds left moment old new (λ d. (radio t word mark bytes d).device)
+foreign_stored {F} holds left moment old new t word mark bytes fault same is device stands stored =
+    subst (λ (o : Outcome Aired). StateIsStored new.sessions.state o.device.sessions (holds new.sessions.flash) (left new.sessions.flash (moment new.sessions.flash)))
+    (sym (radio_is t word mark bytes (Err fault) device (brought_is old bytes (Err fault) is device stands)))
+    (subst (λ (x : SessionTable). StateIsStored new.sessions.state x (holds new.sessions.flash) (left new.sessions.flash (moment new.sessions.flash)))
+    (sym (reboot_keeps t device).sessions)
+    (subst (λ (s : HeldStore F). StateIsStored s.state device.sessions (holds s.flash) (left s.flash (moment s.flash))) (sym same) stored))

@@ -1,13 +1,11 @@
 -- What the flash of a device holds and may be left with, call by call.
-use Rattle.std.proofs.Common.{◌≡◌, ◌⊎◌, ℕ, ◌+◌, ◌≤◌, Bool, true, false, List, [], ◌∷◌, ◌++◌, Result, Ok, Err, OnOk, OnErr, IsErr, inl, inr, refl, sym, ap, subst, ◌∙◌, arith}
-use Rattle.std.specs.Prelude.{is_ok}
+use Rattle.std.proofs.Common.{◌≡◌, ◌⊎◌, ℕ, ◌≤◌, true, false, List, [], ◌∷◌, ◌++◌, Result, Ok, Err, OnErr, IsErr, inl, inr, refl, sym, ap, subst, ◌∙◌, arith}
 use Rattle.flash_session.specs.Contents.{HasRisen}
 use Rattle.flash_session.specs.Moments.{LeavesOnly}
 use Rattle.session_store.specs.declared.held_slots.Layout.{Layout}
 use Rattle.session_store.specs.declared.store.FlashFault.{FlashFault}
 use Rattle.session_store.specs.declared.store.State.{State}
 use Rattle.session_store.specs.declared.store.State.TheVariants.{Memory, Flash, Down}
-use Rattle.session_store.specs.HeldPlaces.{TableLies}
 use Rattle.device_core.specs.Device.{DeviceState}
 use Rattle.device_core.specs.HeldCalls.{LeavesBesides, Keeps}
 use Rattle.device_core.specs.HeldDevice.{HeldDevice, DeviceStands}

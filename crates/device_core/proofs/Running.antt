@@ -1,5 +1,5 @@
 -- A device runs nothing or an image for its hardware: what next says is kept true, and only a valid next comes to run.
-use Rattle.std.proofs.Common.{◌≡◌, ◌⊎◌, inl, inr, ⊎_elim, ℕ, Bool, true, false, cond, ◌==◌, List, [], ◌∷◌, Option, Some, None, Result, Ok, Err, refl, sym, ◌∙◌, subst, ap}
+use Rattle.std.proofs.Common.{◌≡◌, ◌⊎◌, inl, inr, ℕ, Bool, true, false, cond, ◌==◌, List, [], ◌∷◌, Option, Some, None, Result, Ok, Err, refl, sym, ◌∙◌, subst}
 use Rattle.std.specs.Prelude.{◌&&◌, not}
 use Rattle.image_slots.specs.declared.view.ImageState.{ImageState}
 use Rattle.image_slots.specs.declared.view.ImageState.TheVariants as image
@@ -15,25 +15,23 @@ use Rattle.package_grammar.specs.declared.command.Command.TheVariants.{Sync, Cas
 use Rattle.package_grammar.specs.declared.downlink.Downlink.{Downlink}
 use Rattle.package_grammar.specs.Reading.{Reading, reading_of}
 use Rattle.mc_frames.specs.declared.fault.FrameFault.{FrameFault}
-use Rattle.frag_session.specs.Session.{Seen, view_of}
 use Rattle.device_core.specs.declared.arrival.Arrival.{Arrival}
 use Rattle.device_core.specs.declared.config.DeviceConfig.{DeviceConfig}
 use Rattle.device_core.specs.declared.delivered.Delivered.{Delivered}
-use Rattle.device_core.specs.declared.delivered.Delivered.TheVariants.{OutboxFull, Done, Deaf}
 use Rattle.device_core.specs.declared.delivered.OutboxFull as outbox
 use Rattle.device_core.specs.declared.uplink.Uplink.{Uplink}
-use Rattle.device_core.specs.Device.{DeviceState, first_device, after_deaf, after_full, with_counts}
+use Rattle.device_core.specs.Device.{DeviceState, first_device}
 use Rattle.device_core.specs.Answers.{DeviceStep, after_answers}
 use Rattle.device_core.specs.Clock.{answer_step, periodicity_step, resync_step}
-use Rattle.device_core.specs.Fragments.{setup_step, delete_step, status_step, is_whole, whole_file, slots_after, heard_step, fragment_step}
+use Rattle.device_core.specs.Fragments.{setup_step, delete_step, status_step, slots_after, heard_step, fragment_step}
 use Rattle.device_core.specs.Groups.{groups_step, group_setup_step, group_delete_step}
-use Rattle.device_core.specs.ClassSessions.{hears, class_session_step}
+use Rattle.device_core.specs.ClassSessions.{class_session_step}
 use Rattle.device_core.specs.Firmware.{version_step, upgrade_step, delete_image_step, reboot_time_step, countdown_step, after_due_reboot, after_migration}
 use Rattle.device_core.specs.Step.{acts, command_step, step, after_commands}
 use Rattle.device_core.specs.Deliver.{Outcome, arrival, message_delivery, read_delivery, heard_delivery, delivery, time_asking, waking, with_due_reboot, taking}
 use Rattle.device_core.specs.Radio.{brought, after_frame, radio}
 use Rattle.device_core.specs.Events.{Event, after_event, Wakes, Receives, HearsBytes, Migrates}
-use Rattle.device_core.specs.Running.{Call, Delivers, Airs, Wakes as Awakes, Takes, Raises, after_call, after_calls, after_events, RunsNone, RunsImage, RunsImagesAlone}
+use Rattle.device_core.specs.Running.{Call, Delivers, Airs, Wakes as Awakes, Takes, Raises, after_call, after_calls, after_events, RunsImage, RunsImagesAlone}
 
 -- ---- the two slots
 

@@ -6,7 +6,6 @@ use Rattle.mc_keys.specs.Keys.{mc_ke_key, mc_key}
 use Rattle.mc_keys.specs.WorkedKeys.{worked_gen_app_key, worked_root_1_1, worked_key}
 use Rattle.mc_keys.specs.declared.root_kind.RootKind.TheVariants.{V11}
 use Rattle.mc_keys.proofs.WorkedKeys.{keys}
-use Rattle.mc_group.specs.declared.group.Group.{Group}
 use Rattle.mc_group.specs.Groups.{group_of}
 use Rattle.device_core.specs.WorkedSteps.{worked_wrapped_1_1}
 

@@ -1,7 +1,6 @@
 -- Fragmented data blocks on the device (TS004-1.0.0). What a session is, hears and shows is frag_session's.
-use Rattle.std.specs.Prelude.{ℕ, ◌+◌, ◌*◌, ◌%◌, ◌^◌, Bool, true, false, ◌==◌, if◌then◌else◌, List, [], ◌∷◌, Option, Some, None, is_none}
+use Rattle.std.specs.Prelude.{ℕ, ◌+◌, ◌*◌, ◌%◌, ◌^◌, Bool, false, if◌then◌else◌, List, [], ◌∷◌, Option, Some, None, is_none}
 use Rattle.cast_wire.specs.SetupRefusal.{setup_answer}
-use Rattle.package_grammar.specs.declared.command.Command.{Command}
 use Rattle.package_grammar.specs.declared.command.Command.TheVariants.{Cast}
 use Rattle.cast_wire.specs.declared.cmd.Cmd.TheVariants.{FragSessionStatusAns, FragSessionDeleteAns}
 use Rattle.frag_session.specs.declared.setups.SetupReq.{SetupReq}

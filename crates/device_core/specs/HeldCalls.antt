@@ -5,11 +5,13 @@ use Rattle.package_grammar.specs.declared.command.Command.{Command}
 use Rattle.package_grammar.specs.declared.downlink.Downlink.{Downlink}
 use Rattle.package_grammar.specs.Reading.{Reading, reading_of}
 use Rattle.flash_session.specs.Contents.{HasCause}
+use Rattle.flash_session.specs.Moments.{LeavesOnly}
 use Rattle.session_store.specs.declared.held_slots.Idles.{Idles}
 use Rattle.session_store.specs.declared.store.FlashFault.{FlashFault}
 use Rattle.session_store.specs.declared.store.State.{State}
 use Rattle.session_store.specs.declared.store.State.TheVariants.{Memory, Flash, Down}
 use Rattle.session_store.specs.declared.store.Whole.{Whole}
+use Rattle.session_store.specs.HeldPlaces.{TableLies}
 use Rattle.session_store.specs.Whole.{whole_of}
 use Rattle.device_core.specs.declared.arrival.Arrival.{Arrival}
 use Rattle.device_core.specs.declared.delivered.Delivered.{Delivered}
@@ -21,6 +23,7 @@ use Rattle.device_core.specs.Firmware.{after_due_reboot}
 use Rattle.device_core.specs.HeldDevice.{HeldDevice, device_of, DeviceStands}
 use Rattle.device_core.specs.HeldSessions.{HeldStore, IsUp, IsInFlash, StateStands, StateIsStored, StateIsHeld, IsLaidOut}
 use Rattle.device_core.specs.Passed.{LiesOneOf}
+use Rattle.device_core.specs.Radio.{brought}
 use Rattle.device_core.specs.SessionTable.{SessionTable}
 use Rattle.device_core.specs.Step.{after_commands}
 
@@ -30,6 +33,25 @@ use Rattle.device_core.specs.Step.{after_commands}
 pub record LeavesBesides (P : List ℕ → Type 0) (before now : ℕ) (past since : ℕ → List ℕ → Type 0) : Type 0 where
   pub later : before ≤ now
   pub earlier : (t : ℕ) (c : List ℕ) → t ≤ before → since t c → past t c ⊎ P c
+
+-- sessions that are stored are stored as this call leaves the record
+abbrev pub StaysStored : {F : Type 0} → (holds : F → List ℕ → Type 0) → (left_since : F → ℕ → List ℕ → Type 0) → (moment : F → ℕ)
+    → (old new : HeldDevice F) → (DeviceState → DeviceState) → Type 0
+StaysStored holds left_since moment old new after = (device : DeviceState) → DeviceStands old device
+    → StateIsStored old.sessions.state device.sessions (holds old.sessions.flash)
+    (left_since old.sessions.flash (moment old.sessions.flash))
+    → StateIsStored new.sessions.state (after device).sessions (holds new.sessions.flash)
+    (left_since new.sessions.flash (moment new.sessions.flash))
+
+-- a stop at any moment leaves the sessions that are held as they were, or as one of these tables
+abbrev pub LeavesPassed : {F : Type 0} → (holds : F → List ℕ → Type 0) → (left_since : F → ℕ → List ℕ → Type 0) → (moment : F → ℕ)
+    → (old new : HeldDevice F) → (DeviceState → List SessionTable) → Type 0
+LeavesPassed holds left_since moment old new tables = (device : DeviceState) → DeviceStands old device
+    → StateIsHeld old.sessions.state device.sessions (holds old.sessions.flash)
+    (left_since old.sessions.flash (moment old.sessions.flash))
+    → LeavesOnly
+    (λ c. TableLies old.sessions.layout device.sessions c ⊎ LiesOneOf old.sessions.layout (tables device) c)
+    (moment old.sessions.flash) (moment new.sessions.flash) (left_since old.sessions.flash) (left_since new.sessions.flash)
 
 -- ---- a call that may fail
 
@@ -84,6 +106,12 @@ FailsWithin t word mark down device new =
     let before = after_due_reboot t device in
     FailsIn (delivery t word mark down device) (arrival t word mark down before) before
     (reading_of down.port direction.Down down.payload) new
+
+-- of bytes that brought a payload: the same
+pub record FailsOnAir {F : Type 0} (t word mark : ℕ) (bytes : List ℕ) (device : DeviceState) (new : HeldDevice F) : Type 0 where
+  pub down : Downlink
+  pub came : brought device bytes ≡ Ok down
+  pub fails : FailsWithin t word mark down device new
 
 -- an answer of a device that is up, whose flash did not fail
 abbrev pub IsPlain : Delivered → Type 0

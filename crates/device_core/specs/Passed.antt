@@ -1,11 +1,12 @@
 -- The sessions that a payload's commands pass, as a stop may leave them (this project's profile).
-use Rattle.std.specs.Prelude.{◌⊎◌, ℕ, ◌+◌, nat_lt, if◌then◌else◌, List, [], ◌∷◌, ◌++◌, length, None, Ok, Err}
+use Rattle.std.specs.Prelude.{◌⊎◌, ℕ, ◌+◌, nat_lt, if◌then◌else◌, List, [], ◌∷◌, ◌++◌, length, None, Result, Ok, Err}
 use Rattle.wire_base.specs.declared.refusal.Direction.TheVariants.{Down}
 use Rattle.cast_wire.specs.declared.cmd.Cmd.TheVariants as c
 use Rattle.package_grammar.specs.declared.command.Command.{Command}
 use Rattle.package_grammar.specs.declared.command.Command.TheVariants.{Cast}
 use Rattle.package_grammar.specs.declared.downlink.Downlink.{Downlink}
 use Rattle.package_grammar.specs.Reading.{Reading, reading_of}
+use Rattle.mc_frames.specs.declared.fault.FrameFault.{FrameFault}
 use Rattle.session_store.specs.declared.held_slots.Layout.{Layout}
 use Rattle.session_store.specs.HeldPlaces.{TableLies}
 use Rattle.device_core.specs.declared.arrival.Arrival.{Arrival}
@@ -14,6 +15,7 @@ use Rattle.device_core.specs.ClassSessions.{hears}
 use Rattle.device_core.specs.Deliver.{arrival}
 use Rattle.device_core.specs.Device.{DeviceState, outbox_size}
 use Rattle.device_core.specs.Firmware.{after_due_reboot}
+use Rattle.device_core.specs.Radio.{brought}
 use Rattle.device_core.specs.SessionTable.{SessionTable, with_session}
 use Rattle.device_core.specs.Step.{acts, command_step, step, weights}
 
@@ -59,6 +61,15 @@ heard_tables t word mark down device =
 -- those of a payload, a reboot that is due before it
 abbrev pub tables_passed : (t word mark : ℕ) → Downlink → DeviceState → List SessionTable
 tables_passed t word mark down device = heard_tables t word mark down (after_due_reboot t device)
+
+-- those of the payload that bytes brought, if they did
+abbrev pub frame_tables : (t word mark : ℕ) → Result Downlink FrameFault → DeviceState → List SessionTable
+frame_tables t word mark (Ok down) device = tables_passed t word mark down device
+frame_tables t word mark (Err fault) device = []
+
+-- those of bytes that the radio heard
+abbrev pub tables_aired : (t word mark : ℕ) → List ℕ → DeviceState → List SessionTable
+tables_aired t word mark bytes device = frame_tables t word mark (brought device bytes) device
 
 -- one of these lies there, so that opening gives it
 abbrev pub LiesOneOf : Layout → List SessionTable → List ℕ → Type 0

@@ -1,16 +1,17 @@
 //! A device: the calls of whoever runs it, and the order of their checks.
 
-ghost use Rattle.std.specs.Prelude.{◌≡◌, ◌≢◌, ◌⊎◌, ◌↔◌, ℕ, ◌+◌, ◌<◌, ◌≤◌, true, false, List, length, Option, None, Result, OnOk, OnErr, IfOk, IfSome, MatchResult, option_map};
+ghost use Rattle.std.specs.Prelude.{◌≡◌, ◌≢◌, ◌⊎◌, ◌↔◌, ℕ, ◌+◌, ◌<◌, ◌≤◌, true, false, List, length, Option, None, Result, OnOk, OnErr, IfOk, IfErr, IfSome, MatchResult, option_map};
 ghost use Rattle.wire_base.specs.declared.refusal.Direction.{Direction};
 ghost use Rattle.wire_base.specs.Payload.{max_payload};
 ghost use Rattle.cast_wire.specs.declared.cmd.Cmd.TheVariants.{DataFragment};
 ghost use Rattle.package_grammar.specs.declared.command.Command.TheVariants.{Cast};
 ghost use Rattle.frag_session.specs.Session.{view_of};
 ghost use Rattle.frag_session.specs.HeldView.{seen};
-ghost use Rattle.flash_session.specs.Contents.{HasRisen};
-ghost use Rattle.flash_session.specs.Moments.{LeavesOnly};
+ghost use Rattle.flash_session.specs.Contents.{Same, Follows, HasRisen};
+ghost use Rattle.flash_session.specs.Moments.{Elapses};
 ghost use Rattle.session_store.specs.declared.store.Whole.{Whole};
 ghost use Rattle.session_store.specs.declared.store.FlashFault.{FlashFault};
+ghost use Rattle.session_store.specs.HeldForeign.{NoneForeign, IsForeignIn};
 ghost use Rattle.session_store.specs.HeldPlaces.{TableLies};
 ghost use Rattle.device_core.specs.SessionTable.{SessionTable, session_at};
 ghost use Rattle.device_core.specs.Device.{DeviceState, max_moment, after_deaf, after_refused, after_full, after_dropped, with_counts};
@@ -18,9 +19,9 @@ ghost use Rattle.device_core.specs.Step.{weights, after_commands};
 ghost use Rattle.device_core.specs.Firmware.{after_due_reboot, after_migration};
 ghost use Rattle.device_core.specs.Deliver.{message_delivery, read_delivery, heard_delivery, arrival, delivery, time_asking, waking, taking, commands_read, commands_of};
 ghost use Rattle.device_core.specs.Radio.{radio};
-ghost use Rattle.device_core.specs.HeldSessions.{IsUp, IsDown, StateIsStored, StateIsHeld, IsLaidOut};
-ghost use Rattle.device_core.specs.HeldCalls.{HadWhole, Keeps, FailsAt, FailsIn, FailsWithin, IsPlain};
-ghost use Rattle.device_core.specs.Passed.{tables_of, message_tables, read_tables, heard_tables, tables_passed, LiesOneOf};
+ghost use Rattle.device_core.specs.HeldSessions.{IsUp, IsDown, IsInFlash, StateIsStored, StateIsHeld, IsLaidOut};
+ghost use Rattle.device_core.specs.HeldCalls.{StaysStored, LeavesPassed, HadWhole, Keeps, FailsAt, FailsIn, FailsWithin, FailsOnAir, IsPlain};
+ghost use Rattle.device_core.specs.Passed.{tables_of, message_tables, read_tables, heard_tables, tables_passed, tables_aired};
 ghost use Rattle.device_core.specs.Power.{after_power};
 ghost use Rattle.package_grammar.specs.Reading.{reading_of};
 
@@ -164,24 +165,15 @@ impl<F: Flash + Drop> Device<F> {
             → HasRisen (F.faults self.old.sessions.flash) (F.faults self.new.sessions.flash) }
         // Sessions that are not held call no flash.
         ensures quiet { self.old.sessions.held ≡ false
-            → (result ≢ Delivered.FlashFault) × (self.new.sessions.flash ≡ self.old.sessions.flash) }
+            → (result ≢ Delivered.FlashFault)
+            × (self.new.sessions.flash ≡ self.old.sessions.flash) }
         // Those that are held are stored as the payload leaves them,
-        ensures stored { (device : DeviceState) → DeviceStands self.old device
-            → StateIsStored self.old.sessions.state device.sessions (F.holds self.old.sessions.flash)
-            (F.left_since self.old.sessions.flash (F.moment self.old.sessions.flash))
-            → result ≢ Delivered.FlashFault
-            → StateIsStored self.new.sessions.state (delivery t word mark down.now device).device.sessions
-            (F.holds self.new.sessions.flash)
-            (F.left_since self.new.sessions.flash (F.moment self.new.sessions.flash)) }
+        ensures stored { result ≢ Delivered.FlashFault
+            → StaysStored F.holds F.left_since F.moment self.old self.new
+            (λ device. (delivery t word mark down.now device).device) }
         // and a stop at any moment leaves them as they were, or as the payload's commands pass them.
-        ensures any_moment { (device : DeviceState) → DeviceStands self.old device
-            → StateIsHeld self.old.sessions.state device.sessions (F.holds self.old.sessions.flash)
-            (F.left_since self.old.sessions.flash (F.moment self.old.sessions.flash))
-            → LeavesOnly
-            (λ c. TableLies self.old.sessions.layout device.sessions c
-            ⊎ LiesOneOf self.old.sessions.layout (tables_passed t word mark down.now device) c)
-            (F.moment self.old.sessions.flash) (F.moment self.new.sessions.flash)
-            (F.left_since self.old.sessions.flash) (F.left_since self.new.sessions.flash) }
+        ensures any_moment { LeavesPassed F.holds F.left_since F.moment self.old self.new
+            (tables_passed t word mark down.now) }
         ensures laid { IsLaidOut self.old.sessions self.new.sessions }
     {
         self.deliver_over::<Brand>(t, down, word, mark, Blank::new(1))
@@ -213,24 +205,15 @@ impl<F: Flash + Drop> Device<F> {
             → HasRisen (F.faults self.old.sessions.flash) (F.faults self.new.sessions.flash) }
         // Sessions that are not held call no flash.
         ensures quiet { self.old.sessions.held ≡ false
-            → (result ≢ Delivered.FlashFault) × (self.new.sessions.flash ≡ self.old.sessions.flash) }
+            → (result ≢ Delivered.FlashFault)
+            × (self.new.sessions.flash ≡ self.old.sessions.flash) }
         // Those that are held are stored as the payload leaves them,
-        ensures stored { (device : DeviceState) → DeviceStands self.old device
-            → StateIsStored self.old.sessions.state device.sessions (F.holds self.old.sessions.flash)
-            (F.left_since self.old.sessions.flash (F.moment self.old.sessions.flash))
-            → result ≢ Delivered.FlashFault
-            → StateIsStored self.new.sessions.state (delivery t word mark down.now device).device.sessions
-            (F.holds self.new.sessions.flash)
-            (F.left_since self.new.sessions.flash (F.moment self.new.sessions.flash)) }
+        ensures stored { result ≢ Delivered.FlashFault
+            → StaysStored F.holds F.left_since F.moment self.old self.new
+            (λ device. (delivery t word mark down.now device).device) }
         // and a stop at any moment leaves them as they were, or as the payload's commands pass them.
-        ensures any_moment { (device : DeviceState) → DeviceStands self.old device
-            → StateIsHeld self.old.sessions.state device.sessions (F.holds self.old.sessions.flash)
-            (F.left_since self.old.sessions.flash (F.moment self.old.sessions.flash))
-            → LeavesOnly
-            (λ c. TableLies self.old.sessions.layout device.sessions c
-            ⊎ LiesOneOf self.old.sessions.layout (tables_passed t word mark down.now device) c)
-            (F.moment self.old.sessions.flash) (F.moment self.new.sessions.flash)
-            (F.left_since self.old.sessions.flash) (F.left_since self.new.sessions.flash) }
+        ensures any_moment { LeavesPassed F.holds F.left_since F.moment self.old self.new
+            (tables_passed t word mark down.now) }
         ensures laid { IsLaidOut self.old.sessions self.new.sessions }
     {
         let mut steps = Steps::<L>::new(no_steps);
@@ -263,27 +246,19 @@ impl<F: Flash + Drop> Device<F> {
             → HasRisen (F.faults self.old.sessions.flash) (F.faults self.new.sessions.flash) }
         // Sessions that are not held call no flash.
         ensures quiet { self.old.sessions.held ≡ false
-            → (result ≢ Delivered.FlashFault) × (self.new.sessions.flash ≡ self.old.sessions.flash) }
+            → (result ≢ Delivered.FlashFault)
+            × (self.new.sessions.flash ≡ self.old.sessions.flash) }
         // Those that are held are stored as the payload leaves them,
-        ensures stored { (device : DeviceState) → DeviceStands self.old device
-            → StateIsStored self.old.sessions.state device.sessions (F.holds self.old.sessions.flash)
-            (F.left_since self.old.sessions.flash (F.moment self.old.sessions.flash))
-            → result ≢ Delivered.FlashFault
-            → StateIsStored self.new.sessions.state (delivery t word mark down.now device).device.sessions
-            (F.holds self.new.sessions.flash)
-            (F.left_since self.new.sessions.flash (F.moment self.new.sessions.flash)) }
+        ensures stored { result ≢ Delivered.FlashFault
+            → StaysStored F.holds F.left_since F.moment self.old self.new
+            (λ device. (delivery t word mark down.now device).device) }
         // and a stop at any moment leaves them as they were, or as the payload's commands pass them.
-        ensures any_moment { (device : DeviceState) → DeviceStands self.old device
-            → StateIsHeld self.old.sessions.state device.sessions (F.holds self.old.sessions.flash)
-            (F.left_since self.old.sessions.flash (F.moment self.old.sessions.flash))
-            → LeavesOnly
-            (λ c. TableLies self.old.sessions.layout device.sessions c
-            ⊎ LiesOneOf self.old.sessions.layout (tables_passed t word mark down.now device) c)
-            (F.moment self.old.sessions.flash) (F.moment self.new.sessions.flash)
-            (F.left_since self.old.sessions.flash) (F.left_since self.new.sessions.flash) }
+        ensures any_moment { LeavesPassed F.holds F.left_since F.moment self.old self.new
+            (tables_passed t word mark down.now) }
         ensures laid { IsLaidOut self.old.sessions self.new.sessions }
         ensures done { result ≡ Delivered.Done → steps.new ≡ steps.old + commands_of down.now }
-        ensures idle { result ≢ Delivered.Done → result ≢ Delivered.FlashFault → steps.new ≡ steps.old }
+        ensures idle { result ≢ Delivered.Done → result ≢ Delivered.FlashFault
+            → steps.new ≡ steps.old }
         ensures few { steps.new ≤ steps.old + max_payload }
     {
         if self.sessions.is_down() {
@@ -312,10 +287,21 @@ impl<F: Flash + Drop> Device<F> {
         ensures down { result ≡ Aired.Heard Delivered.Down → IsDown self.old.sessions.state }
         ensures up { result ≢ Aired.Heard Delivered.Down → IsUp self.old.sessions.state }
         ensures still { result ≡ Aired.Heard Delivered.Down → self.new ≡ self.old }
+        // The flash failed at a command of the payload that they brought.
+        ensures fails { result ≡ Aired.Heard Delivered.FlashFault → (device : DeviceState)
+            → DeviceStands self.old device
+            → FailsOnAir t word mark bytes.now device self.new }
         ensures fault { result ≡ Aired.Heard Delivered.FlashFault
             → HasRisen (F.faults self.old.sessions.flash) (F.faults self.new.sessions.flash) }
-        ensures quiet { self.old.sessions.held ≡ false → (result ≢ Aired.Heard Delivered.FlashFault)
+        ensures quiet { self.old.sessions.held ≡ false
+            → (result ≢ Aired.Heard Delivered.FlashFault)
             × (self.new.sessions.flash ≡ self.old.sessions.flash) }
+        // Sessions that are held are stored, and at any moment left, as in `deliver`.
+        ensures stored { result ≢ Aired.Heard Delivered.FlashFault
+            → StaysStored F.holds F.left_since F.moment self.old self.new
+            (λ device. (radio t word mark bytes.now device).device) }
+        ensures any_moment { LeavesPassed F.holds F.left_since F.moment self.old self.new
+            (tables_aired t word mark bytes.now) }
         ensures laid { IsLaidOut self.old.sessions self.new.sessions }
     {
         if self.sessions.is_down() {
@@ -367,7 +353,8 @@ impl<F: Flash + Drop> Device<F> {
     }
 
     /// Opens the sessions that are held in its flash, and offers to next each file that is whole now and was not when the
-    /// device was last up, by rising index. At an error they are down.
+    /// device was last up, by rising index. At an error they are down. Flash comes only where the flash failed, and Foreign names
+    /// the lowest foreign place of the first session's range that has one, counted from the range's first byte.
     pub fn power(&mut self) -> Result<(), OpenFault>
         requires { self.old.sessions.held ≡ true }
         // What lies there for sessions is what they are behind it, or the flash failed.
@@ -386,9 +373,23 @@ impl<F: Flash + Drop> Device<F> {
             → (b : List ℕ) → F.holds self.new.sessions.flash b
             → MatchResult result
             (λ ok. DeviceStands self.new device
-            × StateIsStored self.new.sessions.state device.sessions (F.holds self.new.sessions.flash)
+            × StateIsStored self.new.sessions.state device.sessions
+            (F.holds self.new.sessions.flash)
             (F.left_since self.new.sessions.flash (F.moment self.new.sessions.flash)))
             (λ e. e ≡ OpenFault.Flash) }
+        // Foreign comes exactly where the header's gate of a range is open and something there is no session's.
+        ensures nothing_foreign { OnOk result ((b : List ℕ) → F.holds self.new.sessions.flash b
+            → NoneForeign self.old.sessions.layout b) }
+        ensures foreign { IfErr result
+            (λ e. (p : ℕ) → e ≡ OpenFault.Foreign p
+            → (b : List ℕ) → F.holds self.new.sessions.flash b
+            → IsForeignIn self.old.sessions.layout b p) }
+        // What lies in the flash is as it was, and what a stop leaves too.
+        ensures held { Follows Same (F.holds self.old.sessions.flash)
+            (F.holds self.new.sessions.flash) }
+        ensures stops { Elapses Same (F.moment self.old.sessions.flash)
+            (F.moment self.new.sessions.flash) (F.left_since self.old.sessions.flash)
+            (F.left_since self.new.sessions.flash) }
         ensures up { OnOk result (IsUp self.new.sessions.state) }
         ensures down { OnErr result (IsDown self.new.sessions.state) }
         ensures laid { IsLaidOut self.old.sessions self.new.sessions }
@@ -408,6 +409,23 @@ impl<F: Flash + Drop> Device<F> {
             }
             Err(fault) => Err(fault),
         }
+    }
+
+    /// Whether its sessions are held in its flash.
+    pub fn is_held(&self) -> bool
+        ensures held { result ≡ self.now.sessions.held }
+        ensures in_flash { result ≡ true → IsInFlash self.now.sessions.state }
+        ensures in_memory { result ≡ false → IsInFlash self.now.sessions.state → ⊥ }
+    {
+        self.sessions.is_held()
+    }
+
+    /// Whether its sessions are down until `power`.
+    pub fn is_down(&self) -> bool
+        ensures down { result ≡ true → IsDown self.now.sessions.state }
+        ensures up { result ≡ false → IsUp self.now.sessions.state }
+    {
+        self.sessions.is_down()
     }
 
     /// Gives the flash back.
@@ -484,15 +502,19 @@ impl<F: Flash + Drop> Device<F> {
         requires moment { t ≤ max_moment }
         requires up { IsUp self.old.sessions.state }
         ensures makes { IfOk result
-            (λ delivered. Makes Delivered self.old self.new delivered (heard_delivery t word mark down.now)) }
+            (λ delivered. Makes Delivered self.old self.new delivered
+            (heard_delivery t word mark down.now)) }
         ensures fails { OnErr result ((device : DeviceState) → DeviceStands self.old device
             → FailsIn (heard_delivery t word mark down.now device)
-            (arrival t word mark down.now device) device (reading_of down.now.port Direction.Down down.now.payload) self.new) }
-        ensures keeps { Keeps F.holds F.left_since F.moment F.faults self.old self.new.sessions result
+            (arrival t word mark down.now device) device
+            (reading_of down.now.port Direction.Down down.now.payload) self.new) }
+        ensures keeps { Keeps F.holds F.left_since F.moment F.faults self.old self.new.sessions
+            result
             (λ device. (heard_delivery t word mark down.now device).device)
             (λ device. heard_tables t word mark down.now device) }
         ensures done { IfOk result
-            (λ delivered. delivered ≡ Delivered.Done → steps.new ≡ steps.old + commands_of down.now) }
+            (λ delivered. delivered ≡ Delivered.Done
+            → steps.new ≡ steps.old + commands_of down.now) }
         ensures idle { IfOk result
             (λ delivered. delivered ≢ Delivered.Done → steps.new ≡ steps.old) }
         ensures answers { IfOk result IsPlain }
@@ -522,7 +544,8 @@ impl<F: Flash + Drop> Device<F> {
         requires up { IsUp self.old.sessions.state }
         ensures makes { let reading = reading_of here.port Direction.Down payload.now in
             IfOk result
-            (λ delivered. Makes Delivered self.old self.new delivered (λ device. read_delivery here device reading)) }
+            (λ delivered. Makes Delivered self.old self.new delivered
+            (λ device. read_delivery here device reading)) }
         ensures fails { let reading = reading_of here.port Direction.Down payload.now in
             OnErr result ((device : DeviceState) → DeviceStands self.old device
             → FailsIn (read_delivery here device reading) here device reading self.new) }
@@ -532,7 +555,8 @@ impl<F: Flash + Drop> Device<F> {
             (λ device. read_tables here device reading) }
         ensures done { let reading = reading_of here.port Direction.Down payload.now in
             IfOk result
-            (λ delivered. delivered ≡ Delivered.Done → steps.new ≡ steps.old + commands_read reading) }
+            (λ delivered. delivered ≡ Delivered.Done
+            → steps.new ≡ steps.old + commands_read reading) }
         ensures idle { IfOk result
             (λ delivered. delivered ≢ Delivered.Done → steps.new ≡ steps.old) }
         ensures answers { IfOk result IsPlain }
@@ -565,11 +589,13 @@ impl<F: Flash + Drop> Device<F> {
         ensures fails { OnErr result ((device : DeviceState) → DeviceStands self.old device
             → ((message_delivery here device message.entry.commands).answer ≡ Delivered.Done)
             × FailsAt here device message.entry.commands self.new) }
-        ensures keeps { Keeps F.holds F.left_since F.moment F.faults self.old self.new.sessions result
+        ensures keeps { Keeps F.holds F.left_since F.moment F.faults self.old self.new.sessions
+            result
             (λ device. (message_delivery here device message.entry.commands).device)
             (λ device. message_tables here device message.entry.commands) }
         ensures done { IfOk result
-            (λ delivered. delivered ≡ Delivered.Done → steps.new ≡ steps.old + length message.entry.commands) }
+            (λ delivered. delivered ≡ Delivered.Done
+            → steps.new ≡ steps.old + length message.entry.commands) }
         ensures idle { IfOk result
             (λ delivered. delivered ≢ Delivered.Done → steps.new ≡ steps.old) }
         ensures answers { IfOk result IsPlain }
@@ -594,16 +620,22 @@ impl<F: Flash + Drop> Device<F> {
     fn take_fragment(&mut self, here: Arrival, fragment: Fragment<'_>) -> Result<(), FlashFault>
         requires up { IsUp self.old.sessions.state }
         requires index { fragment.index < 4 }
-        ensures becomes { OnOk result (Becomes self.old self.new (λ device. after_commands here device
-            (Cast (DataFragment fragment.entry.index fragment.entry.n fragment.entry.bytes.now) ∷ []))) }
+        ensures becomes { OnOk result (Becomes self.old self.new
+            (λ device. after_commands here device
+            (Cast (DataFragment fragment.entry.index fragment.entry.n fragment.entry.bytes.now)
+            ∷ []))) }
         ensures fails { OnErr result ((device : DeviceState) → DeviceStands self.old device
             → FailsAt here device
-            (Cast (DataFragment fragment.entry.index fragment.entry.n fragment.entry.bytes.now) ∷ []) self.new) }
-        ensures keeps { Keeps F.holds F.left_since F.moment F.faults self.old self.new.sessions result
+            (Cast (DataFragment fragment.entry.index fragment.entry.n fragment.entry.bytes.now)
+            ∷ []) self.new) }
+        ensures keeps { Keeps F.holds F.left_since F.moment F.faults self.old self.new.sessions
+            result
             (λ device. after_commands here device
-            (Cast (DataFragment fragment.entry.index fragment.entry.n fragment.entry.bytes.now) ∷ []))
+            (Cast (DataFragment fragment.entry.index fragment.entry.n fragment.entry.bytes.now)
+            ∷ []))
             (λ device. tables_of here device
-            (Cast (DataFragment fragment.entry.index fragment.entry.n fragment.entry.bytes.now) ∷ [])) }
+            (Cast (DataFragment fragment.entry.index fragment.entry.n fragment.entry.bytes.now)
+            ∷ [])) }
     {
         self.fragment(here, fragment.index, fragment.n, fragment.bytes)
     }
@@ -624,7 +656,8 @@ impl<F: Flash + Drop> Device<F> {
             (λ device. after_commands here device message.entry.commands)) }
         ensures fails { OnErr result ((device : DeviceState) → DeviceStands self.old device
             → FailsAt here device message.entry.commands self.new) }
-        ensures keeps { Keeps F.holds F.left_since F.moment F.faults self.old self.new.sessions result
+        ensures keeps { Keeps F.holds F.left_since F.moment F.faults self.old self.new.sessions
+            result
             (λ device. after_commands here device message.entry.commands)
             (λ device. tables_of here device message.entry.commands) }
         ensures each { OnOk result (steps.new ≡ steps.old + length message.entry.commands) }

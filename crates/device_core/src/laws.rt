@@ -50,7 +50,8 @@ pub fn a_frame_is_delivered()
         → heard_group device.groups device.class_session ≡ Some group
         → group.addr < 2 ^ 32 → length payload ≤ max_payload → 0 < port
         → group.min ≤ count → count < group.max → count < group.min + 65536
-        → let down : Downlink = record { to = To.Group group.addr count; port = port; payload = payload } in
+        → let down : Downlink =
+        record { to = To.Group group.addr count; port = port; payload = payload } in
         radio t word mark (frame_of (session_keys group) group.addr 0x00 count port payload) device
         ≡ aired (delivery t word mark down device) }
 {}

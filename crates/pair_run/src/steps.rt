@@ -21,8 +21,10 @@ pub fn take_both(a: &mut World, b: &mut World, form: &Form) -> Result<(), LineEr
     requires b { IsFine b.old form.now }
     requires room_a { a.old.lines < max_lines }
     requires room_b { b.old.lines < max_lines }
-    ensures a { OnOk result (WorldBecomes a.old a.new (λ world. after_line world (Ok (Own form.now)))) }
-    ensures b { OnOk result (WorldBecomes b.old b.new (λ world. after_line world (Ok (Own form.now)))) }
+    ensures a { OnOk result
+        (WorldBecomes a.old a.new (λ world. after_line world (Ok (Own form.now)))) }
+    ensures b { OnOk result
+        (WorldBecomes b.old b.new (λ world. after_line world (Ok (Own form.now)))) }
     ensures ends { OnErr result (KeepsEnds a.old a.new × KeepsEnds b.old b.new) }
 {
     match a.take(form) {

@@ -1,5 +1,5 @@
 -- What the sessions of a device are, wherever they lie, with its flash, and for which they stand.
-use Rattle.std.specs.Prelude.{◌≡◌, ℕ, ◌*◌, ◌≤◌, Bool, true, false, if◌then◌else◌, List, Option, Some, None}
+use Rattle.std.specs.Prelude.{◌≡◌, ℕ, ◌*◌, ◌≤◌, Bool, true, false, List, Option, Some, None}
 use Rattle.row_elimination.specs.Room.{extent_for}
 use Rattle.flash_session.specs.Layout.{records_place}
 use Rattle.session_store.specs.declared.held_slots.Layout.{Layout}

@@ -3,4 +3,5 @@ pub mod Rows
 pub mod Whole
 pub mod HeldSessions
 pub mod HeldPlaces
+pub mod HeldForeign
 pub mod HeldStore

@@ -12,6 +12,7 @@ ghost use Rattle.flash_session.specs.HeldSession.{HeldSession};
 ghost use Rattle.flash_session.specs.Layout.{records_place};
 ghost use Rattle.flash_session.specs.Moments.{Elapses, LeavesOnly};
 ghost use Rattle.session_store.specs.SessionTable.{SessionTable, session_at, with_session, table_after_setup, table_after_fragment};
+ghost use Rattle.session_store.specs.HeldForeign.{NoneForeign, IsForeignIn};
 ghost use Rattle.session_store.specs.HeldPlaces.{ArePlaces, AreIdle, AreOthers, PlacesStand, AreHeld, TableLies, room_at, filled};
 
 use crate::session_slots::{ROW_BYTES, ROW_WORDS};
@@ -97,7 +98,8 @@ impl Idles {
 }
 
 impl HeldSlots {
-    /// Opens the four ranges from the flash's first byte on: each with the session that lies there, or with none.
+    /// Opens the four ranges from the flash's first byte on: each with the session that lies there, or with none. Foreign names
+    /// the lowest foreign place of the first range that has one, counted from the range's first byte.
     pub fn open<F: Flash>(
         flash: &mut F,
         idles: Idles,
@@ -113,6 +115,12 @@ impl HeldSlots {
             (λ h. AreHeld h table (F.holds flash.new)
             (F.left_since flash.new (F.moment flash.new)))
             (λ e. e.1 ≡ OpenFault.Flash) }
+        // Foreign comes exactly where the header's gate of a range is open and something there is no session's.
+        ensures nothing_foreign { OnOk result
+            ((b : List ℕ) → F.holds flash.new b → NoneForeign layout b) }
+        ensures foreign { IfErr result
+            (λ e. (p : ℕ) → e.1 ≡ OpenFault.Foreign p → (b : List ℕ) → F.holds flash.new b
+            → IsForeignIn layout b p) }
         ensures layout { IfOk result (λ h. h.layout ≡ layout) }
         ensures area { IfErr result (λ e. AreIdle layout.area e.0) }
         ensures held { Follows Same (F.holds flash.old) (F.holds flash.new) }

@@ -1,6 +1,6 @@
 //! The sessions of a device, wherever they lie, with its flash: in memory alone, in flash, or down until power comes.
 
-ghost use Rattle.std.specs.Prelude.{◌≡◌, ◌≢◌, ◌⊎◌, ℕ, ◌*◌, ◌<◌, ◌≤◌, Bool, List, Option, Some, None, true, false, OnOk, OnErr, IfOk, IfSome, MatchResult, is_ok, is_some, option_map, length};
+ghost use Rattle.std.specs.Prelude.{◌≡◌, ◌≢◌, ◌⊎◌, ℕ, ◌*◌, ◌<◌, ◌≤◌, Bool, List, Option, Some, None, true, false, OnOk, OnErr, IfOk, IfErr, IfSome, MatchResult, is_ok, is_some, option_map, length};
 ghost use Rattle.frag_session.specs.Setup.{setup_bits};
 ghost use Rattle.frag_session.specs.Session.{answer_of, drop_cause, news_in, status_of, view_of};
 ghost use Rattle.frag_session.specs.HeldView.{seen};
@@ -8,6 +8,7 @@ ghost use Rattle.flash_session.specs.Body.{FieldsFit};
 ghost use Rattle.flash_session.specs.Contents.{Same, Follows, HasRisen, HasCause};
 ghost use Rattle.flash_session.specs.Moments.{Elapses, LeavesOnly};
 ghost use Rattle.session_store.specs.SessionTable.{SessionTable, no_sessions, session_at, with_session, table_after_setup, table_after_fragment};
+ghost use Rattle.session_store.specs.HeldForeign.{NoneForeign, IsForeignIn};
 ghost use Rattle.session_store.specs.HeldPlaces.{AreIdle, PlacesStand, TableLies};
 ghost use Rattle.session_store.specs.HeldStore.{IsUp, IsDown, IsInFlash, StateFits, StateStands, StateIsStored, StateIsHeld, HasRanges, IsLaidOut, store_room};
 ghost use Rattle.session_store.specs.Whole.{is_complete, is_whole, whole_of, none_whole};
@@ -74,7 +75,8 @@ impl<F: Flash + Drop> SessionStore<F> {
     pub fn reserve(alloc: Global, flash: F, layout: Layout, held: bool) -> Result<Self, Memory>
         requires { held ≡ true → HasRanges layout (F.room flash) }
         ensures memory { held ≡ false → IfOk result (λ s. StateStands s.state no_sessions) }
-        ensures down { held ≡ true → IfOk result (λ s. (idles : _) × (s.state ≡ Down idles none_whole)) }
+        ensures down { held ≡ true
+            → IfOk result (λ s. (idles : _) × (s.state ≡ Down idles none_whole)) }
         ensures laid { IfOk result (λ s. (s.layout ≡ layout) × (s.held ≡ held)) }
         ensures flash { IfOk result (λ s. s.flash ≡ flash) }
     {
@@ -122,7 +124,9 @@ impl<F: Flash + Drop> SessionStore<F> {
 
     /// Whether they are held in flash.
     pub fn is_held(&self) -> bool
-        ensures { result ≡ self.now.held }
+        ensures held { result ≡ self.now.held }
+        ensures in_flash { result ≡ true → IsInFlash self.now.state }
+        ensures in_memory { result ≡ false → IsInFlash self.now.state → ⊥ }
     {
         self.held
     }
@@ -180,12 +184,13 @@ impl<F: Flash + Drop> SessionStore<F> {
         ensures size { F.room self.new.flash ≡ F.room self.old.flash }
         ensures cause { HasCause (F.faults self.old.flash) (F.faults self.new.flash) result }
     {
-        match self.state.take() {
-            Some(State::Memory(mut slots)) => {
-                let bits = slots.setup(req, self.layout.limits);
-                self.state = Some(State::Memory(slots));
-                Ok(bits)
+        if !self.held {
+            if let Some(State::Memory(slots)) = &mut self.state {
+                return Ok(slots.setup(req, self.layout.limits));
             }
+            unreachable!()
+        }
+        match self.state.take() {
             Some(State::Flash(slots)) => {
                 let whole = whole_now(&slots);
                 match slots.setup(&mut self.flash, req) {
@@ -252,12 +257,13 @@ impl<F: Flash + Drop> SessionStore<F> {
         ensures size { F.room self.new.flash ≡ F.room self.old.flash }
         ensures cause { HasCause (F.faults self.old.flash) (F.faults self.new.flash) result }
     {
-        match self.state.take() {
-            Some(State::Memory(mut slots)) => {
-                let heard = slots.fragment(index, via, n, part, mark);
-                self.state = Some(State::Memory(slots));
-                Ok(heard)
+        if !self.held {
+            if let Some(State::Memory(slots)) = &mut self.state {
+                return Ok(slots.fragment(index, via, n, part, mark));
             }
+            unreachable!()
+        }
+        match self.state.take() {
             Some(State::Flash(slots)) => {
                 let whole = whole_now(&slots);
                 match slots.fragment(&mut self.flash, index, via, n, part, mark) {
@@ -310,12 +316,13 @@ impl<F: Flash + Drop> SessionStore<F> {
         ensures size { F.room self.new.flash ≡ F.room self.old.flash }
         ensures cause { HasCause (F.faults self.old.flash) (F.faults self.new.flash) result }
     {
-        match self.state.take() {
-            Some(State::Memory(mut slots)) => {
-                let lived = slots.delete(index);
-                self.state = Some(State::Memory(slots));
-                Ok(lived)
+        if !self.held {
+            if let Some(State::Memory(slots)) = &mut self.state {
+                return Ok(slots.delete(index));
             }
+            unreachable!()
+        }
+        match self.state.take() {
             Some(State::Flash(slots)) => {
                 let whole = whole_now(&slots);
                 match slots.delete(&mut self.flash, index) {
@@ -385,6 +392,12 @@ impl<F: Flash + Drop> SessionStore<F> {
             → StateIsHeld self.old.state table (F.holds self.old.flash)
             (F.left_since self.old.flash (F.moment self.old.flash))
             → (b : List ℕ) → F.holds self.new.flash b → TableLies self.old.layout table b }
+        // Foreign comes exactly where the header's gate of a range is open and something there is no session's.
+        ensures nothing_foreign { OnOk result
+            ((b : List ℕ) → F.holds self.new.flash b → NoneForeign self.old.layout b) }
+        ensures foreign { IfErr result
+            (λ e. (p : ℕ) → e ≡ OpenFault.Foreign p → (b : List ℕ) → F.holds self.new.flash b
+            → IsForeignIn self.old.layout b p) }
         ensures held { Follows Same (F.holds self.old.flash) (F.holds self.new.flash) }
         ensures stops { Elapses Same (F.moment self.old.flash) (F.moment self.new.flash)
             (F.left_since self.old.flash) (F.left_since self.new.flash) }

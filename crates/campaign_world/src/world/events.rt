@@ -21,7 +21,7 @@ ghost use Rattle.campaign_world.specs.HeldWorld.{sent_by, answered};
 ghost use Rattle.campaign_world.specs.declared.numbered.SentPayload.{SentPayload};
 ghost use Rattle.campaign_world.specs.declared.numbered.MadeUplink.{MadeUplink};
 
-use crate::deliveries::{deliver, hear_bytes, migrate, wake};
+use crate::deliveries::{deliver, hear_bytes, migrate, restart, wake};
 use crate::late::LateDevice;
 use crate::numbered::{MadeUplink, SentPayload, numbered};
 use crate::report::{device_part, report};
@@ -113,7 +113,7 @@ impl Campaign {
             }
             Form::Wake { device } => self.wake(*device as u8),
             Form::Migrate { device } => self.migrate(*device as u8),
-            Form::Power { .. } => Ok(()),
+            Form::Power { device } => self.power(*device as u8),
             Form::Ask { device } => self.ask(*device as u8),
             Form::Frag => self.frag(),
             Form::Status => self.status(),
@@ -223,6 +223,17 @@ impl Campaign {
         ensures ends { OnErr result (SameEnds self.old self.new) }
     {
         migrate(&mut self.devices, self.alloc, device)
+    }
+
+    /// Power comes to a device anew: all is as it was.
+    fn power(&mut self, device: u8) -> Result<(), AllocError>
+        requires first { 1 ≤ device }
+        requires last { device ≤ length self.old.devices }
+        ensures taken { (lines : ℕ) → Plays lines self.old self.new result
+            (λ world. at_events world) }
+        ensures ends { OnErr result (SameEnds self.old self.new) }
+    {
+        restart(&mut self.devices, self.alloc, device)
     }
 
     /// Payload S reaches a device, whose uplinks are then numbered, oldest first.

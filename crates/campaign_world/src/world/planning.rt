@@ -4,10 +4,11 @@ ghost use Rattle.std.specs.Prelude.{◌≡◌, ◌≤◌, ◌<◌, ◌++◌, ◌
 ghost use Rattle.image_slots.specs.Image.{is_image};
 ghost use Rattle.campaign_server.specs.Plan.{is_frag_size, fits_bits, max_devices};
 ghost use Rattle.campaign_server.specs.Server.{first_server};
+ghost use Rattle.campaign_world.specs.HeldLate.{HasSpan};
 ghost use Rattle.campaign_world.specs.World.{first_plan};
 ghost use Rattle.campaign_world.specs.Causes.{is_event_or_end, may_come};
 ghost use Rattle.device_core.specs.Device.{is_config};
-ghost use Rattle.campaign_world.specs.Making.{with_plan, with_joined, with_flash, class_of, formats_of, root_of, after_form};
+ghost use Rattle.campaign_world.specs.Making.{with_plan, with_joined, with_flash, class_of, formats_of, root_of, span_of, after_form};
 ghost use Rattle.campaign_world.specs.declared.section.Section.TheVariants as section;
 
 use super::events::Campaign;
@@ -24,6 +25,9 @@ use std::mem::replace;
 const SESSIONS: u8 = 4;
 
 const GROUPS: u8 = 4;
+
+/// Bytes of flash for each session of a device that holds its sessions there: as many as any file of its area asks for.
+const FLASH_SPAN: u32 = 631_573;
 
 /// A plan as its lines tell it so far. Its image and its devices go to the campaign.
 #[derive(Drop)]
@@ -167,10 +171,9 @@ impl Planning {
                         sessions: SESSIONS,
                         groups: GROUPS,
                         area: MAX_AREA,
-                        held: false,
-                        span: 0,
+                        held: *flash,
+                        span: span_of(*flash),
                     },
-                    *flash,
                 )
             }
             _ => Ok(()),
@@ -222,19 +225,19 @@ impl Planning {
     }
 
     /// One device more.
-    fn add_device(&mut self, id: u64, config: DeviceConfig, flash: bool) -> Result<(), AllocError>
+    fn add_device(&mut self, id: u64, config: DeviceConfig) -> Result<(), AllocError>
         requires fine { is_config config ≡ true }
-        requires memory { config.held ≡ false }
+        requires span { HasSpan config }
         requires planning { IsPlanningOf self.old }
         requires sized { IsSized self.old.image.items self.old.plan self.old.devices.items }
         requires windowed { IsWindowed self.old.plan }
         requires room { length self.old.devices.items < max_devices }
         ensures planning { IsPlanningOf self.new }
         ensures taken { (lines : ℕ) → PlanTakes lines self.old self.new result
-            (λ world. with_joined world id config flash) }
+            (λ world. with_joined world id config) }
         ensures ends { OnErr result (SameEnds (planned_by self.old) (planned_by self.new)) }
     {
-        match add_flash(&mut self.flash, id, flash) {
+        match add_flash(&mut self.flash, id, config.held) {
             Ok(()) => {}
             Err(error) => return Err(error),
         }
@@ -359,6 +362,13 @@ fn root_of(k11: bool) -> RootKind
     ensures { result ≡ root_of k11 }
 {
     if k11 { RootKind::V11 } else { RootKind::V10 }
+}
+
+/// The range of flash for a session, where sessions are held there.
+fn span_of(held: bool) -> u32
+    ensures { result ≡ span_of held }
+{
+    if held { FLASH_SPAN } else { 0 }
 }
 
 /// The class of a device.

@@ -33,9 +33,11 @@ impl<F: Flash + Drop> Device<F> {
         requires command { IsReceivable here.port command.now }
         requires room { length self.old.outbox + weight command.now ≤ 8 }
         ensures steps { OnOk result
-            (Steps self.old self.new (weight command.now) (λ device. step here device command.now)) }
+            (Steps self.old self.new (weight command.now)
+            (λ device. step here device command.now)) }
         ensures fails { OnErr result (Fails self.old self.new) }
-        ensures keeps { Keeps F.holds F.left_since F.moment F.faults self.old self.new.sessions result
+        ensures keeps { Keeps F.holds F.left_since F.moment F.faults self.old self.new.sessions
+            result
             (λ device. after_answers (step here device command.now))
             (λ device. step_tables here device command.now) }
     {
@@ -53,9 +55,11 @@ impl<F: Flash + Drop> Device<F> {
         requires command { IsReceivable here.port command.now }
         requires room { length self.old.outbox + weight command.now ≤ 8 }
         ensures steps { OnOk result
-            (Steps self.old self.new (weight command.now) (λ device. command_step here device command.now)) }
+            (Steps self.old self.new (weight command.now)
+            (λ device. command_step here device command.now)) }
         ensures fails { OnErr result (Fails self.old self.new) }
-        ensures keeps { Keeps F.holds F.left_since F.moment F.faults self.old self.new.sessions result
+        ensures keeps { Keeps F.holds F.left_since F.moment F.faults self.old self.new.sessions
+            result
             (λ device. after_answers (command_step here device command.now))
             (λ device. command_tables here device command.now) }
     {
@@ -102,7 +106,8 @@ impl<F: Flash + Drop> Device<F> {
             (Steps self.old self.new (weight (Command.Cast cmd.now))
             (λ device. command_step here device (Command.Cast cmd.now))) }
         ensures fails { OnErr result (Fails self.old self.new) }
-        ensures keeps { Keeps F.holds F.left_since F.moment F.faults self.old self.new.sessions result
+        ensures keeps { Keeps F.holds F.left_since F.moment F.faults self.old self.new.sessions
+            result
             (λ device. after_answers (command_step here device (Command.Cast cmd.now)))
             (λ device. command_tables here device (Command.Cast cmd.now)) }
     {

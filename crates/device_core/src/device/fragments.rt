@@ -33,9 +33,11 @@ impl<F: Flash + Drop> Device<F> {
         requires port { here.port ≡ 201 }
         requires fields { FieldsFit req }
         requires room { length self.old.outbox < 8 }
-        ensures steps { OnOk result (Steps self.old self.new 1 (λ device. setup_step here device req)) }
+        ensures steps { OnOk result
+            (Steps self.old self.new 1 (λ device. setup_step here device req)) }
         ensures fails { OnErr result (Fails self.old self.new) }
-        ensures keeps { Keeps F.holds F.left_since F.moment F.faults self.old self.new.sessions result
+        ensures keeps { Keeps F.holds F.left_since F.moment F.faults self.old self.new.sessions
+            result
             (λ device. after_answers (setup_step here device req))
             (λ device. device.sessions ∷ with_session device.sessions req.index None
             ∷ (setup_step here device req).device.sessions ∷ []) }
@@ -55,9 +57,11 @@ impl<F: Flash + Drop> Device<F> {
         requires port { here.port ≡ 201 }
         requires index { index < 4 }
         requires room { length self.old.outbox < 8 }
-        ensures steps { OnOk result (Steps self.old self.new 1 (λ device. delete_step here device index)) }
+        ensures steps { OnOk result
+            (Steps self.old self.new 1 (λ device. delete_step here device index)) }
         ensures fails { OnErr result (Fails self.old self.new) }
-        ensures keeps { Keeps F.holds F.left_since F.moment F.faults self.old self.new.sessions result
+        ensures keeps { Keeps F.holds F.left_since F.moment F.faults self.old self.new.sessions
+            result
             (λ device. after_answers (delete_step here device index))
             (λ device. device.sessions ∷ with_session device.sessions index None
             ∷ (delete_step here device index).device.sessions ∷ []) }
@@ -100,7 +104,8 @@ impl<F: Flash + Drop> Device<F> {
         ensures steps { OnOk result
             (Steps self.old self.new 0 (λ device. fragment_step here device index n part.now)) }
         ensures fails { OnErr result (Fails self.old self.new) }
-        ensures keeps { Keeps F.holds F.left_since F.moment F.faults self.old self.new.sessions result
+        ensures keeps { Keeps F.holds F.left_since F.moment F.faults self.old self.new.sessions
+            result
             (λ device. after_answers (fragment_step here device index n part.now))
             (λ device. device.sessions
             ∷ (fragment_step here device index n part.now).device.sessions ∷ []) }
@@ -144,7 +149,9 @@ pub(super) fn offer<F: Flash + Drop>(
     ensures area { slots.new.area ≡ slots.old.area }
     ensures offers { (table : SessionTable) → StateStands sessions.now.state table
         → let file = whole_file (view_of (session_at table index)) in
-        slots.new ≡ record slots.old { slots = slots_after slots.old.hw was_whole file slots.old.slots } }
+        slots.new ≡ record slots.old {
+          slots = slots_after slots.old.hw was_whole file slots.old.slots;
+        } }
 {
     match sessions.view(index) {
         Some(view) if !was_whole && is_complete(view.verdict) => slots.offer(view.file),

@@ -6,6 +6,7 @@ use Rattle.campaign_world.proofs.calls.air_device.Goals as goal
 
 pub returns-clause-rests : goal.returns-clause-rests
 returns-clause-rests c = λ d rests. c.take_uplinks.ensures.rests _ ((c.radio-heard.ensures.makes (λ is. no_rise (c.radio-heard.ensures.fault is))).stands d rests.stands)
+    (c.radio-heard.ensures.stored (λ is. no_rise (c.radio-heard.ensures.fault is)) d rests.stands rests.stored)
     (aired_few c.args.coming.t c.args.coming.word c.args.coming.mark c.args.bytes.now d (outbox_is _ d rests.stands ∙ rests.empty))
 
 pub returns-clause-uplinks : goal.returns-clause-uplinks

@@ -6,6 +6,7 @@ use Rattle.campaign_world.proofs.calls.reach_device.Goals as goal
 
 pub returns-clause-rests : goal.returns-clause-rests
 returns-clause-rests c = λ d rests. c.take_uplinks.ensures.rests _ ((c.deliver-delivered.ensures.makes (λ is. no_rise (c.deliver-delivered.ensures.fault is))).stands d rests.stands)
+    (c.deliver-delivered.ensures.stored (λ is. no_rise (c.deliver-delivered.ensures.fault is)) d rests.stands rests.stored)
     (delivered_few c.args.coming.t c.args.coming.word c.args.coming.mark c.args.down.now d (outbox_is _ d rests.stands ∙ rests.empty))
 
 pub returns-clause-uplinks : goal.returns-clause-uplinks

@@ -1,4 +1,4 @@
-use Rattle.std.proofs.Common.{arith, ap, length}
+use Rattle.std.proofs.Common.{arith, ap, length, ◌∙◌}
 use Rattle.campaign_world.specs.WorldInside.{IsMadeBy}
 use Rattle.campaign_world.proofs.Zips.{all_more}
 use Rattle.device_core.proofs.Outboxes.{one_taken}
@@ -12,7 +12,9 @@ loop-device-preserved c = record {
   made = λ count last all. rw (c.push_reserved.ensures.items) (all_more (IsMadeBy count) _ _ (c.loop-device.invariant.made count last all) (record { first = c.requires.first; last = last; single = c.in-Some.ensures.uplink }));
   count = omega (arith, c.loop-device.invariant.count, c.push_reserved.ensures.len, ap length c.in-Some.ensures.oldest);
   spare = omega (arith, c.loop-device.invariant.spare, c.push_reserved.ensures.capacity);
+  same = c.take_uplink.ensures.aside.untouched ∙ c.loop-device.invariant.same;
 }
 
 pub returns-in_default-clause-rests : goal.returns-in_default-clause-rests
-returns-in_default-clause-rests c = λ d stands few. rests_now d _ _ c.take_uplink.ensures.makes.stands c.in_default.ensures.oldest (c.loop-device.invariant.stands d stands)
+returns-in_default-clause-rests c = λ d stands stored few. rests_now d c.args.device.now _ _ c.take_uplink.ensures.makes.stands c.in_default.ensures.oldest
+    (c.take_uplink.ensures.aside.untouched ∙ c.loop-device.invariant.same) stored (c.loop-device.invariant.stands d stands)

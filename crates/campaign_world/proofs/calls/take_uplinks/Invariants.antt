@@ -13,6 +13,7 @@ invariant-loop-device l = record {
   made : StayMade l.id l.fn.uplinks.items l.uplinks.items;
   count : vec_len l.uplinks + length l.device.outbox ≡ vec_len l.fn.uplinks + length l.fn.device.outbox;
   spare : vec_capacity l.uplinks ≡ vec_capacity l.fn.uplinks;
+  same : l.device.sessions ≡ l.fn.device.sessions;
 }
 
 abbrev pub decreases-loop-device : goal.decreases-loop-device

@@ -1,6 +1,4 @@
-use Rattle.frag_session.specs.Session.{Seen}
-use Rattle.std.proofs.Common.{Option, refl}
-use Rattle.campaign_world.specs.Summary.{heard_by, has_file}
+use Rattle.std.proofs.Common.{refl}
 use Rattle.campaign_world.proofs.Lateness.{first_view}
 use Rattle.campaign_world.proofs.Steps.{none_now}
 use Rattle.campaign_world.proofs.summary.first_session.Goals as goal

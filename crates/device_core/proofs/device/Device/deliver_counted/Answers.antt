@@ -1,6 +1,5 @@
-use Rattle.std.proofs.Common.{◌≡◌, sym, ap, subst, ◌∙◌}
+use Rattle.std.proofs.Common.{sym, ap}
 use Rattle.device_core.specs.HeldDevice.{HeldDevice}
-use Rattle.device_core.specs.HeldSessions.{HeldStore}
 use Rattle.device_core.proofs.Downs.{delivered_makes, delivered_stored, delivered_moments, between_at, failed_within}
 use Rattle.device_core.proofs.Stored.{keeps_at}
 use Rattle.device_core.proofs.device.Device.deliver_counted.Goals as goal
@@ -11,7 +10,7 @@ returns-in-Ok-clause-makes g c = λ plain.
     c.reboot_where_due.ensures.becomes c.in-Ok.ensures.makes c.reboot_where_due-in-Ok.ensures.becomes
 
 pub returns-in-Ok-clause-stored : goal.returns-in-Ok-clause-stored
-returns-in-Ok-clause-stored g c = λ device stands stored plain.
+returns-in-Ok-clause-stored g c = λ plain device stands stored.
     delivered_stored g.F.Flash.holds g.F.Flash.left_since g.F.Flash.moment g.F.Flash.faults c.args.self.now c.reboot_where_due.new.self c.hear.new.self c.reboot_where_due-in-Ok.new.self _ c.args.t c.args.word c.args.mark c.args.down.now _
     c.reboot_where_due.ensures.aside.untouched c.reboot_where_due-in-Ok.ensures.aside.untouched c.reboot_where_due.ensures.becomes
     c.in-Ok.ensures.keeps device stands stored

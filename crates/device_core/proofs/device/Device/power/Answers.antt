@@ -1,5 +1,4 @@
-use Rattle.std.proofs.Common.{◌≡◌, sym, ap, subst, ◌∙◌}
-use Rattle.session_store.specs.declared.store.State.{State}
+use Rattle.std.proofs.Common.{sym, ap, subst}
 use Rattle.session_store.specs.Whole.{whole_of}
 use Rattle.device_core.specs.HeldDevice.{HeldDevice}
 use Rattle.device_core.specs.HeldSessions.{HeldStore, StateStands, StateIsHeld}
@@ -46,3 +45,6 @@ returns-in-Err-clause-again g c = λ device stands held b now.
     let lies = c.power.ensures.again device.sessions
     (subst (λ (s : HeldStore _). StateIsHeld s.state device.sessions (g.F.Flash.holds s.flash) (g.F.Flash.left_since s.flash (g.F.Flash.moment s.flash))) at held) b now in
     c.in-Err.ensures.opened device.sessions b now lies
+
+pub returns-in-Err-clause-foreign : goal.returns-in-Err-clause-foreign
+returns-in-Err-clause-foreign g c = rw (← c.self.view_is) (λ p is b now. c.in-Err.ensures.foreign p is b now)

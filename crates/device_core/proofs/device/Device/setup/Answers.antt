@@ -1,8 +1,8 @@
-use Rattle.std.proofs.Common.{true, false, ◌≡◌, sym, ap, ◌∙◌}
+use Rattle.std.proofs.Common.{true, false, ◌≡◌, sym, ap}
 use Rattle.device_core.specs.HeldDevice.{HeldDevice}
 use Rattle.device_core.proofs.Heard.{setup_steps}
 use Rattle.device_core.proofs.Keeping.{keeps_ok, keeps_err}
-use Rattle.device_core.proofs.Stored.{sent_sessions, keeps_at, setup_goes, setup_passes, MaySetUp, setup_table}
+use Rattle.device_core.proofs.Stored.{keeps_at, setup_goes, setup_passes, MaySetUp, setup_table}
 use Rattle.device_core.proofs.device.Device.setup.Goals as goal
 
 pub returns-in-Ok-clause-steps : goal.returns-in-Ok-clause-steps

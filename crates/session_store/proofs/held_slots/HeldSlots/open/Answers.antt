@@ -1,5 +1,7 @@
 use Rattle.std.proofs.Common.{◌*◌}
 use Rattle.flash_session.proofs.Still.{same_joined, elapsed}
+use Rattle.session_store.specs.HeldForeign as foreign
+use Rattle.session_store.proofs.ForeignSteps.{none_still, none_last, first_foreign}
 use Rattle.session_store.proofs.PlaceSteps.{opened_place, opened_for_last}
 use Rattle.session_store.proofs.held_slots.HeldSlots.open.Goals as goal
 
@@ -43,3 +45,27 @@ returns-in-Ok-open-3-clause-opened g c = λ table b now lies.
       fourth = (opened_for_last c.in-Ok-open-3.fourth c.args.layout (3 * c.args.layout.span) c.args.idles.fourth table.fourth _ _ c.requires.idle.fourth
           c.in-Ok-open-3.ensures.opened b now lies.fourth);
     }
+
+pub returns-in-Ok-open-3-clause-nothing_foreign : goal.returns-in-Ok-open-3-clause-nothing_foreign
+returns-in-Ok-open-3-clause-nothing_foreign g c = λ b now. record {
+  first = none_still c.args.layout 0 c.args.idles.first _ _ c.requires.idle.first c.in-Ok.ensures.nothing_foreign (same_joined _ _ _ c.open-2.ensures.held (same_joined _ _ _ c.open-3.ensures.held c.open-4.ensures.held)) b now;
+  second = none_still c.args.layout c.args.layout.span c.args.idles.second _ _ c.requires.idle.second c.in-Ok-open.ensures.nothing_foreign (same_joined _ _ _ c.open-3.ensures.held c.open-4.ensures.held) b now;
+  third = none_still c.args.layout (2 * c.args.layout.span) c.args.idles.third _ _ c.requires.idle.third c.in-Ok-open-2.ensures.nothing_foreign c.open-4.ensures.held b now;
+  fourth = none_last c.args.layout (3 * c.args.layout.span) c.args.idles.fourth b c.requires.idle.fourth (c.in-Ok-open-3.ensures.nothing_foreign b now);
+}
+
+pub returns-in-Err-clause-foreign : goal.returns-in-Err-clause-foreign
+returns-in-Err-clause-foreign g c = λ p is b now.
+    foreign.first (first_foreign c.args.layout 0 c.args.idles.first b p c.requires.idle.first (c.in-Err.ensures.foreign p is b now))
+
+pub returns-in-Err-open-clause-foreign : goal.returns-in-Err-open-clause-foreign
+returns-in-Err-open-clause-foreign g c = λ p is b now.
+    foreign.second (none_still c.args.layout 0 c.args.idles.first _ _ c.requires.idle.first c.in-Ok.ensures.nothing_foreign c.open-2.ensures.held b now) (first_foreign c.args.layout c.args.layout.span c.args.idles.second b p c.requires.idle.second (c.in-Err-open.ensures.foreign p is b now))
+
+pub returns-in-Err-open-2-clause-foreign : goal.returns-in-Err-open-2-clause-foreign
+returns-in-Err-open-2-clause-foreign g c = λ p is b now.
+    foreign.third (none_still c.args.layout 0 c.args.idles.first _ _ c.requires.idle.first c.in-Ok.ensures.nothing_foreign (same_joined _ _ _ c.open-2.ensures.held c.open-3.ensures.held) b now) (none_still c.args.layout c.args.layout.span c.args.idles.second _ _ c.requires.idle.second c.in-Ok-open.ensures.nothing_foreign c.open-3.ensures.held b now) (first_foreign c.args.layout (2 * c.args.layout.span) c.args.idles.third b p c.requires.idle.third (c.in-Err-open-2.ensures.foreign p is b now))
+
+pub returns-in-Err-open-3-clause-foreign : goal.returns-in-Err-open-3-clause-foreign
+returns-in-Err-open-3-clause-foreign g c = λ p is b now.
+    foreign.fourth (none_still c.args.layout 0 c.args.idles.first _ _ c.requires.idle.first c.in-Ok.ensures.nothing_foreign (same_joined _ _ _ c.open-2.ensures.held (same_joined _ _ _ c.open-3.ensures.held c.open-4.ensures.held)) b now) (none_still c.args.layout c.args.layout.span c.args.idles.second _ _ c.requires.idle.second c.in-Ok-open.ensures.nothing_foreign (same_joined _ _ _ c.open-3.ensures.held c.open-4.ensures.held) b now) (none_still c.args.layout (2 * c.args.layout.span) c.args.idles.third _ _ c.requires.idle.third c.in-Ok-open-2.ensures.nothing_foreign c.open-4.ensures.held b now) (first_foreign c.args.layout (3 * c.args.layout.span) c.args.idles.fourth b p c.requires.idle.fourth (c.in-Err-open-3.ensures.foreign p is b now))

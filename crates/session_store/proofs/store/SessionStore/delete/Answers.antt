@@ -17,7 +17,7 @@ returns-in-Ok-clause-any_moment g c = rw (← c.self.view_is) (λ table held.
     let lies = subst (λ (o : Option State). StateIsHeld (kept o) table (g.F.Flash.holds c.self.inside.flash)
     (g.F.Flash.left_since c.self.inside.flash (g.F.Flash.moment c.self.inside.flash))) is held in
     let here = subst (λ (l : Layout). LeavesOnly (λ b. TableLies l table b ⊎ TableLies l (with_session table c.args.index None) b)
-    (g.F.Flash.moment c.self.inside.flash) (g.F.Flash.moment c.delete.new.flash) (g.F.Flash.left_since c.self.inside.flash) (g.F.Flash.left_since c.delete.new.flash)) laid (c.delete.ensures.any_moment table lies) in
+    (g.F.Flash.moment c.self.inside.flash) (g.F.Flash.moment c.delete-in-Some-Flash.new.flash) (g.F.Flash.left_since c.self.inside.flash) (g.F.Flash.left_since c.delete-in-Some-Flash.new.flash)) laid (c.delete-in-Some-Flash.ensures.any_moment table lies) in
     here)
 
 pub returns-in-Err-clause-any_moment : goal.returns-in-Err-clause-any_moment
@@ -28,5 +28,5 @@ returns-in-Err-clause-any_moment g c = rw (← c.self.view_is) (λ table held.
     let lies = subst (λ (o : Option State). StateIsHeld (kept o) table (g.F.Flash.holds c.self.inside.flash)
     (g.F.Flash.left_since c.self.inside.flash (g.F.Flash.moment c.self.inside.flash))) is held in
     let here = subst (λ (l : Layout). LeavesOnly (λ b. TableLies l table b ⊎ TableLies l (with_session table c.args.index None) b)
-    (g.F.Flash.moment c.self.inside.flash) (g.F.Flash.moment c.delete.new.flash) (g.F.Flash.left_since c.self.inside.flash) (g.F.Flash.left_since c.delete.new.flash)) laid (c.delete.ensures.any_moment table lies) in
+    (g.F.Flash.moment c.self.inside.flash) (g.F.Flash.moment c.delete-in-Some-Flash.new.flash) (g.F.Flash.left_since c.self.inside.flash) (g.F.Flash.left_since c.delete-in-Some-Flash.new.flash)) laid (c.delete-in-Some-Flash.ensures.any_moment table lies) in
     here)

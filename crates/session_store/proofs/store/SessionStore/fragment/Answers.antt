@@ -17,7 +17,7 @@ returns-in-Ok-clause-any_moment g c = rw (← c.self.view_is) (λ table held.
     let lies = subst (λ (o : Option State). StateIsHeld (kept o) table (g.F.Flash.holds c.self.inside.flash)
     (g.F.Flash.left_since c.self.inside.flash (g.F.Flash.moment c.self.inside.flash))) is held in
     let here = subst (λ (l : Layout). LeavesOnly (λ b. TableLies l table b ⊎ TableLies l (table_after_fragment c.args.index c.args.via c.args.n c.args.part.now c.args.mark table) b)
-    (g.F.Flash.moment c.self.inside.flash) (g.F.Flash.moment c.fragment.new.flash) (g.F.Flash.left_since c.self.inside.flash) (g.F.Flash.left_since c.fragment.new.flash)) laid (c.fragment.ensures.any_moment table lies) in
+    (g.F.Flash.moment c.self.inside.flash) (g.F.Flash.moment c.fragment-in-Some-Flash.new.flash) (g.F.Flash.left_since c.self.inside.flash) (g.F.Flash.left_since c.fragment-in-Some-Flash.new.flash)) laid (c.fragment-in-Some-Flash.ensures.any_moment table lies) in
     here)
 
 pub returns-in-Err-clause-any_moment : goal.returns-in-Err-clause-any_moment
@@ -28,5 +28,5 @@ returns-in-Err-clause-any_moment g c = rw (← c.self.view_is) (λ table held.
     let lies = subst (λ (o : Option State). StateIsHeld (kept o) table (g.F.Flash.holds c.self.inside.flash)
     (g.F.Flash.left_since c.self.inside.flash (g.F.Flash.moment c.self.inside.flash))) is held in
     let here = subst (λ (l : Layout). LeavesOnly (λ b. TableLies l table b ⊎ TableLies l (table_after_fragment c.args.index c.args.via c.args.n c.args.part.now c.args.mark table) b)
-    (g.F.Flash.moment c.self.inside.flash) (g.F.Flash.moment c.fragment.new.flash) (g.F.Flash.left_since c.self.inside.flash) (g.F.Flash.left_since c.fragment.new.flash)) laid (c.fragment.ensures.any_moment table lies) in
+    (g.F.Flash.moment c.self.inside.flash) (g.F.Flash.moment c.fragment-in-Some-Flash.new.flash) (g.F.Flash.left_since c.self.inside.flash) (g.F.Flash.left_since c.fragment-in-Some-Flash.new.flash)) laid (c.fragment-in-Some-Flash.ensures.any_moment table lies) in
     here)

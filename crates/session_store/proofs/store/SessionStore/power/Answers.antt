@@ -36,3 +36,6 @@ returns-in-Err-clause-again g c = rw (← c.self.view_is) (λ table held b now.
     (g.F.Flash.left_since c.self.inside.flash (g.F.Flash.moment c.self.inside.flash))) is held in
     let from = c.open.ensures.held.from b now in
     lies_still c.self.inside.layout table from.0 b from.2 (c.put_down-idles.ensures.lies table was from.0 from.1))
+
+pub returns-in-Err-clause-foreign : goal.returns-in-Err-clause-foreign
+returns-in-Err-clause-foreign g c = rw (← c.self.view_is) (λ p is b now. c.in-Err.ensures.foreign p is b now)

@@ -17,10 +17,10 @@ returns-in-Ok-clause-any_moment g c = rw (← c.self.view_is) (λ table held.
     let lies = subst (λ (o : Option State). StateIsHeld (kept o) table (g.F.Flash.holds c.self.inside.flash)
     (g.F.Flash.left_since c.self.inside.flash (g.F.Flash.moment c.self.inside.flash))) is held in
     let here = subst (λ (l : Layout). LeavesOnly (λ b. TableLies l table b ⊎ TableLies l (with_session table c.args.req.index None) b ⊎ TableLies l (table_after_setup l.limits (room_at l) c.args.req table) b)
-    (g.F.Flash.moment c.self.inside.flash) (g.F.Flash.moment c.setup.new.flash) (g.F.Flash.left_since c.self.inside.flash) (g.F.Flash.left_since c.setup.new.flash)) laid (c.setup.ensures.any_moment table lies) in
+    (g.F.Flash.moment c.self.inside.flash) (g.F.Flash.moment c.setup-in-Some-Flash.new.flash) (g.F.Flash.left_since c.self.inside.flash) (g.F.Flash.left_since c.setup-in-Some-Flash.new.flash)) laid (c.setup-in-Some-Flash.ensures.any_moment table lies) in
     let flash = is_in_flash c.self.inside.layout c.self.inside.held room c.self.inside.state c.in-Some-Flash.slots is c.self.invariant.1 in
     subst (λ (h : Bool). LeavesOnly (λ b. TableLies c.self.inside.layout table b ⊎ TableLies c.self.inside.layout (with_session table c.args.req.index None) b ⊎ TableLies c.self.inside.layout (table_after_setup c.self.inside.layout.limits (store_room c.self.inside.layout h) c.args.req table) b)
-    (g.F.Flash.moment c.self.inside.flash) (g.F.Flash.moment c.setup.new.flash) (g.F.Flash.left_since c.self.inside.flash) (g.F.Flash.left_since c.setup.new.flash)) (sym flash) here)
+    (g.F.Flash.moment c.self.inside.flash) (g.F.Flash.moment c.setup-in-Some-Flash.new.flash) (g.F.Flash.left_since c.self.inside.flash) (g.F.Flash.left_since c.setup-in-Some-Flash.new.flash)) (sym flash) here)
 
 pub returns-in-Err-clause-any_moment : goal.returns-in-Err-clause-any_moment
 returns-in-Err-clause-any_moment g c = rw (← c.self.view_is) (λ table held.
@@ -30,7 +30,7 @@ returns-in-Err-clause-any_moment g c = rw (← c.self.view_is) (λ table held.
     let lies = subst (λ (o : Option State). StateIsHeld (kept o) table (g.F.Flash.holds c.self.inside.flash)
     (g.F.Flash.left_since c.self.inside.flash (g.F.Flash.moment c.self.inside.flash))) is held in
     let here = subst (λ (l : Layout). LeavesOnly (λ b. TableLies l table b ⊎ TableLies l (with_session table c.args.req.index None) b ⊎ TableLies l (table_after_setup l.limits (room_at l) c.args.req table) b)
-    (g.F.Flash.moment c.self.inside.flash) (g.F.Flash.moment c.setup.new.flash) (g.F.Flash.left_since c.self.inside.flash) (g.F.Flash.left_since c.setup.new.flash)) laid (c.setup.ensures.any_moment table lies) in
+    (g.F.Flash.moment c.self.inside.flash) (g.F.Flash.moment c.setup-in-Some-Flash.new.flash) (g.F.Flash.left_since c.self.inside.flash) (g.F.Flash.left_since c.setup-in-Some-Flash.new.flash)) laid (c.setup-in-Some-Flash.ensures.any_moment table lies) in
     let flash = is_in_flash c.self.inside.layout c.self.inside.held room c.self.inside.state c.in-Some-Flash.slots is c.self.invariant.1 in
     subst (λ (h : Bool). LeavesOnly (λ b. TableLies c.self.inside.layout table b ⊎ TableLies c.self.inside.layout (with_session table c.args.req.index None) b ⊎ TableLies c.self.inside.layout (table_after_setup c.self.inside.layout.limits (store_room c.self.inside.layout h) c.args.req table) b)
-    (g.F.Flash.moment c.self.inside.flash) (g.F.Flash.moment c.setup.new.flash) (g.F.Flash.left_since c.self.inside.flash) (g.F.Flash.left_since c.setup.new.flash)) (sym flash) here)
+    (g.F.Flash.moment c.self.inside.flash) (g.F.Flash.moment c.setup-in-Some-Flash.new.flash) (g.F.Flash.left_since c.self.inside.flash) (g.F.Flash.left_since c.setup-in-Some-Flash.new.flash)) (sym flash) here)

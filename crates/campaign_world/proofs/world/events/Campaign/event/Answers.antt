@@ -1,7 +1,7 @@
 use Rattle.std.proofs.Common.{◌≤◌, length, arith, subst}
 use Rattle.campaign_world.specs.Making.{after_form}
 use Rattle.campaign_world.specs.HeldWorld.{HeldCampaign}
-use Rattle.campaign_world.proofs.FormCauses.{woken_within, migrated_within, asked_within, reached_within, struck_within, striking, payload_within, word_within, aired_within, air_word_within, heard_within, raw_air_word_within, time_within}
+use Rattle.campaign_world.proofs.FormCauses.{woken_within, migrated_within, powered_within, asked_within, reached_within, struck_within, striking, payload_within, word_within, aired_within, air_word_within, heard_within, raw_air_word_within, time_within}
 use Rattle.campaign_world.proofs.world.events.Campaign.event.Goals as goal
 
 pub invariant_of-self : goal.invariant_of-self
@@ -18,6 +18,9 @@ overflow_cast-device c = let both = woken_within _ _ _ c.requires.tested.names c
 
 pub overflow_cast-device-in-Migrate : goal.overflow_cast-device-in-Migrate
 overflow_cast-device-in-Migrate c = let both = migrated_within _ _ _ c.requires.tested.names c.in-Migrate.is in omega (arith, both.1, subst (λ (h : HeldCampaign). length h.devices ≤ 64) c.self.view_is c.self.invariant.few)
+
+pub overflow_cast-device-in-Power : goal.overflow_cast-device-in-Power
+overflow_cast-device-in-Power c = let both = powered_within _ _ _ c.requires.tested.names c.in-Power.is in omega (arith, both.1, subst (λ (h : HeldCampaign). length h.devices ≤ 64) c.self.view_is c.self.invariant.few)
 
 pub overflow_cast-device-in-Ask : goal.overflow_cast-device-in-Ask
 overflow_cast-device-in-Ask c = let both = asked_within _ _ _ c.requires.tested.names c.in-Ask.is in omega (arith, both.1, subst (λ (h : HeldCampaign). length h.devices ≤ 64) c.self.view_is c.self.invariant.few)
@@ -47,6 +50,10 @@ returns-in-Wake-clause-taken c = rw (c.in-Wake.is) (c.wake.ensures.taken c.args.
 pub returns-in-Migrate-clause-taken : goal.returns-in-Migrate-clause-taken
 unfolding after_form
 returns-in-Migrate-clause-taken c = rw (c.in-Migrate.is) (c.migrate.ensures.taken c.args.lines)
+
+pub returns-in-Power-clause-taken : goal.returns-in-Power-clause-taken
+unfolding after_form
+returns-in-Power-clause-taken c = rw (c.in-Power.is) (c.power.ensures.taken c.args.lines)
 
 pub returns-in-Ask-clause-taken : goal.returns-in-Ask-clause-taken
 unfolding after_form

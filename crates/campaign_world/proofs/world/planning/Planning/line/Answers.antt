@@ -38,6 +38,9 @@ overflow_cast-offset c = let fit = causes.fitting (length c.args.self.now.image.
 pub add_device-requires-clause-fine : goal.add_device-requires-clause-fine
 add_device-requires-clause-fine c = let fit = causes.fitting (length c.args.self.now.image.items) (length c.args.self.now.devices.items) c.args.form.now c.in-Device.id c.in-Device.hw c.in-Device.rows c.in-Device.offset c.in-Device.class c.in-Device.key c.in-Device.descriptor c.in-Device.v1 c.in-Device.k11 c.in-Device.flash c.in-Device.is c.requires.tested.ranges c.requires.tested.fits in rw (le-leb c.in-Device.rows max_rows fit.few, c.formats_of.ensures, causes.known_formats c.in-Device.v1) refl
 
+pub add_device-requires-clause-span : goal.add_device-requires-clause-span
+add_device-requires-clause-span c = rw (c.span_of.ensures) (causes.spans c.in-Device.flash)
+
 pub add_device-requires-clause-sized : goal.add_device-requires-clause-sized
 add_device-requires-clause-sized c = (causes.joins_at c.args.self.now.image.items c.args.self.now.section c.args.self.now.plan c.args.self.now.devices.items c.args.form.now c.in-Device.id c.in-Device.hw c.in-Device.rows c.in-Device.offset c.in-Device.class c.in-Device.key c.in-Device.descriptor c.in-Device.v1 c.in-Device.k11 c.in-Device.flash c.in-Device.is c.requires.comes c.requires.planning.planned).0
 
@@ -123,4 +126,4 @@ returns-in-WindowB-clause-taken c = rw (c.in-WindowB.is) (c.window-in-WindowB.en
 pub returns-in-Device-clause-taken : goal.returns-in-Device-clause-taken
 unfolding after_form
 returns-in-Device-clause-taken c =
-    rw (c.in-Device.is, ← c.class_of.ensures, ← c.formats_of.ensures, ← c.root_of.ensures) (c.add_device.ensures.taken c.args.lines)
+    rw (c.in-Device.is, ← c.class_of.ensures, ← c.formats_of.ensures, ← c.root_of.ensures, ← c.span_of.ensures) (c.add_device.ensures.taken c.args.lines)
