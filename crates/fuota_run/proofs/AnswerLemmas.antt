@@ -3,12 +3,14 @@ use Rattle.std.proofs.Common.{◌≡◌, ◌≢◌, ◌⊎◌, inl, inr, ℕ, �
 use Rattle.std.proofs.lemmas.Bool.{lt-ltb, le-ltb}
 use Rattle.std.proofs.lemmas.List.{length-replicate}
 use Rattle.std.specs.Io.KnownBytes.{IsAtEnd, Appends}
+use Rattle.fuota_run.specs.declared.images.ImageError.{ImageError}
+use Rattle.fuota_run.specs.declared.images.ImageError.TheVariants.{Unread, Refused}
 use Rattle.fuota_run.specs.declared.source.SourceError.{SourceError}
 use Rattle.fuota_run.specs.declared.source.SourceError.TheVariants as error
 use Rattle.fuota_run.specs.declared.status.Status.{Status}
 use Rattle.fuota_run.specs.declared.status.Status.TheVariants as status
 use Rattle.fuota_run.specs.Outside.{Held, HoldsName, HasRisen, AppendsFront}
-use Rattle.fuota_run.specs.Source.{IsSource, IsTooLong, IsTakenOf}
+use Rattle.fuota_run.specs.Source.{IsSource, IsTaken, IsTooLong, IsTakenOf}
 use Rattle.image_slots.specs.Image.{is_image}
 use Rattle.fuota_run.specs.Limits.{image_limit}
 use Rattle.campaign_world.specs.Script.{campaign_of}
@@ -22,11 +24,11 @@ use Rattle.campaign_world.specs.Recovery.{recovery}
 use Rattle.fuota_run.specs.declared.words.ScriptForm.{ScriptForm}
 use Rattle.fuota_run.specs.declared.words.ScriptForm.TheVariants.{Campaign, Recover}
 use Rattle.fuota_run.specs.declared.words.FileForm.{FileForm}
-use Rattle.fuota_run.specs.Words.{Invocation, plays, payloads, generates, asked, asks_files}
+use Rattle.fuota_run.specs.Words.{Invocation, plays, payloads, generates, plays_two, asked, asks_files}
 use Rattle.report_lines.specs.Lines.{FileText, IsFileText}
-use Rattle.fuota_run.specs.Answer.{Answer, answer, read_fault, usage, image_refused, too_long, taken_text, recovered, world_answer, summary_answer, played, file_text, text_answer, script_answer, campaign_answer, generate_answer, IsFileAnswer, IsAnswer}
-use Rattle.fuota_run.specs.Ending.{OutsideFiles, HoldsInvocation, HoldsForm, Gives, Effects, Ends, AppendsAnswer, AppendsAnswerFront, IsPlayed, HasText, IsCaused, IsReadUp, IsImageRead, IsSoundAnswer, ends_source}
-use Rattle.fuota_run.specs.HeldAnswer.{IsUnreadAnswer, IsMadeOf, IsTextAnswer}
+use Rattle.fuota_run.specs.Answer.{Answer, answer, read_fault, usage, image_refused, too_long, taken_text, recovered, world_answer, summary_answer, played, file_text, text_answer, behind_image, behind_script, script_answer, campaign_answer, generate_answer, IsFileAnswer, IsAnswer}
+use Rattle.fuota_run.specs.Ending.{OutsideFiles, HoldsInvocation, HoldsForm, Gives, Effects, Ends, AppendsAnswer, AppendsAnswerFront, IsPlayed, HasText, IsCaused, IsReadUp, IsImageRead, IsSoundAnswer, IsSoundOver, ends_source}
+use Rattle.fuota_run.specs.HeldAnswer.{IsUnreadAnswer, IsMadeOf, IsTextAnswer, IsImageFault, IsImageAnswer}
 
 -- where nothing is told of the files, nothing is asked of their names
 none_asked : (what : Option Invocation) → HoldsInvocation None what
@@ -34,35 +36,33 @@ none_asked None = tt
 none_asked (Some (plays what image script)) = (tt, tt)
 none_asked (Some (payloads what file)) = tt
 none_asked (Some (generates seed)) = tt
+none_asked (Some (plays_two image_a image_b script)) = (tt, tt, tt)
 
 pub holds_asked : (held : Option Held) (words : List (List ℕ)) → HoldsForm held words → HoldsInvocation held (asked words)
 holds_asked None words holds = none_asked (asked words)
 holds_asked (Some h) words holds = holds
 
 -- a script that is too long
-pub script_long : (what : ScriptForm) (image script : List ℕ) → 1048576 < length script → too_long 1048576 ≡ script_answer what image (Some script)
-unfolding script_answer
-script_long what image script long = let t : nat_lt 1048576 (length script) ≡ true = lt-ltb _ _ long in rw t refl
+pub script_long : (script : List ℕ) (told : List ℕ → Answer) → 1048576 < length script → too_long 1048576 ≡ behind_script (Some script) told
+script_long script told long = let t : nat_lt 1048576 (length script) ≡ true = lt-ltb _ _ long in rw t refl
 
 -- one within its limit
-pub script_given : (what : ScriptForm) (image script : List ℕ) (a : Answer) → length script ≤ 1048576 → a ≡ played (world_answer what) (campaign_of image (said_in script)) → a ≡ script_answer what image (Some script)
-unfolding script_answer
-script_given what image script a within is = let t : nat_lt 1048576 (length script) ≡ false = le-ltb _ _ within in rw t is
+pub script_given : (script : List ℕ) (told : List ℕ → Answer) → length script ≤ 1048576 → told script ≡ behind_script (Some script) told
+script_given script told within = let t : nat_lt 1048576 (length script) ≡ false = le-ltb _ _ within in rw t refl
 
 -- an image that is too long
-pub image_long : (what : ScriptForm) (image : List ℕ) (script : Option (List ℕ)) → image_limit < length image → too_long image_limit ≡ campaign_answer what (Some image) script
-unfolding campaign_answer
-image_long what image script long = let t : nat_lt image_limit (length image) ≡ true = lt-ltb _ _ long in rw t refl
+pub image_long : (image : List ℕ) (behind : List ℕ → Answer) → image_limit < length image → too_long image_limit ≡ behind_image (Some image) behind
+image_long image behind long = let t : nat_lt image_limit (length image) ≡ true = lt-ltb _ _ long in rw t refl
 
 -- one that is no image file
-pub image_given_refused : (what : ScriptForm) (image : List ℕ) (script : Option (List ℕ)) → length image ≤ image_limit → is_image image ≡ false → image_refused ≡ campaign_answer what (Some image) script
-unfolding campaign_answer
-image_given_refused what image script within bad = let t : nat_lt image_limit (length image) ≡ false = le-ltb _ _ within in rw (t, bad) refl
+pub image_given_refused : (image : List ℕ) (behind : List ℕ → Answer) → length image ≤ image_limit → is_image image ≡ false → image_refused ≡ behind_image (Some image) behind
+image_given_refused image behind within bad = let t : nat_lt image_limit (length image) ≡ false = le-ltb _ _ within in rw (t, bad) refl
 
 -- and one that is
-pub image_given : (what : ScriptForm) (image : List ℕ) (script : Option (List ℕ)) → length image ≤ image_limit → is_image image ≡ true → script_answer what image script ≡ campaign_answer what (Some image) script
-unfolding campaign_answer
-image_given what image script within good = let t : nat_lt image_limit (length image) ≡ false = le-ltb _ _ within in rw (t, good) refl
+pub image_given : (held : Option Held) (name image : List ℕ) (behind : List ℕ → Answer) → IsImageRead held name image → behind image ≡ behind_image (Some image) behind
+image_given held name image behind read =
+    let t : nat_lt image_limit (length image) ≡ false = le-ltb _ _ read.within in
+    rw (t, read.file) refl
 
 -- an answer that holds of every Ok
 pub if_ok_map : {T E : Type 0} {P Q : T → Type 0} (r : Result T E) → ((x : T) → P x → Q x) → IfOk r P → IfOk r Q
@@ -101,17 +101,16 @@ says_played tell outcome (Err (world.Line fault)) a each made said = (
 )
 says_played tell outcome (Err world.Memory) a each made said = absurd said
 
--- and with what a file of payloads made
+-- and with what a file made
+pub text_made : (r : Result (List ℕ) LineError) (a : Answer) → IsTextAnswer r a → IsMade a
+text_made (Ok text) a said = subst IsMade (sym said) (record { has_text = tt; sound = λ e. cc; used = λ e. cc; short = λ taken e. cc })
+text_made (Err (world.Line fault)) a said = subst IsMade (sym said) (record { has_text = tt; sound = λ e. cc; used = λ e. cc; short = λ taken e. cc })
+text_made (Err world.Memory) a said = absurd said
+
 pub says_text : (Tells : FileText) (file : List ℕ) (r : Result (List ℕ) LineError) (a : Answer) → IsFileText Tells file r → IsTextAnswer r a
     → ((said : Result (List ℕ) LineFault) × Tells file said × (a ≡ text_answer said)) × IsMade a
-says_text Tells file (Ok text) a made said = (
-  (Ok text, made, said),
-  subst IsMade (sym said) (record { has_text = tt; sound = λ e. cc; used = λ e. cc; short = λ taken e. cc }),
-)
-says_text Tells file (Err (world.Line fault)) a made said = (
-  (Err fault, made, said),
-  subst IsMade (sym said) (record { has_text = tt; sound = λ e. cc; used = λ e. cc; short = λ taken e. cc }),
-)
+says_text Tells file (Ok text) a made said = ((Ok text, made, said), text_made (Ok text) a said)
+says_text Tells file (Err (world.Line fault)) a made said = ((Err fault, made, said), text_made (Err (world.Line fault)) a said)
 says_text Tells file (Err world.Memory) a made said = absurd said
 
 -- a file of payloads that is too long
@@ -182,6 +181,29 @@ sound_read what files a asks gives made ends quiet = record {
   taken = λ n long. absurd (made.short n long);
 }
 
+-- where an image was not taken
+pub sound_image : (what : Option Invocation) (files : OutsideFiles) (name : List ℕ) (e : ImageError) (a : Answer) → asks_files what ≡ true
+    → (IsTooLong files.held name image_limit → Gives files.held what (too_long image_limit))
+    → ((image : List ℕ) → IsSource files.held name image_limit image → length image ≤ image_limit → is_image image ≡ false → Gives files.held what image_refused)
+    → ((n : ℕ) → IsTaken files.held name n files.left → IsTakenOf files.held what n files.left)
+    → IsImageFault files name e → IsImageAnswer e a → IsSoundAnswer what files a
+sound_image what files name (Unread e) a asks long refused took fault is =
+    sound_unread what files image_limit e a asks (λ n t. long (fault.long n t)) fault.count (λ n t. took n (fault.taken n t)) fault.failed fault.quiet is
+sound_image what files name Refused a asks long refused took fault is =
+    sound_read what files a asks
+    (subst (λ (x : Answer). Gives files.held what x) (sym is) (refused fault.bytes fault.source fault.within fault.other))
+    (subst IsMade (sym is) refused_made) fault.end fault.quiet
+
+-- an answer behind a call that left the files as they were, and their count
+pub sound_behind : (what : Option Invocation) (held now : Option Held) (before then after : ℕ) (left : Option (List ℕ)) (a : Answer)
+    → now ≡ held → then ≡ before → IsSoundOver now then after left what a → IsSoundOver held before after left what a
+sound_behind what held now before then after left a same quiet sound =
+    subst (λ (h : Option Held). IsSoundOver h before after left what a) same
+    (subst (λ (n : ℕ). IsSoundOver now n after left what a) quiet sound)
+
+pub image_behind : (held now : Option Held) (name image : List ℕ) → now ≡ held → IsImageRead held name image → IsImageRead now name image
+image_behind held now name image same read = subst (λ (h : Option Held). IsImageRead h name image) (sym same) read
+
 -- where nothing is asked for
 pub sound_usage : (files : OutsideFiles) (a : Answer) → files.after ≡ files.before → a ≡ usage → IsSoundAnswer None files a
 sound_usage files a quiet is =
@@ -220,7 +242,7 @@ sound_generated seed files a quiet made = record {
 -- ---- the answers that they give
 
 -- a source that is too long holds so many bytes, or nothing is told of it
-long_source : (held : Option Held) (name : List ℕ) (limit : ℕ) → HoldsName held name → IsTooLong held name limit
+pub long_source : (held : Option Held) (name : List ℕ) (limit : ℕ) → HoldsName held name → IsTooLong held name limit
     → (bytes : List ℕ) × (limit < length bytes) × IsSource held name limit bytes
 long_source None name limit holds long =
     let more : limit < length (replicate {A = ℕ} (limit + 1) 0) = omega (arith, length-replicate {A = ℕ} (limit + 1) 0) in
@@ -231,6 +253,29 @@ long_source (Some h) name limit holds long = by_file (h name) refl holds long
         → (bytes : List ℕ) × (limit < length bytes) × (h name ≡ Some bytes)
     by_file None is some long = absurd cc
     by_file (Some bytes) is some long = (bytes, long, is)
+
+long_campaign : (what : ScriptForm) (image : List ℕ) (script : Option (List ℕ)) → image_limit < length image → too_long image_limit ≡ campaign_answer what (Some image) script
+unfolding campaign_answer
+long_campaign what image script long = image_long image (λ bytes. script_answer what bytes script) long
+
+refused_campaign : (what : ScriptForm) (image : List ℕ) (script : Option (List ℕ)) → length image ≤ image_limit → is_image image ≡ false
+    → image_refused ≡ campaign_answer what (Some image) script
+unfolding campaign_answer
+refused_campaign what image script within bad = image_given_refused image (λ bytes. script_answer what bytes script) within bad
+
+image_campaign : (held : Option Held) (what : ScriptForm) (name image : List ℕ) (script : Option (List ℕ)) → IsImageRead held name image
+    → script_answer what image script ≡ campaign_answer what (Some image) script
+unfolding campaign_answer
+image_campaign held what name image script read = image_given held name image (λ bytes. script_answer what bytes script) read
+
+long_script : (what : ScriptForm) (image script : List ℕ) → 1048576 < length script → too_long 1048576 ≡ script_answer what image (Some script)
+unfolding script_answer
+long_script what image script long = script_long script (λ bytes. played (world_answer what) (campaign_of image (said_in bytes))) long
+
+short_script : (what : ScriptForm) (image script : List ℕ) → length script ≤ 1048576
+    → played (world_answer what) (campaign_of image (said_in script)) ≡ script_answer what image (Some script)
+unfolding script_answer
+short_script what image script within = script_given script (λ bytes. played (world_answer what) (campaign_of image (said_in bytes))) within
 
 -- of an image, whatever the script
 by_image : (held : Option Held) (what : ScriptForm) (image_name script_name image : List ℕ) (limit : ℕ) (a : Answer)
@@ -254,13 +299,13 @@ pub gives_image_long : (held : Option Held) (what : ScriptForm) (image_name scri
     → IsTooLong held image_name image_limit → Gives held (Some (plays what image_name script_name)) (too_long image_limit)
 gives_image_long held what image_name script_name holds long =
     let is = long_source held image_name image_limit holds long in
-    by_image held what image_name script_name is.0 image_limit (too_long image_limit) is.2 (λ script. image_long what is.0 script is.1)
+    by_image held what image_name script_name is.0 image_limit (too_long image_limit) is.2 (λ script. long_campaign what is.0 script is.1)
 
-pub gives_image_refused : (held : Option Held) (what : ScriptForm) (image_name script_name image : List ℕ) (a : Answer)
-    → IsSource held image_name image_limit image → length image ≤ image_limit → is_image image ≡ false → a ≡ image_refused
-    → Gives held (Some (plays what image_name script_name)) a
-gives_image_refused held what image_name script_name image a source within bad is =
-    by_image held what image_name script_name image image_limit a source (λ script. is ∙ image_given_refused what image script within bad)
+pub gives_image_refused : (held : Option Held) (what : ScriptForm) (image_name script_name image : List ℕ)
+    → IsSource held image_name image_limit image → length image ≤ image_limit → is_image image ≡ false
+    → Gives held (Some (plays what image_name script_name)) image_refused
+gives_image_refused held what image_name script_name image source within bad =
+    by_image held what image_name script_name image image_limit image_refused source (λ script. refused_campaign what image script within bad)
 
 -- behind an image file: a script that is too long, and one that was read
 pub gives_script_long : (held : Option Held) (what : ScriptForm) (image_name script_name image : List ℕ) → IsImageRead held image_name image
@@ -269,14 +314,14 @@ pub gives_script_long : (held : Option Held) (what : ScriptForm) (image_name scr
 gives_script_long held what image_name script_name image read holds long =
     let is = long_source held script_name 1048576 holds long in
     by_both held what image_name script_name image is.0 1048576 (too_long 1048576) read.source is.2
-    (script_long what image is.0 is.1 ∙ image_given what image (Some is.0) read.within read.file)
+    (long_script what image is.0 is.1 ∙ image_campaign held what image_name image (Some is.0) read)
 
 pub gives_script : (held : Option Held) (what : ScriptForm) (image_name script_name image script : List ℕ) (a : Answer)
     → IsImageRead held image_name image → IsSource held script_name 1048576 script → length script ≤ 1048576
     → a ≡ played (world_answer what) (campaign_of image (said_in script)) → Gives held (Some (plays what image_name script_name)) a
 gives_script held what image_name script_name image script a read source within is =
     by_both held what image_name script_name image script 1048576 a read.source source
-    (script_given what image script a within is ∙ image_given what image (Some script) read.within read.file)
+    (is ∙ short_script what image script within ∙ image_campaign held what image_name image (Some script) read)
 
 -- a file of payloads that is too long, and one that was read
 gives_file : (held : Option Held) (form : FileForm) (name file : List ℕ) (a : Answer) → IsSource held name 1048576 file

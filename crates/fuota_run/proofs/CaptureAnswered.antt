@@ -1,11 +1,10 @@
 -- A capture is answered with its text, and ends as the answer to a replay.
-use Rattle.std.proofs.Common.{◌≡◌, ℕ, ◌≤◌, Bool, false, nat_lt, List, ◌++◌, length, codes, Option, Some, Result, Ok, Err, refl, le-ltb, sym, ap, ◌∙◌, subst}
+use Rattle.std.proofs.Common.{◌≡◌, ℕ, Bool, false, nat_lt, List, ◌++◌, length, codes, Option, Some, Result, Ok, Err, refl, le-ltb, sym, ap, ◌∙◌, subst}
 use Rattle.device_core.specs.Device.{DeviceState}
 use Rattle.script_lines.specs.Lines.{lines_of}
 use Rattle.report_lines.specs.declared.faults.LineFault.{LineFault}
-use Rattle.report_lines.specs.Lines.{FileText, text_at_end}
 use Rattle.capture_read.specs.declared.answers.Entry.{Entry}
-use Rattle.payload_replay.specs.Replay.{Replays, closing_text}
+use Rattle.payload_replay.specs.Replay.{closing_text}
 use Rattle.payload_replay.specs.Capture.{Caught, CatchesAll, Captures, capture_text}
 use Rattle.payload_replay.specs.CaptureReplay.{IsReplayOf, entries_text}
 use Rattle.payload_replay.proofs.CaptureLaw.{ends_as_replay}
@@ -15,7 +14,7 @@ use Rattle.fuota_run.specs.declared.words.FileForm.{FileForm}
 use Rattle.fuota_run.specs.declared.words.FileForm.TheVariants.{Replay, Capture}
 use Rattle.fuota_run.specs.declared.status.Status.TheVariants as status
 use Rattle.fuota_run.specs.Outside.{Held}
-use Rattle.fuota_run.specs.Words.{Invocation, payloads, asked}
+use Rattle.fuota_run.specs.Words.{Invocation}
 use Rattle.fuota_run.specs.Answer.{Answer, answer, file_text, text_answer, IsReadAnswer, IsFileAnswer, IsAnswerTo, IsAnswer}
 use Rattle.fuota_run.specs.Headline.{IsFileHandedIn, IsCaptureAnswered}
 

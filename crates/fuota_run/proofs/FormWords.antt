@@ -15,7 +15,7 @@ use Rattle.clap.specs.Simple.{App, Shape, built, built_leaf, entered, label_of, 
 use Rattle.clap.specs.Faults.{bundle_fault, check_fault, defaults_fault, flag_word_fault, level_fault, settle_fault, step_fault, turn_fault, walk_fault, word_fault}
 use Rattle.clap.proofs.OnLiterals.{clap_on_literals}
 use Rattle.campaign_generator.proofs.Decimals.{decimal_is_read}
-use Rattle.fuota_run.specs.Words.{Invocation, plays, payloads, generates, asked, asked_by, device_by, device_of_word, direction_of_word, form, fuota, parsed, port_by, port_of_word, seed_by, seed_of_word, where_none}
+use Rattle.fuota_run.specs.Words.{Invocation, plays, payloads, generates, plays_two, asked, asked_by, device_by, device_of_word, direction_of_word, form, fuota, parsed, port_by, port_of_word, seed_by, seed_of_word, where_none}
 use Rattle.script_lines.specs.Numbers.{decimal_of, ◌>>=◌}
 use Rattle.wire_base.specs.declared.refusal.Direction.{Direction}
 use Rattle.fuota_run.specs.declared.words.FileForm.TheVariants.{Replay, Decode, Capture}
@@ -177,6 +177,9 @@ of_generate = leaf (codes "generate") (codes "SEED" ∷ [])
 abbrev of_capture : Shape
 of_capture = leaf (codes "capture") (codes "FILE" ∷ [])
 
+abbrev of_campaigns : Shape
+of_campaigns = leaf (codes "campaigns") (codes "IMAGE_A" ∷ codes "IMAGE_B" ∷ codes "SCRIPT" ∷ [])
+
 reads_campaign : (program : Text) (words : List Text) → asked (program ∷ codes "campaign" ∷ words) ≡ asks (codes "campaign") of_campaign nothing_held 1 words
 unfolding fuota clap_on_literals
 reads_campaign program words = reads_form program (codes "campaign") of_campaign words refl refl
@@ -206,6 +209,11 @@ reads_capture : (program : Text) (words : List Text) → asked (program ∷ code
 unfolding fuota clap_on_literals
 reads_capture program words = reads_form program (codes "capture") of_capture words refl refl
     (ap (λ (k : Kinds). then_asked (where_none k (Some (codes "capture", finished of_capture.rules (walk of_capture.rules [] nothing_held words).held)))) (or_else_none (level_fault of_capture [] nothing_held words false [])))
+
+reads_campaigns : (program : Text) (words : List Text) → asked (program ∷ codes "campaigns" ∷ words) ≡ asks (codes "campaigns") of_campaigns nothing_held 1 words
+unfolding fuota clap_on_literals
+reads_campaigns program words = reads_form program (codes "campaigns") of_campaigns words refl refl
+    (ap (λ (k : Kinds). then_asked (where_none k (Some (codes "campaigns", finished of_campaigns.rules (walk of_campaigns.rules [] nothing_held words).held)))) (or_else_none (level_fault of_campaigns [] nothing_held words false [])))
 
 -- what is held behind one name more
 abbrev behind : Shape → ℕ → Text → Held → Held
@@ -309,6 +317,17 @@ capture_form program file name =
     reads_capture program (file ∷ [])
     ∙ takes_name (codes "capture") of_capture nothing_held (behind of_capture 1 file nothing_held) 1 2 file [] name refl refl
 
+campaigns_form : (program image_a image_b script : Text) → IsName image_a → IsName image_b → IsName script
+    → asked (program ∷ codes "campaigns" ∷ image_a ∷ image_b ∷ script ∷ []) ≡ Some (plays_two image_a image_b script)
+unfolding fuota asked_by clap_on_literals
+campaigns_form program image_a image_b script first second third =
+    let one = behind of_campaigns 1 image_a nothing_held in
+    let two = behind of_campaigns 2 image_b one in
+    reads_campaigns program (image_a ∷ image_b ∷ script ∷ [])
+    ∙ takes_name (codes "campaigns") of_campaigns nothing_held one 1 2 image_a (image_b ∷ script ∷ []) first refl refl
+    ∙ takes_name (codes "campaigns") of_campaigns one two 2 3 image_b (script ∷ []) second refl refl
+    ∙ takes_name (codes "campaigns") of_campaigns two (behind of_campaigns 3 script two) 3 4 script [] third refl refl
+
 seed_word : (seed : ℕ) → seed < 2 ^ 32 → seed_of_word (decimal seed) ≡ Some seed
 seed_word seed low =
     let small : nat_lt seed (2 ^ 32) ≡ true = lt-ltb _ _ low in
@@ -357,6 +376,7 @@ words_are_forms = record {
   decode = decode_form;
   generate = generate_form;
   capture = capture_form;
+  campaigns = campaigns_form;
   device_word = device_word;
   port_word = port_word;
   seed_word = seed_word;
@@ -455,9 +475,40 @@ capture_counts program (a ∷ b ∷ more) are other =
     ∙ takes_name (codes "capture") of_capture nothing_held one 1 2 a (b ∷ more) are.0 refl refl
     ∙ takes_no_name (codes "capture") of_capture one 2 kind.UnknownArgument [] b more are.1.0 refl
 
+campaigns_counts : (program : Text) (names : List Text) → AllByRecursion IsName names → length names ≢ 3 → asked (program ∷ codes "campaigns" ∷ names) ≡ None
+unfolding fuota asked_by clap_on_literals
+campaigns_counts program [] are other = reads_campaigns program []
+campaigns_counts program (a ∷ []) are other =
+    reads_campaigns program (a ∷ [])
+    ∙ takes_name (codes "campaigns") of_campaigns nothing_held (behind of_campaigns 1 a nothing_held) 1 2 a [] are.0 refl refl
+campaigns_counts program (a ∷ b ∷ []) are other =
+    let one = behind of_campaigns 1 a nothing_held in
+    reads_campaigns program (a ∷ b ∷ [])
+    ∙ takes_name (codes "campaigns") of_campaigns nothing_held one 1 2 a (b ∷ []) are.0 refl refl
+    ∙ takes_name (codes "campaigns") of_campaigns one (behind of_campaigns 2 b one) 2 3 b [] are.1.0 refl refl
+campaigns_counts program (a ∷ b ∷ c ∷ []) are other = absurd (other refl)
+campaigns_counts program (a ∷ b ∷ c ∷ d ∷ more) are other =
+    let one = behind of_campaigns 1 a nothing_held in
+    let two = behind of_campaigns 2 b one in
+    let three = behind of_campaigns 3 c two in
+    reads_campaigns program (a ∷ b ∷ c ∷ d ∷ more)
+    ∙ takes_name (codes "campaigns") of_campaigns nothing_held one 1 2 a (b ∷ c ∷ d ∷ more) are.0 refl refl
+    ∙ takes_name (codes "campaigns") of_campaigns one two 2 3 b (c ∷ d ∷ more) are.1.0 refl refl
+    ∙ takes_name (codes "campaigns") of_campaigns two three 3 4 c (d ∷ more) are.1.1.0 refl refl
+    ∙ takes_no_name (codes "campaigns") of_campaigns three 4 kind.UnknownArgument [] d more are.1.1.1.0 refl
+
 nothing_asked : (program : Text) → asked (program ∷ []) ≡ None
 unfolding asked parsed fuota clap_on_literals asked_by
 nothing_asked program = refl
 
 pub other_counts : OtherCountsAreNone
-other_counts = record { campaign = campaign_counts; recover = recover_counts; replay = replay_counts; decode = decode_counts; generate = generate_counts; capture = capture_counts; nothing = nothing_asked }
+other_counts = record {
+  campaign = campaign_counts;
+  recover = recover_counts;
+  replay = replay_counts;
+  decode = decode_counts;
+  generate = generate_counts;
+  capture = capture_counts;
+  campaigns = campaigns_counts;
+  nothing = nothing_asked;
+}

@@ -2,6 +2,7 @@ pub mod Named
 pub mod Writing
 pub mod Taken
 pub mod AnswerLemmas
+pub mod PairAnswers
 pub mod Outcomes
 pub mod Playing
 pub mod CommandLine
@@ -10,6 +11,7 @@ pub mod NamesAsked
 pub mod OneAnswer
 pub mod HeadlineAnswered
 pub mod RunHeadline
+pub mod PairAnswered
 pub mod ReplayAnswered
 pub mod BehindScript
 pub mod ReadOn

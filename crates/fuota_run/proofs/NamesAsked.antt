@@ -18,7 +18,7 @@ use Rattle.clap.specs.Faults.{fault_of}
 use Rattle.clap.proofs.WalkLemmas.{both}
 use Rattle.script_lines.specs.Numbers.{◌>>=◌}
 use Rattle.fuota_run.specs.Outside.{Held as Contents}
-use Rattle.fuota_run.specs.Words.{Invocation, plays, payloads, generates, asked, asked_by, names_asked, campaign_asked, recover_asked, replay_asked, decode_asked, generate_asked, capture_asked, device_of_word, direction_of_word, fuota, parsed, port_of_word, seed_of_word, where_none}
+use Rattle.fuota_run.specs.Words.{Invocation, plays, payloads, generates, plays_two, asked, asked_by, names_asked, campaign_asked, recover_asked, replay_asked, decode_asked, generate_asked, capture_asked, campaigns_asked, device_of_word, direction_of_word, fuota, parsed, port_of_word, seed_of_word, where_none}
 use Rattle.fuota_run.specs.Ending.{HoldsInvocation}
 use Rattle.fuota_run.specs.Forms.{NamesAreWords}
 
@@ -386,6 +386,12 @@ generate_kept Is rows = asked_then Is (first_of (codes "SEED") rows) _ (λ word 
 capture_kept : (Is : Text → Type 0) (rows : List Row) → AreRows Is rows → AreAsked Is (capture_asked rows)
 capture_kept Is rows all = asked_then Is (first_of (codes "FILE") rows) _ (λ file f. (first_kept Is _ rows file all f, tt))
 
+campaigns_kept : (Is : Text → Type 0) (rows : List Row) → AreRows Is rows → AreAsked Is (campaigns_asked rows)
+campaigns_kept Is rows all =
+    asked_then Is (first_of (codes "IMAGE_A") rows) _ (λ image_a a. asked_then Is (first_of (codes "IMAGE_B") rows) _ (λ image_b b.
+    asked_then Is (first_of (codes "SCRIPT") rows) _ (λ script s.
+    (first_kept Is _ rows image_a all a, (first_kept Is _ rows image_b all b, (first_kept Is _ rows script all s, tt))))))
+
 by_keyword_kept : (Is : Text → Type 0) (keyword : Text) (rows : List Row) → AreRows Is rows → AreAsked Is (asked_by keyword rows)
 unfolding asked_by
 by_keyword_kept Is keyword rows all =
@@ -394,7 +400,8 @@ by_keyword_kept Is keyword rows all =
     (asked_test Is (bytes_eq keyword (codes "replay")) _ _ (replay_kept Is rows all)
     (asked_test Is (bytes_eq keyword (codes "decode")) _ _ (decode_kept Is rows all)
     (asked_test Is (bytes_eq keyword (codes "generate")) _ _ (generate_kept Is rows)
-    (asked_test Is (bytes_eq keyword (codes "capture")) _ None (capture_kept Is rows all) tt)))))
+    (asked_test Is (bytes_eq keyword (codes "capture")) _ _ (capture_kept Is rows all)
+    (asked_test Is (bytes_eq keyword (codes "campaigns")) _ None (campaigns_kept Is rows all) tt))))))
 
 found_kept : (Is : Text → Type 0) (o : Option (Text × List Row)) → ((x : Text × List Row) → o ≡ Some x → AreRows Is x.1) → AreAsked Is (option_and_then (λ x. asked_by x.0 x.1) o)
 found_kept Is None all = tt
@@ -419,6 +426,7 @@ holds_by held None all = tt
 holds_by held (Some (plays what image script)) all = (all.0, all.1.0)
 holds_by held (Some (payloads what file)) all = all.0
 holds_by held (Some (generates seed)) all = tt
+holds_by held (Some (plays_two image_a image_b script)) all = (all.0, all.1.0, all.1.1.0)
 
 pub names_are_words : NamesAreWords
 names_are_words = record {

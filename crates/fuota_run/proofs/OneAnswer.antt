@@ -6,8 +6,8 @@ use Rattle.fuota_run.specs.declared.words.FileForm.{FileForm}
 use Rattle.fuota_run.specs.declared.words.FileForm.TheVariants.{Replay, Decode, Capture}
 use Rattle.fuota_run.specs.Outside.{Held}
 use Rattle.report_lines.specs.Lines.{FileText, HasOneText, HasAText}
-use Rattle.fuota_run.specs.Words.{Invocation, plays, payloads, generates, asked}
-use Rattle.fuota_run.specs.Answer.{Answer, usage, read_fault, too_long, campaign_answer, generate_answer, file_text, text_answer, IsReadAnswer, IsFileAnswer, IsAnswerTo, IsAnswer, HasOneAnswer, HasAnAnswer}
+use Rattle.fuota_run.specs.Words.{Invocation, plays, payloads, generates, plays_two, asked}
+use Rattle.fuota_run.specs.Answer.{Answer, usage, read_fault, too_long, campaign_answer, campaigns_answer, generate_answer, file_text, text_answer, IsReadAnswer, IsFileAnswer, IsAnswerTo, IsAnswer, HasOneAnswer, HasAnAnswer}
 use Rattle.payload_replay.proofs.CaptureLines.{capture_one, capture_always}
 use Rattle.payload_replay.proofs.Payloads.{decode_one, decode_always}
 use Rattle.payload_replay.proofs.ReplayLines.{replay_one, replay_always}
@@ -36,6 +36,7 @@ to_one : (what : Option Invocation) (held : Held) (one other : Answer) → IsAns
 to_one None held one other first second = first ∙ sym second
 to_one (Some (plays what image script)) held one other first second = first ∙ sym second
 to_one (Some (generates seed)) held one other first second = first ∙ sym second
+to_one (Some (plays_two image_a image_b script)) held one other first second = first ∙ sym second
 to_one (Some (payloads what file)) held one other first second =
     file_one (file_text what) (held file) one other (file_text_one what) first second
 
@@ -63,6 +64,7 @@ to_always : (what : Option Invocation) (held : Held) → (a : Answer) × IsAnswe
 to_always None held = (usage, refl)
 to_always (Some (plays what image script)) held = (campaign_answer what (held image) (held script), refl)
 to_always (Some (generates seed)) held = (generate_answer seed, refl)
+to_always (Some (plays_two image_a image_b script)) held = (campaigns_answer (held image_a) (held image_b) (held script), refl)
 to_always (Some (payloads what file)) held = file_always (file_text what) (held file) (file_text_always what)
 
 pub always_answered : HasAnAnswer

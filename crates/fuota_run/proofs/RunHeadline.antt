@@ -24,7 +24,7 @@ if_some_map (Some x) turns holds = turns x holds
 if_some_map None turns holds = tt
 
 -- the answer that was appended is this one
-written : (words : List (List ℕ)) (held : Held) (s : Status) (old new : Option (List ℕ)) (one : Answer)
+pub written : (words : List (List ℕ)) (held : Held) (s : Status) (old new : Option (List ℕ)) (one : Answer)
     → AppendsAnswer (Some held) words s old new → ((a : Answer) → IsAnswer words held a → a ≡ one) → IsWritten one s old new
 written words held s old new one given is =
     let here : given.0 ≡ one = is given.0 given.1 in

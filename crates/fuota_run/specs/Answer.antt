@@ -11,7 +11,7 @@ use Rattle.fuota_run.specs.declared.words.ScriptForm.TheVariants.{Campaign, Reco
 use Rattle.report_lines.specs.declared.faults.LineFault.{LineFault}
 use Rattle.report_lines.specs.Faults.{fault_line}
 use Rattle.fuota_run.specs.Outside.{Held}
-use Rattle.fuota_run.specs.Words.{Invocation, plays, payloads, generates, asked}
+use Rattle.fuota_run.specs.Words.{Invocation, plays, payloads, generates, plays_two, asked}
 use Rattle.report_lines.specs.Lines.{FileText}
 use Rattle.payload_replay.specs.Capture.{Captures}
 use Rattle.payload_replay.specs.Decode.{Decodes}
@@ -27,6 +27,9 @@ use Rattle.campaign_generator.specs.Script.{script_of}
 use Rattle.campaign_world.specs.declared.recovery.NoFile.{NoFile}
 use Rattle.campaign_world.specs.declared.recovery.NoFile.TheVariants as no_file
 use Rattle.campaign_world.specs.Recovery.{recovery}
+use Rattle.pair_run.specs.Pair.{PairState}
+use Rattle.pair_run.specs.PairScript.{campaigns_in}
+use Rattle.pair_run.specs.PairReport.{pair_report_of}
 
 -- a status and the text that is written with it
 pub record Answer : Type 0 where
@@ -37,7 +40,7 @@ abbrev pub answer : Status → List ℕ → Answer
 answer status text = record { status = status; text = text }
 
 abbrev pub usage_text : List ℕ
-usage_text = codes "usage: fuota campaign IMAGE SCRIPT, recover IMAGE SCRIPT DEVICE, replay FILE, decode PORT DIR FILE, generate SEED, capture FILE\n"
+usage_text = codes "usage: fuota campaign IMAGE SCRIPT, recover IMAGE SCRIPT DEVICE, replay FILE, decode PORT DIR FILE, generate SEED, capture FILE, campaigns IMAGE IMAGE SCRIPT\n"
 
 abbrev pub usage : Answer
 usage = answer status.Usage usage_text
@@ -85,25 +88,47 @@ world_answer (Recover device) world = recovered device (recovery world device)
 abbrev pub summary_answer : (seed : ℕ) → WorldState → Answer
 summary_answer seed world = answer status.Done (codes "generate " ++ decimal seed ++ (codes "\n" ++ summary_of world))
 
--- the answer with what is told of a campaign, or its first refused line
-abbrev pub played : (tell : WorldState → Answer) → Result WorldState LineFault → Answer
+-- the report of two campaigns
+abbrev pub pair_answer : PairState → Answer
+pair_answer pair = answer status.Done (pair_report_of pair)
+
+-- the answer with what is told of a campaign, or of two, or the first refused line
+abbrev pub played : {W : Type 0} → (tell : W → Answer) → Result W LineFault → Answer
 played tell (Ok world) = tell world
 played tell (Err fault) = refused fault
 
+-- of an image first that it is too long, then that it is no image file; then the answer behind it
+abbrev pub behind_image : Option (List ℕ) → (List ℕ → Answer) → Answer
+behind_image None behind = read_fault
+behind_image (Some image) behind =
+    if nat_lt image_limit (length image) then too_long image_limit
+    else if is_image image then behind image
+    else image_refused
+
+-- of a script first that it is too long; then what is told of it
+abbrev pub behind_script : Option (List ℕ) → (List ℕ → Answer) → Answer
+behind_script None told = read_fault
+behind_script (Some script) told =
+    if nat_lt script_limit (length script) then too_long script_limit else told script
+
 -- the answer once the image is an image file
 unfoldable pub script_answer : ScriptForm → List ℕ → Option (List ℕ) → Answer
-script_answer what image None = read_fault
-script_answer what image (Some script) =
-    if nat_lt script_limit (length script) then too_long script_limit else played (world_answer what) (campaign_of image (said_in script))
+script_answer what image script =
+    behind_script script (λ bytes. played (world_answer what) (campaign_of image (said_in bytes)))
 
--- the answer to `campaign IMAGE SCRIPT` and to `recover IMAGE SCRIPT DEVICE`: of the image first too long, then refused; then
--- of the script
+-- the answer to `campaign IMAGE SCRIPT` and to `recover IMAGE SCRIPT DEVICE`: of the image, then of the script
 unfoldable pub campaign_answer : ScriptForm → Option (List ℕ) → Option (List ℕ) → Answer
-campaign_answer what None script = read_fault
-campaign_answer what (Some image) script =
-    if nat_lt image_limit (length image) then too_long image_limit
-    else if is_image image then script_answer what image script
-    else image_refused
+campaign_answer what image script = behind_image image (λ bytes. script_answer what bytes script)
+
+-- the answer once both images are image files
+unfoldable pub pair_script_answer : (image_a image_b : List ℕ) → Option (List ℕ) → Answer
+pair_script_answer image_a image_b script =
+    behind_script script (λ bytes. played pair_answer (campaigns_in image_a image_b bytes))
+
+-- the answer to `campaigns IMAGE IMAGE SCRIPT`: of the first image, then of the second one, then of the script
+unfoldable pub campaigns_answer : (image_a image_b script : Option (List ℕ)) → Answer
+campaigns_answer image_a image_b script =
+    behind_image image_a (λ a. behind_image image_b (λ b. pair_script_answer a b script))
 
 -- the text of a file of payloads, form by form
 abbrev pub file_text : FileForm → FileText
@@ -136,6 +161,8 @@ IsAnswerTo None held a = a ≡ usage
 IsAnswerTo (Some (plays what image script)) held a = a ≡ campaign_answer what (held image) (held script)
 IsAnswerTo (Some (payloads what file)) held a = IsFileAnswer (file_text what) (held file) a
 IsAnswerTo (Some (generates seed)) held a = a ≡ generate_answer seed
+IsAnswerTo (Some (plays_two image_a image_b script)) held a =
+    a ≡ campaigns_answer (held image_a) (held image_b) (held script)
 
 -- the answer to the words
 unfoldable pub IsAnswer : List (List ℕ) → Held → Answer → Type 0

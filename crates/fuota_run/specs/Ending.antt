@@ -11,8 +11,8 @@ use Rattle.campaign_world.specs.World.{WorldState}
 use Rattle.image_slots.specs.Image.{is_image}
 use Rattle.fuota_run.specs.Limits.{image_limit}
 use Rattle.fuota_run.specs.Source.{IsSource, IsTakenOf}
-use Rattle.fuota_run.specs.Words.{Invocation, plays, payloads, generates, asked, asks_files}
-use Rattle.fuota_run.specs.Answer.{Answer, answer, read_fault, usage, file_text, campaign_answer, generate_answer, IsFileAnswer, IsAnswerTo, IsAnswer}
+use Rattle.fuota_run.specs.Words.{Invocation, plays, payloads, generates, plays_two, asked, asks_files}
+use Rattle.fuota_run.specs.Answer.{Answer, answer, read_fault, usage, file_text, campaign_answer, campaigns_answer, generate_answer, IsFileAnswer, IsAnswerTo, IsAnswer}
 
 -- where it is told what is held, something is held under the names of the files that are asked for
 abbrev pub HoldsInvocation : Option Held → Option Invocation → Type 0
@@ -20,6 +20,8 @@ HoldsInvocation held None = ⊤
 HoldsInvocation held (Some (plays what image script)) = HoldsName held image × HoldsName held script
 HoldsInvocation held (Some (payloads what file)) = HoldsName held file
 HoldsInvocation held (Some (generates seed)) = ⊤
+HoldsInvocation held (Some (plays_two image_a image_b script)) =
+    HoldsName held image_a × HoldsName held image_b × HoldsName held script
 
 abbrev pub HoldsForm : Option Held → List (List ℕ) → Type 0
 HoldsForm None words = ⊤
@@ -52,6 +54,9 @@ IsAnswerToSome (Some (plays what image_name script_name)) a =
     (image : List ℕ) × (script : List ℕ) × (a ≡ campaign_answer what (Some image) (Some script))
 IsAnswerToSome (Some (payloads what name)) a = (file : List ℕ) × IsFileAnswer (file_text what) (Some file) a
 IsAnswerToSome (Some (generates seed)) a = a ≡ generate_answer seed
+IsAnswerToSome (Some (plays_two name_a name_b script_name)) a =
+    (image_a : List ℕ) × (image_b : List ℕ) × (script : List ℕ)
+    × (a ≡ campaigns_answer (Some image_a) (Some image_b) (Some script))
 
 abbrev pub Gives : Option Held → Option Invocation → Answer → Type 0
 Gives None what a = IsAnswerToSome what a

@@ -10,7 +10,7 @@ use Rattle.fuota_run.specs.declared.words.FileForm.TheVariants.{Replay, Decode, 
 use Rattle.fuota_run.specs.declared.words.ScriptForm.TheVariants.{Campaign, Recover}
 use Rattle.fuota_run.specs.Outside.{Held}
 use Rattle.fuota_run.specs.Ending.{HoldsForm}
-use Rattle.fuota_run.specs.Words.{plays, payloads, generates, asked, names_asked, port_of_word, device_of_word, seed_of_word, direction_of_word}
+use Rattle.fuota_run.specs.Words.{plays, payloads, generates, plays_two, asked, names_asked, port_of_word, device_of_word, seed_of_word, direction_of_word}
 
 -- a word that is taken as it stands: it does not begin with a dash (45)
 abbrev pub is_name : Text → Bool
@@ -34,6 +34,8 @@ pub record WordsAreForms : Type 0 where
       → asked (program ∷ codes "generate" ∷ word ∷ []) ≡ Some (generates seed)
   pub capture : (program file : Text) → IsName file
       → asked (program ∷ codes "capture" ∷ file ∷ []) ≡ Some (payloads Capture file)
+  pub campaigns : (program image_a image_b script : Text) → IsName image_a → IsName image_b → IsName script
+      → asked (program ∷ codes "campaigns" ∷ image_a ∷ image_b ∷ script ∷ []) ≡ Some (plays_two image_a image_b script)
   -- the decimal of each device, each port and each seed is its word
   pub device_word : (device : ℕ) → 1 ≤ device → device ≤ max_devices → device_of_word (decimal device) ≡ Some device
   pub port_word : (port : ℕ) → 200 ≤ port → port ≤ 203 → port_of_word (decimal port) ≡ Some port
@@ -50,6 +52,8 @@ pub record OtherCountsAreNone : Type 0 where
   pub generate : (program : Text) (names : List Text) → AllByRecursion IsName names → length names ≢ 1 → asked (program ∷ codes "generate" ∷ names) ≡ None
   pub capture : (program : Text) (names : List Text) → AllByRecursion IsName names → length names ≢ 1
       → asked (program ∷ codes "capture" ∷ names) ≡ None
+  pub campaigns : (program : Text) (names : List Text) → AllByRecursion IsName names → length names ≢ 3
+      → asked (program ∷ codes "campaigns" ∷ names) ≡ None
   pub nothing : (program : Text) → asked (program ∷ []) ≡ None
 
 -- ---- the files that are asked for

@@ -12,4 +12,5 @@ pub mod Hearing
 pub mod HeldAnswer
 pub mod Exit
 pub mod Headline
+pub mod PairHeadline
 pub mod WorkedAnswers

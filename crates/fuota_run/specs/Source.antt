@@ -1,7 +1,7 @@
 -- What reading a whole source answers.
 use Rattle.std.specs.Prelude.{◌≡◌, ◌⊎◌, ℕ, ◌<◌, List, length, ⊤, Option, None, Some, IfSome}
 use Rattle.fuota_run.specs.Outside.{Held, IsReadSoFar}
-use Rattle.fuota_run.specs.Words.{Invocation, plays, payloads, generates}
+use Rattle.fuota_run.specs.Words.{Invocation, plays, payloads, generates, plays_two}
 
 -- where it is told what the name holds: all of it, within the limit; or it goes on behind the limit
 abbrev pub IsSource : Option Held → List ℕ → ℕ → List ℕ → Type 0
@@ -23,3 +23,5 @@ IsTakenOf held None taken left = ⊥
 IsTakenOf held (Some (plays what image script)) taken left = IsTaken held image taken left ⊎ IsTaken held script taken left
 IsTakenOf held (Some (payloads what file)) taken left = IsTaken held file taken left
 IsTakenOf held (Some (generates seed)) taken left = ⊥
+IsTakenOf held (Some (plays_two image_a image_b script)) taken left =
+    IsTaken held image_a taken left ⊎ (IsTaken held image_b taken left ⊎ IsTaken held script taken left)

@@ -33,7 +33,7 @@ abbrev pub with_forms : App → List Shape → App
 with_forms app [] = app
 with_forms app (one ∷ more) = with_forms (with_subcommand app one) more
 
--- the program and its six forms, which take no options
+-- the program and its seven forms, which take no options
 unfoldable pub fuota : App
 fuota = with_forms (new_app (codes "fuota")) (
     form (codes "campaign") (codes "IMAGE" ∷ codes "SCRIPT" ∷ [])
@@ -42,6 +42,7 @@ fuota = with_forms (new_app (codes "fuota")) (
     ∷ form (codes "decode") (codes "PORT" ∷ codes "DIR" ∷ codes "FILE" ∷ [])
     ∷ form (codes "generate") (codes "SEED" ∷ [])
     ∷ form (codes "capture") (codes "FILE" ∷ [])
+    ∷ form (codes "campaigns") (codes "IMAGE_A" ∷ codes "IMAGE_B" ∷ codes "SCRIPT" ∷ [])
     ∷ [])
 
 -- what was found, where there is no fault
@@ -55,11 +56,13 @@ parsed words = where_none (fault_of fuota words) (subcommand_of fuota words)
 
 -- ---- what is asked for
 
--- what is told of the campaign of an image and a script, or of a file of payloads, or of the campaign that a seed makes
+-- what is told of the campaign of an image and a script, or of a file of payloads, or of the campaign that a seed makes,
+-- or of the two campaigns of two images and a script
 pub data Invocation : Type 0 where
   plays : (what : ScriptForm) (image script : List ℕ) → Invocation
   payloads : (what : FileForm) (file : List ℕ) → Invocation
   generates : (seed : ℕ) → Invocation
+  plays_two : (image_a image_b script : List ℕ) → Invocation
 
 -- a decimal from 200 to 203
 abbrev pub port_by : ℕ → Option ℕ
@@ -124,6 +127,13 @@ capture_asked rows = do
   file ← first_of (codes "FILE") rows
   Some (payloads Capture file)
 
+abbrev pub campaigns_asked : List Row → Option Invocation
+campaigns_asked rows = do
+  image_a ← first_of (codes "IMAGE_A") rows
+  image_b ← first_of (codes "IMAGE_B") rows
+  script ← first_of (codes "SCRIPT") rows
+  Some (plays_two image_a image_b script)
+
 unfoldable pub asked_by : Text → List Row → Option Invocation
 asked_by keyword rows =
     if bytes_eq keyword (codes "campaign") then campaign_asked rows
@@ -132,6 +142,7 @@ asked_by keyword rows =
     else if bytes_eq keyword (codes "decode") then decode_asked rows
     else if bytes_eq keyword (codes "generate") then generate_asked rows
     else if bytes_eq keyword (codes "capture") then capture_asked rows
+    else if bytes_eq keyword (codes "campaigns") then campaigns_asked rows
     else None
 
 -- what the words ask for; none where they are no form
@@ -144,6 +155,7 @@ names_asked None = []
 names_asked (Some (plays what image script)) = image ∷ script ∷ []
 names_asked (Some (payloads what file)) = file ∷ []
 names_asked (Some (generates seed)) = []
+names_asked (Some (plays_two image_a image_b script)) = image_a ∷ image_b ∷ script ∷ []
 
 -- whether there are any
 abbrev pub asks_files : Option Invocation → Bool
@@ -151,6 +163,7 @@ asks_files None = false
 asks_files (Some (plays what image script)) = true
 asks_files (Some (payloads what file)) = true
 asks_files (Some (generates seed)) = false
+asks_files (Some (plays_two image_a image_b script)) = true
 
 -- ---- as it is held
 
@@ -160,6 +173,7 @@ seen_asked None = None
 seen_asked (Some (read.Script what image script)) = Some (plays what image.now script.now)
 seen_asked (Some (read.Payloads what file)) = Some (payloads what file.now)
 seen_asked (Some (read.Generate seed)) = Some (generates seed)
+seen_asked (Some (read.Pair image_a image_b script)) = Some (plays_two image_a.now image_b.now script.now)
 
 -- a command as it is built so far
 pub record IsCommand (command : Command) (app : App) : Type 0 where

@@ -20,7 +20,7 @@ pub record AreAnswers : Type 0 where
   pub no_file_code : exit_code status.NotComplete ≡ 9
   -- what is written
   pub usage_said : usage ≡ answer status.Usage (codes
-      "usage: fuota campaign IMAGE SCRIPT, recover IMAGE SCRIPT DEVICE, replay FILE, decode PORT DIR FILE, generate SEED, capture FILE\n")
+      "usage: fuota campaign IMAGE SCRIPT, recover IMAGE SCRIPT DEVICE, replay FILE, decode PORT DIR FILE, generate SEED, capture FILE, campaigns IMAGE IMAGE SCRIPT\n")
   pub image_said : image_refused ≡ answer status.ImageRefused (codes "image refused\n")
   pub fault_said : read_fault ≡ answer status.ReadFault (codes "read fault\n")
   pub long_image : too_long image_limit ≡ answer (status.TooLong 262145) (codes "too long 262145\n")

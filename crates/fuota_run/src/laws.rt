@@ -4,6 +4,7 @@ ghost use Rattle.fuota_run.specs.Answer.{HasAnAnswer, HasOneAnswer};
 ghost use Rattle.fuota_run.specs.Forms.{NamesAreWords, OtherCountsAreNone, WordsAreForms};
 ghost use Rattle.fuota_run.specs.WorkedAnswers.{AreAnswers};
 ghost use Rattle.fuota_run.specs.Headline.{IsCaptureAnswered, IsRecoveryAnswered, IsReplayAnswered, IsReportAnswered, IsSeedAnswered};
+ghost use Rattle.fuota_run.specs.PairHeadline.{AreTwoCampaigns, IsPairAnswered};
 
 /// Whatever image and accepted script are handed in, the answer is the report of that campaign, of which the headline of
 /// `campaign_world` speaks.
@@ -33,6 +34,14 @@ pub fn capture_is_answered()
 /// updated as have the file.
 pub fn seeds_are_summed_up()
     ensures { IsSeedAnswered }
+{}
+
+/// Whatever two images and accepted script are handed in, the answer is the report of both campaigns. Each is the
+/// campaign that its own image, and what the lines say to it, define; so the laws of `pair_laws` hold of its devices and
+/// their sessions.
+pub fn pair_is_answered()
+    ensures answered { IsPairAnswered }
+    ensures each { AreTwoCampaigns }
 {}
 
 /// Words have one answer over the files that are held: one status, and one text.

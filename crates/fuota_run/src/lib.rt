@@ -13,6 +13,7 @@ mod answers;
 mod campaign_answers;
 mod files;
 mod hearing;
+mod images;
 mod laws;
 mod memory;
 mod output;
@@ -26,9 +27,9 @@ mod words;
 
 pub use files::{Failed, Files};
 pub use laws::{
-    capture_is_answered, names_are_words, other_counts_are_no_forms, recovery_is_answered,
-    replay_is_answered, report_is_answered, run_has_one_answer, seeds_are_summed_up,
-    words_are_forms, worked_answers,
+    capture_is_answered, names_are_words, other_counts_are_no_forms, pair_is_answered,
+    recovery_is_answered, replay_is_answered, report_is_answered, run_has_one_answer,
+    seeds_are_summed_up, words_are_forms, worked_answers,
 };
 pub use memory::{MemFiles, MemSink};
 pub use running::run;

@@ -4,44 +4,45 @@ ghost use Rattle.std.specs.Io.KnownBytes.{Appends};
 ghost use Rattle.fuota_run.specs.Outside.{HoldsName};
 ghost use Rattle.image_slots.specs.Image.{is_image};
 ghost use Rattle.fuota_run.specs.declared.words.FileForm.TheVariants.{Replay, Decode, Capture};
-ghost use Rattle.fuota_run.specs.Words.{plays, payloads, generates, asked, seen_asked, asks_files};
+ghost use Rattle.fuota_run.specs.Words.{plays, plays_two, payloads, generates, asked, seen_asked, asks_files};
 ghost use Rattle.payload_replay.specs.HeldCapturing.{CapturingStands};
 ghost use Rattle.payload_replay.specs.HeldDecoding.{DecodingStands};
 ghost use Rattle.payload_replay.specs.HeldReplaying.{ReplayingStands};
 ghost use Rattle.fuota_run.specs.Ending.{HoldsForm, HoldsInvocation, OutsideFiles, IsSoundAnswer, IsSoundOver, WhereNoneFails, IsImageRead, IsReadUp, Ends, AppendsAnswer, IsNoForm, IsFinished, IsFaultless};
 ghost use Rattle.fuota_run.specs.Headline.{IsCampaignRun, IsRecoveryRun};
+ghost use Rattle.fuota_run.specs.PairHeadline.{IsPairRun};
 ghost use Rattle.fuota_run.specs.Source.{IsTakenOf};
 ghost use Rattle.fuota_run.specs.HeldAnswer.{answer_in};
 ghost use Rattle.campaign_world.specs.World.{first_world};
 ghost use Rattle.campaign_world.specs.HeldWorld.{WorldStands};
+ghost use Rattle.pair_run.specs.Pair.{first_pair};
+ghost use Rattle.pair_run.specs.HeldPair.{PairStands};
 
 use crate::answers::{Answer, answer_of, answer_with, text_answer, unread_answer};
 use crate::campaign_answers::{seed_answer, world_answer};
 use crate::files::Files;
 use crate::hearing::hear_source;
+use crate::images::{image_answer, read_image};
 use crate::output::write_text;
 use crate::sink::Sink;
-use crate::source::read_source;
 use crate::status::Status;
 use crate::words::{FileForm, Invocation, ScriptForm, read_words};
 use campaign_generator::generate;
 use campaign_world::World;
-use image_slots::is_image;
+use pair_run::Pair;
 use payload_replay::{Capturing, Decoding, Replaying};
 use std::alloc::{AllocError, Global};
-
-/// The most bytes of an image source.
-const IMAGE_LIMIT: u32 = 262_144;
 
 /// The most bytes of a script, and of a file of payloads.
 const SCRIPT_LIMIT: u32 = 1_048_576;
 
 /// What is written where the words are no form.
 const USAGE: &str =
-    "usage: fuota campaign IMAGE SCRIPT, recover IMAGE SCRIPT DEVICE, replay FILE, decode PORT DIR FILE, generate SEED, capture FILE\n";
+    "usage: fuota campaign IMAGE SCRIPT, recover IMAGE SCRIPT DEVICE, replay FILE, decode PORT DIR FILE, generate SEED, capture FILE, campaigns IMAGE IMAGE SCRIPT\n";
 
 /// Runs the program: `words` begin with its name, and the forms are `campaign IMAGE SCRIPT`,
-/// `recover IMAGE SCRIPT DEVICE`, `replay FILE`, `decode PORT DIR FILE`, `generate SEED` and `capture FILE`.
+/// `recover IMAGE SCRIPT DEVICE`, `replay FILE`, `decode PORT DIR FILE`, `generate SEED`, `capture FILE` and
+/// `campaigns IMAGE IMAGE SCRIPT`.
 /// The whole text stands in memory before its first byte is written.
 pub fn run<F: Files, O: Sink>(alloc: Global, words: &[String], files: &mut F, out: &mut O) -> Status
     requires { HoldsForm (F.held files.old) (map string_bytes words.now) }
@@ -65,6 +66,13 @@ pub fn run<F: Files, O: Sink>(alloc: Global, words: &[String], files: &mut F, ou
     ensures recovery { WhereNoneFails (F.held files.old)
         (F.faults files.old) (F.faults files.new) (O.faults out.old) (O.faults out.new) result
         (λ held. IsRecoveryRun (map string_bytes words.now) held result
+        (O.written out.old) (O.written out.new)) }
+
+    // Of two campaigns the whole report of both is written, and what holds of one campaign over its lines holds of each
+    // of the two, over what the lines say to it: of its own image, of each of its devices and of each of their sessions.
+    ensures pair { WhereNoneFails (F.held files.old)
+        (F.faults files.old) (F.faults files.new) (O.faults out.old) (O.faults out.new) result
+        (λ held. IsPairRun (map string_bytes words.now) held result
         (O.written out.old) (O.written out.new)) }
 
     // What each status says, whatever failed.
@@ -141,6 +149,13 @@ fn answer_for<F: Files>(
         ) => campaign(alloc, files, what, image, script),
         Some(Invocation::Payloads { what, file }) => payloads(alloc, files, what, file),
         Some(Invocation::Generate { seed }) => generated(alloc, seed),
+        Some(
+            Invocation::Pair {
+                image_a,
+                image_b,
+                script,
+            },
+        ) => campaigns(alloc, files, image_a, image_b, script),
     }
 }
 
@@ -158,14 +173,10 @@ fn campaign<F: Files>(
         (F.faults files.old) (F.faults files.new) (F.left files.new)
         (Some (plays what image_name.now script_name.now)) (answer_in r)) }
 {
-    let image = match read_source(alloc, files, image_name, IMAGE_LIMIT) {
-        Ok(image) => image,
-        Err(error) => return unread_answer(alloc, error),
-    };
-    if !is_image(&image) {
-        return answer_with(alloc, Status::ImageRefused, "image refused\n");
+    match read_image(alloc, files, image_name) {
+        Ok(image) => script(alloc, files, what, &image, script_name),
+        Err(error) => image_answer(alloc, error),
     }
-    script(alloc, files, what, &image, script_name)
 }
 
 /// The answer once the image is an image file, whatever its name.
@@ -205,6 +216,93 @@ fn hear_script<F: Files>(
 {
     match hear_source(files, name, SCRIPT_LIMIT, heard) {
         Ok(()) => answer_of(alloc, world_answer(alloc, what, heard)),
+        Err(error) => unread_answer(alloc, error),
+    }
+}
+
+/// The answer to the form over two campaigns.
+fn campaigns<F: Files>(
+    alloc: Global,
+    files: &mut F,
+    name_a: &str,
+    name_b: &str,
+    script_name: &str,
+) -> Result<Answer, AllocError>
+    requires image_a { HoldsName (F.held files.old) name_a.now }
+    requires image_b { HoldsName (F.held files.old) name_b.now }
+    requires script { HoldsName (F.held files.old) script_name.now }
+    ensures { IfOk result (λ r. IsSoundOver (F.held files.old)
+        (F.faults files.old) (F.faults files.new) (F.left files.new)
+        (Some (plays_two name_a.now name_b.now script_name.now)) (answer_in r)) }
+{
+    match read_image(alloc, files, name_a) {
+        Ok(image_a) => second_image(alloc, files, &image_a, name_b, script_name),
+        Err(error) => image_answer(alloc, error),
+    }
+}
+
+/// The answer once the first image is an image file, whatever its name.
+fn second_image<F: Files>(
+    alloc: Global,
+    files: &mut F,
+    image_a: &[u8],
+    name_b: &str,
+    script_name: &str,
+) -> Result<Answer, AllocError>
+    requires image_a { is_image image_a.now ≡ true }
+    requires image_b { HoldsName (F.held files.old) name_b.now }
+    requires script { HoldsName (F.held files.old) script_name.now }
+    ensures { (name_a : List ℕ) → IsImageRead (F.held files.old) name_a image_a.now
+        → IfOk result (λ r. IsSoundOver (F.held files.old)
+        (F.faults files.old) (F.faults files.new) (F.left files.new)
+        (Some (plays_two name_a name_b.now script_name.now)) (answer_in r)) }
+{
+    match read_image(alloc, files, name_b) {
+        Ok(image_b) => pair_script(alloc, files, image_a, &image_b, script_name),
+        Err(error) => image_answer(alloc, error),
+    }
+}
+
+/// The answer once both images are image files, whatever their names.
+fn pair_script<F: Files>(
+    alloc: Global,
+    files: &mut F,
+    image_a: &[u8],
+    image_b: &[u8],
+    name: &str,
+) -> Result<Answer, AllocError>
+    requires image_a { is_image image_a.now ≡ true }
+    requires image_b { is_image image_b.now ≡ true }
+    requires script { HoldsName (F.held files.old) name.now }
+    ensures { (name_a name_b : List ℕ) → IsImageRead (F.held files.old) name_a image_a.now
+        → IsImageRead (F.held files.old) name_b image_b.now
+        → IfOk result (λ r. IsSoundOver (F.held files.old)
+        (F.faults files.old) (F.faults files.new) (F.left files.new)
+        (Some (plays_two name_a name_b name.now)) (answer_in r)) }
+{
+    let mut heard = Pair::new(alloc, image_a, image_b)?;
+    hear_pair(alloc, files, &mut heard, name)
+}
+
+/// The answer behind the script that two new campaigns hear.
+fn hear_pair<F: Files>(
+    alloc: Global,
+    files: &mut F,
+    heard: &mut Pair,
+    name: &str,
+) -> Result<Answer, AllocError>
+    requires script { HoldsName (F.held files.old) name.now }
+    requires fresh { heard.old.kept ≡ None }
+    ensures { (image_a image_b name_a name_b : List ℕ)
+        → PairStands heard.old (first_pair image_a image_b)
+        → IsImageRead (F.held files.old) name_a image_a
+        → IsImageRead (F.held files.old) name_b image_b
+        → IfOk result (λ r. IsSoundOver (F.held files.old)
+        (F.faults files.old) (F.faults files.new) (F.left files.new)
+        (Some (plays_two name_a name_b name.now)) (answer_in r)) }
+{
+    match hear_source(files, name, SCRIPT_LIMIT, heard) {
+        Ok(()) => text_answer(alloc, heard.report(alloc)),
         Err(error) => unread_answer(alloc, error),
     }
 }

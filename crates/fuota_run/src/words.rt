@@ -1,7 +1,7 @@
 // The words of the command line: what they ask for, as clap takes them.
 ghost use Rattle.std.specs.Prelude.{◌≡◌, ◌≤◌, List, [], ◌∷◌, ℕ, Option, option_map, option_and_then, map, string_bytes, IfOk, IfSome, codes};
 ghost use Rattle.clap.specs.Words.{App, Row, app_of, first_of, first_value, found_of, new_app, rows_of, subcommand_rows_of, with_rule, with_subcommand};
-ghost use Rattle.fuota_run.specs.Words.{IsCommand, positional, form, with_words, fuota, seen_asked, campaign_asked, recover_asked, replay_asked, decode_asked, generate_asked, capture_asked, asked_by, asked, port_of_word, device_of_word, seed_of_word, direction_of_word};
+ghost use Rattle.fuota_run.specs.Words.{IsCommand, positional, form, with_words, fuota, seen_asked, campaign_asked, recover_asked, replay_asked, decode_asked, generate_asked, capture_asked, campaigns_asked, asked_by, asked, port_of_word, device_of_word, seed_of_word, direction_of_word};
 
 use clap::error::ErrorKind;
 use clap::{Arg, ArgMatches, Command};
@@ -22,6 +22,12 @@ pub enum Invocation<'a> {
     Payloads {
         what: FileForm,
         file: &'a str,
+    },
+    /// `campaigns IMAGE IMAGE SCRIPT`: the report of two campaigns of one script.
+    Pair {
+        image_a: &'a str,
+        image_b: &'a str,
+        script: &'a str,
     },
     /// `generate SEED`: the summary of the campaign that the seed makes.
     Generate {
@@ -81,7 +87,9 @@ fn fuota<'a>(alloc: Global) -> Result<Command<'a>, AllocError>
     let decode = of_three(alloc, "decode", "PORT", "DIR", "FILE")?;
     let program = offering(program, decode)?;
     let program = offering(program, of_one(alloc, "generate", "SEED")?)?;
-    offering(program, of_one(alloc, "capture", "FILE")?)
+    let program = offering(program, of_one(alloc, "capture", "FILE")?)?;
+    let campaigns = of_three(alloc, "campaigns", "IMAGE_A", "IMAGE_B", "SCRIPT")?;
+    offering(program, campaigns)
 }
 
 /// A form of one word.
@@ -162,6 +170,8 @@ fn asked_by<'a>(keyword: &str, found: &ArgMatches<'a>) -> Option<Invocation<'a>>
         generate_asked(found)
     } else if keyword == "capture" {
         capture_asked(found)
+    } else if keyword == "campaigns" {
+        campaigns_asked(found)
     } else {
         None
     }
@@ -234,6 +244,19 @@ fn capture_asked<'a>(found: &ArgMatches<'a>) -> Option<Invocation<'a>>
     Some(Invocation::Payloads {
         what: FileForm::Capture,
         file,
+    })
+}
+
+fn campaigns_asked<'a>(found: &ArgMatches<'a>) -> Option<Invocation<'a>>
+    ensures { seen_asked result ≡ campaigns_asked (rows_of (found_of found.now)) }
+{
+    let image_a = word_of(found, "IMAGE_A")?;
+    let image_b = word_of(found, "IMAGE_B")?;
+    let script = word_of(found, "SCRIPT")?;
+    Some(Invocation::Pair {
+        image_a,
+        image_b,
+        script,
     })
 }
 

@@ -32,7 +32,7 @@ const WORDS: [&str; 4] = ["fuota", "campaign", "image", "script"];
 
 /// What is written where the words are no form.
 const USAGE: &str =
-    "usage: fuota campaign IMAGE SCRIPT, recover IMAGE SCRIPT DEVICE, replay FILE, decode PORT DIR FILE, generate SEED, capture FILE\n";
+    "usage: fuota campaign IMAGE SCRIPT, recover IMAGE SCRIPT DEVICE, replay FILE, decode PORT DIR FILE, generate SEED, capture FILE, campaigns IMAGE IMAGE SCRIPT\n";
 
 /// What stands outside a run: its two files, the second one in three parts, the number of the call that fails on each
 /// side (0 for none), and the room of its sink.
@@ -337,6 +337,8 @@ fn words_that_are_no_form_are_usage(rt: HostRuntime) -> Result<(), Fail> {
         &["fuota", "replay", "script", "script"][..],
         &["fuota", "capture"][..],
         &["fuota", "capture", "script", "script"][..],
+        &["fuota", "campaigns", "image", "script"][..],
+        &["fuota", "campaigns", "image", "image", "script", "1"][..],
         &["fuota", "recover", "image", "script"][..],
         &["fuota", "recover", "image", "script", "0"][..],
         &["fuota", "recover", "image", "script", "65"][..],
@@ -619,6 +621,59 @@ fn an_update_says_what_failed(rt: HostRuntime) -> Result<(), Fail> {
             ..SOUND
         };
         ends(&rt, rt.alloc(), &WORDS, &outside, *status, text)?;
+    }
+    Ok(())
+}
+
+const PAIR: &str =
+    "fuota 2\nimage a 52 0 0\nimage b 26 0 1\ndevice 1 a c 1 0 0 00000000000000000000000000000000\ndevice 2 b c 1 0 0 00000000000000000000000000000000\n";
+
+/// Device 1 hears the fragment of its own server at line 14; device 2 hears it first, and drops it.
+const OF_PAIR: &str =
+    "ask 1\ndown a1 1\nup a1\nask 1\ndown a2 1\nup a2\nfrag a\ndown a3 2\ndown a3 1\nend\n";
+
+const PAIR_REPORT: &str =
+    "fuota report 2\nimage a 52 fragments 1 size 52 padding 0 parity 0 index 0\nimage b 52 fragments 2 size 26 padding 0 parity 0 index 1\ndevice 1 a status clock 0 token 0 running 0 next valid 2\ncounts deaf 0 refused 0 full 0 dropped 0\nsession 0 received 1 missing 0 complete at 14 same\ndevice 2 b version clock 0 token 0 running 0 next none\ncounts deaf 0 refused 0 full 0 dropped 1\nend\n";
+
+/// Both campaigns have the same image. A file that is named `none` is empty.
+#[test]
+fn two_campaigns_are_played(rt: HostRuntime) -> Result<(), Fail> {
+    let words = ["fuota", "campaigns", "image", "image", "script"];
+    let first = ["fuota", "campaigns", "none", "image", "script"];
+    let second = ["fuota", "campaigns", "image", "none", "script"];
+    let refused = Status::ScriptRefused;
+    let no_image = Status::ImageRefused;
+    let rows = [
+        (&words, OF_PAIR, Status::Done, PAIR_REPORT),
+        (&words, "ask 1\ndown b1 1\n", refused, "line 7 unsent\n"),
+        (&words, "up 1\nend\n", refused, "line 6 syntax\n"),
+        (&words, "", refused, "line 6 syntax\n"),
+        (&first, OF_PAIR, no_image, "image refused\n"),
+        (&second, OF_PAIR, no_image, "image refused\n"),
+    ];
+    for (words, events, status, text) in &rows {
+        let outside = Outside {
+            start: PAIR,
+            events,
+            ..SOUND
+        };
+        ends(&rt, rt.alloc(), *words, &outside, *status, text)?;
+    }
+    for call in 1..=9 {
+        let outside = Outside {
+            read_fails: call,
+            start: PAIR,
+            events: OF_PAIR,
+            ..SOUND
+        };
+        ends(
+            &rt,
+            rt.alloc(),
+            &words,
+            &outside,
+            Status::ReadFault,
+            "read fault\n",
+        )?;
     }
     Ok(())
 }

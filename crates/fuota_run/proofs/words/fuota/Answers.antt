@@ -9,4 +9,5 @@ returns c =
     let three = c.in_ok-program-3.ensures _ _ two c.in_ok-of_one.ensures in
     let four = c.in_ok-program-4.ensures _ _ three c.in_ok-decode.ensures in
     let five = c.in_ok-program-5.ensures _ _ four c.in_ok-of_one-2.ensures in
-    c.offering-6.ensures _ _ five c.in_ok-of_one-3.ensures
+    let six = c.in_ok-program-6.ensures _ _ five c.in_ok-of_one-3.ensures in
+    c.offering-7.ensures _ _ six c.in_ok-campaigns.ensures

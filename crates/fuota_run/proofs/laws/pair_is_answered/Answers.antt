@@ -1,0 +1,8 @@
+use Rattle.fuota_run.proofs.PairAnswered.{answered, two_campaigns}
+use Rattle.fuota_run.proofs.laws.pair_is_answered.Goals as goal
+
+pub returns-clause-answered : goal.returns-clause-answered
+returns-clause-answered c = answered
+
+pub returns-clause-each : goal.returns-clause-each
+returns-clause-each c = two_campaigns

@@ -1,0 +1,92 @@
+-- The program answers two campaigns of one script with the report of both, and of each holds what holds of one campaign,
+-- over what the lines say to it. (This project's profile.)
+use Rattle.std.specs.Prelude.{◌≡◌, ℕ, ◌≤◌, List, length, true, Option, Some, Ok}
+use Rattle.std.specs.Io.KnownBytes.{Appends}
+use Rattle.image_slots.specs.Image.{is_image}
+use Rattle.wire_base.specs.Numbered.{numbered}
+use Rattle.frag_session.specs.Session.{Session}
+use Rattle.frag_session.specs.FirstMoment.{IsDecidedAtFirst}
+use Rattle.device_core.specs.Device.{DeviceState}
+use Rattle.device_core.specs.Events.{CameInTurn}
+use Rattle.script_lines.specs.declared.forms.Campaign.{Campaign}
+use Rattle.script_lines.specs.Lines.{lines_of}
+use Rattle.campaign_world.specs.Said.{Line}
+use Rattle.campaign_world.specs.Script.{campaign_of}
+use Rattle.campaign_laws.specs.Verdicts.{Carries}
+use Rattle.campaign_laws.specs.Independence.{own_record}
+use Rattle.pair_run.specs.Pair.{PairState, side}
+use Rattle.pair_run.specs.PairLines.{image_of}
+use Rattle.pair_run.specs.PairScript.{campaigns_in}
+use Rattle.pair_run.specs.PairReport.{pair_report_of}
+use Rattle.pair_laws.specs.EachCampaign.{own_lines, IsSessionOf}
+use Rattle.fuota_run.specs.declared.status.Status.{Status}
+use Rattle.fuota_run.specs.declared.status.Status.TheVariants as status
+use Rattle.fuota_run.specs.Outside.{Held}
+use Rattle.fuota_run.specs.Limits.{image_limit, script_limit}
+use Rattle.fuota_run.specs.Words.{plays_two, asked}
+use Rattle.fuota_run.specs.Answer.{Answer, pair_answer, IsAnswer}
+
+-- an image file that is held under a name, within its limit
+pub record IsImageHeld (held : Held) (name image : List ℕ) : Type 0 where
+  pub bytes : held name ≡ Some image
+  pub short : length image ≤ image_limit
+  pub fine : is_image image ≡ true
+
+-- the words and the files of the form over two campaigns: all are within their limits, and both images are image files
+pub record ArePairHandedIn (words : List (List ℕ)) (held : Held) (image_a image_b script : List ℕ) : Type 0 where
+  pub name_a : List ℕ
+  pub name_b : List ℕ
+  pub script_name : List ℕ
+  pub form : asked words ≡ Some (plays_two name_a name_b script_name)
+  pub first : IsImageHeld held name_a image_a
+  pub second : IsImageHeld held name_b image_b
+  pub script_held : held script_name ≡ Some script
+  pub script_short : length script ≤ script_limit
+
+-- whatever two images and accepted script are handed in, the answer is the report of those two campaigns
+abbrev pub IsPairAnswered : Type 0
+IsPairAnswered = (words : List (List ℕ)) (held : Held) (image_a image_b script : List ℕ) (pair : PairState)
+    → ArePairHandedIn words held image_a image_b script → campaigns_in image_a image_b script ≡ Ok pair
+    → (a : Answer) → IsAnswer words held a → a ≡ pair_answer pair
+
+-- what all lines of the script say to a campaign
+abbrev pub lines_for : Campaign → (image_a image_b script : List ℕ) → List Line
+lines_for x image_a image_b script = own_lines x image_a image_b (lines_of script)
+
+-- what is said of each session of a campaign of the two: it hears nothing but what the lines bring its device, and is
+-- decided at the first fragment after which its file is no longer open
+pub record IsVerdictOfTwo (x : Campaign) (image_a image_b script : List ℕ) (pair : PairState) (id index : ℕ) (s : Session)
+    : Type 0 where
+  pub heard : let lines = lines_for x image_a image_b script in
+      let world = side pair x in
+      CameInTurn (Carries lines world.server.plan.group world.sent id) index (length lines) s.heard
+  pub decided : IsDecidedAtFirst s
+
+-- what is said of a campaign of the two
+pub record IsOneOfTwo (x : Campaign) (image_a image_b script : List ℕ) (pair : PairState) : Type 0 where
+  -- it is the campaign that its own image, and what the lines say to it, define
+  pub own : campaign_of (image_of x image_a image_b) (lines_for x image_a image_b script) ≡ Ok (side pair x)
+  -- each of its devices is its own first record, behind what the lines let happen at it alone
+  pub devices : (id : ℕ) → let world = side pair x in
+      numbered world.devices id ≡ own_record (lines_for x image_a image_b script) world.server.plan.group world.sent id
+  pub verdicts : (id : ℕ) (device : DeviceState) (index : ℕ) (s : Session)
+      → IsSessionOf x image_a image_b (lines_of script) pair id device index s
+      → IsVerdictOfTwo x image_a image_b script pair id index s
+
+-- so each of two campaigns is that are accepted
+abbrev pub AreTwoCampaigns : Type 0
+AreTwoCampaigns = (x : Campaign) (image_a image_b script : List ℕ) (pair : PairState)
+    → campaigns_in image_a image_b script ≡ Ok pair → IsOneOfTwo x image_a image_b script pair
+
+-- the whole report of both was appended, and each is such a campaign
+pub record IsPairWritten (image_a image_b script : List ℕ) (pair : PairState) (s : Status) (old new : Option (List ℕ))
+    : Type 0 where
+  pub done : s ≡ status.Done
+  pub report : Appends old new (pair_report_of pair)
+  pub each : (x : Campaign) → IsOneOfTwo x image_a image_b script pair
+
+-- so it is of whatever two images and accepted script the words ask for
+abbrev pub IsPairRun : List (List ℕ) → Held → Status → Option (List ℕ) → Option (List ℕ) → Type 0
+IsPairRun words held s old new = (image_a image_b script : List ℕ) (pair : PairState)
+    → ArePairHandedIn words held image_a image_b script → campaigns_in image_a image_b script ≡ Ok pair
+    → IsPairWritten image_a image_b script pair s old new
