@@ -1,0 +1,6 @@
+pub mod Resting
+pub mod PairFields
+pub mod Taken
+pub mod Indexes
+pub mod Tame
+pub mod Rested
