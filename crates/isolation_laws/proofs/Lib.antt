@@ -4,3 +4,4 @@ pub mod Taken
 pub mod Indexes
 pub mod Tame
 pub mod Rested
+pub mod Goes
