@@ -5,3 +5,4 @@ pub mod Indexes
 pub mod Tame
 pub mod Rested
 pub mod Goes
+pub mod Alike
