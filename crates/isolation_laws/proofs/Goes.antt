@@ -42,12 +42,12 @@ unfolding read_pair_lines
 pair_by pair last line lines None is = (refl, is)
 pair_by pair last line lines (Some cause) is = absurd cc
 
-pair_first : (pair last : PairState) (line : List ℕ) (lines : List (List ℕ)) → read_pair_lines (Ok pair) (line ∷ lines) ≡ Ok last
+pub pair_first : (pair last : PairState) (line : List ℕ) (lines : List (List ℕ)) → read_pair_lines (Ok pair) (line ∷ lines) ≡ Ok last
     → (pair_cause_of pair line ≡ None) × (read_pair_lines (Ok (after_pair_line pair line)) lines ≡ Ok last)
 unfolding read_pair_lines read_pair_line
 pair_first pair last line lines is = pair_by pair last line lines (pair_cause_of pair line) is
 
-pair_last : (pair last : PairState) → read_pair_lines (Ok pair) [] ≡ Ok last → pair ≡ last
+pub pair_last : (pair last : PairState) → read_pair_lines (Ok pair) [] ≡ Ok last → pair ≡ last
 unfolding read_pair_lines
 pair_last pair last is = cc
 

@@ -6,3 +6,4 @@ pub mod Tame
 pub mod Rested
 pub mod Goes
 pub mod Alike
+pub mod Alone
