@@ -7,3 +7,4 @@ pub mod Rested
 pub mod Goes
 pub mod Alike
 pub mod Alone
+pub mod EachHeadline

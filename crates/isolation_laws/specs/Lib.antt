@@ -1,2 +1,2 @@
-pub mod Trial
 pub mod Isolation
+pub mod EachHeadline
