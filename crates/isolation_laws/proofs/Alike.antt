@@ -1,15 +1,13 @@
 -- Two states of a campaign that differ in the counters of their devices alone go on alike.
-use Rattle.std.proofs.Common.{◌≡◌, ◌⊎◌, inl, inr, ℕ, zero, suc, ◌+◌, ◌-◌, ◌==◌, ◌&&◌, Bool, true, false, not, cond, List, [], ◌∷◌, ◌++◌, length, map, slice_get, nat_le, Option, Some, None, Result, Ok, Err, refl, sym, ap, ◌∙◌, subst, append-nil, true≢false}
+use Rattle.std.proofs.Common.{◌≡◌, ◌⊎◌, inl, inr, ℕ, ◌+◌, ◌-◌, Bool, true, false, not, cond, List, [], ◌++◌, map, Option, Some, None, Ok, Err, refl, sym, ap, subst}
 use Rattle.std.specs.List.{AllZip, slice_set}
 use Rattle.std.specs.Result.{result_ok}
 use Rattle.wire_base.specs.Numbered.{numbered}
 use Rattle.wire_base.specs.declared.refusal.Direction.TheVariants as direction
-use Rattle.package_grammar.specs.declared.downlink.Downlink.{Downlink}
 use Rattle.package_grammar.specs.Reading.{Reading, reading_of}
-use Rattle.device_core.specs.declared.counts.Counts.{Counts}
 use Rattle.device_core.specs.declared.uplink.Uplink.{Uplink}
 use Rattle.device_core.specs.Device.{DeviceState, first_device}
-use Rattle.device_core.specs.Events.{Event, Receives, event_step, uplinks_taken}
+use Rattle.device_core.specs.Events.{Event, event_step, uplinks_taken}
 use Rattle.campaign_server.specs.Server.{ServerState, DownlinkCommand, ledger}
 use Rattle.campaign_server.specs.Asking.{by_unicast, request_of}
 use Rattle.campaign_server.specs.Fragments.{next_fragment, after_fragment, status_to_all, after_status_to_all}
@@ -17,18 +15,16 @@ use Rattle.campaign_server.specs.Time.{time_answer}
 use Rattle.campaign_server.specs.Uplinks.{with_answers, read_uplink, uplink_step}
 use Rattle.script_lines.specs.declared.forms.Form.{Form}
 use Rattle.script_lines.specs.declared.forms.Form.TheVariants.{Header, Image, Group, WindowC, WindowB, Device, At, Wake, Migrate, Power, Ask, Frag, Status, Down, Raw, Air, RawAir, Up, End}
-use Rattle.script_lines.specs.Limits.{max_lines}
 use Rattle.report_lines.specs.declared.faults.LineWhy.{LineWhy}
 use Rattle.report_lines.specs.declared.faults.LineWhy.TheVariants as why
 use Rattle.campaign_world.specs.declared.numbered.MadeUplink.{MadeUplink}
 use Rattle.campaign_world.specs.declared.section.Section.{Section}
 use Rattle.campaign_world.specs.declared.section.Section.TheVariants as section
 use Rattle.campaign_world.specs.World.{WorldState}
-use Rattle.campaign_world.specs.Said.{Said, Own, Elsewhere, Reached}
 use Rattle.campaign_world.specs.Causes.{may_come, form_cause}
 use Rattle.campaign_world.specs.Making.{with_sent, with_device, with_event, with_event_of, event_of, made_by, after_answer, after_up, at_events, config_of, after_form}
 use Rattle.campaign_world.proofs.Zips.{numbered_found, numbered_missed, zip_more, zip_set, zip_long}
-use Rattle.pair_run.specs.Counting.{counting, IsAlike}
+use Rattle.pair_run.specs.Counting.{IsAlike}
 use Rattle.pair_run.proofs.CountsUnread.{unread}
 
 -- one may have had an event already where the other had none

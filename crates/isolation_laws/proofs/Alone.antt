@@ -1,12 +1,11 @@
 -- A campaign beside another is the one that it is alone, but for the counters of its devices.
-use Rattle.std.proofs.Common.{◌≡◌, ◌⊎◌, inl, inr, ℕ, zero, suc, ◌+◌, ◌-◌, ◌==◌, ◌^◌, ◌<◌, Bool, true, false, not, cond, List, [], ◌∷◌, ◌++◌, length, map, All, slice_get, nat_le, Option, Some, None, IfSome, Result, Ok, Err, refl, sym, ap, ◌∙◌, subst, append-nil, true≢false}
+use Rattle.std.proofs.Common.{◌≡◌, inl, inr, ℕ, zero, suc, ◌+◌, ◌-◌, ◌==◌, Bool, true, false, not, cond, List, [], ◌∷◌, ◌++◌, length, map, slice_get, nat_le, Option, Some, None, Ok, Err, refl, sym, ap, ◌∙◌, subst, append-nil}
 use Rattle.std.specs.List.{AllZip, slice_set}
 use Rattle.std.proofs.lemmas.Bool.{and_parts}
 use Rattle.wire_base.specs.Numbered.{numbered}
 use Rattle.wire_base.specs.declared.refusal.Direction.TheVariants.{Down as Downwards}
 use Rattle.package_grammar.specs.declared.downlink.Downlink.{Downlink}
 use Rattle.package_grammar.specs.Reading.{reading_of}
-use Rattle.device_core.specs.declared.counts.Counts.{Counts}
 use Rattle.device_core.specs.declared.uplink.Uplink.{Uplink}
 use Rattle.device_core.specs.Device.{DeviceState}
 use Rattle.device_core.specs.Events.{Event, Receives, event_step, uplinks_taken}
@@ -18,14 +17,13 @@ use Rattle.script_lines.specs.declared.forms.Campaign.TheVariants as campaign
 use Rattle.script_lines.specs.Limits.{max_lines}
 use Rattle.report_lines.specs.declared.faults.LineWhy.{LineWhy}
 use Rattle.report_lines.specs.declared.faults.LineWhy.TheVariants as why
-use Rattle.report_lines.specs.declared.faults.LineFault.{LineFault}
 use Rattle.campaign_world.specs.declared.section.Section.{Section}
 use Rattle.campaign_world.specs.declared.section.Section.TheVariants as section
 use Rattle.campaign_world.specs.World.{WorldState, first_world}
 use Rattle.campaign_world.specs.Said.{Said, Own, Elsewhere, Reached, Line}
-use Rattle.campaign_world.specs.Causes.{has_ended, takes_events, is_device, said_cause, cause_of}
+use Rattle.campaign_world.specs.Causes.{has_ended, takes_events, said_cause, cause_of}
 use Rattle.campaign_world.specs.Making.{with_device, with_event, made_by, at_events, after_said}
-use Rattle.campaign_world.specs.Script.{one_line_more, after_line, line_result, read_line, read_lines, end_result, campaign_of}
+use Rattle.campaign_world.specs.Script.{one_line_more, after_line, line_result, read_line, read_lines, campaign_of}
 use Rattle.campaign_world.specs.Honest.{are_for_others, has_raw}
 use Rattle.campaign_world.specs.Report.{numbered_lines, lines_under}
 use Rattle.campaign_world.proofs.Lines.{ended, is_ended}
@@ -34,14 +32,13 @@ use Rattle.campaign_laws.proofs.HeadlineCommands.{cut_of}
 use Rattle.campaign_laws.proofs.HeadlineEnds.{IsDeviceFor}
 use Rattle.campaign_laws.proofs.HeadlineForms.{number_there, device_there, reached_passes}
 use Rattle.campaign_laws.proofs.HonestLines.{Stands}
-use Rattle.pair_run.specs.Counting.{counting, IsAlike}
+use Rattle.pair_run.specs.Counting.{IsAlike}
 use Rattle.pair_run.specs.Pair.{PairState, first_pair, side}
-use Rattle.pair_run.specs.PairScript.{after_pair_line, read_pair_lines, pair_has_ended, campaigns_of}
+use Rattle.pair_run.specs.PairScript.{after_pair_line, read_pair_lines, pair_has_ended}
 use Rattle.pair_run.specs.PairLines.{line_to, lines_to, image_of}
-use Rattle.isolation_laws.specs.Isolation.{unreached, lines_alone, part_counting, AreToldAlike, IsOneOf, IsAlone, CampaignsAreIsolated}
-use Rattle.isolation_laws.proofs.Taken.{IsTaken}
+use Rattle.isolation_laws.specs.Isolation.{unreached, lines_alone, part_counting, AreToldAlike, IsOneOf, CampaignsAreIsolated}
 use Rattle.isolation_laws.proofs.Rested.{Rested, reached_alike}
-use Rattle.isolation_laws.proofs.Goes.{pair_read, pair_first, pair_last, Goes, AllGo, all_go}
+use Rattle.isolation_laws.proofs.Goes.{pair_read, pair_first, pair_last, AllGo, all_go}
 use Rattle.isolation_laws.proofs.Alike.{IsPlace, Like, form_like, form_fine}
 
 -- ---- a payload of the other reaches a device
@@ -57,6 +54,7 @@ zip_moved {A} {B} R xs ys n x new all there moves = by (n == 0) there
     at (a ∷ older) (b ∷ others) zero zip is =
         let same : a ≡ x = cc in (moves b (subst (λ (z : A). R z b) same zip.0), zip.1)
     at (a ∷ older) (b ∷ others) (suc k) zip is = (zip.0, at older others k zip.1 is)
+
     by : (b : Bool) → cond b None (slice_get xs (n - 1)) ≡ Some x → AllZip R (slice_set xs (n - 1) new) ys
     by true is = absurd cc
     by false is = at xs ys (n - 1) all is
@@ -247,12 +245,14 @@ told_alike w v id name stage d one server alike there found stage_is = record {
 each_of : (w v : WorldState) → v.server ≡ w.server → AllZip IsAlike w.devices v.devices → (id : ℕ) (d : DeviceState) → numbered w.devices id ≡ Some d
     → (one : DeviceState) × IsOneOf w v id d one
 each_of w v server zip id d there =
-    let found = numbered_found IsAlike w.devices v.devices id d zip there in
-    (found.0, record {
-      there = found.1;
-      alike = found.2;
-      told = λ name stage stage_is. told_alike w v id name stage d found.0 server found.2 there found.1 stage_is;
-    })
+    let found = numbered_found IsAlike w.devices v.devices id d zip there in (
+      found.0,
+      record {
+        there = found.1;
+        alike = found.2;
+        told = λ name stage stage_is. told_alike w v id name stage d found.0 server found.2 there found.1 stage_is;
+      },
+    )
 
 pub isolated : CampaignsAreIsolated
 isolated x image_a image_b lines pair bytes_a bytes_b is =
@@ -263,10 +263,12 @@ isolated x image_a image_b lines pair bytes_a bytes_b is =
     (all_go x image_a image_b lines pair bytes_a bytes_b is) read.0 first in
     let over : (side pair x).section ≡ section.Ended = is_ended (side pair x).section (ended_side x pair read.1) in
     let here : ends.last.section ≡ section.Ended = ended_place (side pair x).section ends.last.section over ends.like.place in
-    let rest = rest_is (side pair x) ends.last ends.like (here ∙ sym over) in
-    (ends.last, record {
-      accepted = whole image (lines_alone x image_a image_b lines) ends.last ends.is here;
-      rest = rest;
-      devices = ends.like.devices;
-      each = each_of (side pair x) ends.last (ap (λ (w : WorldState). w.server) rest) ends.like.devices;
-    })
+    let rest = rest_is (side pair x) ends.last ends.like (here ∙ sym over) in (
+      ends.last,
+      record {
+        accepted = whole image (lines_alone x image_a image_b lines) ends.last ends.is here;
+        rest = rest;
+        devices = ends.like.devices;
+        each = each_of (side pair x) ends.last (ap (λ (w : WorldState). w.server) rest) ends.like.devices;
+      },
+    )

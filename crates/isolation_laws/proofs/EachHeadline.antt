@@ -1,11 +1,10 @@
 -- The headline, the ledger and the life of sessions of each of two campaigns.
-use Rattle.std.proofs.Common.{◌≡◌, ℕ, ◌^◌, ◌<◌, List, ◌++◌, All, codes, Some, Ok, sym, ap, ◌∙◌}
+use Rattle.std.proofs.Common.{◌≡◌, ℕ, ◌^◌, ◌<◌, List, All, codes, Some, sym, ap, ◌∙◌}
 use Rattle.std.specs.Fmt.{decimal}
 use Rattle.std.proofs.lemmas.List.{append_cancel_left, append_cancel_right}
 use Rattle.wire_base.specs.Numbered.{numbered}
 use Rattle.frag_session.specs.Session.{Session, seen_of}
 use Rattle.device_core.specs.Device.{DeviceState}
-use Rattle.device_core.specs.SessionTable.{session_at}
 use Rattle.campaign_server.specs.declared.stage.Stage.{Stage}
 use Rattle.campaign_server.specs.Server.{ledger}
 use Rattle.script_lines.specs.declared.forms.Campaign.{Campaign}
@@ -24,10 +23,10 @@ use Rattle.campaign_laws.proofs.HeadlineLives.{live}
 use Rattle.campaign_laws.proofs.Ledger.{the_ledger_is_true}
 use Rattle.pair_run.specs.Pair.{PairState, first_pair, side}
 use Rattle.pair_run.specs.PairLines.{image_of}
-use Rattle.pair_run.specs.PairReport.{pair_name, part_of}
+use Rattle.pair_run.specs.PairReport.{pair_name}
 use Rattle.pair_run.proofs.ReadAlone.{reads_alone}
 use Rattle.pair_laws.specs.EachCampaign.{own_lines}
-use Rattle.isolation_laws.specs.EachHeadline.{IsScriptOfTwo, HasSession, part_saying, owner_of, IsToldOf, EachHasItsHeadline, EachLedgerIsTrue, EachSessionLives}
+use Rattle.isolation_laws.specs.EachHeadline.{IsScriptOfTwo, HasSession, part_saying, IsToldOf, EachHasItsHeadline, EachLedgerIsTrue, EachSessionLives}
 use Rattle.isolation_laws.proofs.Goes.{all_go, lines_honest, lines_fit, indexes_apart}
 
 honest : (x : Campaign) (image_a image_b : List ℕ) (lines : List (List ℕ)) (pair : PairState) → IsScriptOfTwo image_a image_b lines pair

@@ -1,5 +1,5 @@
 -- Line by line: what holds of each of two campaigns of a script that is accepted.
-use Rattle.std.proofs.Common.{◌≡◌, ℕ, ◌+◌, ◌^◌, ◌<◌, Bool, true, false, not, cond, List, [], ◌∷◌, All, Option, None, Some, Result, Ok, Err, refl, sym, ap, ◌∙◌, subst, true≢false}
+use Rattle.std.proofs.Common.{◌≡◌, ℕ, ◌^◌, ◌<◌, Bool, true, false, not, cond, List, [], ◌∷◌, All, Option, None, Some, Result, Ok, Err, refl, sym, ap, ◌∙◌, subst, true≢false}
 use Rattle.std.specs.List.{AllByRecursion}
 use Rattle.std.proofs.lemmas.Bool.{and_parts}
 use Rattle.wire_base.specs.declared.refusal.Direction.TheVariants.{Down as Downwards}
@@ -14,20 +14,19 @@ use Rattle.report_lines.specs.declared.faults.LineFault.{LineFault}
 use Rattle.campaign_world.specs.declared.numbered.SentPayload.{SentPayload}
 use Rattle.campaign_world.specs.declared.section.Section.{Section}
 use Rattle.campaign_world.specs.declared.section.Section.TheVariants as section
-use Rattle.campaign_world.specs.World.{WorldState, first_world}
-use Rattle.campaign_world.specs.Said.{Said, Own, Elsewhere, Reached, Line}
-use Rattle.campaign_world.specs.Causes.{has_ended, takes_events, may_come, form_cause, said_cause, cause_of}
+use Rattle.campaign_world.specs.World.{WorldState}
+use Rattle.campaign_world.specs.Said.{Said, Own, Elsewhere, Reached}
+use Rattle.campaign_world.specs.Causes.{has_ended, takes_events, may_come, form_cause, said_cause}
 use Rattle.campaign_world.specs.Making.{after_form, after_said}
-use Rattle.campaign_world.specs.Script.{one_line_more, after_line}
 use Rattle.campaign_world.specs.Honest.{is_raw, are_for_others, has_raw, AreHonest}
 use Rattle.campaign_laws.specs.Fields.{LineFits, AllFit}
 use Rattle.campaign_laws.proofs.HeadlineForms.{passes, is_early, not_header, not_image, reached_passes}
 use Rattle.campaign_laws.proofs.HonestLines.{Stands, first_stands, line_stands}
 use Rattle.campaign_laws.proofs.Untouched.{get_all}
-use Rattle.pair_run.specs.Pair.{PairState, first_pair, side, other}
+use Rattle.pair_run.specs.Pair.{PairState, first_pair, side}
 use Rattle.pair_run.specs.PairCauses.{pair_cause_of}
 use Rattle.pair_run.specs.PairScript.{after_pair_line, pair_line_result, read_pair_line, read_pair_lines, pair_has_ended, pair_end, campaigns_of}
-use Rattle.pair_run.specs.PairLines.{line_to, lines_to, image_of}
+use Rattle.pair_run.specs.PairLines.{lines_to, image_of}
 use Rattle.isolation_laws.proofs.PairFields.{Has}
 use Rattle.isolation_laws.proofs.Taken.{SaysFit, IsSentToAll, IsApartFrom, is_late, IsTaken, AreTaken, taken}
 use Rattle.isolation_laws.proofs.Indexes.{said_late, index_stays, then_fits}
@@ -168,7 +167,7 @@ apart_behind pair line t k late = by (is_late pair.b.section) refl
         let new = grown pair.b t.b t.by_b.fine was now pair.a t.apart in (
           behind_late campaign.A pair line t.a t.by_a new.0,
           λ same. new.1 (sym (behind_index campaign.A pair line t.a t.by_a new.0) ∙ same
-          ∙ ap (λ (w : WorldState). w.server.plan.index) t.by_b.behind),
+              ∙ ap (λ (w : WorldState). w.server.plan.index) t.by_b.behind),
         )
 
 all_apart : (lines : List (List ℕ)) (pair last : PairState) → read_pair_lines (Ok pair) lines ≡ Ok last → Apart pair → Apart last

@@ -1,5 +1,5 @@
 -- Between two lines no device of a campaign has a reboot to come, and all that was sent is tame.
-use Rattle.std.proofs.Common.{◌≡◌, ◌⊎◌, inl, inr, ℕ, zero, suc, ◌+◌, ◌-◌, ◌^◌, ◌<◌, Bool, true, false, not, List, [], ◌∷◌, ◌++◌, length, All, Option, Some, None, IfSome, Result, Ok, Err, refl, sym, ap, ◌∙◌, subst, true≢false}
+use Rattle.std.proofs.Common.{◌≡◌, ℕ, zero, suc, ◌+◌, ◌-◌, ◌^◌, ◌<◌, Bool, true, false, not, List, [], ◌∷◌, All, Option, Some, None, IfSome, Ok, Err, refl, sym, ap, ◌∙◌, subst, true≢false}
 use Rattle.std.specs.List.{AllByRecursion, slice_set}
 use Rattle.std.specs.Result.{result_ok}
 use Rattle.wire_base.specs.Numbered.{numbered}
@@ -8,8 +8,6 @@ use Rattle.wire_base.specs.declared.refusal.Direction.TheVariants.{Down as Downw
 use Rattle.package_grammar.specs.declared.downlink.Downlink.{Downlink}
 use Rattle.package_grammar.specs.Reading.{Reading, reading_of}
 use Rattle.device_core.specs.Device.{DeviceState, first_device}
-use Rattle.device_core.specs.Deliver.{delivery, waking}
-use Rattle.device_core.specs.Firmware.{after_migration}
 use Rattle.device_core.specs.Events.{Event, Wakes, Receives, Migrates, event_step, uplinks_taken}
 use Rattle.campaign_server.specs.Server.{ServerState, DownlinkCommand, ledger}
 use Rattle.campaign_server.specs.Asking.{by_unicast, request_of}
@@ -18,20 +16,18 @@ use Rattle.campaign_server.specs.Time.{time_answer}
 use Rattle.campaign_server.specs.Uplinks.{with_answers, read_uplink, uplink_step}
 use Rattle.script_lines.specs.declared.forms.Form.{Form}
 use Rattle.script_lines.specs.declared.forms.Form.TheVariants.{Header, Image, Group, WindowC, WindowB, Device, At as Time, Wake, Migrate, Power, Ask, Frag, Status, Down, Raw, Air, RawAir, Up, End}
-use Rattle.campaign_world.specs.declared.numbered.SentPayload.{SentPayload}
 use Rattle.campaign_world.specs.declared.numbered.MadeUplink.{MadeUplink}
-use Rattle.campaign_world.specs.declared.section.Section.{Section}
 use Rattle.campaign_world.specs.World.{WorldState}
 use Rattle.campaign_world.specs.Said.{Said, Own, Elsewhere, Reached}
-use Rattle.campaign_world.specs.Causes.{form_cause, said_cause, may_come}
-use Rattle.campaign_world.specs.Making.{with_sent, with_device, with_event, with_event_of, after_answer, after_up, at_events, config_of, after_form, after_said}
+use Rattle.campaign_world.specs.Causes.{form_cause, said_cause}
+use Rattle.campaign_world.specs.Making.{with_sent, with_device, with_event, after_answer, after_up, at_events, config_of, after_form, after_said}
 use Rattle.campaign_world.specs.Honest.{are_for_others, has_raw}
 use Rattle.campaign_world.proofs.Zips.{all_more}
 use Rattle.campaign_laws.specs.Headline.{HasNoOther}
 use Rattle.campaign_laws.proofs.Untouched.{get_all}
 use Rattle.campaign_laws.proofs.HeadlineCommands.{cut_of, IsCut}
 use Rattle.campaign_laws.proofs.HeadlineWorlds.{Keeps}
-use Rattle.campaign_laws.proofs.HeadlineForms.{passes, is_early, is_strange, late_cut, number_there, device_there, payload_there, reached_passes}
+use Rattle.campaign_laws.proofs.HeadlineForms.{passes, is_strange, late_cut, payload_there, reached_passes}
 use Rattle.campaign_laws.proofs.Airing.{heard_as, is_heard}
 use Rattle.campaign_laws.proofs.HonestLines.{Stands, alone_at}
 use Rattle.campaign_laws.proofs.Indexed.{IsIndexed}

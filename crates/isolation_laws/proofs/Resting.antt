@@ -1,5 +1,5 @@
 -- What a campaign's own server sends leaves no reboot to come.
-use Rattle.std.proofs.Common.{◌≡◌, ◌⊎◌, inl, inr, ℕ, ◌+◌, ◌-◌, ◌%◌, ◌^◌, ◌<◌, Bool, true, false, cond, List, [], ◌∷◌, length, nat_lt, nat_le, Option, Some, None, is_none, slice_set, Result, Ok, Err, refl, sym, ap, ◌∙◌, subst, arith}
+use Rattle.std.proofs.Common.{◌≡◌, ◌⊎◌, inl, inr, ℕ, ◌+◌, ◌-◌, ◌^◌, ◌<◌, Bool, true, false, cond, List, [], ◌∷◌, length, nat_lt, nat_le, Some, None, is_none, slice_set, Result, Ok, Err, refl, sym, ◌∙◌, subst, arith}
 use Rattle.std.specs.List.{AllByRecursion}
 use Rattle.wire_base.specs.declared.refusal.Direction.TheVariants.{Down}
 use Rattle.wire_base.specs.Rows.{IsListed}
@@ -10,12 +10,11 @@ use Rattle.sync_wire.specs.declared.cmd.Cmd.TheVariants as s
 use Rattle.package_grammar.specs.declared.command.Command.{Command}
 use Rattle.package_grammar.specs.declared.command.Command.TheVariants.{Sync, Cast}
 use Rattle.package_grammar.specs.declared.downlink.Downlink.{Downlink}
-use Rattle.package_grammar.specs.Grammar.{row, canonical, SpellsTo, IsReading}
+use Rattle.package_grammar.specs.Grammar.{row, SpellsTo, IsReading}
 use Rattle.package_grammar.specs.Reading.{Reading, reading_of}
 use Rattle.package_grammar.proofs.ReadingLaw.{reads}
 use Rattle.clock_sync.specs.Clock.{device_time}
 use Rattle.mc_group.specs.Groups.{group_of, group_at}
-use Rattle.mc_group.specs.declared.group.Group.{Group}
 use Rattle.frag_session.specs.Session.{drop_cause}
 use Rattle.device_core.specs.SessionTable.{session_at}
 use Rattle.device_core.specs.declared.arrival.Arrival.{Arrival}
@@ -25,7 +24,7 @@ use Rattle.device_core.specs.declared.delivered.OutboxFull as outbox
 use Rattle.device_core.specs.Device.{DeviceState, with_counts, after_deaf, after_full, after_dropped}
 use Rattle.device_core.specs.Answers.{DeviceStep, no_answer, one_answer, after_answers}
 use Rattle.device_core.specs.Clock.{answer_step, periodicity_step, resync_step}
-use Rattle.device_core.specs.ClassSessions.{class_session_step, hears}
+use Rattle.device_core.specs.ClassSessions.{class_session_step}
 use Rattle.device_core.specs.Groups.{groups_step, group_setup_step, without_group, group_delete_step}
 use Rattle.device_core.specs.Firmware.{version_step, upgrade_step, delete_image_step, countdown_step, after_due_reboot, after_migration, is_reached}
 use Rattle.device_core.specs.Fragments.{setup_step, status_step, delete_step, heard_step, fragment_step}

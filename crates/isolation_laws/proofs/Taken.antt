@@ -1,5 +1,5 @@
 -- What a line of two campaigns that no cause refuses is to each of them.
-use Rattle.std.proofs.Common.{◌≡◌, ℕ, ◌+◌, Bool, true, false, not, cond, ◌==◌, ◌&&◌, ◌||◌, nat_le, nat_lt, List, [], ◌∷◌, length, Option, Some, None, is_none, Result, Ok, Err, refl, sym, ap, ◌∙◌, subst, true≢false}
+use Rattle.std.proofs.Common.{◌≡◌, ℕ, ◌+◌, Bool, true, false, not, cond, ◌==◌, ◌&&◌, ◌||◌, nat_le, nat_lt, List, length, Option, Some, None, is_none, Ok, refl, sym, ap, ◌∙◌, subst, true≢false}
 use Rattle.std.proofs.lemmas.Bool.{and_parts, eqb-false}
 use Rattle.wire_base.specs.Numbered.{numbered}
 use Rattle.script_lines.specs.declared.forms.Campaign.{Campaign}
@@ -17,7 +17,7 @@ use Rattle.campaign_world.specs.declared.numbered.SentPayload.{SentPayload}
 use Rattle.campaign_world.specs.declared.section.Section.{Section}
 use Rattle.campaign_world.specs.declared.section.Section.TheVariants as section
 use Rattle.campaign_world.specs.World.{WorldState}
-use Rattle.campaign_world.specs.Said.{Said, Own, Elsewhere, Reached, Line}
+use Rattle.campaign_world.specs.Said.{Said, Own, Elsewhere, Reached}
 use Rattle.campaign_world.specs.Causes.{takes_events, is_device, form_cause, said_cause, cause_of}
 use Rattle.campaign_world.specs.Script.{after_line}
 use Rattle.pair_run.specs.declared.owners.Owner.{Owner}
@@ -26,8 +26,8 @@ use Rattle.pair_run.specs.declared.targets.Way.TheVariants as way
 use Rattle.pair_run.specs.declared.targets.Target.{Target}
 use Rattle.pair_run.specs.declared.targets.Target.TheVariants.{Header, At, End, One, Across, Nobody}
 use Rattle.pair_run.specs.Pair.{PairState, side, other, is_same}
-use Rattle.pair_run.specs.Targets.{to_owner, carried_form, carried_target, common_target, named_target, count_of, target_for, target_of}
-use Rattle.pair_run.specs.PairCauses.{pair_cause_of, cause_of_pair_form, pair_form_cause, common_cause, crossing_cause, may_cross, goes_by, target_cause, target_in, pair_may_come, plan_may_come, is_unplanned, is_planned, is_next, is_apart}
+use Rattle.pair_run.specs.Targets.{to_owner, carried_form, carried_target, common_target, named_target, target_for, target_of}
+use Rattle.pair_run.specs.PairCauses.{pair_cause_of, cause_of_pair_form, pair_form_cause, common_cause, crossing_cause, may_cross, goes_by, target_cause, target_in, pair_may_come, is_planned, is_next, is_apart}
 use Rattle.pair_run.specs.PairMaking.{said_to, reached_by, after_target}
 use Rattle.pair_run.specs.PairScript.{after_pair_line}
 use Rattle.pair_run.specs.PairLines.{line_to}

@@ -1,22 +1,18 @@
 -- What a server sends sets no reboot that lasts, and what it sends to all is a fragment or a status request of its own index.
-use Rattle.std.proofs.Common.{◌≡◌, ◌⊎◌, inl, inr, ℕ, ◌+◌, ◌-◌, ◌≤◌, ◌<◌, ◌^◌, Bool, true, false, cond, not, ◌==◌, ◌&&◌, List, [], ◌∷◌, ◌++◌, length, All, nat_lt, Option, Some, None, IfSome, Result, Ok, Err, refl, sym, ap, ◌∙◌, subst, arith, ltb-false, ne_eqb, true≢false}
-use Rattle.std.specs.List.{AllByRecursion, slice_set}
+use Rattle.std.proofs.Common.{◌≡◌, ◌⊎◌, inl, inr, ℕ, ◌+◌, ◌≤◌, Bool, true, false, cond, not, ◌==◌, ◌&&◌, List, [], ◌∷◌, length, nat_lt, Option, Some, None, IfSome, Result, Ok, Err, refl, sym, ap, ◌∙◌, subst, arith, ltb-false, ne_eqb}
 use Rattle.std.specs.Result.{result_ok}
 use Rattle.std.proofs.lemmas.Bool.{lt-ltb}
 use Rattle.wire_base.specs.Numbered.{numbered}
 use Rattle.wire_base.specs.declared.refusal.Direction.TheVariants.{Down as Downwards}
-use Rattle.wire_base.specs.declared.refusal.Direction.TheVariants as direction
 use Rattle.frag_encoder.specs.Encoding.{nb_frag_of}
-use Rattle.cast_wire.specs.declared.cmd.Cmd.{Cmd as CastCmd}
-use Rattle.cast_wire.specs.declared.cmd.Cmd.TheVariants.{DataFragment, FragSessionStatusReq, FragSessionSetupReq}
+use Rattle.cast_wire.specs.declared.cmd.Cmd.TheVariants.{FragSessionStatusReq}
 use Rattle.sync_wire.specs.declared.cmd.Cmd.TheVariants.{DevVersionReq, DevUpgradeImageReq, DevRebootCountdownReq}
 use Rattle.package_grammar.specs.declared.command.Command.{Command}
 use Rattle.package_grammar.specs.declared.command.Command.TheVariants.{Sync, Cast}
 use Rattle.package_grammar.specs.declared.downlink.Downlink.{Downlink}
-use Rattle.package_grammar.specs.declared.downlink.To.{To}
 use Rattle.package_grammar.specs.declared.downlink.To.TheVariants.{Unicast}
 use Rattle.package_grammar.specs.Grammar.{canonical}
-use Rattle.package_grammar.specs.Reading.{Reading, reading_of}
+use Rattle.package_grammar.specs.Reading.{reading_of}
 use Rattle.campaign_server.specs.declared.plan.Kind.{Kind}
 use Rattle.campaign_server.specs.declared.plan.Kind.TheVariants as kind
 use Rattle.campaign_server.specs.declared.plan.PlanGroup.{PlanGroup}

@@ -1,6 +1,6 @@
 -- That two campaigns of one script are isolated (this project's profile): what the other sends changes nothing of a campaign but
 -- the counters of its devices.
-use Rattle.std.specs.Prelude.{◌≡◌, ℕ, ◌^◌, ◌<◌, List, map, All, Some, Ok, Err}
+use Rattle.std.specs.Prelude.{◌≡◌, ℕ, ◌^◌, ◌<◌, List, map, All, Some, Ok}
 use Rattle.std.specs.List.{AllZip}
 use Rattle.wire_base.specs.Numbered.{numbered}
 use Rattle.script_lines.specs.declared.forms.Campaign.{Campaign}
