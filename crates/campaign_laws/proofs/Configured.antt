@@ -79,6 +79,8 @@ with_line lines w (Own (Device name class hw rows offset key descriptor v1 k11 f
               sessions_are = refl;
               groups_are = refl;
               area_is = refl;
+              held_is = refl;
+              span_is = refl;
             },
           )
     ]

@@ -21,7 +21,7 @@ use Rattle.device_core.specs.declared.config.Class.TheVariants as device_class
 use Rattle.device_core.specs.declared.config.DeviceConfig.{DeviceConfig}
 use Rattle.device_core.specs.SessionTable.{SessionTable, session_at}
 use Rattle.device_core.specs.Device.{DeviceState, max_area}
-use Rattle.campaign_world.specs.Making.{formats_of, root_of}
+use Rattle.campaign_world.specs.Making.{formats_of, root_of, span_of}
 use Rattle.device_core.specs.ClassSessions.{hears}
 use Rattle.device_core.specs.Firmware.{after_due_reboot}
 use Rattle.device_core.specs.Deliver.{via_of}
@@ -75,6 +75,8 @@ pub record IsConfigured (lines : List Line) (id : ℕ) (config : DeviceConfig) (
   pub sessions_are : config.sessions ≡ 4
   pub groups_are : config.groups ≡ 4
   pub area_is : config.area ≡ max_area
+  pub held_is : config.held ≡ flash
+  pub span_is : config.span ≡ span_of flash
 
 -- the configuration is that of the device's line
 abbrev pub IsOfItsLine : List Line → (id : ℕ) → DeviceConfig → Type 0

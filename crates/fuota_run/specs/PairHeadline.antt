@@ -73,7 +73,7 @@ pub record IsOneOfTwo (x : Campaign) (image_a image_b script : List ℕ) (pair :
       → IsSessionOf x image_a image_b (lines_of script) pair id device index s
       → IsVerdictOfTwo x image_a image_b script pair id index s
 
--- so each of two campaigns is that are accepted
+-- so is each of any two campaigns that are accepted
 abbrev pub AreTwoCampaigns : Type 0
 AreTwoCampaigns = (x : Campaign) (image_a image_b script : List ℕ) (pair : PairState)
     → campaigns_in image_a image_b script ≡ Ok pair → IsOneOfTwo x image_a image_b script pair

@@ -1,5 +1,5 @@
-//! The campaign of a firmware update over LoRaWAN (TS004-1.0.0 and TS006-1.0.0): a server sends an image in
-//! fragments, a device hears what a script lets through, and a report says where each stands.
+//! The campaign of a firmware update over LoRaWAN (TS004-1.0.0 and TS006-1.0.0), or two of one script: a server sends an
+//! image in fragments, a device hears what a script lets through, and a report says where each stands.
 //! A run ends with the status and the text that its words and files define, line by line as the script tells it,
 //! and each other status says what failed.
 //! Sessions are left to `frag_session`, the bytes of commands to `cast_wire`, and real files and their names

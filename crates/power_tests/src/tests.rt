@@ -1,0 +1,187 @@
+//! A small update of a device whose sessions lie in flash, stopped at each call of the flash.
+
+ghost use Rattle.std.specs.Prelude.{◌≤◌};
+
+use device_core::{Class, Delivered, Device, DeviceConfig};
+use flash_session::{MemFlash, StopFlash};
+use frag_session::Verdict;
+use image_slots::ImageState;
+use mc_keys::RootKind;
+use package_grammar::{Downlink, To};
+use std::alloc::Global;
+use std::process::Abort;
+use std::test::*;
+use wire_base::Payload;
+
+/// An image file for hardware 1 with firmware 2, its body and digest those of the text abc, in two pieces of 26 bytes.
+const IMAGE: [u8; 52] = [
+    0x46, 0x55, 0x49, 0x4d, 0x01, 0x01, 0x00, 0x00, 0x00, 0x02, 0x00, 0x00, 0x00, 0x03, 0x00, 0x00,
+    0x00, 0xba, 0x78, 0x16, 0xbf, 0x8f, 0x01, 0xcf, 0xea, 0x41, 0x41, 0x40, 0xde, 0x5d, 0xae, 0x22,
+    0x23, 0xb0, 0x03, 0x61, 0xa3, 0x96, 0x17, 0x7a, 0x9c, 0xb4, 0x10, 0xff, 0x61, 0xf2, 0x00, 0x15,
+    0xad, 0x61, 0x62, 0x63,
+];
+
+/// Room for the records of five fragments.
+const SPAN: u32 = 24_640 + 5 * 36;
+
+/// Room for the steps of all that the update writes.
+const ROOM: u32 = 120_000;
+
+/// More calls than the update makes.
+const ALL: u64 = 1_000_000;
+
+const CONFIG: DeviceConfig = DeviceConfig {
+    class: Class::C,
+    hw: 1,
+    formats: 1,
+    rows: 2,
+    offset: 0,
+    key: [0; 16],
+    root: RootKind::V10,
+    descriptor: None,
+    sessions: 4,
+    groups: 1,
+    area: 64,
+    held: true,
+    span: SPAN,
+};
+
+/// The payloads of the update on port 201: a status request with a setup of session 0 behind it, piece 1 twice, a setup of session
+/// 3, piece 2, and the end of session 3 with a status request behind it.
+const PAYLOADS: [&[u8]; 6] = [
+    &[0x01, 0x01, 0x02, 0x00, 2, 0, 26, 0x00, 0, 0, 0, 0, 0],
+    &[
+        0x08, 0x01, 0x00, 0x46, 0x55, 0x49, 0x4d, 0x01, 0x01, 0x00, 0x00, 0x00, 0x02, 0x00, 0x00,
+        0x00, 0x03, 0x00, 0x00, 0x00, 0xba, 0x78, 0x16, 0xbf, 0x8f, 0x01, 0xcf, 0xea, 0x41,
+    ],
+    &[
+        0x08, 0x01, 0x00, 0x46, 0x55, 0x49, 0x4d, 0x01, 0x01, 0x00, 0x00, 0x00, 0x02, 0x00, 0x00,
+        0x00, 0x03, 0x00, 0x00, 0x00, 0xba, 0x78, 0x16, 0xbf, 0x8f, 0x01, 0xcf, 0xea, 0x41,
+    ],
+    &[0x02, 0x30, 1, 0, 26, 0x00, 0, 0, 0, 0, 0],
+    &[
+        0x08, 0x02, 0x00, 0x41, 0x40, 0xde, 0x5d, 0xae, 0x22, 0x23, 0xb0, 0x03, 0x61, 0xa3, 0x96,
+        0x17, 0x7a, 0x9c, 0xb4, 0x10, 0xff, 0x61, 0xf2, 0x00, 0x15, 0xad, 0x61, 0x62, 0x63,
+    ],
+    &[0x03, 0x03, 0x01, 0x01],
+];
+
+/// What sessions 0 and 3 received; none where there is no session.
+type Shown = (Option<u16>, Option<u16>);
+
+fn device(rt: &impl Abort, alloc: Global, flash: MemFlash, calls: u64) -> Device<StopFlash> {
+    Device::reserve(alloc, CONFIG, StopFlash::over(flash, calls)).expect(rt, "no device")
+}
+
+fn power(rt: &impl Abort, device: &mut Device<StopFlash>) -> bool {
+    if !device.is_held() {
+        panic!(rt; "its sessions are in memory");
+    }
+    device.power().is_ok()
+}
+
+/// Whether a payload acted; a device whose flash failed is down.
+fn acted(rt: &impl Abort, device: &mut Device<StopFlash>, payload: &[u8]) -> bool {
+    assert!(rt; payload.len() <= 242);
+    let down = Downlink {
+        to: To::Unicast,
+        port: 201,
+        payload: Payload::from_slice(payload),
+    };
+    match device.deliver(0, &down, 0, 1) {
+        Delivered::Done => true,
+        Delivered::FlashFault => {
+            assert!(rt; device.is_down());
+            assert!(rt; device.deliver(0, &down, 0, 1) == Delivered::Down);
+            false
+        }
+        _ => panic!(rt; "a payload is not heard"),
+    }
+}
+
+fn received(device: &Device<StopFlash>, index: u8) -> Option<u16>
+    requires { index ≤ 3 }
+{
+    let view = device.session(index)?;
+    Some(view.received)
+}
+
+fn shows(device: &Device<StopFlash>) -> Shown {
+    (received(device, 0), received(device, 3))
+}
+
+/// What the sessions show before each payload, and behind the last.
+fn all_shown(rt: &impl Abort, alloc: Global) -> Result<[Shown; 7], Fail> {
+    let flash = MemFlash::reserve(alloc, 4 * SPAN, ROOM, Vec::new(alloc))?;
+    let mut device = device(rt, alloc, flash, ALL);
+    assert!(rt; device.is_down());
+    assert!(rt; power(rt, &mut device));
+    let mut all = [(None, None); 7];
+    for (at, payload) in PAYLOADS.iter().enumerate() {
+        all[at] = shows(&device);
+        assert!(rt; acted(rt, &mut device, payload));
+    }
+    all[6] = shows(&device);
+    is_done(rt, &device);
+    Ok(all)
+}
+
+/// The image is whole, and is to run next.
+fn is_done(rt: &impl Abort, device: &Device<StopFlash>) {
+    match device.session(0) {
+        Some(view) => {
+            assert_eq!(rt; view.verdict, Verdict::Complete(1));
+            assert!(rt; view.file == IMAGE.as_slice());
+        }
+        None => panic!(rt; "no session"),
+    }
+    assert_eq!(rt; received(device, 3), None);
+    assert!(rt; device.slots().next() == ImageState::Valid(2));
+}
+
+/// The update with a flash that is stopped after so many calls, and another device over what it left; true where no call was
+/// stopped.
+fn goes_on(rt: &impl Abort, alloc: Global, all: &[Shown; 7], calls: u64) -> Result<bool, Fail> {
+    let flash = MemFlash::reserve(alloc, 4 * SPAN, ROOM, Vec::new(alloc))?;
+    let mut first = device(rt, alloc, flash, calls);
+    let mut at = 0;
+    let mut stopped = !power(rt, &mut first);
+    if !stopped {
+        for (number, payload) in PAYLOADS.iter().enumerate() {
+            if !acted(rt, &mut first, payload) {
+                stopped = true;
+                break;
+            }
+            at = number + 1;
+        }
+    }
+    assert_eq!(rt; stopped, first.is_down());
+    let mut again = device(rt, alloc, first.close().inner(), ALL);
+    assert!(rt; power(rt, &mut again));
+    let shown = shows(&again);
+    // As before the payload that was stopped, behind it, or between where it sets a session up or ends one.
+    assert!(rt; at <= 6);
+    let behind = if at < 6 { at + 1 } else { at };
+    let is_between = at == 0 || at == 3 || at == 5;
+    assert!(rt; shown == all[at] || shown == all[behind] || is_between);
+    let from = if shown == all[behind] { behind } else { at };
+    for (number, payload) in PAYLOADS.iter().enumerate() {
+        if number >= from {
+            assert!(rt; acted(rt, &mut again, payload));
+        }
+    }
+    is_done(rt, &again);
+    Ok(!stopped)
+}
+
+#[test]
+fn an_update_goes_on_after_a_stop_at_any_call(rt: HostRuntime) -> Result<(), Fail> {
+    let all = all_shown(&rt, rt.alloc())?;
+    for calls in 0..1_000 {
+        if goes_on(&rt, rt.alloc(), &all, calls)? {
+            assert!(&rt; calls > 25);
+            return Ok(());
+        }
+    }
+    panic!(&rt; "it never ends");
+}
