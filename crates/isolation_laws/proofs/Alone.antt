@@ -1,5 +1,5 @@
 -- A campaign beside another is the one that it is alone, but for the counters of its devices.
-use Rattle.std.proofs.Common.{◌≡◌, inl, inr, ℕ, zero, suc, ◌+◌, ◌-◌, ◌==◌, Bool, true, false, not, cond, List, [], ◌∷◌, ◌++◌, length, map, slice_get, nat_le, Option, Some, None, Ok, Err, refl, sym, ap, ◌∙◌, subst, append-nil}
+use Rattle.std.proofs.Common.{◌≡◌, inl, inr, ℕ, zero, suc, ◌+◌, ◌-◌, ◌==◌, Bool, true, false, not, cond, List, [], ◌∷◌, ◌++◌, length, map, slice_get, nat_le, Option, Some, None, Result, Ok, Err, refl, sym, ap, ◌∙◌, subst, append-nil}
 use Rattle.std.specs.List.{AllZip, slice_set}
 use Rattle.std.proofs.lemmas.Bool.{and_parts}
 use Rattle.wire_base.specs.Numbered.{numbered}
@@ -16,6 +16,7 @@ use Rattle.script_lines.specs.declared.forms.Campaign.{Campaign}
 use Rattle.script_lines.specs.declared.forms.Campaign.TheVariants as campaign
 use Rattle.script_lines.specs.Limits.{max_lines}
 use Rattle.report_lines.specs.declared.faults.LineWhy.{LineWhy}
+use Rattle.report_lines.specs.declared.faults.LineFault.{LineFault}
 use Rattle.report_lines.specs.declared.faults.LineWhy.TheVariants as why
 use Rattle.campaign_world.specs.declared.section.Section.{Section}
 use Rattle.campaign_world.specs.declared.section.Section.TheVariants as section
@@ -32,11 +33,11 @@ use Rattle.campaign_laws.proofs.HeadlineCommands.{cut_of}
 use Rattle.campaign_laws.proofs.HeadlineEnds.{IsDeviceFor}
 use Rattle.campaign_laws.proofs.HeadlineForms.{number_there, device_there, reached_passes}
 use Rattle.campaign_laws.proofs.HonestLines.{Stands}
-use Rattle.pair_run.specs.Counting.{IsAlike}
+use Rattle.pair_run.specs.Counting.{counting, IsAlike}
 use Rattle.pair_run.specs.Pair.{PairState, first_pair, side}
 use Rattle.pair_run.specs.PairScript.{after_pair_line, read_pair_lines, pair_has_ended}
 use Rattle.pair_run.specs.PairLines.{line_to, lines_to, image_of}
-use Rattle.isolation_laws.specs.Isolation.{unreached, lines_alone, part_counting, AreToldAlike, IsOneOf, CampaignsAreIsolated}
+use Rattle.isolation_laws.specs.Isolation.{unreached, lines_alone, DifferInCounters, part_counting, AreToldAlike, IsOneOf, CampaignsAreIsolated, NoOtherCampaignMatters}
 use Rattle.isolation_laws.proofs.Rested.{Rested, reached_alike}
 use Rattle.isolation_laws.proofs.Goes.{pair_read, pair_first, pair_last, AllGo, all_go}
 use Rattle.isolation_laws.proofs.Alike.{IsPlace, Like, form_like, form_fine}
@@ -255,20 +256,54 @@ each_of w v server zip id d there =
     )
 
 pub isolated : CampaignsAreIsolated
-isolated x image_a image_b lines pair bytes_a bytes_b is =
+isolated x image_a image_b lines pair script =
     let image : List ℕ = image_of x image_a image_b in
-    let read = pair_read image_a image_b lines pair is in
+    let read = pair_read image_a image_b lines pair script.accepted in
     let first = first_like (side (first_pair image_a image_b) x) image (first_side x image_a image_b) in
     let ends = all_alone x image (side pair x).server.plan.index lines (first_pair image_a image_b) pair (first_world image)
-    (all_go x image_a image_b lines pair bytes_a bytes_b is) read.0 first in
+    (all_go x image_a image_b lines pair script.bytes_a script.bytes_b script.accepted) read.0 first in
     let over : (side pair x).section ≡ section.Ended = is_ended (side pair x).section (ended_side x pair read.1) in
     let here : ends.last.section ≡ section.Ended = ended_place (side pair x).section ends.last.section over ends.like.place in
     let rest = rest_is (side pair x) ends.last ends.like (here ∙ sym over) in (
       ends.last,
       record {
         accepted = whole image (lines_alone x image_a image_b lines) ends.last ends.is here;
-        rest = rest;
-        devices = ends.like.devices;
+        differ = record { rest = rest; devices = ends.like.devices };
         each = each_of (side pair x) ends.last (ap (λ (w : WorldState). w.server) rest) ends.like.devices;
       },
     )
+
+-- ---- two campaigns that are the same alone
+
+alike_between : (d e one : DeviceState) → IsAlike d one → IsAlike e one → IsAlike d e
+alike_between d e one here there = ap (counting e.counts) (here ∙ sym there)
+
+all_between : (ds es ones : List DeviceState) → AllZip IsAlike ds ones → AllZip IsAlike es ones → AllZip IsAlike ds es
+all_between [] [] ones here there = tt
+all_between [] (e ∷ es) [] here there = absurd there
+all_between [] (e ∷ es) (one ∷ ones) here there = absurd here
+all_between (d ∷ ds) es [] here there = absurd here
+all_between (d ∷ ds) [] (one ∷ ones) here there = absurd there
+all_between (d ∷ ds) (e ∷ es) (one ∷ ones) here there =
+    (alike_between d e one here.0 there.0, all_between ds es ones here.1 there.1)
+
+same_alone : (w v alone : WorldState) → DifferInCounters w alone → DifferInCounters v alone → DifferInCounters w v
+same_alone w v alone here there = record {
+  rest = ap (λ (x : WorldState). record x { devices = v.devices }) (sym there.rest ∙ here.rest);
+  devices = all_between w.devices v.devices alone.devices here.devices there.devices;
+}
+
+one_alone : (one other : Result WorldState LineFault) (w v : WorldState) → one ≡ Ok w → other ≡ Ok v → one ≡ other → v ≡ w
+one_alone one other w v is its same =
+    let both : Ok v ≡ Ok w = sym its ∙ sym same ∙ is in cc
+
+pub no_other_matters : NoOtherCampaignMatters
+no_other_matters x image_a image_b lines pair other_a other_b others beside script other_script image_same lines_same =
+    let here = isolated x image_a image_b lines pair script in
+    let there = isolated x other_a other_b others beside other_script in
+    let campaigns : campaign_of (image_of x image_a image_b) (lines_alone x image_a image_b lines)
+    ≡ campaign_of (image_of x other_a other_b) (lines_alone x other_a other_b others) =
+    ap (λ (i : List ℕ). campaign_of i (lines_alone x image_a image_b lines)) image_same
+    ∙ ap (λ (ls : List Line). campaign_of (image_of x other_a other_b) ls) lines_same in
+    let same = one_alone _ _ here.0 there.0 here.1.accepted there.1.accepted campaigns in
+    same_alone (side pair x) (side beside x) here.0 here.1.differ (subst (DifferInCounters (side beside x)) same there.1.differ)

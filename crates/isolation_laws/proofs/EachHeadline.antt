@@ -26,7 +26,8 @@ use Rattle.pair_run.specs.PairLines.{image_of}
 use Rattle.pair_run.specs.PairReport.{pair_name}
 use Rattle.pair_run.proofs.ReadAlone.{reads_alone}
 use Rattle.pair_laws.specs.EachCampaign.{own_lines}
-use Rattle.isolation_laws.specs.EachHeadline.{IsScriptOfTwo, HasSession, part_saying, IsToldOf, EachHasItsHeadline, EachLedgerIsTrue, EachSessionLives}
+use Rattle.isolation_laws.specs.Isolation.{IsScriptOfTwo}
+use Rattle.isolation_laws.specs.EachHeadline.{HasSession, part_saying, IsToldOf, EachHasItsHeadline, EachLedgerIsTrue, EachSessionLives}
 use Rattle.isolation_laws.proofs.Goes.{all_go, lines_honest, lines_fit, indexes_apart}
 
 honest : (x : Campaign) (image_a image_b : List ℕ) (lines : List (List ℕ)) (pair : PairState) → IsScriptOfTwo image_a image_b lines pair

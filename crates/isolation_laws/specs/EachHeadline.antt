@@ -1,6 +1,6 @@
 -- The headline of each of two campaigns that share a script (this project's profile): the lines of each are honest, so what holds
 -- of a campaign of its own holds of each of the two, with its own image.
-use Rattle.std.specs.Prelude.{◌≡◌, ◌⊎◌, ℕ, ◌^◌, ◌<◌, true, false, List, codes, All, Some, is_some, Ok}
+use Rattle.std.specs.Prelude.{◌≡◌, ◌⊎◌, ℕ, true, false, List, codes, Some, is_some}
 use Rattle.wire_base.specs.Numbered.{numbered}
 use Rattle.frag_session.specs.Session.{Session, Seen, seen_of}
 use Rattle.frag_session.specs.Setup.{other_descriptor}
@@ -21,14 +21,8 @@ use Rattle.pair_run.specs.declared.owners.Owner.{Owner}
 use Rattle.pair_run.specs.Pair.{PairState, side}
 use Rattle.pair_run.specs.PairLines.{image_of}
 use Rattle.pair_run.specs.PairReport.{pair_name, part_of}
-use Rattle.pair_run.specs.PairScript.{campaigns_of}
 use Rattle.pair_laws.specs.EachCampaign.{own_lines}
-
--- a script of two campaigns that is accepted, over two files
-pub record IsScriptOfTwo (image_a image_b : List ℕ) (lines : List (List ℕ)) (pair : PairState) : Type 0 where
-  pub bytes_a : All (λ b. b < 2 ^ 8) image_a
-  pub bytes_b : All (λ b. b < 2 ^ 8) image_b
-  pub accepted : campaigns_of image_a image_b lines ≡ Ok pair
+use Rattle.isolation_laws.specs.Isolation.{IsScriptOfTwo}
 
 -- a device of one of the two, its stage, and its session of that campaign's index
 pub record HasSession (x : Campaign) (image_a image_b : List ℕ) (lines : List (List ℕ)) (pair : PairState) (id : ℕ) (stage : Stage) (device : DeviceState) (session : Session) : Type 0 where

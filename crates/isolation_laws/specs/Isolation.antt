@@ -20,6 +20,12 @@ use Rattle.pair_run.specs.PairLines.{image_of}
 use Rattle.pair_run.specs.PairScript.{campaigns_of}
 use Rattle.pair_laws.specs.EachCampaign.{own_lines}
 
+-- a script of two campaigns that is accepted, over two files
+pub record IsScriptOfTwo (image_a image_b : List ℕ) (lines : List (List ℕ)) (pair : PairState) : Type 0 where
+  pub bytes_a : All (λ b. b < 2 ^ 8) image_a
+  pub bytes_b : All (λ b. b < 2 ^ 8) image_b
+  pub accepted : campaigns_of image_a image_b lines ≡ Ok pair
+
 -- ---- the campaign alone
 
 -- where the other campaign's payload reaches a device, the line passes by, as all lines of the other do
@@ -32,6 +38,12 @@ abbrev pub lines_alone : Campaign → (image_a image_b : List ℕ) → (lines : 
 lines_alone x image_a image_b lines = map unreached (own_lines x image_a image_b lines)
 
 -- ---- what is the same
+
+-- two campaigns that differ in their devices' counters alone: the same server, payloads, uplinks, lines and time, and each device
+-- the same but for its counters
+pub record DifferInCounters (one other : WorldState) : Type 0 where
+  pub rest : other ≡ record one { devices = other.devices }
+  pub devices : AllZip IsAlike one.devices other.devices
 
 -- the three kinds of lines of a device under a name, with these counts
 abbrev pub part_counting : (image name : List ℕ) → Stage → DeviceState → Counts → List ℕ
@@ -52,12 +64,23 @@ pub record IsOneOf (world alone : WorldState) (id : ℕ) (device one : DeviceSta
 -- the campaign alone: no line of it is refused, and it is the campaign beside the other, but for its devices' counters
 pub record IsAlone (image : List ℕ) (lines : List Line) (world alone : WorldState) : Type 0 where
   pub accepted : campaign_of image lines ≡ Ok alone
-  pub rest : alone ≡ record world { devices = alone.devices }
-  pub devices : AllZip IsAlike world.devices alone.devices
+  pub differ : DifferInCounters world alone
   pub each : (id : ℕ) (device : DeviceState) → numbered world.devices id ≡ Some device → (one : DeviceState) × IsOneOf world alone id device one
+
+-- ---- the laws
 
 -- whatever two images and accepted script there are, of each of the two campaigns
 abbrev pub CampaignsAreIsolated : Type 0
 CampaignsAreIsolated = (x : Campaign) (image_a image_b : List ℕ) (lines : List (List ℕ)) (pair : PairState)
-    → All (λ b. b < 2 ^ 8) image_a → All (λ b. b < 2 ^ 8) image_b → campaigns_of image_a image_b lines ≡ Ok pair
+    → IsScriptOfTwo image_a image_b lines pair
     → (alone : WorldState) × IsAlone (image_of x image_a image_b) (lines_alone x image_a image_b lines) (side pair x) alone
+
+-- so whatever the campaign beside it is, and whatever that one sends: two accepted scripts that say the same to a campaign over the
+-- same image, the other's payloads apart, make the same of it but for its devices' counters
+abbrev pub NoOtherCampaignMatters : Type 0
+NoOtherCampaignMatters = (x : Campaign) (image_a image_b : List ℕ) (lines : List (List ℕ)) (pair : PairState)
+    (other_a other_b : List ℕ) (others : List (List ℕ)) (beside : PairState)
+    → IsScriptOfTwo image_a image_b lines pair → IsScriptOfTwo other_a other_b others beside
+    → image_of x image_a image_b ≡ image_of x other_a other_b
+    → lines_alone x image_a image_b lines ≡ lines_alone x other_a other_b others
+    → DifferInCounters (side pair x) (side beside x)

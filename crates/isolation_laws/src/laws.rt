@@ -1,7 +1,7 @@
 //! Laws about the definitions, each the contract of a function that does nothing.
 
 ghost use Rattle.isolation_laws.specs.EachHeadline.{EachHasItsHeadline, EachLedgerIsTrue, EachSessionLives};
-ghost use Rattle.isolation_laws.specs.Isolation.{CampaignsAreIsolated};
+ghost use Rattle.isolation_laws.specs.Isolation.{CampaignsAreIsolated, NoOtherCampaignMatters};
 
 /// Whatever two images and accepted script there are: each campaign, over what the script says to it and with nothing that the
 /// other sends reaching its devices, is accepted too, and is the same but for the counters of its devices. So both reports have
@@ -9,6 +9,13 @@ ghost use Rattle.isolation_laws.specs.Isolation.{CampaignsAreIsolated};
 #[tactic(auto, using(crate::proofs::Alone::isolated))]
 pub fn campaigns_are_isolated()
     ensures { CampaignsAreIsolated }
+{}
+
+/// Whatever the campaign beside it is, and whatever that one sends: two accepted scripts that say the same to a campaign over the
+/// same image, the other's payloads apart, make the same of it but for its devices' counters.
+#[tactic(auto, using(crate::proofs::Alone::no_other_matters))]
+pub fn no_other_campaign_matters()
+    ensures { NoOtherCampaignMatters }
 {}
 
 /// Whatever two images and accepted script there are: a device of either campaign has no session but its own campaign's, which
