@@ -1,0 +1,165 @@
+-- Behind its image's line a campaign has one index to the end, and fields that fit.
+use Rattle.std.proofs.Common.{◌≡◌, ℕ, true, false, None, Ok, refl, sym, subst, true≢false}
+use Rattle.script_lines.specs.declared.forms.Form.{Form}
+use Rattle.script_lines.specs.declared.forms.Form.TheVariants.{Header, Image, Group, WindowC, WindowB, Device, At, Wake, Migrate, Power, Ask, Frag, Status, Down, Raw, Air, RawAir, Up, End}
+use Rattle.campaign_server.specs.Plan.{Plan}
+use Rattle.campaign_world.specs.declared.section.Section.{Section}
+use Rattle.campaign_world.specs.declared.section.Section.TheVariants as section
+use Rattle.campaign_world.specs.World.{WorldState}
+use Rattle.campaign_world.specs.Said.{Said, Own, Elsewhere, Reached}
+use Rattle.campaign_world.specs.Causes.{may_come, takes_events, form_cause, said_cause}
+use Rattle.campaign_world.specs.Making.{after_form, after_said}
+use Rattle.campaign_laws.specs.Fields.{HasFields, LineFits}
+use Rattle.campaign_laws.proofs.HeadlineForms.{passes, is_early, not_header, not_image}
+use Rattle.campaign_laws.proofs.Indexed.{IsIndexed, said_indexed}
+use Rattle.isolation_laws.proofs.PairFields.{Has}
+use Rattle.isolation_laws.proofs.Taken.{SaysFit, is_late}
+
+-- where a form may come that is no early one, it has its index
+pub late_index : (index : ℕ) (plan : Plan) (form : Form) (here : Section) → is_early form ≡ false → may_come here form ≡ true
+    → IsIndexed index here plan → plan.index ≡ index
+late_index index plan form section.Header late may k = absurd (not_header form late may)
+late_index index plan form section.Image late may k = absurd (not_image form late may)
+late_index index plan form section.Group late may k = k
+late_index index plan form section.Window late may k = k
+late_index index plan form section.Device late may k = k
+late_index index plan form section.Devices late may k = k
+late_index index plan form section.Events late may k = k
+late_index index plan form section.Ended late may k = k
+
+-- and where events may
+pub events_index : (index : ℕ) (plan : Plan) (here : Section) → takes_events here ≡ true → IsIndexed index here plan → plan.index ≡ index
+events_index index plan section.Header takes k = absurd (true≢false (sym takes))
+events_index index plan section.Image takes k = absurd (true≢false (sym takes))
+events_index index plan section.Group takes k = absurd (true≢false (sym takes))
+events_index index plan section.Window takes k = absurd (true≢false (sym takes))
+events_index index plan section.Device takes k = absurd (true≢false (sym takes))
+events_index index plan section.Devices takes k = k
+events_index index plan section.Events takes k = k
+events_index index plan section.Ended takes k = absurd (true≢false (sym takes))
+
+-- late is indexed
+pub late_indexed : (index : ℕ) (plan : Plan) (here : Section) → plan.index ≡ index → IsIndexed index here plan
+late_indexed index plan section.Header is = tt
+late_indexed index plan section.Image is = tt
+late_indexed index plan section.Group is = is
+late_indexed index plan section.Window is = is
+late_indexed index plan section.Device is = is
+late_indexed index plan section.Devices is = is
+late_indexed index plan section.Events is = is
+late_indexed index plan section.Ended is = is
+
+pub indexed_late : (index : ℕ) (plan : Plan) (here : Section) → is_late here ≡ true → IsIndexed index here plan → plan.index ≡ index
+indexed_late index plan section.Header late k = absurd (true≢false (sym late))
+indexed_late index plan section.Image late k = absurd (true≢false (sym late))
+indexed_late index plan section.Group late k = k
+indexed_late index plan section.Window late k = k
+indexed_late index plan section.Device late k = k
+indexed_late index plan section.Devices late k = k
+indexed_late index plan section.Events late k = k
+indexed_late index plan section.Ended late k = k
+
+-- ---- once late, always late
+
+at_header : (here : Section) → is_late here ≡ true → may_come here Header ≡ true → ⊥
+at_header section.Header late may = true≢false (sym late)
+at_header section.Image late may = true≢false (sym late)
+at_header section.Group late may = true≢false (sym may)
+at_header section.Window late may = true≢false (sym may)
+at_header section.Device late may = true≢false (sym may)
+at_header section.Devices late may = true≢false (sym may)
+at_header section.Events late may = true≢false (sym may)
+at_header section.Ended late may = true≢false (sym may)
+
+at_image : (here : Section) (size parity index : ℕ) → is_late here ≡ true → may_come here (Image size parity index) ≡ true → ⊥
+at_image section.Header size parity index late may = true≢false (sym late)
+at_image section.Image size parity index late may = true≢false (sym late)
+at_image section.Group size parity index late may = true≢false (sym may)
+at_image section.Window size parity index late may = true≢false (sym may)
+at_image section.Device size parity index late may = true≢false (sym may)
+at_image section.Devices size parity index late may = true≢false (sym may)
+at_image section.Events size parity index late may = true≢false (sym may)
+at_image section.Ended size parity index late may = true≢false (sym may)
+
+form_late : (w : WorldState) (form : Form) → form_cause w form ≡ None → is_late w.section ≡ true → is_late (after_form w form).section ≡ true
+unfolding after_form
+form_late w Header fine late = absurd (at_header w.section late (passes w Header fine).may)
+form_late w (Image size parity index) fine late = refl
+form_late w (Group id addr key min max) fine late = refl
+form_late w (WindowC start timeout freq dr) fine late = refl
+form_late w (WindowB start periodicity timeout freq dr) fine late = refl
+form_late w (Device id class hw rows offset key descriptor v1 k11 flash) fine late = refl
+form_late w (At time) fine late = refl
+form_late w (Power n) fine late = refl
+form_late w (Wake n) fine late = refl
+form_late w (Migrate n) fine late = refl
+form_late w (Ask n) fine late = refl
+form_late w Frag fine late = refl
+form_late w Status fine late = refl
+form_late w (Down number n word) fine late = refl
+form_late w (Raw n port payload word) fine late = refl
+form_late w (Air number n word) fine late = refl
+form_late w (RawAir n bytes word) fine late = refl
+form_late w (Up number) fine late = refl
+form_late w End fine late = refl
+
+pub said_late : (w : WorldState) (said : Said) → said_cause w said ≡ None → is_late w.section ≡ true → is_late (after_said w said).section ≡ true
+said_late w (Own form) fine late = form_late w form fine late
+said_late w Elsewhere fine late = late
+said_late w (Reached n word down) fine late = refl
+
+-- ---- fields
+
+not_image_fits : (index : ℕ) (form : Form) → ((size parity its : ℕ) → form ≡ Image size parity its → its ≡ index) → Has form → HasFields index form
+not_image_fits index (Image size parity its) same has = same size parity its refl
+not_image_fits index (Group id addr key min max) same has = has
+not_image_fits index (Device id class hw rows offset key descriptor v1 k11 flash) same has = has
+not_image_fits index (Raw n port payload word) same has = absurd has
+not_image_fits index (RawAir n bytes word) same has = absurd has
+not_image_fits index Header same has = tt
+not_image_fits index (WindowC start timeout freq dr) same has = tt
+not_image_fits index (WindowB start periodicity timeout freq dr) same has = tt
+not_image_fits index (At time) same has = tt
+not_image_fits index (Power n) same has = tt
+not_image_fits index (Wake n) same has = tt
+not_image_fits index (Migrate n) same has = tt
+not_image_fits index (Ask n) same has = tt
+not_image_fits index Frag same has = tt
+not_image_fits index Status same has = tt
+not_image_fits index (Down number n word) same has = tt
+not_image_fits index (Air number n word) same has = tt
+not_image_fits index (Up number) same has = tt
+not_image_fits index End same has = tt
+
+-- a line that is late, where its campaign has this index
+pub late_fits : (w : WorldState) (said : Said) → said_cause w said ≡ None → SaysFit said → is_late w.section ≡ true
+    → LineFits w.server.plan.index (Ok said)
+late_fits w (Own form) fine fits late =
+    not_image_fits w.server.plan.index form (λ size parity its is. absurd (at_image w.section size parity its late
+    (passes w (Image size parity its) (subst (λ (f : Form). form_cause w f ≡ None) is fine)).may)) fits
+late_fits w Elsewhere fine fits late = tt
+late_fits w (Reached n word down) fine fits late = tt
+
+-- its index stays
+pub index_stays : (w : WorldState) (said : Said) → said_cause w said ≡ None → SaysFit said → is_late w.section ≡ true
+    → (after_said w said).server.plan.index ≡ w.server.plan.index
+index_stays w said fine fits late =
+    let index = w.server.plan.index in
+    indexed_late index (after_said w said).server.plan (after_said w said).section (said_late w said fine late)
+    (said_indexed index w said fine (late_fits w said fine fits late) (late_indexed index w.server.plan w.section refl))
+
+-- a line fits where the index that it leaves is the campaign's to the end
+pub then_fits : (w : WorldState) (said : Said) (index : ℕ) → SaysFit said
+    → (is_late (after_said w said).section ≡ true → (after_said w said).server.plan.index ≡ index)
+    → LineFits index (Ok said)
+unfolding after_form
+then_fits w (Own (Image size parity its)) index fits then = then refl
+then_fits w (Own form) index fits then = not_image_fits index form (λ size parity its is. image_then size parity its is) fits
+  where
+    image_then : (size parity its : ℕ) → form ≡ Image size parity its → its ≡ index
+    image_then size parity its is =
+        let own : is_late (after_form w (Image size parity its)).section ≡ true → (after_form w (Image size parity its)).server.plan.index ≡ index =
+        subst (λ (f : Form). is_late (after_form w f).section ≡ true → (after_form w f).server.plan.index ≡ index) is then in
+        own refl
+then_fits w Elsewhere index fits then = tt
+then_fits w (Reached n word down) index fits then = tt

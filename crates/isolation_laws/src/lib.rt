@@ -1,0 +1,11 @@
+//! What keeps two campaigns that share a script apart, whichever lines it has: each is the campaign that it is alone but for its
+//! devices' counters, and each has the headline of a campaign of its own, with its own image. There is no code here: the laws are
+//! said of what `pair_run` takes and holds, and nothing stands on them.
+#![tactic(auto)]
+
+mod laws;
+
+pub use laws::{
+    campaigns_are_isolated, each_campaign_has_its_headline, each_ledger_is_true,
+    each_session_lives, no_other_campaign_matters,
+};
