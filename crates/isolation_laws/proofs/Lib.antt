@@ -8,3 +8,6 @@ pub mod Goes
 pub mod Alike
 pub mod Alone
 pub mod EachHeadline
+pub mod Naming
+pub mod Whose
+pub mod Close

@@ -1,2 +1,3 @@
 pub mod Isolation
 pub mod EachHeadline
+pub mod AtMoments
