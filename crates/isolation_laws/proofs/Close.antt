@@ -1,14 +1,13 @@
 -- Two states of a campaign behind the plan that differ in their devices' counters alone, whether an event came yet or not.
-use Rattle.std.proofs.Common.{◌≡◌, ◌⊎◌, inl, inr, ℕ, ◌+◌, ◌≤◌, Bool, true, false, not, cond, ◌&&◌, nat_le, List, [], length, Option, Some, None, Ok, refl, sym, ap, ◌∙◌, subst, arith, true≢false}
+use Rattle.std.proofs.Common.{◌≡◌, ◌⊎◌, inl, inr, ℕ, ◌+◌, ◌≤◌, true, false, List, [], None, Ok, refl, sym, ap, ◌∙◌, subst, arith, true≢false}
 use Rattle.std.specs.List.{AllZip}
-use Rattle.std.proofs.lemmas.Bool.{le-leb, and_parts}
+use Rattle.std.proofs.lemmas.Bool.{le-leb}
 use Rattle.package_grammar.specs.declared.downlink.Downlink.{Downlink}
 use Rattle.device_core.specs.Device.{DeviceState}
 use Rattle.script_lines.specs.declared.forms.Form.{Form}
 use Rattle.script_lines.specs.declared.forms.Form.TheVariants.{Header, Image, Group, WindowC, WindowB, Device, At, Wake, Migrate, Power, Ask, Frag, Status, Down, Raw, Air, RawAir, Up, End}
 use Rattle.script_lines.specs.Limits.{max_time}
 use Rattle.script_lines.specs.Ranges.{in_range}
-use Rattle.report_lines.specs.declared.faults.LineWhy.{LineWhy}
 use Rattle.report_lines.specs.declared.faults.LineWhy.TheVariants as why
 use Rattle.campaign_world.specs.declared.section.Section.{Section}
 use Rattle.campaign_world.specs.declared.section.Section.TheVariants as section
@@ -16,9 +15,8 @@ use Rattle.campaign_world.specs.World.{WorldState}
 use Rattle.campaign_world.specs.Said.{Said, Own, Elsewhere, Reached}
 use Rattle.campaign_world.specs.Causes.{is_event_or_end, may_come, takes_events, has_begun, form_cause, said_cause}
 use Rattle.campaign_world.specs.Making.{after_form, after_said}
-use Rattle.campaign_world.specs.Script.{one_line_more, after_line}
+use Rattle.campaign_world.specs.Script.{one_line_more}
 use Rattle.campaign_world.specs.Honest.{has_raw}
-use Rattle.campaign_laws.proofs.HeadlineForms.{passes}
 use Rattle.campaign_laws.proofs.HonestLines.{Stands}
 use Rattle.campaign_laws.proofs.Independence.{said_told}
 use Rattle.campaign_laws.specs.Independence.{time_after}

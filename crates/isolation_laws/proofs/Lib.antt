@@ -11,3 +11,5 @@ pub mod EachHeadline
 pub mod Naming
 pub mod Whose
 pub mod Close
+pub mod Beside
+pub mod AtMoments

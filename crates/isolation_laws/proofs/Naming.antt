@@ -1,8 +1,8 @@
 -- A line that names a campaign spells a form of one campaign: none that both take, and none that names a device alone.
-use Rattle.std.proofs.Common.{◌≡◌, ℕ, ◌+◌, ◌-◌, ◌==◌, Bool, true, false, cond, List, codes, Option, None, Some, IfSome, refl, subst}
+use Rattle.std.proofs.Common.{◌≡◌, ℕ, ◌+◌, ◌-◌, Bool, true, false, cond, List, codes, Option, None, Some, IfSome, refl, subst}
 use Rattle.script_lines.specs.declared.forms.Campaign.{Campaign}
 use Rattle.script_lines.specs.declared.forms.Form.{Form}
-use Rattle.script_lines.specs.declared.forms.Form.TheVariants.{Header, Image, Group, WindowC, WindowB, Device, At, Wake, Migrate, Power, Ask, Frag, Status, Down, Raw, Air, RawAir, Up, End}
+use Rattle.script_lines.specs.declared.forms.Form.TheVariants.{Image, Group, WindowC, WindowB, Device, Frag, Status, Down, Air, Up, End}
 use Rattle.script_lines.specs.declared.forms.PairForm.{PairForm}
 use Rattle.script_lines.specs.Lines.{word, is_word}
 use Rattle.script_lines.specs.Numbers.{◌>>=◌}

@@ -1,6 +1,6 @@
 -- Whose an event of two campaigns is: of one that names neither the other campaign nor its devices, this one's or both take it; of
 -- one that does, only a payload that crosses over reaches this one.
-use Rattle.std.proofs.Common.{◌≡◌, ℕ, Bool, true, false, cond, ◌||◌, ◌&&◌, List, Option, Some, None, refl, sym, ap, subst}
+use Rattle.std.proofs.Common.{◌≡◌, ℕ, Bool, true, false, cond, ◌||◌, List, Option, Some, None, refl}
 use Rattle.wire_base.specs.Numbered.{numbered}
 use Rattle.script_lines.specs.declared.forms.Campaign.{Campaign}
 use Rattle.script_lines.specs.declared.forms.Campaign.TheVariants as campaign
@@ -12,7 +12,7 @@ use Rattle.pair_run.specs.declared.owners.Owner.{Owner}
 use Rattle.pair_run.specs.declared.targets.Way.{Way}
 use Rattle.pair_run.specs.declared.targets.Way.TheVariants as way
 use Rattle.pair_run.specs.declared.targets.Target.{Target}
-use Rattle.pair_run.specs.declared.targets.Target.TheVariants.{Header, At, End, One, Across, Nobody}
+use Rattle.pair_run.specs.declared.targets.Target.TheVariants.{At, End, One, Across, Nobody}
 use Rattle.pair_run.specs.Pair.{other, is_same}
 use Rattle.pair_run.specs.Targets.{to_owner, carried_form, carried_target, common_target, named_target, target_for}
 use Rattle.isolation_laws.specs.AtMoments.{names_it, is_one_of, names_one_of}
