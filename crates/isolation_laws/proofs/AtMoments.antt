@@ -1,7 +1,9 @@
 -- Where each event of the other campaign is written as `at` its moment, a campaign is the same but for its devices' counters.
-use Rattle.std.proofs.Common.{◌≡◌, ◌⊎◌, inl, inr, ℕ, ◌≤◌, Bool, true, false, ◌&&◌, ◌||◌, nat_le, nat_lt, List, [], ◌∷◌, length, Option, Some, None, Ok, refl, sym, ap, ◌∙◌, subst, arith, true≢false}
+use Rattle.std.proofs.Common.{◌≡◌, ◌⊎◌, inl, inr, ℕ, ◌≤◌, ◌<◌, ◌^◌, Bool, true, false, cond, ◌&&◌, ◌||◌, nat_le, nat_lt, List, [], ◌∷◌, ◌++◌, length, codes, Option, Some, None, Ok, refl, sym, ap, ◌∙◌, subst, arith, true≢false}
 use Rattle.std.proofs.lemmas.Bool.Decides.{nat_tests}
 use Rattle.std.specs.List.{AllZip}
+use Rattle.std.specs.Fmt.{decimal}
+use Rattle.std.proofs.lemmas.Fmt.{length-decimal-le}
 use Rattle.wire_base.specs.Numbered.{numbered}
 use Rattle.device_core.specs.Device.{DeviceState}
 use Rattle.campaign_server.specs.declared.stage.Stage.{Stage}
@@ -10,7 +12,11 @@ use Rattle.script_lines.specs.declared.forms.Campaign.{Campaign}
 use Rattle.script_lines.specs.declared.forms.Campaign.TheVariants as campaign
 use Rattle.script_lines.specs.declared.forms.Form.TheVariants as form
 use Rattle.script_lines.specs.declared.forms.PairForm.{PairForm}
+use Rattle.script_lines.specs.Lines.{words_of, word}
+use Rattle.script_lines.specs.Numbers.{decimal_of}
 use Rattle.script_lines.specs.PairForms.{pair_form_of}
+use Rattle.script_lines.proofs.CutWords.{last_word}
+use Rattle.campaign_generator.proofs.Decimals.{decimal_is_read}
 use Rattle.script_lines.specs.Limits.{max_lines, max_line}
 use Rattle.report_lines.specs.declared.faults.LineWhy.{LineWhy}
 use Rattle.campaign_world.specs.declared.section.Section.{Section}
@@ -33,7 +39,7 @@ use Rattle.pair_run.specs.PairScript.{after_pair_line, pair_line_result, read_pa
 use Rattle.pair_run.specs.PairLines.{image_of}
 use Rattle.pair_run.proofs.Accepts.{neither, may_cross_over}
 use Rattle.isolation_laws.specs.Isolation.{DifferInCounters}
-use Rattle.isolation_laws.specs.AtMoments.{names_it, names_one_of, is_event_of, IsAtMoment, StandsFor, AreMoments, AreBothTold, IsOneBeside, OthersEventsAreMoments}
+use Rattle.isolation_laws.specs.AtMoments.{names_it, names_one_of, is_event_of, IsAtMoment, StandsFor, AreMoments, at_text, with_moments, AreBothTold, IsOneBeside, OthersEventsAreMoments, ScriptsAreIsolated}
 use Rattle.isolation_laws.proofs.Rested.{Rested}
 use Rattle.isolation_laws.proofs.Goes.{pair_read, pair_first, pair_last, Goes, AllGo, all_go}
 use Rattle.isolation_laws.proofs.Taken.{unrefused, MayReach, said_fine, said_by, after_is}
@@ -319,3 +325,45 @@ moments x image_a image_b lines others pair script all =
         each = each_beside x pair ends.last (ap (λ (w : WorldState). w.server) b.own.rest) b.own.devices;
       },
     )
+
+-- ---- a plain line for each moment
+
+at_words : (rest : List ℕ) → words_of (codes "at " ++ rest) ≡ codes "at" ∷ words_of rest
+unfolding words_of
+at_words rest = refl
+
+at_spelt : (line rest : List ℕ) (n : ℕ) → words_of line ≡ codes "at" ∷ rest ∷ [] → decimal_of rest ≡ Some n
+    → pair_form_of line ≡ Some (record { campaign = None; form = form.At n })
+unfolding pair_form_of word
+at_spelt line rest n words is = rw (words, is) refl
+
+at_moment : (p : PairState) → Clock p → IsAtMoment p (at_text p.a.time)
+at_moment p clock =
+    let now : ℕ = p.a.time in
+    let wide : now < 2 ^ 64 = omega (arith, clock.low) in
+    let few = length-decimal-le 13 now (omega arith) (omega (arith, clock.low)) wide in
+    let read = decimal_is_read now wide in
+    record {
+      short = omega (arith, few);
+      reads = at_spelt (at_text now) (decimal now) now
+          (at_words (decimal now) ∙ ap (λ (ws : List (List ℕ)). codes "at" ∷ ws) (last_word (decimal now) now read)) read;
+    }
+
+stands_by : (is_its : Bool) (p : PairState) (line : List ℕ) → Clock p → StandsFor is_its p line (cond is_its (at_text p.a.time) line)
+stands_by true p line clock = at_moment p clock
+stands_by false p line clock = refl
+
+written : (y : Campaign) (lines : List (List ℕ)) (p last : PairState) → read_pair_lines (Ok p) lines ≡ Ok last → Clock p
+    → AreMoments y p lines (with_moments y p lines)
+written y [] p last is clock = tt
+written y (line ∷ lines) p last is clock =
+    let first = pair_first p last line lines is in (
+      stands_by (is_event_of y p.owners (pair_form_of line)) p line clock,
+      written y lines (after_pair_line p line) last first.1 (clock_line p line first.0 clock),
+    )
+
+pub scripts : ScriptsAreIsolated
+scripts x image_a image_b lines pair script =
+    moments x image_a image_b lines (with_moments (other x) (first_pair image_a image_b) lines) pair script
+    (written (other x) lines (first_pair image_a image_b) pair (pair_read image_a image_b lines pair script.accepted).0
+    (record { same = refl; low = omega arith }))

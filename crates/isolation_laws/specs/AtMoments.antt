@@ -1,6 +1,7 @@
 -- That two campaigns of one script are isolated, said of scripts (this project's profile): where each event of the other campaign
 -- is written as `at` its moment, a campaign is the same but for the counters of its devices.
-use Rattle.std.specs.Prelude.{◌≡◌, ℕ, ◌≤◌, Bool, true, false, ◌&&◌, ◌||◌, List, [], ◌∷◌, length, Option, Some, None, Ok}
+use Rattle.std.specs.Prelude.{◌≡◌, ℕ, ◌≤◌, Bool, true, false, ◌&&◌, ◌||◌, if◌then◌else◌, List, [], ◌∷◌, ◌++◌, length, codes, Option, Some, None, Ok}
+use Rattle.std.specs.Fmt.{decimal}
 use Rattle.wire_base.specs.Numbered.{numbered}
 use Rattle.script_lines.specs.declared.forms.Campaign.{Campaign}
 use Rattle.script_lines.specs.declared.forms.Form.{Form}
@@ -63,6 +64,16 @@ AreMoments y pair (line ∷ lines) (other ∷ others) =
     StandsFor (is_event_of y pair.owners (pair_form_of line)) pair line other × AreMoments y (after_pair_line pair line) lines others
 AreMoments y pair lines others = ⊥
 
+-- `at` this time, as a line
+abbrev pub at_text : (now : ℕ) → List ℕ
+at_text now = codes "at " ++ decimal now
+
+-- the script with such a line in the place of each
+abbrev pub with_moments : Campaign → PairState → (lines : List (List ℕ)) → List (List ℕ)
+with_moments y pair [] = []
+with_moments y pair (line ∷ lines) =
+    (if is_event_of y pair.owners (pair_form_of line) then at_text pair.a.time else line) ∷ with_moments y (after_pair_line pair line) lines
+
 -- ---- what is the same
 
 -- what both reports of two say of a device: the same device line and the same session lines, each report with its counts
@@ -85,11 +96,17 @@ pub record IsBesideMoments (x : Campaign) (image_a image_b : List ℕ) (others :
   pub each : (number : ℕ) (device : DeviceState) → numbered (side pair x).devices number ≡ Some device
       → (one : DeviceState) × IsOneBeside x pair beside number device one
 
--- ---- the law
+-- ---- the laws
 
--- whatever two images and accepted script there are, of each of the two campaigns
+-- whatever two images and accepted script there are, of each of the two campaigns, however the moments are spelt
 abbrev pub OthersEventsAreMoments : Type 0
 OthersEventsAreMoments = (x : Campaign) (image_a image_b : List ℕ) (lines others : List (List ℕ)) (pair : PairState)
     → IsScriptOfTwo image_a image_b lines pair
     → AreMoments (other x) (first_pair image_a image_b) lines others
     → (beside : PairState) × IsBesideMoments x image_a image_b others pair beside
+
+-- and so with a plain `at` line for each
+abbrev pub ScriptsAreIsolated : Type 0
+ScriptsAreIsolated = (x : Campaign) (image_a image_b : List ℕ) (lines : List (List ℕ)) (pair : PairState)
+    → IsScriptOfTwo image_a image_b lines pair
+    → (beside : PairState) × IsBesideMoments x image_a image_b (with_moments (other x) (first_pair image_a image_b) lines) pair beside

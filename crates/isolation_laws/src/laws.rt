@@ -1,6 +1,6 @@
 //! Laws about the definitions, each the contract of a function that does nothing.
 
-ghost use Rattle.isolation_laws.specs.AtMoments.{OthersEventsAreMoments};
+ghost use Rattle.isolation_laws.specs.AtMoments.{OthersEventsAreMoments, ScriptsAreIsolated};
 ghost use Rattle.isolation_laws.specs.EachHeadline.{EachHasItsHeadline, EachLedgerIsTrue, EachSessionLives};
 ghost use Rattle.isolation_laws.specs.Isolation.{CampaignsAreIsolated, NoOtherCampaignMatters};
 
@@ -19,10 +19,15 @@ pub fn no_other_campaign_matters()
     ensures { NoOtherCampaignMatters }
 {}
 
-/// Whatever two images and accepted script there are, and of each campaign: where each event line that names the other campaign, or
-/// one of its devices, is written as `at` its moment, the script is accepted too, and the campaign is the same but for the counters
-/// of its devices. So both reports of two have the same device line and session lines of each of its devices; only its counts may
-/// differ.
+/// Whatever two images and accepted script there are, and of each campaign: with the line `at MS` of its moment in the place of each
+/// event line that names the other campaign, or one of its devices, the script is accepted too, and the campaign is the same but for
+/// the counters of its devices. So both reports of two have the same device line and session lines of each of its devices; only its
+/// counts may differ.
+pub fn scripts_are_isolated()
+    ensures { ScriptsAreIsolated }
+{}
+
+/// The same of every script that has, in the place of each, a line that reads as `at` its moment.
 pub fn others_events_are_moments()
     ensures { OthersEventsAreMoments }
 {}
