@@ -13,3 +13,4 @@ pub mod Whose
 pub mod Close
 pub mod Beside
 pub mod AtMoments
+pub mod WorkedMoments

@@ -2,6 +2,7 @@
 
 ghost use Rattle.isolation_laws.specs.AtMoments.{OthersEventsAreMoments, ScriptsAreIsolated};
 ghost use Rattle.isolation_laws.specs.EachHeadline.{EachHasItsHeadline, EachLedgerIsTrue, EachSessionLives};
+ghost use Rattle.isolation_laws.specs.WorkedMoments.{AreAtTheirMoments};
 ghost use Rattle.isolation_laws.specs.Isolation.{CampaignsAreIsolated, NoOtherCampaignMatters};
 
 /// Whatever two images and accepted script there are: each campaign, over what the script says to it and with nothing that the
@@ -30,6 +31,12 @@ pub fn scripts_are_isolated()
 /// The same of every script that has, in the place of each, a line that reads as `at` its moment.
 pub fn others_events_are_moments()
     ensures { OthersEventsAreMoments }
+{}
+
+/// A script of two campaigns, and what it is with the events of the one, and of the other, at their moments.
+#[tactic(auto, using(crate::proofs::WorkedMoments::worked))]
+pub fn worked_moments()
+    ensures { AreAtTheirMoments }
 {}
 
 /// Whatever two images and accepted script there are: a device of either campaign has no session but its own campaign's, which
