@@ -1,7 +1,6 @@
 -- The fragment of a payload is one alone.
 use Rattle.std.proofs.Common.{◌≡◌, ℕ, List, length, subst}
 use Rattle.wire_base.specs.declared.refusal.Direction.TheVariants.{Down}
-use Rattle.cast_wire.specs.declared.cmd.Cmd.{Cmd}
 use Rattle.cast_wire.specs.declared.cmd.Cmd.TheVariants.{DataFragment}
 use Rattle.cast_wire.specs.Table.{Spells}
 use Rattle.cast_wire.proofs.Spellings.{one}

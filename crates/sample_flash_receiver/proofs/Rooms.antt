@@ -1,5 +1,5 @@
 -- What a receiver has room for.
-use Rattle.std.proofs.Common.{◌≡◌, refl, sym, subst}
+use Rattle.std.proofs.Common.{◌≡◌, refl}
 use Rattle.flash_session.specs.HeldSession.{HeldSession, room_in}
 use Rattle.sample_flash_receiver.specs.HeldReceiver.{room, IsReceiver}
 

@@ -1,5 +1,10 @@
 //! A receiver over a part of the tests' own, stopped between any two of its calls and started again.
 
+ghost use Rattle.std.specs.Prelude.{◌≡◌, ◌≤◌, length};
+ghost use Rattle.wire_base.specs.Payload.{max_payload};
+ghost use Rattle.sample_receiver.specs.HeldReceiver.{extent};
+ghost use Rattle.sample_flash_receiver.specs.HeldReceiver.{IsReceiver};
+
 use super::*;
 use std::process::Abort;
 use std::test::*;
@@ -26,12 +31,10 @@ impl Driver for Ram {
         if !self.passes() {
             return false;
         }
-        let mut i = 0;
-        while i < buf.len() {
+        for i in 0..buf.len() {
             if let Some(byte) = self.bytes.get(at as usize + i) {
                 buf[i] = *byte;
             }
-            i += 1;
         }
         true
     }
@@ -40,12 +43,10 @@ impl Driver for Ram {
         if !self.passes() {
             return false;
         }
-        let mut i = 0;
-        while i < piece.len() {
+        for i in 0..piece.len() {
             if let Some(byte) = self.bytes.get_mut(at as usize + i) {
                 *byte = piece[i];
             }
-            i += 1;
         }
         true
     }
@@ -54,12 +55,10 @@ impl Driver for Ram {
         if !self.passes() {
             return false;
         }
-        let mut i = 0;
-        while i < n as usize {
+        for i in 0..n as usize {
             if let Some(byte) = self.bytes.get_mut(at as usize + i) {
                 *byte = 0;
             }
-            i += 1;
         }
         true
     }
@@ -84,13 +83,15 @@ const SETUP: SetupReq = SetupReq {
 const FILE: [u8; 5] = [0x11, 0x22, 0x33, 0x44, 0x55];
 
 /// Pieces 1 and 3 of session 0, piece 2 of session 1, no fragment, and coded fragment 1, in whose line piece 2 is.
-const PAYLOADS: [&[u8]; 5] = [
-    &[0x08, 0x01, 0x00, 0x11, 0x22],
-    &[0x08, 0x03, 0x00, 0x55, 0x00],
-    &[0x08, 0x02, 0x40, 0x33, 0x44],
-    &[0x00],
-    &[0x08, 0x04, 0x00, 0x33, 0x44],
-];
+const PIECE_ONE: [u8; 5] = [0x08, 0x01, 0x00, 0x11, 0x22];
+
+const PIECE_THREE: [u8; 5] = [0x08, 0x03, 0x00, 0x55, 0x00];
+
+const OF_ANOTHER: [u8; 5] = [0x08, 0x02, 0x40, 0x33, 0x44];
+
+const NO_FRAGMENT: [u8; 1] = [0x00];
+
+const CODED: [u8; 5] = [0x08, 0x04, 0x00, 0x33, 0x44];
 
 /// Calls of the part that no test reaches.
 const ENOUGH: u32 = 1_000_000;
@@ -103,60 +104,80 @@ fn part_of(alloc: Global, calls: u32) -> Result<Part<Ram>, Fail> {
     })
 }
 
-fn started(rt: &impl Abort, part: &mut Part<Ram>, arena: Arena) -> Receiver {
+/// The part works again, and is opened.
+fn started(rt: &impl Abort, part: &mut Part<Ram>, empty: Arena) -> Receiver
+    requires { empty ≡ extent }
+    ensures { IsReceiver result }
+{
     part.driver.calls = ENOUGH;
-    match start(part, arena) {
+    match start(part, empty) {
         Ok(receiver) => receiver,
         Err(_) => panic!(rt; "the part is not opened"),
     }
 }
 
-/// The setup and all payloads, each once more where the part failed in it, over a part that fails once, behind so many calls:
-/// how often it failed. The file is whole behind them.
+/// The setup, once more where the part failed in it.
+fn begun(rt: &impl Abort, receiver: Receiver, part: &mut Part<Ram>) -> Receiver
+    requires { IsReceiver receiver }
+    ensures { IsReceiver result }
+{
+    let empty = match set_up(receiver, part, SETUP) {
+        Ok((receiver, bits)) => {
+            assert_eq!(rt; bits, 0);
+            return receiver;
+        }
+        Err(empty) => empty,
+    };
+    let receiver = started(rt, part, empty);
+    match set_up(receiver, part, SETUP) {
+        Ok((receiver, _)) => receiver,
+        Err(_) => panic!(rt; "the part failed twice"),
+    }
+}
+
+/// A payload, once more where the part failed in it.
+fn heard(rt: &impl Abort, receiver: Receiver, part: &mut Part<Ram>, payload: &[u8]) -> Receiver
+    requires receiver { IsReceiver receiver }
+    requires short { length payload.now ≤ max_payload }
+    ensures { IsReceiver result }
+{
+    let empty = match hear(receiver, part, payload, 1) {
+        Ok(receiver) => return receiver,
+        Err(empty) => empty,
+    };
+    let receiver = started(rt, part, empty);
+    match hear(receiver, part, payload, 1) {
+        Ok(receiver) => receiver,
+        Err(_) => panic!(rt; "the part failed twice"),
+    }
+}
+
+/// Over a part that fails once, behind so many calls: how often it failed. The file is whole at the end.
 fn received(rt: &impl Abort, alloc: Global, calls: u32) -> Result<u64, Fail> {
     let mut part = part_of(alloc, calls)?;
     let empty = arena(alloc)?;
-    let mut receiver = match start(&mut part, empty) {
+    let receiver = match start(&mut part, empty) {
         Ok(receiver) => receiver,
         Err((empty, _)) => started(rt, &mut part, empty),
     };
-    receiver = match set_up(receiver, &mut part, SETUP) {
-        Ok((receiver, bits)) => {
-            assert_eq!(rt; bits, 0);
-            receiver
-        }
-        Err(empty) => {
-            let receiver = started(rt, &mut part, empty);
-            let Ok((receiver, 0)) = set_up(receiver, &mut part, SETUP) else {
-                panic!(rt; "the setup is refused");
-            };
-            receiver
-        }
-    };
-    for payload in &PAYLOADS {
-        assert_eq!(rt; file(&receiver), None);
-        receiver = match hear(receiver, &mut part, payload, 1) {
-            Ok(receiver) => receiver,
-            Err(empty) => {
-                let receiver = started(rt, &mut part, empty);
-                let Ok(receiver) = hear(receiver, &mut part, payload, 1) else {
-                    panic!(rt; "nothing is heard");
-                };
-                receiver
-            }
-        };
-    }
+    let receiver = begun(rt, receiver, &mut part);
+    let receiver = heard(rt, receiver, &mut part, &PIECE_ONE);
+    let receiver = heard(rt, receiver, &mut part, &PIECE_THREE);
+    let receiver = heard(rt, receiver, &mut part, &OF_ANOTHER);
+    let receiver = heard(rt, receiver, &mut part, &NO_FRAGMENT);
+    assert_eq!(rt; file(&receiver), None);
+    let receiver = heard(rt, receiver, &mut part, &CODED);
     assert_eq!(rt; file(&receiver), Some(FILE.as_slice()));
     Ok(part.failed)
 }
 
 #[test]
 fn a_file_outlasts_a_stop_at_any_call(rt: HostRuntime) -> Result<(), Fail> {
-    let mut calls = 0;
-    while received(&rt, rt.alloc(), calls)? == 1 {
-        calls += 1;
-    }
     // a start reads behind a sync, a setup takes five calls, and each of three fragments two writes with a sync behind each
-    assert_eq!(rt; calls, 2 + 5 + 3 * 4);
+    let all = 2 + 5 + 3 * 4;
+    for calls in 0..all {
+        assert_eq!(rt; received(&rt, rt.alloc(), calls)?, 1);
+    }
+    assert_eq!(rt; received(&rt, rt.alloc(), all)?, 0);
     Ok(())
 }

@@ -127,12 +127,7 @@ impl Campaign {
                 port,
                 payload,
                 word,
-            } => self.raw(
-                lines,
-                *device as u8,
-                &raw_down(*port as u8, payload),
-                *word as u32,
-            ),
+            } => self.raw_form(lines, *device as u8, *port as u8, payload, *word as u32),
             Form::Air {
                 number,
                 device,
@@ -149,6 +144,7 @@ impl Campaign {
     }
 
     /// The server sends the request of its stage to a device.
+    #[inline(never)]
     fn ask(&mut self, device: u8) -> Result<(), AllocError>
         requires first { 1 ≤ device }
         requires last { device ≤ length self.old.devices }
@@ -166,6 +162,7 @@ impl Campaign {
     }
 
     /// The server sends the next fragment, to any device.
+    #[inline(never)]
     fn frag(&mut self) -> Result<(), AllocError>
         ensures taken { (lines : ℕ) → Plays lines self.old self.new result (λ world. at_events
             (with_sent (record world { server = after_fragment world.server }) None
@@ -182,6 +179,7 @@ impl Campaign {
     }
 
     /// The server asks all devices for their status.
+    #[inline(never)]
     fn status(&mut self) -> Result<(), AllocError>
         ensures taken { (lines : ℕ) → Plays lines self.old self.new result (λ world. at_events
             (with_sent (record world { server = after_status_to_all world.server }) None
@@ -237,6 +235,7 @@ impl Campaign {
     }
 
     /// Payload S reaches a device, whose uplinks are then numbered, oldest first.
+    #[inline(never)]
     fn down(&mut self, lines: u32, number: u64, device: u8, word: u32) -> Result<(), AllocError>
         requires first { 1 ≤ device }
         requires last { device ≤ length self.old.devices }
@@ -297,7 +296,29 @@ impl Campaign {
         )
     }
 
+    /// The same of a payload that a line says.
+    #[inline(never)]
+    fn raw_form(
+        &mut self,
+        lines: u32,
+        device: u8,
+        port: u8,
+        payload: &HexBytes,
+        word: u32,
+    ) -> Result<(), AllocError>
+        requires short { length payload.now ≤ 242 }
+        requires first { 1 ≤ device }
+        requires last { device ≤ length self.old.devices }
+        requires room { lines < max_lines }
+        ensures taken { Plays lines self.old self.new result (λ world. with_event world device
+            (Some (Receives world.time word (world.lines + 1) (raw_down port payload.now)))) }
+        ensures ends { OnErr result (SameEnds self.old self.new) }
+    {
+        self.raw(lines, device, &raw_down(port, payload), word)
+    }
+
     /// Sent payload S reaches the radio of a device as its frame, and its uplinks are then numbered, oldest first.
+    #[inline(never)]
     fn air(&mut self, lines: u32, number: u64, device: u8, word: u32) -> Result<(), AllocError>
         requires first { 1 ≤ device }
         requires last { device ≤ length self.old.devices }
@@ -359,6 +380,7 @@ impl Campaign {
     }
 
     /// Uplink U reaches the server, which may answer.
+    #[inline(never)]
     fn up(&mut self, number: u64) -> Result<(), AllocError>
         requires made { (m : MadeUplink) × (numbered self.old.uplinks number ≡ Some m) }
         ensures taken { (lines : ℕ) → Plays lines self.old self.new result

@@ -1,4 +1,4 @@
-use Rattle.std.proofs.Common.{◌≡◌, ◌⊎◌, ℕ, Option, subst}
+use Rattle.std.proofs.Common.{◌⊎◌, ℕ, subst}
 use Rattle.frag_session.specs.declared.setups.Limits.{Limits}
 use Rattle.frag_session.specs.Session.{after_setup}
 use Rattle.frag_session.specs.Setup.{Room}

@@ -40,8 +40,8 @@ overflow_cast-port c = let fits = striking _ _ _ _ _ c.requires.tested.ranges c.
 pub overflow_cast-word-in-Raw : goal.overflow_cast-word-in-Raw
 overflow_cast-word-in-Raw c = let fits = striking _ _ _ _ _ c.requires.tested.ranges c.in-Raw.is in omega (arith, fits.word_fits)
 
-pub raw_down-requires : goal.raw_down-requires
-raw_down-requires c = payload_within _ _ _ _ _ c.requires.tested.short c.in-Raw.is
+pub raw_form-requires-clause-short : goal.raw_form-requires-clause-short
+raw_form-requires-clause-short c = payload_within _ _ _ _ _ c.requires.tested.short c.in-Raw.is
 
 pub returns-in-Wake-clause-taken : goal.returns-in-Wake-clause-taken
 unfolding after_form
@@ -73,7 +73,7 @@ returns-in-Down-clause-taken c = rw (c.in-Down.is) c.down.ensures.taken
 
 pub returns-in-Raw-clause-taken : goal.returns-in-Raw-clause-taken
 unfolding after_form
-returns-in-Raw-clause-taken c = rw (c.in-Raw.is, ← c.raw_down.ensures) c.raw.ensures.taken
+returns-in-Raw-clause-taken c = rw (c.in-Raw.is) c.raw_form.ensures.taken
 
 pub returns-in-Up-clause-taken : goal.returns-in-Up-clause-taken
 unfolding after_form
