@@ -100,7 +100,7 @@ up_like w ds here (Some made) zip =
 
 -- ---- a form
 
-form_by : (w : WorldState) (ds : List DeviceState) (here : Section) (form : Form) → AllZip IsAlike w.devices ds
+pub form_by : (w : WorldState) (ds : List DeviceState) (here : Section) (form : Form) → AllZip IsAlike w.devices ds
     → Like (after_form w form) (after_form (with w ds here) form)
 unfolding after_form
 form_by w ds here Header zip = record { devices = zip; rest = refl; place = inl refl }
@@ -141,7 +141,7 @@ place_may here place form (inl same) may = subst (λ (s : Section). may_come s f
 place_may here place form (inr (events, devices)) may =
     subst (λ (s : Section). may_come s form ≡ true) (sym devices) (more_may form (subst (λ (s : Section). may_come s form ≡ true) events may))
 
-test_passed : (b : Bool) (why : LineWhy) (rest : Option LineWhy) → cond (not b) (Some why) rest ≡ None → (b ≡ true) × (rest ≡ None)
+pub test_passed : (b : Bool) (why : LineWhy) (rest : Option LineWhy) → cond (not b) (Some why) rest ≡ None → (b ≡ true) × (rest ≡ None)
 test_passed true why rest fine = (refl, fine)
 test_passed false why rest fine = absurd cc
 

@@ -107,7 +107,7 @@ others_by false is = absurd cc
 
 -- ---- a line
 
-said_like : (image : List ℕ) (index : ℕ) (w v : WorldState) (n word : ℕ) (down : Downlink) → Stands image index w → Rested index w
+pub said_like : (image : List ℕ) (index : ℕ) (w v : WorldState) (n word : ℕ) (down : Downlink) → Stands image index w → Rested index w
     → said_cause w (Reached n word down) ≡ None → has_raw index (Ok (Reached n word down)) ≡ false → Like w v
     → Like (after_said w (Reached n word down)) v
 said_like image index w v n word down stands rested fine honest like =
@@ -118,7 +118,7 @@ said_like image index w v n word down stands rested fine honest like =
     (others_by (are_for_others index (reading_of down.port Downwards down.payload)) honest) there.1)
     (empty_at image index w stands n there.0 there.1)
 
-line_more : (w v : WorldState) → Like w v → Like (one_line_more w) (one_line_more v)
+pub line_more : (w v : WorldState) → Like w v → Like (one_line_more w) (one_line_more v)
 line_more w v like = record { devices = like.devices; rest = ap (λ (x : WorldState). one_line_more x) like.rest; place = like.place }
 
 abbrev ThenLike : (w v : WorldState) → (said : Said) → Line → Type 0
@@ -201,7 +201,7 @@ all_alone x image index (line ∷ lines) pair last v k is like =
       like = more.like;
     }
 
-first_side : (x : Campaign) (image_a image_b : List ℕ) → side (first_pair image_a image_b) x ≡ first_world (image_of x image_a image_b)
+pub first_side : (x : Campaign) (image_a image_b : List ℕ) → side (first_pair image_a image_b) x ≡ first_world (image_of x image_a image_b)
 first_side campaign.A image_a image_b = refl
 first_side campaign.B image_a image_b = refl
 
@@ -215,7 +215,7 @@ ended_place : (here place : Section) → here ≡ section.Ended → IsPlace here
 ended_place here place is (inl same) = same ∙ is
 ended_place here place is (inr both) = let no : section.Ended ≡ section.Events = sym is ∙ both.0 in absurd cc
 
-ended_side : (x : Campaign) (pair : PairState) → pair_has_ended pair ≡ true → has_ended (side pair x).section ≡ true
+pub ended_side : (x : Campaign) (pair : PairState) → pair_has_ended pair ≡ true → has_ended (side pair x).section ≡ true
 ended_side campaign.A pair is = (and_parts (has_ended pair.a.section) (has_ended pair.b.section) is).0
 ended_side campaign.B pair is = (and_parts (has_ended pair.a.section) (has_ended pair.b.section) is).1
 
@@ -230,7 +230,7 @@ rest_is w v like same = like.rest ∙ ap (λ (s : Section). record w { devices =
 -- ---- what is told
 
 -- the lines of a device that is there are told by all of it but its counters
-told_by : (w : WorldState) (id : ℕ) (name : List ℕ) (stage : Stage) (d one : DeviceState) → IsAlike d one → ledger w.server id ≡ Some stage
+pub told_by : (w : WorldState) (id : ℕ) (name : List ℕ) (stage : Stage) (d one : DeviceState) → IsAlike d one → ledger w.server id ≡ Some stage
     → numbered w.devices id ≡ Some d → lines_under name id w ≡ part_counting w.server.image name stage one d.counts
 told_by w id name stage d one alike stage_is there =
     rw (stage_is, there) (ap (λ (x : DeviceState). part_counting w.server.image name stage x d.counts) alike)

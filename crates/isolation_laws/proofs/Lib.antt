@@ -8,3 +8,9 @@ pub mod Goes
 pub mod Alike
 pub mod Alone
 pub mod EachHeadline
+pub mod Naming
+pub mod Whose
+pub mod Close
+pub mod Beside
+pub mod AtMoments
+pub mod WorkedMoments

@@ -36,12 +36,13 @@ use Rattle.isolation_laws.proofs.PairFields.{Has, pair_form_has}
 
 -- ---- a line of which no cause holds
 
-record Unrefused (pair : PairState) (line : List ℕ) : Type 0 where
-  few_a : nat_le max_lines pair.a.lines ≡ false
-  few_b : nat_le max_lines pair.b.lines ≡ false
-  pair_form : PairForm
-  spells : pair_form_of line ≡ Some pair_form
-  fine : pair_form_cause pair pair_form ≡ None
+pub record Unrefused (pair : PairState) (line : List ℕ) : Type 0 where
+  pub few_a : nat_le max_lines pair.a.lines ≡ false
+  pub few_b : nat_le max_lines pair.b.lines ≡ false
+  pub short : nat_lt max_line (length line) ≡ false
+  pub pair_form : PairForm
+  pub spells : pair_form_of line ≡ Some pair_form
+  pub fine : pair_form_cause pair pair_form ≡ None
 
 by_form : (pair : PairState) (found : Option PairForm) → cause_of_pair_form pair found ≡ None
     → (pair_form : PairForm) × (found ≡ Some pair_form) × (pair_form_cause pair pair_form ≡ None)
@@ -49,18 +50,18 @@ by_form pair None none = absurd cc
 by_form pair (Some pair_form) none = (pair_form, refl, none)
 
 by_tests : (many_a many_b long : Bool) (rest : Option LineWhy) → cond (many_a || many_b || long) (Some why.Limit) rest ≡ None
-    → (many_a ≡ false) × (many_b ≡ false) × (rest ≡ None)
+    → (many_a ≡ false) × (many_b ≡ false) × (long ≡ false) × (rest ≡ None)
 by_tests true many_b long rest none = absurd cc
 by_tests false true long rest none = absurd cc
 by_tests false false true rest none = absurd cc
-by_tests false false false rest none = (refl, refl, none)
+by_tests false false false rest none = (refl, refl, refl, none)
 
-unrefused : (pair : PairState) (line : List ℕ) → pair_cause_of pair line ≡ None → Unrefused pair line
+pub unrefused : (pair : PairState) (line : List ℕ) → pair_cause_of pair line ≡ None → Unrefused pair line
 unfolding pair_cause_of
 unrefused pair line none =
     let tests = by_tests (nat_le max_lines pair.a.lines) (nat_le max_lines pair.b.lines) (nat_lt max_line (length line)) _ none in
-    let found = by_form pair (pair_form_of line) tests.2 in
-    record { few_a = tests.0; few_b = tests.1; pair_form = found.0; spells = found.1; fine = found.2 }
+    let found = by_form pair (pair_form_of line) tests.3 in
+    record { few_a = tests.0; few_b = tests.1; short = tests.2; pair_form = found.0; spells = found.1; fine = found.2 }
 
 -- ---- is refused in neither campaign
 
@@ -75,10 +76,10 @@ crosses_fine by from to number device word takes none =
     let one = cut_cause (is_device (length to.devices) device) why.Device _ none in
     reached_fine to (numbered from.sent number) device word takes one.0
 
-abbrev MayReach : PairState → Target → Type 0
+abbrev pub MayReach : PairState → Target → Type 0
 MayReach pair target = (y : Campaign) (by : Way) (number device word : ℕ) → target ≡ Across y by number device word → MayCross pair.a.section pair.b.section word
 
-said_fine : (x : Campaign) (pair : PairState) (target : Target) → MayReach pair target
+pub said_fine : (x : Campaign) (pair : PairState) (target : Target) → MayReach pair target
     → target_cause pair target ≡ None → said_cause (side pair x) (said_to x pair target) ≡ None
 said_fine campaign.A pair Header may none = (neither (form_cause pair.a form.Header) (form_cause pair.b form.Header) none).0
 said_fine campaign.B pair Header may none = (neither (form_cause pair.a form.Header) (form_cause pair.b form.Header) none).1
@@ -108,12 +109,12 @@ cause_is : (world : WorldState) (said : Said) → nat_le max_lines world.lines �
 unfolding cause_of
 cause_is world said few none = rw few none
 
-after_is : (pair : PairState) (line : List ℕ) (pair_form : PairForm) → pair_form_of line ≡ Some pair_form
+pub after_is : (pair : PairState) (line : List ℕ) (pair_form : PairForm) → pair_form_of line ≡ Some pair_form
     → after_pair_line pair line ≡ after_target pair (target_in pair pair_form)
 unfolding after_pair_line
 after_is pair line pair_form spells = rw spells refl
 
-said_by : (x : Campaign) (pair : PairState) (line : List ℕ) (pair_form : PairForm) → pair_form_of line ≡ Some pair_form
+pub said_by : (x : Campaign) (pair : PairState) (line : List ℕ) (pair_form : PairForm) → pair_form_of line ≡ Some pair_form
     → line_to x pair line ≡ Ok (said_to x pair (target_in pair pair_form))
 said_by x pair line pair_form spells = rw spells refl
 

@@ -1,2 +1,4 @@
 pub mod Isolation
 pub mod EachHeadline
+pub mod AtMoments
+pub mod WorkedMoments

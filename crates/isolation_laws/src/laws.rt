@@ -1,6 +1,8 @@
 //! Laws about the definitions, each the contract of a function that does nothing.
 
+ghost use Rattle.isolation_laws.specs.AtMoments.{OthersEventsAreMoments, ScriptsAreIsolated};
 ghost use Rattle.isolation_laws.specs.EachHeadline.{EachHasItsHeadline, EachLedgerIsTrue, EachSessionLives};
+ghost use Rattle.isolation_laws.specs.WorkedMoments.{AreAtTheirMoments};
 ghost use Rattle.isolation_laws.specs.Isolation.{CampaignsAreIsolated, NoOtherCampaignMatters};
 
 /// Whatever two images and accepted script there are: each campaign, over what the script says to it and with nothing that the
@@ -16,6 +18,25 @@ pub fn campaigns_are_isolated()
 #[tactic(auto, using(crate::proofs::Alone::no_other_matters))]
 pub fn no_other_campaign_matters()
     ensures { NoOtherCampaignMatters }
+{}
+
+/// Whatever two images and accepted script there are, and of each campaign: with the line `at MS` of its moment in the place of each
+/// event line that names the other campaign, or one of its devices, the script is accepted too, and the campaign is the same but for
+/// the counters of its devices. So both reports of two have the same device line and session lines of each of its devices; only its
+/// counts may differ.
+pub fn scripts_are_isolated()
+    ensures { ScriptsAreIsolated }
+{}
+
+/// The same of every script that has, in the place of each, a line that reads as `at` its moment.
+pub fn others_events_are_moments()
+    ensures { OthersEventsAreMoments }
+{}
+
+/// A script of two campaigns, and what it is with the events of the one, and of the other, at their moments.
+#[tactic(auto, using(crate::proofs::WorkedMoments::worked))]
+pub fn worked_moments()
+    ensures { AreAtTheirMoments }
 {}
 
 /// Whatever two images and accepted script there are: a device of either campaign has no session but its own campaign's, which
