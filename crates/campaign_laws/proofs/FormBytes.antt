@@ -41,7 +41,7 @@ block_by : (o : Option (List ℕ)) → IfSome o (AreSized 16) → IfSome o IsBlo
 block_by None s = tt
 block_by (Some bytes) s = record { len = s.long; bytes_fit = s.fit }
 
-key_block : (digits : List ℕ) → IfSome (key_of digits) IsBlock
+pub key_block : (digits : List ℕ) → IfSome (key_of digits) IsBlock
 unfolding key_of
 key_block digits = block_by _ (sized 16 digits _ _ refl)
 
@@ -59,7 +59,7 @@ small_by : (o : Option (List ℕ)) → IfSome o (AreSized 4) → IfSome (o >>= (
 small_by None s = tt
 small_by (Some bytes) s = number_small bytes s
 
-hex_small : (digits : List ℕ) → IfSome (hex_number_of digits) (λ n. n < 2 ^ 32)
+pub hex_small : (digits : List ℕ) → IfSome (hex_number_of digits) (λ n. n < 2 ^ 32)
 unfolding hex_number_of
 hex_small digits = small_by _ (sized 4 digits _ _ refl)
 

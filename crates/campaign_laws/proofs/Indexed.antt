@@ -25,7 +25,7 @@ IsIndexed index section.Image plan = Unit {0}
 IsIndexed index here plan = plan.index ≡ index
 
 -- where this form may come, it has
-late_index : (index : ℕ) (plan : Plan) (form : Form) (here : Section) → is_early form ≡ false → may_come here form ≡ true
+pub late_index : (index : ℕ) (plan : Plan) (form : Form) (here : Section) → is_early form ≡ false → may_come here form ≡ true
     → IsIndexed index here plan → plan.index ≡ index
 late_index index plan form section.Header late may k = absurd (not_header form late may)
 late_index index plan form section.Image late may k = absurd (not_image form late may)

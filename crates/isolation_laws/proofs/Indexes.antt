@@ -1,5 +1,5 @@
 -- Behind its image's line a campaign has one index to the end, and fields that fit.
-use Rattle.std.proofs.Common.{◌≡◌, ℕ, true, false, None, Ok, refl, sym, subst, true≢false}
+use Rattle.std.proofs.Common.{◌≡◌, ℕ, true, None, Ok, refl, sym, subst, true≢false}
 use Rattle.script_lines.specs.declared.forms.Form.{Form}
 use Rattle.script_lines.specs.declared.forms.Form.TheVariants.{Header, Image, Group, WindowC, WindowB, Device, At, Wake, Migrate, Power, Ask, Frag, Status, Down, Raw, Air, RawAir, Up, End}
 use Rattle.campaign_server.specs.Plan.{Plan}
@@ -7,36 +7,13 @@ use Rattle.campaign_world.specs.declared.section.Section.{Section}
 use Rattle.campaign_world.specs.declared.section.Section.TheVariants as section
 use Rattle.campaign_world.specs.World.{WorldState}
 use Rattle.campaign_world.specs.Said.{Said, Own, Elsewhere, Reached}
-use Rattle.campaign_world.specs.Causes.{may_come, takes_events, form_cause, said_cause}
+use Rattle.campaign_world.specs.Causes.{may_come, form_cause, said_cause}
 use Rattle.campaign_world.specs.Making.{after_form, after_said}
 use Rattle.campaign_laws.specs.Fields.{HasFields, LineFits}
-use Rattle.campaign_laws.proofs.HeadlineForms.{passes, is_early, not_header, not_image}
+use Rattle.campaign_laws.proofs.HeadlineForms.{passes}
 use Rattle.campaign_laws.proofs.Indexed.{IsIndexed, said_indexed}
 use Rattle.isolation_laws.proofs.PairFields.{Has}
 use Rattle.isolation_laws.proofs.Taken.{SaysFit, is_late}
-
--- where a form may come that is no early one, it has its index
-pub late_index : (index : ℕ) (plan : Plan) (form : Form) (here : Section) → is_early form ≡ false → may_come here form ≡ true
-    → IsIndexed index here plan → plan.index ≡ index
-late_index index plan form section.Header late may k = absurd (not_header form late may)
-late_index index plan form section.Image late may k = absurd (not_image form late may)
-late_index index plan form section.Group late may k = k
-late_index index plan form section.Window late may k = k
-late_index index plan form section.Device late may k = k
-late_index index plan form section.Devices late may k = k
-late_index index plan form section.Events late may k = k
-late_index index plan form section.Ended late may k = k
-
--- and where events may
-pub events_index : (index : ℕ) (plan : Plan) (here : Section) → takes_events here ≡ true → IsIndexed index here plan → plan.index ≡ index
-events_index index plan section.Header takes k = absurd (true≢false (sym takes))
-events_index index plan section.Image takes k = absurd (true≢false (sym takes))
-events_index index plan section.Group takes k = absurd (true≢false (sym takes))
-events_index index plan section.Window takes k = absurd (true≢false (sym takes))
-events_index index plan section.Device takes k = absurd (true≢false (sym takes))
-events_index index plan section.Devices takes k = k
-events_index index plan section.Events takes k = k
-events_index index plan section.Ended takes k = absurd (true≢false (sym takes))
 
 -- late is indexed
 pub late_indexed : (index : ℕ) (plan : Plan) (here : Section) → plan.index ≡ index → IsIndexed index here plan

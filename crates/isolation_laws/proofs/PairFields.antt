@@ -1,18 +1,14 @@
 -- What a line of two campaigns spells: keys and addresses that fit their fields, and nobody's payload but a server's.
-use Rattle.std.proofs.Common.{◌≡◌, ℕ, ◌+◌, ◌-◌, ◌/◌, ◌^◌, ◌<◌, ◌==◌, Bool, true, false, cond, List, [], ◌∷◌, length, get_or, codes, Option, None, Some, IfSome, Result, Ok, Err, refl, subst, arith, eqb-true}
-use Rattle.std.specs.Int.{w32, from_be_bytes}
-use Rattle.hex.specs.declared.error.FromHexError.{FromHexError}
-use Rattle.hex.specs.declared.error.FromHexError.TheVariants.{OddLength, InvalidStringLength}
-use Rattle.hex.specs.Hex.{decode_pairs}
-use Rattle.hex.proofs.HexLemmas.{decode_pairs-ok}
+use Rattle.std.proofs.Common.{◌≡◌, ℕ, ◌+◌, ◌-◌, ◌^◌, ◌<◌, ◌==◌, Bool, true, false, cond, List, codes, Option, None, Some, IfSome, refl, subst}
 use Rattle.aes_block.specs.Cipher.{IsBlock}
 use Rattle.script_lines.specs.declared.forms.Campaign.{Campaign}
 use Rattle.script_lines.specs.declared.forms.Form.{Form}
 use Rattle.script_lines.specs.declared.forms.Form.TheVariants.{Header, Image, Group, WindowC, WindowB, Device, At, Wake, Migrate, Power, Ask, Frag, Status, Down, Raw, Air, RawAir, Up, End}
 use Rattle.script_lines.specs.declared.forms.PairForm.{PairForm}
 use Rattle.script_lines.specs.Lines.{word, is_word}
-use Rattle.script_lines.specs.Numbers.{key_of, hex_number_of, read_part, ◌>>=◌}
+use Rattle.script_lines.specs.Numbers.{◌>>=◌}
 use Rattle.script_lines.specs.Forms.{count_of, alone, at_form, wake_form, migrate_form, power_form, ask_form, decimal_at, hex_at, key_at, class_at, image_words, group_words, window_from, device_words, device_of_words, device_to, device_from, down_words, down_of, in_the_air}
+use Rattle.campaign_laws.proofs.FormBytes.{key_block, hex_small}
 use Rattle.script_lines.specs.PairForms.{campaign_at, letter_of, number_behind, of_none, of_named, pair_header, pair_image, pair_group, pair_alone, pair_down, pair_up, pair_form_of}
 
 -- what a form of such a line has
@@ -22,51 +18,6 @@ Has (Device id class hw rows offset key descriptor v1 k11 flash) = IsBlock key
 Has (Raw device port payload random) = ⊥
 Has (RawAir device bytes random) = ⊥
 Has form = Unit {0}
-
--- ---- what hex digits spell
-
-record AreSized (n : ℕ) (bytes : List ℕ) : Type 0 where
-  long : length bytes ≡ n
-  fit : (i : ℕ) → get_or bytes i 0 < 256
-
-pairs_sized : (n : ℕ) (digits : List ℕ) (r : Result (List ℕ) FromHexError) → decode_pairs 0 digits ≡ r → length digits / 2 ≡ n
-    → IfSome (read_part r) (AreSized n)
-pairs_sized n digits (Err e) is half = tt
-pairs_sized n digits (Ok bytes) is half =
-    let p = decode_pairs-ok 0 digits bytes is in
-    record { long = omega (arith, p.1, half); fit = p.2 }
-
-sized : (n : ℕ) (digits : List ℕ) (a b : Bool) → (length digits / 2 == n) ≡ b
-    → IfSome (read_part (cond {A = Result (List ℕ) FromHexError} a (Err OddLength)
-    (cond b (decode_pairs 0 digits) (Err InvalidStringLength)))) (AreSized n)
-sized n digits true b is = tt
-sized n digits false true is = pairs_sized n digits (decode_pairs 0 digits) refl (eqb-true _ _ is)
-sized n digits false false is = tt
-
-block_by : (o : Option (List ℕ)) → IfSome o (AreSized 16) → IfSome o IsBlock
-block_by None s = tt
-block_by (Some bytes) s = record { len = s.long; bytes_fit = s.fit }
-
-key_block : (digits : List ℕ) → IfSome (key_of digits) IsBlock
-unfolding key_of
-key_block digits = block_by _ (sized 16 digits _ _ refl)
-
-number_small : (bytes : List ℕ) → AreSized 4 bytes → from_be_bytes w32 bytes < 2 ^ 32
-number_small (a ∷ b ∷ c ∷ d ∷ []) s =
-    omega (arith, s.fit 0, s.fit 1, s.fit 2, s.fit 3)
-number_small [] s = absurd (omega (arith, s.long))
-number_small (a ∷ []) s = absurd (omega (arith, s.long))
-number_small (a ∷ b ∷ []) s = absurd (omega (arith, s.long))
-number_small (a ∷ b ∷ c ∷ []) s = absurd (omega (arith, s.long))
-number_small (a ∷ b ∷ c ∷ d ∷ e ∷ more) s = absurd (omega (arith, s.long))
-
-small_by : (o : Option (List ℕ)) → IfSome o (AreSized 4) → IfSome (o >>= (λ bytes. Some (from_be_bytes w32 bytes))) (λ n. n < 2 ^ 32)
-small_by None s = tt
-small_by (Some bytes) s = number_small bytes s
-
-hex_small : (digits : List ℕ) → IfSome (hex_number_of digits) (λ n. n < 2 ^ 32)
-unfolding hex_number_of
-hex_small digits = small_by _ (sized 4 digits _ _ refl)
 
 -- ---- forms
 

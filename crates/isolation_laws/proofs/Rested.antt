@@ -30,12 +30,11 @@ use Rattle.campaign_laws.proofs.HeadlineWorlds.{Keeps}
 use Rattle.campaign_laws.proofs.HeadlineForms.{passes, is_strange, late_cut, payload_there, reached_passes}
 use Rattle.campaign_laws.proofs.Airing.{heard_as, is_heard}
 use Rattle.campaign_laws.proofs.HonestLines.{Stands, alone_at}
-use Rattle.campaign_laws.proofs.Indexed.{IsIndexed}
+use Rattle.campaign_laws.proofs.Indexed.{IsIndexed, late_index, events_index}
 use Rattle.pair_run.specs.Counting.{IsAlike}
 use Rattle.pair_laws.proofs.Crossing.{counted_alone}
 use Rattle.isolation_laws.proofs.Resting.{Rests, delivery_rests, waking_rests, migration_rests}
 use Rattle.isolation_laws.proofs.Tame.{IsTame, sent_to, IsToAll, fragment_to_all, status_to_each, all_tame, asked_tame, answer_tame}
-use Rattle.isolation_laws.proofs.Indexes.{late_index, events_index}
 
 -- what holds between two lines
 pub record Rested (index : ℕ) (w : WorldState) : Type 0 where
