@@ -3,7 +3,7 @@ use crate::group_list::GroupList;
 
 /// A command with its fields. `specs/Table.antt` says how each lies in its bytes.
 #[derive(Debug, PartialEq, Drop)]
-pub enum Cmd {
+pub enum Cmd<'a> {
     /// From the server, on both ports: which package and version is there?
     PackageVersionReq,
     /// From the device, on both ports.
@@ -81,7 +81,7 @@ pub enum Cmd {
         /// The fragment's number, below 2^14.
         n: u16,
         /// The fragment, 1 to 239 bytes.
-        bytes: FragmentBytes,
+        bytes: FragmentBytes<'a>,
     },
 
     /// TS005-1.0.0, from the server.

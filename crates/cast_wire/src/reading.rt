@@ -10,7 +10,7 @@ use wire_base::{Direction, MAX_PAYLOAD, Refusal};
 
 /// The command at a place of a payload, and the place behind it.
 #[inline(always)]
-pub fn read_one(port: u8, dir: Direction, bytes: &[u8], at: u16) -> Result<(Cmd, u16), Refusal>
+pub fn read_one(port: u8, dir: Direction, bytes: &[u8], at: u16) -> Result<(Cmd<'_>, u16), Refusal>
     requires { at < length bytes.now }
     // What is answered is spelled there.
     ensures found { IfOk result (λ r. Spells r.0 port dir bytes.now at r.1) }

@@ -16,7 +16,7 @@ use wire_base::{Direction, Refusal, u8_at, u16_at, u32_at};
 
 #[inline(always)]
 #[tactic(auto, using(crate::proofs::Known::known), unfolding(crate::specs::Reading::fragment_down))]
-pub fn read_fragment_down(bytes: &[u8], at: u16) -> Result<(Cmd, u16), Refusal>
+pub fn read_fragment_down(bytes: &[u8], at: u16) -> Result<(Cmd<'_>, u16), Refusal>
     requires inside { at < length bytes.now }
     requires fits { length bytes.now ≤ max_payload }
     ensures found { IfOk result (λ r. Spells r.0 201 Direction.Down bytes.now at r.1) }
@@ -82,7 +82,7 @@ pub fn read_fragment_down(bytes: &[u8], at: u16) -> Result<(Cmd, u16), Refusal>
 
 #[inline(always)]
 #[tactic(auto, using(crate::proofs::Known::known), unfolding(crate::specs::Reading::fragment_up))]
-pub fn read_fragment_up(bytes: &[u8], at: u16) -> Result<(Cmd, u16), Refusal>
+pub fn read_fragment_up(bytes: &[u8], at: u16) -> Result<(Cmd<'_>, u16), Refusal>
     requires inside { at < length bytes.now }
     requires fits { length bytes.now ≤ max_payload }
     ensures found { IfOk result (λ r. Spells r.0 201 Direction.Up bytes.now at r.1) }

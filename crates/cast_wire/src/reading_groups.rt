@@ -18,7 +18,7 @@ use wire_base::{Direction, Refusal, u8_at, u24_at, u32_at};
 
 #[inline(always)]
 #[tactic(auto, using(crate::proofs::Known::known), unfolding(crate::specs::Reading::group_down))]
-pub fn read_group_down(bytes: &[u8], at: u16) -> Result<(Cmd, u16), Refusal>
+pub fn read_group_down(bytes: &[u8], at: u16) -> Result<(Cmd<'_>, u16), Refusal>
     requires inside { at < length bytes.now }
     requires fits { length bytes.now ≤ max_payload }
     ensures found { IfOk result (λ r. Spells r.0 200 Direction.Down bytes.now at r.1) }
@@ -91,7 +91,7 @@ pub fn read_group_down(bytes: &[u8], at: u16) -> Result<(Cmd, u16), Refusal>
 
 #[inline(always)]
 #[tactic(auto, using(crate::proofs::Known::known), unfolding(crate::specs::Reading::group_up))]
-pub fn read_group_up(bytes: &[u8], at: u16) -> Result<(Cmd, u16), Refusal>
+pub fn read_group_up(bytes: &[u8], at: u16) -> Result<(Cmd<'_>, u16), Refusal>
     requires inside { at < length bytes.now }
     requires fits { length bytes.now ≤ max_payload }
     ensures found { IfOk result (λ r. Spells r.0 200 Direction.Up bytes.now at r.1) }

@@ -25,7 +25,7 @@ pub fn refusal_bits(
 }
 
 /// The FragSessionSetupAns of a session whose bits 3:0 are those of this number.
-pub fn setup_answer(index: u8, bits: u8) -> Cmd
+pub fn setup_answer(index: u8, bits: u8) -> Cmd<'static>
     ensures { result ≡ setup_answer index bits }
 {
     Cmd::FragSessionSetupAns {
