@@ -5,11 +5,11 @@ ghost use Rattle.package_grammar.specs.Grammar.{IsValid};
 /// A command of one of the four packages, by the crate that has its table. PackageVersionReq and its answer are in
 /// both: those of ports 200 and 201 are `Cast`, those of ports 202 and 203 `Sync`.
 #[derive(Debug, PartialEq, Drop)]
-pub enum Command {
+pub enum Command<'a> {
     /// TS003-1.0.0 and TS006-1.0.0.
     Sync(sync_wire::Cmd),
     /// TS004-1.0.0 and TS005-1.0.0.
-    Cast(cast_wire::Cmd),
+    Cast(cast_wire::Cmd<'a>),
 }
 
 /// Whether each field fits the bits that its command's row of the table gives it, and the fields fit together.

@@ -77,7 +77,7 @@ impl<'a> Message<'a> {
 
     /// The next command; None exactly where none is left.
     #[inline(always)]
-    pub fn next(&mut self) -> Option<Command>
+    pub fn next(&mut self) -> Option<Command<'a>>
         ensures takes { TakesCommand self.old self.new result }
         ensures valid { IfSome result (λ c. IsValid c) }
         ensures listed { IfSome result (λ c. IsListed (row c) self.old.port self.old.direction) }

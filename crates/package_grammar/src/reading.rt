@@ -11,7 +11,12 @@ use wire_base::{Direction, Refusal};
 /// Else the first cause: `Port` at 0, `TooLong` at 242, `UnknownCommand` at the place, `Short` at the payload's end.
 #[inline(always)]
 #[tactic(auto, using(crate::proofs::Tables::sync_cause, crate::proofs::Tables::cast_cause, crate::proofs::Tables::not_sync, crate::proofs::Tables::not_cast, crate::proofs::Tables::within))]
-pub fn read_one(port: u8, dir: Direction, bytes: &[u8], at: u16) -> Result<(Command, u16), Refusal>
+pub fn read_one(
+    port: u8,
+    dir: Direction,
+    bytes: &[u8],
+    at: u16,
+) -> Result<(Command<'_>, u16), Refusal>
     requires { at < length bytes.now }
     // What is answered is spelled there.
     ensures found { IfOk result (λ r. Spells r.0 port dir bytes.now at r.1) }
