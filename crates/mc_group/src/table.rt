@@ -138,7 +138,7 @@ impl GroupTable {
     }
 
     /// McGroupStatusAns for the groups whose bits are set in a mask, in rising order of their ids.
-    pub fn status(&self, mask: u8) -> Cmd
+    pub fn status(&self, mask: u8) -> Cmd<'static>
         ensures value { result ≡ status_answer self.now mask }
         ensures valid { IsValid result }
     {
