@@ -1,6 +1,6 @@
 //! What the server asks of a device at each stage.
 
-ghost use Rattle.std.specs.Prelude.{◌≡◌, ◌≤◌, Some, true, length};
+ghost use Rattle.std.specs.Prelude.{◌≡◌, ◌≤◌, Some, true, false, [], length};
 ghost use Rattle.package_grammar.specs.declared.command.Command.TheVariants.{Sync, Cast};
 ghost use Rattle.sync_wire.specs.declared.cmd.Cmd.TheVariants.{DevVersionReq, DevUpgradeImageReq, DevRebootCountdownReq};
 ghost use Rattle.cast_wire.specs.declared.cmd.Cmd.TheVariants.{FragSessionStatusReq};
@@ -11,10 +11,10 @@ ghost use Rattle.mc_keys.specs.Roots.{root_of};
 ghost use Rattle.campaign_server.specs.Asking.{request_at, by_unicast, group_request, mask_of, fragments_request, window_request};
 ghost use Rattle.campaign_server.specs.Wrapping.{wrapped_key};
 ghost use Rattle.campaign_server.specs.ServerInside.{IsCut, GroupFits, WindowFits};
-ghost use Rattle.campaign_server.specs.Sent.{down_of, unicast_of};
+ghost use Rattle.campaign_server.specs.Sent.{down_of, unicast_of, written};
 
 use crate::plan::{Kind, Plan, PlanDevice, PlanGroup, PlanWindow, own_id};
-use crate::spelling::unicast;
+use crate::spelling::put_unicast;
 use crate::stage::{Request, Stage};
 use cast_wire::{Cmd, FRAGMENT_PORT, MULTICAST_PORT};
 use frag_encoder::Encoder;
@@ -23,94 +23,99 @@ use mc_keys::{Key, kek, wrap_key};
 use package_grammar::{Command, Downlink};
 use sync_wire::FIRMWARE_PORT;
 
-/// The request of a stage, to a device; None at updated and refused.
+/// Puts the request of a stage, to a device, into a downlink without bytes, and answers whether there is one: at updated and
+/// refused there is none.
 #[tactic(auto, unfolding(crate::specs::Asking::request_at))]
 pub fn request(
     plan: &Plan,
     encoder: &Encoder,
     device: &PlanDevice,
     stage: Stage,
-) -> Option<Downlink>
-    requires { IsCut plan.now encoder.now }
-    ensures { result
+    down: &mut Downlink,
+) -> bool
+    requires cut { IsCut plan.now encoder.now }
+    requires empty { down.old.payload ≡ [] }
+    ensures value { written result down.new
         ≡ down_of (by_unicast (request_at plan.now encoder.now.file device.now stage)) }
+    ensures none { result ≡ false → down.new ≡ down.old }
 {
     match stage {
-        Stage::At(Request::Version) => Some(version_request()),
-        Stage::At(Request::Group) => match plan.group {
-            Some(group) => Some(group_request(device, &group)),
-            None => None,
+        Stage::At(request) => match request {
+            Request::Version => version_request(down),
+            Request::Group => match plan.group {
+                Some(group) => group_request(device, &group, down),
+                None => return false,
+            },
+            Request::Fragments => fragments_request(plan, encoder, down),
+            Request::Window => match plan.window {
+                Some(window) => window_request(own_id(plan.group), &window, down),
+                None => return false,
+            },
+            Request::Status => status_request(plan, down),
+            Request::Image => image_request(down),
+            Request::Reboot => reboot_request(down),
+            Request::Check => version_request(down),
         },
-        Stage::At(Request::Fragments) => Some(fragments_request(plan, encoder)),
-        Stage::At(Request::Window) => match plan.window {
-            Some(window) => Some(window_request(own_id(plan.group), &window)),
-            None => None,
-        },
-        Stage::At(Request::Status) => Some(status_request(plan)),
-        Stage::At(Request::Image) => Some(image_request()),
-        Stage::At(Request::Reboot) => Some(reboot_request()),
-        Stage::At(Request::Check) => Some(version_request()),
-        Stage::Updated => None,
-        Stage::Refused { .. } => None,
+        Stage::Updated => return false,
+        Stage::Refused { .. } => return false,
     }
+    true
 }
 
-fn version_request() -> Downlink
-    ensures { result ≡ unicast_of (Sync DevVersionReq) }
+fn version_request(down: &mut Downlink)
+    requires { down.old.payload ≡ [] }
+    ensures { down.new ≡ unicast_of (Sync DevVersionReq) }
 {
-    unicast(FIRMWARE_PORT, Command::Sync(sync_wire::Cmd::DevVersionReq))
+    let command = Command::Sync(sync_wire::Cmd::DevVersionReq);
+    put_unicast(FIRMWARE_PORT, &command, down);
 }
 
-fn image_request() -> Downlink
-    ensures { result ≡ unicast_of (Sync DevUpgradeImageReq) }
+fn image_request(down: &mut Downlink)
+    requires { down.old.payload ≡ [] }
+    ensures { down.new ≡ unicast_of (Sync DevUpgradeImageReq) }
 {
-    unicast(
-        FIRMWARE_PORT,
-        Command::Sync(sync_wire::Cmd::DevUpgradeImageReq),
-    )
+    let command = Command::Sync(sync_wire::Cmd::DevUpgradeImageReq);
+    put_unicast(FIRMWARE_PORT, &command, down);
 }
 
-fn reboot_request() -> Downlink
-    ensures { result ≡ unicast_of (Sync (DevRebootCountdownReq 0)) }
+fn reboot_request(down: &mut Downlink)
+    requires { down.old.payload ≡ [] }
+    ensures { down.new ≡ unicast_of (Sync (DevRebootCountdownReq 0)) }
 {
-    unicast(
-        FIRMWARE_PORT,
-        Command::Sync(sync_wire::Cmd::DevRebootCountdownReq { count: 0 }),
-    )
+    let command = Command::Sync(sync_wire::Cmd::DevRebootCountdownReq { count: 0 });
+    put_unicast(FIRMWARE_PORT, &command, down);
 }
 
-fn status_request(plan: &Plan) -> Downlink
-    requires { plan.now.index ≤ max_index }
-    ensures { result ≡ unicast_of (Cast (FragSessionStatusReq plan.now.index true)) }
+fn status_request(plan: &Plan, down: &mut Downlink)
+    requires index { plan.now.index ≤ max_index }
+    requires empty { down.old.payload ≡ [] }
+    ensures { down.new ≡ unicast_of (Cast (FragSessionStatusReq plan.now.index true)) }
 {
-    unicast(
-        FRAGMENT_PORT,
-        Command::Cast(Cmd::FragSessionStatusReq {
-            index: plan.index,
-            all: true,
-        }),
-    )
+    let command = Command::Cast(Cmd::FragSessionStatusReq {
+        index: plan.index,
+        all: true,
+    });
+    put_unicast(FRAGMENT_PORT, &command, down);
 }
 
 /// McGroupSetupReq, the group's key wrapped for the device.
-fn group_request(device: &PlanDevice, group: &PlanGroup) -> Downlink
-    requires { group.now.id ≤ max_index }
-    ensures { result ≡ unicast_of (Cast (group_request device.now group.now)) }
+fn group_request(device: &PlanDevice, group: &PlanGroup, down: &mut Downlink)
+    requires id { group.now.id ≤ max_index }
+    requires empty { down.old.payload ≡ [] }
+    ensures { down.new ≡ unicast_of (Cast (group_request device.now group.now)) }
 {
     // each read here, so that the command is known to have numbers of four bytes
     let _addr = group.addr;
     let _min = group.min;
     let _max = group.max;
-    unicast(
-        MULTICAST_PORT,
-        Command::Cast(Cmd::McGroupSetupReq {
-            id: group.id,
-            addr: group.addr,
-            key: wrapped(device, &group.key),
-            min: group.min,
-            max: group.max,
-        }),
-    )
+    let command = Command::Cast(Cmd::McGroupSetupReq {
+        id: group.id,
+        addr: group.addr,
+        key: wrapped(device, &group.key),
+        min: group.min,
+        max: group.max,
+    });
+    put_unicast(MULTICAST_PORT, &command, down);
 }
 
 /// McKey_encrypted for a device.
@@ -138,23 +143,22 @@ fn first_byte(block: &Key) -> u8 {
 
 /// FragSessionSetupReq for the image.
 #[tactic(auto, using(image_slots::proofs::ImageLemmas::image_bounds))]
-fn fragments_request(plan: &Plan, encoder: &Encoder) -> Downlink
-    requires { IsCut plan.now encoder.now }
-    ensures { result ≡ unicast_of (Cast (fragments_request plan.now encoder.now.file)) }
+fn fragments_request(plan: &Plan, encoder: &Encoder, down: &mut Downlink)
+    requires cut { IsCut plan.now encoder.now }
+    requires empty { down.old.payload ≡ [] }
+    ensures { down.new ≡ unicast_of (Cast (fragments_request plan.now encoder.now.file)) }
 {
-    unicast(
-        FRAGMENT_PORT,
-        Command::Cast(Cmd::FragSessionSetupReq {
-            index: plan.index,
-            mask: mask(plan.group),
-            nb_frag: encoder.nb_frag(),
-            frag_size: plan.frag_size,
-            algo: 0,
-            delay: 0,
-            padding: encoder.padding(),
-            descriptor: firmware(encoder.file()),
-        }),
-    )
+    let command = Command::Cast(Cmd::FragSessionSetupReq {
+        index: plan.index,
+        mask: mask(plan.group),
+        nb_frag: encoder.nb_frag(),
+        frag_size: plan.frag_size,
+        algo: 0,
+        delay: 0,
+        padding: encoder.padding(),
+        descriptor: firmware(encoder.file()),
+    });
+    put_unicast(FRAGMENT_PORT, &command, down);
 }
 
 /// The group may feed the session where there is one.
@@ -170,10 +174,11 @@ fn mask(group: Option<PlanGroup>) -> u8
 }
 
 /// McClassCSessionReq or McClassBSessionReq for the group with an id.
-fn window_request(id: u8, window: &PlanWindow) -> Downlink
+fn window_request(id: u8, window: &PlanWindow, down: &mut Downlink)
     requires id { id ≤ max_index }
     requires window { WindowFits (Some window.now) }
-    ensures { result ≡ unicast_of (Cast (window_request id window.now)) }
+    requires empty { down.old.payload ≡ [] }
+    ensures { down.new ≡ unicast_of (Cast (window_request id window.now)) }
 {
     // each read here, so that the command is known to have numbers of its widths
     let _start = window.start;
@@ -195,5 +200,5 @@ fn window_request(id: u8, window: &PlanWindow) -> Downlink
             dr: window.dr,
         },
     };
-    unicast(MULTICAST_PORT, Command::Cast(cmd))
+    put_unicast(MULTICAST_PORT, &Command::Cast(cmd), down);
 }

@@ -1,29 +1,29 @@
 //! Commands as the server sends them.
 
-ghost use Rattle.std.specs.Prelude.{◌≡◌};
+ghost use Rattle.std.specs.Prelude.{◌≡◌, []};
 ghost use Rattle.package_grammar.specs.declared.downlink.To.TheVariants as to;
 ghost use Rattle.campaign_server.specs.Server.{downlink_of};
 ghost use Rattle.campaign_server.specs.Sent.{IsSent};
 
-use package_grammar::{Command, Downlink, To, spelled};
+use package_grammar::{Command, Downlink, To, spell};
 use wire_base::Direction;
 
-/// A command on its way to devices.
-pub fn sent(to: To, port: u8, command: &Command) -> Downlink
-    requires { IsSent port command.now }
-    ensures { result ≡ downlink_of (record { to = to; command = command.now }) }
+/// Puts a command on its way to devices into a downlink without bytes.
+pub fn put(to: To, port: u8, command: &Command, down: &mut Downlink)
+    requires sent { IsSent port command.now }
+    requires empty { down.old.payload ≡ [] }
+    ensures { down.new ≡ downlink_of (record { to = to; command = command.now }) }
 {
-    Downlink {
-        to,
-        port,
-        payload: spelled(port, Direction::Down, command),
-    }
+    down.to = to;
+    down.port = port;
+    spell(port, Direction::Down, command, &mut down.payload);
 }
 
-/// A command on its way to one device.
-pub fn unicast(port: u8, command: Command) -> Downlink
-    requires { IsSent port command }
-    ensures { result ≡ downlink_of (record { to = to.Unicast; command = command }) }
+/// Puts a command on its way to one device into a downlink without bytes.
+pub fn put_unicast(port: u8, command: &Command, down: &mut Downlink)
+    requires sent { IsSent port command.now }
+    requires empty { down.old.payload ≡ [] }
+    ensures { down.new ≡ downlink_of (record { to = to.Unicast; command = command.now }) }
 {
-    sent(To::Unicast, port, &command)
+    put(To::Unicast, port, command, down);
 }

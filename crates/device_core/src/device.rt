@@ -333,6 +333,14 @@ impl<F: Flash + Drop> Device<F> {
         asked
     }
 
+    /// Whether an uplink is held.
+    pub fn has_uplink(&self) -> bool
+        ensures some { result ≡ true → 0 < length self.now.outbox }
+        ensures none { result ≡ false → self.now.outbox ≡ [] }
+    {
+        !self.outbox.is_empty()
+    }
+
     /// The oldest uplink that is held; None exactly where none is. Its payload is one command in its canonical spelling.
     pub fn take_uplink(&mut self) -> Option<Uplink>
         ensures makes { Makes (Option Uplink) self.old self.new result taking }

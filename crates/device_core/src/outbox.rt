@@ -1,6 +1,6 @@
 //! The uplinks that are not yet taken.
 
-ghost use Rattle.std.specs.Prelude.{◌≡◌, ◌<◌, ◌≤◌, ◌++◌, ◌∷◌, [], length, IfSome};
+ghost use Rattle.std.specs.Prelude.{◌≡◌, ◌<◌, ◌≤◌, ◌++◌, ◌∷◌, [], length, IfSome, true, false};
 ghost use Rattle.device_core.specs.Answers.{uplink_of};
 ghost use Rattle.device_core.specs.Device.{outbox_size};
 ghost use Rattle.device_core.specs.HeldDevice.{TakesOldest};
@@ -8,9 +8,9 @@ ghost use Rattle.device_core.specs.Sendable.{IsSendable, IsUplink};
 
 use crate::uplink::{Uplink, UplinkCommand};
 use arrayvec::ArrayVec;
-use package_grammar::spelled;
+use package_grammar::spell;
 use std::marker::Model;
-use wire_base::Direction;
+use wire_base::{Direction, Payload};
 
 /// How many uplinks a device holds before they are taken.
 pub const OUTBOX: usize = 8;
@@ -49,18 +49,28 @@ impl Outbox {
         self.uplinks.len()
     }
 
+    /// Whether there is none.
+    pub fn is_empty(&self) -> bool
+        ensures none { result ≡ true → self.now ≡ [] }
+        ensures some { result ≡ false → 0 < length self.now }
+    {
+        self.uplinks.is_empty()
+    }
+
     /// Puts an answer behind the others.
     pub fn push(&mut self, answer: UplinkCommand)
         requires sendable { IsSendable answer.port answer.command }
         requires room { length self.old < outbox_size }
         ensures { self.new ≡ self.old ++ uplink_of answer ∷ [] }
     {
-        let payload = spelled(answer.port, Direction::Up, &answer.command);
-        self.uplinks.push(Uplink {
+        let mut uplink = Uplink {
             due: answer.due,
             port: answer.port,
-            payload,
-        });
+            payload: Payload::new(),
+        };
+        let payload = &mut uplink.payload;
+        spell(answer.port, Direction::Up, &answer.command, payload);
+        self.uplinks.push(uplink);
     }
 
     /// Takes the oldest; None exactly where there is none.

@@ -1,5 +1,8 @@
 //! A payload on its way to devices, and whom it is for.
 
+ghost use Rattle.std.specs.Prelude.{◌≡◌, []};
+ghost use Rattle.package_grammar.specs.declared.downlink.To.TheVariants as to;
+
 use wire_base::Payload;
 
 /// Whom a downlink is for.
@@ -18,4 +21,17 @@ pub struct Downlink {
     /// The port of the payload's package.
     pub port: u8,
     pub payload: Payload,
+}
+
+impl Downlink {
+    /// Without bytes, to be written into.
+    pub fn blank() -> Self
+        ensures { result ≡ record { to = to.Unicast; port = 0; payload = [] } }
+    {
+        Downlink {
+            to: To::Unicast,
+            port: 0,
+            payload: Payload::new(),
+        }
+    }
 }

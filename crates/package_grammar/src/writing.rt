@@ -1,5 +1,5 @@
 //! The canonical spelling of a command.
-ghost use Rattle.std.specs.Prelude.{◌≡◌};
+ghost use Rattle.std.specs.Prelude.{◌≡◌, []};
 ghost use Rattle.wire_base.specs.Payload.{Appends};
 ghost use Rattle.wire_base.specs.Rows.{IsListed};
 ghost use Rattle.cast_wire.specs.declared.cmd.Cmd.TheVariants.{DataFragment};
@@ -23,15 +23,25 @@ pub fn write_one(port: u8, dir: Direction, command: &Command, out: &mut Payload)
     }
 }
 
-/// A payload of one command in its canonical spelling.
+/// Puts the canonical spelling of a command into a payload without bytes.
 #[tactic(auto, using(crate::proofs::Written::fits))]
+pub fn spell(port: u8, direction: Direction, command: &Command, payload: &mut Payload)
+    requires valid { IsValid command.now }
+    requires listed { IsListed (row command.now) port direction }
+    requires empty { payload.old ≡ [] }
+    ensures { payload.new ≡ canonical command.now }
+{
+    let _fits = write_one(port, direction, command, payload);
+}
+
+/// A payload of one command in its canonical spelling.
 pub fn spelled(port: u8, direction: Direction, command: &Command) -> Payload
     requires valid { IsValid command.now }
     requires listed { IsListed (row command.now) port direction }
     ensures { result ≡ canonical command.now }
 {
     let mut payload = Payload::new();
-    let _fits = write_one(port, direction, command, &mut payload);
+    spell(port, direction, command, &mut payload);
     payload
 }
 
