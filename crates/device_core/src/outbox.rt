@@ -63,6 +63,13 @@ impl Outbox {
         });
     }
 
+    /// Lets go of all.
+    pub fn clear(&mut self)
+        ensures { self.new ≡ [] }
+    {
+        self.uplinks.clear();
+    }
+
     /// Takes the oldest; None exactly where there is none.
     pub fn take(&mut self) -> Option<Uplink>
         ensures takes { TakesOldest self.old self.new result }
