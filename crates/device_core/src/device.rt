@@ -38,6 +38,7 @@ use crate::class_session::ClassSession;
 use crate::config::{DeviceConfig, ReserveError, has_ranges, is_config, layout_of};
 use crate::counts::Counts;
 use crate::delivered::{Aired, Delivered, OutboxFull};
+use crate::incoming::Incoming;
 use crate::moment::Moment;
 use crate::outbox::{OUTBOX, Outbox};
 use crate::uplink::{Uplink, UplinkCommand};
@@ -56,7 +57,7 @@ use std::alloc::Global;
 use std::marker::{Brand, Model};
 use std::sync::ledger::{Blank, Ledger};
 use windows::via_of;
-use wire_base::{Direction, Payload};
+use wire_base::Direction;
 
 /// A device with its clock, groups, sessions and image slots. Contracts see what it holds, and say what each call makes of
 /// every record of `specs/Device` that it stands for.
@@ -176,13 +177,44 @@ impl<F: Flash + Drop> Device<F> {
             (tables_passed t word mark down.now) }
         ensures laid { IsLaidOut self.old.sessions self.new.sessions }
     {
+        self.receive(t, &Incoming::of(down), word, mark)
+    }
+
+    /// As `deliver`, of a payload whose bytes are lent.
+    pub fn receive(&mut self, t: u64, down: &Incoming<'_>, word: u32, mark: u64) -> Delivered
+        requires { t ≤ max_moment }
+        ensures makes { result ≢ Delivered.FlashFault
+            → Makes Delivered self.old self.new result (delivery t word mark down.now) }
+        // Down comes exactly where the sessions are down, and changes nothing.
+        ensures down { result ≡ Delivered.Down → IsDown self.old.sessions.state }
+        ensures up { result ≢ Delivered.Down → IsUp self.old.sessions.state }
+        ensures still { result ≡ Delivered.Down → self.new ≡ self.old }
+        // The flash failed at a command: those before it acted, and neither it nor those behind it.
+        ensures fails { result ≡ Delivered.FlashFault → (device : DeviceState)
+            → DeviceStands self.old device
+            → FailsWithin t word mark down.now device self.new }
+        ensures fault { result ≡ Delivered.FlashFault
+            → HasRisen (F.faults self.old.sessions.flash) (F.faults self.new.sessions.flash) }
+        // Sessions that are not held call no flash.
+        ensures quiet { self.old.sessions.held ≡ false
+            → (result ≢ Delivered.FlashFault)
+            × (self.new.sessions.flash ≡ self.old.sessions.flash) }
+        // Those that are held are stored as the payload leaves them,
+        ensures stored { result ≢ Delivered.FlashFault
+            → StaysStored F.holds F.left_since F.moment self.old self.new
+            (λ device. (delivery t word mark down.now device).device) }
+        // and a stop at any moment leaves them as they were, or as the payload's commands pass them.
+        ensures any_moment { LeavesPassed F.holds F.left_since F.moment self.old self.new
+            (tables_passed t word mark down.now) }
+        ensures laid { IsLaidOut self.old.sessions self.new.sessions }
+    {
         self.deliver_over::<Brand>(t, down, word, mark, Blank::new(1))
     }
 
     fn deliver_over<L: Ledger>(
         &mut self,
         t: u64,
-        down: &Downlink,
+        down: &Incoming<'_>,
         word: u32,
         mark: u64,
         no_steps: Blank,
@@ -217,7 +249,7 @@ impl<F: Flash + Drop> Device<F> {
         ensures laid { IsLaidOut self.old.sessions self.new.sessions }
     {
         let mut steps = Steps::<L>::new(no_steps);
-        self.deliver_counted(t, down, word, mark, &mut steps)
+        self.receive_counted(t, down, word, mark, &mut steps)
     }
 
     /// As `deliver`, and counts the commands that are taken up, one after another: where the answer is `Done` all of the
@@ -227,6 +259,47 @@ impl<F: Flash + Drop> Device<F> {
         &mut self,
         t: u64,
         down: &Downlink,
+        word: u32,
+        mark: u64,
+        steps: &mut Steps<L>,
+    ) -> Delivered
+        requires { t ≤ max_moment }
+        ensures makes { result ≢ Delivered.FlashFault
+            → Makes Delivered self.old self.new result (delivery t word mark down.now) }
+        // Down comes exactly where the sessions are down, and changes nothing.
+        ensures down { result ≡ Delivered.Down → IsDown self.old.sessions.state }
+        ensures up { result ≢ Delivered.Down → IsUp self.old.sessions.state }
+        ensures still { result ≡ Delivered.Down → self.new ≡ self.old }
+        // The flash failed at a command: those before it acted, and neither it nor those behind it.
+        ensures fails { result ≡ Delivered.FlashFault → (device : DeviceState)
+            → DeviceStands self.old device
+            → FailsWithin t word mark down.now device self.new }
+        ensures fault { result ≡ Delivered.FlashFault
+            → HasRisen (F.faults self.old.sessions.flash) (F.faults self.new.sessions.flash) }
+        // Sessions that are not held call no flash.
+        ensures quiet { self.old.sessions.held ≡ false
+            → (result ≢ Delivered.FlashFault)
+            × (self.new.sessions.flash ≡ self.old.sessions.flash) }
+        // Those that are held are stored as the payload leaves them,
+        ensures stored { result ≢ Delivered.FlashFault
+            → StaysStored F.holds F.left_since F.moment self.old self.new
+            (λ device. (delivery t word mark down.now device).device) }
+        // and a stop at any moment leaves them as they were, or as the payload's commands pass them.
+        ensures any_moment { LeavesPassed F.holds F.left_since F.moment self.old self.new
+            (tables_passed t word mark down.now) }
+        ensures laid { IsLaidOut self.old.sessions self.new.sessions }
+        ensures done { result ≡ Delivered.Done → steps.new ≡ steps.old + commands_of down.now }
+        ensures idle { result ≢ Delivered.Done → result ≢ Delivered.FlashFault
+            → steps.new ≡ steps.old }
+        ensures few { steps.new ≤ steps.old + max_payload }
+    {
+        self.receive_counted(t, &Incoming::of(down), word, mark, steps)
+    }
+
+    fn receive_counted<L: Ledger>(
+        &mut self,
+        t: u64,
+        down: &Incoming<'_>,
         word: u32,
         mark: u64,
         steps: &mut Steps<L>,
@@ -349,6 +422,14 @@ impl<F: Flash + Drop> Device<F> {
         ensures uplink { IfSome result (λ u. IsUplink u) }
     {
         self.outbox.take()
+    }
+
+    /// Lets go of all uplinks that are held.
+    pub fn drop_uplinks(&mut self)
+        ensures becomes { Becomes self.old self.new (λ device. record device { outbox = [] }) }
+        ensures aside { GoesAside self.old self.new (λ device. record device { outbox = [] }) }
+    {
+        self.outbox.clear();
     }
 
     /// Both image formats are known from now on, and what was received to run next is read again. No reboot is carried out.
@@ -502,7 +583,7 @@ impl<F: Flash + Drop> Device<F> {
     fn hear<L: Ledger>(
         &mut self,
         t: u64,
-        down: &Downlink,
+        down: &Incoming<'_>,
         word: u32,
         mark: u64,
         steps: &mut Steps<L>,
@@ -528,16 +609,16 @@ impl<F: Flash + Drop> Device<F> {
         ensures answers { IfOk result IsPlain }
         ensures few { steps.new ≤ steps.old + max_payload }
     {
-        if !self.hears(t, down.to) {
+        if !self.hears(t, down.to()) {
             self.count_deaf();
             return Ok(Delivered::Deaf);
         }
         let here = Arrival {
             moment: Moment { t, word, mark },
-            via: via_of(self.class_session, down.to),
-            port: down.port,
+            via: via_of(self.class_session, down.to()),
+            port: down.port(),
         };
-        self.read(here, &down.payload, steps)
+        self.read(here, down.bytes(), steps)
     }
 
     /// What is read of a payload acts, and one that is refused is counted.
@@ -545,7 +626,7 @@ impl<F: Flash + Drop> Device<F> {
     fn read<L: Ledger>(
         &mut self,
         here: Arrival,
-        payload: &Payload,
+        payload: &[u8],
         steps: &mut Steps<L>,
     ) -> Result<Delivered, FlashFault>
         requires moment { here.moment.t ≤ max_moment }
@@ -570,7 +651,7 @@ impl<F: Flash + Drop> Device<F> {
         ensures answers { IfOk result IsPlain }
         ensures few { steps.new ≤ steps.old + max_payload }
     {
-        match Message::read(here.port, Direction::Down, payload.as_slice()) {
+        match Message::read(here.port, Direction::Down, payload) {
             Ok(message) => self.take(here, message, steps),
             Err(refusal) => {
                 self.count_refused();

@@ -19,6 +19,7 @@ mod config;
 mod counts;
 mod delivered;
 mod device;
+mod incoming;
 mod laws;
 mod moment;
 mod outbox;
@@ -30,6 +31,7 @@ pub use config::{Class, DeviceConfig, MAX_AREA, MAX_ROWS, ReserveError, is_confi
 pub use counts::Counts;
 pub use delivered::{Aired, Delivered, OutboxFull};
 pub use device::Device;
+pub use incoming::Incoming;
 pub use laws::{
     a_frame_is_delivered, a_full_device_wakes_for_its_reboot_alone, a_whole_file_comes_once,
     due_reboot_is_once, power_is_quiet, runs_images_alone, two_commands_act_by_multicast,

@@ -73,6 +73,13 @@ impl Outbox {
         self.uplinks.push(uplink);
     }
 
+    /// Lets go of all.
+    pub fn clear(&mut self)
+        ensures { self.new ≡ [] }
+    {
+        self.uplinks.clear();
+    }
+
     /// Takes the oldest; None exactly where there is none.
     pub fn take(&mut self) -> Option<Uplink>
         ensures takes { TakesOldest self.old self.new result }

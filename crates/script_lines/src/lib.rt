@@ -28,6 +28,6 @@ pub use laws::{worked_lines, worked_pairs, worked_ranges};
 pub use numbers::decimal;
 pub use pairs::pair_form;
 pub use pieces::{Cut, Lines};
-pub use ranges::in_range;
+pub use ranges::{MAX_PORT, MAX_TIME, in_range, is_u32};
 pub use reading::form;
 pub use words::{count_words, is_word, word};

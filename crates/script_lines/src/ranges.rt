@@ -6,7 +6,7 @@ ghost use Rattle.script_lines.specs.Ranges.{in_range, is_u32, is_window, is_devi
 use crate::forms::Form;
 
 /// The latest time of a script, in milliseconds: the last one of the GPS second 2^32 - 1.
-const MAX_TIME: u64 = 4_294_967_295_999;
+pub const MAX_TIME: u64 = 4_294_967_295_999;
 
 /// The most coded fragments that a server sends.
 const MAX_PARITY: u64 = 512;
@@ -21,7 +21,7 @@ const MAX_ROWS: u64 = 256;
 const MAX_INDEX: u64 = 3;
 
 /// The last port.
-const MAX_PORT: u64 = 255;
+pub const MAX_PORT: u64 = 255;
 
 /// The most devices of a script.
 const MAX_DEVICES: u64 = 64;
@@ -76,7 +76,7 @@ pub fn in_range(form: &Form) -> bool
 }
 
 /// Whether a number is below 2^32.
-fn is_u32(n: u64) -> bool
+pub fn is_u32(n: u64) -> bool
     ensures { result ≡ is_u32 n }
 {
     n < 1 << 32

@@ -25,7 +25,9 @@ use session_store::FlashFault;
 impl<F: Flash + Drop> Device<F> {
     ghost use Rattle.device_core.specs.HeldDevice.{Steps, StepsAside};
 
-    /// Acts on one command; by multicast only DataFragment and FragSessionStatusReq act (this project's profile).
+    /// Acts on one command; by multicast only DataFragment and FragSessionStatusReq act (this project's profile). It stands
+    /// alone, so that a payload of one fragment sees to nothing of it.
+    #[inline(never)]
     #[tactic(auto, unfolding(crate::specs::Step::step, crate::specs::Answers::after_answers, crate::specs::Passed::step_tables))]
     pub(super) fn act(&mut self, here: Arrival, command: &Command) -> Result<(), FlashFault>
         requires up { IsUp self.old.sessions.state }
