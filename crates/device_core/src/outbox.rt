@@ -50,10 +50,10 @@ impl Outbox {
     }
 
     /// Puts an answer behind the others.
-    pub fn push(&mut self, answer: UplinkCommand)
+    pub fn push(&mut self, answer: UplinkCommand<'_>)
         requires sendable { IsSendable answer.port answer.command }
         requires room { length self.old < outbox_size }
-        ensures { self.new ≡ self.old ++ uplink_of answer ∷ [] }
+        ensures { self.new ≡ self.old ++ uplink_of answer.entry ∷ [] }
     {
         let payload = spelled(answer.port, Direction::Up, &answer.command);
         self.uplinks.push(Uplink {
