@@ -760,11 +760,11 @@ impl<F: Flash + Drop> Device<F> {
     }
 
     /// Puts an answer into the outbox.
-    fn send(&mut self, due: u64, port: u8, command: Command)
+    fn send(&mut self, due: u64, port: u8, command: Command<'_>)
         requires sendable { IsSendable port command }
         requires room { length self.old.outbox < 8 }
         ensures { let answer : UplinkCommand =
-            record { due = due; port = port; command = command } in
+            record { due = due; port = port; command = command.entry } in
             self.new ≡ held_with_answers self.old (answer ∷ []) }
     {
         self.last_due = Some(due);

@@ -58,10 +58,10 @@ impl Outbox {
     }
 
     /// Puts an answer behind the others.
-    pub fn push(&mut self, answer: UplinkCommand)
+    pub fn push(&mut self, answer: UplinkCommand<'_>)
         requires sendable { IsSendable answer.port answer.command }
         requires room { length self.old < outbox_size }
-        ensures { self.new ≡ self.old ++ uplink_of answer ∷ [] }
+        ensures { self.new ≡ self.old ++ uplink_of answer.entry ∷ [] }
     {
         let mut uplink = Uplink {
             due: answer.due,

@@ -5,12 +5,12 @@ use wire_base::Payload;
 
 /// An answer of a device, before it is written: it makes a payload of its own.
 #[derive(Debug, Drop)]
-pub struct UplinkCommand {
+pub struct UplinkCommand<'a> {
     /// The moment at which it is due, in ms of true time.
     pub due: u64,
     /// The port of its package.
     pub port: u8,
-    pub command: Command,
+    pub command: Command<'a>,
 }
 
 /// A payload on its way to the server.

@@ -71,7 +71,7 @@ impl<F: Flash + Drop> Device<F> {
 }
 
 /// AppTimeReq.
-fn time_request(clock: &DeviceClock, t: u64, required: bool) -> Command
+fn time_request(clock: &DeviceClock, t: u64, required: bool) -> Command<'static>
     ensures value { result ≡ time_request clock.now t required }
     ensures sendable { IsSendable 202 result }
 {
@@ -80,7 +80,7 @@ fn time_request(clock: &DeviceClock, t: u64, required: bool) -> Command
 }
 
 /// DeviceAppTimePeriodicityAns: this device does not send periodically.
-fn periodicity_answer(time: u32) -> Command
+fn periodicity_answer(time: u32) -> Command<'static>
     ensures value { result ≡ Command.Sync (DeviceAppTimePeriodicityAns true time) }
     ensures sendable { IsSendable 202 result }
 {

@@ -82,7 +82,7 @@ impl<F: Flash + Drop> Device<F> {
 }
 
 /// DevVersionAns.
-fn version_answer(firmware: u32, hardware: u32) -> Command
+fn version_answer(firmware: u32, hardware: u32) -> Command<'static>
     ensures value { result ≡ Command.Sync (DevVersionAns firmware hardware) }
     ensures sendable { IsSendable 203 result }
 {
@@ -90,7 +90,7 @@ fn version_answer(firmware: u32, hardware: u32) -> Command
 }
 
 /// DevUpgradeImageAns.
-fn upgrade_answer(next: ImageState) -> Command
+fn upgrade_answer(next: ImageState) -> Command<'static>
     ensures value { result ≡ Command.Sync (upgrade_answer next) }
     ensures sendable { IsSendable 203 result }
 {
@@ -104,7 +104,7 @@ fn upgrade_answer(next: ImageState) -> Command
 }
 
 /// DevDeleteImageAns.
-fn delete_answer(errors: u8) -> Command
+fn delete_answer(errors: u8) -> Command<'static>
     requires { errors < 4 }
     ensures value { result ≡ Command.Sync (DevDeleteImageAns errors) }
     ensures sendable { IsSendable 203 result }
@@ -113,7 +113,7 @@ fn delete_answer(errors: u8) -> Command
 }
 
 /// DevRebootTimeAns.
-fn time_answer(time: u32) -> Command
+fn time_answer(time: u32) -> Command<'static>
     ensures value { result ≡ Command.Sync (DevRebootTimeAns time) }
     ensures sendable { IsSendable 203 result }
 {
@@ -121,7 +121,7 @@ fn time_answer(time: u32) -> Command
 }
 
 /// DevRebootCountdownAns.
-fn countdown_answer(count: u32) -> Command
+fn countdown_answer(count: u32) -> Command<'static>
     requires { count < 2 ^ 24 }
     ensures value { result ≡ Command.Sync (DevRebootCountdownAns count) }
     ensures sendable { IsSendable 203 result }

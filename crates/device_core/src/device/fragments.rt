@@ -170,7 +170,7 @@ fn is_complete(verdict: Verdict) -> bool
 }
 
 /// FragSessionSetupAns with all its refusal bits.
-fn setup_refusal(index: u8, bits: u8) -> Command
+fn setup_refusal(index: u8, bits: u8) -> Command<'static>
     requires { index < 4 }
     ensures value { result ≡ Command.Cast (setup_answer index bits) }
     ensures sendable { IsSendable 201 result }
@@ -179,7 +179,7 @@ fn setup_refusal(index: u8, bits: u8) -> Command
 }
 
 /// FragSessionDeleteAns.
-fn delete_answer(index: u8, missing: bool) -> Command
+fn delete_answer(index: u8, missing: bool) -> Command<'static>
     requires { index < 4 }
     ensures value { result ≡ Command.Cast (FragSessionDeleteAns index missing) }
     ensures sendable { IsSendable 201 result }
@@ -188,7 +188,7 @@ fn delete_answer(index: u8, missing: bool) -> Command
 }
 
 /// FragSessionStatusAns.
-fn status_answer(index: u8, status: StatusAns) -> Command
+fn status_answer(index: u8, status: StatusAns) -> Command<'static>
     requires index { index < 4 }
     requires few { status.received ≤ 16383 }
     ensures value { result ≡ Command.Cast

@@ -88,7 +88,7 @@ fn without_group(id: u8, session: Option<ClassSession>) -> Option<ClassSession>
 }
 
 /// McGroupSetupAns.
-fn setup_answer(id: u8, error: bool) -> Command
+fn setup_answer(id: u8, error: bool) -> Command<'static>
     requires { id < 4 }
     ensures value { result ≡ Command.Cast (McGroupSetupAns id error) }
     ensures sendable { IsSendable 200 result }
@@ -97,7 +97,7 @@ fn setup_answer(id: u8, error: bool) -> Command
 }
 
 /// McGroupDeleteAns.
-fn delete_answer(id: u8, undefined: bool) -> Command
+fn delete_answer(id: u8, undefined: bool) -> Command<'static>
     requires { id < 4 }
     ensures value { result ≡ Command.Cast (McGroupDeleteAns id undefined) }
     ensures sendable { IsSendable 200 result }

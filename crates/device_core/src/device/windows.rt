@@ -88,7 +88,7 @@ fn class_session_after(
 }
 
 /// McClassCSessionAns or McClassBSessionAns.
-fn request_answer(kind: Kind, id: u8, bits: u8, start: Option<u32>) -> Command
+fn request_answer(kind: Kind, id: u8, bits: u8, start: Option<u32>) -> Command<'static>
     requires id { id < 4 }
     requires start { IfSome start (λ s. s < 2 ^ 24) }
     requires errors { is_none start ≡ (has_bit bits 4 || has_bit bits 3 || has_bit bits 2) }
