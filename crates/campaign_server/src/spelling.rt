@@ -21,9 +21,9 @@ pub fn sent(to: To, port: u8, command: &Command) -> Downlink
 }
 
 /// A command on its way to one device.
-pub fn unicast(port: u8, command: Command) -> Downlink
+pub fn unicast(port: u8, command: Command<'_>) -> Downlink
     requires { IsSent port command }
-    ensures { result ≡ downlink_of (record { to = to.Unicast; command = command }) }
+    ensures { result ≡ downlink_of (record { to = to.Unicast; command = command.entry }) }
 {
     sent(To::Unicast, port, &command)
 }
