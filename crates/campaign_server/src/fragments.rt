@@ -13,7 +13,7 @@ use crate::plan::{Plan, PlanGroup};
 use crate::spelling::put;
 use arrayvec::ArrayVec;
 use cast_wire::{Cmd, FRAGMENT_PORT, FragmentBytes};
-use frag_encoder::{Beyond, Encoder};
+use frag_encoder::{Beyond, Encoder, MAX_FRAGMENT};
 use package_grammar::{Command, Downlink, To};
 
 /// Why no fragment is sent.
@@ -73,26 +73,26 @@ pub fn put_fragment(plan: &Plan, encoder: &Encoder, to: To, n: u16, down: &mut D
           (data_of encoder.now.file plan.now.frag_size n));
     }) }
 {
-    let bytes = encoded(plan, encoder, n);
+    let mut part = ArrayVec::new();
+    encode(plan, encoder, n, &mut part);
     let command = Command::Cast(Cmd::DataFragment {
         index: plan.index,
         n,
-        bytes,
+        bytes: FragmentBytes::from_slice(part.as_slice()),
     });
     put(to, FRAGMENT_PORT, &command, down);
 }
 
-/// The bytes of fragment n.
-fn encoded(plan: &Plan, encoder: &Encoder, n: u16) -> FragmentBytes
+/// Replaces what `part` holds by the bytes of fragment n.
+fn encode(plan: &Plan, encoder: &Encoder, n: u16, part: &mut ArrayVec<u8, MAX_FRAGMENT>)
     requires cut { IsCut plan.now encoder.now }
     requires first { 1 ≤ n }
     requires last { n ≤ nb_frag_of (length encoder.now.file) plan.now.frag_size + plan.now.parity }
-    ensures value { result ≡ data_of encoder.now.file plan.now.frag_size n }
-    ensures size { length result ≡ plan.now.frag_size }
+    ensures value { part.new.items ≡ data_of encoder.now.file plan.now.frag_size n }
+    ensures size { length part.new.items ≡ plan.now.frag_size }
 {
-    let mut part = ArrayVec::new();
-    match encoder.fragment(n, &mut part) {
-        Ok(()) => FragmentBytes::from_slice(part.as_slice()),
+    match encoder.fragment(n, part) {
+        Ok(()) => {}
         Err(Beyond) => unreachable!(),
     }
 }
