@@ -36,11 +36,11 @@ kept_by : (old : List SentPayload) (receiver : Option ℕ) (down : Downlink) (wr
 kept_by old receiver down true = refl
 kept_by old receiver down false = front_of old _ ∙ sym (append-nil old)
 
-pub line_stays : (old now after : List SentPayload) (blank line : SentPayload) (at : ℕ) (wrote : Bool) (down : Downlink) (answer : Option Downlink)
-    → now ≡ old ++ blank ∷ [] → at ≡ length old → line ≡ slice_index_or now at line
+pub line_stays : (old now after : List SentPayload) (receiver : Option ℕ) (blank line : SentPayload) (at : ℕ) (wrote : Bool) (down : Downlink) (answer : Option Downlink)
+    → now ≡ old ++ blank ∷ [] → at ≡ length old → line ≡ slice_index_or now at line → blank.receiver ≡ receiver
     → after ≡ cond {A = List SentPayload} wrote (slice_set now at (record line { down = down })) (take at (slice_set now at (record line { down = down })))
-    → written wrote down ≡ answer → after ≡ old ++ sent_by blank.receiver answer
-line_stays old now after blank line at wrote down answer is here found kept answers =
+    → written wrote down ≡ answer → after ≡ old ++ sent_by receiver answer
+line_stays old now after receiver blank line at wrote down answer is here found receives kept answers =
     let same : line ≡ blank = line_is old now blank line at is here found in
     let put : SentPayload = record blank { down = down } in
     let whole : slice_set now at (record line { down = down }) ≡ old ++ put ∷ [] =
@@ -49,19 +49,28 @@ line_stays old now after blank line at wrote down answer is here found kept answ
     kept ∙ ap (λ (zs : List SentPayload). cond {A = List SentPayload} wrote zs (take at zs)) whole
     ∙ ap (λ (k : ℕ). cond {A = List SentPayload} wrote (old ++ put ∷ []) (take k (old ++ put ∷ []))) here
     ∙ kept_by old blank.receiver down wrote ∙ ap (λ (a : Option Downlink). old ++ sent_by blank.receiver a) answers
+    ∙ ap (λ (r : Option ℕ). old ++ sent_by r answer) receives
 
 -- ---- whether it was written
 
-pub fragment_written : {E : Type 0} (made : Result (Unit {0}) E) (down : Downlink) (next : Result DownlinkCommand E)
+fragment_by : {E : Type 0} (made : Result (Unit {0}) E) (down : Downlink) (next : Result DownlinkCommand E)
     → written_where_ok made down ≡ result_of next → written (is_ok made) down ≡ down_of (result_ok next)
-fragment_written (Ok done) down (Ok next) is = let same : down ≡ _ = cc in ap Some same
-fragment_written (Ok done) down (Err e) is = absurd cc
-fragment_written (Err e) down (Ok next) is = absurd cc
-fragment_written (Err e) down (Err f) is = refl
+fragment_by (Ok done) down (Ok next) is = let same : down ≡ _ = cc in ap Some same
+fragment_by (Ok done) down (Err e) is = absurd cc
+fragment_by (Err e) down (Ok next) is = absurd cc
+fragment_by (Err e) down (Err f) is = refl
 
-pub answer_is_written : {E : Type 0} (heard : Result Bool E) (down : Downlink) (answer : Result (Option DownlinkCommand) E)
+pub fragment_written : {E : Type 0} (wrote : Bool) (made : Result (Unit {0}) E) (down : Downlink) (next : Result DownlinkCommand E)
+    → wrote ≡ is_ok made → written_where_ok made down ≡ result_of next → written wrote down ≡ down_of (result_ok next)
+fragment_written wrote made down next so is = ap (λ (b : Bool). written b down) so ∙ fragment_by made down next is
+
+answer_by : {E : Type 0} (heard : Result Bool E) (down : Downlink) (answer : Result (Option DownlinkCommand) E)
     → answer_written heard down ≡ answer_of answer → written (is_answered heard) down ≡ down_of (answered answer)
-answer_is_written (Ok wrote) down (Ok answer) is = cc
-answer_is_written (Ok wrote) down (Err e) is = absurd cc
-answer_is_written (Err e) down (Ok answer) is = absurd cc
-answer_is_written (Err e) down (Err f) is = refl
+answer_by (Ok wrote) down (Ok answer) is = cc
+answer_by (Ok wrote) down (Err e) is = absurd cc
+answer_by (Err e) down (Ok answer) is = absurd cc
+answer_by (Err e) down (Err f) is = refl
+
+pub answer_is_written : {E : Type 0} (wrote : Bool) (heard : Result Bool E) (down : Downlink) (answer : Result (Option DownlinkCommand) E)
+    → wrote ≡ is_answered heard → answer_written heard down ≡ answer_of answer → written wrote down ≡ down_of (answered answer)
+answer_is_written wrote heard down answer so is = ap (λ (b : Bool). written b down) so ∙ answer_by heard down answer is

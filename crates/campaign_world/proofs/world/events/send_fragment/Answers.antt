@@ -10,5 +10,6 @@ next_fragment_into-made-requires c =
 
 pub returns-clause-sent : goal.returns-clause-sent
 returns-clause-sent c =
-    line_stays _ _ _ _ c.index_mut-line.result.now _ _ _ _ c.push_reserved.ensures.items (c.len-at.ensures ∙ c.args.sent.now.ok.0) c.index_mut-line.ensures.value c.keep.ensures
-    (fragment_written c.next_fragment_into-made.result _ _ c.next_fragment_into-made.ensures.sent)
+    line_stays _ _ _ _ _ c.index_mut-line.result.now _ _ _ _ c.push_reserved.ensures.items (c.len-at.ensures ∙ c.args.sent.now.ok.0) c.index_mut-line.ensures.value
+    (ap (λ (l : SentPayload). l.receiver) c.blank.ensures) c.keep.ensures
+    (fragment_written _ c.next_fragment_into-made.result _ _ c.is_ok.ensures.value c.next_fragment_into-made.ensures.sent)

@@ -10,5 +10,6 @@ ask_into-asked-requires-clause-empty c =
 
 pub returns : goal.returns
 returns c =
-    line_stays _ _ _ _ c.index_mut-line.result.now _ c.ask_into-asked.result _ _ c.push_reserved.ensures.items (c.len-at.ensures ∙ c.args.sent.now.ok.0) c.index_mut-line.ensures.value c.keep.ensures
+    line_stays _ _ _ _ _ c.index_mut-line.result.now _ c.ask_into-asked.result _ _ c.push_reserved.ensures.items (c.len-at.ensures ∙ c.args.sent.now.ok.0) c.index_mut-line.ensures.value
+    (ap (λ (l : SentPayload). l.receiver) c.blank.ensures) c.keep.ensures
     c.ask_into-asked.ensures.value

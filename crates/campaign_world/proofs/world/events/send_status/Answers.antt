@@ -10,5 +10,6 @@ status_all_into-asked-requires c =
 
 pub returns-clause-sent : goal.returns-clause-sent
 returns-clause-sent c =
-    line_stays _ _ _ _ c.index_mut-line.result.now _ c.status_all_into-asked.result _ _ c.push_reserved.ensures.items (c.len-at.ensures ∙ c.args.sent.now.ok.0) c.index_mut-line.ensures.value c.keep.ensures
+    line_stays _ _ _ _ _ c.index_mut-line.result.now _ c.status_all_into-asked.result _ _ c.push_reserved.ensures.items (c.len-at.ensures ∙ c.args.sent.now.ok.0) c.index_mut-line.ensures.value
+    (ap (λ (l : SentPayload). l.receiver) c.blank.ensures) c.keep.ensures
     c.status_all_into-asked.ensures.sent
