@@ -10,6 +10,7 @@ uplink_into-heard-requires-clause-empty c =
 
 pub returns-clause-sent : goal.returns-clause-sent
 returns-clause-sent c =
-    line_stays _ _ _ _ _ c.index_mut-line.result.now _ _ _ _ c.push_reserved.ensures.items (c.len-at.ensures ∙ c.args.sent.now.ok.0) c.index_mut-line.ensures.value
+    rw (← c.as_slice.ensures.value)
+    (line_stays _ _ _ _ _ c.index_mut-line.result.now _ _ _ _ c.push_reserved.ensures.items (c.len-at.ensures ∙ c.args.sent.now.ok.0) c.index_mut-line.ensures.value
     (ap (λ (l : SentPayload). l.receiver) c.blank.ensures) c.keep.ensures
-    (answer_is_written _ c.uplink_into-heard.result _ _ c.is_answered.ensures c.uplink_into-heard.ensures.answer)
+    (answer_is_written _ c.uplink_into-heard.result _ _ c.is_answered.ensures c.uplink_into-heard.ensures.answer))
