@@ -471,7 +471,8 @@ fn make_line(sent: &mut Vec<SentPayload>) -> Result<(), AllocError>
     sent.reserve(1)
 }
 
-/// Numbers the request of the stage of a device, where there is one. There is room for it, and it is written where it stays.
+/// Numbers the request of the stage of a device, where there is one. There is room for it, and it is written where it
+/// stays.
 fn send_request(sent: &mut Vec<SentPayload>, server: &Server, device: u8)
     requires first { 1 ≤ device }
     requires last { device ≤ length server.now.plan.devices }
@@ -500,7 +501,8 @@ fn send_fragment(sent: &mut Vec<SentPayload>, server: &mut Server)
     keep(sent, at, made.is_ok());
 }
 
-/// Numbers the status request to all devices, where there is one. There is room for it, and it is written where it stays.
+/// Numbers the status request to all devices, where there is one. There is room for it, and it is written where it
+/// stays.
 fn send_status(sent: &mut Vec<SentPayload>, server: &mut Server)
     requires { vec_len sent.old + 1 ≤ vec_capacity sent.old }
     ensures sent { sent.new.items
@@ -514,8 +516,8 @@ fn send_status(sent: &mut Vec<SentPayload>, server: &mut Server)
     keep(sent, at, asked);
 }
 
-/// Numbers what the server answers to an uplink, nothing to one that it refuses. There is room for it, and it is written where
-/// it stays.
+/// Numbers what the server answers to an uplink, nothing to one that it refuses. There is room for it, and it is
+/// written where it stays.
 fn send_answer(sent: &mut Vec<SentPayload>, server: &mut Server, made: &MadeUplink, t: u64)
     requires first { 1 ≤ made.now.device }
     requires last { made.now.device ≤ length server.old.plan.devices }
