@@ -119,8 +119,8 @@ impl Server {
         }
     }
 
-    /// As `ask`, written into a downlink of the caller's that has no bytes; false exactly where nothing is asked, and it is then
-    /// as it was.
+    /// As `ask`, written into a downlink of the caller's that has no bytes; false exactly where nothing is asked, and
+    /// it is then as it was.
     pub fn ask_into(&self, dev: u8, down: &mut Downlink) -> bool
         requires first { 1 ≤ dev }
         requires last { dev ≤ length self.now.plan.devices }
@@ -260,8 +260,8 @@ impl Server {
         }
     }
 
-    /// As `uplink`, the answer written into a downlink of the caller's that has no bytes; true exactly where there is an answer,
-    /// and else it is as it was.
+    /// As `uplink`, the answer written into a downlink of the caller's that has no bytes; true exactly where there is
+    /// an answer, and else it is as it was.
     pub fn uplink_into(
         &mut self,
         dev: u8,

@@ -13,8 +13,8 @@ use clock_sync::{answer_needed, correction};
 use package_grammar::{Command, Downlink, Message};
 use sync_wire::{CLOCK_PORT, Cmd};
 
-/// Puts the answer to the first AppTimeReq of an uplink that needs one, at t ms of true time, into a downlink without bytes,
-/// and answers whether one does.
+/// Puts the answer to the first AppTimeReq of an uplink that needs one, at t ms of true time, into a downlink without
+/// bytes, and answers whether one does.
 pub fn time_answer(t: u64, mut message: Message, down: &mut Downlink) -> bool
     requires { down.old.payload ≡ [] }
     ensures value { written result down.new

@@ -9,3 +9,4 @@ pub mod Steps
 pub mod Lines
 pub mod HeardWorld
 pub mod Counting
+pub mod Ends

@@ -37,6 +37,15 @@ rests_now d first old new makes takes same stored stands = record {
   empty = takes.1;
 }
 
+-- as it does where it held none
+pub rests_empty : (d : DeviceState) (held : HeldDevice Cells) → held.outbox ≡ [] → DeviceStands held d → IsStored held d
+    → HeldRests held (resting d)
+rests_empty d held none stands stored = record {
+  stands = subst (λ (o : List Uplink). DeviceStands held (record d { outbox = o })) (outbox_is held d stands ∙ none) stands;
+  stored = stored;
+  empty = none;
+}
+
 -- ---- their list
 
 pub one_moved : (id : ℕ) (now after all : List MadeUplink) (old new : List Uplink) (u : Uplink) → TakesOldest old new (Some u) → after ≡ now ++ made_by id u ∷ []
@@ -46,6 +55,9 @@ one_moved id now after all old new u takes is so_far =
 
 pub all_moved : (id : ℕ) (now all : List MadeUplink) (old : List Uplink) → old ≡ [] → now ++ map (λ (x : Uplink). made_by id x) old ≡ all → now ≡ all
 all_moved id now all old none so_far = sym (append-nil now) ∙ ap (λ (us : List Uplink). now ++ map (λ (x : Uplink). made_by id x) us) (sym none) ∙ so_far
+
+pub none_moved : (id : ℕ) (now : List MadeUplink) (held : List Uplink) → held ≡ [] → now ≡ now ++ map (λ (x : Uplink). made_by id x) held
+none_moved id now held none = sym (append-nil now) ∙ ap (λ (us : List Uplink). now ++ map (λ (x : Uplink). made_by id x) us) (sym none)
 
 -- a device that rests and knows both image formats from now on rests
 pub rests_raised : (old new : HeldDevice Cells) (d : DeviceState) → Becomes old new after_migration → GoesAside old new after_migration → HeldRests old d → HeldRests new (resting (after_migration d))

@@ -1,5 +1,5 @@
 -- What a world holds, for which campaigns it stands, and what it answers.
-use Rattle.std.specs.Prelude.{◌≡◌, ℕ, ◌+◌, ◌-◌, List, [], ◌∷◌, ◌++◌, length, map, slice_get, slice_set, Option, Some, None, Result, Ok, Err, OnOk, true}
+use Rattle.std.specs.Prelude.{◌≡◌, ℕ, ◌+◌, ◌-◌, Bool, false, List, [], ◌∷◌, ◌++◌, length, map, slice_get, slice_set, Option, Some, None, Result, Ok, Err, OnOk, true}
 use Rattle.std.specs.List.{AllZip}
 use Rattle.device_core.specs.Device.{DeviceState}
 use Rattle.device_core.specs.declared.uplink.Uplink.{Uplink}
@@ -174,6 +174,11 @@ sent_by receiver (Some down) = record { receiver = receiver; down = down } ∷ [
 abbrev pub answered : {A E : Type 0} → Result (Option A) E → Option A
 answered (Ok answer) = answer
 answered (Err refusal) = None
+
+-- whether there was one
+abbrev pub is_answered : {E : Type 0} → Result Bool E → Bool
+is_answered (Ok answered) = answered
+is_answered (Err refusal) = false
 
 -- what was tested of a form before it is carried out, but for whether it may come
 pub record IsTested (held : HeldCampaign) (form : Form) : Type 0 where

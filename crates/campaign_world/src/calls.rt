@@ -114,6 +114,22 @@ fn take_uplinks(id: u8, device: &mut Device<CellFlash>, uplinks: &mut Vec<MadeUp
     ensures uplinks { length device.old.outbox ≤ outbox_size
         → uplinks.new.items ≡ numbered_behind uplinks.old.items id device.old.outbox }
 {
+    if device.has_uplink() {
+        take_held(id, device, uplinks);
+    }
+}
+
+/// The same of a device that holds some. It stands alone, so that no other payload sees to the room for an uplink.
+#[inline(never)]
+fn take_held(id: u8, device: &mut Device<CellFlash>, uplinks: &mut Vec<MadeUplink>)
+    requires first { 1 ≤ id }
+    requires room { vec_len uplinks.old + outbox_size ≤ vec_capacity uplinks.old }
+    ensures made { StayMade id uplinks.old.items uplinks.new.items }
+    ensures rests { (d : DeviceState) → DeviceStands device.old d → IsStored device.old d
+        → length d.outbox ≤ outbox_size → HeldRests device.new (resting d) }
+    ensures uplinks { length device.old.outbox ≤ outbox_size
+        → uplinks.new.items ≡ numbered_behind uplinks.old.items id device.old.outbox }
+{
     let full = uplinks.len() + OUTBOX;
     while uplinks.len() < full {
         let Some(uplink) = device.take_uplink() else {

@@ -14,6 +14,25 @@ pub struct SentPayload {
     pub down: Downlink,
 }
 
+impl SentPayload {
+    ghost use Rattle.std.specs.Prelude.{◌≡◌, []};
+    ghost use Rattle.package_grammar.specs.declared.downlink.To.TheVariants as to;
+
+    /// Without bytes, to be written into.
+    #[inline(always)]
+    pub fn blank(receiver: Option<u8>) -> Self
+        ensures { result ≡ record {
+          receiver = receiver;
+          down = record { to = to.Unicast; port = 0; payload = [] };
+        } }
+    {
+        SentPayload {
+            receiver,
+            down: Downlink::blank(),
+        }
+    }
+}
+
 /// An uplink that a device made.
 #[derive(Debug, Drop)]
 pub struct MadeUplink {

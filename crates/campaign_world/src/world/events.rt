@@ -1,6 +1,6 @@
 //! A campaign that plays, and its events.
 
-ghost use Rattle.std.specs.Prelude.{◌≡◌, ◌≤◌, ◌<◌, ◌+◌, ◌++◌, ◌^◌, ℕ, true, List, [], length, None, Some, IfOk, IfSome, OnOk, OnErr, option_map, string_bytes, vec_len, vec_capacity};
+ghost use Rattle.std.specs.Prelude.{◌≡◌, ◌≤◌, ◌<◌, ◌+◌, ◌++◌, ◌^◌, ℕ, true, List, [], length, None, Some, IfOk, IfSome, OnOk, OnErr, option_map, string_bytes, vec_len, vec_capacity, take, if◌then◌else◌};
 ghost use Rattle.std.specs.Result.{result_ok};
 ghost use Rattle.wire_base.specs.Numbered.{numbered};
 ghost use Rattle.image_slots.specs.Image.{is_image};
@@ -17,7 +17,7 @@ ghost use Rattle.campaign_world.specs.Causes.{is_event_or_end, has_more};
 ghost use Rattle.campaign_world.specs.Making.{with_sent, with_event, reception, raw_down, sent_frame, hearing, after_up, at_events, after_form};
 ghost use Rattle.campaign_world.specs.Report.{numbered_lines, report_with};
 ghost use Rattle.campaign_world.specs.Summary.{summary_with};
-ghost use Rattle.campaign_world.specs.HeldWorld.{sent_by, answered};
+ghost use Rattle.campaign_world.specs.HeldWorld.{sent_by, answered, is_answered};
 ghost use Rattle.campaign_world.specs.declared.numbered.SentPayload.{SentPayload};
 ghost use Rattle.campaign_world.specs.declared.numbered.MadeUplink.{MadeUplink};
 
@@ -33,7 +33,7 @@ use package_grammar::{Downlink, To};
 use script_lines::{Form, HexBytes, MAX_HEX_BYTES};
 use std::alloc::{AllocError, Global};
 use std::marker::Model;
-use wire_base::Payload;
+use wire_base::{Payload, Refusal};
 
 /// A campaign that plays: its server and its devices, what was sent, and what came up.
 #[derive(Drop)]
@@ -156,8 +156,7 @@ impl Campaign {
             Ok(()) => {}
             Err(error) => return Err(error),
         }
-        let down = self.server.ask(device);
-        send(&mut self.sent, Some(device), down);
+        send_request(&mut self.sent, &self.server, device);
         Ok(())
     }
 
@@ -173,8 +172,7 @@ impl Campaign {
             Ok(()) => {}
             Err(error) => return Err(error),
         }
-        let down = fragment(&mut self.server);
-        send(&mut self.sent, None, down);
+        send_fragment(&mut self.sent, &mut self.server);
         Ok(())
     }
 
@@ -190,8 +188,7 @@ impl Campaign {
             Ok(()) => {}
             Err(error) => return Err(error),
         }
-        let down = self.server.status_all();
-        send(&mut self.sent, None, down);
+        send_status(&mut self.sent, &mut self.server);
         Ok(())
     }
 
@@ -394,8 +391,7 @@ impl Campaign {
         let Some(made) = numbered(&self.uplinks, number) else {
             unreachable!()
         };
-        let answer = answer_of(&mut self.server, made, self.time);
-        send(&mut self.sent, Some(made.device), answer);
+        send_answer(&mut self.sent, &mut self.server, made, self.time);
         Ok(())
     }
 
@@ -475,45 +471,93 @@ fn make_line(sent: &mut Vec<SentPayload>) -> Result<(), AllocError>
     sent.reserve(1)
 }
 
-/// Numbers a payload of the server's, for which there is room.
-fn send(sent: &mut Vec<SentPayload>, receiver: Option<u8>, down: Option<Downlink>)
-    requires { vec_len sent.old + 1 ≤ vec_capacity sent.old }
-    ensures { sent.new.items ≡ sent.old.items ++ sent_by receiver down }
+/// Numbers the request of the stage of a device, where there is one. There is room for it, and it is written where it
+/// stays.
+fn send_request(sent: &mut Vec<SentPayload>, server: &Server, device: u8)
+    requires first { 1 ≤ device }
+    requires last { device ≤ length server.now.plan.devices }
+    requires room { vec_len sent.old + 1 ≤ vec_capacity sent.old }
+    ensures { sent.new.items
+        ≡ sent.old.items ++ sent_by (Some device) (down_of (request_of server.now device)) }
 {
-    let Some(down) = down else {
-        return;
-    };
-    sent.push_reserved(SentPayload { receiver, down });
+    let at = sent.len();
+    sent.push_reserved(SentPayload::blank(Some(device)));
+    let line = &mut sent[at];
+    let asked = server.ask_into(device, &mut line.down);
+    keep(sent, at, asked);
 }
 
-/// The next fragment, if there is one.
-fn fragment(server: &mut Server) -> Option<Downlink>
-    ensures down { result ≡ down_of (result_ok (next_fragment server.old)) }
+/// Numbers the next fragment, where there is one. There is room for it, and it is written where it stays.
+fn send_fragment(sent: &mut Vec<SentPayload>, server: &mut Server)
+    requires { vec_len sent.old + 1 ≤ vec_capacity sent.old }
+    ensures sent { sent.new.items
+        ≡ sent.old.items ++ sent_by None (down_of (result_ok (next_fragment server.old))) }
     ensures moved { server.new ≡ after_fragment server.old }
 {
-    match server.next_fragment() {
-        Ok(down) => Some(down),
-        Err(_) => None,
-    }
+    let at = sent.len();
+    sent.push_reserved(SentPayload::blank(None));
+    let line = &mut sent[at];
+    let made = server.next_fragment_into(&mut line.down);
+    keep(sent, at, made.is_ok());
 }
 
-/// What the server answers to an uplink; nothing to one that it refuses.
-fn answer_of(server: &mut Server, made: &MadeUplink, t: u64) -> Option<Downlink>
+/// Numbers the status request to all devices, where there is one. There is room for it, and it is written where it
+/// stays.
+fn send_status(sent: &mut Vec<SentPayload>, server: &mut Server)
+    requires { vec_len sent.old + 1 ≤ vec_capacity sent.old }
+    ensures sent { sent.new.items
+        ≡ sent.old.items ++ sent_by None (down_of (status_to_all server.old)) }
+    ensures moved { server.new ≡ after_status_to_all server.old }
+{
+    let at = sent.len();
+    sent.push_reserved(SentPayload::blank(None));
+    let line = &mut sent[at];
+    let asked = server.status_all_into(&mut line.down);
+    keep(sent, at, asked);
+}
+
+/// Numbers what the server answers to an uplink, nothing to one that it refuses. There is room for it, and it is
+/// written where it stays.
+fn send_answer(sent: &mut Vec<SentPayload>, server: &mut Server, made: &MadeUplink, t: u64)
     requires first { 1 ≤ made.now.device }
     requires last { made.now.device ≤ length server.old.plan.devices }
+    requires room { vec_len sent.old + 1 ≤ vec_capacity sent.old }
+    ensures sent { sent.new.items ≡ sent.old.items ++ sent_by (Some made.now.device)
+        (down_of (answered (uplink_step server.old made.now.device made.now.uplink.port
+        made.now.uplink.payload t).answer)) }
     ensures moved { server.new ≡ (uplink_step server.old made.now.device made.now.uplink.port
         made.now.uplink.payload t).server }
-    ensures down { result ≡ down_of (answered (uplink_step server.old made.now.device
-        made.now.uplink.port made.now.uplink.payload t).answer) }
 {
-    match server.uplink(
+    let at = sent.len();
+    sent.push_reserved(SentPayload::blank(Some(made.device)));
+    let line = &mut sent[at];
+    let heard = server.uplink_into(
         made.device,
         made.uplink.port,
         made.uplink.payload.as_slice(),
         t,
-    ) {
-        Ok(answer) => answer,
-        Err(_) => None,
+        &mut line.down,
+    );
+    keep(sent, at, is_answered(heard));
+}
+
+/// Whether an uplink was taken and is answered.
+fn is_answered(heard: Result<bool, Refusal>) -> bool
+    ensures { result ≡ is_answered heard }
+{
+    match heard {
+        Ok(answered) => answered,
+        Err(_) => false,
+    }
+}
+
+/// The last payload, which is number `at` counted from 0, goes again where nothing was written.
+fn keep(sent: &mut Vec<SentPayload>, at: usize, wrote: bool)
+    ensures { sent.new.items
+        ≡ (if wrote then sent.old.items else take at sent.old.items) }
+{
+    if !wrote {
+        sent.truncate(at);
     }
 }
 

@@ -3,7 +3,7 @@ use Rattle.campaign_world.specs.WorldInside.{IsMadeBy}
 use Rattle.campaign_world.proofs.Zips.{all_more}
 use Rattle.device_core.proofs.Outboxes.{one_taken}
 use Rattle.campaign_world.proofs.Outboxes.{one_moved, rests_now}
-use Rattle.campaign_world.proofs.calls.take_uplinks.Goals as goal
+use Rattle.campaign_world.proofs.calls.take_held.Goals as goal
 
 pub loop-device-preserved : goal.loop-device-preserved
 loop-device-preserved c = record {

@@ -4,7 +4,7 @@ use Rattle.device_core.specs.Device.{DeviceState}
 use Rattle.device_core.specs.HeldDevice.{DeviceStands}
 use Rattle.campaign_world.specs.HeldWorld.{numbered_behind}
 use Rattle.campaign_world.specs.WorldInside.{StayMade}
-use Rattle.campaign_world.proofs.calls.take_uplinks.Given as goal
+use Rattle.campaign_world.proofs.calls.take_held.Given as goal
 
 abbrev pub invariant-loop-device : goal.invariant-loop-device
 invariant-loop-device l = record {

@@ -2,4 +2,4 @@ use Rattle.campaign_world.proofs.Steps.{kept_after_fragment, stays_campaign}
 use Rattle.campaign_world.proofs.world.events.Campaign.frag.Goals as goal
 
 pub invariant_of-self-2 : goal.invariant_of-self-2
-invariant_of-self-2 c = rw (c.fragment-down.ensures.moved) (stays_campaign _ _ _ _ _ (kept_after_fragment _) c.self.invariant)
+invariant_of-self-2 c = rw (c.send_fragment.ensures.moved) (stays_campaign _ _ _ _ _ (kept_after_fragment _) c.self.invariant)
