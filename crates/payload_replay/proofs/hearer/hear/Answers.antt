@@ -10,5 +10,5 @@ pub returns : goal.returns
 unfolding after_payload
 returns c = λ before stands.
     let heard = (c.receive-delivered.ensures.makes (λ is. no_rise (c.receive-delivered.ensures.fault is))).stands before stands in
-    subst (λ (down : Downlink). DeviceStands c.drop_uplinks.new.device (record (delivery 0 0 c.args.mark down before).device { outbox = [] })) c.new.ensures
+    subst (λ (down : Downlink). DeviceStands c.drop_uplinks.new.self (record (delivery 0 0 c.args.mark down before).device { outbox = [] })) c.new-down.ensures
     (c.drop_uplinks.ensures.becomes _ heard)
