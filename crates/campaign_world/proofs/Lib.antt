@@ -4,6 +4,7 @@ pub mod Outboxes
 pub mod Powering
 pub mod OutboxRoom
 pub mod FormCauses
+pub mod EventCauses
 pub mod Beside
 pub mod Steps
 pub mod Lines

@@ -9,6 +9,7 @@ pub mod Summary
 pub mod Recovery
 pub mod HeldLate
 pub mod HeldWorld
+pub mod EventCauses
 pub mod HeardWorld
 pub mod WorldInside
 pub mod PhaseInside

@@ -58,6 +58,11 @@ abbrev pub section_of : Phase → Section
 section_of (phase.Planning planning) = planning.section
 section_of (phase.Playing campaign has_ended) = section_by has_ended
 
+-- the campaign has not begun
+abbrev pub is_planned : Phase → Bool
+is_planned (phase.Planning planning) = true
+is_planned (phase.Playing campaign has_ended) = false
+
 -- a form makes this of the campaign
 abbrev pub PhaseTakes : (lines : ℕ) → (old new : Phase) → {E : Type 0} → Result (Unit {0}) E → (WorldState → WorldState) → Type 0
 PhaseTakes lines old new result after =

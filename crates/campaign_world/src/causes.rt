@@ -115,7 +115,8 @@ pub fn has_come(sent: &[SentPayload], uplinks: &[MadeUplink], now: u64, form: &F
     }
 }
 
-fn may_reach(device: u64, sent: &[SentPayload], number: u64) -> bool
+/// Whether a payload was sent, to this device or to any.
+pub fn may_reach(device: u64, sent: &[SentPayload], number: u64) -> bool
     requires { length sent.now < 2 ^ 63 }
     ensures { result ≡ may_reach device (numbered sent.now number) }
 {
@@ -129,7 +130,7 @@ fn may_reach(device: u64, sent: &[SentPayload], number: u64) -> bool
 }
 
 /// Whether a sent payload goes out as a frame: it is to a group.
-fn goes_out(sent: &[SentPayload], number: u64) -> bool
+pub fn goes_out(sent: &[SentPayload], number: u64) -> bool
     requires { length sent.now < 2 ^ 63 }
     ensures { result ≡ goes_out (numbered sent.now number) }
 {
@@ -148,7 +149,8 @@ fn is_to_group(to: To) -> bool
     }
 }
 
-fn is_due_by(now: u64, uplinks: &[MadeUplink], number: u64) -> bool
+/// Whether an uplink was made, and is due by now.
+pub fn is_due_by(now: u64, uplinks: &[MadeUplink], number: u64) -> bool
     requires { length uplinks.now < 2 ^ 63 }
     ensures { result ≡ is_due_by now (numbered uplinks.now number) }
 {

@@ -14,6 +14,7 @@ ghost use Rattle.campaign_world.specs.Making.{after_form};
 ghost use Rattle.campaign_world.specs.Recovery.{recovery};
 
 mod beside;
+mod event_causes;
 mod events;
 mod phase;
 mod planning;
@@ -88,13 +89,17 @@ impl World {
         if let Some(kept) = self.kept {
             return Err(kept);
         }
-        match self.accept(line) {
-            Err(why) => {
+        let read = form(line);
+        match self.refusal(line, &read) {
+            Some(why) => {
                 let fault = self.fault(why);
                 self.kept = Some(fault);
                 Err(fault)
             }
-            Ok(form) => self.take(&form),
+            None => match &read {
+                Some(form) => self.take(form),
+                None => unreachable!(),
+            },
         }
     }
 
@@ -248,30 +253,49 @@ impl World {
         }
     }
 
-    /// The form of the next line, or the first cause for which it is refused.
-    fn accept<'a>(&self, line: &'a [u8]) -> Result<Form<'a>, LineWhy>
-        ensures form { IfOk result (λ form. (form_of line.now ≡ Some form)
-            × (self.now.lines < max_lines) × IsFine self.now form) }
-        ensures none { OnOk result (IsCauseOf self.now line.now None) }
-        ensures why { IfErr result (λ why. IsCauseOf self.now line.now (Some why)) }
+    /// The first cause for which the next line is refused, with what was read of it.
+    fn refusal(&self, line: &[u8], read: &Option<Form>) -> Option<LineWhy>
+        requires read { read.now ≡ form_of line.now }
+        ensures cause { IsCauseOf self.now line.now result }
+        ensures few { result ≡ None → self.now.lines < max_lines }
+        ensures there { result ≡ None → is_some read.now ≡ true }
+        ensures fine { result ≡ None → IfSome read.now (λ form. IsFine self.now form) }
     {
         if self.lines >= MAX_LINES {
-            return Err(LineWhy::Limit);
+            return Some(LineWhy::Limit);
         }
         if line.len() > MAX_LINE {
-            return Err(LineWhy::Limit);
+            return Some(LineWhy::Limit);
         }
-        let Some(form) = form(line) else {
-            return Err(LineWhy::Syntax);
-        };
-        match self.first_cause(&form) {
-            Some(why) => Err(why),
-            None => Ok(form),
+        match read {
+            Some(form) => self.first_cause(form),
+            None => Some(LineWhy::Syntax),
         }
     }
 
     /// The first cause for which a form is refused.
     fn first_cause(&self, form: &Form) -> Option<LineWhy>
+        ensures { (devices : List DeviceState) → length devices ≡ length self.now.devices
+            → result ≡ form_cause (world_of self.now devices) form.now }
+    {
+        match &self.phase {
+            Phase::Planning(_) => self.any_cause(form),
+            Phase::Playing {
+                campaign,
+                has_ended,
+            } => {
+                if *has_ended {
+                    self.any_cause(form)
+                } else {
+                    campaign.event_cause(form)
+                }
+            }
+        }
+    }
+
+    /// The same of any form, cause by cause.
+    #[inline(never)]
+    fn any_cause(&self, form: &Form) -> Option<LineWhy>
         ensures { (devices : List DeviceState) → length devices ≡ length self.now.devices
             → result ≡ form_cause (world_of self.now devices) form.now }
     {

@@ -1,7 +1,7 @@
 //! The device that hears captured payloads: made over a header, told of behind all lines.
 
 ghost use Rattle.report_lines.specs.Texts.{IsText};
-ghost use Rattle.std.specs.Prelude.{◌≡◌, ◌≤◌, ◌++◌, [], length, codes};
+ghost use Rattle.std.specs.Prelude.{◌≡◌, ◌≤◌, ◌++◌, length, codes};
 ghost use Rattle.wire_base.specs.Payload.{max_payload};
 ghost use Rattle.device_core.specs.Device.{DeviceState};
 ghost use Rattle.device_core.specs.HeldDevice.{DeviceStands, Becomes};
@@ -10,16 +10,15 @@ ghost use Rattle.payload_replay.specs.Replay.{replay_device, after_payload, clos
 ghost use Rattle.payload_replay.specs.HeldHeaded.{IsBegun};
 
 use cast_wire::FRAGMENT_PORT;
-use device_core::{Class, Device, DeviceConfig, MAX_AREA, MAX_ROWS};
+use device_core::{Class, Device, DeviceConfig, Incoming, MAX_AREA, MAX_ROWS};
 use flash_session::CellFlash;
 use mc_keys::RootKind;
-use package_grammar::{Downlink, To};
+use package_grammar::To;
 use report_lines::{
     LineError, LineWhy, MAX_LINE, Tail, counts_line, refused_behind, session_lines,
 };
 use script_lines::{count_words, decimal, is_word, word};
 use std::alloc::{AllocError, Global};
-use wire_base::Payload;
 
 /// The device that a header asks for, which begins with this keyword.
 pub fn begin(alloc: Global, keyword: &str, header: &[u8]) -> Result<Device<CellFlash>, LineError>
@@ -90,22 +89,9 @@ pub fn hear(device: &mut Device<CellFlash>, payload: &[u8], mark: u64)
     requires { length payload.now ≤ max_payload }
     ensures { Becomes device.old device.new (λ before. after_payload mark payload.now before) }
 {
-    // The payload is made in its place, since one that is moved there is copied with all its room.
-    let mut down = Downlink {
-        to: To::Unicast,
-        port: FRAGMENT_PORT,
-        payload: Payload::new(),
-    };
-    let _fits = down.payload.append(payload);
-    let _delivered = device.deliver(0, &down, 0, mark);
-    throw_away(device);
-}
-
-/// Takes all uplinks of the device, which go nowhere.
-fn throw_away(device: &mut Device<CellFlash>)
-    ensures { Becomes device.old device.new (λ before. record before { outbox = [] }) }
-{
-    while let Some(_uplink) = device.take_uplink() {}
+    let down = Incoming::new(To::Unicast, FRAGMENT_PORT, payload);
+    let _delivered = device.receive(0, &down, 0, mark);
+    device.drop_uplinks();
 }
 
 /// What is told of the device: from the counts on, to the last line.

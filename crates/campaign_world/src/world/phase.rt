@@ -7,7 +7,7 @@ ghost use Rattle.campaign_server.specs.Plan.{max_devices};
 ghost use Rattle.campaign_world.specs.Causes.{may_come, takes_events};
 ghost use Rattle.campaign_world.specs.Said.{Reached};
 ghost use Rattle.campaign_world.specs.Making.{after_form, after_said};
-ghost use Rattle.campaign_world.specs.PhaseInside.{section_by, is_end};
+ghost use Rattle.campaign_world.specs.PhaseInside.{section_by, is_end, is_planned};
 
 use super::events::Campaign;
 use super::planning::Planning;
@@ -60,21 +60,6 @@ impl Phase {
         ensures ends { OnErr result (SameEnds (held_of self.old) (held_of self.new)) }
     {
         match self {
-            Phase::Planning(planning) => {
-                if !is_event_or_end(form) {
-                    return planning.line(lines, form);
-                }
-                let mut campaign = match planning.begin(alloc) {
-                    Ok(campaign) => campaign,
-                    Err(error) => return Err(error),
-                };
-                let played = campaign.event(lines, form);
-                *self = Phase::Playing {
-                    campaign,
-                    has_ended: is_end(form),
-                };
-                played
-            }
             Phase::Playing {
                 campaign,
                 has_ended,
@@ -82,7 +67,39 @@ impl Phase {
                 *has_ended = is_end(form);
                 campaign.event(lines, form)
             }
+            Phase::Planning(_) => self.plan(alloc, lines, form),
         }
+    }
+
+    /// The same where the campaign has not begun. It stands alone, so that no event sees to the room for a whole campaign.
+    #[inline(never)]
+    fn plan(&mut self, alloc: Global, lines: u32, form: &Form) -> Result<(), AllocError>
+        requires planned { is_planned self.old ≡ true }
+        requires phase { IsPhase self.old }
+        requires comes { may_come (section_of self.old) form.now ≡ true }
+        requires tested { IsTested (held_of self.old) form.now }
+        requires room { lines < max_lines }
+        ensures phase { IsPhase self.new }
+        ensures taken { PhaseTakes lines self.old self.new result
+            (λ world. after_form world form.now) }
+        ensures ends { OnErr result (SameEnds (held_of self.old) (held_of self.new)) }
+    {
+        let Phase::Planning(planning) = self else {
+            unreachable!()
+        };
+        if !is_event_or_end(form) {
+            return planning.line(lines, form);
+        }
+        let mut campaign = match planning.begin(alloc) {
+            Ok(campaign) => campaign,
+            Err(error) => return Err(error),
+        };
+        let played = campaign.event(lines, form);
+        *self = Phase::Playing {
+            campaign,
+            has_ended: is_end(form),
+        };
+        played
     }
 
     /// A payload of another campaign's server reaches a device, behind so many lines. It may be the first event. All memory

@@ -1,7 +1,7 @@
 use Rattle.std.proofs.Common.{◌∙◌, refl, sym}
 use Rattle.campaign_world.specs.PhaseInside.{held_of}
 use Rattle.campaign_world.proofs.FormCauses as causes
-use Rattle.campaign_world.proofs.world.World.first_cause.Goals as goal
+use Rattle.campaign_world.proofs.world.World.any_cause.Goals as goal
 
 pub returns-then-not-may_come : goal.returns-then-not-may_come
 returns-then-not-may_come c = rw (← c.self.view_is) (λ devices count. sym (causes.order _ _
