@@ -19,6 +19,3 @@ mod reading;
 pub use answers::{Entry, EntryError, EntryFault};
 pub use laws::{entries_fit_frames, worked_entries};
 pub use reading::entry;
-
-#[cfg(test)]
-mod tests;

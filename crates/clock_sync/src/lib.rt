@@ -19,6 +19,3 @@ pub use laws::{
     an_answer_corrects, congruent_by_a_multiple, correction_is_the_one, correction_mends_the_clock,
     millis_are_of_the_seconds, worked_clocks,
 };
-
-#[cfg(test)]
-mod tests;

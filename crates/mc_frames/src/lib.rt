@@ -24,6 +24,3 @@ pub use mac::cmac;
 pub use opening::{Opened, fault_without_group, open};
 pub use sending::{Frame, MAX_FRAME, frame};
 pub use session::Keys;
-
-#[cfg(test)]
-mod tests;

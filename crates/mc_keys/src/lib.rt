@@ -15,6 +15,3 @@ mod root_kind;
 pub use keys::{Key, app_s_key, kek, net_s_key, root, root_1_0, root_1_1, unwrap_key, wrap_key};
 pub use laws::worked_keys;
 pub use root_kind::RootKind;
-
-#[cfg(test)]
-mod tests;

@@ -17,8 +17,6 @@ mod hearer;
 mod laws;
 mod payload_lines;
 mod replaying;
-#[cfg(test)]
-mod tests;
 
 pub use capturing::Capturing;
 pub use decoding::Decoding;
