@@ -29,7 +29,7 @@ unfolding asked parsed
 asked_found words none = ap then_asked (found_by (fault_of fuota words) (subcommand_of fuota words) none)
 
 -- a fault: the words are no form
-refused_by : (kinds : Kinds) (kind : ErrorKind) (found : Option (Text × List Row)) → IsAmong kind kinds → where_none kinds found ≡ None
+pub refused_by : (kinds : Kinds) (kind : ErrorKind) (found : Option (Text × List Row)) → IsAmong kind kinds → where_none kinds found ≡ None
 refused_by [] kind found among = absurd among
 refused_by (k ∷ ks) kind found among = refl
 

@@ -156,61 +156,61 @@ reads_form program keyword s words fine there form =
     ∙ ap (asks_at []) (keeps top.top.rules (names_of top) keyword [] words)
     ∙ form
 
-abbrev leaf : Text → List Text → Shape
+abbrev pub leaf : Text → List Text → Shape
 leaf keyword names = built_leaf (form keyword names)
 
-abbrev of_campaign : Shape
+abbrev pub of_campaign : Shape
 of_campaign = leaf (codes "campaign") (codes "IMAGE" ∷ codes "SCRIPT" ∷ [])
 
-abbrev of_recover : Shape
+abbrev pub of_recover : Shape
 of_recover = leaf (codes "recover") (codes "IMAGE" ∷ codes "SCRIPT" ∷ codes "DEVICE" ∷ [])
 
-abbrev of_replay : Shape
+abbrev pub of_replay : Shape
 of_replay = leaf (codes "replay") (codes "FILE" ∷ [])
 
-abbrev of_decode : Shape
+abbrev pub of_decode : Shape
 of_decode = leaf (codes "decode") (codes "PORT" ∷ codes "DIR" ∷ codes "FILE" ∷ [])
 
-abbrev of_generate : Shape
+abbrev pub of_generate : Shape
 of_generate = leaf (codes "generate") (codes "SEED" ∷ [])
 
-abbrev of_capture : Shape
+abbrev pub of_capture : Shape
 of_capture = leaf (codes "capture") (codes "FILE" ∷ [])
 
-abbrev of_campaigns : Shape
+abbrev pub of_campaigns : Shape
 of_campaigns = leaf (codes "campaigns") (codes "IMAGE_A" ∷ codes "IMAGE_B" ∷ codes "SCRIPT" ∷ [])
 
-reads_campaign : (program : Text) (words : List Text) → asked (program ∷ codes "campaign" ∷ words) ≡ asks (codes "campaign") of_campaign nothing_held 1 words
+pub reads_campaign : (program : Text) (words : List Text) → asked (program ∷ codes "campaign" ∷ words) ≡ asks (codes "campaign") of_campaign nothing_held 1 words
 unfolding fuota clap_on_literals
 reads_campaign program words = reads_form program (codes "campaign") of_campaign words refl refl
     (ap (λ (k : Kinds). then_asked (where_none k (Some (codes "campaign", finished of_campaign.rules (walk of_campaign.rules [] nothing_held words).held)))) (or_else_none (level_fault of_campaign [] nothing_held words false [])))
 
-reads_recover : (program : Text) (words : List Text) → asked (program ∷ codes "recover" ∷ words) ≡ asks (codes "recover") of_recover nothing_held 1 words
+pub reads_recover : (program : Text) (words : List Text) → asked (program ∷ codes "recover" ∷ words) ≡ asks (codes "recover") of_recover nothing_held 1 words
 unfolding fuota clap_on_literals
 reads_recover program words = reads_form program (codes "recover") of_recover words refl refl
     (ap (λ (k : Kinds). then_asked (where_none k (Some (codes "recover", finished of_recover.rules (walk of_recover.rules [] nothing_held words).held)))) (or_else_none (level_fault of_recover [] nothing_held words false [])))
 
-reads_replay : (program : Text) (words : List Text) → asked (program ∷ codes "replay" ∷ words) ≡ asks (codes "replay") of_replay nothing_held 1 words
+pub reads_replay : (program : Text) (words : List Text) → asked (program ∷ codes "replay" ∷ words) ≡ asks (codes "replay") of_replay nothing_held 1 words
 unfolding fuota clap_on_literals
 reads_replay program words = reads_form program (codes "replay") of_replay words refl refl
     (ap (λ (k : Kinds). then_asked (where_none k (Some (codes "replay", finished of_replay.rules (walk of_replay.rules [] nothing_held words).held)))) (or_else_none (level_fault of_replay [] nothing_held words false [])))
 
-reads_decode : (program : Text) (words : List Text) → asked (program ∷ codes "decode" ∷ words) ≡ asks (codes "decode") of_decode nothing_held 1 words
+pub reads_decode : (program : Text) (words : List Text) → asked (program ∷ codes "decode" ∷ words) ≡ asks (codes "decode") of_decode nothing_held 1 words
 unfolding fuota clap_on_literals
 reads_decode program words = reads_form program (codes "decode") of_decode words refl refl
     (ap (λ (k : Kinds). then_asked (where_none k (Some (codes "decode", finished of_decode.rules (walk of_decode.rules [] nothing_held words).held)))) (or_else_none (level_fault of_decode [] nothing_held words false [])))
 
-reads_generate : (program : Text) (words : List Text) → asked (program ∷ codes "generate" ∷ words) ≡ asks (codes "generate") of_generate nothing_held 1 words
+pub reads_generate : (program : Text) (words : List Text) → asked (program ∷ codes "generate" ∷ words) ≡ asks (codes "generate") of_generate nothing_held 1 words
 unfolding fuota clap_on_literals
 reads_generate program words = reads_form program (codes "generate") of_generate words refl refl
     (ap (λ (k : Kinds). then_asked (where_none k (Some (codes "generate", finished of_generate.rules (walk of_generate.rules [] nothing_held words).held)))) (or_else_none (level_fault of_generate [] nothing_held words false [])))
 
-reads_capture : (program : Text) (words : List Text) → asked (program ∷ codes "capture" ∷ words) ≡ asks (codes "capture") of_capture nothing_held 1 words
+pub reads_capture : (program : Text) (words : List Text) → asked (program ∷ codes "capture" ∷ words) ≡ asks (codes "capture") of_capture nothing_held 1 words
 unfolding fuota clap_on_literals
 reads_capture program words = reads_form program (codes "capture") of_capture words refl refl
     (ap (λ (k : Kinds). then_asked (where_none k (Some (codes "capture", finished of_capture.rules (walk of_capture.rules [] nothing_held words).held)))) (or_else_none (level_fault of_capture [] nothing_held words false [])))
 
-reads_campaigns : (program : Text) (words : List Text) → asked (program ∷ codes "campaigns" ∷ words) ≡ asks (codes "campaigns") of_campaigns nothing_held 1 words
+pub reads_campaigns : (program : Text) (words : List Text) → asked (program ∷ codes "campaigns" ∷ words) ≡ asks (codes "campaigns") of_campaigns nothing_held 1 words
 unfolding fuota clap_on_literals
 reads_campaigns program words = reads_form program (codes "campaigns") of_campaigns words refl refl
     (ap (λ (k : Kinds). then_asked (where_none k (Some (codes "campaigns", finished of_campaigns.rules (walk of_campaigns.rules [] nothing_held words).held)))) (or_else_none (level_fault of_campaigns [] nothing_held words false [])))

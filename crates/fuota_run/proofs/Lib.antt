@@ -7,6 +7,7 @@ pub mod Outcomes
 pub mod Playing
 pub mod CommandLine
 pub mod FormWords
+pub mod OneForm
 pub mod NamesAsked
 pub mod OneAnswer
 pub mod HeadlineAnswered

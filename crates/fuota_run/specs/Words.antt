@@ -33,17 +33,35 @@ abbrev pub with_forms : App → List Shape → App
 with_forms app [] = app
 with_forms app (one ∷ more) = with_forms (with_subcommand app one) more
 
--- the program and its seven forms, which take no options
+-- the seven forms, which take no options, each as a command of its own
+abbrev pub form_app : Text → List Text → App
+form_app keyword names = with_words (new_app keyword) names
+
+abbrev pub campaign_app : App
+campaign_app = form_app (codes "campaign") (codes "IMAGE" ∷ codes "SCRIPT" ∷ [])
+
+abbrev pub recover_app : App
+recover_app = form_app (codes "recover") (codes "IMAGE" ∷ codes "SCRIPT" ∷ codes "DEVICE" ∷ [])
+
+abbrev pub replay_app : App
+replay_app = form_app (codes "replay") (codes "FILE" ∷ [])
+
+abbrev pub decode_app : App
+decode_app = form_app (codes "decode") (codes "PORT" ∷ codes "DIR" ∷ codes "FILE" ∷ [])
+
+abbrev pub generate_app : App
+generate_app = form_app (codes "generate") (codes "SEED" ∷ [])
+
+abbrev pub capture_app : App
+capture_app = form_app (codes "capture") (codes "FILE" ∷ [])
+
+abbrev pub campaigns_app : App
+campaigns_app = form_app (codes "campaigns") (codes "IMAGE_A" ∷ codes "IMAGE_B" ∷ codes "SCRIPT" ∷ [])
+
+-- the program with its forms
 unfoldable pub fuota : App
-fuota = with_forms (new_app (codes "fuota")) (
-    form (codes "campaign") (codes "IMAGE" ∷ codes "SCRIPT" ∷ [])
-    ∷ form (codes "recover") (codes "IMAGE" ∷ codes "SCRIPT" ∷ codes "DEVICE" ∷ [])
-    ∷ form (codes "replay") (codes "FILE" ∷ [])
-    ∷ form (codes "decode") (codes "PORT" ∷ codes "DIR" ∷ codes "FILE" ∷ [])
-    ∷ form (codes "generate") (codes "SEED" ∷ [])
-    ∷ form (codes "capture") (codes "FILE" ∷ [])
-    ∷ form (codes "campaigns") (codes "IMAGE_A" ∷ codes "IMAGE_B" ∷ codes "SCRIPT" ∷ [])
-    ∷ [])
+fuota = with_forms (new_app (codes "fuota")) (campaign_app.top ∷ recover_app.top ∷ replay_app.top
+    ∷ decode_app.top ∷ generate_app.top ∷ capture_app.top ∷ campaigns_app.top ∷ [])
 
 -- what was found, where there is no fault
 abbrev pub where_none : Kinds → Option (Text × List Row) → Option (Text × List Row)
@@ -174,6 +192,18 @@ seen_asked (Some (read.Script what image script)) = Some (plays what image.now s
 seen_asked (Some (read.Payloads what file)) = Some (payloads what file.now)
 seen_asked (Some (read.Generate seed)) = Some (generates seed)
 seen_asked (Some (read.Pair image_a image_b script)) = Some (plays_two image_a.now image_b.now script.now)
+
+-- the form with a keyword, as it reads its words without the program
+unfoldable pub form_named : Text → Option App
+form_named keyword =
+    if bytes_eq keyword (codes "campaign") then Some campaign_app
+    else if bytes_eq keyword (codes "recover") then Some recover_app
+    else if bytes_eq keyword (codes "replay") then Some replay_app
+    else if bytes_eq keyword (codes "decode") then Some decode_app
+    else if bytes_eq keyword (codes "generate") then Some generate_app
+    else if bytes_eq keyword (codes "capture") then Some capture_app
+    else if bytes_eq keyword (codes "campaigns") then Some campaigns_app
+    else None
 
 -- a command as it is built so far
 pub record IsCommand (command : Command) (app : App) : Type 0 where

@@ -1,9 +1,10 @@
 // The words of the command line: what they ask for, as clap takes them.
-ghost use Rattle.std.specs.Prelude.{◌≡◌, ◌≤◌, List, [], ◌∷◌, ℕ, Option, option_map, option_and_then, map, string_bytes, IfOk, IfSome, codes};
-ghost use Rattle.clap.specs.Words.{App, Row, app_of, first_of, first_value, found_of, new_app, rows_of, subcommand_rows_of, with_rule, with_subcommand};
-ghost use Rattle.fuota_run.specs.Words.{IsCommand, positional, form, with_words, fuota, seen_asked, campaign_asked, recover_asked, replay_asked, decode_asked, generate_asked, capture_asked, campaigns_asked, asked_by, asked, port_of_word, device_of_word, seed_of_word, direction_of_word};
+ghost use Rattle.std.specs.Prelude.{◌≡◌, ◌≢◌, ◌≤◌, List, [], ◌∷◌, ℕ, Option, None, Some, option_map, option_and_then, length, map, slice_get, string_bytes, IfOk, IfSome, codes};
+ghost use Rattle.clap.specs.declared.error.kind.ErrorKind.TheVariants as kind;
+ghost use Rattle.clap.specs.Words.{App, Row, Text, app_of, kind_of, first_of, first_value, found_of, new_app, rows_of, subcommand_rows_of, with_rule, with_subcommand};
+ghost use Rattle.fuota_run.specs.Words.{IsCommand, positional, form, with_words, fuota, form_named, campaign_app, recover_app, replay_app, decode_app, generate_app, capture_app, campaigns_app, seen_asked, campaign_asked, recover_asked, replay_asked, decode_asked, generate_asked, capture_asked, campaigns_asked, asked_by, asked, port_of_word, device_of_word, seed_of_word, direction_of_word};
 
-use clap::error::ErrorKind;
+use clap::error::{Error, ErrorKind};
 use clap::{Arg, ArgMatches, Command};
 use script_lines::decimal;
 use std::alloc::{AllocError, Global};
@@ -62,16 +63,76 @@ pub fn read_words<'a>(
 ) -> Result<Option<Invocation<'a>>, AllocError>
     ensures { IfOk result (λ o. seen_asked o ≡ asked (map string_bytes words.now)) }
 {
+    if words.len() < 2 {
+        return read_all(alloc, words);
+    }
+    match form_named(alloc, words[1].as_str())? {
+        Some(form) => read_form(form, &words[1..]),
+        None => read_all(alloc, words),
+    }
+}
+
+/// The same by all forms.
+#[inline(never)]
+fn read_all<'a>(alloc: Global, words: &'a [String]) -> Result<Option<Invocation<'a>>, AllocError>
+    ensures { IfOk result (λ o. seen_asked o ≡ asked (map string_bytes words.now)) }
+{
     let command = fuota(alloc)?;
     match command.try_get_matches_from(words) {
         Ok(matches) => Ok(found_in(&matches)),
-        Err(error) => {
-            if error.kind() == ErrorKind::OutOfMemory {
-                Err(AllocError)
-            } else {
-                Ok(None)
-            }
-        }
+        Err(error) => no_form(&error),
+    }
+}
+
+/// The same by the one form that the first of these words names; the program's name stood before them.
+fn read_form<'a>(
+    form: Command<'a>,
+    words: &'a [String],
+) -> Result<Option<Invocation<'a>>, AllocError>
+    requires some { 1 ≤ length words.now }
+    requires named { option_and_then form_named (slice_get (map string_bytes words.now) 0)
+        ≡ Some (app_of form) }
+    ensures { (program : Text) → IfOk result
+        (λ o. seen_asked o ≡ asked (program ∷ map string_bytes words.now)) }
+{
+    match form.try_get_matches_from(words) {
+        Ok(found) => Ok(asked_by(words[0].as_str(), &found)),
+        Err(error) => no_form(&error),
+    }
+}
+
+/// The form with a keyword, as a command of its own; None where there is none.
+#[tactic(auto, unfolding(crate::specs::Words::form_named))]
+fn form_named<'a>(alloc: Global, keyword: &str) -> Result<Option<Command<'a>>, AllocError>
+    ensures { IfOk result (λ o. option_map app_of o ≡ form_named keyword.now) }
+{
+    if keyword == "campaign" {
+        Ok(Some(campaign_form(alloc)?))
+    } else if keyword == "recover" {
+        Ok(Some(recover_form(alloc)?))
+    } else if keyword == "replay" {
+        Ok(Some(replay_form(alloc)?))
+    } else if keyword == "decode" {
+        Ok(Some(decode_form(alloc)?))
+    } else if keyword == "generate" {
+        Ok(Some(generate_form(alloc)?))
+    } else if keyword == "capture" {
+        Ok(Some(capture_form(alloc)?))
+    } else if keyword == "campaigns" {
+        Ok(Some(campaigns_form(alloc)?))
+    } else {
+        Ok(None)
+    }
+}
+
+/// The words are no form, or memory was wanting.
+fn no_form<'a>(error: &Error) -> Result<Option<Invocation<'a>>, AllocError>
+    ensures { IfOk result (λ o. (o ≡ None) × (kind_of error.now ≢ kind.OutOfMemory)) }
+{
+    if error.kind() == ErrorKind::OutOfMemory {
+        Err(AllocError)
+    } else {
+        Ok(None)
     }
 }
 
@@ -79,17 +140,55 @@ pub fn read_words<'a>(
 fn fuota<'a>(alloc: Global) -> Result<Command<'a>, AllocError>
     ensures { IfOk result (λ c. IsCommand c fuota) }
 {
-    let campaign = of_two(alloc, "campaign", "IMAGE", "SCRIPT")?;
-    let program = offering(Command::new(alloc, "fuota"), campaign)?;
-    let recover = of_three(alloc, "recover", "IMAGE", "SCRIPT", "DEVICE")?;
-    let program = offering(program, recover)?;
-    let program = offering(program, of_one(alloc, "replay", "FILE")?)?;
-    let decode = of_three(alloc, "decode", "PORT", "DIR", "FILE")?;
-    let program = offering(program, decode)?;
-    let program = offering(program, of_one(alloc, "generate", "SEED")?)?;
-    let program = offering(program, of_one(alloc, "capture", "FILE")?)?;
-    let campaigns = of_three(alloc, "campaigns", "IMAGE_A", "IMAGE_B", "SCRIPT")?;
-    offering(program, campaigns)
+    let program = offering(Command::new(alloc, "fuota"), campaign_form(alloc)?)?;
+    let program = offering(program, recover_form(alloc)?)?;
+    let program = offering(program, replay_form(alloc)?)?;
+    let program = offering(program, decode_form(alloc)?)?;
+    let program = offering(program, generate_form(alloc)?)?;
+    let program = offering(program, capture_form(alloc)?)?;
+    offering(program, campaigns_form(alloc)?)
+}
+
+fn campaign_form<'a>(alloc: Global) -> Result<Command<'a>, AllocError>
+    ensures { IfOk result (λ c. IsCommand c campaign_app) }
+{
+    of_two(alloc, "campaign", "IMAGE", "SCRIPT")
+}
+
+fn recover_form<'a>(alloc: Global) -> Result<Command<'a>, AllocError>
+    ensures { IfOk result (λ c. IsCommand c recover_app) }
+{
+    of_three(alloc, "recover", "IMAGE", "SCRIPT", "DEVICE")
+}
+
+fn replay_form<'a>(alloc: Global) -> Result<Command<'a>, AllocError>
+    ensures { IfOk result (λ c. IsCommand c replay_app) }
+{
+    of_one(alloc, "replay", "FILE")
+}
+
+fn decode_form<'a>(alloc: Global) -> Result<Command<'a>, AllocError>
+    ensures { IfOk result (λ c. IsCommand c decode_app) }
+{
+    of_three(alloc, "decode", "PORT", "DIR", "FILE")
+}
+
+fn generate_form<'a>(alloc: Global) -> Result<Command<'a>, AllocError>
+    ensures { IfOk result (λ c. IsCommand c generate_app) }
+{
+    of_one(alloc, "generate", "SEED")
+}
+
+fn capture_form<'a>(alloc: Global) -> Result<Command<'a>, AllocError>
+    ensures { IfOk result (λ c. IsCommand c capture_app) }
+{
+    of_one(alloc, "capture", "FILE")
+}
+
+fn campaigns_form<'a>(alloc: Global) -> Result<Command<'a>, AllocError>
+    ensures { IfOk result (λ c. IsCommand c campaigns_app) }
+{
+    of_three(alloc, "campaigns", "IMAGE_A", "IMAGE_B", "SCRIPT")
 }
 
 /// A form of one word.
