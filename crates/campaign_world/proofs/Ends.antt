@@ -1,5 +1,5 @@
 -- A payload that is written where it stays, behind the others.
-use Rattle.std.proofs.Common.{◌≡◌, ℕ, Bool, true, false, cond, is_ok, List, [], ◌∷◌, ◌++◌, length, take, Option, Some, None, Result, Ok, Err, refl, sym, ap, ◌∙◌, append-nil}
+use Rattle.std.proofs.Common.{◌≡◌, ℕ, Bool, true, false, cond, is_ok, List, [], ◌∷◌, ◌++◌, length, take, Option, Some, Result, Ok, Err, refl, sym, ap, ◌∙◌, append-nil}
 use Rattle.std.specs.Result.{result_ok}
 use Rattle.std.specs.List.{slice_set, slice_index_or}
 use Rattle.package_grammar.specs.declared.downlink.Downlink.{Downlink}

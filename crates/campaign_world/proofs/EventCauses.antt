@@ -1,5 +1,5 @@
 -- While a campaign plays, the causes that an event's form can have are all that there are.
-use Rattle.std.proofs.Common.{◌≡◌, ℕ, Bool, true, false, not, cond, ◌&&◌, List, length, nat_le, Option, Some, None, refl, sym}
+use Rattle.std.proofs.Common.{◌≡◌, ℕ, Bool, true, false, ◌&&◌, List, length, nat_le, Option, None, refl}
 use Rattle.device_core.specs.Device.{DeviceState}
 use Rattle.script_lines.specs.declared.forms.Form.{Form}
 use Rattle.script_lines.specs.declared.forms.Form.TheVariants as form

@@ -1,14 +1,13 @@
 -- Uplinks that are taken of a device, one after another.
-use Rattle.std.proofs.Common.{◌≡◌, ℕ, List, [], ◌∷◌, ◌++◌, map, Some, None, sym, ap, ◌∙◌, subst, append_assoc, append-nil}
+use Rattle.std.proofs.Common.{◌≡◌, ℕ, List, [], ◌∷◌, ◌++◌, map, Some, sym, ap, ◌∙◌, subst, append_assoc, append-nil}
 use Rattle.device_core.specs.declared.uplink.Uplink.{Uplink}
 use Rattle.device_core.specs.Device.{DeviceState}
-use Rattle.device_core.specs.Deliver.{taking}
 use Rattle.device_core.specs.Firmware.{after_migration}
 use Rattle.flash_session.specs.Flashes.{Cells}
 use Rattle.device_core.specs.HeldDevice.{HeldDevice, DeviceStands, Becomes, GoesAside, TakesOldest}
 use Rattle.device_core.specs.HeldSessions.{HeldStore, StateIsStored}
 use Rattle.device_core.specs.SessionTable.{SessionTable}
-use Rattle.device_core.proofs.Outboxes.{outbox_is, all_taken}
+use Rattle.device_core.proofs.Outboxes.{outbox_is}
 use Rattle.campaign_world.specs.declared.numbered.MadeUplink.{MadeUplink}
 use Rattle.campaign_world.specs.Making.{made_by}
 use Rattle.campaign_world.specs.HeldWorld.{resting}
@@ -27,17 +26,7 @@ stored_aside old new after d goes stands stored =
     subst (λ (t : SessionTable). StateIsStored new.sessions.state t (λ c. c ≡ new.sessions.flash.bytes) (λ c. ⊥)) (sym same)
     (stored_still old new d goes.untouched stored)
 
--- none is left: the device rests
-pub rests_now : (d : DeviceState) (first old new : HeldDevice Cells) → Becomes old new (λ x. (taking x).device) → TakesOldest old.outbox new.outbox None
-    → new.sessions ≡ first.sessions → IsStored first d
-    → DeviceStands old (record d { outbox = old.outbox }) → HeldRests new (record d { outbox = [] })
-rests_now d first old new makes takes same stored stands = record {
-  stands = all_taken d old new makes takes stands;
-  stored = stored_still first new d same stored;
-  empty = takes.1;
-}
-
--- as it does where it held none
+-- a device that holds no uplink rests
 pub rests_empty : (d : DeviceState) (held : HeldDevice Cells) → held.outbox ≡ [] → DeviceStands held d → IsStored held d
     → HeldRests held (resting d)
 rests_empty d held none stands stored = record {

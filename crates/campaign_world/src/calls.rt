@@ -12,9 +12,10 @@ ghost use Rattle.campaign_world.specs.HeldLate.{IsStored, HeldRests};
 ghost use Rattle.campaign_world.specs.WorldInside.{StayMade};
 
 use crate::numbered::MadeUplink;
-use device_core::{Device, Moment};
+use device_core::{Device, Moment, Uplink};
 use flash_session::CellFlash;
 use package_grammar::Downlink;
+use wire_base::Payload;
 
 /// Uplinks that a device holds at most, and so those that one event can make.
 pub const OUTBOX: usize = 8;
@@ -132,9 +133,18 @@ fn take_held(id: u8, device: &mut Device<CellFlash>, uplinks: &mut Vec<MadeUplin
 {
     let full = uplinks.len() + OUTBOX;
     while uplinks.len() < full {
-        let Some(uplink) = device.take_uplink() else {
+        if !device.has_uplink() {
             return;
+        }
+        let mut made = MadeUplink {
+            device: id,
+            uplink: Uplink {
+                due: 0,
+                port: 0,
+                payload: Payload::new(),
+            },
         };
-        uplinks.push_reserved(MadeUplink { device: id, uplink });
+        device.take_uplink_into(&mut made.uplink);
+        uplinks.push_reserved(made);
     }
 }

@@ -424,6 +424,18 @@ impl<F: Flash + Drop> Device<F> {
         self.outbox.take()
     }
 
+    /// As `take_uplink`, of a device that holds one (`has_uplink`), written into an uplink of the caller's that has no bytes.
+    pub fn take_uplink_into(&mut self, uplink: &mut Uplink)
+        requires held { 0 < length self.old.outbox }
+        requires empty { uplink.old.payload ≡ [] }
+        ensures makes { Makes (Option Uplink) self.old self.new (Some uplink.new) taking }
+        ensures aside { GoesAside self.old self.new (λ device. (taking device).device) }
+        ensures oldest { TakesOldest self.old.outbox self.new.outbox (Some uplink.new) }
+        ensures uplink { IsUplink uplink.new }
+    {
+        self.outbox.take_into(uplink);
+    }
+
     /// Lets go of all uplinks that are held.
     pub fn drop_uplinks(&mut self)
         ensures becomes { Becomes self.old self.new (λ device. record device { outbox = [] }) }

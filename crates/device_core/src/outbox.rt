@@ -1,6 +1,6 @@
 //! The uplinks that are not yet taken.
 
-ghost use Rattle.std.specs.Prelude.{◌≡◌, ◌<◌, ◌≤◌, ◌++◌, ◌∷◌, [], length, IfSome, true, false};
+ghost use Rattle.std.specs.Prelude.{◌≡◌, ◌<◌, ◌≤◌, ◌++◌, ◌∷◌, [], length, IfSome, Some, true, false};
 ghost use Rattle.device_core.specs.Answers.{uplink_of};
 ghost use Rattle.device_core.specs.Device.{outbox_size};
 ghost use Rattle.device_core.specs.HeldDevice.{TakesOldest};
@@ -89,5 +89,23 @@ impl Outbox {
             return None;
         }
         Some(self.uplinks.remove(0))
+    }
+
+    /// As `take`, of one that is there, written into an uplink without bytes.
+    pub fn take_into(&mut self, uplink: &mut Uplink)
+        requires some { 0 < length self.old }
+        requires empty { uplink.old.payload ≡ [] }
+        ensures takes { TakesOldest self.old self.new (Some uplink.new) }
+        ensures uplink { IsUplink uplink.new }
+    {
+        let oldest = &self.uplinks[0];
+        uplink.due = oldest.due;
+        uplink.port = oldest.port;
+        let _fits = uplink.payload.append(oldest.payload.as_slice());
+        if self.uplinks.len() == 1 {
+            self.uplinks.clear();
+        } else {
+            let _taken = self.uplinks.remove(0);
+        }
     }
 }

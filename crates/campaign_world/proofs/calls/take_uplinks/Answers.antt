@@ -1,6 +1,3 @@
-use Rattle.std.proofs.Common.{◌++◌, List, map, sym, ap, ◌∙◌, append-nil}
-use Rattle.device_core.specs.declared.uplink.Uplink.{Uplink}
-use Rattle.campaign_world.specs.Making.{made_by}
 use Rattle.campaign_world.proofs.Outboxes.{rests_empty, none_moved}
 use Rattle.campaign_world.proofs.calls.take_uplinks.Goals as goal
 

@@ -1,4 +1,4 @@
-use Rattle.std.proofs.Common.{◌∙◌, arith, sym}
+use Rattle.std.proofs.Common.{arith}
 use Rattle.campaign_world.proofs.FormCauses as causes
 use Rattle.campaign_world.proofs.world.World.refusal.Goals as goal
 
