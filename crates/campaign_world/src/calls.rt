@@ -12,9 +12,8 @@ ghost use Rattle.campaign_world.specs.HeldLate.{IsStored, HeldRests};
 ghost use Rattle.campaign_world.specs.WorldInside.{StayMade};
 
 use crate::numbered::MadeUplink;
-use device_core::{Device, Moment, Uplink};
+use device_core::{Device, Incoming, Moment, Uplink};
 use flash_session::CellFlash;
-use package_grammar::Downlink;
 use wire_base::Payload;
 
 /// Uplinks that a device holds at most, and so those that one event can make.
@@ -25,7 +24,7 @@ pub fn reach_device(
     device: &mut Device<CellFlash>,
     uplinks: &mut Vec<MadeUplink>,
     id: u8,
-    down: &Downlink,
+    down: &Incoming<'_>,
     coming: Moment,
 )
     requires first { 1 ≤ id }
@@ -38,7 +37,7 @@ pub fn reach_device(
         (λ d. (delivery coming.t coming.word coming.mark down.now d).device) device.old id
         uplinks.old.items uplinks.new.items }
 {
-    let _delivered = device.deliver(coming.t, down, coming.word, coming.mark);
+    let _delivered = device.receive(coming.t, down, coming.word, coming.mark);
     take_uplinks(id, device, uplinks);
 }
 

@@ -11,8 +11,7 @@ ghost use Rattle.campaign_world.specs.WorldInside.{StayMade};
 use crate::calls::OUTBOX;
 use crate::late::{LateDevice, air, power, raise, reach, rouse};
 use crate::numbered::MadeUplink;
-use device_core::Moment;
-use package_grammar::Downlink;
+use device_core::{Incoming, Moment};
 use std::alloc::{AllocError, Global};
 
 /// Room for the uplinks of one event.
@@ -31,7 +30,7 @@ pub fn deliver(
     alloc: Global,
     uplinks: &mut Vec<MadeUplink>,
     id: u8,
-    down: &Downlink,
+    down: &Incoming<'_>,
     coming: Moment,
 ) -> Result<(), AllocError>
     requires first { 1 ≤ id }

@@ -13,9 +13,8 @@ use crate::calls::{
     air_device, power_device, power_first, raise_device, reach_device, rouse_device,
 };
 use crate::numbered::MadeUplink;
-use device_core::{Device, DeviceConfig, Moment, ReserveError};
+use device_core::{Device, DeviceConfig, Incoming, Moment, ReserveError};
 use flash_session::CellFlash;
-use package_grammar::Downlink;
 use std::alloc::{AllocError, Global};
 use std::marker::Model;
 
@@ -118,7 +117,7 @@ pub fn reach(
     alloc: Global,
     uplinks: &mut Vec<MadeUplink>,
     id: u8,
-    down: &Downlink,
+    down: &Incoming<'_>,
     coming: Moment,
 ) -> Result<(), AllocError>
     requires first { 1 ≤ id }

@@ -15,6 +15,7 @@ use super::phase::Phase;
 use crate::numbered::{SentPayload, numbered};
 use crate::section::Section;
 use campaign_server::{Plan, Server};
+use device_core::Incoming;
 use package_grammar::Downlink;
 use report_lines::LineError;
 use std::alloc::{AllocError, Global};
@@ -88,7 +89,11 @@ impl World {
         ensures keeps { IfErr result (λ e. self.new.kept ≡ Some e) }
         ensures ends { OnErr result (KeepsEnds self.old self.new) }
     {
-        match self.phase.reach(self.alloc, self.lines, device, down, word) {
+        let coming = Incoming::of(down);
+        match self
+            .phase
+            .reach(self.alloc, self.lines, device, &coming, word)
+        {
             Ok(()) => {
                 self.lines += 1;
                 Ok(())

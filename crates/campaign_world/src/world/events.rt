@@ -27,13 +27,13 @@ use crate::numbered::{MadeUplink, SentPayload, numbered};
 use crate::report::{device_part, report};
 use crate::summary::summary;
 use campaign_server::Server;
-use device_core::{Moment, Uplink};
+use device_core::{Incoming, Moment, Uplink};
 use mc_frames::Frame;
-use package_grammar::{Downlink, To};
+use package_grammar::To;
 use script_lines::{Form, HexBytes, MAX_HEX_BYTES};
 use std::alloc::{AllocError, Global};
 use std::marker::Model;
-use wire_base::{Payload, Refusal};
+use wire_base::Refusal;
 
 /// A campaign that plays: its server and its devices, what was sent, and what came up.
 #[derive(Drop)]
@@ -256,7 +256,7 @@ impl Campaign {
             self.alloc,
             &mut self.uplinks,
             device,
-            &sent.down,
+            &Incoming::of(&sent.down),
             coming,
         )
     }
@@ -267,7 +267,7 @@ impl Campaign {
         &mut self,
         lines: u32,
         device: u8,
-        down: &Downlink,
+        down: &Incoming<'_>,
         word: u32,
     ) -> Result<(), AllocError>
         requires first { 1 ≤ device }
@@ -311,7 +311,10 @@ impl Campaign {
             (Some (Receives world.time word (world.lines + 1) (raw_down port payload.now)))) }
         ensures ends { OnErr result (SameEnds self.old self.new) }
     {
-        self.raw(lines, device, &raw_down(port, payload), word)
+        let mut bytes = [0; MAX_HEX_BYTES];
+        let count = payload.put(&mut bytes);
+        let down = Incoming::new(To::Unicast, port, &bytes[..count]);
+        self.raw(lines, device, &down, word)
     }
 
     /// Sent payload S reaches the radio of a device as its frame, and its uplinks are then numbered, oldest first.
@@ -567,19 +570,4 @@ fn mark_behind(lines: u32) -> u64
     ensures { result ≡ lines + 1 }
 {
     u64::from(lines) + 1
-}
-
-/// Anybody's payload, by unicast.
-#[inline(never)]
-fn raw_down(port: u8, payload: &HexBytes) -> Downlink
-    requires { length payload.now ≤ 242 }
-    ensures { result ≡ raw_down port payload.now }
-{
-    let mut bytes = [0; MAX_HEX_BYTES];
-    let count = payload.put(&mut bytes);
-    Downlink {
-        to: To::Unicast,
-        port,
-        payload: Payload::from_slice(&bytes[..count]),
-    }
 }

@@ -15,7 +15,7 @@ use crate::causes::is_event_or_end;
 use crate::late::LateDevice;
 use crate::numbered::{MadeUplink, SentPayload};
 use crate::section::Section;
-use package_grammar::Downlink;
+use device_core::Incoming;
 use script_lines::Form;
 use std::alloc::{AllocError, Global};
 
@@ -109,7 +109,7 @@ impl Phase {
         alloc: Global,
         lines: u32,
         device: u8,
-        down: &Downlink,
+        down: &Incoming<'_>,
         word: u32,
     ) -> Result<(), AllocError>
         requires phase { IsPhase self.old }

@@ -17,6 +17,6 @@ returns-clause-taken c = rw (← c.self.view_is) (λ here kept. on_ok c.deliver.
     (subst (λ (h : HeldCampaign). c.args.device ≤ length h.devices) (sym c.self.view_is) c.requires.last)
     (reception_of _ _ _ _ c.in-Some.sent.now (some_now _ _ _ _ (c.numbered.ensures ∙ ap (λ (items : List SentPayload). numbered items c.args.number) c.deref.ensures.value) c.in-Some.is))
     (record {
-      devices = rw (← c.mark_behind-mark.ensures) (on_ok_then c.deliver.result ok c.deliver.ensures.devices);
-      uplinks = rw (← c.mark_behind-mark.ensures) (on_ok_then c.deliver.result ok c.deliver.ensures.uplinks);
+      devices = rw (← c.mark_behind-mark.ensures) (rw (← c.of.ensures) (on_ok_then c.deliver.result ok c.deliver.ensures.devices));
+      uplinks = rw (← c.mark_behind-mark.ensures) (rw (← c.of.ensures) (on_ok_then c.deliver.result ok c.deliver.ensures.uplinks));
     })))
