@@ -7,5 +7,6 @@ pub mod Cursor
 pub mod ReadResults
 pub mod OneByte
 pub mod Appended
+pub mod Digits
 pub mod WorkedTexts
 pub mod WorkedPayloads

@@ -3,7 +3,7 @@ ghost use Rattle.std.specs.Prelude.{◌≡◌, ◌++◌, OnOk, string_bytes};
 ghost use Rattle.package_grammar.specs.Texts.{cast_text};
 
 use crate::showing_parts::{
-    put_coding, put_fragment, put_frames, put_group_key, put_pieces, put_status, there,
+    put_coding, put_fragment, put_frames, put_group_key, put_pieces, put_status, put_word, there,
 };
 use cast_wire::{Cmd, refusal_bits};
 use std::alloc::AllocError;
@@ -63,13 +63,17 @@ pub fn put_cast(cmd: &Cmd, text: &mut String) -> Result<(), AllocError>
             );
             write!(text, "FragSessionSetupAns index={index} bits={bits}")
         }
-        Cmd::FragSessionDeleteReq { index } => write!(text, "FragSessionDeleteReq index={index}"),
+        Cmd::FragSessionDeleteReq { index } => put_word(
+            "FragSessionDeleteReq index=",
+            *index,
+            text,
+        ),
         Cmd::FragSessionDeleteAns { index, missing } => {
             let missing = flag_value(*missing, 1);
             write!(text, "FragSessionDeleteAns index={index} missing={missing}")
         }
         Cmd::DataFragment { index, n, bytes } => put_fragment(*index, *n, bytes.as_slice(), text),
-        Cmd::McGroupStatusReq { mask } => write!(text, "McGroupStatusReq mask={mask}"),
+        Cmd::McGroupStatusReq { mask } => put_word("McGroupStatusReq mask=", *mask, text),
         Cmd::McGroupStatusAns {
             total,
             mask,
@@ -89,7 +93,7 @@ pub fn put_cast(cmd: &Cmd, text: &mut String) -> Result<(), AllocError>
             let error = flag_value(*error, 1);
             write!(text, "McGroupSetupAns id={id} error={error}")
         }
-        Cmd::McGroupDeleteReq { id } => write!(text, "McGroupDeleteReq id={id}"),
+        Cmd::McGroupDeleteReq { id } => put_word("McGroupDeleteReq id=", *id, text),
         Cmd::McGroupDeleteAns { id, undefined } => {
             let undefined = flag_value(*undefined, 1);
             write!(text, "McGroupDeleteAns id={id} undefined={undefined}")

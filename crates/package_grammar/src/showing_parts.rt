@@ -1,5 +1,6 @@
 //! The texts of fields.
 ghost use Rattle.std.specs.Prelude.{◌≡◌, ◌++◌, IfOk, OnOk, string_bytes};
+ghost use Rattle.std.specs.Fmt.{decimal};
 ghost use Rattle.hex.specs.Hex.{encode_lower};
 ghost use Rattle.package_grammar.specs.Texts.{number_hex, there, group_text, other_groups, groups_text, pieces_text, coding_text, group_words, group_key_text, frames_text, fragment_text, status_text};
 
@@ -30,38 +31,76 @@ pub fn there(alloc: Global, number: Option<u32>) -> Result<String, AllocError>
     }
 }
 
-fn group_text(alloc: Global, group: &GroupAddress) -> Result<String, AllocError>
-    ensures { IfOk result (λ text. string_bytes text ≡ group_text group.now.id group.now.addr) }
+/// Puts 8 hex digits at the end, the most significant first.
+fn put_number_hex(number: u32, text: &mut String) -> Result<(), AllocError>
+    ensures { OnOk result (string_bytes text.new ≡ string_bytes text.old ++ number_hex number) }
 {
-    let id = group.id;
-    let addr = number_hex(alloc, group.addr)?;
-    format!(in alloc; "{id}:{addr}")
+    let mut digits = [0; 8];
+    match hex::encode_to_slice(number.to_be_bytes(), &mut digits) {
+        Ok(()) => {}
+        Err(_) => unreachable!(),
+    }
+    match str::from_utf8(&digits) {
+        Ok(digits) => text.push_str(digits),
+        Err(_) => unreachable!(),
+    }
 }
 
-/// The groups behind the first.
-fn other_groups(alloc: Global, groups: &[GroupAddress]) -> Result<String, AllocError>
-    ensures { IfOk result (λ text. string_bytes text ≡ other_groups groups.now) }
+/// Puts a number at the end; it is quick where it is one digit.
+#[inline(always)]
+pub fn put_small(number: u8, text: &mut String) -> Result<(), AllocError>
+    ensures { OnOk result (string_bytes text.new ≡ string_bytes text.old ++ decimal number) }
+{
+    if number < 10 {
+        return text.push(char::from(b'0' + number));
+    }
+    write!(text, "{number}")
+}
+
+/// Puts a name or a word's head and then a number at the end.
+#[inline(always)]
+pub fn put_word(head: &str, number: u8, text: &mut String) -> Result<(), AllocError>
+    ensures { OnOk result
+        (string_bytes text.new ≡ string_bytes text.old ++ (head.now ++ decimal number)) }
+{
+    text.push_str(head)?;
+    put_small(number, text)
+}
+
+fn put_group(group: &GroupAddress, text: &mut String) -> Result<(), AllocError>
+    ensures { OnOk result (string_bytes text.new
+        ≡ string_bytes text.old ++ group_text group.now.id group.now.addr) }
+{
+    put_small(group.id, text)?;
+    text.push(':')?;
+    put_number_hex(group.addr, text)
+}
+
+/// Puts the groups behind the first at the end.
+fn put_other_groups(groups: &[GroupAddress], text: &mut String) -> Result<(), AllocError>
+    ensures { OnOk result
+        (string_bytes text.new ≡ string_bytes text.old ++ other_groups groups.now) }
 {
     match groups {
-        [] => Ok(String::new(alloc)),
+        [] => Ok(()),
         [first, others @ ..] => {
-            let first = group_text(alloc, first)?;
-            let others = other_groups(alloc, others)?;
-            format!(in alloc; ",{first}{others}")
+            text.push(',')?;
+            put_group(first, text)?;
+            put_other_groups(others, text)
         }
     }
 }
 
-/// The groups, or a dash where there is none.
-fn groups_text(alloc: Global, groups: &[GroupAddress]) -> Result<String, AllocError>
-    ensures { IfOk result (λ text. string_bytes text ≡ groups_text groups.now) }
+/// Puts the groups at the end, or a dash where there is none.
+fn put_groups(groups: &[GroupAddress], text: &mut String) -> Result<(), AllocError>
+    ensures { OnOk result
+        (string_bytes text.new ≡ string_bytes text.old ++ groups_text groups.now) }
 {
     match groups {
-        [] => String::from_str(alloc, "-"),
+        [] => text.push('-'),
         [first, others @ ..] => {
-            let first = group_text(alloc, first)?;
-            let others = other_groups(alloc, others)?;
-            format!(in alloc; "{first}{others}")
+            put_group(first, text)?;
+            put_other_groups(others, text)
         }
     }
 }
@@ -144,9 +183,8 @@ pub fn put_status(
     ensures { OnOk result
         (string_bytes text.new ≡ string_bytes text.old ++ status_text total mask groups.now) }
 {
-    let groups = groups_text(*text.allocator(), groups)?;
-    write!(
-        text,
-        "McGroupStatusAns total={total} mask={mask} groups={groups}"
-    )
+    put_word("McGroupStatusAns total=", total, text)?;
+    put_word(" mask=", mask, text)?;
+    text.push_str(" groups=")?;
+    put_groups(groups, text)
 }

@@ -20,14 +20,8 @@ returns-in_ok-put_pieces-in-FragSessionSetupReq c =
 pub returns-in-FragSessionSetupAns : goal.returns-in-FragSessionSetupAns
 returns-in-FragSessionSetupAns c = rw (c.in-FragSessionSetupAns.is, sym c.refusal_bits-bits.ensures.bits) c.write-in-FragSessionSetupAns.ensures.bytes
 
-pub returns-in-FragSessionDeleteReq : goal.returns-in-FragSessionDeleteReq
-returns-in-FragSessionDeleteReq c = rw c.in-FragSessionDeleteReq.is c.write-in-FragSessionDeleteReq.ensures.bytes
-
 pub returns-in-FragSessionDeleteAns : goal.returns-in-FragSessionDeleteAns
 returns-in-FragSessionDeleteAns c = rw (c.in-FragSessionDeleteAns.is, sym c.flag_value-missing.ensures.value) c.write-in-FragSessionDeleteAns.ensures.bytes
-
-pub returns-in-McGroupStatusReq : goal.returns-in-McGroupStatusReq
-returns-in-McGroupStatusReq c = rw c.in-McGroupStatusReq.is c.write-in-McGroupStatusReq.ensures.bytes
 
 pub returns-in-McClassCSessionReq : goal.returns-in-McClassCSessionReq
 returns-in-McClassCSessionReq c = rw c.in-McClassCSessionReq.is c.write-in-McClassCSessionReq.ensures.bytes

@@ -1,4 +1,4 @@
-use Rattle.std.proofs.Common.{◌≡◌, ℕ, List, ◌∷◌, ◌++◌, Option, IfSome, Ok, refl, sym, ap, subst, ◌∙◌, arith, string_bytes}
+use Rattle.std.proofs.Common.{ℕ, List, ◌++◌, Option, IfSome, Ok, refl, sym, ap, subst, ◌∙◌, string_bytes}
 use Rattle.package_grammar.specs.declared.command.Command.{Command}
 use Rattle.package_grammar.specs.HeldMessage.{HeldMessage}
 use Rattle.package_grammar.specs.Texts.{text_of}
