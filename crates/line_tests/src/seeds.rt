@@ -1,4 +1,6 @@
-use crate::generate;
+//! Campaigns of seeds, by the lengths and digests of another program.
+
+use campaign_generator::generate;
 use sha2::{Digest, Sha256};
 
 /// What another program made of a seed.
