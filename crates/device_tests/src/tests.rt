@@ -449,15 +449,14 @@ fn commands_are_answered(rt: HostRuntime) {
     exchanges(&rt, &mut device, 0, &FRAGMENTS);
     exchanges(&rt, &mut device, 1_000_000, &GROUPS);
     assert!(rt; device.counts().dropped == 1);
-}
-
-#[test]
-fn a_device_of_two_groups_has_no_fourth(rt: HostRuntime) {
-    let config = DeviceConfig {
-        groups: 2,
-        ..CONFIG
-    };
-    let mut small = reserved(&rt, rt.alloc(), config);
+    let mut small = reserved(
+        &rt,
+        rt.alloc(),
+        DeviceConfig {
+            groups: 2,
+            ..CONFIG
+        },
+    );
     let mut setup = [0; 30];
     setup[0] = 0x02;
     setup[1] = 0x03;
@@ -499,12 +498,8 @@ fn a_received_image_runs_after_a_reboot(rt: HostRuntime) {
     }
     exchanges(&rt, &mut device, 0, &FIRMWARE);
     assert!(rt; device.slots().running().1 == &IMAGE[..]);
-}
-
-#[test]
-fn an_image_is_deleted_by_its_version(rt: HostRuntime) {
-    let mut device = with_image(&rt, rt.alloc(), CONFIG);
-    exchanges(&rt, &mut device, 0, &DELETIONS);
+    let mut other = with_image(&rt, rt.alloc(), CONFIG);
+    exchanges(&rt, &mut other, 0, &DELETIONS);
 }
 
 #[test]
@@ -522,20 +517,13 @@ fn a_reboot_comes_at_its_moment(rt: HostRuntime) {
     };
     for (payload, t, version) in &REBOOTS {
         let mut device = with_image(&rt, rt.alloc(), ahead);
-        reboots(&rt, &mut device, payload, *t, *version);
+        assert!(rt;
+            delivered(&rt, &mut device, 1000, To::Unicast, 203, payload) == Delivered::Done
+        );
+        assert!(rt; delivered(&rt, &mut device, *t, To::Unicast, 203, &[]) == Delivered::Done);
+        assert!(rt; device.slots().running().0 == *version);
     }
-}
-
-/// What runs at a moment behind a payload at 1,000 ms.
-fn reboots(rt: &impl Abort, device: &mut Device<CellFlash>, payload: &[u8], t: u64, version: u32) {
-    assert!(rt; delivered(rt, device, 1000, To::Unicast, 203, payload) == Delivered::Done);
-    assert!(rt; delivered(rt, device, t, To::Unicast, 203, &[]) == Delivered::Done);
-    assert!(rt; device.slots().running().0 == version);
-}
-
-/// Without an image the moment is cleared all the same.
-#[test]
-fn a_reboot_without_an_image_is_over(rt: HostRuntime) {
+    // without an image the moment is cleared all the same
     let mut device = reserved(&rt, rt.alloc(), CONFIG);
     exchanges(
         &rt,
@@ -573,19 +561,15 @@ fn a_clock_is_mended_once(rt: HostRuntime) {
 fn nothing_acts_where_too_many_uplinks_could_come(rt: HostRuntime) {
     for (port, payload, weight) in &WEIGHTS {
         let mut device = reserved(&rt, rt.alloc(), CONFIG);
-        weighs(&rt, &mut device, *port, payload, *weight);
-    }
-}
-
-fn weighs(rt: &impl Abort, device: &mut Device<CellFlash>, port: u8, payload: &[u8], weight: u16) {
-    let answer = delivered(rt, device, 0, To::Unicast, port, payload);
-    if weight <= 8 {
-        assert!(rt; answer == Delivered::Done);
-        assert!(rt; uplinks(device) == weight);
-    } else {
-        assert!(rt; answer == Delivered::OutboxFull(weight));
-        assert!(rt; uplinks(device) == 0);
-        assert!(rt; device.counts().full == 1);
+        let answer = delivered(&rt, &mut device, 0, To::Unicast, *port, payload);
+        if *weight <= 8 {
+            assert!(rt; answer == Delivered::Done);
+            assert!(rt; uplinks(&mut device) == *weight);
+        } else {
+            assert!(rt; answer == Delivered::OutboxFull(*weight));
+            assert!(rt; uplinks(&mut device) == 0);
+            assert!(rt; device.counts().full == 1);
+        }
     }
 }
 
@@ -695,70 +679,44 @@ fn a_file_comes_by_the_group_in_its_window(rt: HostRuntime) {
     }
     assert!(rt; device.slots().next() == ImageState::Valid(2));
     assert!(rt; device.counts().deaf == 2);
-}
-
-/// By unicast a group is deleted, and its session ends.
-#[test]
-fn a_deleted_group_is_not_heard(rt: HostRuntime) {
-    let mut device = reserved(&rt, rt.alloc(), CONFIG);
-    exchanges(&rt, &mut device, 1_000_000, &WINDOWS);
-    let to = To::Group {
-        addr: 0x11223344,
-        count: 0,
-    };
-    let deletion = [(200, &[0x03, 0x00][..], &[0x03, 0x00][..])];
-    assert!(rt; delivered(&rt, &mut device, 1_000_999, to, 201, &[]) == Delivered::Done);
-    exchanges(&rt, &mut device, 1_000_999, &deletion);
+    // by unicast the group is deleted, and its session ends
+    exchanges(
+        &rt,
+        &mut device,
+        1_000_999,
+        &[(200, &[0x03, 0x00], &[0x03, 0x00])],
+    );
     assert!(rt; delivered(&rt, &mut device, 1_000_999, to, 201, &[]) == Delivered::Deaf);
 }
 
-/// What is no frame for the device is counted as not heard.
+/// What the radio hears is a frame of the class session's group, or foreign; what is foreign is counted as not heard, and an
+/// image comes by a frame in the window.
 #[test]
-fn strange_bytes_are_foreign(rt: HostRuntime) {
+fn frames_of_the_group_are_heard(rt: HostRuntime) {
     let mut device = reserved(&rt, rt.alloc(), CONFIG);
     for (bytes, fault) in &STRANGE {
         assert!(rt; device.radio(1_000_000, bytes, 0, 1) == Aired::Foreign(*fault));
     }
     assert!(rt; device.counts().deaf == 4);
-}
-
-/// What the radio hears at a moment; it makes no uplink.
-fn airs(rt: &impl Abort, device: &mut Device<CellFlash>, t: u64, bytes: &[u8], answer: Aired) {
-    assert!(rt; t <= 4_294_967_295_999);
-    assert!(rt; device.radio(t, bytes, 0, 1) == answer);
-    taken(rt, device, 0, 0, &[]);
-}
-
-/// What the radio hears is a frame of the class session's group, or foreign, which is counted as not heard, and an image comes by
-/// a frame in the window.
-#[test]
-fn frames_of_the_group_are_heard(rt: HostRuntime) {
-    let mut device = reserved(&rt, rt.alloc(), CONFIG);
     exchanges(&rt, &mut device, 1_000_000, &WINDOWS);
     for (t, bytes, answer) in &AIRED {
-        airs(&rt, &mut device, *t, bytes, *answer);
+        assert!(rt; *t <= 4_294_967_295_999);
+        assert!(rt; device.radio(*t, bytes, 0, 1) == *answer);
+        taken(&rt, &mut device, 0, 0, &[]);
     }
-    assert!(rt; device.counts().deaf == 8);
+    assert!(rt; device.counts().deaf == 12);
     assert!(rt; device.counts().refused == 1);
     assert!(rt; device.slots().next() == ImageState::Valid(2));
-}
-
-/// A device of LoRaWAN 1.1 unwraps the group's key under another root key.
-#[test]
-fn a_device_of_the_other_root_key_hears_other_frames(rt: HostRuntime) {
+    // a device of LoRaWAN 1.1 unwraps the group's key under another root key
     let config = DeviceConfig {
         root: RootKind::V11,
         ..CONFIG
     };
-    let mut device = reserved(&rt, rt.alloc(), config);
-    exchanges(&rt, &mut device, 1_000_000, &WINDOWS);
-    let (foreign, heard) = (
-        Aired::Foreign(FrameFault::Mic),
-        Aired::Heard(Delivered::Done),
-    );
-    airs(&rt, &mut device, 1_000_000, &FRAME, foreign);
-    airs(&rt, &mut device, 1_000_000, &FRAME_1_1, heard);
-    assert!(rt; device.slots().next() == ImageState::Valid(2));
+    let mut other = reserved(&rt, rt.alloc(), config);
+    exchanges(&rt, &mut other, 1_000_000, &WINDOWS);
+    assert!(rt; other.radio(1_000_000, &FRAME, 0, 1) == Aired::Foreign(FrameFault::Mic));
+    assert!(rt; other.radio(1_000_000, &FRAME_1_1, 0, 1) == Aired::Heard(Delivered::Done));
+    assert!(rt; other.slots().next() == ImageState::Valid(2));
 }
 
 #[test]

@@ -503,30 +503,21 @@ fn a_campaign_is_sent_in_bytes(rt: HostRuntime) -> Result<(), Fail> {
 
 #[test]
 fn a_group_is_asked_and_sent_to_in_bytes(rt: HostRuntime) -> Result<(), Fail> {
+    let few = PlanGroup { max: 2, ..GROUP };
     let mut campaign = OneDevice::begin(&rt, rt.alloc(), 52, 0, Some(GROUP), Some(WINDOW))?;
     asked(&rt, &mut campaign, &GROUP_CAMPAIGN);
     assert!(rt; campaign.after(&rt, 200, &[0x02, 0x04]) == Stage::At(Request::Status));
-    Ok(())
-}
-
-#[test]
-fn a_refused_window_refuses_the_device(rt: HostRuntime) -> Result<(), Fail> {
-    let mut campaign = OneDevice::begin(&rt, rt.alloc(), 52, 0, Some(GROUP), Some(WINDOW))?;
-    asked(&rt, &mut campaign, &GROUP_CAMPAIGN[..3]);
-    let refused = Stage::Refused {
-        request: Request::Window,
-        bits: 0x1c,
-    };
-    assert!(rt; campaign.after(&rt, 200, &[0x04, 0x1c]) == refused);
-    Ok(())
-}
-
-/// A group of two counts.
-const FEW: PlanGroup = PlanGroup { max: 2, ..GROUP };
-
-#[test]
-fn counts_of_a_group_end_before_its_fragments(rt: HostRuntime) -> Result<(), Fail> {
-    let mut short = OneDevice::begin(&rt, rt.alloc(), 26, 1, Some(FEW), Some(WINDOW))?;
+    let mut refused = OneDevice::begin(&rt, rt.alloc(), 52, 0, Some(GROUP), Some(WINDOW))?;
+    asked(&rt, &mut refused, &GROUP_CAMPAIGN[..3]);
+    assert!(rt;
+        refused.after(&rt, 200, &[0x04, 0x1c])
+            == Stage::Refused {
+                request: Request::Window,
+                bits: 0x1c
+            }
+    );
+    // the counts of a group end before its fragments, and with them
+    let mut short = OneDevice::begin(&rt, rt.alloc(), 26, 1, Some(few), Some(WINDOW))?;
     assert!(rt; short.fragment().is_ok());
     match short.status_all() {
         Some(down) => {
@@ -540,28 +531,10 @@ fn counts_of_a_group_end_before_its_fragments(rt: HostRuntime) -> Result<(), Fai
     }
     assert!(rt; matches!(short.fragment(), Err(NothingLeft::Counts)));
     assert!(rt; short.status_all().is_none());
-    Ok(())
-}
-
-#[test]
-fn counts_of_a_group_end_with_its_fragments(rt: HostRuntime) -> Result<(), Fail> {
-    let mut even = OneDevice::begin(&rt, rt.alloc(), 26, 0, Some(FEW), Some(WINDOW))?;
+    let mut even = OneDevice::begin(&rt, rt.alloc(), 26, 0, Some(few), Some(WINDOW))?;
     assert!(rt; even.fragment().is_ok() && even.fragment().is_ok());
     assert!(rt; matches!(even.fragment(), Err(NothingLeft::Fragments)));
     Ok(())
-}
-
-/// The device is asked, and its answer comes.
-fn answers(rt: &impl Abort, campaign: &mut OneDevice, device: &mut Device<CellFlash>) {
-    let down = campaign.server.ask(1).expect(rt, "nothing asked");
-    assert!(rt; !campaign.server.has_frame(&down));
-    assert!(rt; device.deliver(0, &down, 0, 1) == Delivered::Done);
-    let uplink = device.take_uplink().expect(rt, "no answer");
-    assert!(rt;
-        campaign
-            .uplink(uplink.port, uplink.payload.as_slice(), 0)
-            .is_ok()
-    );
 }
 
 /// A device that the server sets up hears what the server sends to the group, in its window.
@@ -571,7 +544,15 @@ fn frames_reach_a_device_with_the_group(rt: HostRuntime) -> Result<(), Fail> {
     let flash = CellFlash::reserve(rt.alloc(), 0).expect(&rt, "no flash");
     let mut device = Device::reserve(rt.alloc(), CONFIG, flash).expect(&rt, "no device");
     for _ in 0..4 {
-        answers(&rt, &mut campaign, &mut device);
+        let down = campaign.server.ask(1).expect(&rt, "nothing asked");
+        assert!(rt; !campaign.server.has_frame(&down));
+        assert!(rt; device.deliver(0, &down, 0, 1) == Delivered::Done);
+        let uplink = device.take_uplink().expect(&rt, "no answer");
+        assert!(rt;
+            campaign
+                .uplink(uplink.port, uplink.payload.as_slice(), 0)
+                .is_ok()
+        );
     }
     assert!(rt; campaign.server.ledger(1) == Stage::At(Request::Status));
     let fragment = campaign.fragment().expect(&rt, "no fragment");

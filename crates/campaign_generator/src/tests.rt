@@ -1,6 +1,4 @@
-//! Campaigns of seeds, by the lengths and digests of another program.
-
-use campaign_generator::generate;
+use crate::generate;
 use sha2::{Digest, Sha256};
 
 /// What another program made of a seed.
