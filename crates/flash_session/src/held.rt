@@ -10,8 +10,6 @@ ghost use Rattle.flash_session.specs.Sessions.{HeldStandsAs, CountsAs};
 mod hearing;
 mod opening;
 mod setups;
-#[cfg(test)]
-mod tests;
 
 use frag_session::{Idle, Limits, Slot, StatusAns, Via, View};
 use std::marker::Model;

@@ -17,6 +17,3 @@ mod xoring;
 
 pub use answers::{Beyond, EncoderError};
 pub use encoder::{Encoder, MAX_FRAGMENT};
-
-#[cfg(test)]
-mod tests;

@@ -116,30 +116,3 @@ pub fn plain_excess(alloc: Global, nb_frag: u16, numbers: &[u16]) -> Result<usiz
     }
     Ok(plain_gain(&lines).saturating_sub(plain_direct(nb_frag, numbers)))
 }
-
-#[cfg(test)]
-mod tests {
-    use super::*;
-    use std::test::Fail;
-
-    #[test]
-    fn excess_over_four_pieces(rt: HostRuntime) -> Result<(), Fail> {
-        let rows: [(&[u16], usize); 7] = [
-            (&[2, 3, 1, 4], 0),
-            (&[8, 7, 3, 1], 2),
-            (&[3, 1, 8, 7], 2),
-            (&[6, 5, 1], 1),
-            (&[11, 3, 2, 1], 1),
-            (&[8, 7], 2),
-            (&[2, 2, 2], 0),
-        ];
-        for (numbers, excess) in &rows {
-            let in_range = numbers
-                .iter()
-                .all(|n| 1 <= *n && *n <= 4 + MAX_PARITY_INDEX);
-            assert!(rt; in_range);
-            assert_eq!(rt; plain_excess(rt.alloc(), 4, numbers)?, *excess);
-        }
-        Ok(())
-    }
-}

@@ -23,6 +23,3 @@ pub use image::{MAX_IMAGE, firmware, highest, is_for, is_image, lowest};
 pub use laws::{an_image_has_its_bounds, worked_images};
 pub use slots::{Memory, Slots};
 pub use view::{ImageState, ImageView};
-
-#[cfg(test)]
-mod tests;

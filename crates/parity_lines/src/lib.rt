@@ -15,6 +15,3 @@ mod uncounted;
 pub use lines::{line, prbs23};
 pub use steps::Steps;
 pub use uncounted::line_uncounted;
-
-#[cfg(test)]
-mod tests;

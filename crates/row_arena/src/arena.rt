@@ -218,6 +218,3 @@ fn zero_bytes<const N: usize>(bytes: &mut ArrayVec<u8, N>, n: usize)
         bytes.push(0);
     }
 }
-
-#[cfg(test)]
-mod tests;

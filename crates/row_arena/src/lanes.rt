@@ -113,6 +113,3 @@ fn xor_4(into: &mut [u64], from: &[u64], at: usize)
     let sum = u64x4::from_slice(&into[at..]) ^ u64x4::from_slice(&from[at..]);
     sum.copy_to_slice(&mut into[at..]);
 }
-
-#[cfg(test)]
-mod tests;

@@ -1,12 +1,10 @@
 //! Calls that are stopped at each call of the flash, bytes that a stop tears, places that are foreign, and each public call.
 
-ghost use Rattle.std.specs.Prelude.{◌+◌, ◌≤◌};
+ghost use Rattle.std.specs.Prelude.{◌≡◌, ◌+◌, ◌≤◌, IfOk};
 ghost use Rattle.std.specs.Bool.{OnTrue};
 
-use super::*;
-use crate::log::Step;
-use crate::{CellFlash, Flash, MemFlash, OpenFault, StopFlash};
-use frag_session::{Cause, Heard, News, SetupReq, Verdict};
+use flash_session::{CellFlash, Flash, Held, MemFlash, OpenFault, StopFlash};
+use frag_session::{Cause, Heard, Idle, Limits, News, SetupReq, Verdict, Via};
 use row_elimination::Solver;
 use std::alloc::Global;
 use std::process::Abort;
@@ -85,31 +83,45 @@ fn solver(rt: &impl Abort, alloc: Global) -> SmallIdle {
     Idle::new(Solver::reserve(alloc, 8).expect(rt, "no memory"))
 }
 
-fn fits<F: Flash>(held: &SmallHeld, flash: &F) -> bool
-    ensures { OnTrue result (held.now.base + held.now.span ≤ F.room flash.now) }
+/// Whether a session from there has room.
+fn fits<F: Flash>(flash: &F, base: u32) -> bool
+    ensures { OnTrue result (base + SPAN ≤ F.room flash.now) }
 {
-    held.base as u64 + held.span as u64 <= flash.size() as u64
+    base as u64 + SPAN as u64 <= flash.size() as u64
 }
 
-fn open_at<F: Flash>(rt: &impl Abort, flash: &mut F, base: u32, idle: SmallIdle) -> SmallHeld {
-    assert!(rt; base as u64 + SPAN as u64 <= flash.size() as u64);
+fn open_at<F: Flash>(rt: &impl Abort, flash: &mut F, base: u32, idle: SmallIdle) -> SmallHeld
+    ensures base { result.base ≡ base }
+    ensures span { result.span ≡ SPAN }
+{
+    assert!(rt; fits(flash, base));
     match Held::open(flash, base, SPAN, idle, LIMITS) {
         Ok(held) => held,
         Err(_) => panic!(rt; "it does not open"),
     }
 }
 
-fn open<F: Flash>(rt: &impl Abort, flash: &mut F, idle: SmallIdle) -> SmallHeld {
+fn open<F: Flash>(rt: &impl Abort, flash: &mut F, idle: SmallIdle) -> SmallHeld
+    ensures base { result.base ≡ 0 }
+    ensures span { result.span ≡ SPAN }
+{
     open_at(rt, flash, 0, idle)
 }
 
+/// A call of the session from `base` on.
 fn make<F: Flash>(
     rt: &impl Abort,
     held: SmallHeld,
+    base: u32,
     flash: &mut F,
     call: Call,
-) -> Result<SmallHeld, SmallIdle> {
-    assert!(rt; fits(&held, flash));
+) -> Result<SmallHeld, SmallIdle>
+    requires base { held.base ≡ base }
+    requires span { held.span ≡ SPAN }
+    ensures base { IfOk result (λ h. h.base ≡ base) }
+    ensures span { IfOk result (λ h. h.span ≡ SPAN) }
+{
+    assert!(rt; fits(flash, base));
     match call {
         Call::Setup(nb_frag) => match held.setup(flash, SetupReq { nb_frag, ..SETUP }) {
             Ok((held, _)) => Ok(held),
@@ -126,20 +138,28 @@ fn make<F: Flash>(
     }
 }
 
-fn make_all<F: Flash>(
-    rt: &impl Abort,
-    flash: &mut F,
-    idle: SmallIdle,
-    calls: &[Call],
-) -> SmallHeld {
-    let mut held = open(rt, flash, idle);
-    for next in calls {
-        held = match make(rt, held, flash, *next) {
-            Ok(held) => held,
-            Err(_) => panic!(rt; "a call failed"),
-        };
+/// Calls one after another, none of which fails.
+fn make_each<F: Flash>(rt: &impl Abort, held: SmallHeld, flash: &mut F, calls: &[Call]) -> SmallHeld
+    requires base { held.base ≡ 0 }
+    requires span { held.span ≡ SPAN }
+    ensures base { result.base ≡ 0 }
+    ensures span { result.span ≡ SPAN }
+{
+    if calls.is_empty() {
+        return held;
     }
-    held
+    match make(rt, held, 0, flash, calls[0]) {
+        Ok(held) => make_each(rt, held, flash, &calls[1..]),
+        Err(_) => panic!(rt; "a call failed"),
+    }
+}
+
+fn make_all<F: Flash>(rt: &impl Abort, flash: &mut F, idle: SmallIdle, calls: &[Call]) -> SmallHeld
+    ensures base { result.base ≡ 0 }
+    ensures span { result.span ≡ SPAN }
+{
+    let held = open(rt, flash, idle);
+    make_each(rt, held, flash, calls)
 }
 
 fn shows(held: &SmallHeld) -> Option<Shown> {
@@ -163,7 +183,7 @@ fn stop(rt: &impl Abort, alloc: Global, before: &[Call], last: Call, k: u64) -> 
     let mut flash = MemFlash::reserve(alloc, SPAN, ROOM, Vec::new(alloc))?;
     let held = make_all(rt, &mut flash, solver(rt, alloc), before);
     let mut stopped = StopFlash::over(flash, k);
-    let (idle, done) = match make(rt, held, &mut stopped, last) {
+    let (idle, done) = match make(rt, held, 0, &mut stopped, last) {
         Ok(held) => (held.close(), true),
         Err(idle) => (idle, false),
     };
@@ -262,8 +282,8 @@ fn a_stop_leaves_what_was_or_what_comes(rt: HostRuntime) -> Result<(), Fail> {
     Ok(())
 }
 
-/// A call after others that is stopped where a byte was written and not synced, and what opens where that byte is left open,
-/// and where it is left as any other.
+/// A call after others that is stopped behind a call of the flash that wrote a byte, which is not synced then, and what opens
+/// where that byte is left open, and where it is left as any other.
 struct Torn<'a> {
     before: &'a [Call],
     last: Call,
@@ -313,7 +333,7 @@ const TORN: [Torn; 8] = [
         before: &ONE,
         last: Call::Setup(3),
         stop: 3,
-        place: 64 + 1,
+        place: 64,
         open: None,
         shut: None,
     },
@@ -343,23 +363,20 @@ const TORN: [Torn; 8] = [
     },
 ];
 
-/// Whether a place was written since the last sync.
-fn is_loose(flash: &MemFlash, place: u32) -> bool {
-    let mut loose = false;
-    for step in &flash.log {
-        loose = match *step {
-            Step::Was(at, _) => loose || at == place,
-            Step::Synced => false,
-        };
-    }
-    loose
+fn byte_at(rt: &impl Abort, flash: &mut MemFlash, place: u32) -> u8 {
+    let mut bytes = [0];
+    assert!(rt; place < flash.size());
+    assert!(rt; flash.read(place, &mut bytes).is_ok());
+    bytes[0]
 }
 
 fn opens_torn(rt: &impl Abort, alloc: Global, row: &Torn) -> Result<(), Fail> {
+    let mut one_call_less = stop(rt, alloc, row.before, row.last, row.stop.saturating_sub(1))?;
+    let was = byte_at(rt, &mut one_call_less.flash, row.place);
     let left = stop(rt, alloc, row.before, row.last, row.stop)?;
     let mut flash = left.flash;
     let mut idle = left.idle;
-    assert!(rt; is_loose(&flash, row.place));
+    assert!(rt; byte_at(rt, &mut flash, row.place) != was);
     for byte in 0..=255u8 {
         poke(rt, &mut flash, row.place, byte);
         let held = open(rt, &mut flash, idle);
@@ -479,12 +496,12 @@ fn a_session_is_whole_is_deleted_and_begins_again(rt: HostRuntime) -> Result<(),
     let alloc = rt.alloc();
     let mut flash = CellFlash::reserve(alloc, SPAN)?;
     let held = open(&rt, &mut flash, solver(&rt, alloc));
-    assert!(rt; fits(&held, &flash));
+    assert!(rt; fits(&flash, 0));
     let Ok((held, bits)) = held.setup(&mut flash, SetupReq { algo: 1, ..SETUP }) else {
         panic!(rt; "the setup failed");
     };
     assert_eq!(rt; bits, 1);
-    assert!(rt; fits(&held, &flash));
+    assert!(rt; fits(&flash, 0));
     let Ok((held, heard)) = held.hear(&mut flash, Via::Unicast, 1, &[0x11], 5) else {
         panic!(rt; "the fragment failed");
     };
@@ -497,12 +514,12 @@ fn a_session_is_whole_is_deleted_and_begins_again(rt: HostRuntime) -> Result<(),
         Call::Hear(3, 0x33),
     ];
     let held = make_all(&rt, &mut flash, held.close(), &calls);
-    assert!(rt; fits(&held, &flash));
+    assert!(rt; fits(&flash, 0));
     let Ok((held, heard)) = held.hear(&mut flash, Via::Unicast, 4, &[0x44], 9) else {
         panic!(rt; "the fragment failed");
     };
     assert_eq!(rt; heard, Heard::Fed(News::New));
-    assert!(rt; fits(&held, &flash));
+    assert!(rt; fits(&flash, 0));
     let Ok((held, heard)) = held.hear(&mut flash, Via::Unicast, 4, &[0x44], 10) else {
         panic!(rt; "the fragment failed");
     };
@@ -515,7 +532,7 @@ fn a_session_is_whole_is_deleted_and_begins_again(rt: HostRuntime) -> Result<(),
     assert_eq!(rt; view.file, [0x11, 0x22, 0x33, 0x44].as_slice());
     let status = held.status(Via::Unicast, true).expect(&rt, "no answer");
     assert_eq!(rt; status.received, 6);
-    assert!(rt; fits(&held, &flash));
+    assert!(rt; fits(&flash, 0));
     let Ok((held, lived)) = held.delete(&mut flash) else {
         panic!(rt; "the delete failed");
     };
@@ -542,7 +559,7 @@ fn the_count_ends(rt: HostRuntime) -> Result<(), Fail> {
     let held = open(&rt, &mut flash, idle);
     assert_eq!(rt; shows(&held), COUNTED_ALL);
     let mut stopped = StopFlash::over(flash, 0);
-    let Ok(held) = make(&rt, held, &mut stopped, Call::Hear(1, 0x11)) else {
+    let Ok(held) = make(&rt, held, 0, &mut stopped, Call::Hear(1, 0x11)) else {
         panic!(rt; "a call of the flash");
     };
     assert_eq!(rt; shows(&held), COUNTED_ALL);
@@ -557,7 +574,7 @@ fn a_stop_leaves_the_session_beside(rt: HostRuntime) -> Result<(), Fail> {
     let first = make_all(&rt, &mut flash, solver(&rt, alloc), &ONE);
     let second = open_at(&rt, &mut flash, SPAN, solver(&rt, alloc));
     let mut stopped = StopFlash::over(flash, 3);
-    let second = match make(&rt, second, &mut stopped, Call::Setup(3)) {
+    let second = match make(&rt, second, SPAN, &mut stopped, Call::Setup(3)) {
         Ok(_) => panic!(rt; "it was not stopped"),
         Err(idle) => idle,
     };
@@ -566,11 +583,11 @@ fn a_stop_leaves_the_session_beside(rt: HostRuntime) -> Result<(), Fail> {
     assert_eq!(rt; shows(&first), HEARD_ONE);
     let second = open_at(&rt, &mut flash, SPAN, second);
     assert_eq!(rt; shows(&second), None);
-    let Ok(second) = make(&rt, second, &mut flash, Call::Setup(3)) else {
+    let Ok(second) = make(&rt, second, SPAN, &mut flash, Call::Setup(3)) else {
         panic!(rt; "the setup failed");
     };
     let mut stopped = StopFlash::over(flash, 1);
-    let first = match make(&rt, first, &mut stopped, Call::Delete) {
+    let first = match make(&rt, first, 0, &mut stopped, Call::Delete) {
         Ok(_) => panic!(rt; "it was not stopped"),
         Err(idle) => idle,
     };

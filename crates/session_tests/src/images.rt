@@ -1,6 +1,8 @@
+//! What a file is to a device, and when it runs.
+
 ghost use Rattle.std.specs.Prelude.{◌<◌};
 
-use super::*;
+use image_slots::*;
 use std::test::*;
 
 /// An image file for hardware 1 with firmware 2, its body and digest those of the text abc.

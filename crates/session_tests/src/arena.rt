@@ -2,7 +2,7 @@
 
 ghost use Rattle.std.specs.Prelude.{◌≡◌, ◌<◌, length};
 
-use super::*;
+use row_arena::RowArena;
 use std::test::*;
 
 #[test]

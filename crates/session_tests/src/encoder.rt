@@ -1,7 +1,9 @@
+//! Fragments of a file, by hand, of an image, and as the plain program gives them.
+
 ghost use Rattle.std.specs.Prelude.{◌≤◌};
 
-use super::*;
 use arrayvec::ArrayVec;
+use frag_encoder::{Beyond, Encoder, EncoderError};
 use frag_model::lines::{MAX_PARITY_INDEX, plain_line};
 use std::alloc::Global;
 use std::test::*;

@@ -2,7 +2,7 @@
 
 ghost use Rattle.std.specs.Prelude.{◌≡◌, length, IfOk};
 
-use super::*;
+use row_arena::{xor_bytes, xor_words};
 use std::alloc::Global;
 use std::test::*;
 

@@ -1,7 +1,9 @@
+//! Lines of coded fragments, by hand and as the plain program draws them.
+
 ghost use Rattle.std.specs.Prelude.{◌≤◌};
 
-use super::*;
 use frag_model::lines::{MAX_PARITY_INDEX, MAX_PIECES, plain_line};
+use parity_lines::{line_uncounted, prbs23};
 use std::test::*;
 
 #[test]
