@@ -74,144 +74,6 @@ fn a_campaign_is_reported(rt: HostRuntime) -> Result<(), Fail> {
     Ok(())
 }
 
-/// The same campaign over a device with a flash, whose power goes between two fragments: only the line's number moves.
-#[test]
-fn power_comes_back(rt: HostRuntime) -> Result<(), Fail> {
-    let lines = [
-        "fuota 1",
-        "image 13 0",
-        "device 1 c 1 0 0 00000000000000000000000000000000 flash",
-        "ask 1",
-        "down 1 1",
-        "up 1",
-        "ask 1",
-        "down 2 1",
-        "up 2",
-        "frag",
-        "frag",
-        "frag",
-        "frag",
-        "down 6 1",
-        "down 3 1",
-        "power 1",
-        "down 3 1",
-        "down 5 1",
-        "down 4 1",
-        "end",
-    ];
-    assert!(rt; is_image(&IMAGE));
-    let mut world = World::new(rt.alloc(), &IMAGE)?;
-    for line in lines {
-        assert!(rt; world.line(line.as_bytes()) == Ok(()));
-    }
-    match world.report(rt.alloc()) {
-        Ok(text) => assert!(rt;
-            text.as_slice()
-                == b"fuota report 1\nimage 52 fragments 4 size 13 padding 0 parity 0\ndevice 1 status clock 0 token 0 running 0 next valid 2\ncounts deaf 0 refused 0 full 0 dropped 0\nsession 0 received 5 missing 0 complete at 19 same\nend\n".as_slice()
-        ),
-        Err(_) => assert!(rt; false),
-    }
-    Ok(())
-}
-
-/// Four devices have a flash and the fifth none; power goes only where one is.
-#[test]
-fn four_devices_have_a_flash(rt: HostRuntime) -> Result<(), Fail> {
-    let cases = [
-        (
-            "device 6 c 1 0 0 00000000000000000000000000000000 flash",
-            LineWhy::Limit,
-        ),
-        (
-            "device 7 c 1 0 0 00000000000000000000000000000000 flash",
-            LineWhy::Range,
-        ),
-        ("power 5", LineWhy::Device),
-        ("power 6", LineWhy::Device),
-        ("power 0", LineWhy::Device),
-    ];
-    assert!(rt; is_image(&IMAGE));
-    for (line, why) in cases {
-        let mut world = World::new(rt.alloc(), &IMAGE)?;
-        for fine in [
-            "fuota 1",
-            "image 13 0",
-            "device 1 c 1 0 0 00000000000000000000000000000000 flash",
-            "device 2 c 1 0 0 00000000000000000000000000000000 flash",
-            "device 3 a 1 0 0 00000000000000000000000000000000 v1 k11 flash",
-            "device 4 c 1 0 0 00000000000000000000000000000000 0000000a flash",
-            "device 5 c 1 0 0 00000000000000000000000000000000",
-            "power 4",
-        ] {
-            let taken = fine == "power 4" && line.starts_with("device");
-            assert!(rt; taken || world.line(fine.as_bytes()) == Ok(()));
-        }
-        let number = if line.starts_with("device") { 8 } else { 9 };
-        let fault = LineError::Line(LineFault { line: number, why });
-        assert!(rt; world.line(line.as_bytes()) == Err(fault));
-    }
-    Ok(())
-}
-
-/// A fragment to a group comes as a frame: before and behind its window it is not heard, in it it makes the file whole, and
-/// with one bit turned it is no frame. What goes by unicast has none.
-#[test]
-fn frames_are_heard_in_the_window(rt: HostRuntime) -> Result<(), Fail> {
-    let lines = [
-        "fuota 1",
-        "image 52 0",
-        "group 11223344 00000000000000000000000000000000 0 10",
-        "window c 1000 0 8695250 0",
-        DEVICE,
-        "ask 1",
-        "down 1 1",
-        "up 1",
-        "ask 1",
-        "down 2 1",
-        "up 2",
-        "ask 1",
-        "down 3 1",
-        "up 3",
-        "ask 1",
-        "down 4 1",
-        "up 4",
-        "frag",
-        "at 999999",
-        "air 5 1",
-        "at 1000000",
-        "rawair 1 6044332211100200c937bf2ed663b3",
-        "air 5 1",
-        "rawair 1 6044332211100200c937bf2ed663b2",
-        "at 1001000",
-        "air 5 1",
-        "end",
-    ];
-    assert!(rt; is_image(&IMAGE));
-    let mut world = World::new(rt.alloc(), &IMAGE)?;
-    for line in lines {
-        assert!(rt; world.line(line.as_bytes()) == Ok(()));
-    }
-    // the frame with FCtrl 10 asks for the status
-    assert!(rt; world.uplink(5).is_some() && world.uplink(6).is_none());
-    match world.report(rt.alloc()) {
-        Ok(text) => assert!(rt;
-            text.as_slice()
-                == b"fuota report 1\nimage 52 fragments 1 size 52 padding 0 parity 0\ndevice 1 status clock 0 token 0 running 0 next valid 2\ncounts deaf 3 refused 0 full 0 dropped 0\nsession 0 received 1 missing 0 complete at 23 same\nend\n".as_slice()
-        ),
-        Err(_) => assert!(rt; false),
-    }
-    let mut other = World::new(rt.alloc(), &IMAGE)?;
-    for line in ["fuota 1", "image 13 0", DEVICE, "ask 1"] {
-        assert!(rt; other.line(line.as_bytes()) == Ok(()));
-    }
-    let fault = LineError::Line(LineFault {
-        line: 5,
-        why: LineWhy::Unsent,
-    });
-    assert!(rt; other.line(b"air 1 1") == Err(fault));
-    Ok(())
-}
-
 /// A campaign that is carried out form by form, with a line passed by, has the report of its lines, one line further on.
 #[test]
 fn forms_are_carried_out_as_lines(rt: HostRuntime) -> Result<(), Fail> {
@@ -263,46 +125,23 @@ fn passes(world: &mut World) {
     }
 }
 
-/// Lines behind a plan with one device, each refused for another cause, and none of them changes what comes then.
+/// A line that is refused is answered again by each line behind it, and by the report.
 #[test]
-fn lines_are_refused(rt: HostRuntime) -> Result<(), Fail> {
-    let cases = [
-        (
-            "device 3 c 1 0 0 00000000000000000000000000000000",
-            LineWhy::Range,
-        ),
-        ("image 13 0", LineWhy::Order),
-        (
-            "group 00000001 00000000000000000000000000000000 0 9",
-            LineWhy::Order,
-        ),
-        ("ask one", LineWhy::Syntax),
-        ("ask 2", LineWhy::Device),
-        ("wake 2", LineWhy::Device),
-        ("down 1 1", LineWhy::Unsent),
-        ("up 1", LineWhy::Unsent),
-        ("at 4294967296000", LineWhy::Range),
-        ("raw 1 201 0", LineWhy::Syntax),
-        ("raw 2 256 00", LineWhy::Range),
-        ("raw 1 201 00 4294967296", LineWhy::Range),
-        ("raw 0 201 -", LineWhy::Device),
-        ("raw 2 201 -", LineWhy::Device),
-        ("air 1 1", LineWhy::Unsent),
-        ("air 1 2", LineWhy::Device),
-        ("air 1 2 4294967296", LineWhy::Range),
-        ("rawair 2 -", LineWhy::Device),
-        ("rawair 2 60 4294967296", LineWhy::Range),
-        ("rawair 1 600", LineWhy::Syntax),
-    ];
+fn a_refused_line_is_kept(rt: HostRuntime) -> Result<(), Fail> {
     assert!(rt; is_image(&IMAGE));
-    for (line, why) in cases {
-        let mut world = World::new(rt.alloc(), &IMAGE)?;
-        for fine in ["fuota 1", "image 13 0", DEVICE] {
-            assert!(rt; world.line(fine.as_bytes()) == Ok(()));
-        }
-        let fault = LineError::Line(LineFault { line: 4, why });
-        assert!(rt; world.line(line.as_bytes()) == Err(fault));
-        assert!(rt; world.line(b"ask 1") == Err(fault));
+    let mut world = World::new(rt.alloc(), &IMAGE)?;
+    for line in ["fuota 1", "image 13 0", DEVICE] {
+        assert!(rt; world.line(line.as_bytes()) == Ok(()));
+    }
+    let fault = LineError::Line(LineFault {
+        line: 4,
+        why: LineWhy::Device,
+    });
+    assert!(rt; world.line(b"ask 2") == Err(fault));
+    assert!(rt; world.line(b"ask 1") == Err(fault));
+    match world.report(rt.alloc()) {
+        Ok(_) => assert!(rt; false),
+        Err(error) => assert!(rt; error == fault),
     }
     Ok(())
 }
