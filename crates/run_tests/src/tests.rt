@@ -25,22 +25,18 @@ const EVENTS: &str =
 const REPORT: &str =
     "fuota report 1\nimage 52 fragments 4 size 13 padding 0 parity 0\ndevice 1 status clock 0 token 0 running 0 next valid 2\ncounts deaf 0 refused 0 full 0 dropped 0\nsession 0 received 5 missing 0 complete at 18 same\nend\n";
 
-const REPORT_LATER: &str =
-    "fuota report 1\nimage 52 fragments 4 size 13 padding 0 parity 0\ndevice 1 status clock 0 token 0 running 0 next valid 2\ncounts deaf 0 refused 0 full 0 dropped 0\nsession 0 received 5 missing 0 complete at 19 same\nend\n";
-
 const WORDS: [&str; 4] = ["fuota", "campaign", "image", "script"];
 
 /// What is written where the words are no form.
 const USAGE: &str =
     "usage: fuota campaign IMAGE SCRIPT, recover IMAGE SCRIPT DEVICE, replay FILE, decode PORT DIR FILE, generate SEED, capture FILE, campaigns IMAGE IMAGE SCRIPT\n";
 
-/// What stands outside a run: its two files, the second one in three parts, the number of the call that fails on each
+/// What stands outside a run: its two files, the second one in two parts, the number of the call that fails on each
 /// side (0 for none), and the room of its sink.
 #[derive(Clone, Copy)]
 struct Outside<'a, 'b> {
     image: &'a [u8],
     start: &'b str,
-    clock: &'static str,
     events: &'static str,
     read_fails: u64,
     write_fails: u64,
@@ -50,7 +46,6 @@ struct Outside<'a, 'b> {
 const SOUND: Outside<'static, 'static> = Outside {
     image: &IMAGE,
     start: START,
-    clock: "",
     events: EVENTS,
     read_fails: 0,
     write_fails: 0,
@@ -59,10 +54,7 @@ const SOUND: Outside<'static, 'static> = Outside {
 
 /// The two files, and behind them an empty one under each word, which is found where the two have other names.
 fn files(alloc: Global, words: &[&str], outside: &Outside) -> Result<MemFiles, Fail> {
-    let script = format!(in alloc;
-        "{}{}{}",
-        outside.start, outside.clock, outside.events
-    )?.into_bytes();
+    let script = format!(in alloc; "{}{}", outside.start, outside.events)?.into_bytes();
     let mut files = Vec::new(alloc);
     files.push((format!(in alloc; "image")?, outside.image.to_vec(alloc)?))?;
     files.push((format!(in alloc; "script")?, script))?;
@@ -178,373 +170,8 @@ fn a_run_ends_with_its_status_and_text(rt: HostRuntime) -> Result<(), Fail> {
     )
 }
 
-/// Runs the words over these lines as the second file.
-fn says(
-    rt: &impl Abort,
-    alloc: Global,
-    words: &[&str],
-    lines: &str,
-    status: Status,
-    text: &str,
-) -> Result<(), Fail> {
-    let outside = Outside {
-        start: lines,
-        events: "",
-        ..SOUND
-    };
-    ends(rt, alloc, words, &outside, status, text)
-}
-
-#[test]
-fn payloads_are_decoded_replayed_and_captured(rt: HostRuntime) -> Result<(), Fail> {
-    let time = ["fuota", "decode", "202", "down", "script"];
-    let versions = ["fuota", "decode", "203", "down", "--", "script"];
-    let replay = ["fuota", "replay", "script"];
-    let capture = ["fuota", "capture", "script"];
-    let rows = [
-        (
-            &time[..],
-            "0105000000f3\n",
-            Status::Done,
-            "line 1\nAppTimeAns correction=5 token=3\nend\n",
-        ),
-        (
-            &versions[..],
-            "017f\n",
-            Status::Done,
-            "line 1\nrefused 1 unknown\nend\n",
-        ),
-        (
-            &time[..],
-            "00\n000\n",
-            Status::ScriptRefused,
-            "line 2 syntax\n",
-        ),
-        (
-            &replay[..],
-            "replay 1 1\n0200010001000000000000\n08020000\n0801005a",
-            Status::Done,
-            "fuota replay 1\ncounts deaf 0 refused 0 full 0 dropped 0\nsession 0 received 2 missing 0 complete at 4\nfile 5a\nend\n",
-        ),
-        (
-            &replay[..],
-            "replay 1 257\n",
-            Status::ScriptRefused,
-            "line 1 range\n",
-        ),
-        (
-            &capture[..],
-            "capture 1 0\n{\"port\":202,\"dir\":\"down\",\"hex\":\"0105000000f3\"}\n",
-            Status::Done,
-            "fuota capture 1\nline 2 202 down\nAppTimeAns correction=5 token=3\ncounts deaf 0 refused 0 full 0 dropped 0\nend\n",
-        ),
-        (
-            &capture[..],
-            "capture 1 0\n[]",
-            Status::ScriptRefused,
-            "line 2 syntax\n",
-        ),
-        (
-            &capture[..],
-            "capture 1 0\n{\"port\":256,\"dir\":\"down\",\"hex\":\"\"}\n",
-            Status::ScriptRefused,
-            "line 2 range\n",
-        ),
-    ];
-    for (words, lines, status, text) in &rows {
-        says(&rt, rt.alloc(), words, lines, *status, text)?;
-    }
-    Ok(())
-}
-
-/// A device's file, and what is said of one that has none.
-#[test]
-fn a_file_is_recovered(rt: HostRuntime) -> Result<(), Fail> {
-    let open = "ask 1\ndown 1 1\nup 1\nask 1\ndown 2 1\nend\n";
-    let first = ["fuota", "recover", "image", "script", "1"];
-    let second = ["fuota", "recover", "image", "script", "2"];
-    wrote(&rt, rt.alloc(), &first, &SOUND, Status::Done, &IMAGE)?;
-    let rows = [
-        (&second, EVENTS, Status::NotComplete, "device 2 none\n"),
-        (&first, "end\n", Status::NotComplete, "device 1 none\n"),
-        (&first, open, Status::NotComplete, "device 1 receiving\n"),
-        (&first, "ask 1\n", Status::ScriptRefused, "line 5 syntax\n"),
-    ];
-    for (words, events, status, text) in &rows {
-        let outside = Outside { events, ..SOUND };
-        ends(&rt, rt.alloc(), *words, &outside, *status, text)?;
-    }
-    Ok(())
-}
-
-const STRANGE: &str = "fuota 1\nimage 52 0\ndevice 1 c 1 0 0 00000000000000000000000000000000\n";
-
-const CONTRADICTED: &str =
-    "raw 1 201 0801\nraw 1 204 -\nraw 1 201 0200040001000000000000\nraw 1 201 08010011\nraw 1 201 08010012\nend\n";
-
-const CONFLICT: &str =
-    "fuota report 1\nimage 52 fragments 1 size 52 padding 0 parity 0\ndevice 1 version clock 0 token 0 running 0 next none\ncounts deaf 0 refused 2 full 0 dropped 0\nsession 0 received 2 missing 3 conflict at 8\nend\n";
-
-const SMUGGLED: &str = "raw 1 201 0200010001000000000000\nraw 1 201 0801005a\nend\n";
-
-const OTHER: &str =
-    "fuota report 1\nimage 52 fragments 1 size 52 padding 0 parity 0\ndevice 1 version clock 0 token 0 running 0 next corrupt\ncounts deaf 0 refused 0 full 0 dropped 0\nsession 0 received 1 missing 0 complete at 5 other\nend\n";
-
-/// Anybody's payloads are refused or acted on: two that contradict each other, and a file that is another than the image,
-/// which is recovered as it is. A line that is refused hands out none.
-#[test]
-fn strangers_payloads_are_heard(rt: HostRuntime) -> Result<(), Fail> {
-    let recover = ["fuota", "recover", "image", "script", "1"];
-    let rows = [
-        (&WORDS[..], CONTRADICTED, Status::Done, CONFLICT),
-        (
-            &recover[..],
-            CONTRADICTED,
-            Status::NotComplete,
-            "device 1 conflict\n",
-        ),
-        (&WORDS[..], SMUGGLED, Status::Done, OTHER),
-        (&recover[..], SMUGGLED, Status::Done, "Z"),
-        (
-            &WORDS[..],
-            "raw 2 201 00\n",
-            Status::ScriptRefused,
-            "line 4 device\n",
-        ),
-    ];
-    for (words, events, status, text) in &rows {
-        let outside = Outside {
-            start: STRANGE,
-            events,
-            ..SOUND
-        };
-        ends(&rt, rt.alloc(), words, &outside, *status, text)?;
-    }
-    Ok(())
-}
-
-#[test]
-fn words_that_are_no_form_are_usage(rt: HostRuntime) -> Result<(), Fail> {
-    let rows = [
-        &["fuota", "decode", "204", "down", "script"][..],
-        &["fuota", "decode", "0201", "down", "script"][..],
-        &["fuota", "decode", "201", "Down", "script"][..],
-        &["fuota", "decode", "201", "down"][..],
-        &["fuota", "--", "decode", "201", "down", "script"][..],
-        &["fuota", "help"][..],
-        &["fuota", "campaign", "--help"][..],
-        &["fuota", "replay"][..],
-        &["fuota", "replay", "script", "script"][..],
-        &["fuota", "capture"][..],
-        &["fuota", "capture", "script", "script"][..],
-        &["fuota", "campaigns", "image", "script"][..],
-        &["fuota", "campaigns", "image", "image", "script", "1"][..],
-        &["fuota", "recover", "image", "script"][..],
-        &["fuota", "recover", "image", "script", "0"][..],
-        &["fuota", "recover", "image", "script", "65"][..],
-        &["fuota", "generate"][..],
-        &["fuota", "generate", "01"][..],
-        &["fuota", "generate", "4294967296"][..],
-        &["fuota", "generate", "1", "2"][..],
-        &["fuota"][..],
-    ];
-    for words in &rows {
-        says(&rt, rt.alloc(), words, "", Status::Usage, USAGE)?;
-    }
-    Ok(())
-}
-
-/// No file is named, so none is read, whatever there is.
-#[test]
-fn seeds_are_summed_up(rt: HostRuntime) -> Result<(), Fail> {
-    let rows = [
-        (
-            "0",
-            "generate 0\nimage 7327 fragments 115\nsent 291 heard 1975\ncomplete 8 updated 8\nend\n",
-        ),
-        (
-            "1",
-            "generate 1\nimage 7353 fragments 115\nsent 291 heard 1951\ncomplete 8 updated 8\nend\n",
-        ),
-        (
-            "999",
-            "generate 999\nimage 8125 fragments 127\nsent 303 heard 2035\ncomplete 8 updated 8\nend\n",
-        ),
-        (
-            "4294967295",
-            "generate 4294967295\nimage 7302 fragments 115\nsent 291 heard 1960\ncomplete 8 updated 8\nend\n",
-        ),
-    ];
-    for (seed, text) in &rows {
-        says(
-            &rt,
-            rt.alloc(),
-            &["fuota", "generate", *seed],
-            "",
-            Status::Done,
-            text,
-        )?;
-    }
-    Ok(())
-}
-
 const FOUR_ROWS: &str =
     "fuota 1\nimage 13 4\ndevice 1 c 1 4 0 00000000000000000000000000000000\nat 1000\n";
-
-const ONE_ROW: &str =
-    "fuota 1\nimage 13 4\ndevice 1 c 1 1 0 00000000000000000000000000000000\nat 1000\n";
-
-/// Of four pieces and four coded fragments the first and third piece and the third and fourth coded one arrive.
-const CODED: &str =
-    "ask 1\ndown 1 1\nup 1\nask 1\ndown 2 1\nup 2\nfrag\nfrag\nfrag\nfrag\nfrag\nfrag\nfrag\nfrag\ndown 3 1\ndown 5 1\ndown 9 1\ndown 10 1\nend\n";
-
-const NINE: &str =
-    "ask 1\ndown 1 1\nup 1\nask 1\ndown 2 1\nup 2\nfrag\nfrag\nfrag\nfrag\nfrag\nfrag\nfrag\nfrag\nfrag\nend\n";
-
-const WHOLE: &str =
-    "fuota report 1\nimage 52 fragments 4 size 13 padding 0 parity 4\ndevice 1 status clock 0 token 0 running 0 next valid 2\ncounts deaf 0 refused 0 full 0 dropped 0\nsession 0 received 4 missing 0 complete at 22 same\nend\n";
-
-const NO_ROWS: &str =
-    "fuota report 1\nimage 52 fragments 4 size 13 padding 0 parity 4\ndevice 1 status clock 0 token 0 running 0 next none\ncounts deaf 0 refused 0 full 0 dropped 0\nsession 0 received 4 missing 1 norows at 22\nend\n";
-
-#[test]
-fn coded_fragments_complete_a_file_or_exceed_the_rows(rt: HostRuntime) -> Result<(), Fail> {
-    let rows = [
-        (FOUR_ROWS, CODED, Status::Done, WHOLE),
-        (ONE_ROW, CODED, Status::Done, NO_ROWS),
-        (FOUR_ROWS, NINE, Status::ScriptRefused, "line 19 limit\n"),
-        (FOUR_ROWS, "", Status::ScriptRefused, "line 5 syntax\n"),
-        (
-            FOUR_ROWS,
-            "down 1 1\n",
-            Status::ScriptRefused,
-            "line 5 unsent\n",
-        ),
-        (
-            FOUR_ROWS,
-            "at 999\n",
-            Status::ScriptRefused,
-            "line 5 time\n",
-        ),
-        (
-            FOUR_ROWS,
-            "ask 2\n",
-            Status::ScriptRefused,
-            "line 5 device\n",
-        ),
-        (
-            "fuota 1\nimage 240 4\n",
-            "",
-            Status::ScriptRefused,
-            "line 2 range\n",
-        ),
-        (
-            "fuota 1\nimage 13 513\n",
-            "",
-            Status::ScriptRefused,
-            "line 2 range\n",
-        ),
-        (
-            "fuota 1\nimage 13 512\n",
-            "",
-            Status::ScriptRefused,
-            "line 3 syntax\n",
-        ),
-    ];
-    for (start, events, status, text) in &rows {
-        let outside = Outside {
-            start,
-            events,
-            ..SOUND
-        };
-        ends(&rt, rt.alloc(), &WORDS, &outside, *status, text)?;
-    }
-    Ok(())
-}
-
-/// An image file of format 2 for hardware 1 to 3 with firmware 2, and the body and digest of `IMAGE`.
-const RANGED: [u8; 56] = [
-    0x46, 0x55, 0x49, 0x4d, 0x02, 0x01, 0x00, 0x00, 0x00, 0x03, 0x00, 0x00, 0x00, 0x02, 0x00, 0x00,
-    0x00, 0x03, 0x00, 0x00, 0x00, 0xba, 0x78, 0x16, 0xbf, 0x8f, 0x01, 0xcf, 0xea, 0x41, 0x41, 0x40,
-    0xde, 0x5d, 0xae, 0x22, 0x23, 0xb0, 0x03, 0x61, 0xa3, 0x96, 0x17, 0x7a, 0x9c, 0xb4, 0x10, 0xff,
-    0x61, 0xf2, 0x00, 0x15, 0xad, 0x61, 0x62, 0x63,
-];
-
-const OLD_DEVICE: &str =
-    "fuota 1\nimage 56 0\ndevice 1 c 3 0 0 00000000000000000000000000000000 v1\n";
-
-const HARDWARE_4: &str =
-    "fuota 1\nimage 56 0\ndevice 1 c 4 0 0 00000000000000000000000000000000 v1\n";
-
-const ONE_FRAGMENT: &str = "ask 1\ndown 1 1\nup 1\nask 1\ndown 2 1\nup 2\nfrag\ndown 3 1\nend\n";
-
-const MIGRATED: &str =
-    "ask 1\ndown 1 1\nup 1\nask 1\ndown 2 1\nup 2\nfrag\ndown 3 1\nmigrate 1\nend\n";
-
-const NOT_KNOWN: &str =
-    "fuota report 1\nimage 56 fragments 1 size 56 padding 0 parity 0\ndevice 1 status clock 0 token 0 running 0 next corrupt\ncounts deaf 0 refused 0 full 0 dropped 0\nsession 0 received 1 missing 0 complete at 11 same\nend\n";
-
-const KNOWN: &str =
-    "fuota report 1\nimage 56 fragments 1 size 56 padding 0 parity 0\ndevice 1 status clock 0 token 0 running 0 next valid 2\ncounts deaf 0 refused 0 full 0 dropped 0\nsession 0 received 1 missing 0 complete at 11 same\nend\n";
-
-const REFUSED_HARDWARE: &str =
-    "fuota report 1\nimage 56 fragments 1 size 56 padding 0 parity 0\ndevice 1 refused version 1 clock 0 token 0 running 0 next none\ncounts deaf 0 refused 0 full 0 dropped 0\nend\n";
-
-#[test]
-fn an_image_of_format_2_is_read_once_it_is_known(rt: HostRuntime) -> Result<(), Fail> {
-    let rows = [
-        (OLD_DEVICE, ONE_FRAGMENT, Status::Done, NOT_KNOWN),
-        (OLD_DEVICE, MIGRATED, Status::Done, KNOWN),
-        (
-            HARDWARE_4,
-            "ask 1\ndown 1 1\nup 1\nend\n",
-            Status::Done,
-            REFUSED_HARDWARE,
-        ),
-        (
-            OLD_DEVICE,
-            "migrate 2\n",
-            Status::ScriptRefused,
-            "line 4 device\n",
-        ),
-        (
-            OLD_DEVICE,
-            "migrate\n",
-            Status::ScriptRefused,
-            "line 4 syntax\n",
-        ),
-    ];
-    for (start, events, status, text) in &rows {
-        let outside = Outside {
-            image: &RANGED,
-            start,
-            events,
-            ..SOUND
-        };
-        ends(&rt, rt.alloc(), &WORDS, &outside, *status, text)?;
-    }
-    Ok(())
-}
-
-#[test]
-fn the_time_never_goes_back(rt: HostRuntime) -> Result<(), Fail> {
-    let later = Outside {
-        clock: "at 1000\n",
-        ..SOUND
-    };
-    let back = Outside {
-        clock: "at 1000\nat 999\n",
-        ..SOUND
-    };
-    let far = Outside {
-        clock: "at 4294967296000\n",
-        ..SOUND
-    };
-    ends(&rt, rt.alloc(), &WORDS, &later, Status::Done, REPORT_LATER)?;
-    let refused = Status::ScriptRefused;
-    ends(&rt, rt.alloc(), &WORDS, &back, refused, "line 5 time\n")?;
-    ends(&rt, rt.alloc(), &WORDS, &far, refused, "line 4 range\n")
-}
 
 #[test]
 fn each_call_outside_may_fail(rt: HostRuntime) -> Result<(), Fail> {
@@ -632,33 +259,10 @@ const PAIR: &str =
 const OF_PAIR: &str =
     "ask 1\ndown a1 1\nup a1\nask 1\ndown a2 1\nup a2\nfrag a\ndown a3 2\ndown a3 1\nend\n";
 
-const PAIR_REPORT: &str =
-    "fuota report 2\nimage a 52 fragments 1 size 52 padding 0 parity 0 index 0\nimage b 52 fragments 2 size 26 padding 0 parity 0 index 1\ndevice 1 a status clock 0 token 0 running 0 next valid 2\ncounts deaf 0 refused 0 full 0 dropped 0\nsession 0 received 1 missing 0 complete at 14 same\ndevice 2 b version clock 0 token 0 running 0 next none\ncounts deaf 0 refused 0 full 0 dropped 1\nend\n";
-
-/// Both campaigns have the same image. A file that is named `none` is empty.
+/// Both campaigns have the same image.
 #[test]
-fn two_campaigns_are_played(rt: HostRuntime) -> Result<(), Fail> {
+fn each_call_of_two_campaigns_may_fail(rt: HostRuntime) -> Result<(), Fail> {
     let words = ["fuota", "campaigns", "image", "image", "script"];
-    let first = ["fuota", "campaigns", "none", "image", "script"];
-    let second = ["fuota", "campaigns", "image", "none", "script"];
-    let refused = Status::ScriptRefused;
-    let no_image = Status::ImageRefused;
-    let rows = [
-        (&words, OF_PAIR, Status::Done, PAIR_REPORT),
-        (&words, "ask 1\ndown b1 1\n", refused, "line 7 unsent\n"),
-        (&words, "up 1\nend\n", refused, "line 6 syntax\n"),
-        (&words, "", refused, "line 6 syntax\n"),
-        (&first, OF_PAIR, no_image, "image refused\n"),
-        (&second, OF_PAIR, no_image, "image refused\n"),
-    ];
-    for (words, events, status, text) in &rows {
-        let outside = Outside {
-            start: PAIR,
-            events,
-            ..SOUND
-        };
-        ends(&rt, rt.alloc(), *words, &outside, *status, text)?;
-    }
     for call in 1..=9 {
         let outside = Outside {
             read_fails: call,
@@ -676,24 +280,6 @@ fn two_campaigns_are_played(rt: HostRuntime) -> Result<(), Fail> {
         )?;
     }
     Ok(())
-}
-
-#[test]
-fn an_image_of_262_145_bytes_is_too_long(rt: HostRuntime) -> Result<(), Fail> {
-    let mut image = Vec::new(rt.alloc());
-    image.resize(262_145, 0)?;
-    let outside = Outside {
-        image: &image,
-        ..SOUND
-    };
-    ends(
-        &rt,
-        rt.alloc(),
-        &WORDS,
-        &outside,
-        Status::TooLong(262_145),
-        "too long 262145\n",
-    )
 }
 
 #[test]
