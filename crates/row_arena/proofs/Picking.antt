@@ -1,6 +1,6 @@
 -- The sum of after_pieces pieces, one after the other.
-use Rattle.std.proofs.Common.{◌≡◌, ℕ, ◌+◌, ◌*◌, ◌<◌, ◌≤◌, List, [], ◌∷◌, ◌++◌, length, take, drop, get_or, bit_xor, refl, sym, ap, ap₂, ◌∙◌, ◌-◌, ◌⊎◌, inl, inr, arith, length-take-le, length-drop}
-use Rattle.std.proofs.lemmas.List.{take_more, take_all, get_or-take, get_or-drop}
+use Rattle.std.proofs.Common.{◌≡◌, ℕ, ◌+◌, ◌*◌, ◌<◌, ◌≤◌, List, [], ◌∷◌, ◌++◌, length, take, get_or, bit_xor, refl, sym, ap, ap₂, ◌∙◌, ◌-◌, ◌⊎◌, inl, inr, arith}
+use Rattle.std.proofs.lemmas.List.{take_more, take_all}
 use Rattle.std.proofs.lemmas.Simd.{length-zip2, get_or-zip2, length-chunk, get_or-chunk, get_or-put_chunk_below, get_or-put_chunk_at, get_or-put_chunk_above}
 use lib.Lanes.{zip2, chunk, put_chunk}
 use Rattle.row_arena.specs.Sums.{after_pieces}
@@ -63,29 +63,26 @@ stripe_beside wide at sum rest long i away = elim away [
   | inr high ↦ get_or-put_chunk_above at rest sum i 0 (omega arith)
 ]
 
--- the sum of the first n picks, all bytes of it
-pub record Summed (size n : ℕ) (area part picks sum : List ℕ) : Type 0 where
-  pub sized : length sum ≡ size
+-- the sum of the first n picks in the first of so many lanes
+pub record Summed (wide size n : ℕ) (area part picks sum : List ℕ) : Type 0 where
+  pub sized : length sum ≡ wide
   pub each : (i : ℕ) → i < size → get_or sum i 0 ≡ after_pieces size area i (get_or part i 0) (take n picks)
 
-pub summed_none : (size : ℕ) (area part picks sum : List ℕ) → length part ≡ size → sum ≡ part → Summed size 0 area part picks sum
-summed_none size area part picks sum long is = record {
-  sized = ap length is ∙ long;
-  each = λ i lt. ap (λ l. get_or l i 0) is ∙ sym (picked_none size area i (get_or part i 0) picks);
+pub summed_none : (wide size : ℕ) (area part picks sum : List ℕ) → length sum ≡ wide → ((i : ℕ) → i < size → get_or sum i 0 ≡ get_or part i 0)
+    → Summed wide size 0 area part picks sum
+summed_none wide size area part picks sum long same = record {
+  sized = long;
+  each = λ i lt. same i lt ∙ sym (picked_none size area i (get_or part i 0) picks);
 }
 
-pub summed_more : (size n m k at len : ℕ) (area part picks sum next : List ℕ) → m ≡ n + 1 → k ≡ get_or picks n 0 → at ≡ k * size → len ≡ size → n < length picks → k * size + size ≤ length area
-    → next ≡ zip2 bit_xor sum (take len (drop at area)) → Summed size n area part picks sum → Summed size m area part picks next
-summed_more size n m k at len area part picks sum next is_m is place all lt room added h =
-    let piece : List ℕ = take len (drop at area) in
-    let long : length piece ≡ size = length-take-le len (drop at area) (omega (arith, length-drop at area)) ∙ all in
-    record {
-      sized = ap length added ∙ length-zip2 bit_xor sum piece (h.sized ∙ sym long) ∙ h.sized;
-      each = λ i below.
-          let spot : at + i ≡ k * size + i = omega arith in
-          ap (λ l. get_or l i 0) added
-          ∙ get_or-zip2 bit_xor sum piece i 0 0 0 (omega (arith, h.sized)) (omega arith)
-          ∙ ap₂ bit_xor (h.each i below) (get_or-take len (drop at area) i 0 (omega arith) ∙ get_or-drop at area i 0 ∙ ap (λ j. get_or area j 0) spot)
-          ∙ sym (after_pieces-more size area i (get_or part i 0) (take n picks) k)
-          ∙ ap (after_pieces size area i (get_or part i 0)) (ap (λ x. take n picks ++ x ∷ []) is ∙ sym (take_more picks n 0 lt) ∙ ap (λ t. take t picks) (sym is_m));
-    }
+pub summed_more : (wide size n m k : ℕ) (area part picks sum piece : List ℕ) → m ≡ n + 1 → k ≡ get_or picks n 0 → n < length picks → size ≤ wide → length piece ≡ wide
+    → ((i : ℕ) → i < size → get_or piece i 0 ≡ get_or area (k * size + i) 0) → Summed wide size n area part picks sum
+    → Summed wide size m area part picks (zip2 bit_xor sum piece)
+summed_more wide size n m k area part picks sum piece is_m is lt fits long same h = record {
+  sized = length-zip2 bit_xor sum piece (h.sized ∙ sym long) ∙ h.sized;
+  each = λ i below.
+      get_or-zip2 bit_xor sum piece i 0 0 0 (omega (arith, h.sized)) (omega arith)
+      ∙ ap₂ bit_xor (h.each i below) (same i below)
+      ∙ sym (after_pieces-more size area i (get_or part i 0) (take n picks) k)
+      ∙ ap (after_pieces size area i (get_or part i 0)) (ap (λ x. take n picks ++ x ∷ []) is ∙ sym (take_more picks n 0 lt) ∙ ap (λ t. take t picks) (sym is_m));
+}

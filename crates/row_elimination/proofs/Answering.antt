@@ -339,7 +339,7 @@ completes g now new n part sized held t reduced full places room parts =
 -- ---- as the code goes
 
 same_room : (a b c : Grid) → SameRoom a b → SameRoom b c → SameRoom a c
-same_room a b c h k = record { shape = k.shape ∙ h.shape; area = k.area ∙ h.area; room = k.room ∙ h.room }
+same_room a b c h k = record { shape = k.shape ∙ h.shape; room = k.room ∙ h.room }
 
 -- what decides after a fragment was taken in
 pub decided : (answer : Fed) (g now new : Grid) (n : ℕ) (part : List ℕ) → length part ≡ g.shape.frag_size → IsReduced g.shape.nb_frag g.shape.frag_size g.places → 1 ≤ g.shape.frag_size
@@ -376,7 +376,6 @@ reduced_in g now ps room e h =
 pub room_grown : (g now : Grid) (ps : List Place) → now ≡ record g { places = ps } → SameRoom g now
 room_grown g now ps e = record {
   shape = ap (λ (x : Grid). x.shape) e;
-  area = ap (λ (x : Grid). length x.area) e;
   room = ap (λ (x : Grid). x.room) e;
 }
 

@@ -1,6 +1,6 @@
 -- The stretches of a list after one of them was written.
-use Rattle.std.proofs.Common.{◌≡◌, ◌≢◌, ℕ, suc, ◌+◌, ◌*◌, ◌<◌, ◌≤◌, List, ◌++◌, length, take, drop, get_or, sym, ap, ◌∙◌, inl, inr, arith, suc-mul, length-take-le}
-use Rattle.std.proofs.lemmas.List.{take_at, drop_at, drop-take, get_or-take, get_or-drop}
+use Rattle.std.proofs.Common.{◌≡◌, ◌≢◌, ℕ, zero, suc, ◌+◌, ◌*◌, ◌<◌, ◌≤◌, List, ◌++◌, length, take, drop, get_or, sym, ap, ◌∙◌, inl, inr, arith, suc-mul, length-take-le}
+use Rattle.std.proofs.lemmas.List.{take_at, drop_at, drop-take, take-append-le, drop-append-le, length-take, length-drop, get_or-take, get_or-drop}
 use Rattle.std.proofs.lemmas.Slice.{take-put_mid_below, drop-put_mid}
 use Rattle.std.proofs.lemmas.Nat.{mul-le}
 use Rattle.std.proofs.lemmas.Bool.{cases_lt}
@@ -40,3 +40,16 @@ put_others j k size n xs ys e f room ne = elim (cases_lt j k) [
       let le : k * size + size ≤ j * size = before k j size (omega arith) in
       ap (λ l. take size l) (drop-put_mid (k * size) n xs ys (j * size) (omega arith) (omega arith) (e ∙ sym f))
 ]
+
+-- a stretch of full length lies within
+pub chunk_within : (k size : ℕ) (area : List ℕ) → length (chunk k size area) ≡ size → k * size + size ≤ length area
+unfolding chunk
+chunk_within k zero area e = omega arith
+chunk_within k (suc size) area e = omega (arith, e, length-take (suc size) (drop (k * suc size) area), length-drop (k * suc size) area)
+
+-- and stays where the list is longer
+pub chunk_longer : (k size : ℕ) (area more : List ℕ) → length (chunk k size area) ≡ size → chunk k size (area ++ more) ≡ chunk k size area
+unfolding chunk
+chunk_longer k size area more e =
+    let room : k * size + size ≤ length area = chunk_within k size area e in
+    ap (λ l. take size l) (drop-append-le (k * size) area more (omega arith)) ∙ take-append-le size (drop (k * size) area) more (omega (arith, length-drop (k * size) area))

@@ -16,8 +16,9 @@ use Rattle.row_elimination.specs.HeldStorage.{chunk, place_in, places_in, part_i
 use Rattle.row_elimination.specs.HeldSteps.{IsNew, Knows, Tells}
 use Rattle.row_elimination.specs.HeldTable.{Grid, IsGrid, max_line_words}
 use Rattle.frag_model.specs.Limits.{max_pieces}
-use Rattle.row_elimination.proofs.Chunks.{before}
-use Rattle.row_elimination.proofs.Storing.{at_places, length-places, row_told, same_shape}
+use Rattle.row_elimination.proofs.Chunks.{chunk_within, chunk_longer}
+use Rattle.row_elimination.proofs.Reducing.{piece_at}
+use Rattle.row_elimination.proofs.Storing.{piece_told, at_places, length-places, row_told, same_shape}
 use Rattle.row_elimination.proofs.Packing.{read_there}
 use Rattle.row_elimination.proofs.Growing.{at_old, new_at, length-grown, grown_reduced}
 use Rattle.row_elimination.proofs.Lines.{none_in_first}
@@ -31,17 +32,16 @@ use Rattle.row_elimination.proofs.Counting.{one, one_true, one_false, count-cons
 -- the same storage with other places
 pub grid_next : (nb size rows count count' gained gained' : ℕ) (columns columns' : List Column) (spare spare' known known' area area' : List ℕ) (arena arena' : Arena) (ps : List Place)
     → IsGrid nb size rows count gained columns spare known area arena
-    → length columns' ≡ length columns → length spare' ≡ length spare → length known' ≡ length known → length area' ≡ length area → SameShape arena arena'
+    → length columns' ≡ length columns → length spare' ≡ length spare → length known' ≡ length known → SameShape arena arena'
     → Slots (take nb columns') spare' rows count' → places_in size area' arena' (take nb columns') ≡ ps → IsReduced nb size ps
     → Marks (line_in (take (words_for nb) known')) ps → count' ≡ rows_held ps → gained' ≡ gained_held ps
     → IsGrid nb size rows count' gained' columns' spare' known' area' arena'
-grid_next nb size rows count count' gained gained' columns columns' spare spare' known known' area area' arena arena' ps h c s k a shape slots is reduced marks rows_is gained_is = record {
+grid_next nb size rows count count' gained gained' columns columns' spare spare' known known' area area' arena arena' ps h c s k shape slots is reduced marks rows_is gained_is = record {
   most = h.most;
   few = h.few;
   columns_sized = omega (arith, c, h.columns_sized);
   spare_sized = omega (arith, s, h.spare_sized);
   known_sized = omega (arith, k, h.known_sized);
-  room_area = omega (arith, h.room_area);
   arena_cols = shape.cols ∙ h.arena_cols;
   arena_cell = shape.cell ∙ h.arena_cell;
   arena_rows = shape.rows ∙ h.arena_rows;
@@ -52,9 +52,11 @@ grid_next nb size rows count count' gained gained' columns columns' spare spare'
   gained_all = gained_is ∙ sym (ap gained_held is);
 }
 
+-- a piece that is kept lies within the area
 pub piece_room : (nb size rows count gained k : ℕ) (columns : List Column) (spare known area : List ℕ) (arena : Arena) → IsGrid nb size rows count gained columns spare known area arena
-    → k < nb → k * size + size ≤ length area
-piece_room nb size rows count gained k columns spare known area arena h lt = omega (arith, before k nb size lt, h.room_area)
+    → get_or (take nb columns) k Free ≡ Piece → k * size + size ≤ length area
+piece_room nb size rows count gained k columns spare known area arena h is =
+    chunk_within k size area (h.reduced.part k (piece_at size area k) (piece_told size area arena k (take nb columns) is)).sized
 
 pub stored : (nb size rows count gained : ℕ) (columns : List Column) (spare known area : List ℕ) (arena : Arena) → IsGrid nb size rows count gained columns spare known area arena
     → IsStored size arena (take nb columns)
@@ -136,7 +138,7 @@ pushed nb size rows count gained cols len slot p columns columns' spare known ar
     let places_at : P nb size = subst (λ m. P m size) cn (subst (λ n. P cols n) sz places) in
     let slots : Slots (take nb columns') spare rows (count + 1) =
     subst (λ os. Slots os spare rows (count + 1)) (sym (cols_at ∙ ap (λ s. set (take nb columns) p (Row s)) is)) (slots_pushed (take nb columns) spare rows count p inside more h.slots) in
-    grid_next nb size rows count (count + 1) gained (gained + 1) columns columns' spare spare known known area area arena arena' next h c refl refl refl shape slots places_at
+    grid_next nb size rows count (count + 1) gained (gained + 1) columns columns' spare spare known known area area arena arena' next h c refl refl shape slots places_at
     (grown_reduced nb size ps p l part new)
     (marks_grown (line_in (take (words_for nb) known)) p l part ps plt was h.marks)
     (omega (arith, rows_grown p l part ps plt was, h.counted))
@@ -172,12 +174,12 @@ pub learned : (nb size rows count gained cols len k p : ℕ) (columns columns' :
     → IsNew nb size (places_in size area arena (take nb columns)) p l q
     → Knows (record { nb_frag = nb; frag_size = size; rows = rows }) (grown p l q (places_in size area arena (take nb columns))) k part
     → is_piece (get_or (places_in size area arena (take nb columns)) k free) ≡ false
-    → length columns' ≡ length columns → length known' ≡ length known → length area' ≡ length area → SameShape arena arena'
+    → length columns' ≡ length columns → length known' ≡ length known → SameShape arena arena'
     → (Slots (take cols columns) spare rows count → Slots (take cols columns') spare rows count)
     → places_in len area' arena' (take cols columns') ≡ set (grown p l q (places_in len area arena (take cols columns))) k (piece part)
     → line_in (take (words_for nb) known') ≡ bit_xor (line_in (take (words_for nb) known)) (2 ^ k)
     → IsGrid nb size rows count (gained + 1) columns' spare known' area' arena'
-learned nb size rows count gained cols len k p columns columns' spare known known' area area' arena arena' l q part h cn sz new known_is fresh c kn a shape slots_kept places marked =
+learned nb size rows count gained cols len k p columns columns' spare known known' area area' arena arena' l q part h cn sz new known_is fresh c kn shape slots_kept places marked =
     let file : Shape = record { nb_frag = nb; frag_size = size; rows = rows } in
     let ps : List Place = places_in size area arena (take nb columns) in
     let next : List Place = grown p l q ps in
@@ -191,7 +193,7 @@ learned nb size rows count gained cols len k p columns columns' spare known know
     let more : rows_held next ≡ rows_held ps + 1 = rows_grown p l q ps plt was in
     let less : rows_held (set next k (piece part)) + one (is_row (get_or next k free)) ≡ rows_held next = settled_rows file next k part known_is in
     let row_there : one (is_row (get_or next k free)) ≡ 1 = learned_row file ps k p l q part new known_is fresh in
-    grid_next nb size rows count count gained (gained + 1) columns columns' spare spare known known' area area' arena arena' (set next k (piece part)) h c refl kn a shape slots places_at
+    grid_next nb size rows count count gained (gained + 1) columns columns' spare spare known known' area area' arena arena' (set next k (piece part)) h c refl kn shape slots places_at
     (settled_reduced file next k part known_is)
     (marks_set (line_in (take (words_for nb) known)) (line_in (take (words_for nb) known')) k part next klt (fresh_grown ps k p l q plt was fresh) marked
     (marks_grown (line_in (take (words_for nb) known)) p l q ps plt was h.marks))
@@ -214,13 +216,13 @@ settled_count shape area arena os k slot part known is =
 pub settled : (nb size rows count less gained k slot : ℕ) (columns columns' : List Column) (spare known known' area area' : List ℕ) (arena : Arena) (part : List ℕ)
     → IsGrid nb size rows count gained columns spare known area arena
     → Knows (record { nb_frag = nb; frag_size = size; rows = rows }) (places_in size area arena (take nb columns)) k part
-    → get_or (take nb columns) k Free ≡ Row slot → count ≡ less + 1 → length columns' ≡ length columns → length known' ≡ length known → length area' ≡ length area
+    → get_or (take nb columns) k Free ≡ Row slot → count ≡ less + 1 → length columns' ≡ length columns → length known' ≡ length known
     → take nb columns' ≡ set (take nb columns) k Piece
     → places_in size area' arena (take nb columns') ≡ set (places_in size area arena (take nb columns)) k (piece part)
     → line_in (take (words_for nb) known') ≡ bit_xor (line_in (take (words_for nb) known)) (2 ^ k)
     → IsGrid nb size rows less gained columns' (set spare less slot) known' area' arena
 unfolding place_in is_piece
-settled nb size rows count less gained k slot columns columns' spare known known' area area' arena part h known_is is e c kn a os_are places marked =
+settled nb size rows count less gained k slot columns columns' spare known known' area area' arena part h known_is is e c kn os_are places marked =
     let shape : Shape = record { nb_frag = nb; frag_size = size; rows = rows } in
     let ps : List Place = places_in size area arena (take nb columns) in
     let os_sized : length (take nb columns) ≡ nb = length-take-le nb columns (omega (arith, h.most, h.columns_sized)) in
@@ -230,7 +232,7 @@ settled nb size rows count less gained k slot columns columns' spare known known
     let slots : Slots (take nb columns') (set spare less slot) rows less =
     subst (λ os. Slots os (set spare less slot) rows less) (sym os_are) (slots_freed (take nb columns) spare rows count less k slot klt is e slt h.slots) in
     let fresh : is_piece (get_or ps k free) ≡ false = ap is_piece (at_places size area arena k (take nb columns) ∙ ap (place_in size area arena k) is) in
-    grid_next nb size rows count less gained gained columns columns' spare (set spare less slot) known known' area area' arena arena (set ps k (piece part)) h c (length-set spare less slot) kn a
+    grid_next nb size rows count less gained gained columns columns' spare (set spare less slot) known known' area area' arena arena (set ps k (piece part)) h c (length-set spare less slot) kn
     (same_shape arena) slots places
     (settled_reduced shape ps k part known_is)
     (marks_set (line_in (take (words_for nb) known)) (line_in (take (words_for nb) known')) k part ps plt fresh marked h.marks)
@@ -292,12 +294,12 @@ put_reduced shape k ps part reduced lt sized fresh none =
 pub put_in : (nb size rows count gained k : ℕ) (columns columns' : List Column) (spare known known' area area' : List ℕ) (arena : Arena) (part : List ℕ)
     → IsGrid nb size rows count gained columns spare known area arena → k < nb → IsPiece size part
     → get_or (places_in size area arena (take nb columns)) k free ≡ free → rows_held (places_in size area arena (take nb columns)) ≡ 0
-    → length columns' ≡ length columns → length known' ≡ length known → length area' ≡ length area → take nb columns' ≡ set (take nb columns) k Piece
+    → length columns' ≡ length columns → length known' ≡ length known → take nb columns' ≡ set (take nb columns) k Piece
     → places_in size area' arena (take nb columns') ≡ set (places_in size area arena (take nb columns)) k (piece part)
     → line_in (take (words_for nb) known') ≡ bit_xor (line_in (take (words_for nb) known)) (2 ^ k)
     → IsGrid nb size rows count (gained + 1) columns' spare known' area' arena
 unfolding gained_held is_piece is_row
-put_in nb size rows count gained k columns columns' spare known known' area area' arena part h lt sized fresh none c kn a os_are places marked =
+put_in nb size rows count gained k columns columns' spare known known' area area' arena part h lt sized fresh none c kn os_are places marked =
     let ps : List Place = places_in size area arena (take nb columns) in
     let shape : Shape = record { nb_frag = nb; frag_size = size; rows = rows } in
     let klt : k < length (take nb columns) = omega (arith, length-take-le nb columns (omega (arith, h.most, h.columns_sized))) in
@@ -307,7 +309,7 @@ put_in nb size rows count gained k columns columns' spare known known' area area
     let no_row : one (is_row (get_or ps k free)) ≡ 0 = one_false (is_row (get_or ps k free)) (ap is_row fresh) in
     let row_less : one (is_row (piece part)) ≡ 0 = one_false (is_row (piece part)) refl in
     let piece_more : one (is_piece (piece part)) ≡ 1 = one_true (is_piece (piece part)) refl in
-    grid_next nb size rows count count gained (gained + 1) columns columns' spare spare known known' area area' arena arena (set ps k (piece part)) h c refl kn a (same_shape arena) slots places
+    grid_next nb size rows count count gained (gained + 1) columns columns' spare spare known known' area area' arena arena (set ps k (piece part)) h c refl kn (same_shape arena) slots places
     (put_reduced shape k ps part h.reduced lt sized fresh none)
     (marks_set (line_in (take (words_for nb) known)) (line_in (take (words_for nb) known')) k part ps plt (ap is_piece fresh) marked h.marks)
     (omega (arith, h.counted, rows_set ps k (piece part) plt, no_row, row_less))
@@ -363,11 +365,32 @@ finished_places size area area' arena os put =
     at_places size area' arena c os ∙ same_place size area area' arena c (get_or os c Free) (put c) ∙ sym (at_places size area arena c os))
 
 pub finished : (nb size rows count gained : ℕ) (columns : List Column) (spare known area area' : List ℕ) (arena : Arena) → IsGrid nb size rows count gained columns spare known area arena
-    → length area' ≡ length area → ((c : ℕ) → chunk c size area' ≡ part_in size area arena c (get_or (take nb columns) c Free))
+    → ((c : ℕ) → chunk c size area' ≡ part_in size area arena c (get_or (take nb columns) c Free))
     → IsGrid nb size rows count gained columns spare known area' arena
-finished nb size rows count gained columns spare known area area' arena h a put =
-    grid_next nb size rows count count gained gained columns columns spare spare known known area area' arena arena (places_in size area arena (take nb columns)) h refl refl refl a (same_shape arena)
+finished nb size rows count gained columns spare known area area' arena h put =
+    grid_next nb size rows count count gained gained columns columns spare spare known known area area' arena arena (places_in size area arena (take nb columns)) h refl refl refl (same_shape arena)
     h.slots (finished_places size area area' arena (take nb columns) put) h.reduced h.marks h.counted h.gained_all
+
+-- ---- an area that reaches further
+
+pub longer_places : (nb size : ℕ) (area more : List ℕ) (arena : Arena) (os : List Column) → IsReduced nb size (places_in size area arena os)
+    → places_in size (area ++ more) arena os ≡ places_in size area arena os
+unfolding place_in
+longer_places nb size area more arena os reduced =
+    ext_get_or free (places_in size (area ++ more) arena os) (places_in size area arena os)
+    (length-places size (area ++ more) arena os ∙ sym (length-places size area arena os)) (λ c lt.
+    at_places size (area ++ more) arena c os ∙ by_column c (get_or os c Free) refl ∙ sym (at_places size area arena c os))
+  where
+    by_column : (c : ℕ) (o : Column) → get_or os c Free ≡ o → place_in size (area ++ more) arena c o ≡ place_in size area arena c o
+    by_column c Free is = refl
+    by_column c Piece is = ap piece (chunk_longer c size area more (reduced.part c (piece_at size area c) (piece_told size area arena c os is)).sized)
+    by_column c (Row slot) is = refl
+
+pub longer : (nb size rows count gained : ℕ) (columns : List Column) (spare known area more : List ℕ) (arena : Arena) → IsGrid nb size rows count gained columns spare known area arena
+    → IsGrid nb size rows count gained columns spare known (area ++ more) arena
+longer nb size rows count gained columns spare known area more arena h =
+    grid_next nb size rows count count gained gained columns columns spare spare known known area (area ++ more) arena arena (places_in size area arena (take nb columns)) h refl refl refl (same_shape arena)
+    h.slots (longer_places nb size area more arena (take nb columns) h.reduced) h.reduced h.marks h.counted h.gained_all
 
 -- ---- a table with nothing in it
 
@@ -434,10 +457,10 @@ begun_places nb size columns area arena is =
     none_placed nb size area arena (take nb columns) (length-take-le nb columns le) (none_there nb columns le (all_free nb columns is))
 
 pub begun : (nb size rows : ℕ) (columns : List Column) (spare known area : List ℕ) (arena : Arena) → nb ≤ max_pieces → rows ≤ nb → columns ≡ replicate nb Free → rows ≤ length spare → words_for nb ≤ length known
-    → nb * size ≤ length area → arena ≡ record { cols = nb; cell = size; rows = replicate rows (zero_row size) }
+    → arena ≡ record { cols = nb; cell = size; rows = replicate rows (zero_row size) }
     → ((i : ℕ) → i < rows → get_or spare i 0 ≡ i) → line_in known ≡ 0
     → IsGrid nb size rows 0 0 columns spare known area arena
-begun nb size rows columns spare known area arena most few c s k a shaped each unmarked =
+begun nb size rows columns spare known area arena most few c s k shaped each unmarked =
     let os : List Column = take nb columns in
     let le : nb ≤ length columns = all_there nb columns c in
     let none : (i : ℕ) → get_or columns i Free ≡ Free = all_free nb columns c in
@@ -448,7 +471,6 @@ begun nb size rows columns spare known area arena most few c s k a shaped each u
       columns_sized = le;
       spare_sized = s;
       known_sized = k;
-      room_area = a;
       arena_cols = ap (λ (x : Arena). x.cols) shaped;
       arena_cell = ap (λ (x : Arena). x.cell) shaped;
       arena_rows = ap (λ (x : Arena). length x.rows) shaped ∙ length-replicate {A = Line} rows (zero_row size);
@@ -473,7 +495,6 @@ no_file columns spare known area arena shaped =
       columns_sized = omega arith;
       spare_sized = omega arith;
       known_sized = omega arith;
-      room_area = omega arith;
       arena_cols = ap (λ (x : Arena). x.cols) shaped;
       arena_cell = ap (λ (x : Arena). x.cell) shaped;
       arena_rows = ap (λ (x : Arena). length x.rows) shaped;

@@ -88,7 +88,7 @@ pub again_is : (g : Grid) (n : ℕ) (part held : List ℕ) → IsReady g n part 
 again_is g n part held ready le before same =
     (known_piece_is g g n part (xor_bytes part held) 0 refl ready
     (λ i. get_or-xor_bytes part held i ∙ ap (λ (x : List ℕ). bit_xor (get_or part i 0) (get_or x i 0)) same ∙ xor_self (get_or part i 0))
-    le (record { shape = refl; area = refl; room = refl })
+    le (record { shape = refl; room = refl })
     (sym (ap (λ p. set g.places (n - 1) p) (ap piece (sym same) ∙ sym before) ∙ set-get_or g.places (n - 1) free))).0
 
 -- two lists of one length that are not the same differ somewhere

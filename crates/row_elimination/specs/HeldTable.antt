@@ -28,7 +28,6 @@ pub record IsGrid (nb_frag size rows count gained : ℕ) (columns : List Column)
   pub columns_sized : nb_frag ≤ length columns
   pub spare_sized : rows ≤ length spare
   pub known_sized : words_for nb_frag ≤ length known
-  pub room_area : nb_frag * size ≤ length area
   pub arena_cols : arena.cols ≡ nb_frag
   pub arena_cell : arena.cell ≡ size
   pub arena_rows : length arena.rows ≡ rows
@@ -54,10 +53,10 @@ pub record IsTable (words bytes nb_frag size rows count gained most room columns
   pub memory : HaveMemory most room columns_cap spare_cap known_cap area_cap
   pub within : nb_frag ≤ most
   pub area_fits : length area ≤ room
+  pub pieces_fit : nb_frag * size ≤ room
   pub grid : IsGrid nb_frag size rows count gained columns spare known area arena
 
 -- the storage itself stays
 pub record SameRoom (old new : Grid) : Type 0 where
   pub shape : new.shape ≡ old.shape
-  pub area : length new.area ≡ length old.area
   pub room : new.room ≡ old.room

@@ -35,7 +35,6 @@ pub fn reduce<const W: usize, const B: usize, M: Ledger>(
     requires stored { IsStored (length part.now) arena.now columns.now }
     requires marks { Marks (line_in known.now)
         (places_in (length part.now) area.now arena.now columns.now) }
-    requires room { length columns.now * length part.now ≤ length area.now }
     requires reduced { IsReduced (length columns.now) (length part.now)
         (places_in (length part.now) area.now arena.now columns.now) }
     requires piece { IsPiece (length part.now) part.now }

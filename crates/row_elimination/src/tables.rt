@@ -1,6 +1,6 @@
 //! The table of all that is held: pieces in their area, and the rows in slots.
 
-ghost use Rattle.std.specs.Prelude.{◌≡◌, ◌≢◌, ℕ, ◌+◌, ◌-◌, ◌*◌, ◌<◌, ◌≤◌, ◌==◌, length, get_or, set, replicate, take, true, false, IfOk, bit_xor, ◌^◌, MatchOption, nat_le, vec_capacity};
+ghost use Rattle.std.specs.Prelude.{◌≡◌, ◌≢◌, ℕ, ◌+◌, ◌-◌, ◌*◌, ◌<◌, ◌≤◌, ◌==◌, ◌++◌, length, get_or, set, replicate, take, true, false, IfOk, bit_xor, ◌^◌, MatchOption, nat_le, vec_capacity};
 ghost use Rattle.frag_model.specs.Fragments.{Equation, IsPiece, columns_in};
 ghost use Rattle.row_arena.specs.Limits.{max_bytes, max_words};
 ghost use Rattle.row_arena.specs.Rows.{has_room, line_in, words_for};
@@ -41,7 +41,7 @@ pub struct Table<const W: usize, const B: usize> {
     spare: Vec<u16>,
     /// The line of the pieces that came uncoded, in as many words as any file needed so far.
     known: Vec<u64>,
-    /// The bytes of the pieces, as many as any file needed so far; its memory is for `room` bytes.
+    /// The bytes of the pieces, as far as any file's pieces reached so far; its memory is for `room` bytes.
     area: Vec<u8>,
     room: u32,
     most: u16,
@@ -143,13 +143,14 @@ impl<const W: usize, const B: usize> Table<W, B> {
         self.count == self.rows
     }
 
-    /// The bytes of the file's pieces in the area.
+    /// The bytes of the file's pieces in the area, as far as it reaches.
     pub fn content(&self) -> &[u8]
         ensures bytes { result.now
             ≡ take (self.now.shape.nb_frag * self.now.shape.frag_size) self.now.area }
         ensures within { length result.now ≤ self.now.room.area }
     {
-        &self.area[..self.nb_frag as usize * self.frag_size as usize]
+        let size = self.nb_frag as usize * self.frag_size as usize;
+        &self.area[..size.min(self.area.len())]
     }
 
     /// The piece of column `k`, where it came uncoded.
@@ -252,6 +253,21 @@ impl<const W: usize, const B: usize> Table<W, B> {
         ensures places { self.new.places ≡ set self.old.places k (known piece.now) }
         ensures room { SameRoom self.old self.new }
     {
+        self.reach_piece(k);
+        self.put_reached(k, piece);
+    }
+
+    /// The same, where the area reaches so far.
+    fn put_reached(&mut self, k: usize, piece: &[u8])
+        requires inside { k < self.old.shape.nb_frag }
+        requires reached { k * self.old.shape.frag_size + self.old.shape.frag_size
+            ≤ length self.old.area }
+        requires piece { IsPiece self.old.shape.frag_size piece.now }
+        requires fresh { get_or self.old.places k free ≡ free }
+        requires none { rows_held self.old.places ≡ 0 }
+        ensures places { self.new.places ≡ set self.old.places k (known piece.now) }
+        ensures room { SameRoom self.old self.new }
+    {
         add_piece(
             &mut self.columns,
             self.nb_frag as usize,
@@ -286,6 +302,34 @@ impl<const W: usize, const B: usize> Table<W, B> {
         ensures room { SameRoom self.old self.new }
         ensures few { sums.new ≤ sums.old + self.old.shape.rows }
     {
+        self.reach_piece(k);
+        self.learn_reached(k, piece, p, line, part, sums);
+    }
+
+    /// The same, where the area reaches so far.
+    fn learn_reached<M: Ledger>(
+        &mut self,
+        k: usize,
+        piece: &[u8],
+        p: u16,
+        line: &[u64],
+        part: &[u8],
+        sums: &mut Steps<M>,
+    )
+        requires reached { k * self.old.shape.frag_size + self.old.shape.frag_size
+            ≤ length self.old.area }
+        requires words { length line.now ≡ words_for self.old.shape.nb_frag }
+        requires sized { length part.now ≡ self.old.shape.frag_size }
+        requires new { IsNew self.old.shape.nb_frag self.old.shape.frag_size self.old.places p
+            (line_in line.now) part.now }
+        requires known { Knows self.old.shape
+            (grown p (line_in line.now) part.now self.old.places) k piece.now }
+        requires fresh { is_piece (get_or self.old.places k free) ≡ false }
+        ensures places { self.new.places
+            ≡ set (grown p (line_in line.now) part.now self.old.places) k (known piece.now) }
+        ensures room { SameRoom self.old self.new }
+        ensures few { sums.new ≤ sums.old + self.old.shape.rows }
+    {
         add_piece_and_row(
             &mut self.columns,
             &mut self.area,
@@ -303,6 +347,18 @@ impl<const W: usize, const B: usize> Table<W, B> {
 
     /// Takes in a piece that the equations tell already.
     pub fn settle(&mut self, k: usize, piece: &[u8])
+        requires known { Knows self.old.shape self.old.places k piece.now }
+        ensures places { self.new.places ≡ set self.old.places k (known piece.now) }
+        ensures room { SameRoom self.old self.new }
+    {
+        self.reach_piece(k);
+        self.settle_reached(k, piece);
+    }
+
+    /// The same, where the area reaches so far.
+    fn settle_reached(&mut self, k: usize, piece: &[u8])
+        requires reached { k * self.old.shape.frag_size + self.old.shape.frag_size
+            ≤ length self.old.area }
         requires known { Knows self.old.shape self.old.places k piece.now }
         ensures places { self.new.places ≡ set self.old.places k (known piece.now) }
         ensures room { SameRoom self.old self.new }
@@ -328,8 +384,43 @@ impl<const W: usize, const B: usize> Table<W, B> {
             → chunk c self.old.shape.frag_size self.new.area ≡ e.part }
         ensures room { SameRoom self.old self.new }
     {
+        self.reach(self.nb_frag as usize * self.frag_size as usize);
+        self.finish_reached();
+    }
+
+    /// The same, where the area reaches to the last piece.
+    fn finish_reached(&mut self)
+        requires reached { self.old.shape.nb_frag * self.old.shape.frag_size
+            ≤ length self.old.area }
+        ensures places { self.new.places ≡ self.old.places }
+        ensures parts { (c : ℕ) (e : Equation) → Tells self.old.places c e
+            → chunk c self.old.shape.frag_size self.new.area ≡ e.part }
+        ensures room { SameRoom self.old self.new }
+    {
         let columns = &self.columns[..self.nb_frag as usize];
         put_parts(columns, &mut self.area, &self.arena);
+    }
+
+    /// The area reaches to the end of piece `k` from now on.
+    fn reach_piece(&mut self, k: usize)
+        requires inside { k < self.old.shape.nb_frag }
+        ensures places { self.new.places ≡ self.old.places }
+        ensures room { SameRoom self.old self.new }
+        ensures reached { k * self.old.shape.frag_size + self.old.shape.frag_size
+            ≤ length self.new.area }
+    {
+        let size = self.frag_size as usize;
+        self.reach(k * size + size);
+    }
+
+    /// The area has so many bytes of the pieces, or more, from now on.
+    fn reach(&mut self, n: usize)
+        requires inside { n ≤ self.old.shape.nb_frag * self.old.shape.frag_size }
+        ensures places { self.new.places ≡ self.old.places }
+        ensures room { SameRoom self.old self.new }
+        ensures reached { n ≤ length self.new.area }
+    {
+        widen(&mut self.area, n, 0);
     }
 
     /// Holds nothing any more, and takes fragments of another file.
@@ -343,7 +434,6 @@ impl<const W: usize, const B: usize> Table<W, B> {
         ensures places { self.new.places ≡ replicate nb_frag free }
         ensures room { self.new.room ≡ self.old.room }
     {
-        widen(&mut self.area, nb_frag as usize * frag_size as usize, 0);
         free_all(&mut self.columns, nb_frag as usize);
         spare_all(&mut self.spare, rows);
         forget(&mut self.known, words_for(nb_frag));
@@ -360,7 +450,8 @@ impl<const W: usize, const B: usize> Table<W, B> {
 pub fn widen<T: Copy>(items: &mut Vec<T>, n: usize, new: T)
     requires { n ≤ vec_capacity items.old }
     ensures enough { n ≤ length items.new.items }
-    ensures most { (m : ℕ) → n ≤ m → length items.old.items ≤ m → length items.new.items ≤ m }
+    ensures value { items.new.items
+        ≡ items.old.items ++ replicate (n - length items.old.items) new }
     ensures capacity { vec_capacity items.old ≤ vec_capacity items.new }
 {
     if items.len() < n && items.resize(n, new).is_err() {

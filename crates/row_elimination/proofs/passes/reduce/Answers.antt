@@ -9,7 +9,7 @@ use Rattle.row_elimination.proofs.passes.reduce.Goals.{After-sum_counted, After-
 pub sum_counted-requires-clause-picks : goal.sum_counted-requires-clause-picks
 sum_counted-requires-clause-picks g c = λ n lt.
     known_room (length c.args.part.now) c.args.area.now c.args.arena.now c.args.columns.now (line_in c.args.known.now) n c.pick-count.result c.pick-count.new.picks
-    c.requires.marks c.pick-count.ensures.known lt c.requires.room
+    c.requires.marks c.pick-count.ensures.known lt c.requires.reduced
 
 pub take_rows-requires : goal.take_rows-requires
 take_rows-requires g c =

@@ -3,11 +3,6 @@ use Rattle.row_elimination.specs.HeldTable.{Grid}
 use Rattle.row_elimination.proofs.Gridding.{begun, begun_places, ok_holds, more_words}
 use Rattle.row_elimination.proofs.tables.Table.begin.Goals as goal
 
-pub widen-requires : goal.widen-requires
-widen-requires g c =
-    let area : c.args.nb_frag * c.args.frag_size ≤ c.self.inside.room = subst (λ (x : Grid). c.args.nb_frag * c.args.frag_size ≤ x.room.area) (sym c.self.view_is) c.requires.area in
-    omega (arith, area, c.self.invariant.memory.area_held)
-
 pub free_all-requires : goal.free_all-requires
 free_all-requires g c =
     let most : c.args.nb_frag ≤ c.self.inside.most = subst (λ (x : Grid). c.args.nb_frag ≤ x.room.pieces) (sym c.self.view_is) c.requires.most in
@@ -37,16 +32,17 @@ invariant_of-self g c =
         columns_held = omega (arith, c.free_all.ensures.capacity, m.columns_held);
         spare_held = omega (arith, c.spare_all.ensures.capacity, m.spare_held);
         known_held = omega (arith, c.forget.ensures.capacity, m.known_held);
-        area_held = omega (arith, c.widen.ensures.capacity, m.area_held);
+        area_held = m.area_held;
       };
       within = most;
-      area_fits = c.widen.ensures.most s.room area c.self.invariant.area_fits;
+      area_fits = c.self.invariant.area_fits;
+      pieces_fit = area;
       grid = begun c.args.nb_frag c.args.frag_size c.args.rows c.free_all.new.columns.items c.spare_all.new.spare.items c.forget.new.known.items
-          c.widen.new.items.items c.shape.new.self (omega (arith, most, m.few)) c.requires.few c.free_all.ensures.free
+          s.area.items c.shape.new.self (omega (arith, most, m.few)) c.requires.few c.free_all.ensures.free
           c.spare_all.ensures.enough (omega (arith, c.words_for.ensures.value, c.forget.ensures.enough))
-          c.widen.ensures.enough (ok_holds c.shape.result (c.shape.ensures.room ∙ c.requires.room) c.shape.ensures.shaped)
+          (ok_holds c.shape.result (c.shape.ensures.room ∙ c.requires.room) c.shape.ensures.shaped)
           c.spare_all.ensures.each c.forget.ensures.none;
     }
 
 pub returns-clause-places : goal.returns-clause-places
-returns-clause-places g c = begun_places c.args.nb_frag c.args.frag_size c.free_all.new.columns.items c.widen.new.items.items c.shape.new.self c.free_all.ensures.free
+returns-clause-places g c = begun_places c.args.nb_frag c.args.frag_size c.free_all.new.columns.items c.self.inside.area.items c.shape.new.self c.free_all.ensures.free

@@ -15,6 +15,7 @@ invariant_of-result g c = record {
   };
   within = omega arith;
   area_fits = omega (arith, ap length c.in_ok-with_capacity-4.ensures.items);
+  pieces_fit = omega arith;
   grid = no_file c.in_ok-with_capacity.field-0.items c.in_ok-with_capacity-2.field-0.items c.in_ok-with_capacity-3.field-0.items
       c.in_ok-with_capacity-4.field-0.items c.in_ok-reserve.field-0 c.in_ok-reserve.ensures;
 }

@@ -90,6 +90,7 @@ invariant_of-self g c =
       memory = c.self.invariant.memory;
       within = c.self.invariant.within;
       area_fits = c.self.invariant.area_fits;
+      pieces_fit = c.self.invariant.pieces_fit;
       grid = pushed nb size s.rows s.count s.gained cols (length part) c.index-slot.result.now c.args.p columns c.add_row.new.columns s.spare.items s.known.items area arena c.add_row.new.arena l part
           i cn sz slot new more (c.add_row.auto.columns ∙ ap length c.deref_mut.ensures.value) c.add_row.ensures.shape os told;
     })

@@ -29,21 +29,18 @@ reduce-requires g c =
         (
           rw (c.deref.ensures.value, c.deref-2.ensures.value, c.deref-3.ensures.value, sz, ln) i.marks,
           (
-            rw (c.deref.ensures.value, c.deref-3.ensures.value, sz, long) i.room_area,
+            rw (c.deref.ensures.value, c.deref-3.ensures.value, sz, long) i.reduced,
             (
-              rw (c.deref.ensures.value, c.deref-3.ensures.value, sz, long) i.reduced,
+              record { sized = refl; bytes = c.requires.piece.bytes },
               (
-                record { sized = refl; bytes = c.requires.piece.bytes },
+                rw (c.deref.ensures.value, long) ln,
                 (
-                  rw (c.deref.ensures.value, long) ln,
+                  rw (c.deref-2.ensures.value) (sym (length-take-le (length c.args.line.now) s.known.items (omega (arith, ln, i.known_sized)))),
                   (
-                    rw (c.deref-2.ensures.value) (sym (length-take-le (length c.args.line.now) s.known.items (omega (arith, ln, i.known_sized)))),
+                    omega (arith, ln, few),
                     (
-                      omega (arith, ln, few),
-                      (
-                        rw (c.deref.ensures.value, long) within,
-                        (c.requires.picks, c.requires.sized),
-                      ),
+                      rw (c.deref.ensures.value, long) within,
+                      (c.requires.picks, c.requires.sized),
                     ),
                   ),
                 ),

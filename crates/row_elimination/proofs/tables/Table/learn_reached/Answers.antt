@@ -1,4 +1,4 @@
-use Rattle.std.proofs.Common.{◌≡◌, ◌^◌, ℕ, List, false, bit_xor, length, get_or, take, set, sym, ap, subst, ◌∙◌, arith}
+use Rattle.std.proofs.Common.{◌≡◌, ◌+◌, ◌*◌, ◌≤◌, ◌^◌, ℕ, List, false, bit_xor, length, get_or, take, set, sym, ap, subst, ◌∙◌, arith}
 use Rattle.frag_model.specs.Fragments.{Shape}
 use Rattle.row_arena.specs.Rows.{Arena, line_in, words_for}
 use Rattle.row_elimination.specs.declared.columns.Column.{Column}
@@ -7,8 +7,8 @@ use Rattle.row_elimination.specs.HeldStorage.{places_in, Slots}
 use Rattle.row_elimination.specs.HeldSteps.{IsNew, Knows}
 use Rattle.row_elimination.specs.HeldTable.{Grid}
 use Rattle.row_elimination.proofs.Counting.{gained-le}
-use Rattle.row_elimination.proofs.Gridding.{stored_at, file_row, piece_room, written, lead_free, learned_kind, learned}
-use Rattle.row_elimination.proofs.tables.Table.learn.Goals as goal
+use Rattle.row_elimination.proofs.Gridding.{stored_at, file_row, written, lead_free, learned_kind, learned}
+use Rattle.row_elimination.proofs.tables.Table.learn_reached.Goals as goal
 
 pub add_piece_and_row-requires : goal.add_piece_and_row-requires
 add_piece_and_row-requires g c =
@@ -38,7 +38,7 @@ add_piece_and_row-requires g c =
               known_is.piece.sized ∙ sym sz,
               (
                 rw (sz, c.deref_mut-2.ensures.value)
-                    (piece_room s.nb_frag s.frag_size s.rows s.count s.gained c.args.k s.columns.items s.spare.items s.known.items s.area.items s.arena i known_is.inside),
+                    (subst (λ (x : Grid). c.args.k * x.shape.frag_size + x.shape.frag_size ≤ length x.area) (sym c.self.view_is) c.requires.reached),
                 (
                   rw (c.deref_mut.ensures.value)
                       (stored_at s.nb_frag s.frag_size s.arena.cols (length part) s.rows s.count s.gained s.columns.items s.spare.items s.known.items s.area.items s.arena i i.arena_cols sz),
@@ -115,7 +115,8 @@ invariant_of-self g c =
       memory = c.self.invariant.memory;
       within = c.self.invariant.within;
       area_fits = omega (arith, c.add_piece_and_row.auto.area, ap length c.deref_mut-2.ensures.value, c.self.invariant.area_fits);
+      pieces_fit = c.self.invariant.pieces_fit;
       grid = learned nb size s.rows s.count s.gained cols (length part) c.args.k c.args.p columns now.columns s.spare.items s.known.items c.mark.new.known area now.area arena now.arena l part c.args.piece.now
           i cn sz new known_is fresh (c.add_piece_and_row.auto.columns ∙ ap length c.deref_mut.ensures.value) (c.mark.auto.known ∙ ap length c.deref_mut-3.ensures.value)
-          (c.add_piece_and_row.auto.area ∙ ap length c.deref_mut-2.ensures.value) c.add_piece_and_row.ensures.shape slots told marked;
+          c.add_piece_and_row.ensures.shape slots told marked;
     })

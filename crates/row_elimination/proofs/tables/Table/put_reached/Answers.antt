@@ -8,7 +8,7 @@ use Rattle.row_elimination.specs.HeldStorage.{places_in}
 use Rattle.row_elimination.specs.HeldTable.{Grid}
 use Rattle.row_elimination.proofs.Counting.{gained-le}
 use Rattle.row_elimination.proofs.Gridding.{written, put_in}
-use Rattle.row_elimination.proofs.tables.Table.put.Goals as goal
+use Rattle.row_elimination.proofs.tables.Table.put_reached.Goals as goal
 
 pub mark-requires-clause-words : goal.mark-requires-clause-words
 mark-requires-clause-words g c =
@@ -59,8 +59,9 @@ invariant_of-self g c =
       memory = c.self.invariant.memory;
       within = c.self.invariant.within;
       area_fits = omega (arith, c.add_piece.auto.area, ap length c.deref_mut-2.ensures.value, c.self.invariant.area_fits);
+      pieces_fit = c.self.invariant.pieces_fit;
       grid = put_in nb size c.self.inside.rows c.self.inside.count c.self.inside.gained c.args.k columns c.add_piece.new.columns c.self.inside.spare.items known c.mark.new.known
           area c.add_piece.new.area arena part c.self.invariant.grid lt sized fresh none
-          (c.add_piece.auto.columns ∙ ap length c.deref_mut.ensures.value) (c.mark.auto.known ∙ ap length c.deref_mut-3.ensures.value) (c.add_piece.auto.area ∙ ap length c.deref_mut-2.ensures.value)
+          (c.add_piece.auto.columns ∙ ap length c.deref_mut.ensures.value) (c.mark.auto.known ∙ ap length c.deref_mut-3.ensures.value)
           cols told_here marked;
     })

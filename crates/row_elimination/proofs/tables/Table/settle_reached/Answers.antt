@@ -8,7 +8,7 @@ use Rattle.row_elimination.specs.HeldStorage.{places_in}
 use Rattle.row_elimination.specs.HeldSteps.{Knows}
 use Rattle.row_elimination.specs.HeldTable.{Grid}
 use Rattle.row_elimination.proofs.Gridding.{written, column_read, settled_count, settled, settled_already}
-use Rattle.row_elimination.proofs.tables.Table.settle.Goals as goal
+use Rattle.row_elimination.proofs.tables.Table.settle_reached.Goals as goal
 
 pub overflow_sub-self : goal.overflow_sub-self
 overflow_sub-self g c =
@@ -64,9 +64,10 @@ invariant_of-self g c =
       memory = c.self.invariant.memory;
       within = c.self.invariant.within;
       area_fits = omega (arith, c.add_piece.auto.area, ap length c.deref_mut-in-Row.ensures.value, c.self.invariant.area_fits);
+      pieces_fit = c.self.invariant.pieces_fit;
       grid = settled nb size rows count (count - 1) c.self.inside.gained c.args.k c.in-Row.slot columns c.add_piece.new.columns spare marks c.mark.new.known area c.add_piece.new.area arena part
           c.self.invariant.grid known is (omega arith)
-          (c.add_piece.auto.columns ∙ ap length c.deref_mut.ensures.value) (c.mark.auto.known ∙ ap length c.deref_mut-in-Row-2.ensures.value) (c.add_piece.auto.area ∙ ap length c.deref_mut-in-Row.ensures.value)
+          (c.add_piece.auto.columns ∙ ap length c.deref_mut.ensures.value) (c.mark.auto.known ∙ ap length c.deref_mut-in-Row-2.ensures.value)
           cols told_here marked;
     })
 

@@ -4,7 +4,7 @@ use Rattle.row_elimination.specs.HeldStorage.{chunk}
 use Rattle.row_elimination.specs.HeldSteps.{Tells}
 use Rattle.row_elimination.specs.HeldTable.{Grid}
 use Rattle.row_elimination.proofs.Gridding.{written, wrote_parts, finished, finished_places, finished_parts}
-use Rattle.row_elimination.proofs.tables.Table.finish.Goals as goal
+use Rattle.row_elimination.proofs.tables.Table.finish_reached.Goals as goal
 
 pub invariant_of-self : goal.invariant_of-self
 invariant_of-self g c =
@@ -16,8 +16,9 @@ invariant_of-self g c =
       memory = c.self.invariant.memory;
       within = c.self.invariant.within;
       area_fits = omega (arith, c.put_parts.auto.area, ap length c.deref_mut.ensures.value, c.self.invariant.area_fits);
+      pieces_fit = c.self.invariant.pieces_fit;
       grid = finished s.nb_frag s.frag_size s.rows s.count s.gained s.columns.items s.spare.items s.known.items s.area.items
-          c.put_parts.new.area s.arena c.self.invariant.grid (c.put_parts.auto.area ∙ ap length c.deref_mut.ensures.value)
+          c.put_parts.new.area s.arena c.self.invariant.grid
           (wrote_parts s.nb_frag s.frag_size s.arena.cell s.columns.items c.deref.result.now s.area.items c.deref_mut.result.now c.put_parts.new.area s.arena
           c.deref.ensures.value c.deref_mut.ensures.value c.self.invariant.grid.arena_cell c.put_parts.ensures);
     })
