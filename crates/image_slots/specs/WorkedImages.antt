@@ -1,8 +1,8 @@
 -- Image files, and what becomes of them in the slots, worked out (this project's profile).
-use Rattle.std.specs.Prelude.{◌≡◌, ℕ, true, false, List, [], ◌∷◌, ◌++◌, take, drop, slice_set}
+use Rattle.std.specs.Prelude.{◌≡◌, ℕ, false, List, [], ◌∷◌, ◌++◌, take, drop, slice_set}
 use Rattle.image_slots.specs.declared.view.ImageState.{ImageState}
 use Rattle.image_slots.specs.declared.view.ImageState.TheVariants.{None, Corrupt, Incompatible, Valid}
-use Rattle.image_slots.specs.Image.{lowest_of, highest_of, firmware_of, is_image, is_for, image_state}
+use Rattle.image_slots.specs.Image.{lowest_of, highest_of, firmware_of, is_image, image_state}
 use Rattle.image_slots.specs.Slots.{Slots, first_slots, after_offer, after_swap, delete_bits, after_delete, after_raise}
 
 -- an image file for hardware 1 with firmware 2, its body the text abc

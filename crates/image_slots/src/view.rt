@@ -29,7 +29,8 @@ impl ImageView {
         ensures state { result ≡ image_state bytes.now hw formats }
         ensures some { result ≢ ImageState.None }
     {
-        if !is_image(bytes) || is_unknown(bytes, formats) {
+        // (one that is not known is corrupt, whatever its digest)
+        if is_unknown(bytes, formats) || !is_image(bytes) {
             return ImageState::Corrupt;
         }
         if !is_for(bytes, hw) {
@@ -39,11 +40,10 @@ impl ImageView {
     }
 }
 
-/// Whether a file is of format 2 while a device knows format 1 alone.
+/// Whether bytes would be a file of format 2, while a device knows format 1 alone.
 #[tactic(auto, unfolding(crate::specs::Image::is_unknown, crate::specs::Image::format_of))]
-fn is_unknown(file: &[u8], formats: u8) -> bool
-    requires { 49 ≤ length file.now }
-    ensures { result ≡ is_unknown file.now formats }
+fn is_unknown(bytes: &[u8], formats: u8) -> bool
+    ensures { result ≡ is_unknown bytes.now formats }
 {
-    file[4] == 2 && formats == 1
+    bytes.len() > 4 && bytes[4] == 2 && formats == 1
 }
