@@ -12,8 +12,8 @@ use Rattle.row_arena.specs.ArenaInside.{stretch, row_in, rows_in, IsArena}
 use Rattle.row_arena.proofs.Written.{before, length-stretch, get_or-stretch, Sums}
 use Rattle.row_arena.proofs.Bits.{none_set}
 
-pub refilled : (xs ys : List ℕ) → length ys ≡ length xs → refill (length xs) xs ys ≡ ys
-refilled xs ys e = take_at ys (drop (length ys) xs) (length xs) e
+pub refilled : (n : ℕ) (xs ys : List ℕ) → length ys ≡ n → refill n xs ys ≡ ys
+refilled n xs ys e = take_at ys (drop (length ys) xs) n e
 
 pub length-rows_in : (rows width cell : ℕ) (words bytes : List ℕ) → length (rows_in rows width cell words bytes) ≡ rows
 unfolding rows_in

@@ -1,6 +1,6 @@
-//! Rows of one shape in storage of fixed size.
+//! Rows of one shape in storage that is taken once.
 
-ghost use Rattle.std.specs.Prelude.{◌≡◌, ◌≢◌, ℕ, ◌+◌, ◌*◌, ◌^◌, ◌<◌, ◌≤◌, ◌==◌, length, is_ok, OnOk, OnErr, replicate, MatchOption};
+ghost use Rattle.std.specs.Prelude.{◌≡◌, ◌≢◌, ℕ, ◌+◌, ◌*◌, ◌^◌, ◌<◌, ◌≤◌, ◌==◌, length, is_ok, IfOk, OnOk, OnErr, replicate, vec_capacity, MatchOption};
 ghost use Rattle.std.specs.Int.{bit_at};
 ghost use Rattle.row_arena.specs.Limits.{max_bytes, max_width, max_words};
 ghost use Rattle.row_arena.specs.Rows.{Row, row_at, with_row, zero_row, row_sum, words_for, has_room, line_in};
@@ -10,50 +10,53 @@ use crate::stretches::{
     add_bytes, add_words, bytes_at, clear_bytes, clear_words, put_bytes, put_words, words_at,
     xor_bytes_at, xor_words_at,
 };
-use arrayvec::ArrayVec;
+use std::alloc::{AllocError, Global};
 use std::marker::Model;
 
 /// The rows do not fit in the storage.
 #[derive(Clone, Copy, Debug, PartialEq, Eq)]
 pub struct NoRoom;
 
-/// Rows of one shape: each has a line, a bit for each of its columns, and bytes beside it. All lie in the value itself, in
-/// `WORDS` words of 64 bits (at most 16,384) and `BYTES` bytes (at most 61,184). A contract sees the rows as a list.
+/// Rows of one shape: each has a line, a bit for each of its columns, and bytes beside it. All lie in `WORDS` words of 64
+/// bits (at most 16,384) and `BYTES` bytes (at most 61,184), whose memory is taken once, and of which a shape clears what
+/// it takes. A contract sees the rows as a list.
 #[derive(Drop)]
 pub struct RowArena<const WORDS: usize, const BYTES: usize> {
-    words: ArrayVec<u64, WORDS>,
-    bytes: ArrayVec<u8, BYTES>,
+    words: Vec<u64>,
+    bytes: Vec<u8>,
     rows: u16,
     cols: u16,
     cell: u8,
 }
 
 impl<const WORDS: usize, const BYTES: usize> Model for RowArena<WORDS, BYTES> {
+    ghost use Rattle.std.specs.Prelude.{vec_capacity};
     ghost use Rattle.row_arena.specs.Rows.{Arena, words_for};
-    ghost use Rattle.row_arena.specs.ArenaInside.{rows_in, IsArena};
+    ghost use Rattle.row_arena.specs.ArenaInside.{rows_in, IsKept};
 
     ghost Value = { Arena };
 
     ghost view = { λ a. record { cols = a.cols; cell = a.cell; rows = rows_in a.rows (words_for a.cols) a.cell a.words.items a.bytes.items } };
 
-    ghost invariant = { λ a. IsArena a.rows a.cols a.cell a.words.items a.bytes.items };
+    ghost invariant = { λ a. IsKept WORDS BYTES (vec_capacity a.words) (vec_capacity a.bytes)
+        a.rows a.cols a.cell a.words.items a.bytes.items };
 }
 
 impl<const WORDS: usize, const BYTES: usize> RowArena<WORDS, BYTES> {
-    /// An arena of no rows, columns or bytes.
-    #[inline(always)]
-    pub fn new() -> Self
+    /// An arena of no rows, columns or bytes, with memory for all that it ever holds.
+    pub fn reserve(alloc: Global) -> Result<Self, AllocError>
         requires words { WORDS ≤ max_words }
         requires bytes { BYTES ≤ max_bytes }
-        ensures { result ≡ record { cols = 0; cell = 0; rows = replicate 0 (zero_row 0) } }
+        ensures { IfOk result
+            (λ arena. arena ≡ record { cols = 0; cell = 0; rows = replicate 0 (zero_row 0) }) }
     {
-        RowArena {
-            words: ArrayVec::new(),
-            bytes: ArrayVec::new(),
+        Ok(RowArena {
+            words: Vec::with_capacity(alloc, WORDS)?,
+            bytes: Vec::with_capacity(alloc, BYTES)?,
             rows: 0,
             cols: 0,
             cell: 0,
-        }
+        })
     }
 
     /// Has so many rows from now on, of `cols` columns and `cell` bytes each (any numbers of 16 and 8 bits), which are all
@@ -197,24 +200,26 @@ pub fn words_for(cols: u16) -> usize
     (cols as usize + 63) / 64
 }
 
-/// Holds so many words, all zero.
-fn zero_words<const N: usize>(words: &mut ArrayVec<u64, N>, n: usize)
-    requires { n ≤ N }
-    ensures { words.new.items ≡ replicate n 0 }
+/// Holds so many words, all zero; there is memory for them.
+fn zero_words(words: &mut Vec<u64>, n: usize)
+    requires { n ≤ vec_capacity words.old }
+    ensures zero { words.new.items ≡ replicate n 0 }
+    ensures capacity { vec_capacity words.old ≤ vec_capacity words.new }
 {
     words.clear();
-    for done in 0..n {
-        words.push(0);
+    if words.resize(n, 0).is_err() {
+        unreachable!();
     }
 }
 
-/// Holds so many bytes, all zero.
-fn zero_bytes<const N: usize>(bytes: &mut ArrayVec<u8, N>, n: usize)
-    requires { n ≤ N }
-    ensures { bytes.new.items ≡ replicate n 0 }
+/// Holds so many bytes, all zero; there is memory for them.
+fn zero_bytes(bytes: &mut Vec<u8>, n: usize)
+    requires { n ≤ vec_capacity bytes.old }
+    ensures zero { bytes.new.items ≡ replicate n 0 }
+    ensures capacity { vec_capacity bytes.old ≤ vec_capacity bytes.new }
 {
     bytes.clear();
-    for done in 0..n {
-        bytes.push(0);
+    if bytes.resize(n, 0).is_err() {
+        unreachable!();
     }
 }

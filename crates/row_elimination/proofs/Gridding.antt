@@ -10,7 +10,6 @@ use Rattle.row_elimination.specs.declared.columns.Column.{Column}
 use Rattle.row_elimination.specs.declared.columns.Column.TheVariants.{Free, Piece, Row}
 use Rattle.row_elimination.specs.HeldPlaces.{Place, free, piece, row, told, is_piece, is_row, pieces_held, rows_held, gained_held, grown, cleared}
 use Rattle.row_elimination.specs.Inside.{IsReduced, Marks}
-use Rattle.row_elimination.specs.Made.{no_rows}
 use Rattle.row_elimination.specs.Room.{Extent}
 use Rattle.row_elimination.specs.HeldStorage.{chunk, place_in, places_in, part_in, IsStored, IsRowOf, SameShape, Slots}
 use Rattle.row_elimination.specs.HeldSteps.{IsNew, Knows, Tells}
@@ -484,8 +483,8 @@ begun nb size rows columns spare known area arena most few c s k shaped each unm
 
 -- a table for no file
 pub no_file : (columns : List Column) (spare known area : List ℕ) (arena : Arena)
-    → arena ≡ no_rows → IsGrid 0 0 0 0 0 columns spare known area arena
-unfolding words_for line_in no_rows
+    → arena ≡ record { cols = 0; cell = 0; rows = [] } → IsGrid 0 0 0 0 0 columns spare known area arena
+unfolding words_for line_in
 no_file columns spare known area arena shaped =
     let none : (i : ℕ) → get_or {A = Column} [] i Free ≡ Free = λ i. get_or_past [] i Free (omega arith) in
     let is : places_in 0 area arena [] ≡ replicate 0 free = none_placed 0 0 area arena [] refl none in

@@ -18,5 +18,4 @@ pub mod Gridding
 pub mod Answering
 pub mod Repeating
 pub mod Solving
-pub mod Making
 pub mod Packing

@@ -1,7 +1,6 @@
 pub mod HeldPlaces
 pub mod PackedColumns
 pub mod Inside
-pub mod Made
 pub mod HeldSolver
 pub mod HeldHistory
 pub mod HeldStorage

@@ -9,14 +9,14 @@ ghost use Rattle.row_elimination.specs.HeldStorage.{places_in, IsStored, IsRowOf
 use crate::columns::{Column, PackedColumn};
 use crate::entries::{put_piece, put_row};
 use crate::passes::clear;
-use crate::rows::Rows;
 use parity_lines::Steps;
+use row_arena::RowArena;
 use std::sync::ledger::Ledger;
 
 /// Adds a row, which its column `p` leads, in a slot that no column uses, and counts the rows that it is added to.
 pub fn add_row<const W: usize, const B: usize, M: Ledger>(
     columns: &mut [PackedColumn],
-    arena: &mut Rows<W, B>,
+    arena: &mut RowArena<W, B>,
     slot: u16,
     p: u16,
     line: &[u64],
@@ -64,7 +64,7 @@ pub fn add_piece(columns: &mut [PackedColumn], cols: usize, area: &mut [u8], k: 
 pub fn add_piece_and_row<const W: usize, const B: usize, M: Ledger>(
     columns: &mut [PackedColumn],
     area: &mut [u8],
-    arena: &mut Rows<W, B>,
+    arena: &mut RowArena<W, B>,
     k: usize,
     piece: &[u8],
     p: u16,
@@ -104,7 +104,7 @@ pub fn add_piece_and_row<const W: usize, const B: usize, M: Ledger>(
 fn take_over<const W: usize, const B: usize>(
     kept: Column,
     columns: &mut [PackedColumn],
-    arena: &mut Rows<W, B>,
+    arena: &mut RowArena<W, B>,
     p: u16,
     line: &[u64],
     part: &[u8],

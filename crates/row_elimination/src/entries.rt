@@ -8,7 +8,7 @@ ghost use Rattle.row_elimination.specs.HeldStorage.{chunk, part_in, places_in, I
 
 use crate::bytes::put_at;
 use crate::columns::{Column, PackedColumn};
-use crate::rows::Rows;
+use row_arena::RowArena;
 
 /// Puts the piece of column `k` into the area.
 pub fn put_piece(columns: &mut [PackedColumn], area: &mut [u8], k: usize, part: &[u8])
@@ -25,7 +25,7 @@ pub fn put_piece(columns: &mut [PackedColumn], area: &mut [u8], k: usize, part: 
 /// Puts the row that column `p` leads into a slot that no other column uses.
 pub fn put_row<const W: usize, const B: usize>(
     columns: &mut [PackedColumn],
-    arena: &mut Rows<W, B>,
+    arena: &mut RowArena<W, B>,
     slot: u16,
     p: u16,
     line: &[u64],
@@ -49,7 +49,7 @@ pub fn put_row<const W: usize, const B: usize>(
 pub fn put_parts<const W: usize, const B: usize>(
     columns: &[PackedColumn],
     area: &mut [u8],
-    arena: &Rows<W, B>,
+    arena: &RowArena<W, B>,
 )
     requires room { length columns.now * arena.now.cell ≤ length area.old }
     requires rows { (c slot : ℕ) → get_or columns.now c Column.Free ≡ Column.Row slot
@@ -67,7 +67,7 @@ fn put_part<const W: usize, const B: usize>(
     column: Column,
     c: usize,
     area: &mut [u8],
-    arena: &Rows<W, B>,
+    arena: &RowArena<W, B>,
 )
     requires room { c * arena.now.cell + arena.now.cell ≤ length area.old }
     requires rows { (slot : ℕ) → column ≡ Column.Row slot → slot < length arena.now.rows }

@@ -12,10 +12,9 @@ ghost use Rattle.row_elimination.specs.HeldStorage.{places_in, IsStored, IsRowOf
 ghost use Rattle.row_elimination.specs.HeldSteps.{Reduced, TakesRow, TakesRows};
 
 use crate::columns::{Column, PackedColumn};
-use crate::rows::Rows;
 use crate::tables::LINE_WORDS;
 use parity_lines::Steps;
-use row_arena::{pick, sum_pieces, xor_bytes, xor_words};
+use row_arena::{RowArena, pick, sum_pieces, xor_bytes, xor_words};
 use std::sync::ledger::Ledger;
 
 /// Takes out of a line, and out of the bytes `part`, all columns of which a piece or a row is kept, and writes what is left
@@ -25,7 +24,7 @@ pub fn reduce<const W: usize, const B: usize, M: Ledger>(
     columns: &[PackedColumn],
     area: &[u8],
     known: &[u64],
-    arena: &Rows<W, B>,
+    arena: &RowArena<W, B>,
     line: &mut [u64],
     picks: &mut [u16],
     part: &[u8],
@@ -73,7 +72,7 @@ fn sum_counted<M: Ledger>(
 /// Takes out of an equation, which has no column of which a piece is kept, all columns that lead rows, and counts these.
 fn take_rows<const W: usize, const B: usize, M: Ledger>(
     columns: &[PackedColumn],
-    arena: &Rows<W, B>,
+    arena: &RowArena<W, B>,
     line: &mut [u64],
     picks: &mut [u16],
     rest: &mut [u8],
@@ -99,7 +98,7 @@ fn take_rows<const W: usize, const B: usize, M: Ledger>(
 /// Takes the row of a column, if it leads one, out of an equation, and counts it.
 fn take_row<const W: usize, const B: usize, M: Ledger>(
     column: Column,
-    arena: &Rows<W, B>,
+    arena: &RowArena<W, B>,
     line: &mut [u64],
     rest: &mut [u8],
     sums: &mut Steps<M>,
@@ -151,7 +150,7 @@ fn list_bits(line: &[u64], picks: &mut [u16]) -> usize
 
 /// Adds a new row to each row that has its column `p`, and counts these.
 pub fn clear<const W: usize, const B: usize, M: Ledger>(
-    arena: &mut Rows<W, B>,
+    arena: &mut RowArena<W, B>,
     p: u16,
     line: &[u64],
     part: &[u8],
@@ -169,7 +168,7 @@ pub fn clear<const W: usize, const B: usize, M: Ledger>(
 
 /// Adds a new row to the row in a slot, where that has the column `p`, and then counts it.
 fn clear_row<const W: usize, const B: usize, M: Ledger>(
-    arena: &mut Rows<W, B>,
+    arena: &mut RowArena<W, B>,
     slot: u16,
     p: u16,
     line: &[u64],

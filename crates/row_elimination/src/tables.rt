@@ -16,10 +16,9 @@ use crate::bytes::chunk;
 use crate::columns::{Column, PackedColumn};
 use crate::entries::put_parts;
 use crate::passes::reduce;
-use crate::rows::Rows;
 use frag_model::lines::MAX_PIECES;
 use parity_lines::Steps;
-use row_arena::{clear_bits, flip_bit, words_for};
+use row_arena::{RowArena, clear_bits, flip_bit, words_for};
 use std::alloc::{AllocError, Global};
 use std::marker::Model;
 use std::sync::ledger::Ledger;
@@ -45,7 +44,7 @@ pub struct Table<const W: usize, const B: usize> {
     area: Vec<u8>,
     room: u32,
     most: u16,
-    arena: Rows<W, B>,
+    arena: RowArena<W, B>,
 }
 
 impl<const W: usize, const B: usize> Model for Table<W, B> {
@@ -89,7 +88,7 @@ impl<const W: usize, const B: usize> Table<W, B> {
             area: Vec::with_capacity(alloc, area as usize)?,
             room: area,
             most,
-            arena: Rows::reserve(alloc)?,
+            arena: RowArena::reserve(alloc)?,
         })
     }
 
