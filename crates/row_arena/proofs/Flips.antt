@@ -1,12 +1,12 @@
 -- Taking known columns out of a line, word by word.
 use Rattle.std.proofs.Common.{◌≡◌, ◌≢◌, ℕ, ◌+◌, ◌*◌, ◌/◌, ◌%◌, ◌^◌, ◌<◌, ◌≤◌, List, [], ◌∷◌, ◌++◌, length, take, get_or, set, min, bit_xor, bit_and, refl, sym, ap, ap₂, ◌∙◌, subst, inl, inr, arith, w64, length-set, get_or-set_same, get_or-set_other}
 use Rattle.std.specs.Int.{bit_at, trailing_zeros}
-use Rattle.std.specs.Int.Bits.{xor_add_and}
+use Rattle.std.specs.Int.Bits.{xor_add_and, xor_assoc, xor_self, xor_zero_r}
 use Rattle.std.specs.Int.Count.{ones}
 use Rattle.std.proofs.lemmas.Bool.{cases_lt, cases_eq}
 use Rattle.std.proofs.lemmas.Nat.{xor_lt, pow_pos, pow_below}
 use Rattle.std.proofs.lemmas.Nat.Bits.{bit_at-lt, bit_at-zero, bit_at_and, bit_at_xor, bit_at-pow_same, bit_at-pow_other, bit_at-trailing_zeros, same_from_bits, and_pow}
-use Rattle.std.proofs.lemmas.List.{take_more_set, get_or_past}
+use Rattle.std.proofs.lemmas.List.{take_more_set, get_or_past, set-set, set-get_or}
 use Rattle.row_arena.specs.Rows.{line_in}
 use Rattle.row_arena.specs.Sums.{after_flips}
 use Rattle.row_arena.proofs.Bits.{AreWords, bit_of_word}
@@ -216,6 +216,46 @@ pick_step i left t c b count m old line known picks is_t is_c is_b is_m some bel
             ]
           ];
     })
+
+-- the line as it was before what is left of word i was taken out
+abbrev pub with_left : (line : List ℕ) → (i left : ℕ) → List ℕ
+with_left line i left = set line i (bit_xor (get_or line i 0) left)
+
+left_taken : (line : List ℕ) (i left : ℕ) → i < length line → with_left (with_left line i left) i left ≡ line
+left_taken line i left lt =
+    let w : ℕ = get_or line i 0 in
+    set-set line i (bit_xor w left) (bit_xor (get_or (with_left line i left) i 0) left)
+    ∙ ap (λ x. set line i (bit_xor x left)) (get_or-set_same line i (bit_xor w left) 0 lt)
+    ∙ ap (λ x. set line i x) (xor_assoc w left left ∙ ap (λ x. bit_xor w x) (xor_self left) ∙ xor_zero_r w) ∙ set-get_or line i 0
+
+left_none : (line : List ℕ) (i left : ℕ) → left ≡ 0 → with_left line i left ≡ line
+left_none line i left none = ap (λ x. set line i (bit_xor (get_or line i 0) x)) none ∙ ap (λ x. set line i x) (xor_zero_r (get_or line i 0)) ∙ set-get_or line i 0
+
+left_less : (line : List ℕ) (i left b : ℕ) → i < length line → set (with_left line i left) i (bit_xor (get_or (with_left line i left) i 0) b) ≡ with_left line i (bit_xor left b)
+left_less line i left b lt =
+    let w : ℕ = get_or line i 0 in
+    set-set line i (bit_xor w left) (bit_xor (get_or (with_left line i left) i 0) b)
+    ∙ ap (λ x. set line i (bit_xor x b)) (get_or-set_same line i (bit_xor w left) 0 lt)
+    ∙ ap (λ x. set line i x) (xor_assoc w left b)
+
+-- picking in a word whose known columns were taken out at once
+pub word_begin : (i count left : ℕ) (old line known picks : List ℕ) → left ≡ bit_and (get_or line i 0) (get_or known i 0) → i < length line → PickedTo i count old line known picks
+    → Picking i left count old (with_left (with_left line i left) i left) known picks
+word_begin i count left old line known picks is lt h =
+    subst (λ l. Picking i left count old l known picks) (sym (left_taken line i left lt))
+    (subst (λ x. Picking i x count old line known picks) (sym is) (pick_word i count old line known picks h))
+
+pub word_step : (i left t c b count m : ℕ) (old line known picks : List ℕ) → t ≡ trailing_zeros w64 left → c ≡ 64 * i + t → b ≡ 2 ^ t → m ≡ count + 1
+    → left ≢ 0 → left < 2 ^ 64 → i < length old → AreWords known → Picking i left count old (with_left line i left) known picks
+    → Picking i (bit_xor left b) m old (with_left line i (bit_xor left b)) known (set picks count c)
+word_step i left t c b count m old line known picks is_t is_c is_b is_m some below inside words h =
+    let lt : i < length line = omega (arith, h.sized, length-set line i (bit_xor (get_or line i 0) left)) in
+    subst (λ l. Picking i (bit_xor left b) m old l known (set picks count c)) (left_less line i left b lt)
+    (pick_step i left t c b count m old (with_left line i left) known picks is_t is_c is_b is_m some below inside words h)
+
+pub word_next : (i m left count : ℕ) (old line known picks : List ℕ) → m ≡ i + 1 → left ≡ 0 → Picking i left count old (with_left line i left) known picks → PickedTo m count old line known picks
+word_next i m left count old line known picks next none h =
+    subst (λ l. PickedTo m count old l known picks) (left_none line i left none) (pick_next i m left count old (with_left line i left) known picks next none h)
 
 pub pick_none : (n count : ℕ) (old line known picks : List ℕ) → length old ≤ n → AreWords known → PickedTo n count old line known picks
     → (c : ℕ) → bit_at (line_in known) c ≡ 1 → bit_at (line_in line) c ≡ 0

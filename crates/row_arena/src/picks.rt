@@ -24,9 +24,9 @@ pub fn pick(line: &mut [u64], known: &[u64], picks: &mut [u16]) -> usize
     let mut count = 0;
     for i in 0..line.len() {
         let mut left = line[i] & known[i];
+        line[i] ^= left;
         while left != 0 {
             let t = left.trailing_zeros();
-            line[i] ^= 1 << t;
             picks[count] = (i * 64) as u16 + t as u16;
             count += 1;
             left ^= 1 << t;
