@@ -182,6 +182,7 @@ impl<F: Flash + Drop> Device<F> {
     }
 
     /// As `deliver`, of a payload whose bytes are lent.
+    #[inline(always)]
     pub fn receive(&mut self, t: u64, down: &Incoming<'_>, word: u32, mark: u64) -> Delivered
         requires { t ≤ max_moment }
         ensures makes { result ≢ Delivered.FlashFault
@@ -216,6 +217,7 @@ impl<F: Flash + Drop> Device<F> {
     }
 
     /// As `receive`, of a payload without a byte: no command acts.
+    #[inline(always)]
     fn receive_empty(&mut self, t: u64, down: &Incoming<'_>) -> Delivered
         requires { down.now.payload ≡ [] }
         ensures makes { (word mark : ℕ)
@@ -243,6 +245,7 @@ impl<F: Flash + Drop> Device<F> {
     }
 
     /// As `hear`, of a payload without a byte.
+    #[inline(always)]
     fn hear_empty(&mut self, t: u64, down: &Incoming<'_>) -> Delivered
         requires { down.now.payload ≡ [] }
         ensures makes { (word mark : ℕ)
@@ -262,6 +265,7 @@ impl<F: Flash + Drop> Device<F> {
         Delivered::Done
     }
 
+    #[inline(never)]
     fn deliver_over<L: Ledger>(
         &mut self,
         t: u64,
