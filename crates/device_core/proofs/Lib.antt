@@ -17,3 +17,4 @@ pub mod Quiet
 pub mod Stored
 pub mod Powered
 pub mod Downs
+pub mod Empties

@@ -23,7 +23,7 @@ ghost use Rattle.device_core.specs.HeldSessions.{IsUp, IsDown, IsInFlash, StateI
 ghost use Rattle.device_core.specs.HeldCalls.{StaysStored, LeavesPassed, HadWhole, Keeps, FailsAt, FailsIn, FailsWithin, FailsOnAir, IsPlain};
 ghost use Rattle.device_core.specs.Passed.{tables_of, message_tables, read_tables, heard_tables, tables_passed, tables_aired};
 ghost use Rattle.device_core.specs.Power.{after_power};
-ghost use Rattle.package_grammar.specs.Reading.{reading_of};
+ghost use Rattle.package_grammar.specs.Reading.{is_port, reading_of};
 
 mod acting;
 mod clock;
@@ -43,7 +43,7 @@ use crate::moment::Moment;
 use crate::outbox::{OUTBOX, Outbox};
 use crate::uplink::{Uplink, UplinkCommand};
 use acting::weights;
-use cast_wire::Fragment;
+use cast_wire::{Fragment, MULTICAST_PORT};
 use clock_sync::DeviceClock;
 use flash_session::{Flash, OpenFault};
 use frag_session::View;
@@ -56,8 +56,9 @@ use session_store::{FlashFault, SessionStore};
 use std::alloc::Global;
 use std::marker::{Brand, Model};
 use std::sync::ledger::{Blank, Ledger};
+use sync_wire::FIRMWARE_PORT;
 use windows::via_of;
-use wire_base::Direction;
+use wire_base::{Direction, Refusal};
 
 /// A device with its clock, groups, sessions and image slots. Contracts see what it holds, and say what each call makes of
 /// every record of `specs/Device` that it stands for.
@@ -181,6 +182,7 @@ impl<F: Flash + Drop> Device<F> {
     }
 
     /// As `deliver`, of a payload whose bytes are lent.
+    #[inline(always)]
     pub fn receive(&mut self, t: u64, down: &Incoming<'_>, word: u32, mark: u64) -> Delivered
         requires { t ≤ max_moment }
         ensures makes { result ≢ Delivered.FlashFault
@@ -208,9 +210,62 @@ impl<F: Flash + Drop> Device<F> {
             (tables_passed t word mark down.now) }
         ensures laid { IsLaidOut self.old.sessions self.new.sessions }
     {
+        if down.is_empty() {
+            return self.receive_empty(t, down);
+        }
         self.deliver_over::<Brand>(t, down, word, mark, Blank::new(1))
     }
 
+    /// As `receive`, of a payload without a byte: no command acts.
+    #[inline(always)]
+    fn receive_empty(&mut self, t: u64, down: &Incoming<'_>) -> Delivered
+        requires { down.now.payload ≡ [] }
+        ensures makes { (word mark : ℕ)
+            → Makes Delivered self.old self.new result (delivery t word mark down.now) }
+        ensures down { result ≡ Delivered.Down → IsDown self.old.sessions.state }
+        ensures up { result ≢ Delivered.Down → IsUp self.old.sessions.state }
+        ensures still { result ≡ Delivered.Down → self.new ≡ self.old }
+        ensures plain { result ≢ Delivered.FlashFault }
+        ensures untouched { self.new.sessions ≡ self.old.sessions }
+        ensures stored { (word mark : ℕ)
+            → StaysStored F.holds F.left_since F.moment self.old self.new
+            (λ device. (delivery t word mark down.now device).device) }
+        ensures any_moment { (word mark : ℕ)
+            → LeavesPassed F.holds F.left_since F.moment self.old self.new
+            (tables_passed t word mark down.now) }
+    {
+        if self.sessions.is_down() {
+            Delivered::Down
+        } else {
+            self.reboot_where_due(t);
+            let delivered = self.hear_empty(t, down);
+            self.reboot_where_due(t);
+            delivered
+        }
+    }
+
+    /// As `hear`, of a payload without a byte.
+    #[inline(always)]
+    fn hear_empty(&mut self, t: u64, down: &Incoming<'_>) -> Delivered
+        requires { down.now.payload ≡ [] }
+        ensures makes { (word mark : ℕ)
+            → Makes Delivered self.old self.new result (heard_delivery t word mark down.now) }
+        ensures untouched { self.new.sessions ≡ self.old.sessions }
+        ensures answers { IsPlain result }
+    {
+        let _few = self.outbox.len();
+        if !self.hears(t, down.to()) {
+            self.count_deaf();
+            return Delivered::Deaf;
+        }
+        if !is_port(down.port()) {
+            self.count_refused();
+            return Delivered::Refused(Refusal::port());
+        }
+        Delivered::Done
+    }
+
+    #[inline(never)]
     fn deliver_over<L: Ledger>(
         &mut self,
         t: u64,
@@ -806,4 +861,11 @@ impl<F: Flash + Drop> Device<F> {
     {
         self.counts.dropped = self.counts.dropped.saturating_add(1);
     }
+}
+
+/// Whether a port is one of the four packages'.
+fn is_port(port: u8) -> bool
+    ensures { result ≡ is_port port }
+{
+    port >= MULTICAST_PORT && port <= FIRMWARE_PORT
 }

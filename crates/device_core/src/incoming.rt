@@ -1,6 +1,6 @@
 //! A payload that comes, where its bytes lie.
 
-ghost use Rattle.std.specs.Prelude.{◌≡◌, ◌≤◌, length};
+ghost use Rattle.std.specs.Prelude.{◌≡◌, ◌≤◌, ◌↔◌, [], IsTrue, length};
 ghost use Rattle.wire_base.specs.Payload.{max_payload};
 ghost use Rattle.package_grammar.specs.declared.downlink.Downlink.{Downlink};
 
@@ -59,6 +59,13 @@ impl<'a> Incoming<'a> {
         ensures { result ≡ self.now.port }
     {
         self.port
+    }
+
+    /// Whether it has no byte.
+    pub(crate) fn is_empty(&self) -> bool
+        ensures { IsTrue result ↔ (self.now.payload ≡ []) }
+    {
+        self.bytes.is_empty()
     }
 
     /// Its bytes.

@@ -7,11 +7,15 @@ ghost use Rattle.script_lines.specs.HeldLines.{IsLastFeed};
 
 use memchr::{memchr, memrchr};
 
-/// The place of the first line feed.
+/// The place of the first line feed; one that comes first needs no search.
+#[inline(always)]
 pub(crate) fn line_feed(bytes: &[u8]) -> Option<usize>
     ensures { result ≡ position is_feed bytes.now }
 {
-    memchr(b'\n', bytes)
+    match bytes {
+        [b'\n', ..] => Some(0),
+        _ => memchr(b'\n', bytes),
+    }
 }
 
 /// The place of the last line feed.

@@ -1,7 +1,8 @@
 //! Firmware management on the device (TS006-1.0.0).
 
-ghost use Rattle.std.specs.Prelude.{◌≡◌, ◌+◌, ◌%◌, ◌^◌, ◌<◌, ◌≤◌, length, Option};
+ghost use Rattle.std.specs.Prelude.{◌≡◌, ◌+◌, ◌%◌, ◌^◌, ◌<◌, ◌≤◌, length, Option, None};
 ghost use Rattle.package_grammar.specs.declared.command.Command.{Command};
+ghost use Rattle.image_slots.specs.Slots.{after_swap};
 ghost use Rattle.sync_wire.specs.declared.cmd.Cmd.TheVariants.{DevVersionAns, DevRebootTimeAns, DevRebootCountdownAns, DevDeleteImageAns};
 ghost use Rattle.device_core.specs.Firmware.{version_step, upgrade_answer, upgrade_step, delete_image_step, chosen_moment, reboot_time_step, countdown_step, is_due, after_due_reboot};
 ghost use Rattle.device_core.specs.Sendable.{IsSendable};
@@ -69,15 +70,25 @@ impl<F: Flash + Drop> Device<F> {
     }
 
     /// Carries out a reboot that is due.
+    #[inline(always)]
     #[tactic(auto, unfolding(crate::specs::Firmware::after_due_reboot))]
     pub(super) fn reboot_where_due(&mut self, t: u64)
         ensures becomes { Becomes self.old self.new (after_due_reboot t) }
         ensures aside { GoesAside self.old self.new (after_due_reboot t) }
     {
         if is_due(self.clock.now(t), self.reboot) {
-            self.reboot = None;
-            self.slots.swap();
+            self.reboot_now();
         }
+    }
+
+    /// Carries out a reboot. It stands alone, so that no payload sees to more of it than whether it is due.
+    #[inline(never)]
+    fn reboot_now(&mut self)
+        ensures { self.new
+            ≡ record self.old { reboot = None; slots = after_swap self.old.slots } }
+    {
+        self.reboot = None;
+        self.slots.swap();
     }
 }
 

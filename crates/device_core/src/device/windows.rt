@@ -3,6 +3,7 @@
 ghost use Rattle.std.specs.Prelude.{◌≡◌, ◌||◌, ◌*◌, ◌^◌, ◌<◌, ◌≤◌, length, is_none, IfSome};
 ghost use Rattle.wire_base.specs.Numbers.{has_bit};
 ghost use Rattle.package_grammar.specs.declared.command.Command.{Command};
+ghost use Rattle.package_grammar.specs.declared.downlink.To.TheVariants.{Group};
 ghost use Rattle.device_core.specs.SessionTable.{SessionTable};
 ghost use Rattle.device_core.specs.ClassSessions.{start_of, class_session_after, session_answer, class_session_step, hears_unicast, is_open, hears};
 ghost use Rattle.device_core.specs.Deliver.{via_of};
@@ -23,19 +24,29 @@ impl<F: Flash + Drop> Device<F> {
     ghost use Rattle.device_core.specs.HeldDevice.{device_of, StepsAside};
 
     /// Whether a payload is heard.
+    #[inline(always)]
     #[tactic(auto, unfolding(crate::specs::ClassSessions::hears))]
     pub(super) fn hears(&self, t: u64, to: To) -> bool
         ensures { (table : SessionTable) → result ≡ hears (device_of self.now table) t to }
     {
         match to {
             To::Unicast => hears_unicast(self.config.class, self.last_due, t),
-            To::Group { addr, count } => match self.class_session {
-                None => false,
-                Some(session) => {
-                    self.groups.accepts(session.id, addr, count)
-                        && is_open(session, self.clock.millis(t), addr)
-                }
-            },
+            To::Group { addr, count } => self.hears_group(t, addr, count),
+        }
+    }
+
+    /// Whether a payload for a group is heard.
+    #[tactic(auto, unfolding(crate::specs::ClassSessions::hears))]
+    fn hears_group(&self, t: u64, addr: u32, count: u32) -> bool
+        ensures { (table : SessionTable)
+            → result ≡ hears (device_of self.now table) t (Group addr count) }
+    {
+        match self.class_session {
+            None => false,
+            Some(session) => {
+                self.groups.accepts(session.id, addr, count)
+                    && is_open(session, self.clock.millis(t), addr)
+            }
         }
     }
 

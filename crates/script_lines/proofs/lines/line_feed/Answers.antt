@@ -14,5 +14,5 @@ first_is bytes (Some end) is =
     let at = position_or_len_is is_feed bytes end 0 (omega (arith, is.0.high)) (λ k below. false_from_ne_true _ (is.0.before k (omega arith) below)) (λ inside. is.1) in
     grind (arith, at, is.0.high)
 
-pub returns : goal.returns
-returns c = first_is c.args.bytes.now c.memchr.result c.memchr.ensures
+pub returns-in_default : goal.returns-in_default
+returns-in_default c = first_is c.args.bytes.now c.memchr.result c.memchr.ensures
