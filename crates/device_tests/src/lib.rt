@@ -1,5 +1,7 @@
-//! Tests of `device_core`, by what a device answers and shows. There is no other code here.
+//! Tests of `device_core`, payload by payload and frame by frame, and over a flash that stops. There is no other code here.
 #![tactic(auto)]
 
+#[cfg(test)]
+mod power;
 #[cfg(test)]
 mod tests;

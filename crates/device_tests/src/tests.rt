@@ -1,8 +1,5 @@
 //! What a device answers, payload by payload.
 
-ghost use Rattle.std.specs.Prelude.{◌≤◌, length};
-ghost use Rattle.wire_base.specs.declared.payload.TheConstants.{MAX_PAYLOAD};
-
 use device_core::*;
 use flash_session::CellFlash;
 use image_slots::ImageState;
@@ -145,6 +142,16 @@ const GROUPS: [Exchange; 7] = [
         200,
         &[0x04, 0x02, 0xf2, 0x03, 0, 0, 0, 0x28, 0x76, 0x84, 0],
         &[0x04, 0x02, 0x0a, 0, 0],
+    ),
+];
+
+/// A session for the image in one fragment.
+const SETUP: [Exchange; 2] = [
+    (201, &[0x01, 0x01], &[]),
+    (
+        201,
+        &[0x02, 0x00, 1, 0, 52, 0x00, 0, 0, 0, 0, 0],
+        &[0x02, 0x00],
     ),
 ];
 
@@ -363,6 +370,9 @@ const REBOOTS: [(&[u8], u64, u32); 14] = [
     (&[0x03, 20, 0, 0, 0x02, 16, 0, 0, 0], 11_000, 2),
 ];
 
+/// A reboot at once.
+const COUNTDOWN: [Exchange; 1] = [(203, &[0x03, 0, 0, 0], &[0x03, 0, 0, 0])];
+
 /// Payloads at a fresh device: the port, the payload, and the uplinks that it may make.
 const WEIGHTS: [(u8, &[u8], u16); 6] = [
     (202, &[0x03, 0x07], 7),
@@ -375,20 +385,16 @@ const WEIGHTS: [(u8, &[u8], u16); 6] = [
 
 /// A device whose sessions are in memory alone needs no flash.
 fn no_flash(rt: &impl Abort, alloc: Global) -> CellFlash {
-    CellFlash::reserve(alloc, 0).expect(rt, "no flash")
+    match CellFlash::reserve(alloc, 0) {
+        Ok(flash) => flash,
+        Err(_) => panic!(rt; "no flash"),
+    }
 }
 
 fn reserved(rt: &impl Abort, alloc: Global, config: DeviceConfig) -> Device<CellFlash> {
-    Device::reserve(alloc, config, no_flash(rt, alloc)).expect(rt, "no device")
-}
-
-fn unicast(port: u8, bytes: &[u8]) -> Downlink
-    requires { length bytes.now ≤ MAX_PAYLOAD }
-{
-    Downlink {
-        to: To::Unicast,
-        port,
-        payload: Payload::from_slice(bytes),
+    match Device::reserve(alloc, config, no_flash(rt, alloc)) {
+        Ok(device) => device,
+        Err(_) => panic!(rt; "no device"),
     }
 }
 
@@ -402,21 +408,59 @@ fn delivered(
     bytes: &[u8],
 ) -> Delivered {
     assert!(rt; bytes.len() <= 242 && t <= 4_294_967_295_999);
-    let mut down = unicast(port, bytes);
-    down.to = to;
+    let down = Downlink {
+        to,
+        port,
+        payload: Payload::from_slice(bytes),
+    };
     device.deliver(t, &down, 20, 1)
 }
 
-/// The uplink that was made, as its port, due moment and bytes; none where there are no bytes.
-fn taken(rt: &impl Abort, device: &mut Device<CellFlash>, due: u64, port: u8, bytes: &[u8]) {
+/// Whether a payload acts that comes by unicast.
+fn acts(rt: &impl Abort, device: &mut Device<CellFlash>, t: u64, port: u8, bytes: &[u8]) -> bool {
+    delivered(rt, device, t, To::Unicast, port, bytes) == Delivered::Done
+}
+
+/// What becomes of bytes that the radio hears.
+fn aired(rt: &impl Abort, device: &mut Device<CellFlash>, t: u64, bytes: &[u8]) -> Aired {
+    assert!(rt; t <= 4_294_967_295_999);
+    device.radio(t, bytes, 0, 1)
+}
+
+fn wakes(rt: &impl Abort, device: &mut Device<CellFlash>, t: u64) -> bool {
+    assert!(rt; t <= 4_294_967_295_999);
+    device.wake(t).is_ok()
+}
+
+/// Whether the uplink that was made has this due moment, port and bytes; none is made where there are no bytes.
+fn makes(device: &mut Device<CellFlash>, due: u64, port: u8, bytes: &[u8]) -> bool {
     match device.take_uplink() {
         Some(uplink) => {
-            assert_eq!(rt; uplink.due, due);
-            assert_eq!(rt; uplink.port, port);
-            assert_eq!(rt; uplink.payload.as_slice(), bytes);
+            uplink.due == due && uplink.port == port && uplink.payload.as_slice() == bytes
         }
-        None => assert!(rt; bytes.is_empty()),
+        None => bytes.is_empty(),
     }
+}
+
+fn makes_none(device: &mut Device<CellFlash>) -> bool {
+    device.take_uplink().is_none()
+}
+
+/// The version that runs.
+fn runs(device: &Device<CellFlash>) -> u32 {
+    device.slots().running().0
+}
+
+fn runs_the_image(device: &Device<CellFlash>) -> bool {
+    device.slots().running().1 == &IMAGE[..]
+}
+
+fn is_to_run(device: &Device<CellFlash>) -> bool {
+    device.slots().next() == ImageState::Valid(2)
+}
+
+fn deaf(device: &Device<CellFlash>) -> u64 {
+    device.counts().deaf
 }
 
 /// How many uplinks are held, at most 8; none is afterwards.
@@ -433,12 +477,9 @@ fn uplinks(device: &mut Device<CellFlash>) -> u16 {
 /// Payloads that come at one moment.
 fn exchanges(rt: &impl Abort, device: &mut Device<CellFlash>, t: u64, all: &[Exchange]) {
     for (port, payload, answer) in all {
-        assert_eq!(rt;
-            delivered(rt, device, t, To::Unicast, *port, payload),
-            Delivered::Done
-        );
-        taken(rt, device, t, *port, answer);
-        taken(rt, device, 0, 0, &[]);
+        assert!(rt; acts(rt, device, t, *port, payload));
+        assert!(rt; makes(device, t, *port, answer));
+        assert!(rt; makes_none(device));
     }
 }
 
@@ -449,19 +490,20 @@ fn commands_are_answered(rt: HostRuntime) {
     exchanges(&rt, &mut device, 0, &FRAGMENTS);
     exchanges(&rt, &mut device, 1_000_000, &GROUPS);
     assert!(rt; device.counts().dropped == 1);
-    let mut small = reserved(
-        &rt,
-        rt.alloc(),
-        DeviceConfig {
-            groups: 2,
-            ..CONFIG
-        },
-    );
+}
+
+#[test]
+fn a_group_beyond_the_last_is_refused(rt: HostRuntime) {
+    let two = DeviceConfig {
+        groups: 2,
+        ..CONFIG
+    };
+    let mut device = reserved(&rt, rt.alloc(), two);
     let mut setup = [0; 30];
     setup[0] = 0x02;
     setup[1] = 0x03;
-    assert!(rt; delivered(&rt, &mut small, 0, To::Unicast, 200, &setup) == Delivered::Done);
-    taken(&rt, &mut small, 0, 200, &[0x02, 0x07]);
+    assert!(rt; acts(&rt, &mut device, 0, 200, &setup));
+    assert!(rt; makes(&mut device, 0, 200, &[0x02, 0x07]));
 }
 
 /// A device that received the image at 0 ms.
@@ -473,11 +515,8 @@ fn with_image(rt: &impl Abort, alloc: Global, config: DeviceConfig) -> Device<Ce
 
 /// The image comes in one fragment, at 0 ms.
 fn receive_image(rt: &impl Abort, device: &mut Device<CellFlash>) {
-    let setup = [0x02, 0x00, 1, 0, 52, 0x00, 0, 0, 0, 0, 0];
-    exchanges(rt, device, 0, &[(201, &[0x01, 0x01], &[])]);
-    assert!(rt; delivered(rt, device, 0, To::Unicast, 201, &setup) == Delivered::Done);
-    taken(rt, device, 0, 201, &[0x02, 0x00]);
-    assert!(rt; delivered(rt, device, 0, To::Unicast, 201, &fragment()) == Delivered::Done);
+    exchanges(rt, device, 0, &SETUP);
+    assert!(rt; acts(rt, device, 0, 201, &fragment()));
 }
 
 /// The image as one fragment of session 0.
@@ -489,15 +528,20 @@ fn fragment() -> [u8; 55] {
     payload
 }
 
+/// Whether session 0 has the image.
+fn shows_the_image(device: &Device<CellFlash>) -> bool {
+    match device.session(0) {
+        Some(view) => view.file == &IMAGE[..],
+        None => false,
+    }
+}
+
 #[test]
 fn a_received_image_runs_after_a_reboot(rt: HostRuntime) {
     let mut device = with_image(&rt, rt.alloc(), CONFIG);
-    match device.session(0) {
-        Some(view) => assert!(rt; view.file == &IMAGE[..]),
-        None => assert!(rt; false),
-    }
+    assert!(rt; shows_the_image(&device));
     exchanges(&rt, &mut device, 0, &FIRMWARE);
-    assert!(rt; device.slots().running().1 == &IMAGE[..]);
+    assert!(rt; runs_the_image(&device));
     let mut other = with_image(&rt, rt.alloc(), CONFIG);
     exchanges(&rt, &mut other, 0, &DELETIONS);
 }
@@ -506,70 +550,73 @@ fn a_received_image_runs_after_a_reboot(rt: HostRuntime) {
 fn a_campaign_is_answered_in_bytes(rt: HostRuntime) {
     let mut device = reserved(&rt, rt.alloc(), DeviceConfig { rows: 4, ..CONFIG });
     exchanges(&rt, &mut device, 1000, &CAMPAIGN);
-    assert!(rt; device.slots().running().1 == &IMAGE[..]);
+    assert!(rt; runs_the_image(&device));
+}
+
+/// A device whose clock is 5 s ahead.
+const AHEAD: DeviceConfig = DeviceConfig {
+    offset: 5,
+    ..CONFIG
+};
+
+/// What runs at a moment behind commands at 1,000 ms.
+fn runs_at(rt: &impl Abort, alloc: Global, payload: &[u8], t: u64) -> u32 {
+    let mut device = with_image(rt, alloc, AHEAD);
+    assert!(rt; acts(rt, &mut device, 1000, 203, payload));
+    assert!(rt; acts(rt, &mut device, t, 203, &[]));
+    runs(&device)
 }
 
 #[test]
 fn a_reboot_comes_at_its_moment(rt: HostRuntime) {
-    let ahead = DeviceConfig {
-        offset: 5,
-        ..CONFIG
-    };
     for (payload, t, version) in &REBOOTS {
-        let mut device = with_image(&rt, rt.alloc(), ahead);
-        assert!(rt;
-            delivered(&rt, &mut device, 1000, To::Unicast, 203, payload) == Delivered::Done
-        );
-        assert!(rt; delivered(&rt, &mut device, *t, To::Unicast, 203, &[]) == Delivered::Done);
-        assert!(rt; device.slots().running().0 == *version);
+        assert!(rt; runs_at(&rt, rt.alloc(), payload, *t) == *version);
     }
-    // without an image the moment is cleared all the same
+}
+
+#[test]
+fn without_an_image_the_moment_is_cleared_all_the_same(rt: HostRuntime) {
     let mut device = reserved(&rt, rt.alloc(), CONFIG);
-    exchanges(
-        &rt,
-        &mut device,
-        0,
-        &[(203, &[0x03, 0, 0, 0], &[0x03, 0, 0, 0])],
-    );
+    exchanges(&rt, &mut device, 0, &COUNTDOWN);
     receive_image(&rt, &mut device);
-    assert!(rt; device.wake(1000).is_ok());
-    assert!(rt; device.slots().running().0 == 0);
+    assert!(rt; wakes(&rt, &mut device, 1000) && runs(&device) == 0);
 }
 
 #[test]
 fn a_clock_is_mended_once(rt: HostRuntime) {
-    let mut device = reserved(
-        &rt,
-        rt.alloc(),
-        DeviceConfig {
-            offset: 5,
-            ..CONFIG
-        },
-    );
-    assert!(rt; device.wake(10_000).is_ok());
-    taken(&rt, &mut device, 10_000, 202, &[0x01, 15, 0, 0, 0, 0x10]);
+    let mut device = reserved(&rt, rt.alloc(), AHEAD);
+    assert!(rt; wakes(&rt, &mut device, 10_000));
+    assert!(rt; makes(&mut device, 10_000, 202, &[0x01, 15, 0, 0, 0, 0x10]));
     for _ in 0..2 {
-        let answer = [0x01, 0xfb, 0xff, 0xff, 0xff, 0x00];
         assert!(rt;
-            delivered(&rt, &mut device, 10_000, To::Unicast, 202, &answer) == Delivered::Done
+            acts(
+                &rt,
+                &mut device,
+                10_000,
+                202,
+                &[0x01, 0xfb, 0xff, 0xff, 0xff, 0x00]
+            )
         );
         assert!(rt; device.clock() == (0, 1));
+    }
+}
+
+/// A payload acts where it may make at most 8 uplinks.
+fn weighs(rt: &impl Abort, alloc: Global, port: u8, payload: &[u8], weight: u16) {
+    let mut device = reserved(rt, alloc, CONFIG);
+    let answer = delivered(rt, &mut device, 0, To::Unicast, port, payload);
+    if weight <= 8 {
+        assert!(rt; answer == Delivered::Done && uplinks(&mut device) == weight);
+    } else {
+        assert!(rt; answer == Delivered::OutboxFull(weight));
+        assert!(rt; uplinks(&mut device) == 0 && device.counts().full == 1);
     }
 }
 
 #[test]
 fn nothing_acts_where_too_many_uplinks_could_come(rt: HostRuntime) {
     for (port, payload, weight) in &WEIGHTS {
-        let mut device = reserved(&rt, rt.alloc(), CONFIG);
-        let answer = delivered(&rt, &mut device, 0, To::Unicast, *port, payload);
-        if *weight <= 8 {
-            assert!(rt; answer == Delivered::Done);
-            assert!(rt; uplinks(&mut device) == *weight);
-        } else {
-            assert!(rt; answer == Delivered::OutboxFull(*weight));
-            assert!(rt; uplinks(&mut device) == 0);
-            assert!(rt; device.counts().full == 1);
-        }
+        weighs(&rt, rt.alloc(), *port, payload, *weight);
     }
 }
 
@@ -577,30 +624,34 @@ fn nothing_acts_where_too_many_uplinks_could_come(rt: HostRuntime) {
 fn a_full_outbox_takes_what_makes_no_uplink(rt: HostRuntime) {
     let mut device = reserved(&rt, rt.alloc(), CONFIG);
     for _ in 0..8 {
-        assert!(rt; device.wake(0).is_ok());
+        assert!(rt; wakes(&rt, &mut device, 0));
     }
-    assert!(rt; device.wake(0).is_err());
-    let answer = [0x01, 5, 0, 0, 0, 0xf3];
-    assert!(rt; delivered(&rt, &mut device, 0, To::Unicast, 202, &answer) == Delivered::Done);
-    assert!(rt;
-        delivered(&rt, &mut device, 0, To::Unicast, 203, &[0x01]) == Delivered::OutboxFull(9)
-    );
-    taken(&rt, &mut device, 0, 202, &[0x01, 0, 0, 0, 0, 0x10]);
-    assert!(rt; delivered(&rt, &mut device, 0, To::Unicast, 203, &[0x01]) == Delivered::Done);
+    assert!(rt; !wakes(&rt, &mut device, 0));
+    assert!(rt; acts(&rt, &mut device, 0, 202, &[0x01, 5, 0, 0, 0, 0xf3]));
+    let full = Delivered::OutboxFull(9);
+    assert!(rt; delivered(&rt, &mut device, 0, To::Unicast, 203, &[0x01]) == full);
+    assert!(rt; makes(&mut device, 0, 202, &[0x01, 0, 0, 0, 0, 0x10]));
+    assert!(rt; acts(&rt, &mut device, 0, 203, &[0x01]));
+}
+
+/// An empty payload is heard at a moment, or the device is deaf.
+fn hears(rt: &impl Abort, device: &mut Device<CellFlash>, t: u64) -> bool {
+    match delivered(rt, device, t, To::Unicast, 201, &[]) {
+        Delivered::Done => true,
+        Delivered::Deaf => false,
+        _ => panic!(rt; "it is neither"),
+    }
 }
 
 #[test]
 fn class_a_hears_behind_its_uplink(rt: HostRuntime) {
-    let mut device = reserved(
-        &rt,
-        rt.alloc(),
-        DeviceConfig {
-            class: Class::A,
-            ..CONFIG
-        },
-    );
-    assert!(rt; delivered(&rt, &mut device, 6000, To::Unicast, 201, &[]) == Delivered::Deaf);
-    assert!(rt; device.wake(5000).is_ok());
+    let class_a = DeviceConfig {
+        class: Class::A,
+        ..CONFIG
+    };
+    let mut device = reserved(&rt, rt.alloc(), class_a);
+    assert!(rt; !hears(&rt, &mut device, 6000));
+    assert!(rt; wakes(&rt, &mut device, 5000));
     let table = [
         (5999, false),
         (6000, true),
@@ -609,55 +660,81 @@ fn class_a_hears_behind_its_uplink(rt: HostRuntime) {
         (7000, true),
     ];
     for (t, heard) in table {
-        let answer = delivered(&rt, &mut device, t, To::Unicast, 201, &[]);
-        assert!(rt;
-            answer
-                == if heard {
-                    Delivered::Done
-                } else {
-                    Delivered::Deaf
-                }
-        );
+        assert!(rt; hears(&rt, &mut device, t) == heard);
     }
-    assert!(rt; device.counts().deaf == 3);
+    assert!(rt; deaf(&device) == 3);
+}
+
+/// A session of a piece of a byte, that group 2 fills alone.
+const OF_GROUP_2: [Exchange; 1] = [(
+    201,
+    &[0x02, 0x04, 1, 0, 1, 0x00, 0, 0, 0, 0, 0],
+    &[0x02, 0x00],
+)];
+
+/// Whether a status request to a group is answered, 4 s behind its moment; else the device is deaf.
+fn group_is_heard(
+    rt: &impl Abort,
+    device: &mut Device<CellFlash>,
+    t: u64,
+    addr: u32,
+    count: u32,
+) -> bool {
+    let to = To::Group { addr, count };
+    match delivered(rt, device, t, to, 201, &[0x01, 0x01, 0x00]) {
+        Delivered::Done => {
+            assert!(rt; makes(device, t.wrapping_add(4000), 201, &[0x01, 0, 0, 1, 0]));
+            assert!(rt; makes_none(device));
+            true
+        }
+        Delivered::Deaf => false,
+        _ => panic!(rt; "it is neither"),
+    }
 }
 
 #[test]
 fn a_group_is_heard_while_its_session_runs(rt: HostRuntime) {
     let mut device = reserved(&rt, rt.alloc(), CONFIG);
     exchanges(&rt, &mut device, 1_000_000, &GROUPS);
-    let setup = [0x02, 0x04, 1, 0, 1, 0x00, 0, 0, 0, 0, 0];
-    assert!(rt;
-        delivered(&rt, &mut device, 1_000_000, To::Unicast, 201, &setup) == Delivered::Done
-    );
-    taken(&rt, &mut device, 1_000_000, 201, &[0x02, 0x00]);
+    exchanges(&rt, &mut device, 1_000_000, &OF_GROUP_2);
     let addr = 0x55667788;
     let table = [
-        (1_009_999, addr, 0, Delivered::Deaf),
-        (1_010_000, addr, 0, Delivered::Done),
-        (1_010_999, addr, 9, Delivered::Done),
-        (1_010_999, addr, 10, Delivered::Deaf),
-        (1_010_999, 0x11223344, 0, Delivered::Deaf),
-        (1_011_000, addr, 0, Delivered::Deaf),
+        (1_009_999, addr, 0, false),
+        (1_010_000, addr, 0, true),
+        (1_010_999, addr, 9, true),
+        (1_010_999, addr, 10, false),
+        (1_010_999, 0x11223344, 0, false),
+        (1_011_000, addr, 0, false),
     ];
-    for (t, addr, count, answer) in table {
-        let to = To::Group { addr, count };
-        assert!(rt; delivered(&rt, &mut device, t, to, 201, &[0x01, 0x01, 0x00]) == answer);
-        if answer == Delivered::Done {
-            taken(&rt, &mut device, t + 4000, 201, &[0x01, 0, 0, 1, 0]);
-            taken(&rt, &mut device, 0, 0, &[]);
-        }
+    for (t, addr, count, heard) in table {
+        assert!(rt; group_is_heard(&rt, &mut device, t, addr, count) == heard);
     }
 }
+
+/// What becomes of a payload to the group of `WINDOWS`, which makes no uplink.
+fn to_group(
+    rt: &impl Abort,
+    device: &mut Device<CellFlash>,
+    t: u64,
+    port: u8,
+    payload: &[u8],
+) -> Delivered {
+    let to = To::Group {
+        addr: 0x11223344,
+        count: 0,
+    };
+    let answer = delivered(rt, device, t, to, port, payload);
+    assert!(rt; makes_none(device));
+    answer
+}
+
+/// The end of group 0.
+const END_OF_GROUP: [Exchange; 1] = [(200, &[0x03, 0x00], &[0x03, 0x00])];
 
 #[test]
 fn a_file_comes_by_the_group_in_its_window(rt: HostRuntime) {
     let mut device = reserved(&rt, rt.alloc(), CONFIG);
     exchanges(&rt, &mut device, 1_000_000, &WINDOWS);
-    let to = To::Group {
-        addr: 0x11223344,
-        count: 0,
-    };
     let whole = fragment();
     // only fragments and status requests act, and what is skipped has its weight all the same
     let table: [(u64, u8, &[u8], Delivered); 6] = [
@@ -674,19 +751,22 @@ fn a_file_comes_by_the_group_in_its_window(rt: HostRuntime) {
         (1_001_000, 201, &whole, Delivered::Deaf),
     ];
     for (t, port, payload, answer) in table {
-        assert!(rt; delivered(&rt, &mut device, t, to, port, payload) == answer);
-        taken(&rt, &mut device, 0, 0, &[]);
+        assert!(rt; to_group(&rt, &mut device, t, port, payload) == answer);
     }
-    assert!(rt; device.slots().next() == ImageState::Valid(2));
-    assert!(rt; device.counts().deaf == 2);
+    assert!(rt; is_to_run(&device) && deaf(&device) == 2);
     // by unicast the group is deleted, and its session ends
-    exchanges(
-        &rt,
-        &mut device,
-        1_000_999,
-        &[(200, &[0x03, 0x00], &[0x03, 0x00])],
-    );
-    assert!(rt; delivered(&rt, &mut device, 1_000_999, to, 201, &[]) == Delivered::Deaf);
+    exchanges(&rt, &mut device, 1_000_999, &END_OF_GROUP);
+    assert!(rt; to_group(&rt, &mut device, 1_000_999, 201, &[]) == Delivered::Deaf);
+}
+
+/// What the radio hears where no group is heard is foreign, and counted as not heard.
+#[test]
+fn strange_frames_are_foreign(rt: HostRuntime) {
+    let mut device = reserved(&rt, rt.alloc(), CONFIG);
+    for (bytes, fault) in &STRANGE {
+        assert!(rt; aired(&rt, &mut device, 1_000_000, bytes) == Aired::Foreign(*fault));
+    }
+    assert!(rt; deaf(&device) == 4);
 }
 
 /// What the radio hears is a frame of the class session's group, or foreign; what is foreign is counted as not heard, and an
@@ -694,83 +774,72 @@ fn a_file_comes_by_the_group_in_its_window(rt: HostRuntime) {
 #[test]
 fn frames_of_the_group_are_heard(rt: HostRuntime) {
     let mut device = reserved(&rt, rt.alloc(), CONFIG);
-    for (bytes, fault) in &STRANGE {
-        assert!(rt; device.radio(1_000_000, bytes, 0, 1) == Aired::Foreign(*fault));
-    }
-    assert!(rt; device.counts().deaf == 4);
     exchanges(&rt, &mut device, 1_000_000, &WINDOWS);
     for (t, bytes, answer) in &AIRED {
-        assert!(rt; *t <= 4_294_967_295_999);
-        assert!(rt; device.radio(*t, bytes, 0, 1) == *answer);
-        taken(&rt, &mut device, 0, 0, &[]);
+        assert!(rt; aired(&rt, &mut device, *t, bytes) == *answer);
+        assert!(rt; makes_none(&mut device));
     }
-    assert!(rt; device.counts().deaf == 12);
-    assert!(rt; device.counts().refused == 1);
-    assert!(rt; device.slots().next() == ImageState::Valid(2));
-    // a device of LoRaWAN 1.1 unwraps the group's key under another root key
+    assert!(rt; deaf(&device) == 8 && device.counts().refused == 1);
+    assert!(rt; is_to_run(&device));
+}
+
+/// A device of LoRaWAN 1.1 unwraps the group's key under another root key.
+#[test]
+fn the_root_key_decides_which_frames_are_heard(rt: HostRuntime) {
     let config = DeviceConfig {
         root: RootKind::V11,
         ..CONFIG
     };
-    let mut other = reserved(&rt, rt.alloc(), config);
-    exchanges(&rt, &mut other, 1_000_000, &WINDOWS);
-    assert!(rt; other.radio(1_000_000, &FRAME, 0, 1) == Aired::Foreign(FrameFault::Mic));
-    assert!(rt; other.radio(1_000_000, &FRAME_1_1, 0, 1) == Aired::Heard(Delivered::Done));
-    assert!(rt; other.slots().next() == ImageState::Valid(2));
+    let mut device = reserved(&rt, rt.alloc(), config);
+    exchanges(&rt, &mut device, 1_000_000, &WINDOWS);
+    assert!(rt; aired(&rt, &mut device, 1_000_000, &FRAME) == Aired::Foreign(FrameFault::Mic));
+    let heard = Aired::Heard(Delivered::Done);
+    assert!(rt; aired(&rt, &mut device, 1_000_000, &FRAME_1_1) == heard);
+    assert!(rt; is_to_run(&device));
+}
+
+/// Whether a device can have so many formats, rows, sessions, groups and bytes for its files.
+fn is_made(
+    rt: &impl Abort,
+    alloc: Global,
+    formats: u8,
+    rows: u16,
+    sessions: u8,
+    groups: u8,
+    area: u32,
+) -> bool {
+    let config = DeviceConfig {
+        formats,
+        rows,
+        sessions,
+        groups,
+        area,
+        ..CONFIG
+    };
+    match Device::reserve(alloc, config, no_flash(rt, alloc)) {
+        Ok(_) => true,
+        Err(why) => {
+            assert!(rt; why == ReserveError::BadConfig);
+            false
+        }
+    }
 }
 
 #[test]
 fn numbers_out_of_bounds_make_no_device(rt: HostRuntime) {
     let table = [
-        DeviceConfig {
-            formats: 0,
-            ..CONFIG
-        },
-        DeviceConfig {
-            formats: 3,
-            ..CONFIG
-        },
-        DeviceConfig {
-            rows: 257,
-            ..CONFIG
-        },
-        DeviceConfig {
-            sessions: 0,
-            ..CONFIG
-        },
-        DeviceConfig {
-            sessions: 5,
-            ..CONFIG
-        },
-        DeviceConfig {
-            groups: 0,
-            ..CONFIG
-        },
-        DeviceConfig {
-            groups: 5,
-            ..CONFIG
-        },
-        DeviceConfig { area: 0, ..CONFIG },
-        DeviceConfig {
-            area: MAX_AREA + 1,
-            ..CONFIG
-        },
+        (0, 0, 4, 4, MAX_AREA),
+        (3, 0, 4, 4, MAX_AREA),
+        (2, 257, 4, 4, MAX_AREA),
+        (2, 0, 0, 4, MAX_AREA),
+        (2, 0, 5, 4, MAX_AREA),
+        (2, 0, 4, 0, MAX_AREA),
+        (2, 0, 4, 5, MAX_AREA),
+        (2, 0, 4, 4, 0),
+        (2, 0, 4, 4, MAX_AREA + 1),
     ];
-    for config in table {
-        match Device::reserve(rt.alloc(), config, no_flash(&rt, rt.alloc())) {
-            Ok(_) => assert!(rt; false),
-            Err(why) => assert!(rt; why == ReserveError::BadConfig),
-        }
+    for (formats, rows, sessions, groups, area) in table {
+        assert!(rt; !is_made(&rt, rt.alloc(), formats, rows, sessions, groups, area));
     }
-    assert!(rt;
-        Device::reserve(
-            rt.alloc(),
-            DeviceConfig {
-                rows: 256,
-                ..CONFIG
-            },
-            no_flash(&rt, rt.alloc())
-        )
-        .is_ok()
-    );
+    assert!(rt; is_made(&rt, rt.alloc(), 2, 256, 4, 4, MAX_AREA));
 }

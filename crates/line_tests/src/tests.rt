@@ -1,323 +1,358 @@
 //! Lines of a script, and a stream of them in pieces.
 
-use script_lines::{Class, Cut, Form, Lines, MAX_HEX_BYTES, form, in_range};
+use script_lines::{Class, Cut, Form, HexBytes, Lines, MAX_HEX_BYTES, form, in_range};
+use std::alloc::Global;
 use std::test::Fail;
 
-/// Lines, the form that each spells, and whether its numbers are in their ranges.
+/// Lines, the form that each spells in Rust's words, and whether its numbers are in their ranges.
 #[test]
 fn lines_spell_their_forms(rt: HostRuntime) -> Result<(), Fail> {
-    let largest = u64::MAX;
-    let cases: [(&str, Option<Form>, bool); 30] = [
-        ("fuota 1", Some(Form::Header), true),
+    let cases = [
+        ("fuota 1", "Some(Header)", true),
         (
             "image 13 4",
-            Some(Form::Image {
-                frag_size: 13,
-                parity: 4,
-                index: 0,
-            }),
+            "Some(Image { frag_size: 13, parity: 4, index: 0 })",
             true,
         ),
         (
             "image 240 4",
-            Some(Form::Image {
-                frag_size: 240,
-                parity: 4,
-                index: 0,
-            }),
+            "Some(Image { frag_size: 240, parity: 4, index: 0 })",
             false,
         ),
         (
             "image 0 4",
-            Some(Form::Image {
-                frag_size: 0,
-                parity: 4,
-                index: 0,
-            }),
+            "Some(Image { frag_size: 0, parity: 4, index: 0 })",
             false,
         ),
         (
             "image 13 513",
-            Some(Form::Image {
-                frag_size: 13,
-                parity: 513,
-                index: 0,
-            }),
+            "Some(Image { frag_size: 13, parity: 513, index: 0 })",
             false,
         ),
-        (
-            "at 4294967295999",
-            Some(Form::At {
-                time: 4_294_967_295_999,
-            }),
-            true,
-        ),
+        ("at 4294967295999", "Some(At { time: 4294967295999 })", true),
         (
             "at 4294967296000",
-            Some(Form::At {
-                time: 4_294_967_296_000,
-            }),
+            "Some(At { time: 4294967296000 })",
             false,
         ),
         (
             "at 18446744073709551616",
-            Some(Form::At { time: largest }),
+            "Some(At { time: 18446744073709551615 })",
             false,
         ),
-        ("wake 7", Some(Form::Wake { device: 7 }), true),
-        ("migrate 7", Some(Form::Migrate { device: 7 }), true),
-        ("power 7", Some(Form::Power { device: 7 }), true),
-        ("ask 0", Some(Form::Ask { device: 0 }), true),
-        ("frag", Some(Form::Frag), true),
-        ("status", Some(Form::Status), true),
+        ("wake 7", "Some(Wake { device: 7 })", true),
+        ("migrate 7", "Some(Migrate { device: 7 })", true),
+        ("power 7", "Some(Power { device: 7 })", true),
+        ("ask 0", "Some(Ask { device: 0 })", true),
+        ("frag", "Some(Frag)", true),
+        ("status", "Some(Status)", true),
         (
             "down 3 1",
-            Some(Form::Down {
-                number: 3,
-                device: 1,
-                word: 0,
-            }),
+            "Some(Down { number: 3, device: 1, word: 0 })",
             true,
         ),
         (
             "down 3 1 20",
-            Some(Form::Down {
-                number: 3,
-                device: 1,
-                word: 20,
-            }),
+            "Some(Down { number: 3, device: 1, word: 20 })",
             true,
         ),
         (
             "down 3 1 4294967296",
-            Some(Form::Down {
-                number: 3,
-                device: 1,
-                word: 4_294_967_296,
-            }),
+            "Some(Down { number: 3, device: 1, word: 4294967296 })",
             false,
         ),
-        ("up 2", Some(Form::Up { number: 2 }), true),
-        ("end", Some(Form::End), true),
-        ("fuota 2", None, true),
-        ("fuota 01", None, true),
-        ("end ", None, true),
-        ("end\r", None, true),
-        ("End", None, true),
-        ("down  3 1", None, true),
-        ("up -1", None, true),
-        ("at +1", None, true),
-        ("at 007", None, true),
-        ("power", None, true),
-        ("", None, true),
+        ("up 2", "Some(Up { number: 2 })", true),
+        ("end", "Some(End)", true),
+        (
+            "air 3 1",
+            "Some(Air { number: 3, device: 1, word: 0 })",
+            true,
+        ),
+        (
+            "air 3 1 7",
+            "Some(Air { number: 3, device: 1, word: 7 })",
+            true,
+        ),
+        (
+            "air 3 1 4294967296",
+            "Some(Air { number: 3, device: 1, word: 4294967296 })",
+            false,
+        ),
     ];
-    for (line, wanted, ranged) in cases {
-        let found = form(line.as_bytes());
-        assert!(rt; shown(&rt, &found)? == shown(&rt, &wanted)?);
-        if let Some(spelled) = found {
-            assert!(rt; in_range(&spelled) == ranged);
-        }
+    for (line, words, ranged) in cases {
+        assert!(rt; spells(rt.alloc(), line, words)?);
+        assert!(rt; is_in_range(line) == ranged);
     }
     Ok(())
+}
+
+/// Whether a line spells a form that is this in Rust's words.
+fn spells(alloc: Global, line: &str, words: &str) -> Result<bool, Fail> {
+    let found = form(line.as_bytes());
+    Ok(format!(in alloc; "{found:?}")?.as_str() == words)
+}
+
+fn is_in_range(line: &str) -> bool {
+    match form(line.as_bytes()) {
+        Some(spelled) => in_range(&spelled),
+        None => false,
+    }
 }
 
 /// Keys, addresses and descriptors are hex digits of either case; CLASS is `a` or `c`.
 #[test]
 fn hex_words_are_read(rt: HostRuntime) -> Result<(), Fail> {
-    let group = form(b"group 11223344 000102030405060708090A0B0c0d0e0f 0 10");
-    let key = [0, 1, 2, 3, 4, 5, 6, 7, 8, 9, 10, 11, 12, 13, 14, 15];
-    let wanted = Form::Group {
-        id: 0,
-        addr: 0x1122_3344,
-        key,
-        min: 0,
-        max: 10,
-    };
-    assert!(rt; shown(&rt, &group)? == shown(&rt, &Some(wanted))?);
-    let device = form(b"device 1 a 2 64 5 00000000000000000000000000000000 00000002");
-    let wanted = Form::Device {
-        id: 1,
-        class: Class::A,
-        hw: 2,
-        rows: 64,
-        offset: 5,
-        key: [0; 16],
-        descriptor: Some(2),
-        v1: false,
-        k11: false,
-        flash: false,
-    };
-    assert!(rt; shown(&rt, &device)? == shown(&rt, &Some(wanted))?);
-    assert!(rt; form(b"device 1 b 2 64 5 00000000000000000000000000000000").is_none());
-    assert!(rt; form(b"device 1 c 2 64 5 0000000000000000000000000000000").is_none());
-    assert!(rt; form(b"group 1122334 00000000000000000000000000000000 0 10").is_none());
-    let window = form(b"window b 1000 7 15 8695250 255");
-    let wanted = Form::WindowB {
-        start: 1000,
-        periodicity: 7,
-        timeout: 15,
-        freq: 8_695_250,
-        dr: 255,
-    };
-    assert!(rt; shown(&rt, &window)? == shown(&rt, &Some(wanted))?);
-    assert!(rt; form(b"window c 1000 0 8695250").is_none());
-    assert!(rt; form(b"window c 1000 7 0 8695250 0").is_none());
+    let cases = [
+        (
+            "group 11223344 000102030405060708090A0B0c0d0e0f 0 10",
+            "Some(Group { id: 0, addr: 287454020, key: [0, 1, 2, 3, 4, 5, 6, 7, 8, 9, 10, 11, 12, 13, 14, 15], min: 0, max: 10 })",
+        ),
+        (
+            "device 1 a 2 64 5 00000000000000000000000000000000 00000002",
+            "Some(Device { id: 1, class: A, hw: 2, rows: 64, offset: 5, key: [0, 0, 0, 0, 0, 0, 0, 0, 0, 0, 0, 0, 0, 0, 0, 0], descriptor: Some(2), v1: false, k11: false, flash: false })",
+        ),
+        (
+            "window b 1000 7 15 8695250 255",
+            "Some(WindowB { start: 1000, periodicity: 7, timeout: 15, freq: 8695250, dr: 255 })",
+        ),
+    ];
+    for (line, words) in cases {
+        assert!(rt; spells(rt.alloc(), line, words)?);
+    }
     Ok(())
 }
 
-/// `k11` is the last word of a device's line, behind `v1` where that is there.
+/// Lines that spell no form.
+static NONE: [&str; 51] = [
+    "fuota 2",
+    "fuota 01",
+    "end ",
+    "end\r",
+    "End",
+    "down  3 1",
+    "up -1",
+    "at +1",
+    "at 007",
+    "power",
+    "",
+    "device 1 b 2 64 5 00000000000000000000000000000000",
+    "device 1 c 2 64 5 0000000000000000000000000000000",
+    "group 1122334 00000000000000000000000000000000 0 10",
+    "window c 1000 0 8695250",
+    "window c 1000 7 0 8695250 0",
+    // the last words of a device's line
+    "device 1 c 2 3 4 k11",
+    "device 1 c 2 3 4 00000000000000000000000000000000 k11 v1",
+    "device 1 c 2 3 4 00000000000000000000000000000000 k11 k11",
+    "device 1 c 2 3 4 00000000000000000000000000000000 k11 0000000a",
+    "device 1 c 2 3 4 00000000000000000000000000000000 0000000a k11 v1",
+    "device 1 c 2 3 4 00000000000000000000000000000000 0000000a v1 k11 k11",
+    "device 1 c 2 3 4 00000000000000000000000000000000 k10",
+    "device 1 c 2 3 4 00000000000000000000000000000000 K11",
+    "device 1 c 2 3 4 00000000000000000000000000000000 k11 ",
+    "device 1 c 2 3 4 flash",
+    "device 1 c 2 3 4 00000000000000000000000000000000 flash k11",
+    "device 1 c 2 3 4 00000000000000000000000000000000 flash v1",
+    "device 1 c 2 3 4 00000000000000000000000000000000 flash 0000000a",
+    "device 1 c 2 3 4 00000000000000000000000000000000 flash flash",
+    "device 1 c 2 3 4 00000000000000000000000000000000 Flash",
+    // strangers' payloads
+    "raw 1 201",
+    "raw 1 201 ",
+    "raw 1 201  0",
+    "raw 1 201 080",
+    "raw 1 201 0x",
+    "raw 1 201 --",
+    "raw 1 201 -1",
+    "raw 1 -1 00",
+    "raw 1 201 00 00",
+    "raw 1 201 00 -",
+    "raw 1 201 00 0 0",
+    "Raw 1 201 00",
+    // frames and bytes of the air
+    "air 3",
+    "air 3 1 0 0",
+    "air -3 1",
+    "Air 3 1",
+    "rawair 1",
+    "rawair 1 600",
+    "rawair 1 60 0 0",
+    "rawair 1 201 60",
+];
+
 #[test]
-fn kinds_of_root_keys_are_read(rt: HostRuntime) -> Result<(), Fail> {
-    let read: [(&[u8], Option<u32>, bool, bool); 6] = [
+fn other_lines_spell_no_form(rt: HostRuntime) {
+    for line in &NONE {
+        assert!(rt; form(line.as_bytes()).is_none());
+    }
+}
+
+/// What stands behind the key of a device: its descriptor, and whether `v1`, `k11` and `flash` stand there.
+#[derive(Clone, Copy)]
+struct Tail {
+    descriptor: Option<u32>,
+    v1: bool,
+    k11: bool,
+    flash: bool,
+}
+
+/// Whether a line is device 1 with the key 0 and this behind it.
+fn is_device(line: &str, tail: Tail) -> bool {
+    match form(line.as_bytes()) {
+        Some(
+            Form::Device {
+                id,
+                class,
+                hw,
+                rows,
+                offset,
+                key,
+                descriptor,
+                v1,
+                k11,
+                flash,
+            },
+        ) => {
+            id == 1
+                && class == Class::C
+                && hw == 2
+                && rows == 3
+                && offset == 4
+                && key == [0; 16]
+                && descriptor == tail.descriptor
+                && v1 == tail.v1
+                && k11 == tail.k11
+                && flash == tail.flash
+        }
+        _ => false,
+    }
+}
+
+/// `k11` stands behind `v1` where that is there, and `flash` last.
+#[test]
+fn the_last_words_of_a_device_are_read(rt: HostRuntime) {
+    let cases = [
         (
-            b"device 1 c 2 3 4 00000000000000000000000000000000",
+            "device 1 c 2 3 4 00000000000000000000000000000000",
             None,
+            false,
             false,
             false,
         ),
         (
-            b"device 1 c 2 3 4 00000000000000000000000000000000 k11",
+            "device 1 c 2 3 4 00000000000000000000000000000000 k11",
             None,
             false,
-            true,
-        ),
-        (
-            b"device 1 c 2 3 4 00000000000000000000000000000000 v1",
-            None,
             true,
             false,
         ),
         (
-            b"device 1 c 2 3 4 00000000000000000000000000000000 v1 k11",
+            "device 1 c 2 3 4 00000000000000000000000000000000 v1",
+            None,
+            true,
+            false,
+            false,
+        ),
+        (
+            "device 1 c 2 3 4 00000000000000000000000000000000 v1 k11",
             None,
             true,
             true,
+            false,
         ),
         (
-            b"device 1 c 2 3 4 00000000000000000000000000000000 0000000a k11",
+            "device 1 c 2 3 4 00000000000000000000000000000000 0000000a k11",
             Some(10),
             false,
             true,
+            false,
         ),
         (
-            b"device 1 c 2 3 4 00000000000000000000000000000000 0000000a v1 k11",
+            "device 1 c 2 3 4 00000000000000000000000000000000 0000000a v1 k11",
             Some(10),
+            true,
+            true,
+            false,
+        ),
+        (
+            "device 1 c 2 3 4 00000000000000000000000000000000 flash",
+            None,
+            false,
+            false,
+            true,
+        ),
+        (
+            "device 1 c 2 3 4 00000000000000000000000000000000 0000000a flash",
+            Some(10),
+            false,
+            false,
+            true,
+        ),
+        (
+            "device 1 c 2 3 4 00000000000000000000000000000000 k11 flash",
+            None,
+            false,
+            true,
+            true,
+        ),
+        (
+            "device 1 c 2 3 4 00000000000000000000000000000000 0000000a v1 k11 flash",
+            Some(10),
+            true,
             true,
             true,
         ),
     ];
-    for (line, descriptor, v1, k11) in read {
-        let wanted = Form::Device {
-            id: 1,
-            class: Class::C,
-            hw: 2,
-            rows: 3,
-            offset: 4,
-            key: [0; 16],
+    for (line, descriptor, v1, k11, flash) in cases {
+        let tail = Tail {
             descriptor,
             v1,
             k11,
-            flash: false,
+            flash,
         };
-        assert!(rt; shown(&rt, &form(line))? == shown(&rt, &Some(wanted))?);
+        assert!(rt; is_device(line, tail));
     }
-    let none: [&[u8]; 9] = [
-        b"device 1 c 2 3 4 k11",
-        b"device 1 c 2 3 4 00000000000000000000000000000000 k11 v1",
-        b"device 1 c 2 3 4 00000000000000000000000000000000 k11 k11",
-        b"device 1 c 2 3 4 00000000000000000000000000000000 k11 0000000a",
-        b"device 1 c 2 3 4 00000000000000000000000000000000 0000000a k11 v1",
-        b"device 1 c 2 3 4 00000000000000000000000000000000 0000000a v1 k11 k11",
-        b"device 1 c 2 3 4 00000000000000000000000000000000 k10",
-        b"device 1 c 2 3 4 00000000000000000000000000000000 K11",
-        b"device 1 c 2 3 4 00000000000000000000000000000000 k11 ",
-    ];
-    for line in none {
-        assert!(rt; form(line).is_none());
-    }
-    Ok(())
 }
 
-/// `flash` is the last word of a device's line, behind `k11` where that is there.
-#[test]
-fn devices_with_a_flash_are_read(rt: HostRuntime) -> Result<(), Fail> {
-    let read: [(&[u8], Option<u32>, bool, bool); 4] = [
-        (
-            b"device 1 c 2 3 4 00000000000000000000000000000000 flash",
-            None,
-            false,
-            false,
-        ),
-        (
-            b"device 1 c 2 3 4 00000000000000000000000000000000 0000000a flash",
-            Some(10),
-            false,
-            false,
-        ),
-        (
-            b"device 1 c 2 3 4 00000000000000000000000000000000 k11 flash",
-            None,
-            false,
-            true,
-        ),
-        (
-            b"device 1 c 2 3 4 00000000000000000000000000000000 0000000a v1 k11 flash",
-            Some(10),
-            true,
-            true,
-        ),
-    ];
-    for (line, descriptor, v1, k11) in read {
-        let wanted = Form::Device {
-            id: 1,
-            class: Class::C,
-            hw: 2,
-            rows: 3,
-            offset: 4,
-            key: [0; 16],
-            descriptor,
-            v1,
-            k11,
-            flash: true,
-        };
-        assert!(rt; shown(&rt, &form(line))? == shown(&rt, &Some(wanted))?);
-    }
-    let none: [&[u8]; 6] = [
-        b"device 1 c 2 3 4 flash",
-        b"device 1 c 2 3 4 00000000000000000000000000000000 flash k11",
-        b"device 1 c 2 3 4 00000000000000000000000000000000 flash v1",
-        b"device 1 c 2 3 4 00000000000000000000000000000000 flash 0000000a",
-        b"device 1 c 2 3 4 00000000000000000000000000000000 flash flash",
-        b"device 1 c 2 3 4 00000000000000000000000000000000 Flash",
-    ];
-    for line in none {
-        assert!(rt; form(line).is_none());
-    }
-    Ok(())
+/// Whether a line ends behind so many of the bytes.
+fn ends(lines: &mut Lines, bytes: &[u8], count: usize, line: &[u8]) -> bool {
+    lines.take(bytes) == (count, Cut::Line) && lines.line() == line
 }
 
-/// A line is the same however its bytes are cut into pieces; of one of 602 bytes, 601 are held.
+/// Whether no line ends in the bytes.
+fn goes_on(lines: &mut Lines, bytes: &[u8]) -> bool {
+    lines.take(bytes) == (bytes.len(), Cut::More)
+}
+
+/// Whether a line ends with the stream.
+fn finishes(lines: &mut Lines, line: &[u8]) -> bool {
+    lines.finish() && lines.line() == line
+}
+
+/// A line is the same however its bytes are cut into pieces.
 #[test]
 fn pieces_make_the_lines_of_the_whole(rt: HostRuntime) {
     let mut lines = Lines::new();
-    assert!(rt; lines.take(b"ab") == (2, Cut::More));
-    assert!(rt; lines.take(b"\nc") == (1, Cut::Line) && lines.line() == b"ab".as_slice());
-    assert!(rt; lines.take(b"c") == (1, Cut::More));
-    assert!(rt; lines.take(b"d") == (1, Cut::More));
-    assert!(rt; lines.finish() && lines.line() == b"cd".as_slice());
-    assert!(rt; !lines.finish());
-    assert!(rt; lines.take(b"ab\ncd") == (3, Cut::Line) && lines.line() == b"ab".as_slice());
-    assert!(rt; lines.take(b"\n") == (1, Cut::Line) && lines.line() == b"".as_slice());
-    for byte in [b'a'; 602] {
-        assert!(rt; lines.take(&[byte]) == (1, Cut::More));
-    }
-    assert!(rt; lines.finish() && lines.line() == [b'a'; 601].as_slice());
+    assert!(rt; goes_on(&mut lines, b"ab") && ends(&mut lines, b"\nc", 1, b"ab"));
+    assert!(rt; goes_on(&mut lines, b"c") && goes_on(&mut lines, b"d"));
+    assert!(rt; finishes(&mut lines, b"cd") && !lines.finish());
+    assert!(rt; ends(&mut lines, b"ab\ncd", 3, b"ab") && ends(&mut lines, b"\n", 1, b""));
 }
 
-/// Strangers' payloads: HEX is an even number of digits of either case, or `-`, and never no word at all; of more bytes than
-/// a payload has it is a word still.
+/// Of a line of 602 bytes, 601 are held.
 #[test]
-fn raw_lines_are_read(rt: HostRuntime) {
+fn a_long_line_is_held_in_part(rt: HostRuntime) {
+    let mut lines = Lines::new();
+    for byte in [b'a'; 602] {
+        assert!(rt; goes_on(&mut lines, &[byte]));
+    }
+    assert!(rt; finishes(&mut lines, &[b'a'; 601]));
+}
+
+/// Strangers' payloads and bytes of the air: HEX is an even number of digits of either case, or `-`, and never no word at all;
+/// of more bytes than a payload has it is a word still.
+#[test]
+fn bytes_of_strangers_are_read(rt: HostRuntime) {
     let cases: [(&str, u64, u64, &[u8], u64, bool); 6] = [
         ("raw 1 201 0801", 1, 201, &[8, 1], 0, true),
         ("raw 2 204 -", 2, 204, &[], 0, true),
@@ -326,94 +361,32 @@ fn raw_lines_are_read(rt: HostRuntime) {
             0,
             0,
             &[170, 255, 9],
-            u64::from(u32::MAX),
+            4_294_967_295,
             true,
         ),
         ("raw 1 255 - 0", 1, 255, &[], 0, true),
         ("raw 1 256 -", 1, 256, &[], 0, false),
-        ("raw 1 201 00 4294967296", 1, 201, &[0], 1 << 32, false),
+        (
+            "raw 1 201 00 4294967296",
+            1,
+            201,
+            &[0],
+            4_294_967_296,
+            false,
+        ),
     ];
     for (line, device, port, bytes, word, ranged) in cases {
-        let found = form(line.as_bytes());
-        assert!(rt; found.is_some());
-        if let Some(spelled) = found {
-            assert!(rt; in_range(&spelled) == ranged);
-            assert!(rt; is_raw(&spelled, device, port, bytes, word));
-        }
+        assert!(rt; is_raw(line.as_bytes(), device, port, bytes, word));
+        assert!(rt; is_in_range(line) == ranged);
     }
-    let none = [
-        "raw 1 201",
-        "raw 1 201 ",
-        "raw 1 201  0",
-        "raw 1 201 080",
-        "raw 1 201 0x",
-        "raw 1 201 --",
-        "raw 1 201 -1",
-        "raw 1 -1 00",
-        "raw 1 201 00 00",
-        "raw 1 201 00 -",
-        "raw 1 201 00 0 0",
-        "Raw 1 201 00",
-    ];
-    for line in none {
-        assert!(rt; form(line.as_bytes()).is_none());
-    }
-}
-
-/// Frames and bytes of the air: `air` is read as `down` is, and the bytes of `rawair` as those of `raw`.
-#[test]
-fn lines_of_the_air_are_read(rt: HostRuntime) -> Result<(), Fail> {
-    let airs = [
-        ("air 3 1", 0, true),
-        ("air 3 1 7", 7, true),
-        ("air 3 1 4294967296", 1 << 32, false),
-    ];
-    for (line, random, ranged) in airs {
-        match form(line.as_bytes()) {
-            Some(found) => {
-                assert!(rt; in_range(&found) == ranged);
-                assert!(rt;
-                    matches!(found, Form::Air { number: 3, device: 1, word } if word == random)
-                );
-            }
-            None => assert!(rt; false),
-        }
-    }
-    let bytes: [(&str, &[u8], u64); 3] = [
+    let aired: [(&str, &[u8], u64); 3] = [
         ("rawair 1 60fF", &[0x60, 0xff], 0),
         ("rawair 1 -", &[], 0),
         ("rawair 1 60 9", &[0x60], 9),
     ];
-    for (line, wanted, random) in bytes {
-        match form(line.as_bytes()) {
-            Some(
-                Form::RawAir {
-                    device,
-                    bytes,
-                    word,
-                },
-            ) => {
-                let mut spelled = [0; MAX_HEX_BYTES];
-                let count = bytes.put(&mut spelled);
-                assert!(rt; device == 1 && word == random && &spelled[..count] == wanted);
-            }
-            _ => assert!(rt; false),
-        }
+    for (line, bytes, word) in aired {
+        assert!(rt; is_raw_air(line.as_bytes(), bytes, word));
     }
-    let none = [
-        "air 3",
-        "air 3 1 0 0",
-        "air -3 1",
-        "Air 3 1",
-        "rawair 1",
-        "rawair 1 600",
-        "rawair 1 60 0 0",
-        "rawair 1 201 60",
-    ];
-    for line in none {
-        assert!(rt; form(line.as_bytes()).is_none());
-    }
-    Ok(())
 }
 
 /// Of 600 digits there are 300 bytes; two more are longer than a line.
@@ -421,33 +394,43 @@ fn lines_of_the_air_are_read(rt: HostRuntime) -> Result<(), Fail> {
 fn long_hex_words_are_read(rt: HostRuntime) {
     let mut line = [b'0'; 612];
     line[..10].copy_from_slice(b"raw 1 201 ");
-    let found = form(&line[..610]);
-    assert!(rt; found.is_some());
-    if let Some(spelled) = found {
-        assert!(rt; is_raw(&spelled, 1, 201, &[0; 300], 0));
-    }
+    assert!(rt; is_raw(&line[..610], 1, 201, &[0; 300], 0));
     assert!(rt; form(&line[..609]).is_none());
     assert!(rt; form(&line).is_none());
 }
 
-/// A form in Rust's words.
-fn shown(rt: &HostRuntime, form: &Option<Form>) -> Result<String, Fail> {
-    Ok(format!(in rt.alloc(); "{form:?}")?)
+/// Whether hex digits are these bytes.
+fn are(digits: HexBytes, bytes: &[u8]) -> bool {
+    let mut spelled = [0; MAX_HEX_BYTES];
+    let count = digits.put(&mut spelled);
+    &spelled[..count] == bytes
 }
 
-/// Whether a form is a stranger's payload of these bytes.
-fn is_raw(form: &Form, device: u64, port: u64, bytes: &[u8], word: u64) -> bool {
-    match form {
-        Form::Raw {
-            device: to,
-            port: on,
-            payload,
-            word: random,
-        } => {
-            let mut spelled = [0; MAX_HEX_BYTES];
-            let count = payload.put(&mut spelled);
-            *to == device && *on == port && *random == word && &spelled[..count] == bytes
-        }
+/// Whether a line is a stranger's payload of these bytes.
+fn is_raw(line: &[u8], device: u64, port: u64, bytes: &[u8], word: u64) -> bool {
+    match form(line) {
+        Some(
+            Form::Raw {
+                device: to,
+                port: on,
+                payload,
+                word: random,
+            },
+        ) => to == device && on == port && random == word && are(payload, bytes),
+        _ => false,
+    }
+}
+
+/// Whether a line is these bytes of the air for device 1.
+fn is_raw_air(line: &[u8], bytes: &[u8], word: u64) -> bool {
+    match form(line) {
+        Some(
+            Form::RawAir {
+                device,
+                bytes: digits,
+                word: random,
+            },
+        ) => device == 1 && random == word && are(digits, bytes),
         _ => false,
     }
 }

@@ -92,10 +92,23 @@ fn plan(
     })
 }
 
+/// The field for which a plan for the image of 52 bytes is refused; none where it has a server.
+fn wrong_field(rt: &impl Abort, alloc: Global, plan: Plan) -> Option<Field> {
+    let parity = plan.parity;
+    assert!(rt; is_image(&IMAGE));
+    match Server::new(alloc, plan, &IMAGE) {
+        Ok(server) => {
+            assert!(rt; server.parity() == parity);
+            None
+        }
+        Err(ServerError::BadPlan(field)) => Some(field),
+        Err(_) => panic!(rt; "no memory"),
+    }
+}
+
 /// Plans for the image of 52 bytes, and the first field of each that is wrong.
 #[test]
 fn the_first_wrong_field_is_named(rt: HostRuntime) -> Result<(), Fail> {
-    assert!(rt; is_image(&IMAGE));
     let late = Some(PlanGroup { min: 10, ..GROUP });
     let loud = Some(PlanWindow {
         timeout: 16,
@@ -124,13 +137,7 @@ fn the_first_wrong_field_is_named(rt: HostRuntime) -> Result<(), Fail> {
     ];
     for (frag_size, parity, group, window, count, wanted) in cases {
         let plan = plan(rt.alloc(), frag_size, parity, group, window, count)?;
-        match Server::new(rt.alloc(), plan, &IMAGE) {
-            Ok(server) => {
-                assert!(rt; wanted == None);
-                assert!(rt; server.parity() == parity);
-            }
-            Err(error) => assert!(rt; wanted.map(ServerError::BadPlan) == Some(error)),
-        }
+        assert!(rt; wrong_field(&rt, rt.alloc(), plan) == wanted);
     }
     Ok(())
 }
@@ -450,10 +457,21 @@ impl OneDevice {
         }
     }
 
+    fn asked(&self, rt: &impl Abort) -> Downlink {
+        match self.server.ask(1) {
+            Some(down) => down,
+            None => panic!(rt; "nothing is asked"),
+        }
+    }
+
+    fn stage(&self) -> Stage {
+        self.server.ledger(1)
+    }
+
     /// The stage behind an uplink.
     fn after(&mut self, rt: &impl Abort, port: u8, payload: &[u8]) -> Stage {
         assert!(rt; self.uplink(port, payload, 0).is_ok());
-        self.server.ledger(1)
+        self.stage()
     }
 
     #[tactic(auto, unfolding(campaign_server::specs::Uplinks::uplink_step, campaign_server::specs::Uplinks::read_uplink))]
@@ -501,73 +519,124 @@ fn a_campaign_is_sent_in_bytes(rt: HostRuntime) -> Result<(), Fail> {
     Ok(())
 }
 
+/// A campaign with the group and the window.
+fn with_group(
+    rt: &impl Abort,
+    alloc: Global,
+    frag_size: u8,
+    parity: u16,
+    group: PlanGroup,
+) -> Result<OneDevice, Fail> {
+    OneDevice::begin(rt, alloc, frag_size, parity, Some(group), Some(WINDOW))
+}
+
 #[test]
-fn a_group_is_asked_and_sent_to_in_bytes(rt: HostRuntime) -> Result<(), Fail> {
-    let few = PlanGroup { max: 2, ..GROUP };
-    let mut campaign = OneDevice::begin(&rt, rt.alloc(), 52, 0, Some(GROUP), Some(WINDOW))?;
+fn a_group_is_asked_in_bytes(rt: HostRuntime) -> Result<(), Fail> {
+    let mut campaign = with_group(&rt, rt.alloc(), 52, 0, GROUP)?;
     asked(&rt, &mut campaign, &GROUP_CAMPAIGN);
     assert!(rt; campaign.after(&rt, 200, &[0x02, 0x04]) == Stage::At(Request::Status));
-    let mut refused = OneDevice::begin(&rt, rt.alloc(), 52, 0, Some(GROUP), Some(WINDOW))?;
+    let mut refused = with_group(&rt, rt.alloc(), 52, 0, GROUP)?;
     asked(&rt, &mut refused, &GROUP_CAMPAIGN[..3]);
-    assert!(rt;
-        refused.after(&rt, 200, &[0x04, 0x1c])
-            == Stage::Refused {
-                request: Request::Window,
-                bits: 0x1c
-            }
-    );
-    // the counts of a group end before its fragments, and with them
-    let mut short = OneDevice::begin(&rt, rt.alloc(), 26, 1, Some(few), Some(WINDOW))?;
+    let stage = Stage::Refused {
+        request: Request::Window,
+        bits: 0x1c,
+    };
+    assert!(rt; refused.after(&rt, 200, &[0x04, 0x1c]) == stage);
+    Ok(())
+}
+
+/// A group of two counts.
+const FEW: PlanGroup = PlanGroup { max: 2, ..GROUP };
+
+/// The counts of a group end before its fragments, and with them.
+#[test]
+fn counts_of_a_group_end(rt: HostRuntime) -> Result<(), Fail> {
+    let mut short = with_group(&rt, rt.alloc(), 26, 1, FEW)?;
     assert!(rt; short.fragment().is_ok());
+    let to = To::Group {
+        addr: 0x1122_3344,
+        count: 1,
+    };
     match short.status_all() {
-        Some(down) => {
-            let to = To::Group {
-                addr: 0x1122_3344,
-                count: 1,
-            };
-            assert!(rt; is_down(&down, to, 201, &[0x01, 0x00]));
-        }
+        Some(down) => assert!(rt; is_down(&down, to, 201, &[0x01, 0x00])),
         None => assert!(rt; false),
     }
     assert!(rt; matches!(short.fragment(), Err(NothingLeft::Counts)));
     assert!(rt; short.status_all().is_none());
-    let mut even = OneDevice::begin(&rt, rt.alloc(), 26, 0, Some(few), Some(WINDOW))?;
+    let mut even = with_group(&rt, rt.alloc(), 26, 0, FEW)?;
     assert!(rt; even.fragment().is_ok() && even.fragment().is_ok());
     assert!(rt; matches!(even.fragment(), Err(NothingLeft::Fragments)));
     Ok(())
 }
 
+fn device(rt: &impl Abort, alloc: Global) -> Result<Device<CellFlash>, Fail> {
+    let flash = CellFlash::reserve(alloc, 0)?;
+    match Device::reserve(alloc, CONFIG, flash) {
+        Ok(device) => Ok(device),
+        Err(_) => panic!(rt; "no device"),
+    }
+}
+
+/// The device acts on a payload, and what it answers goes up.
+fn answers(
+    rt: &impl Abort,
+    campaign: &mut OneDevice,
+    device: &mut Device<CellFlash>,
+    down: &Downlink,
+) {
+    assert!(rt; !campaign.server.has_frame(down));
+    assert!(rt; device.deliver(0, down, 0, 1) == Delivered::Done);
+    match device.take_uplink() {
+        Some(uplink) => {
+            let payload = uplink.payload.as_slice();
+            assert!(rt; campaign.uplink(uplink.port, payload, 0).is_ok());
+        }
+        None => panic!(rt; "no answer"),
+    }
+}
+
+/// A payload of the server's to the group is this frame, which the device hears.
+fn hears(
+    rt: &impl Abort,
+    server: &Server,
+    device: &mut Device<CellFlash>,
+    down: &Downlink,
+    bytes: &[u8],
+) {
+    assert!(rt; server.has_frame(down));
+    let frame = server.frame(down);
+    assert!(rt; frame.as_slice() == bytes);
+    let heard = Aired::Heard(Delivered::Done);
+    assert!(rt; device.radio(1_000_000, frame.as_slice(), 0, 2) == heard);
+}
+
+/// The device's answer to a status request, none of whose frames was lost on it.
+fn tells(device: &mut Device<CellFlash>, bytes: &[u8]) -> bool {
+    match device.take_uplink() {
+        Some(uplink) => uplink.payload.as_slice() == bytes && device.counts().deaf == 0,
+        None => false,
+    }
+}
+
 /// A device that the server sets up hears what the server sends to the group, in its window.
 #[test]
 fn frames_reach_a_device_with_the_group(rt: HostRuntime) -> Result<(), Fail> {
-    let mut campaign = OneDevice::begin(&rt, rt.alloc(), 13, 4, Some(GROUP), Some(WINDOW))?;
-    let flash = CellFlash::reserve(rt.alloc(), 0).expect(&rt, "no flash");
-    let mut device = Device::reserve(rt.alloc(), CONFIG, flash).expect(&rt, "no device");
+    let mut campaign = with_group(&rt, rt.alloc(), 13, 4, GROUP)?;
+    let mut device = device(&rt, rt.alloc())?;
     for _ in 0..4 {
-        let down = campaign.server.ask(1).expect(&rt, "nothing asked");
-        assert!(rt; !campaign.server.has_frame(&down));
-        assert!(rt; device.deliver(0, &down, 0, 1) == Delivered::Done);
-        let uplink = device.take_uplink().expect(&rt, "no answer");
-        assert!(rt;
-            campaign
-                .uplink(uplink.port, uplink.payload.as_slice(), 0)
-                .is_ok()
-        );
+        let down = campaign.asked(&rt);
+        answers(&rt, &mut campaign, &mut device, &down);
     }
-    assert!(rt; campaign.server.ledger(1) == Stage::At(Request::Status));
-    let fragment = campaign.fragment().expect(&rt, "no fragment");
-    let status = campaign.status_all().expect(&rt, "no count");
-    for (down, bytes) in [fragment, status].iter().zip(&FRAMES) {
-        assert!(rt; campaign.server.has_frame(down));
-        let frame = campaign.server.frame(down);
-        assert!(rt; frame.as_slice() == *bytes);
-        assert!(rt;
-            device.radio(1_000_000, frame.as_slice(), 0, 2) == Aired::Heard(Delivered::Done)
-        );
-    }
-    let answer = device.take_uplink().expect(&rt, "no answer");
-    assert!(rt; answer.payload.as_slice() == [0x01, 0x01, 0x00, 0x03, 0x00].as_slice());
-    assert!(rt; device.counts().deaf == 0);
+    assert!(rt; campaign.stage() == Stage::At(Request::Status));
+    let Ok(fragment) = campaign.fragment() else {
+        panic!(rt; "no fragment");
+    };
+    hears(&rt, &campaign.server, &mut device, &fragment, FRAMES[0]);
+    let Some(status) = campaign.status_all() else {
+        panic!(rt; "no count");
+    };
+    hears(&rt, &campaign.server, &mut device, &status, FRAMES[1]);
+    assert!(rt; tells(&mut device, &[0x01, 0x01, 0x00, 0x03, 0x00]));
     Ok(())
 }
 
@@ -582,21 +651,23 @@ fn an_answer_moves_its_own_stage_alone(rt: HostRuntime) -> Result<(), Fail> {
     Ok(())
 }
 
+/// Whether this is answered to an uplink on port 202; nothing where there are no bytes.
+fn is_answered(campaign: &mut OneDevice, t: u64, payload: &[u8], answer: &[u8]) -> bool {
+    match campaign.uplink(202, payload, t) {
+        Ok(Some(down)) => is_down(&down, To::Unicast, 202, answer),
+        Ok(None) => answer.is_empty(),
+        Err(_) => false,
+    }
+}
+
 #[test]
 fn the_time_is_answered_anew_each_time(rt: HostRuntime) -> Result<(), Fail> {
     let mut campaign = OneDevice::begin(&rt, rt.alloc(), 13, 4, None, None)?;
     for (t, payload, answer) in &TIMES {
-        match campaign.uplink(202, payload, *t) {
-            Ok(Some(down)) => assert!(rt; is_down(&down, To::Unicast, 202, answer)),
-            Ok(None) => assert!(rt; answer.is_empty()),
-            Err(_) => assert!(rt; false),
-        }
+        assert!(rt; is_answered(&mut campaign, *t, payload, answer));
     }
-    assert!(rt;
-        campaign
-            .uplink(202, &[0x01, 0x0f, 0, 0, 0], 10_000)
-            .is_err()
-    );
+    let cut = campaign.uplink(202, &[0x01, 0x0f, 0, 0, 0], 10_000);
+    assert!(rt; cut.is_err());
     campaign.asks(&rt, 203, &[0x01]);
     Ok(())
 }
@@ -632,6 +703,6 @@ fn stays(rt: &impl Abort, campaign: &mut OneDevice, port: u8, payload: &[u8], at
         Ok(_) => assert!(rt; false),
         Err(refusal) => assert!(rt; refusal == Refusal { at, why }),
     }
-    assert!(rt; campaign.server.ledger(1) == Stage::At(Request::Version));
+    assert!(rt; campaign.stage() == Stage::At(Request::Version));
     campaign.asks(rt, 203, &[0x01]);
 }

@@ -16,6 +16,12 @@ const IMAGE: [u8; 52] = [
     0xad, 0x61, 0x62, 0x63,
 ];
 
+/// How many pieces a file has, and its padding.
+fn sizes(alloc: Global, file: &[u8], frag_size: u8) -> Result<(u16, u8), EncoderError> {
+    let encoder = Encoder::new(alloc, file, frag_size)?;
+    Ok((encoder.nb_frag(), encoder.padding()))
+}
+
 #[test]
 fn a_file_is_cut_as_its_sizes_say(rt: HostRuntime) -> Result<(), Fail> {
     let zeros = [0; 8193];
@@ -34,20 +40,25 @@ fn a_file_is_cut_as_its_sizes_say(rt: HostRuntime) -> Result<(), Fail> {
         (&zeros[..8191], 2, Ok((4096, 1))),
     ];
     for (file, frag_size, cut) in &table {
-        let made = Encoder::new(rt.alloc(), file, *frag_size);
-        assert_eq!(rt; made.map(|e| (e.nb_frag(), e.padding())), *cut);
+        assert!(rt; sizes(rt.alloc(), file, *frag_size) == *cut);
     }
     Ok(())
 }
 
-/// The file 11 22 33 44 55 in pieces of `frag_size` bytes, and its fragment `n`.
-fn small(alloc: Global, frag_size: u8, n: u16) -> Result<Option<ArrayVec<u8, 239>>, EncoderError> {
-    let mut out = ArrayVec::new();
+/// Whether fragment `n` of the file 11 22 33 44 55 in pieces of `frag_size` bytes is this; none where there is no such one.
+fn is_part(
+    alloc: Global,
+    frag_size: u8,
+    n: u16,
+    part: Option<&[u8]>,
+) -> Result<bool, EncoderError> {
     let encoder = Encoder::new(alloc, &[0x11, 0x22, 0x33, 0x44, 0x55], frag_size)?;
-    match encoder.fragment(n, &mut out) {
-        Ok(()) => Ok(Some(out)),
-        Err(Beyond) => Ok(None),
-    }
+    let mut out = ArrayVec::new();
+    let made = encoder.fragment(n, &mut out);
+    Ok(match part {
+        Some(bytes) => made == Ok(()) && out.as_slice() == bytes,
+        None => made == Err(Beyond),
+    })
 }
 
 #[test]
@@ -71,8 +82,7 @@ fn fragments_worked_out_by_hand(rt: HostRuntime) -> Result<(), Fail> {
         (5, 0, None),
     ];
     for (frag_size, n, part) in &table {
-        let made = small(rt.alloc(), *frag_size, *n)?;
-        assert_eq!(rt; made.as_ref().map(|p| p.as_slice()), *part);
+        assert!(rt; is_part(rt.alloc(), *frag_size, *n, *part)?);
     }
     Ok(())
 }

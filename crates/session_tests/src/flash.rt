@@ -46,41 +46,25 @@ enum Call {
     Delete,
 }
 
-/// What a session shows.
-#[derive(Clone, Copy, Debug, PartialEq, Eq)]
-struct Shown {
-    received: u16,
-    missing: u16,
-}
+/// How many fragments a session received, and how many of its pieces are missing; none where there is no session.
+type Shown = Option<(u16, u16)>;
 
 /// After one fragment of four, two, and the same one twice; a session that heard nothing, and one of three pieces.
-const HEARD_ONE: Option<Shown> = Some(Shown {
-    received: 1,
-    missing: 3,
-});
+const HEARD_ONE: Shown = Some((1, 3));
 
-const HEARD_TWO: Option<Shown> = Some(Shown {
-    received: 2,
-    missing: 2,
-});
+const HEARD_TWO: Shown = Some((2, 2));
 
-const HEARD_TWICE: Option<Shown> = Some(Shown {
-    received: 2,
-    missing: 3,
-});
+const HEARD_TWICE: Shown = Some((2, 3));
 
-const NEW: Option<Shown> = Some(Shown {
-    received: 0,
-    missing: 4,
-});
+const NEW: Shown = Some((0, 4));
 
-const NEW_OF_THREE: Option<Shown> = Some(Shown {
-    received: 0,
-    missing: 3,
-});
+const NEW_OF_THREE: Shown = Some((0, 3));
 
 fn solver(rt: &impl Abort, alloc: Global) -> SmallIdle {
-    Idle::new(Solver::reserve(alloc, 8).expect(rt, "no memory"))
+    match Solver::reserve(alloc, 8) {
+        Ok(solver) => Idle::new(solver),
+        Err(_) => panic!(rt; "no memory"),
+    }
 }
 
 /// Whether a session from there has room.
@@ -162,12 +146,16 @@ fn make_all<F: Flash>(rt: &impl Abort, flash: &mut F, idle: SmallIdle, calls: &[
     make_each(rt, held, flash, calls)
 }
 
-fn shows(held: &SmallHeld) -> Option<Shown> {
-    let view = held.view()?;
-    Some(Shown {
-        received: view.received,
-        missing: view.missing,
-    })
+fn shows(held: &SmallHeld) -> Shown {
+    match held.view() {
+        Some(view) => Some((view.received, view.missing)),
+        None => None,
+    }
+}
+
+/// Memory for a flash of so many bytes, none of whose calls fails.
+fn memory(alloc: Global, size: u32, room: u32) -> Result<MemFlash, Fail> {
+    Ok(MemFlash::reserve(alloc, size, room, Vec::new(alloc))?)
 }
 
 /// What is left of a call that was stopped.
@@ -180,22 +168,40 @@ struct Left {
 
 /// The last call after others, stopped after `k` calls of the flash.
 fn stop(rt: &impl Abort, alloc: Global, before: &[Call], last: Call, k: u64) -> Result<Left, Fail> {
-    let mut flash = MemFlash::reserve(alloc, SPAN, ROOM, Vec::new(alloc))?;
+    let mut flash = memory(alloc, SPAN, ROOM)?;
     let held = make_all(rt, &mut flash, solver(rt, alloc), before);
+    Ok(make_stopped(rt, held, 0, flash, last, k))
+}
+
+/// A call of the session from `base` on that is stopped after `k` calls of the flash.
+fn make_stopped(
+    rt: &impl Abort,
+    held: SmallHeld,
+    base: u32,
+    flash: MemFlash,
+    last: Call,
+    k: u64,
+) -> Left
+    requires base { held.base ≡ base }
+    requires span { held.span ≡ SPAN }
+{
     let mut stopped = StopFlash::over(flash, k);
-    let (idle, done) = match make(rt, held, 0, &mut stopped, last) {
+    let (idle, done) = match make(rt, held, base, &mut stopped, last) {
         Ok(held) => (held.close(), true),
         Err(idle) => (idle, false),
     };
-    let flash = stopped.inner();
-    Ok(Left { flash, idle, done })
+    Left {
+        flash: stopped.inner(),
+        idle,
+        done,
+    }
 }
 
 /// A call after others, and what opens where it is stopped after 0, 1, 2 .. calls of the flash, up to all of them.
 struct Stopped<'a> {
     before: &'a [Call],
     last: Call,
-    found: &'a [Option<Shown>],
+    found: &'a [Shown],
 }
 
 const ONE: [Call; 2] = [Call::Setup(4), Call::Hear(1, 0x11)];
@@ -263,13 +269,23 @@ const STOPPED: [Stopped; 9] = [
     },
 ];
 
+/// Whether a session opens there that shows this.
+fn opens<F: Flash>(
+    rt: &impl Abort,
+    flash: &mut F,
+    base: u32,
+    idle: SmallIdle,
+    found: Shown,
+) -> bool {
+    shows(&open_at(rt, flash, base, idle)) == found
+}
+
 fn opens_again(rt: &impl Abort, alloc: Global, row: &Stopped) -> Result<(), Fail> {
     for (k, found) in row.found.iter().enumerate() {
         let left = stop(rt, alloc, row.before, row.last, k as u64)?;
-        assert_eq!(rt; left.done, k + 1 == row.found.len());
+        assert!(rt; left.done == (k + 1 == row.found.len()));
         let mut flash = left.flash;
-        let held = open(rt, &mut flash, left.idle);
-        assert_eq!(rt; shows(&held), *found);
+        assert!(rt; opens(rt, &mut flash, 0, left.idle, *found));
     }
     Ok(())
 }
@@ -289,8 +305,8 @@ struct Torn<'a> {
     last: Call,
     stop: u64,
     place: u32,
-    open: Option<Shown>,
-    shut: Option<Shown>,
+    open: Shown,
+    shut: Shown,
 }
 
 const TORN: [Torn; 8] = [
@@ -363,33 +379,48 @@ const TORN: [Torn; 8] = [
     },
 ];
 
-fn byte_at(rt: &impl Abort, flash: &mut MemFlash, place: u32) -> u8 {
+fn poke<F: Flash>(rt: &impl Abort, flash: &mut F, place: u32, byte: u8) {
+    assert!(rt; place < flash.size());
+    assert!(rt; flash.write(place, &[byte]).is_ok());
+}
+
+/// Whether the flash has the byte.
+fn has<F: Flash>(rt: &impl Abort, flash: &mut F, place: u32, byte: u8) -> bool {
     let mut bytes = [0];
     assert!(rt; place < flash.size());
     assert!(rt; flash.read(place, &mut bytes).is_ok());
-    bytes[0]
+    bytes == [byte]
 }
 
-fn opens_torn(rt: &impl Abort, alloc: Global, row: &Torn) -> Result<(), Fail> {
-    let mut one_call_less = stop(rt, alloc, row.before, row.last, row.stop.saturating_sub(1))?;
-    let was = byte_at(rt, &mut one_call_less.flash, row.place);
-    let left = stop(rt, alloc, row.before, row.last, row.stop)?;
+/// Whether the flashes differ there.
+fn differs<F: Flash>(rt: &impl Abort, one: &mut F, other: &mut F, place: u32) -> bool {
+    for byte in 0..=255u8 {
+        if has(rt, one, place, byte) {
+            return !has(rt, other, place, byte);
+        }
+    }
+    false
+}
+
+/// Opens it with each byte at the place.
+fn opens_with_each_byte(rt: &impl Abort, left: Left, row: &Torn) {
     let mut flash = left.flash;
     let mut idle = left.idle;
-    assert!(rt; byte_at(rt, &mut flash, row.place) != was);
     for byte in 0..=255u8 {
         poke(rt, &mut flash, row.place, byte);
         let held = open(rt, &mut flash, idle);
         let found = if byte == 0xa5 { row.open } else { row.shut };
-        assert_eq!(rt; shows(&held), found);
+        assert!(rt; shows(&held) == found);
         idle = held.close();
     }
-    Ok(())
 }
 
-fn poke<F: Flash>(rt: &impl Abort, flash: &mut F, place: u32, byte: u8) {
-    assert!(rt; place < flash.size());
-    assert!(rt; flash.write(place, &[byte]).is_ok());
+fn opens_torn(rt: &impl Abort, alloc: Global, row: &Torn) -> Result<(), Fail> {
+    let mut one_call_less = stop(rt, alloc, row.before, row.last, row.stop.saturating_sub(1))?;
+    let mut left = stop(rt, alloc, row.before, row.last, row.stop)?;
+    assert!(rt; differs(rt, &mut one_call_less.flash, &mut left.flash, row.place));
+    opens_with_each_byte(rt, left, row);
+    Ok(())
 }
 
 #[test]
@@ -467,6 +498,16 @@ const FOREIGN: [Foreign; 13] = [
     },
 ];
 
+/// The place that is foreign to a session from 0 on.
+fn foreign_place(rt: &impl Abort, flash: &mut CellFlash, idle: SmallIdle) -> Option<u32> {
+    assert!(rt; fits(flash, 0));
+    match Held::open(flash, 0, SPAN, idle, LIMITS) {
+        Ok(_) => None,
+        Err((_, OpenFault::Foreign(place))) => Some(place),
+        Err(_) => panic!(rt; "a call of the flash"),
+    }
+}
+
 fn is_foreign(rt: &impl Abort, alloc: Global, row: &Foreign) -> Result<(), Fail> {
     let mut flash = CellFlash::reserve(alloc, SPAN)?;
     let calls = [Call::Setup(4), Call::Hear(1, 0x11), Call::Hear(3, 0x33)];
@@ -474,12 +515,7 @@ fn is_foreign(rt: &impl Abort, alloc: Global, row: &Foreign) -> Result<(), Fail>
     for (place, byte) in row.bytes {
         poke(rt, &mut flash, *place, *byte);
     }
-    assert!(rt; SPAN <= flash.size());
-    let fault = match Held::open(&mut flash, 0, SPAN, idle, LIMITS) {
-        Ok(_) => None,
-        Err((_, fault)) => Some(fault),
-    };
-    assert_eq!(rt; fault, row.place.map(OpenFault::Foreign));
+    assert!(rt; foreign_place(rt, &mut flash, idle) == row.place);
     Ok(())
 }
 
@@ -491,21 +527,68 @@ fn the_lowest_foreign_place_is_named(rt: HostRuntime) -> Result<(), Fail> {
     Ok(())
 }
 
-#[test]
-fn a_session_is_whole_is_deleted_and_begins_again(rt: HostRuntime) -> Result<(), Fail> {
-    let alloc = rt.alloc();
-    let mut flash = CellFlash::reserve(alloc, SPAN)?;
-    let held = open(&rt, &mut flash, solver(&rt, alloc));
-    assert!(rt; fits(&flash, 0));
-    let Ok((held, bits)) = held.setup(&mut flash, SetupReq { algo: 1, ..SETUP }) else {
+/// A setup of another algorithm is refused, and there is no session then that hears.
+fn hears_nothing(rt: &impl Abort, flash: &mut CellFlash, idle: SmallIdle) -> SmallIdle {
+    let held = open(rt, flash, idle);
+    assert!(rt; fits(flash, 0));
+    let Ok((held, bits)) = held.setup(flash, SetupReq { algo: 1, ..SETUP }) else {
         panic!(rt; "the setup failed");
     };
-    assert_eq!(rt; bits, 1);
-    assert!(rt; fits(&flash, 0));
-    let Ok((held, heard)) = held.hear(&mut flash, Via::Unicast, 1, &[0x11], 5) else {
+    assert!(rt; bits == 1 && fits(flash, 0));
+    let Ok((held, heard)) = held.hear(flash, Via::Unicast, 1, &[0x11], 5) else {
         panic!(rt; "the fragment failed");
     };
-    assert_eq!(rt; heard, Heard::Dropped(Cause::NoSession));
+    assert!(rt; heard == Heard::Dropped(Cause::NoSession));
+    held.close()
+}
+
+/// The last piece comes twice.
+fn hears_twice(rt: &impl Abort, flash: &mut CellFlash, held: SmallHeld) -> SmallIdle
+    requires base { held.base ≡ 0 }
+    requires span { held.span ≡ SPAN }
+{
+    assert!(rt; fits(flash, 0));
+    let Ok((held, heard)) = held.hear(flash, Via::Unicast, 4, &[0x44], 9) else {
+        panic!(rt; "the fragment failed");
+    };
+    assert!(rt; heard == Heard::Fed(News::New) && fits(flash, 0));
+    let Ok((held, heard)) = held.hear(flash, Via::Unicast, 4, &[0x44], 10) else {
+        panic!(rt; "the fragment failed");
+    };
+    assert!(rt; heard == Heard::Fed(News::Old));
+    held.close()
+}
+
+/// Whether four pieces are whole by six fragments, at mark 9.
+fn is_whole(held: &SmallHeld) -> bool {
+    match (held.view(), held.status(Via::Unicast, true)) {
+        (Some(view), Some(status)) => {
+            view.received == 6
+                && view.missing == 0
+                && view.verdict == Verdict::Complete(9)
+                && view.file == [0x11, 0x22, 0x33, 0x44].as_slice()
+                && status.received == 6
+        }
+        _ => false,
+    }
+}
+
+fn is_deleted(rt: &impl Abort, flash: &mut CellFlash, held: SmallHeld) -> SmallIdle
+    requires base { held.base ≡ 0 }
+    requires span { held.span ≡ SPAN }
+{
+    assert!(rt; fits(flash, 0));
+    let Ok((held, lived)) = held.delete(flash) else {
+        panic!(rt; "the delete failed");
+    };
+    assert!(rt; lived);
+    held.close()
+}
+
+#[test]
+fn a_session_is_whole_is_deleted_and_begins_again(rt: HostRuntime) -> Result<(), Fail> {
+    let mut flash = CellFlash::reserve(rt.alloc(), SPAN)?;
+    let idle = hears_nothing(&rt, &mut flash, solver(&rt, rt.alloc()));
     let calls = [
         Call::Setup(4),
         Call::Hear(1, 0x11),
@@ -513,107 +596,103 @@ fn a_session_is_whole_is_deleted_and_begins_again(rt: HostRuntime) -> Result<(),
         Call::Hear(2, 0x22),
         Call::Hear(3, 0x33),
     ];
-    let held = make_all(&rt, &mut flash, held.close(), &calls);
-    assert!(rt; fits(&flash, 0));
-    let Ok((held, heard)) = held.hear(&mut flash, Via::Unicast, 4, &[0x44], 9) else {
-        panic!(rt; "the fragment failed");
-    };
-    assert_eq!(rt; heard, Heard::Fed(News::New));
-    assert!(rt; fits(&flash, 0));
-    let Ok((held, heard)) = held.hear(&mut flash, Via::Unicast, 4, &[0x44], 10) else {
-        panic!(rt; "the fragment failed");
-    };
-    assert_eq!(rt; heard, Heard::Fed(News::Old));
-    let held = open(&rt, &mut flash, held.close());
-    let view = held.view().expect(&rt, "no session");
-    assert_eq!(rt; view.received, 6);
-    assert_eq!(rt; view.missing, 0);
-    assert_eq!(rt; view.verdict, Verdict::Complete(9));
-    assert_eq!(rt; view.file, [0x11, 0x22, 0x33, 0x44].as_slice());
-    let status = held.status(Via::Unicast, true).expect(&rt, "no answer");
-    assert_eq!(rt; status.received, 6);
-    assert!(rt; fits(&flash, 0));
-    let Ok((held, lived)) = held.delete(&mut flash) else {
-        panic!(rt; "the delete failed");
-    };
-    assert!(rt; lived);
-    let held = open(&rt, &mut flash, held.close());
-    assert!(rt; held.view().is_none());
+    let held = make_all(&rt, &mut flash, idle, &calls);
+    let idle = hears_twice(&rt, &mut flash, held);
+    let held = open(&rt, &mut flash, idle);
+    assert!(rt; is_whole(&held));
+    let idle = is_deleted(&rt, &mut flash, held);
+    assert!(rt; opens(&rt, &mut flash, 0, idle, None));
     Ok(())
 }
 
-const COUNTED_ALL: Option<Shown> = Some(Shown {
-    received: 16_383,
-    missing: 3,
-});
+const COUNTED_ALL: Shown = Some((16_383, 3));
+
+/// Opens the gates of all tallies.
+fn count_all<F: Flash>(rt: &impl Abort, flash: &mut F) {
+    for place in 8257..24_639 {
+        poke(rt, flash, place, 0xa5);
+    }
+}
 
 /// 16,383 fragments are counted; one more takes no call of the flash.
 #[test]
 fn the_count_ends(rt: HostRuntime) -> Result<(), Fail> {
-    let alloc = rt.alloc();
-    let mut flash = MemFlash::reserve(alloc, SPAN, ROOM, Vec::new(alloc))?;
-    let idle = make_all(&rt, &mut flash, solver(&rt, alloc), &ONE).close();
-    for k in 0..16_382u32 {
-        poke(&rt, &mut flash, 8257 + k, 0xa5);
-    }
+    let mut flash = memory(rt.alloc(), SPAN, ROOM)?;
+    let idle = make_all(&rt, &mut flash, solver(&rt, rt.alloc()), &ONE).close();
+    count_all(&rt, &mut flash);
     let held = open(&rt, &mut flash, idle);
-    assert_eq!(rt; shows(&held), COUNTED_ALL);
+    assert!(rt; shows(&held) == COUNTED_ALL);
     let mut stopped = StopFlash::over(flash, 0);
-    let Ok(held) = make(&rt, held, 0, &mut stopped, Call::Hear(1, 0x11)) else {
-        panic!(rt; "a call of the flash");
-    };
-    assert_eq!(rt; shows(&held), COUNTED_ALL);
+    match make(&rt, held, 0, &mut stopped, Call::Hear(1, 0x11)) {
+        Ok(held) => assert!(rt; shows(&held) == COUNTED_ALL),
+        Err(_) => panic!(rt; "a call of the flash"),
+    }
     Ok(())
 }
 
 /// Two sessions on one flash: where a call of one is stopped, the other opens as it was.
 #[test]
 fn a_stop_leaves_the_session_beside(rt: HostRuntime) -> Result<(), Fail> {
-    let alloc = rt.alloc();
-    let mut flash = MemFlash::reserve(alloc, 2 * SPAN, 2 * ROOM, Vec::new(alloc))?;
-    let first = make_all(&rt, &mut flash, solver(&rt, alloc), &ONE);
-    let second = open_at(&rt, &mut flash, SPAN, solver(&rt, alloc));
-    let mut stopped = StopFlash::over(flash, 3);
-    let second = match make(&rt, second, SPAN, &mut stopped, Call::Setup(3)) {
-        Ok(_) => panic!(rt; "it was not stopped"),
-        Err(idle) => idle,
-    };
-    let mut flash = stopped.inner();
-    let first = open(&rt, &mut flash, first.close());
-    assert_eq!(rt; shows(&first), HEARD_ONE);
-    let second = open_at(&rt, &mut flash, SPAN, second);
-    assert_eq!(rt; shows(&second), None);
-    let Ok(second) = make(&rt, second, SPAN, &mut flash, Call::Setup(3)) else {
+    let mut flash = memory(rt.alloc(), 2 * SPAN, 2 * ROOM)?;
+    let first = make_all(&rt, &mut flash, solver(&rt, rt.alloc()), &ONE).close();
+    let second = open_at(&rt, &mut flash, SPAN, solver(&rt, rt.alloc()));
+    let left = make_stopped(&rt, second, SPAN, flash, Call::Setup(3), 3);
+    goes_on_beside(&rt, left, first);
+    Ok(())
+}
+
+/// The second session was stopped as it began; the first one is stopped as it ends.
+fn goes_on_beside(rt: &impl Abort, left: Left, first: SmallIdle) {
+    let mut flash = left.flash;
+    let first = open(rt, &mut flash, first);
+    assert!(rt; !left.done && shows(&first) == HEARD_ONE);
+    let second = open_at(rt, &mut flash, SPAN, left.idle);
+    assert!(rt; shows(&second) == None);
+    let Ok(second) = make(rt, second, SPAN, &mut flash, Call::Setup(3)) else {
         panic!(rt; "the setup failed");
     };
-    let mut stopped = StopFlash::over(flash, 1);
-    let first = match make(&rt, first, 0, &mut stopped, Call::Delete) {
-        Ok(_) => panic!(rt; "it was not stopped"),
-        Err(idle) => idle,
-    };
-    let mut flash = stopped.inner();
-    let second = open_at(&rt, &mut flash, SPAN, second.close());
-    assert_eq!(rt; shows(&second), NEW_OF_THREE);
-    let first = open(&rt, &mut flash, first);
-    assert_eq!(rt; shows(&first), None);
-    Ok(())
+    let left = make_stopped(rt, first, 0, flash, Call::Delete, 1);
+    let mut flash = left.flash;
+    assert!(rt; !left.done && opens(rt, &mut flash, SPAN, second.close(), NEW_OF_THREE));
+    assert!(rt; opens(rt, &mut flash, 0, left.idle, None));
+}
+
+fn writes<F: Flash>(rt: &impl Abort, flash: &mut F, place: u32, bytes: &[u8; 2]) -> bool {
+    assert!(rt; place as u64 + 2 <= flash.size() as u64);
+    flash.write(place, bytes).is_ok()
+}
+
+fn fills<F: Flash>(rt: &impl Abort, flash: &mut F, place: u32, count: u32) -> bool {
+    assert!(rt; place as u64 + count as u64 <= flash.size() as u64);
+    flash.fill(place, count).is_ok()
+}
+
+fn syncs<F: Flash>(flash: &mut F) -> bool {
+    flash.sync().is_ok()
+}
+
+/// The first four bytes, where they are read.
+fn reads<F: Flash>(rt: &impl Abort, flash: &mut F) -> Option<[u8; 4]> {
+    let mut bytes = [7; 4];
+    assert!(rt; 4 <= flash.size());
+    match flash.read(0, &mut bytes) {
+        Ok(()) => Some(bytes),
+        Err(_) => None,
+    }
 }
 
 /// The calls that fail: those that are listed, and those that the log has no room for.
 #[test]
 fn a_flash_in_memory_fails_where_it_is_told_to(rt: HostRuntime) -> Result<(), Fail> {
-    let alloc = rt.alloc();
-    let mut flash = MemFlash::reserve(alloc, 8, 5, vec![in alloc; 2, 6]?)?;
-    assert_eq!(rt; flash.size(), 8);
-    assert!(rt; flash.write(0, &[1, 2]).is_ok());
-    assert!(rt; flash.write(0, &[3, 4]).is_err());
-    assert!(rt; flash.sync().is_ok());
-    assert!(rt; flash.fill(1, 3).is_err());
-    assert!(rt; flash.fill(1, 2).is_ok());
-    let mut bytes = [7; 4];
-    assert!(rt; flash.read(0, &mut bytes).is_err());
-    assert!(rt; flash.read(0, &mut bytes).is_ok());
-    assert_eq!(rt; bytes, [1, 0, 0, 0]);
-    assert!(rt; flash.sync().is_err());
+    let mut flash = MemFlash::reserve(rt.alloc(), 8, 5, vec![in rt.alloc(); 2, 6]?)?;
+    assert!(rt; flash.size() == 8);
+    assert!(rt; writes(&rt, &mut flash, 0, &[1, 2]));
+    assert!(rt; !writes(&rt, &mut flash, 0, &[3, 4]));
+    assert!(rt; syncs(&mut flash));
+    assert!(rt; !fills(&rt, &mut flash, 1, 3));
+    assert!(rt; fills(&rt, &mut flash, 1, 2));
+    assert!(rt; reads(&rt, &mut flash) == None);
+    assert!(rt; reads(&rt, &mut flash) == Some([1, 0, 0, 0]));
+    assert!(rt; !syncs(&mut flash));
     Ok(())
 }

@@ -68,27 +68,35 @@ fn a_file_is_what_its_bytes_make_it(rt: HostRuntime) {
     assert!(rt; is_image(&RANGED) && lowest(&RANGED) == 1 && highest(&RANGED) == 3);
 }
 
+fn is_next(slots: &Slots, state: ImageState) -> bool {
+    slots.next() == state
+}
+
+/// Whether firmware 2 of this file runs.
+fn runs(slots: &Slots, file: &[u8]) -> bool {
+    slots.running().0 == 2 && slots.running().1 == file
+}
+
 #[test]
 fn a_file_runs_once_it_is_swapped_in(rt: HostRuntime) {
     let Ok(mut slots) = Slots::reserve(rt.alloc(), 52, 1, 2) else {
         return assert!(rt; false);
     };
     slots.swap();
-    assert!(rt; slots.next() == ImageState::None);
+    assert!(rt; is_next(&slots, ImageState::None));
     assert!(rt; slots.delete(2) == 1);
     slots.offer(&IMAGE);
-    assert!(rt; slots.next() == ImageState::Valid(2));
+    assert!(rt; is_next(&slots, ImageState::Valid(2)));
     assert!(rt; slots.delete(3) == 2);
     slots.swap();
-    assert!(rt; slots.running().0 == 2);
-    assert!(rt; slots.running().1 == &IMAGE[..]);
-    assert!(rt; slots.next() == ImageState::None);
+    assert!(rt; runs(&slots, &IMAGE));
+    assert!(rt; is_next(&slots, ImageState::None));
     slots.offer(&IMAGE);
     assert!(rt; slots.delete(2) == 0);
-    assert!(rt; slots.next() == ImageState::None);
+    assert!(rt; is_next(&slots, ImageState::None));
     slots.offer(&IMAGE[..48]);
     slots.swap();
-    assert!(rt; slots.next() == ImageState::Corrupt);
+    assert!(rt; is_next(&slots, ImageState::Corrupt));
 }
 
 #[test]
@@ -97,15 +105,14 @@ fn a_file_of_format_2_is_read_again_once_both_are_known(rt: HostRuntime) {
         return assert!(rt; false);
     };
     slots.offer(&RANGED);
-    assert!(rt; slots.next() == ImageState::Corrupt);
+    assert!(rt; is_next(&slots, ImageState::Corrupt));
     slots.raise();
-    assert!(rt; slots.next() == ImageState::Valid(2));
+    assert!(rt; is_next(&slots, ImageState::Valid(2)));
     slots.raise();
-    assert!(rt; slots.next() == ImageState::Valid(2));
+    assert!(rt; is_next(&slots, ImageState::Valid(2)));
     slots.swap();
-    assert!(rt; slots.running().0 == 2);
-    assert!(rt; slots.running().1 == &RANGED[..]);
+    assert!(rt; runs(&slots, &RANGED));
     slots.raise();
-    assert!(rt; slots.next() == ImageState::None);
-    assert!(rt; slots.running().0 == 2);
+    assert!(rt; is_next(&slots, ImageState::None));
+    assert!(rt; runs(&slots, &RANGED));
 }

@@ -2,6 +2,8 @@
 
 use frag_model::gains::plain_excess;
 use frag_model::lines::{MAX_PARITY_INDEX, plain_line, plain_prbs23};
+use std::alloc::Global;
+use std::process::Abort;
 use std::test::Fail;
 
 #[test]
@@ -46,6 +48,16 @@ fn line_over_two_columns(rt: HostRuntime) -> Result<(), Fail> {
     Ok(())
 }
 
+/// The excess of fragments with these numbers, of so many pieces.
+pub fn excess(rt: &impl Abort, alloc: Global, pieces: u16, numbers: &[u16]) -> Result<usize, Fail> {
+    assert!(rt; 1 <= pieces && pieces <= 64);
+    let in_range = numbers
+        .iter()
+        .all(|n| 1 <= *n && *n <= pieces + MAX_PARITY_INDEX);
+    assert!(rt; in_range);
+    Ok(plain_excess(alloc, pieces, numbers)?)
+}
+
 #[test]
 fn excess_over_four_pieces(rt: HostRuntime) -> Result<(), Fail> {
     let rows: [(&[u16], usize); 7] = [
@@ -57,12 +69,8 @@ fn excess_over_four_pieces(rt: HostRuntime) -> Result<(), Fail> {
         (&[8, 7], 2),
         (&[2, 2, 2], 0),
     ];
-    for (numbers, excess) in &rows {
-        let in_range = numbers
-            .iter()
-            .all(|n| 1 <= *n && *n <= 4 + MAX_PARITY_INDEX);
-        assert!(rt; in_range);
-        assert_eq!(rt; plain_excess(rt.alloc(), 4, numbers)?, *excess);
+    for (numbers, wanted) in &rows {
+        assert!(rt; excess(&rt, rt.alloc(), 4, numbers)? == *wanted);
     }
     Ok(())
 }

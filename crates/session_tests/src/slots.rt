@@ -49,179 +49,209 @@ const NOTHING: Row = Row {
     file: &[],
 };
 
-/// One that four fragments made whole.
-const WHOLE: Row = Row {
-    received: 4,
-    missing: 0,
-    verdict: Verdict::Complete(6),
-    file: &[0x11, 0x22, 0x33, 0x44],
-    ..NOTHING
-};
-
-/// Sessions of four pieces: a verdict comes at the fragment that decides, and stays while more are counted.
-const FOUR_PIECES: [Row; 13] = [
-    Row {
-        fragments: &[(4, 0x44), (1, 0x11), (3, 0x33), (2, 0x22)],
-        ..WHOLE
-    },
-    Row {
-        rows: 2,
-        fragments: &[(1, 0x11), (3, 0x33), (7, 0x66), (8, 0x11)],
-        ..WHOLE
-    },
-    Row {
-        rows: 2,
-        fragments: &[(7, 0x66), (8, 0x11), (1, 0x11), (3, 0x33)],
-        ..WHOLE
-    },
-    Row {
-        rows: 2,
-        fragments: &[(1, 0x11), (5, 0x22), (6, 0x22)],
-        received: 3,
-        missing: 2,
-        ..NOTHING
-    },
-    Row {
-        rows: 1,
-        fragments: &[(1, 0x11), (2, 0x22), (3, 0x33), (11, 0x44)],
-        ..WHOLE
-    },
-    Row {
-        rows: 1,
-        fragments: &[(7, 0x66), (8, 0x11)],
-        received: 2,
-        missing: 3,
-        verdict: Verdict::NoRows(4),
-        ..NOTHING
-    },
-    Row {
-        rows: 1,
-        fragments: &[(1, 0x11), (3, 0x33), (7, 0x66), (8, 0x11)],
-        received: 4,
-        missing: 1,
-        verdict: Verdict::NoRows(6),
-        ..NOTHING
-    },
-    Row {
-        fragments: &[(1, 0x11), (1, 0x12)],
-        received: 2,
-        missing: 3,
-        verdict: Verdict::Conflict(4),
-        ..NOTHING
-    },
-    Row {
-        fragments: &[(2, 0x22), (2, 0x22), (2, 0x22)],
-        received: 3,
-        missing: 3,
-        ..NOTHING
-    },
-    Row {
-        fragments: &[(7, 0x66)],
-        received: 1,
-        verdict: Verdict::NoRows(3),
-        ..NOTHING
-    },
-    Row {
-        rows: 1,
-        fragments: &[(7, 0x66), (8, 0x11), (1, 0x11), (3, 0x33)],
-        received: 4,
-        missing: 3,
-        verdict: Verdict::NoRows(4),
-        ..NOTHING
-    },
-    Row {
-        fragments: &[(1, 0x11), (1, 0x12), (1, 0x11), (2, 0x22)],
-        received: 4,
-        missing: 3,
-        verdict: Verdict::Conflict(4),
-        ..NOTHING
-    },
-    Row {
-        fragments: &[(3, 0x33), (1, 0x11), (4, 0x44), (2, 0x22), (1, 0x12)],
-        received: 5,
-        ..WHOLE
-    },
-];
-
-/// One piece that a coded fragment, whose line is empty, told nothing of.
-const ONE_PIECE: Row = Row {
-    fragments: &[(2, 0), (1, 0x5a)],
-    received: 2,
-    verdict: Verdict::Complete(4),
-    file: &[0x5a],
-    ..WHOLE
-};
-
-/// Sessions of one piece.
-const ONE_PIECE_ROWS: [Row; 3] = [
-    ONE_PIECE,
-    Row {
-        rows: 1,
-        ..ONE_PIECE
-    },
-    Row {
-        fragments: &[(2, 1)],
-        received: 1,
-        missing: 1,
-        verdict: Verdict::Conflict(3),
-        ..NOTHING
-    },
-];
-
 fn reserved<const W: usize, const B: usize>(
     rt: &impl Abort,
     alloc: Global,
     area: u32,
 ) -> Slot<W, B> {
     assert!(rt; W <= 16384 && B <= 61184);
-    let solver = Solver::<W, B>::reserve(alloc, area).expect(rt, "no memory");
-    Slot::new(Idle::new(solver))
+    match Solver::<W, B>::reserve(alloc, area) {
+        Ok(solver) => Slot::new(Idle::new(solver)),
+        Err(_) => panic!(rt; "no memory"),
+    }
+}
+
+fn sets_up(slot: &mut SmallSlot, req: SetupReq, limits: Limits) -> u8 {
+    slot.setup(req, limits)
+}
+
+fn hears(slot: &mut SmallSlot, via: Via, n: u16, part: &[u8], mark: u64) -> Heard {
+    slot.fragment(via, n, part, mark)
+}
+
+fn lives(slot: &SmallSlot) -> bool {
+    slot.view().is_some()
 }
 
 /// A slot with a new session of so many pieces and rows.
 fn begun(rt: &impl Abort, alloc: Global, nb_frag: u16, rows: u16) -> SmallSlot {
     let mut slot = reserved(rt, alloc, 4);
     let req = SetupReq { nb_frag, ..SETUP };
-    assert_eq!(rt; slot.setup(req, Limits { rows, ..LIMITS }), 0);
+    assert!(rt; sets_up(&mut slot, req, Limits { rows, ..LIMITS }) == 0);
     slot
 }
 
 fn feed(rt: &impl Abort, slot: &mut SmallSlot, fragments: &[(u16, u8)], first_mark: u64) {
     for (i, (n, byte)) in fragments.iter().enumerate() {
         let mark = first_mark.wrapping_add(i as u64);
-        assert!(rt;
-            matches!(
-                slot.fragment(Via::Unicast, *n, &[*byte], mark),
-                Heard::Fed(_)
-            )
-        );
+        let heard = hears(slot, Via::Unicast, *n, &[*byte], mark);
+        assert!(rt; matches!(heard, Heard::Fed(_)));
     }
 }
 
-fn shows(rt: &impl Abort, slot: &SmallSlot, row: &Row) {
-    let view = slot.view().expect(rt, "no session");
-    assert_eq!(rt; view.received, row.received);
-    assert_eq!(rt; view.missing, row.missing);
-    assert_eq!(rt; view.verdict, row.verdict);
-    assert_eq!(rt; view.file, row.file);
+/// Whether this is shown.
+fn shows(slot: &SmallSlot, row: &Row) -> bool {
+    match slot.view() {
+        Some(view) => {
+            view.received == row.received
+                && view.missing == row.missing
+                && view.verdict == row.verdict
+                && view.file == row.file
+        }
+        None => false,
+    }
 }
 
 fn follows(rt: &impl Abort, alloc: Global, nb_frag: u16, row: &Row) {
     let mut slot = begun(rt, alloc, nb_frag, row.rows);
     feed(rt, &mut slot, row.fragments, 3);
-    shows(rt, &slot, row);
+    assert!(rt; shows(&slot, row));
 }
 
+/// Sessions of four pieces: a verdict comes at the fragment that decides, and stays while more are counted.
 #[test]
 fn verdicts_come_at_the_fragment_that_decides(rt: HostRuntime) {
-    for row in &FOUR_PIECES {
+    let rows = [
+        Row {
+            rows: 0,
+            fragments: &[(4, 0x44), (1, 0x11), (3, 0x33), (2, 0x22)],
+            received: 4,
+            missing: 0,
+            verdict: Verdict::Complete(6),
+            file: &[0x11, 0x22, 0x33, 0x44],
+        },
+        Row {
+            rows: 2,
+            fragments: &[(1, 0x11), (3, 0x33), (7, 0x66), (8, 0x11)],
+            received: 4,
+            missing: 0,
+            verdict: Verdict::Complete(6),
+            file: &[0x11, 0x22, 0x33, 0x44],
+        },
+        Row {
+            rows: 2,
+            fragments: &[(7, 0x66), (8, 0x11), (1, 0x11), (3, 0x33)],
+            received: 4,
+            missing: 0,
+            verdict: Verdict::Complete(6),
+            file: &[0x11, 0x22, 0x33, 0x44],
+        },
+        Row {
+            rows: 2,
+            fragments: &[(1, 0x11), (5, 0x22), (6, 0x22)],
+            received: 3,
+            missing: 2,
+            verdict: Verdict::Receiving,
+            file: &[],
+        },
+        Row {
+            rows: 1,
+            fragments: &[(1, 0x11), (2, 0x22), (3, 0x33), (11, 0x44)],
+            received: 4,
+            missing: 0,
+            verdict: Verdict::Complete(6),
+            file: &[0x11, 0x22, 0x33, 0x44],
+        },
+        Row {
+            rows: 1,
+            fragments: &[(7, 0x66), (8, 0x11)],
+            received: 2,
+            missing: 3,
+            verdict: Verdict::NoRows(4),
+            file: &[],
+        },
+        Row {
+            rows: 1,
+            fragments: &[(1, 0x11), (3, 0x33), (7, 0x66), (8, 0x11)],
+            received: 4,
+            missing: 1,
+            verdict: Verdict::NoRows(6),
+            file: &[],
+        },
+        Row {
+            rows: 0,
+            fragments: &[(1, 0x11), (1, 0x12)],
+            received: 2,
+            missing: 3,
+            verdict: Verdict::Conflict(4),
+            file: &[],
+        },
+        Row {
+            rows: 0,
+            fragments: &[(2, 0x22), (2, 0x22), (2, 0x22)],
+            received: 3,
+            missing: 3,
+            verdict: Verdict::Receiving,
+            file: &[],
+        },
+        Row {
+            rows: 0,
+            fragments: &[(7, 0x66)],
+            received: 1,
+            missing: 4,
+            verdict: Verdict::NoRows(3),
+            file: &[],
+        },
+        Row {
+            rows: 1,
+            fragments: &[(7, 0x66), (8, 0x11), (1, 0x11), (3, 0x33)],
+            received: 4,
+            missing: 3,
+            verdict: Verdict::NoRows(4),
+            file: &[],
+        },
+        Row {
+            rows: 0,
+            fragments: &[(1, 0x11), (1, 0x12), (1, 0x11), (2, 0x22)],
+            received: 4,
+            missing: 3,
+            verdict: Verdict::Conflict(4),
+            file: &[],
+        },
+        Row {
+            rows: 0,
+            fragments: &[(3, 0x33), (1, 0x11), (4, 0x44), (2, 0x22), (1, 0x12)],
+            received: 5,
+            missing: 0,
+            verdict: Verdict::Complete(6),
+            file: &[0x11, 0x22, 0x33, 0x44],
+        },
+    ];
+    for row in &rows {
         follows(&rt, rt.alloc(), 4, row);
     }
 }
 
+/// Sessions of one piece, of which a coded fragment tells nothing.
 #[test]
 fn over_one_piece_coded_lines_are_empty(rt: HostRuntime) {
-    for row in &ONE_PIECE_ROWS {
+    let rows = [
+        Row {
+            rows: 0,
+            fragments: &[(2, 0), (1, 0x5a)],
+            received: 2,
+            missing: 0,
+            verdict: Verdict::Complete(4),
+            file: &[0x5a],
+        },
+        Row {
+            rows: 1,
+            fragments: &[(2, 0), (1, 0x5a)],
+            received: 2,
+            missing: 0,
+            verdict: Verdict::Complete(4),
+            file: &[0x5a],
+        },
+        Row {
+            rows: 0,
+            fragments: &[(2, 1)],
+            received: 1,
+            missing: 1,
+            verdict: Verdict::Conflict(3),
+            file: &[],
+        },
+    ];
+    for row in &rows {
         follows(&rt, rt.alloc(), 1, row);
     }
 }
@@ -286,9 +316,9 @@ fn refusals_are_told_together(rt: HostRuntime) {
         ),
     ];
     for (request, limits, bits) in rows {
-        let mut slot: SmallSlot = reserved(&rt, rt.alloc(), 262_382);
-        assert_eq!(rt; slot.setup(request, limits), bits);
-        assert_eq!(rt; slot.view().is_some(), bits == 0);
+        let mut slot = reserved(&rt, rt.alloc(), 262_382);
+        assert!(rt; sets_up(&mut slot, request, limits) == bits);
+        assert!(rt; lives(&slot) == (bits == 0));
     }
 }
 
@@ -320,63 +350,63 @@ fn fragments_are_dropped_for_the_first_cause(rt: HostRuntime) {
         (Via::Group(1), 1, &[0x11], Heard::Fed(News::New)),
         (Via::Unicast, 8384, &[0x11], Heard::Fed(News::New)),
     ];
-    let mut slot: SmallSlot = reserved(&rt, rt.alloc(), 4);
-    assert_eq!(rt;
-        slot.fragment(Via::Group(0), 0, &[], 1),
-        Heard::Dropped(Cause::NoSession)
-    );
-    assert_eq!(rt; slot.setup(SETUP, Limits { rows: 4, ..LIMITS }), 0);
+    let mut slot = reserved(&rt, rt.alloc(), 4);
+    let none = Heard::Dropped(Cause::NoSession);
+    assert!(rt; hears(&mut slot, Via::Group(0), 0, &[], 1) == none);
+    assert!(rt; sets_up(&mut slot, SETUP, Limits { rows: 4, ..LIMITS }) == 0);
     for (via, n, part, answer) in rows {
-        assert_eq!(rt; slot.fragment(via, n, part, 2), answer);
+        assert!(rt; hears(&mut slot, via, n, part, 2) == answer);
     }
     let heard = Row {
         received: 2,
         missing: 2,
         ..NOTHING
     };
-    shows(&rt, &slot, &heard);
+    assert!(rt; shows(&slot, &heard));
 }
 
 #[test]
 fn an_equal_setup_keeps_the_session_and_another_begins_anew(rt: HostRuntime) {
     let mut slot = begun(&rt, rt.alloc(), 4, 0);
     feed(&rt, &mut slot, &[(1, 0x11), (2, 0x22)], 3);
-    assert_eq!(rt; slot.setup(SETUP, LIMITS), 0);
+    assert!(rt; sets_up(&mut slot, SETUP, LIMITS) == 0);
     feed(&rt, &mut slot, &[(3, 0x33)], 6);
     let kept = Row {
         received: 3,
         missing: 1,
         ..NOTHING
     };
-    shows(&rt, &slot, &kept);
+    assert!(rt; shows(&slot, &kept));
     let other = SetupReq {
         descriptor: 1,
         ..SETUP
     };
-    assert_eq!(rt; slot.setup(other, LIMITS), 0);
-    shows(&rt, &slot, &NOTHING);
+    assert!(rt; sets_up(&mut slot, other, LIMITS) == 0);
+    assert!(rt; shows(&slot, &NOTHING));
 }
 
 #[test]
 fn the_padding_is_no_part_of_the_file(rt: HostRuntime) {
-    let mut slot: SmallSlot = reserved(&rt, rt.alloc(), 4);
+    let mut slot = reserved(&rt, rt.alloc(), 4);
     let padded = SetupReq {
         nb_frag: 2,
         frag_size: 2,
         padding: 1,
         ..SETUP
     };
-    assert_eq!(rt; slot.setup(padded, LIMITS), 0);
-    assert_eq!(rt;
-        slot.fragment(Via::Unicast, 2, &[0x33, 0], 1),
-        Heard::Fed(News::New)
-    );
-    assert_eq!(rt;
-        slot.fragment(Via::Unicast, 1, &[0x11, 0x22], 2),
-        Heard::Fed(News::New)
-    );
-    let view = slot.view().expect(&rt, "no session");
-    assert_eq!(rt; view.file, [0x11, 0x22, 0x33].as_slice());
+    assert!(rt; sets_up(&mut slot, padded, LIMITS) == 0);
+    let new = Heard::Fed(News::New);
+    assert!(rt; hears(&mut slot, Via::Unicast, 2, &[0x33, 0], 1) == new);
+    assert!(rt; hears(&mut slot, Via::Unicast, 1, &[0x11, 0x22], 2) == new);
+    let whole = Row {
+        rows: 0,
+        fragments: &[],
+        received: 2,
+        missing: 0,
+        verdict: Verdict::Complete(2),
+        file: &[0x11, 0x22, 0x33],
+    };
+    assert!(rt; shows(&slot, &whole));
 }
 
 /// What is answered after fragments, to a request that asks all, and whether one that asks for pieces missing is answered too.
@@ -395,15 +425,19 @@ const STATUS: StatusAns = StatusAns {
     delay: 5,
 };
 
+fn answer(slot: &SmallSlot, via: Via, all: bool) -> Option<StatusAns> {
+    slot.status(via, all)
+}
+
 fn answers(rt: &impl Abort, slot: &SmallSlot, via: Via, status: StatusAns, lacks: bool) {
-    assert_eq!(rt; slot.status(via, true), Some(status));
     let lacking = if lacks { Some(status) } else { None };
-    assert_eq!(rt; slot.status(via, false), lacking);
+    assert!(rt; answer(slot, via, true) == Some(status));
+    assert!(rt; answer(slot, via, false) == lacking);
 }
 
 fn is_silent(rt: &impl Abort, slot: &SmallSlot, via: Via) {
-    assert_eq!(rt; slot.status(via, true), None);
-    assert_eq!(rt; slot.status(via, false), None);
+    assert!(rt; answer(slot, via, true) == None);
+    assert!(rt; answer(slot, via, false) == None);
 }
 
 fn tells(rt: &impl Abort, alloc: Global, asked: &Asked) {
@@ -457,13 +491,13 @@ fn a_status_names_what_is_missing_and_whether_rows_sufficed(rt: HostRuntime) {
 
 #[test]
 fn a_status_stays_at_255_pieces_missing(rt: HostRuntime) {
-    let mut slot: SmallSlot = reserved(&rt, rt.alloc(), 300);
+    let mut slot = reserved(&rt, rt.alloc(), 300);
     is_silent(&rt, &slot, Via::Unicast);
     let large = SetupReq {
         nb_frag: 300,
         ..SETUP
     };
-    assert_eq!(rt; slot.setup(large, LIMITS), 0);
+    assert!(rt; sets_up(&mut slot, large, LIMITS) == 0);
     feed(&rt, &mut slot, &[(1, 0x11), (1, 0x11)], 3);
     let most = StatusAns {
         missing: 255,
@@ -475,7 +509,7 @@ fn a_status_stays_at_255_pieces_missing(rt: HostRuntime) {
         missing: 299,
         ..NOTHING
     };
-    shows(&rt, &slot, &heard);
+    assert!(rt; shows(&slot, &heard));
 }
 
 /// Ends a session after fragments, and begins another in its memory.
@@ -483,16 +517,14 @@ fn is_deleted(rt: &impl Abort, alloc: Global, fragments: &[(u16, u8)]) {
     let limits = Limits { rows: 1, ..LIMITS };
     let mut slot = begun(rt, alloc, 4, limits.rows);
     feed(rt, &mut slot, fragments, 3);
-    assert_eq!(rt; slot.delete(), true);
-    assert!(rt; slot.view().is_none());
+    assert!(rt; slot.delete());
+    assert!(rt; !lives(&slot));
     is_silent(rt, &slot, Via::Unicast);
-    assert_eq!(rt;
-        slot.fragment(Via::Unicast, 1, &[0x11], 9),
-        Heard::Dropped(Cause::NoSession)
-    );
-    assert_eq!(rt; slot.delete(), false);
-    assert_eq!(rt; slot.setup(SETUP, limits), 0);
-    shows(rt, &slot, &NOTHING);
+    let none = Heard::Dropped(Cause::NoSession);
+    assert!(rt; hears(&mut slot, Via::Unicast, 1, &[0x11], 9) == none);
+    assert!(rt; !slot.delete());
+    assert!(rt; sets_up(&mut slot, SETUP, limits) == 0);
+    assert!(rt; shows(&slot, &NOTHING));
 }
 
 #[test]
@@ -520,26 +552,45 @@ fn accepted(rt: &impl Abort, idle: Idle<4, 4>, req: SetupReq) -> Receiving<4, 4>
     }
 }
 
+/// The memory of a setup that is refused for its algorithm.
+fn given_back(rt: &impl Abort, idle: Idle<4, 4>) -> Idle<4, 4> {
+    match idle.setup(SetupReq { algo: 1, ..SETUP }, LIMITS) {
+        Ok(_) => panic!(rt; "accepted"),
+        Err((idle, bits)) => {
+            assert!(rt; bits == 1);
+            idle
+        }
+    }
+}
+
+const ONE: SetupReq = SetupReq {
+    nb_frag: 1,
+    ..SETUP
+};
+
+/// The memory of a session of one piece that is whole.
+fn whole_and_deleted(rt: &impl Abort, idle: Idle<4, 4>) -> Idle<4, 4> {
+    match accepted(rt, idle, ONE).feed(1, &[0x5a], 3) {
+        Next::Complete(complete) => complete.delete(),
+        _ => panic!(rt; "not complete"),
+    }
+}
+
 #[test]
 fn states_hand_their_memory_on(rt: HostRuntime) {
-    let solver = Solver::<4, 4>::reserve(rt.alloc(), 4).expect(&rt, "no memory");
-    let other = SetupReq { algo: 1, ..SETUP };
-    let refused = Idle::new(solver).setup(other, LIMITS).err();
-    let (idle, bits) = refused.expect(&rt, "accepted");
-    assert_eq!(rt; bits, 1);
-    let one = SetupReq {
-        nb_frag: 1,
-        ..SETUP
+    let Ok(solver) = Solver::<4, 4>::reserve(rt.alloc(), 4) else {
+        panic!(rt; "no memory");
     };
-    let receiving = accepted(&rt, idle, one);
-    let Next::Complete(complete) = receiving.feed(1, &[0x5a], 3) else {
-        panic!(rt; "not complete");
-    };
-    let receiving = accepted(&rt, complete.delete(), SETUP);
-    let mut slot = Slot::new(receiving.delete());
-    assert_eq!(rt; slot.setup(one, LIMITS), 0);
+    let idle = whole_and_deleted(&rt, given_back(&rt, Idle::new(solver)));
+    let mut slot = Slot::new(accepted(&rt, idle, SETUP).delete());
+    assert!(rt; sets_up(&mut slot, ONE, LIMITS) == 0);
     feed(&rt, &mut slot, &[(1, 0x5a)], 3);
-    let view = slot.view().expect(&rt, "no session");
-    assert_eq!(rt; view.verdict, Verdict::Complete(3));
-    assert_eq!(rt; view.file, [0x5a].as_slice());
+    let whole = Row {
+        received: 1,
+        verdict: Verdict::Complete(3),
+        file: &[0x5a],
+        missing: 0,
+        ..NOTHING
+    };
+    assert!(rt; shows(&slot, &whole));
 }

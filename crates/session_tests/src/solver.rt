@@ -1,6 +1,7 @@
 //! Solvers over a few pieces of one byte, by worked rows and against plain sums of lines, and over pieces of many sizes.
 
-use frag_model::gains::{plain_excess, plain_gain, plain_line_of};
+use crate::plain::excess;
+use frag_model::gains::{plain_gain, plain_line_of};
 use frag_model::lines::MAX_PARITY_INDEX;
 use parity_lines::line_uncounted;
 use row_elimination::*;
@@ -53,9 +54,9 @@ impl<const W: usize, const B: usize> Receiver<W, B> {
     }
 
     fn feed(&mut self, rt: &impl Abort, n: u16, part: &[u8]) -> Fed {
-        assert_eq!(rt; self.stage, Stage::Receiving);
+        assert!(rt; self.stage == Stage::Receiving);
         assert!(rt; 1 <= n && n as u32 <= self.nb_frag as u32 + MAX_PARITY_INDEX as u32);
-        assert_eq!(rt; part.len(), self.frag_size as usize);
+        assert!(rt; part.len() == self.frag_size as usize);
         let fed = self.solver.feed(n, part);
         self.stage = match fed {
             Fed::Receiving => Stage::Receiving,
@@ -65,9 +66,13 @@ impl<const W: usize, const B: usize> Receiver<W, B> {
         fed
     }
 
-    fn block(&self, rt: &impl Abort) -> &[u8] {
-        assert_eq!(rt; self.stage, Stage::Complete);
-        self.solver.block()
+    fn missing(&self) -> u16 {
+        self.solver.missing()
+    }
+
+    fn has_block(&self, rt: &impl Abort, block: &[u8]) -> bool {
+        assert!(rt; self.stage == Stage::Complete);
+        self.solver.block() == block
     }
 }
 
@@ -84,20 +89,27 @@ struct Row<'a> {
 }
 
 fn begun(rt: &impl Abort, alloc: Global, pieces: u16, rows: u16) -> SmallReceiver {
-    let solver = Solver::reserve(alloc, 64).expect(rt, "no memory");
-    Receiver::begin(rt, solver, pieces, 1, rows)
+    match Solver::reserve(alloc, 64) {
+        Ok(solver) => Receiver::begin(rt, solver, pieces, 1, rows),
+        Err(_) => panic!(rt; "no memory"),
+    }
+}
+
+/// The answer to the last of the fragments.
+fn fed(rt: &impl Abort, receiver: &mut SmallReceiver, fragments: &[(u16, u8)]) -> Fed {
+    let mut answer = Fed::Receiving;
+    for (n, byte) in fragments {
+        answer = receiver.feed(rt, *n, &[*byte]);
+    }
+    answer
 }
 
 fn shows(rt: &impl Abort, alloc: Global, pieces: u16, row: &Row) {
     let mut receiver = begun(rt, alloc, pieces, row.rows);
-    let mut answer = Fed::Receiving;
-    for (n, byte) in row.fragments {
-        answer = receiver.feed(rt, *n, &[*byte]);
-    }
-    assert_eq!(rt; answer, row.answer);
-    assert_eq!(rt; receiver.solver.missing(), row.missing);
-    if answer == Fed::Complete {
-        assert_eq!(rt; receiver.block(rt), row.block);
+    assert!(rt; fed(rt, &mut receiver, row.fragments) == row.answer);
+    assert!(rt; receiver.missing() == row.missing);
+    if row.answer == Fed::Complete {
+        assert!(rt; receiver.has_block(rt, row.block));
     }
 }
 
@@ -241,11 +253,7 @@ fn by_sums(
     numbers: &[u16],
 ) -> Result<(Fed, usize), Fail> {
     assert!(rt; 1 <= pieces && pieces <= 64);
-    let in_range = numbers
-        .iter()
-        .all(|n| 1 <= *n && *n <= pieces + MAX_PARITY_INDEX);
-    assert!(rt; in_range);
-    let excess = plain_excess(alloc, pieces, numbers)?;
+    let excess = excess(rt, alloc, pieces, numbers)?;
     let mut lines = Vec::new(alloc);
     for n in numbers {
         assert!(rt; 1 <= *n && *n <= pieces + MAX_PARITY_INDEX);
@@ -277,9 +285,9 @@ fn agrees(
         let answer = receiver.feed(rt, *n, &[byte]);
         heard.insert(0, *n)?;
         let (expected, missing) = by_sums(rt, alloc, pieces, rows, &heard)?;
-        assert_eq!(rt; answer, expected);
+        assert!(rt; answer == expected);
         if answer == Fed::Receiving {
-            assert_eq!(rt; receiver.solver.missing() as usize, missing);
+            assert!(rt; receiver.missing() as usize == missing);
         } else {
             return Ok(());
         }
@@ -309,10 +317,23 @@ fn answers_are_those_of_all_sums(rt: HostRuntime) -> Result<(), Fail> {
     Ok(())
 }
 
+/// Two words and ten bytes for rows, and an area of 20 bytes.
+fn little(rt: &impl Abort, alloc: Global, pieces: u16) -> Solver<2, 10> {
+    assert!(rt; pieces <= 4096);
+    match Solver::reserve_for(alloc, 20, pieces) {
+        Ok(solver) => solver,
+        Err(_) => panic!(rt; "no memory"),
+    }
+}
+
+fn fits(rt: &impl Abort, solver: &Solver<2, 10>, nb_frag: u16, frag_size: u8, rows: u16) -> bool {
+    assert!(rt; nb_frag <= 4096 && frag_size <= 239 && rows <= nb_frag);
+    solver.fits(nb_frag, frag_size, rows)
+}
+
 #[test]
-fn room_is_needed_for_rows_and_for_pieces(rt: HostRuntime) -> Result<(), Fail> {
-    let alloc = rt.alloc();
-    let mut solver = Solver::<2, 10>::reserve(alloc, 20).expect(&rt, "no memory");
+fn room_is_needed_for_rows_and_for_pieces(rt: HostRuntime) {
+    let solver = little(&rt, rt.alloc(), 4096);
     let table = [
         (0, 0, 0, true),
         (64, 0, 2, true),
@@ -324,17 +345,19 @@ fn room_is_needed_for_rows_and_for_pieces(rt: HostRuntime) -> Result<(), Fail> {
         (20, 1, 0, true),
         (21, 1, 0, false),
     ];
-    for (nb_frag, frag_size, rows, fits) in table {
-        assert!(rt; nb_frag <= 4096 && frag_size <= 239 && rows <= nb_frag);
-        assert_eq!(rt; solver.fits(nb_frag, frag_size, rows), fits);
+    for (nb_frag, frag_size, rows, room) in table {
+        assert!(rt; fits(&rt, &solver, nb_frag, frag_size, rows) == room);
     }
-    assert_eq!(rt; solver.begin(4, 5, 4, 3), Err(NoRoom));
-    assert_eq!(rt; solver.begin(4, 5, 4, 2), Ok(()));
-    assert_eq!(rt; solver.missing(), 4);
-    let few = Solver::<2, 10>::reserve_for(alloc, 20, 5).expect(&rt, "no memory");
-    assert!(rt; few.fits(5, 1, 2));
-    assert!(rt; !few.fits(6, 1, 2));
-    Ok(())
+    let few = little(&rt, rt.alloc(), 5);
+    assert!(rt; fits(&rt, &few, 5, 1, 2) && !fits(&rt, &few, 6, 1, 2));
+}
+
+#[test]
+fn a_file_begins_where_there_is_room(rt: HostRuntime) {
+    let mut solver = little(&rt, rt.alloc(), 4096);
+    assert!(rt; solver.begin(4, 5, 4, 3) == Err(NoRoom));
+    assert!(rt; solver.begin(4, 5, 4, 2) == Ok(()));
+    assert!(rt; solver.missing() == 4);
 }
 
 /// Byte `i` of piece `k`.
@@ -369,30 +392,58 @@ fn coded(rt: &impl Abort, alloc: Global, pieces: u16, size: u8, n: u16) -> Resul
     Ok(part)
 }
 
-/// Recovers a file of which each tenth piece comes by coded fragments alone.
-fn recovers(rt: &impl Abort, alloc: Global, pieces: u16, size: u8) -> Result<(), Fail> {
-    assert!(rt; 8 <= pieces && pieces <= 70 && 1 <= size && size <= 239);
-    let solver = Solver::<16, 1912>::reserve(alloc, 16730).expect(rt, "no memory");
-    let mut receiver = Receiver::begin(rt, solver, pieces, size, 8);
+/// A solver of eight rows for so many pieces of so many bytes.
+fn made(rt: &impl Abort, alloc: Global, pieces: u16, size: u8) -> Receiver<16, 1912> {
+    match Solver::reserve(alloc, 16730) {
+        Ok(solver) => Receiver::begin(rt, solver, pieces, size, 8),
+        Err(_) => panic!(rt; "no memory"),
+    }
+}
+
+/// The file, of which each tenth piece is lost and the others are fed.
+fn feeds_most(
+    rt: &impl Abort,
+    alloc: Global,
+    receiver: &mut Receiver<16, 1912>,
+    pieces: u16,
+    size: u8,
+) -> Result<Vec<u8>, Fail> {
+    assert!(rt; pieces <= 70);
     let mut whole = Vec::new(alloc);
     for k in 0..pieces {
         let part = piece(alloc, size, k)?;
         if k % 10 != 3 {
-            assert_eq!(rt; receiver.feed(rt, k + 1, &part), Fed::Receiving);
+            assert!(rt; receiver.feed(rt, k + 1, &part) == Fed::Receiving);
         }
-        for byte in &part {
-            whole.push(*byte)?;
-        }
+        whole.extend_from_slice(&part)?;
     }
-    let mut answer = Fed::Receiving;
+    Ok(whole)
+}
+
+/// Feeds coded fragments until all pieces are there.
+fn feeds_coded(
+    rt: &impl Abort,
+    alloc: Global,
+    receiver: &mut Receiver<16, 1912>,
+    pieces: u16,
+    size: u8,
+) -> Result<(), Fail> {
+    assert!(rt; pieces <= 70);
     for n in 1..40 {
-        if answer == Fed::Receiving {
-            let part = coded(rt, alloc, pieces, size, n)?;
-            answer = receiver.feed(rt, pieces + n, &part);
+        let part = coded(rt, alloc, pieces, size, n)?;
+        if receiver.feed(rt, pieces + n, &part) == Fed::Complete {
+            return Ok(());
         }
     }
-    assert_eq!(rt; answer, Fed::Complete);
-    assert!(rt; receiver.block(rt) == whole.as_slice());
+    panic!(rt; "it never ends");
+}
+
+/// Recovers a file of which each tenth piece comes by coded fragments alone.
+fn recovers(rt: &impl Abort, alloc: Global, pieces: u16, size: u8) -> Result<(), Fail> {
+    let mut receiver = made(rt, alloc, pieces, size);
+    let whole = feeds_most(rt, alloc, &mut receiver, pieces, size)?;
+    feeds_coded(rt, alloc, &mut receiver, pieces, size)?;
+    assert!(rt; receiver.has_block(rt, &whole));
     Ok(())
 }
 

@@ -53,6 +53,11 @@ const FILE: [u8; 4] = [0x11, 0x22, 0x33, 0x44];
 /// How many fragments the two sessions heard; none where there is no session.
 type Shown = (Option<u16>, Option<u16>);
 
+fn memory(alloc: Global) -> Result<MemFlash, Fail> {
+    Ok(MemFlash::reserve(alloc, 4 * SPAN, ROOM, Vec::new(alloc))?)
+}
+
+/// A store whose flash is stopped after so many calls.
 fn store(rt: &impl Abort, alloc: Global, flash: MemFlash, calls: u64) -> SessionStore<StopFlash> {
     let flash = StopFlash::over(flash, calls);
     assert!(rt; flash.size() as u64 >= 4 * SPAN as u64);
@@ -62,120 +67,144 @@ fn store(rt: &impl Abort, alloc: Global, flash: MemFlash, calls: u64) -> Session
     }
 }
 
+/// The same over the flash of a store that is no more.
+fn over(rt: &impl Abort, alloc: Global, first: SessionStore<StopFlash>) -> SessionStore<StopFlash> {
+    store(rt, alloc, first.close().inner(), ALL)
+}
+
 fn power(rt: &impl Abort, store: &mut SessionStore<StopFlash>) -> bool {
     assert!(rt; store.is_held());
     store.power().is_ok()
 }
 
-fn make(
+fn sets_up(
     rt: &impl Abort,
     store: &mut SessionStore<StopFlash>,
-    call: Call,
+    index: u8,
 ) -> Result<(), FlashFault> {
-    assert!(rt; !store.is_down());
+    assert!(rt; index < 4 && !store.is_down());
+    let bits = store.setup(SetupReq {
+        index,
+        mask: 0,
+        nb_frag: 4,
+        frag_size: 1,
+        algo: 0,
+        delay: 0,
+        padding: 0,
+        descriptor: 0,
+    })?;
+    assert!(rt; bits == 0);
+    Ok(())
+}
+
+/// Whether a call was made; else the flash was stopped in it.
+fn made(rt: &impl Abort, store: &mut SessionStore<StopFlash>, call: Call) -> bool {
     match call {
-        Call::Setup(index) => {
-            assert!(rt; index < 4);
-            let bits = store.setup(SetupReq {
-                index,
-                mask: 0,
-                nb_frag: 4,
-                frag_size: 1,
-                algo: 0,
-                delay: 0,
-                padding: 0,
-                descriptor: 0,
-            })?;
-            assert_eq!(rt; bits, 0);
-        }
+        Call::Setup(index) => sets_up(rt, store, index).is_ok(),
         Call::Hear(index, n, byte) => {
-            assert!(rt; index < 4);
-            store.fragment(index, Via::Unicast, n, &[byte], 7)?;
+            assert!(rt; index < 4 && !store.is_down());
+            store.fragment(index, Via::Unicast, n, &[byte], 7).is_ok()
         }
         Call::Delete(index) => {
-            assert!(rt; index < 4);
-            store.delete(index)?;
+            assert!(rt; index < 4 && !store.is_down());
+            store.delete(index).is_ok()
         }
     }
-    Ok(())
 }
 
 fn received(store: &SessionStore<StopFlash>, index: u8) -> Option<u16>
     requires { index ≤ 3 }
 {
-    let view = store.view(index)?;
-    Some(view.received)
+    match store.view(index) {
+        Some(view) => Some(view.received),
+        None => None,
+    }
 }
 
 fn shows(store: &SessionStore<StopFlash>) -> Shown {
     (received(store, 1), received(store, 3))
 }
 
+/// Whether the update is whole.
+fn is_done(store: &SessionStore<StopFlash>) -> bool {
+    match store.view(1) {
+        Some(view) => {
+            view.verdict == Verdict::Complete(7)
+                && view.file == FILE.as_slice()
+                && received(store, 3) == None
+        }
+        None => false,
+    }
+}
+
 /// What the sessions show before each call, and behind the last.
 fn all_shown(rt: &impl Abort, alloc: Global) -> Result<[Shown; 9], Fail> {
-    let flash = MemFlash::reserve(alloc, 4 * SPAN, ROOM, Vec::new(alloc))?;
-    let mut store = store(rt, alloc, flash, ALL);
+    let mut store = store(rt, alloc, memory(alloc)?, ALL);
     assert!(rt; store.is_down());
     assert!(rt; power(rt, &mut store));
     let mut all = [(None, None); 9];
     for (at, call) in UPDATE.iter().enumerate() {
         all[at] = shows(&store);
-        assert!(rt; make(rt, &mut store, *call).is_ok());
+        assert!(rt; made(rt, &mut store, *call));
     }
     all[8] = shows(&store);
     Ok(all)
 }
 
-/// Whether the update is whole.
-fn is_done(rt: &impl Abort, store: &SessionStore<StopFlash>) {
-    match store.view(1) {
-        Some(view) => {
-            assert_eq!(rt; view.verdict, Verdict::Complete(7));
-            let file = FILE;
-            assert!(rt; view.file == file.as_slice());
+/// The update from a call on, as far as the flash goes; how many calls were made by then.
+fn updated(rt: &impl Abort, store: &mut SessionStore<StopFlash>, from: usize) -> usize {
+    for (number, call) in UPDATE.iter().enumerate() {
+        if number >= from && !made(rt, store, *call) {
+            return number;
         }
-        None => panic!(rt; "no session"),
     }
-    assert_eq!(rt; received(store, 3), None);
+    UPDATE.len()
+}
+
+/// A store whose flash was stopped is down and has no session, also where it gets power again.
+fn stays_down(rt: &impl Abort, store: &mut SessionStore<StopFlash>) {
+    assert!(rt; store.is_down() && !power(rt, store));
+    assert!(rt; received(store, 3) == None);
+}
+
+/// Power behind a stop in the call `at`; the call from which the update goes on. The sessions are as before that one or behind
+/// it, or, where it sets one up or ends one, with none at its index.
+fn resumes(
+    rt: &impl Abort,
+    store: &mut SessionStore<StopFlash>,
+    all: &[Shown; 9],
+    at: usize,
+) -> usize {
+    assert!(rt; power(rt, store));
+    assert!(rt; at <= 8);
+    let shown = shows(store);
+    let behind = if at < 8 { at + 1 } else { at };
+    if shown == all[behind] {
+        return behind;
+    }
+    let is_setup = at < 8 && matches!(UPDATE[at], Call::Setup(_) | Call::Delete(_));
+    assert!(rt; shown == all[at] || is_setup);
+    at
 }
 
 /// The update with a flash that is stopped after so many calls, and power behind it; true where no call was stopped.
 fn goes_on(rt: &impl Abort, alloc: Global, all: &[Shown; 9], calls: u64) -> Result<bool, Fail> {
-    let flash = MemFlash::reserve(alloc, 4 * SPAN, ROOM, Vec::new(alloc))?;
-    let mut first = store(rt, alloc, flash, calls);
-    let mut at = 0;
-    let mut stopped = !power(rt, &mut first);
-    if !stopped {
-        for (number, call) in UPDATE.iter().enumerate() {
-            if make(rt, &mut first, *call).is_err() {
-                stopped = true;
-                break;
-            }
-            at = number + 1;
-        }
+    let mut first = store(rt, alloc, memory(alloc)?, calls);
+    let at = if power(rt, &mut first) {
+        updated(rt, &mut first, 0)
+    } else {
+        0
+    };
+    if at < 8 {
+        stays_down(rt, &mut first);
+    } else {
+        assert!(rt; !first.is_down());
     }
-    assert_eq!(rt; stopped, first.is_down());
-    if stopped {
-        assert!(rt; !power(rt, &mut first));
-        assert!(rt; received(&first, 3).is_none());
-    }
-    let mut again = store(rt, alloc, first.close().inner(), ALL);
-    assert!(rt; power(rt, &mut again));
-    let shown = shows(&again);
-    // As before the call that was stopped, behind it, or with none at its index.
-    assert!(rt; at <= 8);
-    let behind = if at < 8 { at + 1 } else { at };
-    let was_or_is = shown == all[at] || shown == all[behind];
-    let is_setup = at < 8 && matches!(UPDATE[at], Call::Setup(_) | Call::Delete(_));
-    assert!(rt; was_or_is || is_setup);
-    let from = if shown == all[behind] { behind } else { at };
-    for (number, call) in UPDATE.iter().enumerate() {
-        if number >= from {
-            assert!(rt; make(rt, &mut again, *call).is_ok());
-        }
-    }
-    is_done(rt, &again);
-    Ok(!stopped)
+    let mut again = over(rt, alloc, first);
+    let from = resumes(rt, &mut again, all, at);
+    assert!(rt; updated(rt, &mut again, from) == 8);
+    assert!(rt; is_done(&again));
+    Ok(at == 8)
 }
 
 #[test]

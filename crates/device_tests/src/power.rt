@@ -69,14 +69,25 @@ const PAYLOADS: [&[u8]; 6] = [
 /// What sessions 0 and 3 received; none where there is no session.
 type Shown = (Option<u16>, Option<u16>);
 
+fn memory(alloc: Global) -> Result<MemFlash, Fail> {
+    Ok(MemFlash::reserve(alloc, 4 * SPAN, ROOM, Vec::new(alloc))?)
+}
+
+/// A device whose flash is stopped after so many calls.
 fn device(rt: &impl Abort, alloc: Global, flash: MemFlash, calls: u64) -> Device<StopFlash> {
-    Device::reserve(alloc, CONFIG, StopFlash::over(flash, calls)).expect(rt, "no device")
+    match Device::reserve(alloc, CONFIG, StopFlash::over(flash, calls)) {
+        Ok(device) => device,
+        Err(_) => panic!(rt; "no device"),
+    }
+}
+
+/// The same over the flash of a device that is no more.
+fn over(rt: &impl Abort, alloc: Global, first: Device<StopFlash>) -> Device<StopFlash> {
+    device(rt, alloc, first.close().inner(), ALL)
 }
 
 fn power(rt: &impl Abort, device: &mut Device<StopFlash>) -> bool {
-    if !device.is_held() {
-        panic!(rt; "its sessions are in memory");
-    }
+    assert!(rt; device.is_held());
     device.power().is_ok()
 }
 
@@ -102,18 +113,34 @@ fn acted(rt: &impl Abort, device: &mut Device<StopFlash>, payload: &[u8]) -> boo
 fn received(device: &Device<StopFlash>, index: u8) -> Option<u16>
     requires { index ≤ 3 }
 {
-    let view = device.session(index)?;
-    Some(view.received)
+    match device.session(index) {
+        Some(view) => Some(view.received),
+        None => None,
+    }
 }
 
 fn shows(device: &Device<StopFlash>) -> Shown {
     (received(device, 0), received(device, 3))
 }
 
+/// Whether session 0 has the image.
+fn has_image(device: &Device<StopFlash>) -> bool {
+    match device.session(0) {
+        Some(view) => view.verdict == Verdict::Complete(1) && view.file == IMAGE.as_slice(),
+        None => false,
+    }
+}
+
+/// Whether the image is whole, and is to run next.
+fn is_done(device: &Device<StopFlash>) -> bool {
+    has_image(device)
+        && received(device, 3) == None
+        && device.slots().next() == ImageState::Valid(2)
+}
+
 /// What the sessions show before each payload, and behind the last.
 fn all_shown(rt: &impl Abort, alloc: Global) -> Result<[Shown; 7], Fail> {
-    let flash = MemFlash::reserve(alloc, 4 * SPAN, ROOM, Vec::new(alloc))?;
-    let mut device = device(rt, alloc, flash, ALL);
+    let mut device = device(rt, alloc, memory(alloc)?, ALL);
     assert!(rt; device.is_down());
     assert!(rt; power(rt, &mut device));
     let mut all = [(None, None); 7];
@@ -122,56 +149,50 @@ fn all_shown(rt: &impl Abort, alloc: Global) -> Result<[Shown; 7], Fail> {
         assert!(rt; acted(rt, &mut device, payload));
     }
     all[6] = shows(&device);
-    is_done(rt, &device);
+    assert!(rt; is_done(&device));
     Ok(all)
 }
 
-/// The image is whole, and is to run next.
-fn is_done(rt: &impl Abort, device: &Device<StopFlash>) {
-    match device.session(0) {
-        Some(view) => {
-            assert_eq!(rt; view.verdict, Verdict::Complete(1));
-            assert!(rt; view.file == IMAGE.as_slice());
+/// The update from a payload on, as far as the flash goes; how many payloads acted by then.
+fn updated(rt: &impl Abort, device: &mut Device<StopFlash>, from: usize) -> usize {
+    for (number, payload) in PAYLOADS.iter().enumerate() {
+        if number >= from && !acted(rt, device, payload) {
+            return number;
         }
-        None => panic!(rt; "no session"),
     }
-    assert_eq!(rt; received(device, 3), None);
-    assert!(rt; device.slots().next() == ImageState::Valid(2));
+    PAYLOADS.len()
+}
+
+/// Power behind a stop in the payload `at`; the payload from which the update goes on. The sessions are as before that one,
+/// behind it, or between where it sets a session up or ends one.
+fn resumes(rt: &impl Abort, device: &mut Device<StopFlash>, all: &[Shown; 7], at: usize) -> usize {
+    assert!(rt; power(rt, device));
+    assert!(rt; at <= 6);
+    let shown = shows(device);
+    let behind = if at < 6 { at + 1 } else { at };
+    if shown == all[behind] {
+        return behind;
+    }
+    let is_between = at == 0 || at == 3 || at == 5;
+    assert!(rt; shown == all[at] || is_between);
+    at
 }
 
 /// The update with a flash that is stopped after so many calls, and another device over what it left; true where no call was
 /// stopped.
 fn goes_on(rt: &impl Abort, alloc: Global, all: &[Shown; 7], calls: u64) -> Result<bool, Fail> {
-    let flash = MemFlash::reserve(alloc, 4 * SPAN, ROOM, Vec::new(alloc))?;
-    let mut first = device(rt, alloc, flash, calls);
-    let mut at = 0;
-    let mut stopped = !power(rt, &mut first);
-    if !stopped {
-        for (number, payload) in PAYLOADS.iter().enumerate() {
-            if !acted(rt, &mut first, payload) {
-                stopped = true;
-                break;
-            }
-            at = number + 1;
-        }
-    }
-    assert_eq!(rt; stopped, first.is_down());
-    let mut again = device(rt, alloc, first.close().inner(), ALL);
-    assert!(rt; power(rt, &mut again));
-    let shown = shows(&again);
-    // As before the payload that was stopped, behind it, or between where it sets a session up or ends one.
-    assert!(rt; at <= 6);
-    let behind = if at < 6 { at + 1 } else { at };
-    let is_between = at == 0 || at == 3 || at == 5;
-    assert!(rt; shown == all[at] || shown == all[behind] || is_between);
-    let from = if shown == all[behind] { behind } else { at };
-    for (number, payload) in PAYLOADS.iter().enumerate() {
-        if number >= from {
-            assert!(rt; acted(rt, &mut again, payload));
-        }
-    }
-    is_done(rt, &again);
-    Ok(!stopped)
+    let mut first = device(rt, alloc, memory(alloc)?, calls);
+    let at = if power(rt, &mut first) {
+        updated(rt, &mut first, 0)
+    } else {
+        0
+    };
+    assert!(rt; first.is_down() == (at < 6));
+    let mut again = over(rt, alloc, first);
+    let from = resumes(rt, &mut again, all, at);
+    assert!(rt; updated(rt, &mut again, from) == 6);
+    assert!(rt; is_done(&again));
+    Ok(at == 6)
 }
 
 #[test]
