@@ -16,16 +16,12 @@ use Rattle.campaign_laws.specs.OnceInWorld.{MovesOnceIn}
 use Rattle.campaign_laws.proofs.Once.{an_uplink_moves_once}
 
 -- what was found is of one command
-pub single_at : {R : Type 0} (result : Option R) (now : R → Uplink) (found : Option MadeUplink) (made : MadeUplink)
-    → option_map now result ≡ option_map (λ (m : MadeUplink). m.uplink) found → IfSome result (λ u. IsUplink (now u)) → found ≡ Some made
+pub single_at : (result : Option Uplink) (found : Option MadeUplink) (made : MadeUplink)
+    → result ≡ option_map (λ (m : MadeUplink). m.uplink) found → IfSome result (λ u. IsUplink u) → found ≡ Some made
     → IsUplink made.uplink
-single_at None now found made is single there =
-    let some : option_map (λ (m : MadeUplink). m.uplink) found ≡ Some made.uplink = ap (option_map (λ (m : MadeUplink). m.uplink)) there in
-    absurd cc
-single_at (Some u) now found made is single there =
-    let some : option_map (λ (m : MadeUplink). m.uplink) found ≡ Some made.uplink = ap (option_map (λ (m : MadeUplink). m.uplink)) there in
-    let same : now u ≡ made.uplink = cc in
-    subst (λ (x : Uplink). IsUplink x) same single
+single_at result found made is single there =
+    let some : result ≡ Some made.uplink = is ∙ ap (option_map (λ (m : MadeUplink). m.uplink)) there in
+    subst (λ (o : Option Uplink). IfSome o (λ u. IsUplink u)) some single
 
 -- and is read as that command
 pub reads_alone : (uplink : Uplink) (is : IsUplink uplink) → reading_of uplink.port Upwards uplink.payload ≡ Ok (is.command ∷ [])

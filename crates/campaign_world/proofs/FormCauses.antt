@@ -215,10 +215,6 @@ pub room_in : (ids : List ℕ) (f : Form) (test : Bool) (count : ℕ) (found : L
     → count ≡ length found → fits_flash (length ids) f ≡ test
 room_in ids f test count found found_is is count_is = rw (← found_is, ← count_is) (sym is)
 
-pub come_in : (sent : List SentPayload) (uplinks : List MadeUplink) (now : ℕ) (f : Form) (test : Bool) (ss : List SentPayload) (us : List MadeUplink) (t : ℕ)
-    → ss ≡ sent → us ≡ uplinks → t ≡ now → test ≡ has_come ss us t f → has_come sent uplinks now f ≡ test
-come_in sent uplinks now f test ss us t sent_is uplinks_are now_is is = rw (← sent_is, ← uplinks_are, ← now_is) (sym is)
-
 pub timed_in : (now : ℕ) (f : Form) (test : Bool) (t : ℕ) → t ≡ now → test ≡ is_to_come t f → is_to_come now f ≡ test
 timed_in now f test t now_is is = rw (← now_is) (sym is)
 

@@ -1,4 +1,5 @@
 pub mod Zips
+pub mod LoggedItems
 pub mod Lateness
 pub mod Outboxes
 pub mod Powering

@@ -8,8 +8,10 @@ pub mod Report
 pub mod Summary
 pub mod Recovery
 pub mod HeldLate
+pub mod HeldLog
 pub mod HeldWorld
 pub mod EventCauses
 pub mod HeardWorld
+pub mod LogsInside
 pub mod WorldInside
 pub mod PhaseInside

@@ -1,6 +1,6 @@
 //! What reaches a device, and the uplinks that are then taken of it.
 
-ghost use Rattle.std.specs.Prelude.{◌≡◌, ℕ, ◌≤◌, ◌+◌, List, length, replicate, vec_len, vec_capacity};
+ghost use Rattle.std.specs.Prelude.{◌≡◌, ℕ, ◌≤◌, ◌+◌, List, length, replicate};
 ghost use Rattle.device_core.specs.Device.{DeviceState, first_device, max_moment, outbox_size};
 ghost use Rattle.device_core.specs.Deliver.{delivery, waking};
 ghost use Rattle.device_core.specs.Radio.{radio};
@@ -9,9 +9,10 @@ ghost use Rattle.device_core.specs.HeldDevice.{DeviceStands, Starts};
 ghost use Rattle.device_core.specs.declared.config.DeviceConfig.{DeviceConfig};
 ghost use Rattle.campaign_world.specs.HeldWorld.{resting, numbered_behind, ComesToRest, AreNumbered};
 ghost use Rattle.campaign_world.specs.HeldLate.{IsStored, HeldRests};
+ghost use Rattle.campaign_world.specs.HeldLog.{HasRoom};
 ghost use Rattle.campaign_world.specs.WorldInside.{StayMade};
 
-use crate::numbered::MadeUplink;
+use crate::logs::UplinkLog;
 use device_core::{Device, Incoming, Moment, Uplink};
 use flash_session::CellFlash;
 use wire_base::Payload;
@@ -22,14 +23,14 @@ pub const OUTBOX: usize = 8;
 /// A payload reaches a device, whose uplinks are taken.
 pub fn reach_device(
     device: &mut Device<CellFlash>,
-    uplinks: &mut Vec<MadeUplink>,
+    uplinks: &mut UplinkLog,
     id: u8,
     down: &Incoming<'_>,
     coming: Moment,
 )
     requires first { 1 ≤ id }
     requires moment { coming.t ≤ max_moment }
-    requires room { vec_len uplinks.old + outbox_size ≤ vec_capacity uplinks.old }
+    requires room { HasRoom outbox_size uplinks.old }
     ensures made { StayMade id uplinks.old.items uplinks.new.items }
     ensures rests { ComesToRest HeldRests
         (λ d. (delivery coming.t coming.word coming.mark down.now d).device) device.old device.new }
@@ -44,14 +45,14 @@ pub fn reach_device(
 /// Bytes reach the radio of a device, whose uplinks are taken.
 pub fn air_device(
     device: &mut Device<CellFlash>,
-    uplinks: &mut Vec<MadeUplink>,
+    uplinks: &mut UplinkLog,
     id: u8,
     bytes: &[u8],
     coming: Moment,
 )
     requires first { 1 ≤ id }
     requires moment { coming.t ≤ max_moment }
-    requires room { vec_len uplinks.old + outbox_size ≤ vec_capacity uplinks.old }
+    requires room { HasRoom outbox_size uplinks.old }
     ensures made { StayMade id uplinks.old.items uplinks.new.items }
     ensures rests { ComesToRest HeldRests
         (λ d. (radio coming.t coming.word coming.mark bytes.now d).device) device.old device.new }
@@ -64,10 +65,10 @@ pub fn air_device(
 }
 
 /// A device wakes, and its uplinks are taken.
-pub fn rouse_device(device: &mut Device<CellFlash>, uplinks: &mut Vec<MadeUplink>, id: u8, t: u64)
+pub fn rouse_device(device: &mut Device<CellFlash>, uplinks: &mut UplinkLog, id: u8, t: u64)
     requires first { 1 ≤ id }
     requires moment { t ≤ max_moment }
-    requires room { vec_len uplinks.old + outbox_size ≤ vec_capacity uplinks.old }
+    requires room { HasRoom outbox_size uplinks.old }
     ensures made { StayMade id uplinks.old.items uplinks.new.items }
     ensures rests { ComesToRest HeldRests (λ d. (waking t d).device) device.old device.new }
     ensures uplinks { AreNumbered HeldRests (λ d. (waking t d).device) device.old id
@@ -105,9 +106,9 @@ pub fn power_device(device: &mut Device<CellFlash>)
 }
 
 /// Takes all uplinks of a device, oldest first. It has no more of them than there is room for.
-fn take_uplinks(id: u8, device: &mut Device<CellFlash>, uplinks: &mut Vec<MadeUplink>)
+fn take_uplinks(id: u8, device: &mut Device<CellFlash>, uplinks: &mut UplinkLog)
     requires first { 1 ≤ id }
-    requires room { vec_len uplinks.old + outbox_size ≤ vec_capacity uplinks.old }
+    requires room { HasRoom outbox_size uplinks.old }
     ensures made { StayMade id uplinks.old.items uplinks.new.items }
     ensures rests { (d : DeviceState) → DeviceStands device.old d → IsStored device.old d
         → length d.outbox ≤ outbox_size → HeldRests device.new (resting d) }
@@ -121,29 +122,27 @@ fn take_uplinks(id: u8, device: &mut Device<CellFlash>, uplinks: &mut Vec<MadeUp
 
 /// The same of a device that holds some. It stands alone, so that no other payload sees to the room for an uplink.
 #[inline(never)]
-fn take_held(id: u8, device: &mut Device<CellFlash>, uplinks: &mut Vec<MadeUplink>)
+fn take_held(id: u8, device: &mut Device<CellFlash>, uplinks: &mut UplinkLog)
     requires first { 1 ≤ id }
-    requires room { vec_len uplinks.old + outbox_size ≤ vec_capacity uplinks.old }
+    requires room { HasRoom outbox_size uplinks.old }
     ensures made { StayMade id uplinks.old.items uplinks.new.items }
     ensures rests { (d : DeviceState) → DeviceStands device.old d → IsStored device.old d
         → length d.outbox ≤ outbox_size → HeldRests device.new (resting d) }
     ensures uplinks { length device.old.outbox ≤ outbox_size
         → uplinks.new.items ≡ numbered_behind uplinks.old.items id device.old.outbox }
 {
-    let full = uplinks.len() + OUTBOX;
-    while uplinks.len() < full {
+    let mut left = OUTBOX;
+    while left > 0 {
         if !device.has_uplink() {
             return;
         }
-        let mut made = MadeUplink {
-            device: id,
-            uplink: Uplink {
-                due: 0,
-                port: 0,
-                payload: Payload::new(),
-            },
+        let mut uplink = Uplink {
+            due: 0,
+            port: 0,
+            payload: Payload::new(),
         };
-        device.take_uplink_into(&mut made.uplink);
-        uplinks.push_reserved(made);
+        device.take_uplink_into(&mut uplink);
+        uplinks.push(id, &uplink);
+        left -= 1;
     }
 }

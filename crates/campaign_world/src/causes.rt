@@ -6,7 +6,7 @@ ghost use Rattle.image_slots.specs.Image.{max_image};
 ghost use Rattle.campaign_world.specs.Causes.{is_event_or_end, may_come, fits_script, is_device, names_device, has_flash, fits_flash, may_reach, is_to_group, goes_out, is_due_by, has_come, is_to_come, fits_payload};
 ghost use Rattle.wire_base.specs.Numbered.{numbered};
 
-use crate::numbered::{MadeUplink, SentPayload, numbered};
+use crate::logs::{SentLog, UplinkLog};
 use crate::section::Section;
 use frag_model::lines::MAX_PIECES;
 use package_grammar::To;
@@ -100,10 +100,8 @@ pub fn has_flash(flash: &[u64], form: &Form) -> bool
 
 /// Whether the payload of a `down` was sent and may reach its device, that of an `air` goes out as a frame too, and the uplink
 /// of an `up` was made and is due.
-pub fn has_come(sent: &[SentPayload], uplinks: &[MadeUplink], now: u64, form: &Form) -> bool
-    requires sent { length sent.now < 2 ^ 63 }
-    requires uplinks { length uplinks.now < 2 ^ 63 }
-    ensures { result ≡ has_come sent.now uplinks.now now form.now }
+pub fn has_come(sent: &SentLog, uplinks: &UplinkLog, now: u64, form: &Form) -> bool
+    ensures { result ≡ has_come sent.now.items uplinks.now.items now form.now }
 {
     match form {
         Form::Down { number, device, .. } => may_reach(*device, sent, *number),
@@ -116,11 +114,10 @@ pub fn has_come(sent: &[SentPayload], uplinks: &[MadeUplink], now: u64, form: &F
 }
 
 /// Whether a payload was sent, to this device or to any.
-pub fn may_reach(device: u64, sent: &[SentPayload], number: u64) -> bool
-    requires { length sent.now < 2 ^ 63 }
-    ensures { result ≡ may_reach device (numbered sent.now number) }
+pub fn may_reach(device: u64, sent: &SentLog, number: u64) -> bool
+    ensures { result ≡ may_reach device (numbered sent.now.items number) }
 {
-    match numbered(sent, number) {
+    match sent.number(number) {
         Some(found) => match found.receiver {
             Some(receiver) => u64::from(receiver) == device,
             None => true,
@@ -130,12 +127,11 @@ pub fn may_reach(device: u64, sent: &[SentPayload], number: u64) -> bool
 }
 
 /// Whether a sent payload goes out as a frame: it is to a group.
-pub fn goes_out(sent: &[SentPayload], number: u64) -> bool
-    requires { length sent.now < 2 ^ 63 }
-    ensures { result ≡ goes_out (numbered sent.now number) }
+pub fn goes_out(sent: &SentLog, number: u64) -> bool
+    ensures { result ≡ goes_out (numbered sent.now.items number) }
 {
-    match numbered(sent, number) {
-        Some(found) => is_to_group(found.down.to),
+    match sent.number(number) {
+        Some(found) => is_to_group(found.down.to()),
         None => false,
     }
 }
@@ -150,12 +146,11 @@ fn is_to_group(to: To) -> bool
 }
 
 /// Whether an uplink was made, and is due by now.
-pub fn is_due_by(now: u64, uplinks: &[MadeUplink], number: u64) -> bool
-    requires { length uplinks.now < 2 ^ 63 }
-    ensures { result ≡ is_due_by now (numbered uplinks.now number) }
+pub fn is_due_by(now: u64, uplinks: &UplinkLog, number: u64) -> bool
+    ensures { result ≡ is_due_by now (numbered uplinks.now.items number) }
 {
-    match numbered(uplinks, number) {
-        Some(made) => made.uplink.due <= now,
+    match uplinks.number(number) {
+        Some(made) => made.uplink.due() <= now,
         None => false,
     }
 }

@@ -1,26 +1,17 @@
 //! Events at devices: a payload or bytes of the air that reach one, and one that wakes. Its uplinks are then taken.
 
-ghost use Rattle.std.specs.Prelude.{◌≡◌, ◌≤◌, ◌+◌, List, length, OnOk, OnErr, vec_len, vec_capacity};
-ghost use Rattle.device_core.specs.Device.{DeviceState, max_moment, outbox_size};
+ghost use Rattle.std.specs.Prelude.{◌≡◌, ◌≤◌, List, length, OnOk, OnErr};
+ghost use Rattle.device_core.specs.Device.{DeviceState, max_moment};
 ghost use Rattle.device_core.specs.Deliver.{delivery, waking};
 ghost use Rattle.device_core.specs.Radio.{radio};
 ghost use Rattle.device_core.specs.Firmware.{after_migration};
 ghost use Rattle.campaign_world.specs.HeldWorld.{DevicesRest, OneComesToRest, OnesAreNumbered};
 ghost use Rattle.campaign_world.specs.WorldInside.{StayMade};
 
-use crate::calls::OUTBOX;
 use crate::late::{LateDevice, air, power, raise, reach, rouse};
-use crate::numbered::MadeUplink;
+use crate::logs::UplinkLog;
 use device_core::{Incoming, Moment};
 use std::alloc::{AllocError, Global};
-
-/// Room for the uplinks of one event.
-fn make_room(uplinks: &mut Vec<MadeUplink>) -> Result<(), AllocError>
-    ensures same { uplinks.new.items ≡ uplinks.old.items }
-    ensures room { OnOk result (vec_len uplinks.new + outbox_size ≤ vec_capacity uplinks.new) }
-{
-    uplinks.reserve(OUTBOX)
-}
 
 /// A payload reaches the device with a number, whose uplinks are taken, oldest first. Where there is no memory for them
 /// the device is not called.
@@ -28,7 +19,7 @@ fn make_room(uplinks: &mut Vec<MadeUplink>) -> Result<(), AllocError>
 pub fn deliver(
     devices: &mut Vec<LateDevice>,
     alloc: Global,
-    uplinks: &mut Vec<MadeUplink>,
+    uplinks: &mut UplinkLog,
     id: u8,
     down: &Incoming<'_>,
     coming: Moment,
@@ -46,7 +37,7 @@ pub fn deliver(
         devices.old.items id uplinks.old.items uplinks.new.items) }
     ensures same { OnErr result (devices.new.items ≡ devices.old.items) }
 {
-    match make_room(uplinks) {
+    match uplinks.reserve() {
         Ok(()) => {}
         Err(error) => return Err(error),
     }
@@ -59,7 +50,7 @@ pub fn deliver(
 pub fn hear_bytes(
     devices: &mut Vec<LateDevice>,
     alloc: Global,
-    uplinks: &mut Vec<MadeUplink>,
+    uplinks: &mut UplinkLog,
     id: u8,
     bytes: &[u8],
     coming: Moment,
@@ -77,7 +68,7 @@ pub fn hear_bytes(
         devices.old.items id uplinks.old.items uplinks.new.items) }
     ensures same { OnErr result (devices.new.items ≡ devices.old.items) }
 {
-    match make_room(uplinks) {
+    match uplinks.reserve() {
         Ok(()) => {}
         Err(error) => return Err(error),
     }
@@ -90,7 +81,7 @@ pub fn hear_bytes(
 pub fn wake(
     devices: &mut Vec<LateDevice>,
     alloc: Global,
-    uplinks: &mut Vec<MadeUplink>,
+    uplinks: &mut UplinkLog,
     id: u8,
     t: u64,
 ) -> Result<(), AllocError>
@@ -105,7 +96,7 @@ pub fn wake(
         (λ d. (waking t d).device) devices.old.items id uplinks.old.items uplinks.new.items) }
     ensures same { OnErr result (devices.new.items ≡ devices.old.items) }
 {
-    match make_room(uplinks) {
+    match uplinks.reserve() {
         Ok(()) => {}
         Err(error) => return Err(error),
     }

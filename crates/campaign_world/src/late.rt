@@ -1,18 +1,19 @@
 //! A device of a campaign, whose memory is taken when its first event comes.
 
-ghost use Rattle.std.specs.Prelude.{◌≡◌, ◌≤◌, ◌+◌, true, None, OnOk, OnErr, IfOk, option_map, vec_len, vec_capacity};
+ghost use Rattle.std.specs.Prelude.{◌≡◌, ◌≤◌, ◌+◌, true, None, OnOk, OnErr, IfOk, option_map};
 ghost use Rattle.device_core.specs.Device.{DeviceState, first_device, is_config, max_moment, outbox_size};
 ghost use Rattle.device_core.specs.Deliver.{delivery, waking};
 ghost use Rattle.device_core.specs.Radio.{radio};
 ghost use Rattle.device_core.specs.Firmware.{after_migration};
 ghost use Rattle.campaign_world.specs.HeldWorld.{ComesToRest, AreNumbered};
 ghost use Rattle.campaign_world.specs.HeldLate.{IsHere, HasSpan, HeldRests, DeviceRests};
+ghost use Rattle.campaign_world.specs.HeldLog.{HasRoom};
 ghost use Rattle.campaign_world.specs.WorldInside.{StayMade};
 
 use crate::calls::{
     air_device, power_device, power_first, raise_device, reach_device, rouse_device,
 };
-use crate::numbered::MadeUplink;
+use crate::logs::UplinkLog;
 use device_core::{Device, DeviceConfig, Incoming, Moment, ReserveError};
 use flash_session::CellFlash;
 use std::alloc::{AllocError, Global};
@@ -115,14 +116,14 @@ fn reserved(alloc: Global, config: DeviceConfig) -> Result<Box<Device<CellFlash>
 pub fn reach(
     late: &mut LateDevice,
     alloc: Global,
-    uplinks: &mut Vec<MadeUplink>,
+    uplinks: &mut UplinkLog,
     id: u8,
     down: &Incoming<'_>,
     coming: Moment,
 ) -> Result<(), AllocError>
     requires first { 1 ≤ id }
     requires moment { coming.t ≤ max_moment }
-    requires room { vec_len uplinks.old + outbox_size ≤ vec_capacity uplinks.old }
+    requires room { HasRoom outbox_size uplinks.old }
     ensures made { StayMade id uplinks.old.items uplinks.new.items }
     ensures rests { OnOk result (ComesToRest DeviceRests
         (λ d. (delivery coming.t coming.word coming.mark down.now d).device) late.old late.new) }
@@ -146,14 +147,14 @@ pub fn reach(
 pub fn air(
     late: &mut LateDevice,
     alloc: Global,
-    uplinks: &mut Vec<MadeUplink>,
+    uplinks: &mut UplinkLog,
     id: u8,
     bytes: &[u8],
     coming: Moment,
 ) -> Result<(), AllocError>
     requires first { 1 ≤ id }
     requires moment { coming.t ≤ max_moment }
-    requires room { vec_len uplinks.old + outbox_size ≤ vec_capacity uplinks.old }
+    requires room { HasRoom outbox_size uplinks.old }
     ensures made { StayMade id uplinks.old.items uplinks.new.items }
     ensures rests { OnOk result (ComesToRest DeviceRests
         (λ d. (radio coming.t coming.word coming.mark bytes.now d).device) late.old late.new) }
@@ -177,13 +178,13 @@ pub fn air(
 pub fn rouse(
     late: &mut LateDevice,
     alloc: Global,
-    uplinks: &mut Vec<MadeUplink>,
+    uplinks: &mut UplinkLog,
     id: u8,
     t: u64,
 ) -> Result<(), AllocError>
     requires first { 1 ≤ id }
     requires moment { t ≤ max_moment }
-    requires room { vec_len uplinks.old + outbox_size ≤ vec_capacity uplinks.old }
+    requires room { HasRoom outbox_size uplinks.old }
     ensures made { StayMade id uplinks.old.items uplinks.new.items }
     ensures rests { OnOk result
         (ComesToRest DeviceRests (λ d. (waking t d).device) late.old late.new) }

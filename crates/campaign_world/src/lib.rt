@@ -17,6 +17,8 @@ mod causes;
 mod deliveries;
 mod hearing;
 mod late;
+mod lent;
+mod logs;
 mod numbered;
 mod recovery;
 mod report;
@@ -25,6 +27,7 @@ mod summary;
 mod world;
 
 pub use causes::{fits_flash, is_device, is_event_or_end, may_come, names_device};
+pub use lent::{LentDownlink, LentUplink};
 pub use numbered::SentPayload;
 pub use recovery::NoFile;
 pub use section::Section;

@@ -1,43 +1,23 @@
-//! What is sent and made in a campaign, numbered from 1.
+//! What is sent and made in a campaign, numbered from 1. It is lent where it lies.
 
 ghost use Rattle.std.specs.Prelude.{◌≡◌, ◌<◌, ◌^◌, length};
 ghost use Rattle.std.specs.Option.{option_map};
 ghost use Rattle.wire_base.specs.Numbered.{numbered};
 
-use device_core::Uplink;
-use package_grammar::Downlink;
+use crate::lent::{LentDownlink, LentUplink};
 
 /// A payload that the server sent, to one device or to any.
-#[derive(Debug, Drop)]
-pub struct SentPayload {
+#[derive(Drop)]
+pub struct SentPayload<'a> {
     pub receiver: Option<u8>,
-    pub down: Downlink,
-}
-
-impl SentPayload {
-    ghost use Rattle.std.specs.Prelude.{◌≡◌, []};
-    ghost use Rattle.package_grammar.specs.declared.downlink.To.TheVariants as to;
-
-    /// Without bytes, to be written into.
-    #[inline(always)]
-    pub fn blank(receiver: Option<u8>) -> Self
-        ensures { result ≡ record {
-          receiver = receiver;
-          down = record { to = to.Unicast; port = 0; payload = [] };
-        } }
-    {
-        SentPayload {
-            receiver,
-            down: Downlink::blank(),
-        }
-    }
+    pub down: LentDownlink<'a>,
 }
 
 /// An uplink that a device made.
-#[derive(Debug, Drop)]
-pub struct MadeUplink {
+#[derive(Drop)]
+pub struct MadeUplink<'a> {
     pub device: u8,
-    pub uplink: Uplink,
+    pub uplink: LentUplink<'a>,
 }
 
 /// The item with a number, counted from 1.

@@ -23,11 +23,11 @@ use self::events::Campaign;
 use self::phase::Phase;
 use self::planning::Planning;
 use crate::causes::{
-    fits_flash, fits_payload, fits_script, has_come, has_flash, is_to_come, may_come, names_device,
+    fits_flash, fits_payload, fits_script, has_flash, is_to_come, may_come, names_device,
 };
+use crate::lent::LentUplink;
 use crate::numbered::numbered;
 use crate::recovery::{NoFile, recovered_by};
-use device_core::Uplink;
 use report_lines::{LineError, LineWhy, MAX_LINE, MAX_LINES, refused_behind};
 use script_lines::{Form, form, in_range};
 use std::alloc::{AllocError, Global};
@@ -214,10 +214,10 @@ impl World {
     }
 
     /// The uplink with a number, counted from 1; None where none has it. It is one command in its canonical spelling.
-    pub fn uplink(&self, number: u64) -> Option<&Uplink>
-        ensures found { option_map (λ uplink. uplink.now) result
+    pub fn uplink(&self, number: u64) -> Option<LentUplink<'_>>
+        ensures found { result
             ≡ option_map (λ made. made.uplink) (numbered self.now.uplinks number) }
-        ensures single { IfSome result (λ uplink. IsUplink uplink.now) }
+        ensures single { IfSome result (λ uplink. IsUplink uplink) }
     {
         match &self.phase {
             Phase::Planning(_) => None,
@@ -315,7 +315,7 @@ impl World {
         if !has_flash(stand.flash, form) {
             return Some(LineWhy::Device);
         }
-        if !has_come(stand.sent, stand.uplinks, stand.time, form) {
+        if !self.phase.has_come(form) {
             return Some(LineWhy::Unsent);
         }
         if !is_to_come(stand.time, form) {

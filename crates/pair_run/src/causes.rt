@@ -92,11 +92,11 @@ pub fn is_next(count: usize, form: &Form) -> bool
 }
 
 /// Whether a sent payload goes out this way: on the air one to a group does.
-pub fn goes_by(way: Way, sent: &SentPayload) -> bool
+pub fn goes_by(way: Way, sent: &SentPayload<'_>) -> bool
     ensures { result ≡ goes_by way sent.now }
 {
     match way {
         Way::Downlink => true,
-        Way::Air => matches!(sent.down.to, To::Group { .. }),
+        Way::Air => matches!(sent.down.to(), To::Group { .. }),
     }
 }

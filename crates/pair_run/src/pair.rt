@@ -343,7 +343,7 @@ fn crossing_cause(way: Way, from: &World, to: &World, number: u64, device: u64) 
     let Some(sent) = from.sent(number) else {
         return Some(LineWhy::Unsent);
     };
-    if sent.receiver.is_none() && goes_by(way, sent) {
+    if sent.receiver.is_none() && goes_by(way, &sent) {
         None
     } else {
         Some(LineWhy::Unsent)

@@ -89,5 +89,5 @@ fn carry(from: &World, to: &mut World, number: u64, device: u64, word: u64) -> R
     let Some(sent) = from.sent(number) else {
         unreachable!()
     };
-    to.reach(device as u8, &sent.down, word as u32)
+    to.reach(device as u8, &sent.down.incoming(), word as u32)
 }

@@ -1,6 +1,6 @@
 //! A campaign beside another one: what is asked of it, and a payload of the other's that reaches one of its devices.
 
-ghost use Rattle.std.specs.Prelude.{◌≡◌, ◌≤◌, ◌<◌, ◌^◌, true, false, None, Some, Ok, length, IfErr, IfOk, IfSome, OnErr, OnOk, option_map, string_bytes};
+ghost use Rattle.std.specs.Prelude.{◌≡◌, ◌≤◌, ◌<◌, ◌^◌, true, false, None, Some, Ok, length, IfErr, IfOk, IfSome, OnErr, OnOk, string_bytes};
 ghost use Rattle.wire_base.specs.Numbered.{numbered};
 ghost use Rattle.script_lines.specs.Limits.{max_lines};
 ghost use Rattle.campaign_server.specs.Plan.{max_devices};
@@ -12,11 +12,10 @@ ghost use Rattle.campaign_world.specs.Report.{lines_under};
 
 use super::World;
 use super::phase::Phase;
-use crate::numbered::{SentPayload, numbered};
+use crate::numbered::SentPayload;
 use crate::section::Section;
 use campaign_server::{Plan, Server};
 use device_core::Incoming;
-use package_grammar::Downlink;
 use report_lines::LineError;
 use std::alloc::{AllocError, Global};
 
@@ -69,15 +68,15 @@ impl World {
     }
 
     /// The sent payload with a number, counted from 1; None where none has it.
-    pub fn sent(&self, number: u64) -> Option<&SentPayload>
-        ensures { option_map (λ sent. sent.now) result ≡ numbered self.now.sent number }
+    pub fn sent(&self, number: u64) -> Option<SentPayload<'_>>
+        ensures { result ≡ numbered self.now.sent number }
     {
-        numbered(self.phase.stand().sent, number)
+        self.phase.sent(number)
     }
 
     /// A payload of another campaign's server reaches a device, by a line of the script. Where memory is wanting devices and
     /// server are as they were.
-    pub fn reach(&mut self, device: u8, down: &Downlink, word: u32) -> Result<(), LineError>
+    pub fn reach(&mut self, device: u8, down: &Incoming<'_>, word: u32) -> Result<(), LineError>
         requires comes { takes_events self.old.section ≡ true }
         requires first { 1 ≤ device }
         requires last { device ≤ length self.old.devices }
@@ -89,11 +88,7 @@ impl World {
         ensures keeps { IfErr result (λ e. self.new.kept ≡ Some e) }
         ensures ends { OnErr result (KeepsEnds self.old self.new) }
     {
-        let coming = Incoming::of(down);
-        match self
-            .phase
-            .reach(self.alloc, self.lines, device, &coming, word)
-        {
+        match self.phase.reach(self.alloc, self.lines, device, down, word) {
             Ok(()) => {
                 self.lines += 1;
                 Ok(())

@@ -1,6 +1,6 @@
 //! A campaign that plays, and its events.
 
-ghost use Rattle.std.specs.Prelude.{◌≡◌, ◌≤◌, ◌<◌, ◌+◌, ◌++◌, ◌^◌, ℕ, true, List, [], length, None, Some, IfOk, IfSome, OnOk, OnErr, option_map, string_bytes, vec_len, vec_capacity, take, if◌then◌else◌};
+ghost use Rattle.std.specs.Prelude.{◌≡◌, ◌≤◌, ◌<◌, ◌+◌, ◌++◌, ◌^◌, ℕ, true, List, [], length, None, Some, IfOk, IfSome, OnOk, OnErr, option_map, string_bytes, Option};
 ghost use Rattle.std.specs.Result.{result_ok};
 ghost use Rattle.wire_base.specs.Numbered.{numbered};
 ghost use Rattle.image_slots.specs.Image.{is_image};
@@ -12,24 +12,27 @@ ghost use Rattle.campaign_server.specs.Plan.{max_devices};
 ghost use Rattle.campaign_server.specs.Asking.{request_of};
 ghost use Rattle.campaign_server.specs.Fragments.{next_fragment, after_fragment, status_to_all, after_status_to_all};
 ghost use Rattle.campaign_server.specs.Uplinks.{uplink_step};
-ghost use Rattle.campaign_server.specs.Sent.{down_of};
+ghost use Rattle.campaign_server.specs.Sent.{down_of, written};
 ghost use Rattle.campaign_world.specs.Causes.{is_event_or_end, has_more};
 ghost use Rattle.campaign_world.specs.Making.{with_sent, with_event, reception, raw_down, sent_frame, hearing, after_up, at_events, after_form};
 ghost use Rattle.campaign_world.specs.Report.{numbered_lines, report_with};
 ghost use Rattle.campaign_world.specs.Summary.{summary_with};
 ghost use Rattle.campaign_world.specs.HeldWorld.{sent_by, answered, is_answered};
+ghost use Rattle.campaign_world.specs.HeldLog.{HasRoom};
 ghost use Rattle.campaign_world.specs.declared.numbered.SentPayload.{SentPayload};
 ghost use Rattle.campaign_world.specs.declared.numbered.MadeUplink.{MadeUplink};
 
 use crate::deliveries::{deliver, hear_bytes, migrate, restart, wake};
 use crate::late::LateDevice;
-use crate::numbered::{MadeUplink, SentPayload, numbered};
+use crate::lent::LentUplink;
+use crate::logs::{SentLog, UplinkLog};
+use crate::numbered::MadeUplink;
 use crate::report::{device_part, report};
 use crate::summary::summary;
 use campaign_server::Server;
-use device_core::{Incoming, Moment, Uplink};
+use device_core::{Incoming, Moment};
 use mc_frames::Frame;
-use package_grammar::To;
+use package_grammar::{Downlink, To};
 use script_lines::{Form, HexBytes, MAX_HEX_BYTES};
 use std::alloc::{AllocError, Global};
 use std::marker::Model;
@@ -45,8 +48,8 @@ pub struct Campaign {
     pub(super) devices: Vec<LateDevice>,
     /// Those of them that have a flash, by their IDs.
     pub(super) flash: Vec<u64>,
-    pub(super) sent: Vec<SentPayload>,
-    pub(super) uplinks: Vec<MadeUplink>,
+    pub(super) sent: SentLog,
+    pub(super) uplinks: UplinkLog,
 }
 
 impl Model for Campaign {
@@ -90,8 +93,8 @@ impl Campaign {
             server,
             devices,
             flash,
-            sent: Vec::new(alloc),
-            uplinks: Vec::new(alloc),
+            sent: SentLog::new(alloc),
+            uplinks: UplinkLog::new(alloc),
         }
     }
 
@@ -152,7 +155,7 @@ impl Campaign {
             (λ world. at_events (with_sent world (Some device) (request_of world.server device))) }
         ensures ends { OnErr result (SameEnds self.old self.new) }
     {
-        match make_line(&mut self.sent) {
+        match self.sent.reserve() {
             Ok(()) => {}
             Err(error) => return Err(error),
         }
@@ -168,7 +171,7 @@ impl Campaign {
             (result_ok (next_fragment world.server)))) }
         ensures ends { OnErr result (SameEnds self.old self.new) }
     {
-        match make_line(&mut self.sent) {
+        match self.sent.reserve() {
             Ok(()) => {}
             Err(error) => return Err(error),
         }
@@ -184,7 +187,7 @@ impl Campaign {
             (status_to_all world.server))) }
         ensures ends { OnErr result (SameEnds self.old self.new) }
     {
-        match make_line(&mut self.sent) {
+        match self.sent.reserve() {
             Ok(()) => {}
             Err(error) => return Err(error),
         }
@@ -248,7 +251,7 @@ impl Campaign {
             word,
             mark,
         };
-        let Some(sent) = numbered(&self.sent, number) else {
+        let Some(sent) = self.sent.number(number) else {
             unreachable!()
         };
         deliver(
@@ -256,7 +259,7 @@ impl Campaign {
             self.alloc,
             &mut self.uplinks,
             device,
-            &Incoming::of(&sent.down),
+            &sent.down.incoming(),
             coming,
         )
     }
@@ -387,14 +390,14 @@ impl Campaign {
             (λ world. at_events (after_up world (numbered world.uplinks number))) }
         ensures ends { OnErr result (SameEnds self.old self.new) }
     {
-        match make_line(&mut self.sent) {
+        match self.sent.reserve() {
             Ok(()) => {}
             Err(error) => return Err(error),
         }
-        let Some(made) = numbered(&self.uplinks, number) else {
+        let Some(made) = self.uplinks.number(number) else {
             unreachable!()
         };
-        send_answer(&mut self.sent, &mut self.server, made, self.time);
+        send_answer(&mut self.sent, &mut self.server, &made, self.time);
         Ok(())
     }
 
@@ -410,13 +413,13 @@ impl Campaign {
     }
 
     /// The uplink with a number, counted from 1; None where none has it.
-    pub fn uplink(&self, number: u64) -> Option<&Uplink>
-        ensures found { option_map (λ uplink. uplink.now) result
+    pub fn uplink(&self, number: u64) -> Option<LentUplink<'_>>
+        ensures found { result
             ≡ option_map (λ made. made.uplink) (numbered self.now.uplinks number) }
-        ensures single { IfSome result (λ uplink. IsUplink uplink.now) }
+        ensures single { IfSome result (λ uplink. IsUplink uplink) }
     {
-        match numbered(&self.uplinks, number) {
-            Some(made) => Some(&made.uplink),
+        match self.uplinks.number(number) {
+            Some(made) => Some(made.uplink),
             None => None,
         }
     }
@@ -455,93 +458,81 @@ impl Campaign {
 }
 
 /// The frame of a sent payload, where it has one.
-fn sent_frame(server: &Server, sent: &[SentPayload], number: u64) -> Option<Frame>
-    requires { length sent.now < 2 ^ 63 }
+fn sent_frame(server: &Server, sent: &SentLog, number: u64) -> Option<Frame>
     ensures { option_map (λ frame. frame.items) result
-        ≡ sent_frame server.now.plan.group (numbered sent.now number) }
+        ≡ sent_frame server.now.plan.group (numbered sent.now.items number) }
 {
-    match numbered(sent, number) {
-        Some(found) if server.has_frame(&found.down) => Some(server.frame(&found.down)),
-        _ => None,
+    match sent.number(number) {
+        Some(found) => frame_of(server, &found.down.copied()),
+        None => None,
     }
 }
 
-/// Room for one payload more of the server's.
-fn make_line(sent: &mut Vec<SentPayload>) -> Result<(), AllocError>
-    ensures same { sent.new.items ≡ sent.old.items }
-    ensures room { OnOk result (vec_len sent.new + 1 ≤ vec_capacity sent.new) }
+/// The frame of a payload, where it has one.
+fn frame_of(server: &Server, down: &Downlink) -> Option<Frame>
+    ensures { (receiver : Option ℕ) → option_map (λ frame. frame.items) result ≡ sent_frame
+        server.now.plan.group (Some (record { receiver = receiver; down = down.now })) }
 {
-    sent.reserve(1)
+    if server.has_frame(down) {
+        Some(server.frame(down))
+    } else {
+        None
+    }
 }
 
-/// Numbers the request of the stage of a device, where there is one. There is room for it, and it is written where it
-/// stays.
-fn send_request(sent: &mut Vec<SentPayload>, server: &Server, device: u8)
+/// Numbers the request of the stage of a device, where there is one. There is room for it.
+fn send_request(sent: &mut SentLog, server: &Server, device: u8)
     requires first { 1 ≤ device }
     requires last { device ≤ length server.now.plan.devices }
-    requires room { vec_len sent.old + 1 ≤ vec_capacity sent.old }
+    requires room { HasRoom 1 sent.old }
     ensures { sent.new.items
         ≡ sent.old.items ++ sent_by (Some device) (down_of (request_of server.now device)) }
 {
-    let at = sent.len();
-    sent.push_reserved(SentPayload::blank(Some(device)));
-    let line = &mut sent[at];
-    let asked = server.ask_into(device, &mut line.down);
-    keep(sent, at, asked);
+    let mut down = Downlink::blank();
+    let asked = server.ask_into(device, &mut down);
+    keep(sent, Some(device), &down, asked);
 }
 
-/// Numbers the next fragment, where there is one. There is room for it, and it is written where it stays.
-fn send_fragment(sent: &mut Vec<SentPayload>, server: &mut Server)
-    requires { vec_len sent.old + 1 ≤ vec_capacity sent.old }
+/// Numbers the next fragment, where there is one. There is room for it.
+fn send_fragment(sent: &mut SentLog, server: &mut Server)
+    requires { HasRoom 1 sent.old }
     ensures sent { sent.new.items
         ≡ sent.old.items ++ sent_by None (down_of (result_ok (next_fragment server.old))) }
     ensures moved { server.new ≡ after_fragment server.old }
 {
-    let at = sent.len();
-    sent.push_reserved(SentPayload::blank(None));
-    let line = &mut sent[at];
-    let made = server.next_fragment_into(&mut line.down);
-    keep(sent, at, made.is_ok());
+    let mut down = Downlink::blank();
+    let made = server.next_fragment_into(&mut down);
+    keep(sent, None, &down, made.is_ok());
 }
 
-/// Numbers the status request to all devices, where there is one. There is room for it, and it is written where it
-/// stays.
-fn send_status(sent: &mut Vec<SentPayload>, server: &mut Server)
-    requires { vec_len sent.old + 1 ≤ vec_capacity sent.old }
+/// Numbers the status request to all devices, where there is one. There is room for it.
+fn send_status(sent: &mut SentLog, server: &mut Server)
+    requires { HasRoom 1 sent.old }
     ensures sent { sent.new.items
         ≡ sent.old.items ++ sent_by None (down_of (status_to_all server.old)) }
     ensures moved { server.new ≡ after_status_to_all server.old }
 {
-    let at = sent.len();
-    sent.push_reserved(SentPayload::blank(None));
-    let line = &mut sent[at];
-    let asked = server.status_all_into(&mut line.down);
-    keep(sent, at, asked);
+    let mut down = Downlink::blank();
+    let asked = server.status_all_into(&mut down);
+    keep(sent, None, &down, asked);
 }
 
-/// Numbers what the server answers to an uplink, nothing to one that it refuses. There is room for it, and it is
-/// written where it stays.
-fn send_answer(sent: &mut Vec<SentPayload>, server: &mut Server, made: &MadeUplink, t: u64)
+/// Numbers what the server answers to an uplink, nothing to one that it refuses. There is room for it.
+fn send_answer(sent: &mut SentLog, server: &mut Server, made: &MadeUplink<'_>, t: u64)
     requires first { 1 ≤ made.now.device }
     requires last { made.now.device ≤ length server.old.plan.devices }
-    requires room { vec_len sent.old + 1 ≤ vec_capacity sent.old }
+    requires room { HasRoom 1 sent.old }
     ensures sent { sent.new.items ≡ sent.old.items ++ sent_by (Some made.now.device)
         (down_of (answered (uplink_step server.old made.now.device made.now.uplink.port
         made.now.uplink.payload t).answer)) }
     ensures moved { server.new ≡ (uplink_step server.old made.now.device made.now.uplink.port
         made.now.uplink.payload t).server }
 {
-    let at = sent.len();
-    sent.push_reserved(SentPayload::blank(Some(made.device)));
-    let line = &mut sent[at];
-    let heard = server.uplink_into(
-        made.device,
-        made.uplink.port,
-        made.uplink.payload.as_slice(),
-        t,
-        &mut line.down,
-    );
-    keep(sent, at, is_answered(heard));
+    let mut down = Downlink::blank();
+    let device = made.device;
+    let uplink = &made.uplink;
+    let heard = server.uplink_into(device, uplink.port(), uplink.bytes(), t, &mut down);
+    keep(sent, Some(device), &down, is_answered(heard));
 }
 
 /// Whether an uplink was taken and is answered.
@@ -554,13 +545,13 @@ fn is_answered(heard: Result<bool, Refusal>) -> bool
     }
 }
 
-/// The last payload, which is number `at` counted from 0, goes again where nothing was written.
-fn keep(sent: &mut Vec<SentPayload>, at: usize, wrote: bool)
-    ensures { sent.new.items
-        ≡ (if wrote then sent.old.items else take at sent.old.items) }
+/// Numbers a payload that was written, and else nothing. There is room for it.
+fn keep(sent: &mut SentLog, receiver: Option<u8>, down: &Downlink, wrote: bool)
+    requires { HasRoom 1 sent.old }
+    ensures { sent.new.items ≡ sent.old.items ++ sent_by receiver (written wrote down.now) }
 {
-    if !wrote {
-        sent.truncate(at);
+    if wrote {
+        sent.push(receiver, down);
     }
 }
 

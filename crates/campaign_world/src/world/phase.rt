@@ -1,19 +1,20 @@
 //! Where a script is: it plans a campaign, or plays it.
 
-ghost use Rattle.std.specs.Prelude.{◌≡◌, ◌≤◌, ◌<◌, true, length, OnErr};
+ghost use Rattle.std.specs.Prelude.{◌≡◌, ◌≤◌, ◌<◌, ℕ, true, [], length, OnErr};
+ghost use Rattle.wire_base.specs.Numbered.{numbered};
 ghost use Rattle.image_slots.specs.Image.{max_image};
 ghost use Rattle.script_lines.specs.Limits.{max_lines};
 ghost use Rattle.campaign_server.specs.Plan.{max_devices};
-ghost use Rattle.campaign_world.specs.Causes.{may_come, takes_events};
+ghost use Rattle.campaign_world.specs.Causes.{may_come, takes_events, has_come};
 ghost use Rattle.campaign_world.specs.Said.{Reached};
 ghost use Rattle.campaign_world.specs.Making.{after_form, after_said};
 ghost use Rattle.campaign_world.specs.PhaseInside.{section_by, is_end, is_planned};
 
 use super::events::Campaign;
 use super::planning::Planning;
-use crate::causes::is_event_or_end;
+use crate::causes::{has_come, is_event_or_end};
 use crate::late::LateDevice;
-use crate::numbered::{MadeUplink, SentPayload};
+use crate::numbered::SentPayload;
 use crate::section::Section;
 use device_core::Incoming;
 use script_lines::Form;
@@ -39,8 +40,6 @@ pub struct Stand<'a> {
     pub flash: &'a [u64],
     /// In ms.
     pub time: u64,
-    pub sent: &'a [SentPayload],
-    pub uplinks: &'a [MadeUplink],
 }
 
 impl Phase {
@@ -147,8 +146,6 @@ impl Phase {
         ensures count { result.count ≡ length (held_of self.now).devices }
         ensures flash { result.flash.now ≡ (held_of self.now).flash }
         ensures time { result.time ≡ (held_of self.now).time }
-        ensures sent { result.sent.now ≡ (held_of self.now).sent }
-        ensures uplinks { result.uplinks.now ≡ (held_of self.now).uplinks }
         ensures short { result.size ≤ max_image }
         ensures few { result.count ≤ max_devices }
     {
@@ -159,8 +156,6 @@ impl Phase {
                 count: planning.devices.len(),
                 flash: &planning.flash,
                 time: 0,
-                sent: &[],
-                uplinks: &[],
             },
             Phase::Playing {
                 campaign,
@@ -171,9 +166,30 @@ impl Phase {
                 count: campaign.devices.len(),
                 flash: &campaign.flash,
                 time: campaign.time,
-                sent: &campaign.sent,
-                uplinks: &campaign.uplinks,
             },
+        }
+    }
+
+    /// Whether what the form tells of was sent and may come, or was made and is due.
+    pub fn has_come(&self, form: &Form) -> bool
+        ensures { result ≡ has_come (held_of self.now).sent (held_of self.now).uplinks
+            (held_of self.now).time form.now }
+    {
+        match self {
+            Phase::Planning(_) => is_of_nothing(form),
+            Phase::Playing { campaign, .. } => {
+                has_come(&campaign.sent, &campaign.uplinks, campaign.time, form)
+            }
+        }
+    }
+
+    /// The sent payload with a number, counted from 1; None where none has it.
+    pub fn sent(&self, number: u64) -> Option<SentPayload<'_>>
+        ensures { result ≡ numbered (held_of self.now).sent number }
+    {
+        match self {
+            Phase::Planning(_) => None,
+            Phase::Playing { campaign, .. } => campaign.sent.number(number),
         }
     }
 
@@ -197,6 +213,13 @@ fn section_by(has_ended: bool) -> Section
     } else {
         Section::Events
     }
+}
+
+/// Whether the form tells of no payload that was sent, and of no uplink.
+fn is_of_nothing(form: &Form) -> bool
+    ensures { (now : ℕ) → result ≡ has_come [] [] now form.now }
+{
+    !matches!(form, Form::Down { .. } | Form::Air { .. } | Form::Up { .. })
 }
 
 /// Whether the form is the end.

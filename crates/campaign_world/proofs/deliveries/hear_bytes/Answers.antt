@@ -5,7 +5,7 @@ use Rattle.campaign_world.proofs.Zips.{zip_set, zip_at, same_set}
 use Rattle.campaign_world.proofs.deliveries.hear_bytes.Goals as goal
 
 pub returns-clause-made : goal.returns-clause-made
-returns-clause-made c = λ count last all. c.air.ensures.made count last (rw (c.make_room.ensures.same) all)
+returns-clause-made c = λ count last all. c.air.ensures.made count last (rw (c.reserve.ensures.same) all)
 
 pub returns-clause-devices : goal.returns-clause-devices
 returns-clause-devices c = on_ok c.air.result (λ ok. λ all d stand there.
@@ -14,7 +14,7 @@ returns-clause-devices c = on_ok c.air.result (λ ok. λ all d stand there.
     (zip_at DeviceRests c.args.devices.now.items all _ c.index_mut-device.result.now d stand c.index_mut-device.ensures.value (omega arith) there)))
 
 pub returns-clause-uplinks : goal.returns-clause-uplinks
-returns-clause-uplinks c = on_ok c.air.result (λ ok. λ all d stand there. rw (← c.make_room.ensures.same)
+returns-clause-uplinks c = on_ok c.air.result (λ ok. λ all d stand there. rw (← c.reserve.ensures.same)
     (on_ok_then c.air.result ok c.air.ensures.uplinks d
     (zip_at DeviceRests c.args.devices.now.items all _ c.index_mut-device.result.now d stand c.index_mut-device.ensures.value (omega arith) there)))
 

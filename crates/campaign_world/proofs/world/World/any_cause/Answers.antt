@@ -49,7 +49,7 @@ returns-then-not-has_come c = rw (← c.self.view_is) (λ devices count. let hel
     })
     (causes.names_in held.devices devices c.args.form.now _ _ c.stand-stand.ensures.count count c.names_device.ensures ∙ c.if-not-names_device.false)
     (causes.flash_in held.flash c.args.form.now _ _ c.stand-stand.ensures.flash c.has_flash.ensures ∙ c.if-not-has_flash.false)
-    (causes.come_in held.sent held.uplinks held.time c.args.form.now _ _ _ _ c.stand-stand.ensures.sent c.stand-stand.ensures.uplinks c.stand-stand.ensures.time c.has_come.ensures ∙ c.if-not-has_come.true)))
+    (sym c.has_come.ensures ∙ c.if-not-has_come.true)))
 
 pub returns-then-not-is_to_come : goal.returns-then-not-is_to_come
 returns-then-not-is_to_come c = rw (← c.self.view_is) (λ devices count. let held = held_of c.self.inside.phase in sym (causes.time _ _
@@ -60,7 +60,7 @@ returns-then-not-is_to_come c = rw (← c.self.view_is) (λ devices count. let h
     })
     (causes.names_in held.devices devices c.args.form.now _ _ c.stand-stand.ensures.count count c.names_device.ensures ∙ c.if-not-names_device.false)
     (causes.flash_in held.flash c.args.form.now _ _ c.stand-stand.ensures.flash c.has_flash.ensures ∙ c.if-not-has_flash.false)
-    (causes.come_in held.sent held.uplinks held.time c.args.form.now _ _ _ _ c.stand-stand.ensures.sent c.stand-stand.ensures.uplinks c.stand-stand.ensures.time c.has_come.ensures ∙ c.if-not-has_come.false)
+    (sym c.has_come.ensures ∙ c.if-not-has_come.false)
     (causes.timed_in held.time c.args.form.now _ _ c.stand-stand.ensures.time c.is_to_come.ensures ∙ c.if-not-is_to_come.true)))
 
 pub returns-then-not-fits_flash : goal.returns-then-not-fits_flash
@@ -72,7 +72,7 @@ returns-then-not-fits_flash c = rw (← c.self.view_is) (λ devices count. let h
     })
     (causes.names_in held.devices devices c.args.form.now _ _ c.stand-stand.ensures.count count c.names_device.ensures ∙ c.if-not-names_device.false)
     (causes.flash_in held.flash c.args.form.now _ _ c.stand-stand.ensures.flash c.has_flash.ensures ∙ c.if-not-has_flash.false)
-    (causes.come_in held.sent held.uplinks held.time c.args.form.now _ _ _ _ c.stand-stand.ensures.sent c.stand-stand.ensures.uplinks c.stand-stand.ensures.time c.has_come.ensures ∙ c.if-not-has_come.false)
+    (sym c.has_come.ensures ∙ c.if-not-has_come.false)
     (causes.timed_in held.time c.args.form.now _ _ c.stand-stand.ensures.time c.is_to_come.ensures ∙ c.if-not-is_to_come.false)
     (causes.room_in held.flash c.args.form.now _ _ _ c.stand-stand.ensures.flash c.fits_flash.ensures refl ∙ c.if-not-fits_flash.true)))
 
@@ -85,7 +85,7 @@ returns-then-not-fits_payload c = rw (← c.self.view_is) (λ devices count. let
     })
     (causes.names_in held.devices devices c.args.form.now _ _ c.stand-stand.ensures.count count c.names_device.ensures ∙ c.if-not-names_device.false)
     (causes.flash_in held.flash c.args.form.now _ _ c.stand-stand.ensures.flash c.has_flash.ensures ∙ c.if-not-has_flash.false)
-    (causes.come_in held.sent held.uplinks held.time c.args.form.now _ _ _ _ c.stand-stand.ensures.sent c.stand-stand.ensures.uplinks c.stand-stand.ensures.time c.has_come.ensures ∙ c.if-not-has_come.false)
+    (sym c.has_come.ensures ∙ c.if-not-has_come.false)
     (causes.timed_in held.time c.args.form.now _ _ c.stand-stand.ensures.time c.is_to_come.ensures ∙ c.if-not-is_to_come.false)
     (causes.room_in held.flash c.args.form.now _ _ _ c.stand-stand.ensures.flash c.fits_flash.ensures refl ∙ c.if-not-fits_flash.false)
     (sym c.fits_payload.ensures ∙ c.if-not-fits_payload.true)))
@@ -99,7 +99,7 @@ returns-else-has_more c = rw (← c.self.view_is) (λ devices count. let held = 
     })
     (causes.names_in held.devices devices c.args.form.now _ _ c.stand-stand.ensures.count count c.names_device.ensures ∙ c.if-not-names_device.false)
     (causes.flash_in held.flash c.args.form.now _ _ c.stand-stand.ensures.flash c.has_flash.ensures ∙ c.if-not-has_flash.false)
-    (causes.come_in held.sent held.uplinks held.time c.args.form.now _ _ _ _ c.stand-stand.ensures.sent c.stand-stand.ensures.uplinks c.stand-stand.ensures.time c.has_come.ensures ∙ c.if-not-has_come.false)
+    (sym c.has_come.ensures ∙ c.if-not-has_come.false)
     (causes.timed_in held.time c.args.form.now _ _ c.stand-stand.ensures.time c.is_to_come.ensures ∙ c.if-not-is_to_come.false)
     (causes.room_in held.flash c.args.form.now _ _ _ c.stand-stand.ensures.flash c.fits_flash.ensures refl ∙ c.if-not-fits_flash.false)
     (sym c.fits_payload.ensures ∙ c.if-not-fits_payload.false)
@@ -114,7 +114,7 @@ returns-then-has_more c = rw (← c.self.view_is) (λ devices count. let held = 
     })
     (causes.names_in held.devices devices c.args.form.now _ _ c.stand-stand.ensures.count count c.names_device.ensures ∙ c.if-not-names_device.false)
     (causes.flash_in held.flash c.args.form.now _ _ c.stand-stand.ensures.flash c.has_flash.ensures ∙ c.if-not-has_flash.false)
-    (causes.come_in held.sent held.uplinks held.time c.args.form.now _ _ _ _ c.stand-stand.ensures.sent c.stand-stand.ensures.uplinks c.stand-stand.ensures.time c.has_come.ensures ∙ c.if-not-has_come.false)
+    (sym c.has_come.ensures ∙ c.if-not-has_come.false)
     (causes.timed_in held.time c.args.form.now _ _ c.stand-stand.ensures.time c.is_to_come.ensures ∙ c.if-not-is_to_come.false)
     (causes.room_in held.flash c.args.form.now _ _ _ c.stand-stand.ensures.flash c.fits_flash.ensures refl ∙ c.if-not-fits_flash.false)
     (sym c.fits_payload.ensures ∙ c.if-not-fits_payload.false)
@@ -129,7 +129,7 @@ returns-in-Planning c = rw (← c.self.view_is) (λ devices count. let held = he
     })
     (causes.names_in held.devices devices c.args.form.now _ _ c.stand-stand.ensures.count count c.names_device.ensures ∙ c.if-not-names_device.false)
     (causes.flash_in held.flash c.args.form.now _ _ c.stand-stand.ensures.flash c.has_flash.ensures ∙ c.if-not-has_flash.false)
-    (causes.come_in held.sent held.uplinks held.time c.args.form.now _ _ _ _ c.stand-stand.ensures.sent c.stand-stand.ensures.uplinks c.stand-stand.ensures.time c.has_come.ensures ∙ c.if-not-has_come.false)
+    (sym c.has_come.ensures ∙ c.if-not-has_come.false)
     (causes.timed_in held.time c.args.form.now _ _ c.stand-stand.ensures.time c.is_to_come.ensures ∙ c.if-not-is_to_come.false)
     (causes.room_in held.flash c.args.form.now _ _ _ c.stand-stand.ensures.flash c.fits_flash.ensures refl ∙ c.if-not-fits_flash.false)
     (sym c.fits_payload.ensures ∙ c.if-not-fits_payload.false)

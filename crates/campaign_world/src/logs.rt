@@ -1,0 +1,249 @@
+//! What was sent and made in a campaign: the bytes of all, one behind the other, and of each item where its bytes begin
+//! and how many they are. An item takes 24 bytes and its own.
+
+ghost use Rattle.std.specs.Prelude.{◌≡◌, ◌≤◌, ◌+◌, ◌*◌, ◌++◌, ◌∷◌, ℕ, [], length, OnOk, vec_len, vec_capacity, slice_range};
+ghost use Rattle.wire_base.specs.Numbered.{numbered};
+ghost use Rattle.wire_base.specs.Payload.{max_payload};
+ghost use Rattle.device_core.specs.Device.{outbox_size};
+ghost use Rattle.campaign_world.specs.HeldLog.{HeldLog, HasRoom};
+ghost use Rattle.campaign_world.specs.LogsInside.{sent_at, made_at, Lies};
+
+use crate::calls::OUTBOX;
+use crate::lent::{LentDownlink, LentUplink};
+use crate::numbered::{MadeUplink, SentPayload, numbered};
+use device_core::Uplink;
+use package_grammar::{Downlink, To};
+use std::alloc::{AllocError, Global};
+use std::marker::Model;
+use wire_base::MAX_PAYLOAD;
+
+/// What there is of a sent payload beside its bytes.
+#[derive(Clone, Copy)]
+pub struct SentHead {
+    receiver: Option<u8>,
+    to: To,
+    port: u8,
+    len: u8,
+    at: usize,
+}
+
+/// What there is of an uplink beside its bytes.
+#[derive(Clone, Copy)]
+pub struct MadeHead {
+    due: u64,
+    at: usize,
+    device: u8,
+    port: u8,
+    len: u8,
+}
+
+/// The payloads that a server sent, oldest first. Contracts see their list, and what has room.
+#[derive(Drop)]
+pub struct SentLog {
+    heads: Vec<SentHead>,
+    bytes: Vec<u8>,
+}
+
+impl Model for SentLog {
+    ghost use Rattle.std.specs.Prelude.{◌-◌, map, vec_len, vec_capacity};
+    ghost use Rattle.campaign_world.specs.declared.numbered.SentPayload.{SentPayload};
+    ghost use Rattle.campaign_world.specs.HeldLog.{HeldLog};
+    ghost use Rattle.campaign_world.specs.LogsInside.{sent_at, SentLie};
+
+    ghost Value = { HeldLog SentPayload };
+
+    ghost view = { λ l. record {
+      items = map (sent_at l.bytes.items) l.heads.items;
+      places = vec_capacity l.heads - vec_len l.heads;
+      free = vec_capacity l.bytes - vec_len l.bytes;
+    } };
+
+    ghost invariant = { λ l. SentLie l.bytes.items l.heads.items };
+}
+
+impl SentLog {
+    ghost use Rattle.campaign_world.specs.declared.numbered.SentPayload.{SentPayload};
+
+    /// One in which nothing is.
+    pub fn new(alloc: Global) -> Self
+        ensures { result.items ≡ [] }
+    {
+        SentLog {
+            heads: Vec::new(alloc),
+            bytes: Vec::new(alloc),
+        }
+    }
+
+    /// How many there are.
+    pub fn len(&self) -> usize
+        ensures { result ≡ length self.now.items }
+    {
+        self.heads.len()
+    }
+
+    /// The payload with a number, counted from 1; None where none has it.
+    pub fn number(&self, number: u64) -> Option<SentPayload<'_>>
+        ensures { result ≡ numbered self.now.items number }
+    {
+        match numbered(&self.heads, number) {
+            Some(head) => Some(sent_at(head, &self.bytes)),
+            None => None,
+        }
+    }
+
+    /// Room for one payload more.
+    pub fn reserve(&mut self) -> Result<(), AllocError>
+        ensures same { self.new.items ≡ self.old.items }
+        ensures room { OnOk result (HasRoom 1 self.new) }
+    {
+        match self.heads.reserve(1) {
+            Ok(()) => {}
+            Err(error) => return Err(error),
+        }
+        self.bytes.reserve(MAX_PAYLOAD)
+    }
+
+    /// Numbers a payload behind the others. There is room for it.
+    pub fn push(&mut self, receiver: Option<u8>, down: &Downlink)
+        requires { HasRoom 1 self.old }
+        ensures { self.new.items
+            ≡ self.old.items ++ (record { receiver = receiver; down = down.now }) ∷ [] }
+    {
+        let at = self.bytes.len();
+        put(&mut self.bytes, down.payload.as_slice());
+        self.heads.push_reserved(SentHead {
+            receiver,
+            to: down.to,
+            port: down.port,
+            len: down.payload.len() as u8,
+            at,
+        });
+    }
+}
+
+/// The uplinks that devices made, oldest first. Contracts see their list, and what has room.
+#[derive(Drop)]
+pub struct UplinkLog {
+    heads: Vec<MadeHead>,
+    bytes: Vec<u8>,
+}
+
+impl Model for UplinkLog {
+    ghost use Rattle.std.specs.Prelude.{◌-◌, map, vec_len, vec_capacity};
+    ghost use Rattle.campaign_world.specs.declared.numbered.MadeUplink.{MadeUplink};
+    ghost use Rattle.campaign_world.specs.HeldLog.{HeldLog};
+    ghost use Rattle.campaign_world.specs.LogsInside.{made_at, MadeLie};
+
+    ghost Value = { HeldLog MadeUplink };
+
+    ghost view = { λ l. record {
+      items = map (made_at l.bytes.items) l.heads.items;
+      places = vec_capacity l.heads - vec_len l.heads;
+      free = vec_capacity l.bytes - vec_len l.bytes;
+    } };
+
+    ghost invariant = { λ l. MadeLie l.bytes.items l.heads.items };
+}
+
+impl UplinkLog {
+    ghost use Rattle.campaign_world.specs.declared.numbered.MadeUplink.{MadeUplink};
+
+    /// One in which nothing is.
+    pub fn new(alloc: Global) -> Self
+        ensures { result.items ≡ [] }
+    {
+        UplinkLog {
+            heads: Vec::new(alloc),
+            bytes: Vec::new(alloc),
+        }
+    }
+
+    /// The uplink with a number, counted from 1; None where none has it.
+    pub fn number(&self, number: u64) -> Option<MadeUplink<'_>>
+        ensures { result ≡ numbered self.now.items number }
+    {
+        match numbered(&self.heads, number) {
+            Some(head) => Some(made_at(head, &self.bytes)),
+            None => None,
+        }
+    }
+
+    /// Room for as many uplinks more as a device holds.
+    pub fn reserve(&mut self) -> Result<(), AllocError>
+        ensures same { self.new.items ≡ self.old.items }
+        ensures room { OnOk result (HasRoom outbox_size self.new) }
+    {
+        match self.heads.reserve(OUTBOX) {
+            Ok(()) => {}
+            Err(error) => return Err(error),
+        }
+        self.bytes.reserve(OUTBOX * MAX_PAYLOAD)
+    }
+
+    /// Numbers an uplink of a device behind the others. There is room for it.
+    pub fn push(&mut self, device: u8, uplink: &Uplink)
+        requires { HasRoom 1 self.old }
+        ensures items { self.new.items
+            ≡ self.old.items ++ (record { device = device; uplink = uplink.now }) ∷ [] }
+        ensures room { (more : ℕ) → HasRoom (more + 1) self.old → HasRoom more self.new }
+    {
+        let at = self.bytes.len();
+        put(&mut self.bytes, uplink.payload.as_slice());
+        self.heads.push_reserved(MadeHead {
+            due: uplink.due,
+            at,
+            device,
+            port: uplink.port,
+            len: uplink.payload.len() as u8,
+        });
+    }
+}
+
+/// The payload with this head, among the bytes of all.
+#[inline(always)]
+fn sent_at<'a>(head: &SentHead, bytes: &'a [u8]) -> SentPayload<'a>
+    requires { Lies bytes.now head.now.at head.now.len }
+    ensures { result ≡ sent_at bytes.now head.now }
+{
+    SentPayload {
+        receiver: head.receiver,
+        down: LentDownlink::new(head.to, head.port, part(bytes, head.at, head.len)),
+    }
+}
+
+/// The uplink with this head, among the bytes of all.
+#[inline(always)]
+fn made_at<'a>(head: &MadeHead, bytes: &'a [u8]) -> MadeUplink<'a>
+    requires { Lies bytes.now head.now.at head.now.len }
+    ensures { result ≡ made_at bytes.now head.now }
+{
+    MadeUplink {
+        device: head.device,
+        uplink: LentUplink::new(head.due, head.port, part(bytes, head.at, head.len)),
+    }
+}
+
+/// So many bytes behind so many others.
+#[inline(always)]
+fn part(bytes: &[u8], at: usize, len: u8) -> &[u8]
+    requires { Lies bytes.now at len }
+    ensures value { result.now ≡ slice_range bytes.now at (at + len) }
+    ensures few { length result.now ≤ max_payload }
+{
+    &bytes[at..at + len as usize]
+}
+
+/// Puts the bytes of a payload behind all others. There is room for them.
+#[inline(always)]
+fn put(all: &mut Vec<u8>, bytes: &[u8])
+    requires few { length bytes.now ≤ max_payload }
+    requires room { vec_len all.old + max_payload ≤ vec_capacity all.old }
+    ensures items { all.new.items ≡ all.old.items ++ bytes.now }
+    ensures len { vec_len all.new ≡ vec_len all.old + length bytes.now }
+    ensures capacity { vec_capacity all.old ≤ vec_capacity all.new }
+{
+    match all.extend_from_slice(bytes) {
+        Ok(()) => {}
+        Err(_) => unreachable!(),
+    }
+}
