@@ -7,7 +7,7 @@ use std::test::*;
 
 #[test]
 fn shapes_that_fit_and_that_do_not(rt: HostRuntime) -> Result<(), Fail> {
-    let mut arena = RowArena::<4, 8>::new();
+    let mut arena = RowArena::<4, 8>::reserve(rt.alloc())?;
     let table = [
         (0, 0, 0, true),
         (65535, 0, 0, true),
@@ -55,7 +55,7 @@ fn add(arena: &mut RowArena<6, 9>, r: u16, low: u64, high: u64, part: &[u8; 3])
 
 #[test]
 fn rows_are_written_added_and_cleared(rt: HostRuntime) -> Result<(), Fail> {
-    let mut arena = RowArena::<6, 9>::new();
+    let mut arena = RowArena::<6, 9>::reserve(rt.alloc())?;
     assert!(rt; arena.shape(3, 128, 3).is_ok());
     write(&mut arena, 0, 0, 0x8000_0000_0000_0001, &[1, 2, 3]);
     write(&mut arena, 1, 0x10, 1, &[4, 5, 6]);
