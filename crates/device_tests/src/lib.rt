@@ -1,4 +1,5 @@
-//! Tests of `device_core`, payload by payload and frame by frame, and over a flash that stops. There is no other code here.
+//! Tests of `device_core`, payload by payload and frame by frame, and over a flash that stops. There is no other code
+//! here.
 #![tactic(auto)]
 
 #[cfg(test)]

@@ -46,8 +46,8 @@ const CONFIG: DeviceConfig = DeviceConfig {
     span: SPAN,
 };
 
-/// The payloads of the update on port 201: a status request with a setup of session 0 behind it, piece 1 twice, a setup of session
-/// 3, piece 2, and the end of session 3 with a status request behind it.
+/// The payloads of the update on port 201: a status request with a setup of session 0 behind it, piece 1 twice, a setup
+/// of session 3, piece 2, and the end of session 3 with a status request behind it.
 const PAYLOADS: [&[u8]; 6] = [
     &[0x01, 0x01, 0x02, 0x00, 2, 0, 26, 0x00, 0, 0, 0, 0, 0],
     &[
@@ -163,8 +163,8 @@ fn updated(rt: &impl Abort, device: &mut Device<StopFlash>, from: usize) -> usiz
     PAYLOADS.len()
 }
 
-/// Power behind a stop in the payload `at`; the payload from which the update goes on. The sessions are as before that one,
-/// behind it, or between where it sets a session up or ends one.
+/// Power behind a stop in the payload `at`; the payload from which the update goes on. The sessions are as before that
+/// one, behind it, or between where it sets a session up or ends one.
 fn resumes(rt: &impl Abort, device: &mut Device<StopFlash>, all: &[Shown; 7], at: usize) -> usize {
     assert!(rt; power(rt, device));
     assert!(rt; at <= 6);
@@ -178,8 +178,8 @@ fn resumes(rt: &impl Abort, device: &mut Device<StopFlash>, all: &[Shown; 7], at
     at
 }
 
-/// The update with a flash that is stopped after so many calls, and another device over what it left; true where no call was
-/// stopped.
+/// The update with a flash that is stopped after so many calls, and another device over what it left; true where no
+/// call was stopped.
 fn goes_on(rt: &impl Abort, alloc: Global, all: &[Shown; 7], calls: u64) -> Result<bool, Fail> {
     let mut first = device(rt, alloc, memory(alloc)?, calls);
     let at = if power(rt, &mut first) {

@@ -349,8 +349,8 @@ fn a_long_line_is_held_in_part(rt: HostRuntime) {
     assert!(rt; finishes(&mut lines, &[b'a'; 601]));
 }
 
-/// Strangers' payloads and bytes of the air: HEX is an even number of digits of either case, or `-`, and never no word at all;
-/// of more bytes than a payload has it is a word still.
+/// Strangers' payloads and bytes of the air: HEX is an even number of digits of either case, or `-`, and never no word
+/// at all; of more bytes than a payload has it is a word still.
 #[test]
 fn bytes_of_strangers_are_read(rt: HostRuntime) {
     let cases: [(&str, u64, u64, &[u8], u64, bool); 6] = [

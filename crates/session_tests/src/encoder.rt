@@ -45,7 +45,8 @@ fn a_file_is_cut_as_its_sizes_say(rt: HostRuntime) -> Result<(), Fail> {
     Ok(())
 }
 
-/// Whether fragment `n` of the file 11 22 33 44 55 in pieces of `frag_size` bytes is this; none where there is no such one.
+/// Whether fragment `n` of the file 11 22 33 44 55 in pieces of `frag_size` bytes is this; none where there is no such
+/// one.
 fn is_part(
     alloc: Global,
     frag_size: u8,

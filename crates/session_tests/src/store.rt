@@ -167,8 +167,8 @@ fn stays_down(rt: &impl Abort, store: &mut SessionStore<StopFlash>) {
     assert!(rt; received(store, 3) == None);
 }
 
-/// Power behind a stop in the call `at`; the call from which the update goes on. The sessions are as before that one or behind
-/// it, or, where it sets one up or ends one, with none at its index.
+/// Power behind a stop in the call `at`; the call from which the update goes on. The sessions are as before that one or
+/// behind it, or, where it sets one up or ends one, with none at its index.
 fn resumes(
     rt: &impl Abort,
     store: &mut SessionStore<StopFlash>,

@@ -29,84 +29,132 @@ fn reads(rt: &impl Abort, port: u8, dir: Direction, bytes: &[u8], cmd: &Cmd) {
 #[test]
 fn commands_of_the_clock_are_spelled_as_the_standard_has_them(rt: HostRuntime) {
     let (down, up) = (Direction::Down, Direction::Up);
-    spells(&rt, 202, down, &[0x00], &Cmd::PackageVersionReq);
-    let version = Cmd::PackageVersionAns {
-        identifier: 1,
-        version: 1,
-    };
-    spells(&rt, 202, up, &[0x00, 0x01, 0x01], &version);
-    let request = Cmd::AppTimeReq {
-        time: 0x11223344,
-        required: true,
-        token: 9,
-    };
-    let bytes = [0x01, 0x44, 0x33, 0x22, 0x11, 0x19];
-    spells(&rt, 202, up, &bytes, &request);
+    let rows: [(Direction, &[u8], Cmd); 8] = [
+        (down, &[0x00], Cmd::PackageVersionReq),
+        (
+            up,
+            &[0x00, 0x01, 0x01],
+            Cmd::PackageVersionAns {
+                identifier: 1,
+                version: 1,
+            },
+        ),
+        (
+            up,
+            &[0x01, 0x44, 0x33, 0x22, 0x11, 0x19],
+            Cmd::AppTimeReq {
+                time: 0x11223344,
+                required: true,
+                token: 9,
+            },
+        ),
+        (
+            down,
+            &[0x01, 0x05, 0x00, 0x00, 0x00, 0x03],
+            Cmd::AppTimeAns {
+                correction: 5,
+                token: 3,
+            },
+        ),
+        (
+            down,
+            &[0x01, 0xfe, 0xff, 0xff, 0xff, 0x0f],
+            Cmd::AppTimeAns {
+                correction: -2,
+                token: 15,
+            },
+        ),
+        (
+            down,
+            &[0x02, 0x07],
+            Cmd::DeviceAppTimePeriodicityReq { period: 7 },
+        ),
+        (
+            up,
+            &[0x02, 0x01, 0xf2, 0x03, 0x00, 0x00],
+            Cmd::DeviceAppTimePeriodicityAns {
+                unsupported: true,
+                time: 1_010,
+            },
+        ),
+        (down, &[0x03, 0x05], Cmd::ForceDeviceResyncReq { count: 5 }),
+    ];
+    for (dir, bytes, cmd) in &rows {
+        spells(&rt, 202, *dir, bytes, cmd);
+    }
+}
+
+#[test]
+fn the_four_reserved_bits_are_free(rt: HostRuntime) {
     let later = Cmd::AppTimeAns {
         correction: 5,
         token: 3,
     };
-    let bytes = [0x01, 0x05, 0x00, 0x00, 0x00, 0x03];
-    spells(&rt, 202, down, &bytes, &later);
-    // the four reserved bits are free
     let bytes = [0x01, 0x05, 0x00, 0x00, 0x00, 0xf3];
-    reads(&rt, 202, down, &bytes, &later);
-    let earlier = Cmd::AppTimeAns {
-        correction: -2,
-        token: 15,
-    };
-    let bytes = [0x01, 0xfe, 0xff, 0xff, 0xff, 0x0f];
-    spells(&rt, 202, down, &bytes, &earlier);
-    let periodicity = Cmd::DeviceAppTimePeriodicityReq { period: 7 };
-    spells(&rt, 202, down, &[0x02, 0x07], &periodicity);
-    let refused = Cmd::DeviceAppTimePeriodicityAns {
-        unsupported: true,
-        time: 1_010,
-    };
-    let bytes = [0x02, 0x01, 0xf2, 0x03, 0x00, 0x00];
-    spells(&rt, 202, up, &bytes, &refused);
-    let resync = Cmd::ForceDeviceResyncReq { count: 5 };
-    spells(&rt, 202, down, &[0x03, 0x05], &resync);
+    reads(&rt, 202, Direction::Down, &bytes, &later);
 }
 
 #[test]
 fn commands_of_the_firmware_are_spelled_as_the_standard_has_them(rt: HostRuntime) {
     let (down, up) = (Direction::Down, Direction::Up);
-    spells(&rt, 203, down, &[0x00], &Cmd::PackageVersionReq);
-    spells(&rt, 203, down, &[0x01], &Cmd::DevVersionReq);
-    let versions = Cmd::DevVersionAns {
-        firmware: 2,
-        hardware: 1,
-    };
-    let bytes = [0x01, 0x02, 0x00, 0x00, 0x00, 0x01, 0x00, 0x00, 0x00];
-    spells(&rt, 203, up, &bytes, &versions);
-    let reboot = Cmd::DevRebootTimeReq { time: 1_010 };
-    let bytes = [0x02, 0xf2, 0x03, 0x00, 0x00];
-    spells(&rt, 203, down, &bytes, &reboot);
-    let agreed = Cmd::DevRebootTimeAns { time: 1_010 };
-    spells(&rt, 203, up, &bytes, &agreed);
-    let countdown = Cmd::DevRebootCountdownReq { count: 0x112233 };
-    let bytes = [0x03, 0x33, 0x22, 0x11];
-    spells(&rt, 203, down, &bytes, &countdown);
-    let agreed = Cmd::DevRebootCountdownAns { count: 0x112233 };
-    spells(&rt, 203, up, &bytes, &agreed);
-    spells(&rt, 203, down, &[0x04], &Cmd::DevUpgradeImageReq);
-    let usable = Cmd::DevUpgradeImageAns {
-        status: 3,
-        next: Some(2),
-    };
-    let bytes = [0x04, 0x03, 0x02, 0x00, 0x00, 0x00];
-    spells(&rt, 203, up, &bytes, &usable);
-    let unusable = Cmd::DevUpgradeImageAns {
-        status: 2,
-        next: None,
-    };
-    spells(&rt, 203, up, &[0x04, 0x02], &unusable);
-    let delete = Cmd::DevDeleteImageReq { version: 2 };
-    let bytes = [0x05, 0x02, 0x00, 0x00, 0x00];
-    spells(&rt, 203, down, &bytes, &delete);
-    let kept = Cmd::DevDeleteImageAns { errors: 2 };
-    spells(&rt, 203, up, &[0x05, 0x02], &kept);
+    let rows: [(Direction, &[u8], Cmd); 12] = [
+        (down, &[0x00], Cmd::PackageVersionReq),
+        (down, &[0x01], Cmd::DevVersionReq),
+        (
+            up,
+            &[0x01, 0x02, 0x00, 0x00, 0x00, 0x01, 0x00, 0x00, 0x00],
+            Cmd::DevVersionAns {
+                firmware: 2,
+                hardware: 1,
+            },
+        ),
+        (
+            down,
+            &[0x02, 0xf2, 0x03, 0x00, 0x00],
+            Cmd::DevRebootTimeReq { time: 1_010 },
+        ),
+        (
+            up,
+            &[0x02, 0xf2, 0x03, 0x00, 0x00],
+            Cmd::DevRebootTimeAns { time: 1_010 },
+        ),
+        (
+            down,
+            &[0x03, 0x33, 0x22, 0x11],
+            Cmd::DevRebootCountdownReq { count: 0x112233 },
+        ),
+        (
+            up,
+            &[0x03, 0x33, 0x22, 0x11],
+            Cmd::DevRebootCountdownAns { count: 0x112233 },
+        ),
+        (down, &[0x04], Cmd::DevUpgradeImageReq),
+        (
+            up,
+            &[0x04, 0x03, 0x02, 0x00, 0x00, 0x00],
+            Cmd::DevUpgradeImageAns {
+                status: 3,
+                next: Some(2),
+            },
+        ),
+        (
+            up,
+            &[0x04, 0x02],
+            Cmd::DevUpgradeImageAns {
+                status: 2,
+                next: None,
+            },
+        ),
+        (
+            down,
+            &[0x05, 0x02, 0x00, 0x00, 0x00],
+            Cmd::DevDeleteImageReq { version: 2 },
+        ),
+        (up, &[0x05, 0x02], Cmd::DevDeleteImageAns { errors: 2 }),
+    ];
+    for (dir, bytes, cmd) in &rows {
+        spells(&rt, 203, *dir, bytes, cmd);
+    }
 }
 
 /// Where a reading is refused, and why.

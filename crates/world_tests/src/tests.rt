@@ -6,6 +6,7 @@ use mc_keys::RootKind;
 use package_grammar::{Downlink, To};
 use report_lines::{LineError, LineFault, LineWhy, MAX_LINES};
 use script_lines::form;
+use std::alloc::Global;
 use std::process::Abort;
 use std::test::*;
 use wire_base::{Payload, Refusal, Why};
@@ -19,6 +20,40 @@ const IMAGE: [u8; 52] = [
 ];
 
 const DEVICE: &str = "device 1 c 1 0 0 00000000000000000000000000000000";
+
+fn world(rt: &impl Abort, alloc: Global) -> Result<World, Fail> {
+    assert!(rt; is_image(&IMAGE));
+    Ok(World::new(alloc, &IMAGE)?)
+}
+
+/// Lines that are carried out.
+fn takes(rt: &impl Abort, world: &mut World, lines: &[&str]) {
+    for line in lines {
+        assert!(rt; world.line(line.as_bytes()) == Ok(()));
+    }
+}
+
+fn reports(world: &World, alloc: Global, wanted: &str) -> bool {
+    match world.report(alloc) {
+        Ok(text) => text.as_slice() == wanted.as_bytes(),
+        Err(_) => false,
+    }
+}
+
+fn sums_up(world: &World, alloc: Global, wanted: &str) -> bool {
+    match world.summary(alloc) {
+        Ok(text) => text.as_slice() == wanted.as_bytes(),
+        Err(_) => false,
+    }
+}
+
+/// Whether device 1 recovered the image, and there is no device 2.
+fn recovers(world: &World) -> bool {
+    match world.recovered(1) {
+        Ok(file) => { file == IMAGE.as_slice() && matches!(world.recovered(2), Err(NoFile::None)) }
+        Err(_) => false,
+    }
+}
 
 /// A campaign over four fragments in the order 4, 1, 1, 3, 2, and its report.
 #[test]
@@ -44,41 +79,21 @@ fn a_campaign_is_reported(rt: HostRuntime) -> Result<(), Fail> {
         "down 4 1",
         "end",
     ];
-    assert!(rt; is_image(&IMAGE));
-    let mut world = World::new(rt.alloc(), &IMAGE)?;
-    for line in lines {
-        assert!(rt; world.line(line.as_bytes()) == Ok(()));
-    }
-    match world.report(rt.alloc()) {
-        Ok(text) => assert!(rt;
-            text.as_slice()
-                == b"fuota report 1\nimage 52 fragments 4 size 13 padding 0 parity 0\ndevice 1 status clock 0 token 0 running 0 next valid 2\ncounts deaf 0 refused 0 full 0 dropped 0\nsession 0 received 5 missing 0 complete at 18 same\nend\n".as_slice()
-        ),
-        Err(_) => assert!(rt; false),
-    }
-    match world.summary(rt.alloc()) {
-        Ok(text) => assert!(rt;
-            text.as_slice()
-                == b"image 52 fragments 4\nsent 6 heard 5\ncomplete 1 updated 0\nend\n".as_slice()
-        ),
-        Err(_) => assert!(rt; false),
-    }
-    match world.recovered(1) {
-        Ok(file) => assert!(rt; file == IMAGE.as_slice()),
-        Err(_) => assert!(rt; false),
-    }
-    match world.recovered(2) {
-        Ok(_) => assert!(rt; false),
-        Err(why) => assert!(rt; why == NoFile::None),
-    }
+    let mut world = world(&rt, rt.alloc())?;
+    takes(&rt, &mut world, &lines);
+    let report =
+        "fuota report 1\nimage 52 fragments 4 size 13 padding 0 parity 0\ndevice 1 status clock 0 token 0 running 0 next valid 2\ncounts deaf 0 refused 0 full 0 dropped 0\nsession 0 received 5 missing 0 complete at 18 same\nend\n";
+    assert!(rt; reports(&world, rt.alloc(), report));
+    let summary = "image 52 fragments 4\nsent 6 heard 5\ncomplete 1 updated 0\nend\n";
+    assert!(rt; sums_up(&world, rt.alloc(), summary));
+    assert!(rt; recovers(&world));
     Ok(())
 }
 
 /// A campaign that is carried out form by form, with a line passed by, has the report of its lines, one line further on.
 #[test]
 fn forms_are_carried_out_as_lines(rt: HostRuntime) -> Result<(), Fail> {
-    assert!(rt; is_image(&IMAGE));
-    let mut world = World::new(rt.alloc(), &IMAGE)?;
+    let mut world = world(&rt, rt.alloc())?;
     for line in [
         "fuota 1",
         "image 52 0",
@@ -97,13 +112,9 @@ fn forms_are_carried_out_as_lines(rt: HostRuntime) -> Result<(), Fail> {
     assert!(rt; !carries_out(&mut world, "down 4 1"));
     assert!(rt; carries_out(&mut world, "down 3 1") && carries_out(&mut world, "end"));
     assert!(rt; world.lines() == 12 && !world.is_over());
-    match world.report(rt.alloc()) {
-        Ok(text) => assert!(rt;
-            text.as_slice()
-                == b"fuota report 1\nimage 52 fragments 1 size 52 padding 0 parity 0\ndevice 1 fragments clock 0 token 0 running 0 next valid 2\ncounts deaf 0 refused 0 full 0 dropped 0\nsession 0 received 1 missing 0 complete at 11 same\nend\n".as_slice()
-        ),
-        Err(_) => assert!(rt; false),
-    }
+    let report =
+        "fuota report 1\nimage 52 fragments 1 size 52 padding 0 parity 0\ndevice 1 fragments clock 0 token 0 running 0 next valid 2\ncounts deaf 0 refused 0 full 0 dropped 0\nsession 0 received 1 missing 0 complete at 11 same\nend\n";
+    assert!(rt; reports(&world, rt.alloc(), report));
     Ok(())
 }
 
@@ -125,20 +136,21 @@ fn passes(world: &mut World) {
     }
 }
 
+/// Whether a line is refused so.
+fn refuses(world: &mut World, line: &str, fault: LineError) -> bool {
+    world.line(line.as_bytes()) == Err(fault)
+}
+
 /// A line that is refused is answered again by each line behind it, and by the report.
 #[test]
 fn a_refused_line_is_kept(rt: HostRuntime) -> Result<(), Fail> {
-    assert!(rt; is_image(&IMAGE));
-    let mut world = World::new(rt.alloc(), &IMAGE)?;
-    for line in ["fuota 1", "image 13 0", DEVICE] {
-        assert!(rt; world.line(line.as_bytes()) == Ok(()));
-    }
+    let mut world = world(&rt, rt.alloc())?;
+    takes(&rt, &mut world, &["fuota 1", "image 13 0", DEVICE]);
     let fault = LineError::Line(LineFault {
         line: 4,
         why: LineWhy::Device,
     });
-    assert!(rt; world.line(b"ask 2") == Err(fault));
-    assert!(rt; world.line(b"ask 1") == Err(fault));
+    assert!(rt; refuses(&mut world, "ask 2", fault) && refuses(&mut world, "ask 1", fault));
     match world.report(rt.alloc()) {
         Ok(_) => assert!(rt; false),
         Err(error) => assert!(rt; error == fault),
@@ -182,58 +194,62 @@ static COMMANDS: [(u8, &[u8]); 16] = [
     (203, &[0x05, 2, 0, 0, 0]),
 ];
 
+const CONFIG: DeviceConfig = DeviceConfig {
+    class: Class::C,
+    hw: 1,
+    rows: 0,
+    offset: 5,
+    key: [0; 16],
+    root: RootKind::V10,
+    descriptor: None,
+    sessions: 4,
+    groups: 4,
+    area: MAX_AREA,
+    held: false,
+    span: 0,
+    formats: 2,
+};
+
+fn device(rt: &impl Abort, alloc: Global) -> Result<Device<CellFlash>, Fail> {
+    let flash = CellFlash::reserve(alloc, 0)?;
+    match Device::reserve(alloc, CONFIG, flash) {
+        Ok(device) => Ok(device),
+        Err(_) => panic!(rt; "no device"),
+    }
+}
+
 /// A command that is cut behind any of its bytes is refused there, also behind a whole command, and the device counts it and
 /// stays as it was: no uplink, no session, the same clock and slots.
 #[test]
-fn cut_commands_change_nothing(rt: HostRuntime) {
-    let config = DeviceConfig {
-        class: Class::C,
-        hw: 1,
-        rows: 0,
-        offset: 5,
-        key: [0; 16],
-        root: RootKind::V10,
-        descriptor: None,
-        sessions: 4,
-        groups: 4,
-        area: MAX_AREA,
-        held: false,
-        span: 0,
-        formats: 2,
-    };
-    let flash = CellFlash::reserve(rt.alloc(), 0).expect(&rt, "no flash");
-    let mut device = Device::reserve(rt.alloc(), config, flash).expect(&rt, "no device");
+fn cut_commands_change_nothing(rt: HostRuntime) -> Result<(), Fail> {
+    let mut device = device(&rt, rt.alloc())?;
     let mut refused = 0u64;
     for (port, command) in &COMMANDS {
         let mut bytes = [0; 40];
         assert!(rt; command.len() <= 39);
         bytes[1..command.len() + 1].copy_from_slice(command);
         for length in 2..command.len() + 1 {
-            refuses(
-                &rt,
-                &mut device,
-                *port,
-                &bytes[1..length],
-                (length - 1) as u16,
-            );
-            refuses(&rt, &mut device, *port, &bytes[..length], length as u16);
+            is_short(&rt, &mut device, *port, &bytes[1..length]);
+            is_short(&rt, &mut device, *port, &bytes[..length]);
             refused = refused.saturating_add(2);
         }
     }
     assert!(rt; device.counts().refused == refused);
     assert!(rt; device.clock() == (5, 0));
+    Ok(())
 }
 
-fn refuses(rt: &impl Abort, device: &mut Device<CellFlash>, port: u8, bytes: &[u8], at: u16) {
+/// A payload is refused at its end, and the device has no uplink, no session and no file.
+fn is_short(rt: &impl Abort, device: &mut Device<CellFlash>, port: u8, bytes: &[u8]) {
     assert!(rt; bytes.len() <= 242);
+    let refusal = Refusal {
+        at: bytes.len() as u16,
+        why: Why::Short,
+    };
     let down = Downlink {
         to: To::Unicast,
         port,
         payload: Payload::from_slice(bytes),
-    };
-    let refusal = Refusal {
-        at,
-        why: Why::Short,
     };
     assert!(rt; device.deliver(0, &down, 0, 1) == Delivered::Refused(refusal));
     assert!(rt; device.take_uplink().is_none());
