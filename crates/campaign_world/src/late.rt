@@ -113,6 +113,7 @@ fn reserved(alloc: Global, config: DeviceConfig) -> Result<Box<Device<CellFlash>
 }
 
 /// A payload reaches a device, whose uplinks are taken. Where there is no memory for the device nothing happened.
+#[inline(always)]
 pub fn reach(
     late: &mut LateDevice,
     alloc: Global,

@@ -216,8 +216,9 @@ impl<F: Flash + Drop> Device<F> {
         self.deliver_over::<Brand>(t, down, word, mark, Blank::new(1))
     }
 
-    /// As `receive`, of a payload without a byte: no command acts.
-    #[inline(always)]
+    /// As `receive`, of a payload without a byte: no command acts. It stands alone, so that who hands in payloads sees
+    /// to nothing of it.
+    #[inline(never)]
     fn receive_empty(&mut self, t: u64, down: &Incoming<'_>) -> Delivered
         requires { down.now.payload ≡ [] }
         ensures makes { (word mark : ℕ)

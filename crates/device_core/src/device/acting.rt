@@ -281,6 +281,7 @@ fn acts(via: Via, command: &Command) -> bool
 }
 
 /// How many uplinks the commands of a message make at most.
+#[inline(always)]
 pub fn weights(mut message: Message<'_>) -> u16
     requires { length message.commands ≤ 242 }
     ensures weight { result ≡ weights message.entry.commands }
