@@ -21,9 +21,9 @@ use wire_base::MAX_PAYLOAD;
 #[derive(Clone, Copy)]
 pub struct SentHead {
     receiver: Option<u8>,
-    to: To,
     port: u8,
     len: u8,
+    to: To,
     at: usize,
 }
 
@@ -113,9 +113,9 @@ impl SentLog {
         put(&mut self.bytes, down.payload.as_slice());
         self.heads.push_reserved(SentHead {
             receiver,
-            to: down.to,
             port: down.port,
             len: down.payload.len() as u8,
+            to: down.to,
             at,
         });
     }

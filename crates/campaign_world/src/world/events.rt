@@ -196,6 +196,7 @@ impl Campaign {
     }
 
     /// A device wakes, and its uplinks are then numbered, oldest first.
+    #[inline(never)]
     fn wake(&mut self, device: u8) -> Result<(), AllocError>
         requires first { 1 ≤ device }
         requires last { device ≤ length self.old.devices }
@@ -213,6 +214,7 @@ impl Campaign {
     }
 
     /// A device knows both image formats from now on.
+    #[inline(never)]
     fn migrate(&mut self, device: u8) -> Result<(), AllocError>
         requires first { 1 ≤ device }
         requires last { device ≤ length self.old.devices }
@@ -224,6 +226,7 @@ impl Campaign {
     }
 
     /// Power comes to a device anew: all is as it was.
+    #[inline(never)]
     fn power(&mut self, device: u8) -> Result<(), AllocError>
         requires first { 1 ≤ device }
         requires last { device ≤ length self.old.devices }
@@ -338,6 +341,7 @@ impl Campaign {
     }
 
     /// Anybody's bytes reach the radio of a device.
+    #[inline(never)]
     fn raw_air(
         &mut self,
         lines: u32,
