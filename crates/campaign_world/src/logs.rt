@@ -1,11 +1,11 @@
 //! What was sent and made in a campaign: the bytes of all, one behind the other, and of each item where its bytes begin
 //! and how many they are. An item takes 24 bytes and its own.
 
-ghost use Rattle.std.specs.Prelude.{◌≡◌, ◌≤◌, ◌+◌, ◌*◌, ◌++◌, ◌∷◌, ℕ, [], length, OnOk, vec_len, vec_capacity, slice_range};
+ghost use Rattle.std.specs.Prelude.{◌≡◌, ◌≤◌, ◌+◌, ◌++◌, ◌∷◌, ℕ, [], length, OnOk, vec_len, vec_capacity, slice_range};
 ghost use Rattle.wire_base.specs.Numbered.{numbered};
 ghost use Rattle.wire_base.specs.Payload.{max_payload};
 ghost use Rattle.device_core.specs.Device.{outbox_size};
-ghost use Rattle.campaign_world.specs.HeldLog.{HeldLog, HasRoom};
+ghost use Rattle.campaign_world.specs.HeldLog.{HasRoom};
 ghost use Rattle.campaign_world.specs.LogsInside.{sent_at, made_at, Lies};
 
 use crate::calls::OUTBOX;

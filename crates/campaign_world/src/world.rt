@@ -274,6 +274,7 @@ impl World {
     }
 
     /// The first cause for which a form is refused.
+    #[inline(always)]
     fn first_cause(&self, form: &Form) -> Option<LineWhy>
         ensures { (devices : List DeviceState) → length devices ≡ length self.now.devices
             → result ≡ form_cause (world_of self.now devices) form.now }

@@ -36,7 +36,7 @@ use package_grammar::{Downlink, To};
 use script_lines::{Form, HexBytes, MAX_HEX_BYTES};
 use std::alloc::{AllocError, Global};
 use std::marker::Model;
-use wire_base::Refusal;
+use wire_base::{Payload, Refusal};
 
 /// A campaign that plays: its server and its devices, what was sent, and what came up.
 #[derive(Drop)]
@@ -50,6 +50,8 @@ pub struct Campaign {
     pub(super) flash: Vec<u64>,
     pub(super) sent: SentLog,
     pub(super) uplinks: UplinkLog,
+    /// Where the server writes a payload, before it is numbered.
+    line: Downlink,
 }
 
 impl Model for Campaign {
@@ -95,6 +97,7 @@ impl Campaign {
             flash,
             sent: SentLog::new(alloc),
             uplinks: UplinkLog::new(alloc),
+            line: Downlink::blank(),
         }
     }
 
@@ -159,7 +162,7 @@ impl Campaign {
             Ok(()) => {}
             Err(error) => return Err(error),
         }
-        send_request(&mut self.sent, &self.server, device);
+        send_request(&mut self.sent, &mut self.line, &self.server, device);
         Ok(())
     }
 
@@ -175,7 +178,7 @@ impl Campaign {
             Ok(()) => {}
             Err(error) => return Err(error),
         }
-        send_fragment(&mut self.sent, &mut self.server);
+        send_fragment(&mut self.sent, &mut self.line, &mut self.server);
         Ok(())
     }
 
@@ -191,7 +194,7 @@ impl Campaign {
             Ok(()) => {}
             Err(error) => return Err(error),
         }
-        send_status(&mut self.sent, &mut self.server);
+        send_status(&mut self.sent, &mut self.line, &mut self.server);
         Ok(())
     }
 
@@ -401,7 +404,13 @@ impl Campaign {
         let Some(made) = self.uplinks.number(number) else {
             unreachable!()
         };
-        send_answer(&mut self.sent, &mut self.server, &made, self.time);
+        send_answer(
+            &mut self.sent,
+            &mut self.line,
+            &mut self.server,
+            &made,
+            self.time,
+        );
         Ok(())
     }
 
@@ -485,44 +494,50 @@ fn frame_of(server: &Server, down: &Downlink) -> Option<Frame>
 }
 
 /// Numbers the request of the stage of a device, where there is one. There is room for it.
-fn send_request(sent: &mut SentLog, server: &Server, device: u8)
+fn send_request(sent: &mut SentLog, line: &mut Downlink, server: &Server, device: u8)
     requires first { 1 ≤ device }
     requires last { device ≤ length server.now.plan.devices }
     requires room { HasRoom 1 sent.old }
     ensures { sent.new.items
         ≡ sent.old.items ++ sent_by (Some device) (down_of (request_of server.now device)) }
 {
-    let mut down = Downlink::blank();
-    let asked = server.ask_into(device, &mut down);
-    keep(sent, Some(device), &down, asked);
+    line.payload = Payload::new();
+    let asked = server.ask_into(device, line);
+    keep(sent, Some(device), line, asked);
 }
 
 /// Numbers the next fragment, where there is one. There is room for it.
-fn send_fragment(sent: &mut SentLog, server: &mut Server)
+fn send_fragment(sent: &mut SentLog, line: &mut Downlink, server: &mut Server)
     requires { HasRoom 1 sent.old }
     ensures sent { sent.new.items
         ≡ sent.old.items ++ sent_by None (down_of (result_ok (next_fragment server.old))) }
     ensures moved { server.new ≡ after_fragment server.old }
 {
-    let mut down = Downlink::blank();
-    let made = server.next_fragment_into(&mut down);
-    keep(sent, None, &down, made.is_ok());
+    line.payload = Payload::new();
+    let made = server.next_fragment_into(line);
+    keep(sent, None, line, made.is_ok());
 }
 
 /// Numbers the status request to all devices, where there is one. There is room for it.
-fn send_status(sent: &mut SentLog, server: &mut Server)
+fn send_status(sent: &mut SentLog, line: &mut Downlink, server: &mut Server)
     requires { HasRoom 1 sent.old }
     ensures sent { sent.new.items
         ≡ sent.old.items ++ sent_by None (down_of (status_to_all server.old)) }
     ensures moved { server.new ≡ after_status_to_all server.old }
 {
-    let mut down = Downlink::blank();
-    let asked = server.status_all_into(&mut down);
-    keep(sent, None, &down, asked);
+    line.payload = Payload::new();
+    let asked = server.status_all_into(line);
+    keep(sent, None, line, asked);
 }
 
 /// Numbers what the server answers to an uplink, nothing to one that it refuses. There is room for it.
-fn send_answer(sent: &mut SentLog, server: &mut Server, made: &MadeUplink<'_>, t: u64)
+fn send_answer(
+    sent: &mut SentLog,
+    line: &mut Downlink,
+    server: &mut Server,
+    made: &MadeUplink<'_>,
+    t: u64,
+)
     requires first { 1 ≤ made.now.device }
     requires last { made.now.device ≤ length server.old.plan.devices }
     requires room { HasRoom 1 sent.old }
@@ -532,11 +547,11 @@ fn send_answer(sent: &mut SentLog, server: &mut Server, made: &MadeUplink<'_>, t
     ensures moved { server.new ≡ (uplink_step server.old made.now.device made.now.uplink.port
         made.now.uplink.payload t).server }
 {
-    let mut down = Downlink::blank();
+    line.payload = Payload::new();
     let device = made.device;
     let uplink = &made.uplink;
-    let heard = server.uplink_into(device, uplink.port(), uplink.bytes(), t, &mut down);
-    keep(sent, Some(device), &down, is_answered(heard));
+    let heard = server.uplink_into(device, uplink.port(), uplink.bytes(), t, line);
+    keep(sent, Some(device), line, is_answered(heard));
 }
 
 /// Whether an uplink was taken and is answered.
