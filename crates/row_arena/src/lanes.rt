@@ -12,6 +12,18 @@ pub fn xor_bytes(into: &mut [u8], from: &[u8])
     requires { length into.old ≡ length from.now }
     ensures { into.new ≡ zip2 bit_xor into.old from.now }
 {
+    if from.len() < 4 {
+        rest_plain(into, from, 0);
+    } else {
+        in_lanes(into, from);
+    }
+}
+
+/// The same, 32 bytes at a time, and then what is left.
+fn in_lanes(into: &mut [u8], from: &[u8])
+    requires { length into.old ≡ length from.now }
+    ensures { into.new ≡ zip2 bit_xor into.old from.now }
+{
     for k in 0..from.len() / 32 {
         xor_32(into, from, k * 32);
     }

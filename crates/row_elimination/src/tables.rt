@@ -26,6 +26,9 @@ use std::sync::ledger::Ledger;
 /// How many words of 64 columns the line of the largest file takes.
 pub const LINE_WORDS: usize = MAX_PIECES as usize / 64;
 
+/// How many bytes behind a piece the area grows at once.
+const AHEAD: usize = 1792;
+
 /// All that is held of a file: a piece, a row or nothing for each of its columns. Rows have `W` words and `B` bytes in all.
 #[derive(Drop)]
 pub struct Table<const W: usize, const B: usize> {
@@ -409,7 +412,10 @@ impl<const W: usize, const B: usize> Table<W, B> {
             ≤ length self.new.area }
     {
         let size = self.frag_size as usize;
-        self.reach(k * size + size);
+        let end = k * size + size;
+        if self.area.len() < end {
+            self.reach((end + AHEAD).min(self.nb_frag as usize * size));
+        }
     }
 
     /// The area has so many bytes of the pieces, or more, from now on.
