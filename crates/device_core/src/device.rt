@@ -254,6 +254,7 @@ impl<F: Flash + Drop> Device<F> {
         ensures untouched { self.new.sessions ≡ self.old.sessions }
         ensures answers { IsPlain result }
     {
+        // (the outbox, of at most 8, has room for the answers of no command)
         let _few = self.outbox.len();
         if !self.hears(t, down.to()) {
             self.count_deaf();
