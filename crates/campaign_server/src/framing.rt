@@ -1,13 +1,12 @@
-//! Payloads to the group, as frames.
+//! What makes frames of payloads to the group.
 
-ghost use Rattle.std.specs.Prelude.{◌≡◌, ◌<◌};
-ghost use Rattle.campaign_server.specs.Framing.{is_to_group, session_keys, group_frame};
+ghost use Rattle.std.specs.Prelude.{◌≡◌, option_map};
+ghost use Rattle.campaign_server.specs.Framing.{is_to_group, session_keys};
 
 use crate::plan::PlanGroup;
-use mc_frames::{Frame, Keys, frame};
+use mc_frames::Keys;
 use mc_keys::{app_s_key, net_s_key};
 use package_grammar::To;
-use wire_base::Payload;
 
 /// Whether a payload is to the plan's group.
 pub fn is_to_group(group: Option<PlanGroup>, to: To) -> bool
@@ -19,12 +18,14 @@ pub fn is_to_group(group: Option<PlanGroup>, to: To) -> bool
     }
 }
 
-/// The frame of a payload to the group, with a frame count.
-pub fn group_frame(group: &PlanGroup, count: u32, port: u8, payload: &Payload) -> Frame
-    requires { 0 < port }
-    ensures { result.items ≡ group_frame group.now count port payload.now }
+/// The session keys of the plan's group; None where the plan has no group.
+pub fn keys_of(group: Option<PlanGroup>) -> Option<Keys>
+    ensures { result ≡ option_map session_keys group }
 {
-    frame(&session_keys(group), group.addr, count, port, payload)
+    match group {
+        Some(group) => Some(session_keys(&group)),
+        None => None,
+    }
 }
 
 /// McAppSKey and McNetSKey of the group.

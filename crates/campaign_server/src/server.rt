@@ -22,12 +22,12 @@ use crate::checks::bad_field;
 use crate::fragments::{
     NothingLeft, has_no_count, next_count, put_fragment, put_status_of_all, receivers,
 };
-use crate::framing::{group_frame, is_to_group};
+use crate::framing::{is_to_group, keys_of};
 use crate::plan::{Field, Plan, PlanDevice, PlanGroup};
 use crate::stage::{Request, Stage};
 use crate::time::time_answer;
 use frag_encoder::{Encoder, EncoderError};
-use mc_frames::Frame;
+use mc_frames::{Frame, Keys, frame};
 use package_grammar::{Downlink, Message, To};
 use std::alloc::{AllocError, Global};
 use std::marker::Model;
@@ -60,9 +60,13 @@ pub struct Server {
     stages: Vec<Stage>,
     next: u16,
     count: u32,
+    /// The session keys of the plan's group, which no frame derives anew.
+    keys: Option<Keys>,
 }
 
 impl Model for Server {
+    ghost use Rattle.std.specs.Prelude.{◌≡◌, option_map};
+    ghost use Rattle.campaign_server.specs.Framing.{session_keys};
     ghost use Rattle.campaign_server.specs.Server.{ServerState};
     ghost use Rattle.campaign_server.specs.ServerInside.{IsServer};
 
@@ -70,7 +74,8 @@ impl Model for Server {
 
     ghost view = { λ s. record { plan = s.plan; image = s.encoder.file; stages = s.stages.items; next = s.next; count = s.count } };
 
-    ghost invariant = { λ s. IsServer s.plan s.encoder s.stages.items s.next s.count };
+    ghost invariant = { λ s. IsServer s.plan s.encoder s.stages.items s.next s.count
+        × (s.keys ≡ option_map session_keys s.plan.group) };
 }
 
 impl Server {
@@ -96,12 +101,14 @@ impl Server {
             Err(_) => return Err(ServerError::Memory),
         };
         let count = first_count(plan.group);
+        let keys = keys_of(plan.group);
         Ok(Server {
             plan,
             encoder,
             stages,
             next: 1,
             count,
+            keys,
         })
     }
 
@@ -230,9 +237,9 @@ impl Server {
         requires { has_frame self.now.plan.group down.now ≡ true }
         ensures { result.items ≡ frame_for self.now.plan.group down.now }
     {
-        match (self.plan.group, down.to) {
-            (Some(group), To::Group { count, .. }) => {
-                group_frame(&group, count, down.port, &down.payload)
+        match (&self.keys, down.to) {
+            (Some(keys), To::Group { addr, count }) => {
+                frame(keys, addr, count, down.port, &down.payload)
             }
             _ => unreachable!(),
         }

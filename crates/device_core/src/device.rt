@@ -127,6 +127,9 @@ impl<F: Flash + Drop> Device<F> {
         let Ok(slots) = Slots::reserve(alloc, config.area, config.hw, config.formats) else {
             return Err(ReserveError::Memory);
         };
+        let Ok(outbox) = Outbox::reserve(alloc) else {
+            return Err(ReserveError::Memory);
+        };
         Ok(Device {
             config,
             clock: DeviceClock::new(config.offset),
@@ -136,7 +139,7 @@ impl<F: Flash + Drop> Device<F> {
             sessions,
             slots,
             reboot: None,
-            outbox: Outbox::new(),
+            outbox,
             counts: Counts {
                 deaf: 0,
                 refused: 0,

@@ -1,28 +1,29 @@
 //! The uplinks that are not yet taken.
 
-ghost use Rattle.std.specs.Prelude.{◌≡◌, ◌<◌, ◌≤◌, ◌++◌, ◌∷◌, [], length, IfSome, Some, true, false};
+ghost use Rattle.std.specs.Prelude.{◌≡◌, ◌<◌, ◌≤◌, ◌++◌, ◌∷◌, [], length, IfOk, IfSome, Some, true, false};
 ghost use Rattle.device_core.specs.Answers.{uplink_of};
 ghost use Rattle.device_core.specs.Device.{outbox_size};
 ghost use Rattle.device_core.specs.HeldDevice.{TakesOldest};
 ghost use Rattle.device_core.specs.Sendable.{IsSendable, IsUplink};
 
 use crate::uplink::{Uplink, UplinkCommand};
-use arrayvec::ArrayVec;
 use package_grammar::spell;
+use std::alloc::{AllocError, Global};
 use std::marker::Model;
 use wire_base::{Direction, Payload};
 
 /// How many uplinks a device holds before they are taken.
 pub const OUTBOX: usize = 8;
 
-/// At most 8 uplinks, oldest first. Contracts see their list.
+/// At most 8 uplinks, oldest first, in memory that is taken once. Contracts see their list.
 #[derive(Drop)]
 pub struct Outbox {
-    uplinks: ArrayVec<Uplink, OUTBOX>,
+    uplinks: Vec<Uplink>,
 }
 
 impl Model for Outbox {
-    ghost use Rattle.std.specs.Prelude.{List};
+    ghost use Rattle.std.specs.Prelude.{◌≤◌, List, vec_capacity};
+    ghost use Rattle.device_core.specs.Device.{outbox_size};
     ghost use Rattle.device_core.specs.declared.uplink.Uplink.{Uplink};
     ghost use Rattle.device_core.specs.OutboxInside.{IsOutbox};
 
@@ -30,16 +31,17 @@ impl Model for Outbox {
 
     ghost view = { λ o. o.uplinks.items };
 
-    ghost invariant = { λ o. IsOutbox o.uplinks.items };
+    ghost invariant = { λ o. IsOutbox o.uplinks.items × (outbox_size ≤ vec_capacity o.uplinks) };
 }
 
 impl Outbox {
-    pub fn new() -> Self
-        ensures { result ≡ [] }
+    /// Takes the memory for 8.
+    pub fn reserve(alloc: Global) -> Result<Self, AllocError>
+        ensures { IfOk result (λ outbox. outbox ≡ []) }
     {
-        Outbox {
-            uplinks: ArrayVec::new(),
-        }
+        Ok(Outbox {
+            uplinks: Vec::with_capacity(alloc, OUTBOX)?,
+        })
     }
 
     pub fn len(&self) -> usize
@@ -70,7 +72,7 @@ impl Outbox {
         };
         let payload = &mut uplink.payload;
         spell(answer.port, Direction::Up, &answer.command, payload);
-        self.uplinks.push(uplink);
+        self.uplinks.push_reserved(uplink);
     }
 
     /// Lets go of all.
