@@ -17,7 +17,7 @@ unfolding uplink_step read_uplink
 returns-in-Err-clause-answer c = rw (refusal_read c.args.port Up (reading_of c.args.port Up c.args.payload.now) c.in-Err.refusal c.in-Err.ensures.reading) refl
 
 pub stage_after_all-moved-requires : goal.stage_after_all-moved-requires
-stage_after_all-moved-requires c = rw c.file.ensures (image_long _ c.self.invariant.cut.image_is)
+stage_after_all-moved-requires c = rw c.file.ensures (image_long _ c.self.invariant.0.cut.image_is)
 
 pub returns-clause-moved : goal.returns-clause-moved
 unfolding uplink_step
