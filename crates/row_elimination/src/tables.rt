@@ -70,7 +70,7 @@ impl<const W: usize, const B: usize> Model for Table<W, B> {
 }
 
 impl<const W: usize, const B: usize> Table<W, B> {
-    /// A table for no file yet, with memory for an area of so many bytes and for so many pieces.
+    /// The table of no file yet, with memory for an area of so many bytes and for so many pieces.
     pub fn new(alloc: Global, area: u32, most: u16) -> Result<Table<W, B>, AllocError>
         requires words { W ≤ max_words }
         requires bytes { B ≤ max_bytes }
@@ -79,19 +79,24 @@ impl<const W: usize, const B: usize> Table<W, B> {
         ensures shape { IfOk result
             (λ table. table.shape ≡ record { nb_frag = 0; frag_size = 0; rows = 0 }) }
     {
+        let columns = Vec::with_capacity(alloc, most as usize)?;
+        let spare = Vec::with_capacity(alloc, most as usize)?;
+        let known = Vec::with_capacity(alloc, words_for(most))?;
+        let bytes = Vec::with_capacity(alloc, area as usize)?;
+        let arena = RowArena::reserve(alloc)?;
         Ok(Table {
             nb_frag: 0,
             frag_size: 0,
             rows: 0,
             count: 0,
             gained: 0,
-            columns: Vec::with_capacity(alloc, most as usize)?,
-            spare: Vec::with_capacity(alloc, most as usize)?,
-            known: Vec::with_capacity(alloc, words_for(most))?,
-            area: Vec::with_capacity(alloc, area as usize)?,
+            columns,
+            spare,
+            known,
+            area: bytes,
             room: area,
             most,
-            arena: RowArena::reserve(alloc)?,
+            arena,
         })
     }
 

@@ -8,14 +8,14 @@ invariant_of-result g c = record {
   bytes_few = c.requires.bytes;
   memory = record {
     few = c.requires.few;
-    columns_held = omega (arith, c.in_ok-with_capacity.ensures.capacity);
-    spare_held = omega (arith, c.in_ok-with_capacity-2.ensures.capacity);
-    known_held = omega (arith, c.words_for.ensures.value, c.in_ok-with_capacity-3.ensures.capacity);
-    area_held = omega (arith, c.in_ok-with_capacity-4.ensures.capacity);
+    columns_held = omega (arith, c.in_ok-columns.ensures.capacity);
+    spare_held = omega (arith, c.in_ok-spare.ensures.capacity);
+    known_held = omega (arith, c.words_for.ensures.value, c.in_ok-known.ensures.capacity);
+    area_held = omega (arith, c.in_ok-bytes.ensures.capacity);
   };
   within = omega arith;
-  area_fits = omega (arith, ap length c.in_ok-with_capacity-4.ensures.items);
+  area_fits = omega (arith, ap length c.in_ok-bytes.ensures.items);
   pieces_fit = omega arith;
-  grid = no_file c.in_ok-with_capacity.field-0.items c.in_ok-with_capacity-2.field-0.items c.in_ok-with_capacity-3.field-0.items
-      c.in_ok-with_capacity-4.field-0.items c.in_ok-reserve.field-0 c.in_ok-reserve.ensures;
+  grid = no_file c.in_ok-columns.columns.items c.in_ok-spare.spare.items c.in_ok-known.known.items
+      c.in_ok-bytes.bytes.items c.in_ok-arena.arena c.in_ok-arena.ensures;
 }
