@@ -3,7 +3,8 @@ ghost use Rattle.std.specs.Prelude.{◌≡◌, ◌++◌, OnOk, string_bytes};
 ghost use Rattle.package_grammar.specs.Texts.{cast_text};
 
 use crate::showing_parts::{
-    put_coding, put_fragment, put_frames, put_group_key, put_pieces, put_status, put_word, there,
+    put_coding, put_fragment, put_frames, put_group_key, put_number, put_pieces, put_session,
+    put_session_answer, put_status, put_text, put_truth, put_word,
 };
 use cast_wire::{Cmd, refusal_bits};
 use std::alloc::AllocError;
@@ -14,14 +15,17 @@ pub fn put_cast(cmd: &Cmd, text: &mut String) -> Result<(), AllocError>
     ensures { OnOk result (string_bytes text.new ≡ string_bytes text.old ++ cast_text cmd.now) }
 {
     match cmd {
-        Cmd::PackageVersionReq => write!(text, "PackageVersionReq"),
+        Cmd::PackageVersionReq => put_text("PackageVersionReq", text),
         Cmd::PackageVersionAns {
             identifier,
             version,
-        } => write!(text, "PackageVersionAns id={identifier} version={version}"),
+        } => {
+            put_word("PackageVersionAns id=", *identifier, text)?;
+            put_word(" version=", *version, text)
+        }
         Cmd::FragSessionStatusReq { index, all } => {
-            let all = flag_value(*all, 1);
-            write!(text, "FragSessionStatusReq index={index} all={all}")
+            put_word("FragSessionStatusReq index=", *index, text)?;
+            put_truth(" all=", *all, text)
         }
         Cmd::FragSessionStatusAns {
             index,
@@ -29,11 +33,10 @@ pub fn put_cast(cmd: &Cmd, text: &mut String) -> Result<(), AllocError>
             missing,
             norows,
         } => {
-            let norows = flag_value(*norows, 1);
-            write!(
-                text,
-                "FragSessionStatusAns index={index} received={received} missing={missing} norows={norows}"
-            )
+            put_word("FragSessionStatusAns index=", *index, text)?;
+            put_number(" received=", *received as u32, text)?;
+            put_word(" missing=", *missing, text)?;
+            put_truth(" norows=", *norows, text)
         }
         Cmd::FragSessionSetupReq {
             index,
@@ -61,7 +64,8 @@ pub fn put_cast(cmd: &Cmd, text: &mut String) -> Result<(), AllocError>
                 *no_memory,
                 *encoding_unsupported,
             );
-            write!(text, "FragSessionSetupAns index={index} bits={bits}")
+            put_word("FragSessionSetupAns index=", *index, text)?;
+            put_word(" bits=", bits, text)
         }
         Cmd::FragSessionDeleteReq { index } => put_word(
             "FragSessionDeleteReq index=",
@@ -69,8 +73,8 @@ pub fn put_cast(cmd: &Cmd, text: &mut String) -> Result<(), AllocError>
             text,
         ),
         Cmd::FragSessionDeleteAns { index, missing } => {
-            let missing = flag_value(*missing, 1);
-            write!(text, "FragSessionDeleteAns index={index} missing={missing}")
+            put_word("FragSessionDeleteAns index=", *index, text)?;
+            put_truth(" missing=", *missing, text)
         }
         Cmd::DataFragment { index, n, bytes } => put_fragment(*index, *n, bytes.as_slice(), text),
         Cmd::McGroupStatusReq { mask } => put_word("McGroupStatusReq mask=", *mask, text),
@@ -90,13 +94,13 @@ pub fn put_cast(cmd: &Cmd, text: &mut String) -> Result<(), AllocError>
             put_frames(*min, *max, text)
         }
         Cmd::McGroupSetupAns { id, error } => {
-            let error = flag_value(*error, 1);
-            write!(text, "McGroupSetupAns id={id} error={error}")
+            put_word("McGroupSetupAns id=", *id, text)?;
+            put_truth(" error=", *error, text)
         }
         Cmd::McGroupDeleteReq { id } => put_word("McGroupDeleteReq id=", *id, text),
         Cmd::McGroupDeleteAns { id, undefined } => {
-            let undefined = flag_value(*undefined, 1);
-            write!(text, "McGroupDeleteAns id={id} undefined={undefined}")
+            put_word("McGroupDeleteAns id=", *id, text)?;
+            put_truth(" undefined=", *undefined, text)
         }
         Cmd::McClassCSessionReq {
             id,
@@ -104,10 +108,11 @@ pub fn put_cast(cmd: &Cmd, text: &mut String) -> Result<(), AllocError>
             timeout,
             freq,
             dr,
-        } => write!(
-            text,
-            "McClassCSessionReq id={id} time={time} timeout={timeout} freq={freq} dr={dr}"
-        ),
+        } => {
+            put_word("McClassCSessionReq id=", *id, text)?;
+            put_number(" time=", *time, text)?;
+            put_session(*timeout, *freq, *dr, text)
+        }
         Cmd::McClassCSessionAns {
             id,
             undefined,
@@ -118,8 +123,7 @@ pub fn put_cast(cmd: &Cmd, text: &mut String) -> Result<(), AllocError>
             let bits = flag_value(*undefined, 16)
                 + flag_value(*freq_error, 8)
                 + flag_value(*dr_error, 4);
-            let start = there(*text.allocator(), *start)?;
-            write!(text, "McClassCSessionAns id={id} bits={bits} start={start}")
+            put_session_answer("McClassCSessionAns id=", *id, bits, *start, text)
         }
         Cmd::McClassBSessionReq {
             id,
@@ -128,10 +132,12 @@ pub fn put_cast(cmd: &Cmd, text: &mut String) -> Result<(), AllocError>
             timeout,
             freq,
             dr,
-        } => write!(
-            text,
-            "McClassBSessionReq id={id} time={time} periodicity={periodicity} timeout={timeout} freq={freq} dr={dr}"
-        ),
+        } => {
+            put_word("McClassBSessionReq id=", *id, text)?;
+            put_number(" time=", *time, text)?;
+            put_word(" periodicity=", *periodicity, text)?;
+            put_session(*timeout, *freq, *dr, text)
+        }
         Cmd::McClassBSessionAns {
             id,
             undefined,
@@ -142,8 +148,7 @@ pub fn put_cast(cmd: &Cmd, text: &mut String) -> Result<(), AllocError>
             let bits = flag_value(*undefined, 16)
                 + flag_value(*freq_error, 8)
                 + flag_value(*dr_error, 4);
-            let start = there(*text.allocator(), *start)?;
-            write!(text, "McClassBSessionAns id={id} bits={bits} start={start}")
+            put_session_answer("McClassBSessionAns id=", *id, bits, *start, text)
         }
     }
 }

@@ -1,34 +1,19 @@
 //! The texts of fields.
-ghost use Rattle.std.specs.Prelude.{◌≡◌, ◌++◌, IfOk, OnOk, string_bytes};
+ghost use Rattle.std.specs.Prelude.{◌≡◌, ◌++◌, OnOk, codes, string_bytes};
 ghost use Rattle.std.specs.Fmt.{decimal};
 ghost use Rattle.hex.specs.Hex.{encode_lower};
-ghost use Rattle.package_grammar.specs.Texts.{number_hex, there, group_text, other_groups, groups_text, pieces_text, coding_text, group_words, group_key_text, frames_text, fragment_text, status_text};
+ghost use Rattle.package_grammar.specs.Texts.{truth, number_hex, there, group_text, other_groups, groups_text, pieces_text, coding_text, group_key_text, frames_text, fragment_text, status_text};
 
 use cast_wire::GroupAddress;
-use std::alloc::{AllocError, Global};
+use std::alloc::AllocError;
+use wire_base::flag_value;
 
-/// 8 hex digits, the most significant first.
-fn number_hex(alloc: Global, number: u32) -> Result<String, AllocError>
-    ensures { IfOk result (λ text. string_bytes text ≡ number_hex number) }
+/// Puts words at the end.
+#[inline(always)]
+pub fn put_text(words: &str, text: &mut String) -> Result<(), AllocError>
+    ensures { OnOk result (string_bytes text.new ≡ string_bytes text.old ++ words.now) }
 {
-    hex::encode(alloc, number.to_be_bytes())
-}
-
-/// Two hex digits for each byte.
-fn bytes_hex(alloc: Global, bytes: &[u8]) -> Result<String, AllocError>
-    ensures { IfOk result (λ text. string_bytes text ≡ encode_lower bytes.now) }
-{
-    hex::encode(alloc, bytes)
-}
-
-/// A number, or a dash where it is absent.
-pub fn there(alloc: Global, number: Option<u32>) -> Result<String, AllocError>
-    ensures { IfOk result (λ text. string_bytes text ≡ there number) }
-{
-    match number {
-        Some(number) => format!(in alloc; "{number}"),
-        None => String::from_str(alloc, "-"),
-    }
+    text.push_str(words)
 }
 
 /// Puts 8 hex digits at the end, the most significant first.
@@ -44,6 +29,14 @@ fn put_number_hex(number: u32, text: &mut String) -> Result<(), AllocError>
         Ok(digits) => text.push_str(digits),
         Err(_) => unreachable!(),
     }
+}
+
+/// Puts two hex digits for each byte at the end.
+fn put_bytes_hex(bytes: &[u8], text: &mut String) -> Result<(), AllocError>
+    ensures { OnOk result (string_bytes text.new ≡ string_bytes text.old ++ encode_lower bytes.now) }
+{
+    let digits = hex::encode(*text.allocator(), bytes)?;
+    put_text(digits.as_str(), text)
 }
 
 /// Puts a number at the end; it is quick where it is one digit.
@@ -63,8 +56,39 @@ pub fn put_word(head: &str, number: u8, text: &mut String) -> Result<(), AllocEr
     ensures { OnOk result
         (string_bytes text.new ≡ string_bytes text.old ++ (head.now ++ decimal number)) }
 {
-    text.push_str(head)?;
+    put_text(head, text)?;
     put_small(number, text)
+}
+
+/// The same of a larger number.
+pub fn put_number(head: &str, number: u32, text: &mut String) -> Result<(), AllocError>
+    ensures { OnOk result
+        (string_bytes text.new ≡ string_bytes text.old ++ (head.now ++ decimal number)) }
+{
+    put_text(head, text)?;
+    write!(text, "{number}")
+}
+
+/// The same of a truth value, 0 or 1.
+pub fn put_truth(head: &str, value: bool, text: &mut String) -> Result<(), AllocError>
+    ensures { OnOk result
+        (string_bytes text.new ≡ string_bytes text.old ++ (head.now ++ truth value)) }
+{
+    put_word(head, flag_value(value, 1), text)
+}
+
+/// The same of a number that may be absent: a dash then.
+pub fn put_there(head: &str, number: Option<u32>, text: &mut String) -> Result<(), AllocError>
+    ensures { OnOk result
+        (string_bytes text.new ≡ string_bytes text.old ++ (head.now ++ there number)) }
+{
+    match number {
+        Some(number) => put_number(head, number, text),
+        None => {
+            put_text(head, text)?;
+            text.push('-')
+        }
+    }
 }
 
 fn put_group(group: &GroupAddress, text: &mut String) -> Result<(), AllocError>
@@ -116,10 +140,10 @@ pub fn put_pieces(
     ensures { OnOk result (string_bytes text.new
         ≡ string_bytes text.old ++ pieces_text index mask nb_frag frag_size) }
 {
-    write!(
-        text,
-        "FragSessionSetupReq index={index} mask={mask} nbfrag={nb_frag} fragsize={frag_size}"
-    )
+    put_word("FragSessionSetupReq index=", index, text)?;
+    put_word(" mask=", mask, text)?;
+    put_number(" nbfrag=", nb_frag as u32, text)?;
+    put_word(" fragsize=", frag_size, text)
 }
 
 /// A FragSessionSetupReq's coding, and what the file is.
@@ -133,11 +157,11 @@ pub fn put_coding(
     ensures { OnOk result (string_bytes text.new
         ≡ string_bytes text.old ++ coding_text algo delay padding descriptor) }
 {
-    let descriptor = number_hex(*text.allocator(), descriptor)?;
-    write!(
-        text,
-        " algo={algo} delay={delay} padding={padding} descriptor={descriptor}"
-    )
+    put_word(" algo=", algo, text)?;
+    put_word(" delay=", delay, text)?;
+    put_word(" padding=", padding, text)?;
+    put_text(" descriptor=", text)?;
+    put_number_hex(descriptor, text)
 }
 
 /// A McGroupSetupReq's group, with its wrapped key.
@@ -145,23 +169,47 @@ pub fn put_group_key(id: u8, addr: u32, key: &[u8], text: &mut String) -> Result
     ensures { OnOk result
         (string_bytes text.new ≡ string_bytes text.old ++ group_key_text id addr key.now) }
 {
-    let addr = number_hex(*text.allocator(), addr)?;
-    let key = bytes_hex(*text.allocator(), key)?;
-    put_group_words(id, addr.as_str(), key.as_str(), text)
-}
-
-fn put_group_words(id: u8, addr: &str, key: &str, text: &mut String) -> Result<(), AllocError>
-    ensures { OnOk result
-        (string_bytes text.new ≡ string_bytes text.old ++ group_words id addr.now key.now) }
-{
-    write!(text, "McGroupSetupReq id={id} addr={addr} key={key}")
+    put_word("McGroupSetupReq id=", id, text)?;
+    put_text(" addr=", text)?;
+    put_number_hex(addr, text)?;
+    put_text(" key=", text)?;
+    put_bytes_hex(key, text)
 }
 
 /// A McGroupSetupReq's frame counts.
 pub fn put_frames(min: u32, max: u32, text: &mut String) -> Result<(), AllocError>
     ensures { OnOk result (string_bytes text.new ≡ string_bytes text.old ++ frames_text min max) }
 {
-    write!(text, " min={min} max={max}")
+    put_number(" min=", min, text)?;
+    put_number(" max=", max, text)
+}
+
+/// When a session begins, how long it lasts at most, and how it is heard.
+pub fn put_session(timeout: u8, freq: u32, dr: u8, text: &mut String) -> Result<(), AllocError>
+    ensures { OnOk result (string_bytes text.new
+        ≡ string_bytes text.old ++ (codes " timeout=" ++ decimal timeout
+        ++ (codes " freq=" ++ decimal freq ++ (codes " dr=" ++ decimal dr)))) }
+{
+    put_word(" timeout=", timeout, text)?;
+    put_number(" freq=", freq, text)?;
+    put_word(" dr=", dr, text)
+}
+
+/// What became of a session's request: its bits, and when the session begins.
+pub fn put_session_answer(
+    head: &str,
+    id: u8,
+    bits: u8,
+    start: Option<u32>,
+    text: &mut String,
+) -> Result<(), AllocError>
+    ensures { OnOk result (string_bytes text.new
+        ≡ string_bytes text.old ++ (head.now ++ decimal id
+        ++ (codes " bits=" ++ decimal bits ++ (codes " start=" ++ there start)))) }
+{
+    put_word(head, id, text)?;
+    put_word(" bits=", bits, text)?;
+    put_there(" start=", start, text)
 }
 
 /// A DataFragment.
@@ -169,8 +217,10 @@ pub fn put_fragment(index: u8, n: u16, bytes: &[u8], text: &mut String) -> Resul
     ensures { OnOk result
         (string_bytes text.new ≡ string_bytes text.old ++ fragment_text index n bytes.now) }
 {
-    let bytes = bytes_hex(*text.allocator(), bytes)?;
-    write!(text, "DataFragment index={index} n={n} bytes={bytes}")
+    put_word("DataFragment index=", index, text)?;
+    put_number(" n=", n as u32, text)?;
+    put_text(" bytes=", text)?;
+    put_bytes_hex(bytes, text)
 }
 
 /// A McGroupStatusAns.
@@ -185,6 +235,6 @@ pub fn put_status(
 {
     put_word("McGroupStatusAns total=", total, text)?;
     put_word(" mask=", mask, text)?;
-    text.push_str(" groups=")?;
+    put_text(" groups=", text)?;
     put_groups(groups, text)
 }

@@ -2,63 +2,81 @@
 ghost use Rattle.std.specs.Prelude.{◌≡◌, ◌++◌, OnOk, string_bytes};
 ghost use Rattle.package_grammar.specs.Texts.{sync_text};
 
-use crate::showing_parts::there;
+use crate::showing_parts::{put_number, put_text, put_there, put_truth, put_word};
 use std::alloc::AllocError;
 use sync_wire::Cmd;
-use wire_base::flag_value;
 
 /// Puts the text of a command of ports 202 and 203 at the end.
 pub fn put_sync(cmd: &Cmd, text: &mut String) -> Result<(), AllocError>
     ensures { OnOk result (string_bytes text.new ≡ string_bytes text.old ++ sync_text cmd.now) }
 {
     match cmd {
-        Cmd::PackageVersionReq => write!(text, "PackageVersionReq"),
+        Cmd::PackageVersionReq => put_text("PackageVersionReq", text),
         Cmd::PackageVersionAns {
             identifier,
             version,
-        } => write!(text, "PackageVersionAns id={identifier} version={version}"),
+        } => {
+            put_word("PackageVersionAns id=", *identifier, text)?;
+            put_word(" version=", *version, text)
+        }
         Cmd::AppTimeReq {
             time,
             required,
             token,
         } => {
-            let required = flag_value(*required, 1);
-            write!(
-                text,
-                "AppTimeReq time={time} required={required} token={token}"
-            )
+            put_number("AppTimeReq time=", *time, text)?;
+            put_truth(" required=", *required, text)?;
+            put_word(" token=", *token, text)
         }
-        Cmd::AppTimeAns { correction, token } => write!(
+        Cmd::AppTimeAns { correction, token } => {
+            write!(text, "AppTimeAns correction={correction}")?;
+            put_word(" token=", *token, text)
+        }
+        Cmd::DeviceAppTimePeriodicityReq { period } => put_word(
+            "DeviceAppTimePeriodicityReq period=",
+            *period,
             text,
-            "AppTimeAns correction={correction} token={token}"
-        ),
-        Cmd::DeviceAppTimePeriodicityReq { period } => write!(
-            text,
-            "DeviceAppTimePeriodicityReq period={period}"
         ),
         Cmd::DeviceAppTimePeriodicityAns { unsupported, time } => {
-            let unsupported = flag_value(*unsupported, 1);
-            write!(
+            put_truth(
+                "DeviceAppTimePeriodicityAns unsupported=",
+                *unsupported,
                 text,
-                "DeviceAppTimePeriodicityAns unsupported={unsupported} time={time}"
-            )
+            )?;
+            put_number(" time=", *time, text)
         }
-        Cmd::ForceDeviceResyncReq { count } => write!(text, "ForceDeviceResyncReq count={count}"),
-        Cmd::DevVersionReq => write!(text, "DevVersionReq"),
-        Cmd::DevVersionAns { firmware, hardware } => write!(
+        Cmd::ForceDeviceResyncReq { count } => put_word(
+            "ForceDeviceResyncReq count=",
+            *count,
             text,
-            "DevVersionAns fw={firmware} hw={hardware}"
         ),
-        Cmd::DevRebootTimeReq { time } => write!(text, "DevRebootTimeReq time={time}"),
-        Cmd::DevRebootTimeAns { time } => write!(text, "DevRebootTimeAns time={time}"),
-        Cmd::DevRebootCountdownReq { count } => write!(text, "DevRebootCountdownReq count={count}"),
-        Cmd::DevRebootCountdownAns { count } => write!(text, "DevRebootCountdownAns count={count}"),
-        Cmd::DevUpgradeImageReq => write!(text, "DevUpgradeImageReq"),
-        Cmd::DevUpgradeImageAns { status, next } => {
-            let next = there(*text.allocator(), *next)?;
-            write!(text, "DevUpgradeImageAns status={status} next={next}")
+        Cmd::DevVersionReq => put_text("DevVersionReq", text),
+        Cmd::DevVersionAns { firmware, hardware } => {
+            put_number("DevVersionAns fw=", *firmware, text)?;
+            put_number(" hw=", *hardware, text)
         }
-        Cmd::DevDeleteImageReq { version } => write!(text, "DevDeleteImageReq version={version}"),
-        Cmd::DevDeleteImageAns { errors } => write!(text, "DevDeleteImageAns bits={errors}"),
+        Cmd::DevRebootTimeReq { time } => put_number("DevRebootTimeReq time=", *time, text),
+        Cmd::DevRebootTimeAns { time } => put_number("DevRebootTimeAns time=", *time, text),
+        Cmd::DevRebootCountdownReq { count } => put_number(
+            "DevRebootCountdownReq count=",
+            *count,
+            text,
+        ),
+        Cmd::DevRebootCountdownAns { count } => put_number(
+            "DevRebootCountdownAns count=",
+            *count,
+            text,
+        ),
+        Cmd::DevUpgradeImageReq => put_text("DevUpgradeImageReq", text),
+        Cmd::DevUpgradeImageAns { status, next } => {
+            put_word("DevUpgradeImageAns status=", *status, text)?;
+            put_there(" next=", *next, text)
+        }
+        Cmd::DevDeleteImageReq { version } => put_number(
+            "DevDeleteImageReq version=",
+            *version,
+            text,
+        ),
+        Cmd::DevDeleteImageAns { errors } => put_word("DevDeleteImageAns bits=", *errors, text),
     }
 }

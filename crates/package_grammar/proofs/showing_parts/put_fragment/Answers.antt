@@ -1,5 +1,5 @@
-use Rattle.std.proofs.Common.{sym}
+use Rattle.package_grammar.proofs.Appended.{four_put}
 use Rattle.package_grammar.proofs.showing_parts.put_fragment.Goals as goal
 
 pub returns : goal.returns
-returns c = rw (sym c.in_ok-bytes.ensures) c.write.ensures.bytes
+returns c = four_put _ _ _ _ _ _ _ _ _ _ c.in_ok-put_word.ensures c.in_ok-put_number.ensures c.in_ok-put_text.ensures c.put_bytes_hex.ensures
