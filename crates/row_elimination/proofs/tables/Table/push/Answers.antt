@@ -11,6 +11,11 @@ use Rattle.row_elimination.proofs.Counting.{gained-le}
 use Rattle.row_elimination.proofs.Gridding.{stored_at, file_row, written, pushed}
 use Rattle.row_elimination.proofs.tables.Table.push.Goals as goal
 
+pub index-slot-requires : goal.index-slot-requires
+index-slot-requires g c =
+    let i = c.self.invariant.grid in
+    omega (arith, i.counted, i.spare_sized, subst (λ (g : Grid). rows_held g.places < g.shape.rows) (sym c.self.view_is) c.requires.room)
+
 pub add_row-requires : goal.add_row-requires
 add_row-requires g c =
     let s = c.self.inside in
@@ -46,6 +51,11 @@ add_row-requires g c =
         ),
       ),
     )
+
+pub overflow_add-self : goal.overflow_add-self
+overflow_add-self g c =
+    let i = c.self.invariant.grid in
+    omega (arith, i.counted, i.few, i.most, subst (λ (g : Grid). rows_held g.places < g.shape.rows) (sym c.self.view_is) c.requires.room)
 
 pub overflow_add-self-2 : goal.overflow_add-self-2
 overflow_add-self-2 g c =
