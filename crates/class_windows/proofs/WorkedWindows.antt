@@ -1,5 +1,6 @@
 -- The worked windows, by computing.
-use Rattle.std.proofs.Common.{◌≡◌, true, false, refl}
+use Rattle.std.proofs.Common.{◌≡◌, [], ◌∷◌, true, false, refl}
+use Rattle.class_windows.specs.Windows.{rand}
 use Rattle.class_windows.specs.Open.{is_after_uplink, is_running, is_in_slot, is_ping_slot}
 use Rattle.aes_block.specs.Field.{xtime, sum_of_products, times, inverse, affine_bit, sub_byte}
 use Rattle.aes_block.specs.Cipher.{sub_bytes, shift_rows, mixed, mix_columns, add_round_key, next_words, words_from, after_round, cipher}
@@ -36,22 +37,39 @@ windows = record {
   no_slot = refl;
 }
 
+-- Rand of each beacon that is worked out, by which its slots are known
+rand_1024 : rand 1024 0x11223344 ≡ 0x57 ∷ 0x45 ∷ 0xc3 ∷ 0x3b ∷ 0xcf ∷ 0x8f ∷ 0xa3 ∷ 0xba ∷ 0x09 ∷ 0xc5 ∷ 0x38 ∷ 0x5b ∷ 0x25 ∷ 0x08 ∷ 0x2c ∷ 0x4d ∷ []
+unfolding xtime sum_of_products times inverse affine_bit sub_byte sub_bytes shift_rows mixed mix_columns add_round_key next_words words_from after_round cipher
+rand_1024 = refl
+
+rand_1152 : rand 1152 0x11223344 ≡ 0x13 ∷ 0x2b ∷ 0x68 ∷ 0xb7 ∷ 0x70 ∷ 0x28 ∷ 0x31 ∷ 0x3d ∷ 0xb5 ∷ 0x42 ∷ 0xd1 ∷ 0x4e ∷ 0xe1 ∷ 0xeb ∷ 0x03 ∷ 0x92 ∷ []
+unfolding xtime sum_of_products times inverse affine_bit sub_byte sub_bytes shift_rows mixed mix_columns add_round_key next_words words_from after_round cipher
+rand_1152 = refl
+
+rand_1280 : rand 1280 0x11223344 ≡ 0x8b ∷ 0x26 ∷ 0x21 ∷ 0x8a ∷ 0x2f ∷ 0x35 ∷ 0x73 ∷ 0xb6 ∷ 0x18 ∷ 0x2d ∷ 0x36 ∷ 0x95 ∷ 0x76 ∷ 0x27 ∷ 0x87 ∷ 0x83 ∷ []
+unfolding xtime sum_of_products times inverse affine_bit sub_byte sub_bytes shift_rows mixed mix_columns add_round_key next_words words_from after_round cipher
+rand_1280 = refl
+
+rand_last : rand 4294967168 0xdeadbeef ≡ 0x2c ∷ 0xdd ∷ 0x6c ∷ 0xb0 ∷ 0xf0 ∷ 0x65 ∷ 0x63 ∷ 0x10 ∷ 0x28 ∷ 0x35 ∷ 0x79 ∷ 0x2f ∷ 0x04 ∷ 0x7a ∷ 0x53 ∷ 0x48 ∷ []
+unfolding xtime sum_of_products times inverse affine_bit sub_byte sub_bytes shift_rows mixed mix_columns add_round_key next_words words_from after_round cipher
+rand_last = refl
+
 pub slots : WorkedSlots
-unfolding is_running is_in_slot is_ping_slot xtime sum_of_products times inverse affine_bit sub_byte sub_bytes shift_rows mixed mix_columns add_round_key next_words words_from after_round cipher
+unfolding is_running is_in_slot is_ping_slot
 slots = record {
-  offset = refl;
-  next_offset = refl;
-  rare = refl;
-  b_open = refl;
+  offset = rw rand_1024 refl;
+  next_offset = rw rand_1152 refl;
+  rare = rw rand_last refl;
+  b_open = rw rand_1024 refl;
   b_before = refl;
-  b_last = refl;
-  b_behind_the_slot = refl;
+  b_last = rw rand_1152 refl;
+  b_behind_the_slot = rw rand_1152 refl;
   b_behind = refl;
-  b_rare = refl;
-  b_rarely = refl;
-  b_rare_again = refl;
+  b_rare = rw rand_1024 refl;
+  b_rarely = rw rand_1024 refl;
+  b_rare_again = rw rand_1024 refl;
   b_short = refl;
-  b_long = refl;
+  b_long = rw rand_1280 refl;
 }
 
 pub answers : WorkedAnswers
@@ -75,9 +93,9 @@ answers = record {
 
 -- at 2,810 ms and 2,840 ms behind the beacon at 1,024 s
 pub ping_slot : is_ping_slot 1026810 0x11223344 0 ≡ true
-unfolding is_in_slot is_ping_slot xtime sum_of_products times inverse affine_bit sub_byte sub_bytes shift_rows mixed mix_columns add_round_key next_words words_from after_round cipher
-ping_slot = refl
+unfolding is_in_slot is_ping_slot
+ping_slot = rw rand_1024 refl
 
 pub no_ping_slot : is_ping_slot 1026840 0x11223344 0 ≡ false
-unfolding is_in_slot is_ping_slot xtime sum_of_products times inverse affine_bit sub_byte sub_bytes shift_rows mixed mix_columns add_round_key next_words words_from after_round cipher
-no_ping_slot = refl
+unfolding is_in_slot is_ping_slot
+no_ping_slot = rw rand_1024 refl
