@@ -15,13 +15,30 @@ codes = record {
   block = refl;
 }
 
+-- the payload encrypted, and the MIC of each message, by which the frames and their faults are known
+encrypted : ciphered worked_keys.app_s 0x11223344 65537 (0xab ∷ 0xcd ∷ []) ≡ 0x06 ∷ 0x5a ∷ []
+unfolding xtime sum_of_products times inverse affine_bit sub_byte sub_bytes shift_rows mixed mix_columns add_round_key next_words words_from after_round cipher ciphered
+encrypted = refl
+
+code : mic worked_keys 0x11223344 65537 (0x60 ∷ 0x44 ∷ 0x33 ∷ 0x22 ∷ 0x11 ∷ 0x00 ∷ 0x01 ∷ 0x00 ∷ 0xc9 ∷ 0x06 ∷ 0x5a ∷ []) ≡ 0xa8 ∷ 0xb9 ∷ 0x4b ∷ 0xec ∷ []
+unfolding xtime sum_of_products times inverse affine_bit sub_byte sub_bytes shift_rows mixed mix_columns add_round_key next_words words_from after_round cipher xor_blocks shifted subkey last_block chained cmac mic
+code = refl
+
+pending_code : mic worked_keys 0x11223344 65537 (0x60 ∷ 0x44 ∷ 0x33 ∷ 0x22 ∷ 0x11 ∷ 0x10 ∷ 0x01 ∷ 0x00 ∷ 0xc9 ∷ 0x06 ∷ 0x5a ∷ []) ≡ 0xf8 ∷ 0xaf ∷ 0xbc ∷ 0x81 ∷ []
+unfolding xtime sum_of_products times inverse affine_bit sub_byte sub_bytes shift_rows mixed mix_columns add_round_key next_words words_from after_round cipher xor_blocks shifted subkey last_block chained cmac mic
+pending_code = refl
+
+next_code : mic worked_keys 0x11223344 131073 (0x60 ∷ 0x44 ∷ 0x33 ∷ 0x22 ∷ 0x11 ∷ 0x00 ∷ 0x01 ∷ 0x00 ∷ 0xc9 ∷ 0x06 ∷ 0x5a ∷ []) ≡ 0xf5 ∷ 0xe2 ∷ 0x5f ∷ 0x52 ∷ []
+unfolding xtime sum_of_products times inverse affine_bit sub_byte sub_bytes shift_rows mixed mix_columns add_round_key next_words words_from after_round cipher xor_blocks shifted subkey last_block chained cmac mic
+next_code = refl
+
 frame : frame_of worked_keys 0x11223344 0x00 65537 201 (0xab ∷ 0xcd ∷ []) ≡ worked_frame 0xec
-unfolding xtime sum_of_products times inverse affine_bit sub_byte sub_bytes shift_rows mixed mix_columns add_round_key next_words words_from after_round cipher xor_blocks shifted subkey last_block chained cmac ciphered message_of mic frame_of
-frame = refl
+unfolding message_of frame_of
+frame = rw (encrypted, code) refl
 
 pending : frame_of worked_keys 0x11223344 0x10 65537 201 (0xab ∷ 0xcd ∷ []) ≡ pending_frame
-unfolding xtime sum_of_products times inverse affine_bit sub_byte sub_bytes shift_rows mixed mix_columns add_round_key next_words words_from after_round cipher xor_blocks shifted subkey last_block chained cmac ciphered message_of mic frame_of
-pending = refl
+unfolding message_of frame_of
+pending = rw (encrypted, pending_code) refl
 
 second_block : stream_byte worked_keys.app_s 0x11223344 0x01020304 16 ≡ 0xd3
 unfolding xtime sum_of_products times inverse affine_bit sub_byte sub_bytes shift_rows mixed mix_columns add_round_key next_words words_from after_round cipher
@@ -35,14 +52,14 @@ frames = record {
 }
 
 pub faults : WorkedFaults
-unfolding xtime sum_of_products times inverse affine_bit sub_byte sub_bytes shift_rows mixed mix_columns add_round_key next_words words_from after_round cipher xor_blocks shifted subkey last_block chained cmac ciphered message_of mic frame_of number_at fault_of
+unfolding number_at fault_of
 faults = record {
-  none = refl;
-  pending = refl;
-  bit_turned = refl;
+  none = rw code refl;
+  pending = rw pending_code refl;
+  bit_turned = rw code refl;
   at_max = refl;
   next_round = refl;
-  next_round_is_due = refl;
+  next_round_is_due = rw next_code refl;
 }
 
 pub order : WorkedOrder
