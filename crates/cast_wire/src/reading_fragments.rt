@@ -15,7 +15,7 @@ use crate::ids::{
 use wire_base::{Direction, Refusal, u8_at, u16_at, u32_at};
 
 #[inline(always)]
-#[tactic(auto, using(crate::proofs::Known::known), unfolding(crate::specs::Reading::fragment_down))]
+#[tactic(auto, using(crate::proofs::Known::fragment_down_known), unfolding(crate::specs::Reading::fragment_down))]
 pub fn read_fragment_down(bytes: &[u8], at: u16) -> Result<(Cmd<'_>, u16), Refusal>
     requires inside { at < length bytes.now }
     requires fits { length bytes.now ≤ max_payload }
@@ -81,7 +81,7 @@ pub fn read_fragment_down(bytes: &[u8], at: u16) -> Result<(Cmd<'_>, u16), Refus
 }
 
 #[inline(always)]
-#[tactic(auto, using(crate::proofs::Known::known), unfolding(crate::specs::Reading::fragment_up))]
+#[tactic(auto, using(crate::proofs::Known::fragment_up_known), unfolding(crate::specs::Reading::fragment_up))]
 pub fn read_fragment_up(bytes: &[u8], at: u16) -> Result<(Cmd<'_>, u16), Refusal>
     requires inside { at < length bytes.now }
     requires fits { length bytes.now ≤ max_payload }

@@ -17,7 +17,7 @@ use crate::ids::{
 use wire_base::{Direction, Refusal, u8_at, u24_at, u32_at};
 
 #[inline(always)]
-#[tactic(auto, using(crate::proofs::Known::known), unfolding(crate::specs::Reading::group_down))]
+#[tactic(auto, using(crate::proofs::Known::group_down_known), unfolding(crate::specs::Reading::group_down))]
 pub fn read_group_down(bytes: &[u8], at: u16) -> Result<(Cmd<'_>, u16), Refusal>
     requires inside { at < length bytes.now }
     requires fits { length bytes.now ≤ max_payload }
@@ -90,7 +90,7 @@ pub fn read_group_down(bytes: &[u8], at: u16) -> Result<(Cmd<'_>, u16), Refusal>
 }
 
 #[inline(always)]
-#[tactic(auto, using(crate::proofs::Known::known), unfolding(crate::specs::Reading::group_up))]
+#[tactic(auto, using(crate::proofs::Known::group_up_known), unfolding(crate::specs::Reading::group_up))]
 pub fn read_group_up(bytes: &[u8], at: u16) -> Result<(Cmd<'_>, u16), Refusal>
     requires inside { at < length bytes.now }
     requires fits { length bytes.now ≤ max_payload }

@@ -14,7 +14,7 @@ use crate::ids::{
 use wire_base::{Direction, Refusal, u8_at, u32_at};
 
 #[inline(always)]
-#[tactic(auto, using(crate::proofs::Known::known), unfolding(crate::specs::Reading::clock_down))]
+#[tactic(auto, using(crate::proofs::Known::clock_down_known), unfolding(crate::specs::Reading::clock_down))]
 pub fn read_clock_down(bytes: &[u8], at: u16) -> Result<(Cmd, u16), Refusal>
     requires inside { at < length bytes.now }
     requires fits { length bytes.now ≤ max_payload }
@@ -59,7 +59,7 @@ pub fn read_clock_down(bytes: &[u8], at: u16) -> Result<(Cmd, u16), Refusal>
 }
 
 #[inline(always)]
-#[tactic(auto, using(crate::proofs::Known::known), unfolding(crate::specs::Reading::clock_up))]
+#[tactic(auto, using(crate::proofs::Known::clock_up_known), unfolding(crate::specs::Reading::clock_up))]
 pub fn read_clock_up(bytes: &[u8], at: u16) -> Result<(Cmd, u16), Refusal>
     requires inside { at < length bytes.now }
     requires fits { length bytes.now ≤ max_payload }

@@ -15,7 +15,7 @@ use crate::ids::{
 use wire_base::{Direction, Refusal, u8_at, u24_at, u32_at};
 
 #[inline(always)]
-#[tactic(auto, using(crate::proofs::Known::known), unfolding(crate::specs::Reading::firmware_down))]
+#[tactic(auto, using(crate::proofs::Known::firmware_down_known), unfolding(crate::specs::Reading::firmware_down))]
 pub fn read_firmware_down(bytes: &[u8], at: u16) -> Result<(Cmd, u16), Refusal>
     requires inside { at < length bytes.now }
     requires fits { length bytes.now ≤ max_payload }
@@ -56,7 +56,7 @@ pub fn read_firmware_down(bytes: &[u8], at: u16) -> Result<(Cmd, u16), Refusal>
 }
 
 #[inline(always)]
-#[tactic(auto, using(crate::proofs::Known::known), unfolding(crate::specs::Reading::firmware_up))]
+#[tactic(auto, using(crate::proofs::Known::firmware_up_known), unfolding(crate::specs::Reading::firmware_up))]
 pub fn read_firmware_up(bytes: &[u8], at: u16) -> Result<(Cmd, u16), Refusal>
     requires inside { at < length bytes.now }
     requires fits { length bytes.now ≤ max_payload }
