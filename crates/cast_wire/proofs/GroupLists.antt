@@ -1,14 +1,14 @@
 -- The groups of a McGroupStatusAns, read one after another.
-use Rattle.std.proofs.Common.{◌≡◌, ℕ, zero, suc, ◌+◌, ◌-◌, ◌*◌, ◌/◌, ◌^◌, ◌<◌, ◌≤◌, List, [], ◌∷◌, ◌++◌, length, get_or, refl, sym, ap, subst, ◌∙◌, append_assoc, arith}
+use Rattle.std.proofs.Common.{◌≡◌, ℕ, zero, suc, ◌+◌, ◌-◌, ◌*◌, ◌/◌, ◌^◌, ◌<◌, ◌≤◌, List, [], ◌∷◌, ◌++◌, length, refl, sym, ap, subst, ◌∙◌, append_assoc, arith}
 use Rattle.std.proofs.lemmas.List.{append-nil, length_push}
 use Rattle.std.specs.Prelude.{bit_and, count_ones}
 use Rattle.std.proofs.lemmas.Nat.{and_mask}
 use Rattle.wire_base.specs.declared.refusal.Direction.TheVariants.{Up}
 use Rattle.wire_base.specs.Numbers.{number_at, bits_of}
-use Rattle.wire_base.specs.Rows.{PartsLie, PartsFit}
+use Rattle.wire_base.specs.Rows.{PartsLie}
 use Rattle.cast_wire.specs.declared.group_list.GroupAddress.{GroupAddress}
 use Rattle.cast_wire.specs.declared.cmd.Cmd.TheVariants.{McGroupStatusAns}
-use Rattle.cast_wire.specs.Table.{group_parts, Spells, IsValid}
+use Rattle.cast_wire.specs.Table.{group_parts, Spells}
 use Rattle.wire_base.specs.Found.{field}
 use Rattle.cast_wire.specs.Reading.{groups_at}
 
@@ -87,16 +87,6 @@ groups_known (group ∷ groups) bytes at skip next lie =
     let rest : groups_at bytes (at + skip + 5) (length groups) ≡ groups = ap (λ (k : ℕ). groups_at bytes k (length groups)) (sym place) ∙ others.0 in
     (ap (λ (g : GroupAddress). g ∷ groups_at bytes (at + skip + 5) (length groups)) here ∙ ap (λ (l : List GroupAddress). group ∷ l) rest, omega (arith, others.1), others.2)
 
-number_at-lt : (bytes : List ℕ) (at : ℕ) → ((i : ℕ) → get_or bytes i 0 < 256) → number_at bytes at 4 < 2 ^ 32
-unfolding number_at
-number_at-lt bytes at fits = omega (arith, fits at, fits (at + 1), fits (at + 1 + 1), fits (at + 1 + 1 + 1))
-
--- groups that are read fit
-pub groups_fit : (bytes : List ℕ) (at count : ℕ) → ((i : ℕ) → get_or bytes i 0 < 256) → PartsFit (group_parts (groups_at bytes at count))
-unfolding groups_at
-groups_fit bytes at zero fits = tt
-groups_fit bytes at (suc count) fits = ((omega arith, tt), (number_at-lt bytes (at + 1) fits, groups_fit bytes (at + 5) count fits))
-
 -- ---- a McGroupStatusAns
 
 -- the bits of a number under a shift and a mask
@@ -125,10 +115,3 @@ status_spelled bytes at fields groups cid_is fields_are groups_are within =
       lies = record { cid_is = cid_is; parts_lie = ((total_is, (mask_is, tt)), subst (λ (l : List GroupAddress). PartsLie bytes at 2 (group_parts l) (at + (2 + 5 * count_ones (bit_and fields 15)))) (sym groups_are) lie) };
       whole = ap length groups_are ∙ length-groups_at bytes (at + 2) (count_ones (bit_and fields 15));
     }
-
-pub status_valid : (bytes : List ℕ) (at fields : ℕ) (groups : List GroupAddress) → ((i : ℕ) → get_or bytes i 0 < 256)
-    → groups ≡ groups_at bytes at (count_ones (bit_and fields 15)) → IsValid (McGroupStatusAns (bit_and (fields / 16) 7) (bit_and fields 15) groups)
-status_valid bytes at fields groups fits groups_are = record {
-  fields = ((omega (arith, masked fields 4 3), (omega (arith, masked_low fields 4), tt)), subst (λ (l : List GroupAddress). PartsFit (group_parts l)) (sym groups_are) (groups_fit bytes at (count_ones (bit_and fields 15)) fits));
-  whole = ap length groups_are ∙ length-groups_at bytes at (count_ones (bit_and fields 15));
-}

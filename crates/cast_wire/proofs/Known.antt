@@ -67,4 +67,10 @@ mc_class_b_session_req_200_known cid is = record { command = McClassBSessionReq 
 pub mc_class_b_session_ans_200_known : (cid : ℕ) → 0x05 ≡ cid → IsKnown 200 Up cid
 mc_class_b_session_ans_200_known cid is = record { command = McClassBSessionAns 0 false false false None; listed = record { port_is = refl; direction_is = refl }; cid_is = is }
 
-pub ruleset known = (package_version_req_200_known, package_version_req_201_known, package_version_ans_200_known, package_version_ans_201_known, frag_session_status_req_201_known, frag_session_status_ans_201_known, frag_session_setup_req_201_known, frag_session_setup_ans_201_known, frag_session_delete_req_201_known, frag_session_delete_ans_201_known, data_fragment_201_known, mc_group_status_req_200_known, mc_group_status_ans_200_known, mc_group_setup_req_200_known, mc_group_setup_ans_200_known, mc_group_delete_req_200_known, mc_group_delete_ans_200_known, mc_class_c_session_req_200_known, mc_class_c_session_ans_200_known, mc_class_b_session_req_200_known, mc_class_b_session_ans_200_known)
+pub ruleset group_down_known = (package_version_req_200_known, mc_group_status_req_200_known, mc_group_setup_req_200_known, mc_group_delete_req_200_known, mc_class_c_session_req_200_known, mc_class_b_session_req_200_known)
+
+pub ruleset group_up_known = (package_version_ans_200_known, mc_group_status_ans_200_known, mc_group_setup_ans_200_known, mc_group_delete_ans_200_known, mc_class_c_session_ans_200_known, mc_class_b_session_ans_200_known)
+
+pub ruleset fragment_down_known = (package_version_req_201_known, frag_session_status_req_201_known, frag_session_setup_req_201_known, frag_session_delete_req_201_known, data_fragment_201_known)
+
+pub ruleset fragment_up_known = (package_version_ans_201_known, frag_session_status_ans_201_known, frag_session_setup_ans_201_known, frag_session_delete_ans_201_known)

@@ -3,7 +3,7 @@
 ghost use Rattle.std.specs.Prelude.{◌≡◌, ℕ, ◌+◌, ◌<◌, ◌≤◌, ◌*◌, length, slice_range, IfOk, IfErr, Ok};
 ghost use Rattle.std.specs.Result.{result_ok};
 ghost use Rattle.wire_base.specs.Payload.{max_payload};
-ghost use Rattle.cast_wire.specs.Table.{Spells, IsValid, IsRefusal};
+ghost use Rattle.cast_wire.specs.Table.{Spells, IsRefusal};
 ghost use Rattle.cast_wire.specs.Reading.{group_down, group_up, groups_at};
 ghost use Rattle.cast_wire.specs.Limits.{max_groups};
 
@@ -17,14 +17,12 @@ use crate::ids::{
 use wire_base::{Direction, Refusal, u8_at, u24_at, u32_at};
 
 #[inline(always)]
-#[tactic(auto, using(crate::proofs::Known::known), unfolding(crate::specs::Reading::group_down))]
+#[tactic(auto, using(crate::proofs::Known::group_down_known), unfolding(crate::specs::Reading::group_down))]
 pub fn read_group_down(bytes: &[u8], at: u16) -> Result<(Cmd<'_>, u16), Refusal>
     requires inside { at < length bytes.now }
     requires fits { length bytes.now ≤ max_payload }
     ensures found { IfOk result (λ r. Spells r.0 200 Direction.Down bytes.now at r.1) }
     ensures exact { result_ok result ≡ group_down bytes.now at }
-    ensures valid { IfOk result (λ r. IsValid r.0) }
-    ensures moves { IfOk result (λ r. at < r.1) }
     ensures stops { IfErr result (IsRefusal 200 Direction.Down bytes.now at) }
 {
     let end = bytes.len() as u16;
@@ -90,14 +88,12 @@ pub fn read_group_down(bytes: &[u8], at: u16) -> Result<(Cmd<'_>, u16), Refusal>
 }
 
 #[inline(always)]
-#[tactic(auto, using(crate::proofs::Known::known), unfolding(crate::specs::Reading::group_up))]
+#[tactic(auto, using(crate::proofs::Known::group_up_known), unfolding(crate::specs::Reading::group_up))]
 pub fn read_group_up(bytes: &[u8], at: u16) -> Result<(Cmd<'_>, u16), Refusal>
     requires inside { at < length bytes.now }
     requires fits { length bytes.now ≤ max_payload }
     ensures found { IfOk result (λ r. Spells r.0 200 Direction.Up bytes.now at r.1) }
     ensures exact { result_ok result ≡ group_up bytes.now at }
-    ensures valid { IfOk result (λ r. IsValid r.0) }
-    ensures moves { IfOk result (λ r. at < r.1) }
     ensures stops { IfErr result (IsRefusal 200 Direction.Up bytes.now at) }
 {
     let end = bytes.len() as u16;

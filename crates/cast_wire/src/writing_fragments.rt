@@ -6,21 +6,16 @@ ghost use Rattle.wire_base.specs.Payload.{Appends};
 
 use crate::cmd::Cmd;
 use crate::ids::{
-    DATA_FRAGMENT, FRAGMENT_HEAD_LEN, NO_BODY_LEN, ONE_BYTE_LEN, PACKAGE_VERSION, SESSION_DELETE,
-    SESSION_SETUP, SESSION_STATUS, SETUP_REQUEST_LEN, STATUS_ANSWER_LEN, VERSION_ANSWER_LEN,
+    DATA_FRAGMENT, FRAGMENT_HEAD_LEN, PACKAGE_VERSION, SESSION_DELETE, SESSION_SETUP,
+    SESSION_STATUS,
 };
-use wire_base::{Full, Payload, put_bytes, put_u8, put_u16, put_u32};
+use wire_base::{Full, Payload};
 
 pub fn put_version_request(out: &mut Payload) -> Result<(), Full>
     requires { IsValid (Cmd.PackageVersionReq) }
     ensures { Appends out.old out.new (canonical (Cmd.PackageVersionReq)) result }
 {
-    if out.room() < NO_BODY_LEN as usize {
-        return Err(Full);
-    }
-    put_u8(out, PACKAGE_VERSION)?;
-
-    Ok(())
+    out.append(&[PACKAGE_VERSION])
 }
 
 pub fn put_version_answer(identifier: u8, version: u8, out: &mut Payload) -> Result<(), Full>
@@ -28,25 +23,14 @@ pub fn put_version_answer(identifier: u8, version: u8, out: &mut Payload) -> Res
     ensures { Appends out.old out.new
         (canonical (Cmd.PackageVersionAns identifier version)) result }
 {
-    if out.room() < VERSION_ANSWER_LEN as usize {
-        return Err(Full);
-    }
-    put_u8(out, PACKAGE_VERSION)?;
-    put_u8(out, identifier)?;
-    put_u8(out, version)?;
-    Ok(())
+    out.append(&[PACKAGE_VERSION, identifier, version])
 }
 
 pub fn put_status_request(index: u8, all: bool, out: &mut Payload) -> Result<(), Full>
     requires { IsValid (Cmd.FragSessionStatusReq index all) }
     ensures { Appends out.old out.new (canonical (Cmd.FragSessionStatusReq index all)) result }
 {
-    if out.room() < ONE_BYTE_LEN as usize {
-        return Err(Full);
-    }
-    put_u8(out, SESSION_STATUS)?;
-    put_u8(out, (index << 1) + u8::from(all))?;
-    Ok(())
+    out.append(&[SESSION_STATUS, (index << 1) + u8::from(all)])
 }
 
 pub fn put_status_answer(
@@ -60,14 +44,8 @@ pub fn put_status_answer(
     ensures { Appends out.old out.new
         (canonical (Cmd.FragSessionStatusAns index received missing norows)) result }
 {
-    if out.room() < STATUS_ANSWER_LEN as usize {
-        return Err(Full);
-    }
-    put_u8(out, SESSION_STATUS)?;
-    put_u16(out, (u16::from(index) << 14) + received)?;
-    put_u8(out, missing)?;
-    put_u8(out, u8::from(norows))?;
-    Ok(())
+    let [low, high] = ((u16::from(index) << 14) + received).to_le_bytes();
+    out.append(&[SESSION_STATUS, low, high, missing, u8::from(norows)])
 }
 
 pub fn put_setup_request(
@@ -87,17 +65,23 @@ pub fn put_setup_request(
         (canonical (Cmd.FragSessionSetupReq index mask nb_frag frag_size algo delay padding
         descriptor)) result }
 {
-    if out.room() < SETUP_REQUEST_LEN as usize {
-        return Err(Full);
-    }
-    put_u8(out, SESSION_SETUP)?;
-    put_u8(out, (index << 4) + mask)?;
-    put_u16(out, nb_frag)?;
-    put_u8(out, frag_size)?;
-    put_u8(out, (algo << 3) + delay)?;
-    put_u8(out, padding)?;
-    put_u32(out, descriptor)?;
-    Ok(())
+    let session = (index << 4) + mask;
+    let control = (algo << 3) + delay;
+    let [low, high] = nb_frag.to_le_bytes();
+    let [a, b, c, d] = descriptor.to_le_bytes();
+    out.append(&[
+        SESSION_SETUP,
+        session,
+        low,
+        high,
+        frag_size,
+        control,
+        padding,
+        a,
+        b,
+        c,
+        d,
+    ])
 }
 
 pub fn put_setup_answer(
@@ -115,43 +99,26 @@ pub fn put_setup_answer(
         (canonical (Cmd.FragSessionSetupAns index wrong_descriptor index_unsupported no_memory
         encoding_unsupported)) result }
 {
-    if out.room() < ONE_BYTE_LEN as usize {
-        return Err(Full);
-    }
-    put_u8(out, SESSION_SETUP)?;
-    put_u8(
-        out,
-        (index << 6)
-            + (u8::from(wrong_descriptor) << 3)
-            + (u8::from(index_unsupported) << 2)
-            + (u8::from(no_memory) << 1)
-            + u8::from(encoding_unsupported),
-    )?;
-    Ok(())
+    let status = (index << 6)
+        + (u8::from(wrong_descriptor) << 3)
+        + (u8::from(index_unsupported) << 2)
+        + (u8::from(no_memory) << 1)
+        + u8::from(encoding_unsupported);
+    out.append(&[SESSION_SETUP, status])
 }
 
 pub fn put_delete_request(index: u8, out: &mut Payload) -> Result<(), Full>
     requires { IsValid (Cmd.FragSessionDeleteReq index) }
     ensures { Appends out.old out.new (canonical (Cmd.FragSessionDeleteReq index)) result }
 {
-    if out.room() < ONE_BYTE_LEN as usize {
-        return Err(Full);
-    }
-    put_u8(out, SESSION_DELETE)?;
-    put_u8(out, index)?;
-    Ok(())
+    out.append(&[SESSION_DELETE, index])
 }
 
 pub fn put_delete_answer(index: u8, missing: bool, out: &mut Payload) -> Result<(), Full>
     requires { IsValid (Cmd.FragSessionDeleteAns index missing) }
     ensures { Appends out.old out.new (canonical (Cmd.FragSessionDeleteAns index missing)) result }
 {
-    if out.room() < ONE_BYTE_LEN as usize {
-        return Err(Full);
-    }
-    put_u8(out, SESSION_DELETE)?;
-    put_u8(out, (u8::from(missing) << 2) + index)?;
-    Ok(())
+    out.append(&[SESSION_DELETE, (u8::from(missing) << 2) + index])
 }
 
 pub fn put_data_fragment(index: u8, n: u16, bytes: &[u8], out: &mut Payload) -> Result<(), Full>
@@ -161,8 +128,7 @@ pub fn put_data_fragment(index: u8, n: u16, bytes: &[u8], out: &mut Payload) -> 
     if out.room() < FRAGMENT_HEAD_LEN as usize + bytes.len() {
         return Err(Full);
     }
-    put_u8(out, DATA_FRAGMENT)?;
-    put_u16(out, (u16::from(index) << 14) + n)?;
-    put_bytes(out, bytes)?;
-    Ok(())
+    let [low, high] = ((u16::from(index) << 14) + n).to_le_bytes();
+    out.append(&[DATA_FRAGMENT, low, high])?;
+    out.append(bytes)
 }

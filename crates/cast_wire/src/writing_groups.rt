@@ -9,22 +9,16 @@ ghost use Rattle.wire_base.specs.Rows.{PartsFit, parts_bytes, packed, flag, bits
 use crate::cmd::Cmd;
 use crate::group_list::{GroupAddress, GroupList};
 use crate::ids::{
-    CLASS_B_SESSION, CLASS_C_SESSION, CLASS_SESSION_REQUEST_LEN, GROUP_DELETE, GROUP_LEN,
-    GROUP_SETUP, GROUP_SETUP_REQUEST_LEN, GROUP_STATUS, GROUPS_HEAD_LEN, ONE_BYTE_LEN,
-    START_ANSWER_LEN,
+    CLASS_B_SESSION, CLASS_C_SESSION, GROUP_DELETE, GROUP_LEN, GROUP_SETUP,
+    GROUP_SETUP_REQUEST_LEN, GROUP_STATUS, GROUPS_HEAD_LEN,
 };
-use wire_base::{Full, Payload, put_bytes, put_u8, put_u24, put_u32};
+use wire_base::{Full, Payload};
 
 pub fn put_group_status_request(mask: u8, out: &mut Payload) -> Result<(), Full>
     requires { IsValid (Cmd.McGroupStatusReq mask) }
     ensures { Appends out.old out.new (canonical (Cmd.McGroupStatusReq mask)) result }
 {
-    if out.room() < ONE_BYTE_LEN as usize {
-        return Err(Full);
-    }
-    put_u8(out, GROUP_STATUS)?;
-    put_u8(out, mask)?;
-    Ok(())
+    out.append(&[GROUP_STATUS, mask])
 }
 
 pub fn put_group_status_answer(
@@ -41,10 +35,8 @@ pub fn put_group_status_answer(
     if out.room() < GROUPS_HEAD_LEN as usize + GROUP_LEN as usize * groups.len() {
         return Err(Full);
     }
-    put_u8(out, GROUP_STATUS)?;
-    put_u8(out, (total << 4) + mask)?;
-    put_groups(groups, out)?;
-    Ok(())
+    out.append(&[GROUP_STATUS, (total << 4) + mask])?;
+    put_groups(groups, out)
 }
 
 fn put_groups(groups: &[GroupAddress], out: &mut Payload) -> Result<(), Full>
@@ -54,8 +46,8 @@ fn put_groups(groups: &[GroupAddress], out: &mut Payload) -> Result<(), Full>
     ensures { Appends out.old out.new (parts_bytes (group_parts groups.now)) result }
 {
     for group in groups {
-        put_u8(out, group.id)?;
-        put_u32(out, group.addr)?;
+        let [a, b, c, d] = group.addr.to_le_bytes();
+        out.append(&[group.id, a, b, c, d])?;
     }
     Ok(())
 }
@@ -74,49 +66,33 @@ pub fn put_group_setup_request(
     if out.room() < GROUP_SETUP_REQUEST_LEN as usize {
         return Err(Full);
     }
-    put_u8(out, GROUP_SETUP)?;
-    put_u8(out, id)?;
-    put_u32(out, addr)?;
-    put_bytes(out, &key)?;
-    put_u32(out, min)?;
-    put_u32(out, max)?;
-    Ok(())
+    let [a, b, c, d] = addr.to_le_bytes();
+    out.append(&[GROUP_SETUP, id, a, b, c, d])?;
+    out.append(&key)?;
+    let [a, b, c, d] = min.to_le_bytes();
+    let [e, f, g, h] = max.to_le_bytes();
+    out.append(&[a, b, c, d, e, f, g, h])
 }
 
 pub fn put_group_setup_answer(id: u8, error: bool, out: &mut Payload) -> Result<(), Full>
     requires { IsValid (Cmd.McGroupSetupAns id error) }
     ensures { Appends out.old out.new (canonical (Cmd.McGroupSetupAns id error)) result }
 {
-    if out.room() < ONE_BYTE_LEN as usize {
-        return Err(Full);
-    }
-    put_u8(out, GROUP_SETUP)?;
-    put_u8(out, (u8::from(error) << 2) + id)?;
-    Ok(())
+    out.append(&[GROUP_SETUP, (u8::from(error) << 2) + id])
 }
 
 pub fn put_group_delete_request(id: u8, out: &mut Payload) -> Result<(), Full>
     requires { IsValid (Cmd.McGroupDeleteReq id) }
     ensures { Appends out.old out.new (canonical (Cmd.McGroupDeleteReq id)) result }
 {
-    if out.room() < ONE_BYTE_LEN as usize {
-        return Err(Full);
-    }
-    put_u8(out, GROUP_DELETE)?;
-    put_u8(out, id)?;
-    Ok(())
+    out.append(&[GROUP_DELETE, id])
 }
 
 pub fn put_group_delete_answer(id: u8, undefined: bool, out: &mut Payload) -> Result<(), Full>
     requires { IsValid (Cmd.McGroupDeleteAns id undefined) }
     ensures { Appends out.old out.new (canonical (Cmd.McGroupDeleteAns id undefined)) result }
 {
-    if out.room() < ONE_BYTE_LEN as usize {
-        return Err(Full);
-    }
-    put_u8(out, GROUP_DELETE)?;
-    put_u8(out, (u8::from(undefined) << 2) + id)?;
-    Ok(())
+    out.append(&[GROUP_DELETE, (u8::from(undefined) << 2) + id])
 }
 
 pub fn put_class_c_request(
@@ -131,16 +107,9 @@ pub fn put_class_c_request(
     ensures { Appends out.old out.new
         (canonical (Cmd.McClassCSessionReq id time timeout freq dr)) result }
 {
-    if out.room() < CLASS_SESSION_REQUEST_LEN as usize {
-        return Err(Full);
-    }
-    put_u8(out, CLASS_C_SESSION)?;
-    put_u8(out, id)?;
-    put_u32(out, time)?;
-    put_u8(out, timeout)?;
-    put_u24(out, freq)?;
-    put_u8(out, dr)?;
-    Ok(())
+    let [a, b, c, d] = time.to_le_bytes();
+    let [e, f, g, _] = freq.to_le_bytes();
+    out.append(&[CLASS_C_SESSION, id, a, b, c, d, timeout, e, f, g, dr])
 }
 
 pub fn put_class_c_answer(
@@ -179,16 +148,10 @@ pub fn put_class_b_request(
     ensures { Appends out.old out.new
         (canonical (Cmd.McClassBSessionReq id time periodicity timeout freq dr)) result }
 {
-    if out.room() < CLASS_SESSION_REQUEST_LEN as usize {
-        return Err(Full);
-    }
-    put_u8(out, CLASS_B_SESSION)?;
-    put_u8(out, id)?;
-    put_u32(out, time)?;
-    put_u8(out, (periodicity << 4) + timeout)?;
-    put_u24(out, freq)?;
-    put_u8(out, dr)?;
-    Ok(())
+    let slots = (periodicity << 4) + timeout;
+    let [a, b, c, d] = time.to_le_bytes();
+    let [e, f, g, _] = freq.to_le_bytes();
+    out.append(&[CLASS_B_SESSION, id, a, b, c, d, slots, e, f, g, dr])
 }
 
 pub fn put_class_b_answer(
@@ -235,22 +198,10 @@ fn put_session_answer(
         + (u8::from(dr_error) << 2)
         + id;
     match start {
-        None => {
-            if out.room() < ONE_BYTE_LEN as usize {
-                return Err(Full);
-            }
-            put_u8(out, cid)?;
-            put_u8(out, status)?;
-            Ok(())
-        }
+        None => out.append(&[cid, status]),
         Some(start) => {
-            if out.room() < START_ANSWER_LEN as usize {
-                return Err(Full);
-            }
-            put_u8(out, cid)?;
-            put_u8(out, status)?;
-            put_u24(out, start)?;
-            Ok(())
+            let [a, b, c, _] = start.to_le_bytes();
+            out.append(&[cid, status, a, b, c])
         }
     }
 }

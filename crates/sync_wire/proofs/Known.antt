@@ -61,4 +61,10 @@ dev_delete_image_req_203_known cid is = record { command = DevDeleteImageReq 0; 
 pub dev_delete_image_ans_203_known : (cid : ℕ) → 0x05 ≡ cid → IsKnown 203 Up cid
 dev_delete_image_ans_203_known cid is = record { command = DevDeleteImageAns 0; listed = record { port_is = refl; direction_is = refl }; cid_is = is }
 
-pub ruleset known = (package_version_req_202_known, package_version_req_203_known, package_version_ans_202_known, package_version_ans_203_known, app_time_req_202_known, app_time_ans_202_known, device_app_time_periodicity_req_202_known, device_app_time_periodicity_ans_202_known, force_device_resync_req_202_known, dev_version_req_203_known, dev_version_ans_203_known, dev_reboot_time_req_203_known, dev_reboot_time_ans_203_known, dev_reboot_countdown_req_203_known, dev_reboot_countdown_ans_203_known, dev_upgrade_image_req_203_known, dev_upgrade_image_ans_203_known, dev_delete_image_req_203_known, dev_delete_image_ans_203_known)
+pub ruleset clock_down_known = (package_version_req_202_known, app_time_ans_202_known, device_app_time_periodicity_req_202_known, force_device_resync_req_202_known)
+
+pub ruleset clock_up_known = (package_version_ans_202_known, app_time_req_202_known, device_app_time_periodicity_ans_202_known)
+
+pub ruleset firmware_down_known = (package_version_req_203_known, dev_version_req_203_known, dev_reboot_time_req_203_known, dev_reboot_countdown_req_203_known, dev_upgrade_image_req_203_known, dev_delete_image_req_203_known)
+
+pub ruleset firmware_up_known = (package_version_ans_203_known, dev_version_ans_203_known, dev_reboot_time_ans_203_known, dev_reboot_countdown_ans_203_known, dev_upgrade_image_ans_203_known, dev_delete_image_ans_203_known)

@@ -3,7 +3,7 @@
 ghost use Rattle.std.specs.Prelude.{◌≡◌, ℕ, ◌+◌, ◌<◌, ◌≤◌, length, IfOk, IfErr, Ok};
 ghost use Rattle.std.specs.Result.{result_ok};
 ghost use Rattle.wire_base.specs.Payload.{max_payload};
-ghost use Rattle.sync_wire.specs.Table.{Spells, IsValid, IsRefusal};
+ghost use Rattle.sync_wire.specs.Table.{Spells, IsRefusal};
 ghost use Rattle.sync_wire.specs.Reading.{clock_down, clock_up};
 
 use crate::cmd::Cmd;
@@ -14,14 +14,12 @@ use crate::ids::{
 use wire_base::{Direction, Refusal, u8_at, u32_at};
 
 #[inline(always)]
-#[tactic(auto, using(crate::proofs::Known::known), unfolding(crate::specs::Reading::clock_down))]
+#[tactic(auto, using(crate::proofs::Known::clock_down_known), unfolding(crate::specs::Reading::clock_down))]
 pub fn read_clock_down(bytes: &[u8], at: u16) -> Result<(Cmd, u16), Refusal>
     requires inside { at < length bytes.now }
     requires fits { length bytes.now ≤ max_payload }
     ensures found { IfOk result (λ r. Spells r.0 202 Direction.Down bytes.now at r.1) }
     ensures exact { result_ok result ≡ clock_down bytes.now at }
-    ensures valid { IfOk result (λ r. IsValid r.0) }
-    ensures moves { IfOk result (λ r. at < r.1) }
     ensures stops { IfErr result (IsRefusal 202 Direction.Down bytes.now at) }
 {
     let end = bytes.len() as u16;
@@ -59,14 +57,12 @@ pub fn read_clock_down(bytes: &[u8], at: u16) -> Result<(Cmd, u16), Refusal>
 }
 
 #[inline(always)]
-#[tactic(auto, using(crate::proofs::Known::known), unfolding(crate::specs::Reading::clock_up))]
+#[tactic(auto, using(crate::proofs::Known::clock_up_known), unfolding(crate::specs::Reading::clock_up))]
 pub fn read_clock_up(bytes: &[u8], at: u16) -> Result<(Cmd, u16), Refusal>
     requires inside { at < length bytes.now }
     requires fits { length bytes.now ≤ max_payload }
     ensures found { IfOk result (λ r. Spells r.0 202 Direction.Up bytes.now at r.1) }
     ensures exact { result_ok result ≡ clock_up bytes.now at }
-    ensures valid { IfOk result (λ r. IsValid r.0) }
-    ensures moves { IfOk result (λ r. at < r.1) }
     ensures stops { IfErr result (IsRefusal 202 Direction.Up bytes.now at) }
 {
     let end = bytes.len() as u16;

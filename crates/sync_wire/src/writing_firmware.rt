@@ -5,93 +5,62 @@ ghost use Rattle.sync_wire.specs.Table.{IsValid, canonical};
 ghost use Rattle.wire_base.specs.Payload.{Appends};
 
 use crate::cmd::Cmd;
-use crate::ids::{
-    DELETE_IMAGE, DEV_VERSION, DEV_VERSION_ANSWER_LEN, FOUR_BYTES_LEN, NEXT_ANSWER_LEN,
-    NO_BODY_LEN, ONE_BYTE_LEN, REBOOT_COUNTDOWN, REBOOT_TIME, THREE_BYTES_LEN, UPGRADE_IMAGE,
-};
-use wire_base::{Full, Payload, put_u8, put_u24, put_u32};
+use crate::ids::{DELETE_IMAGE, DEV_VERSION, REBOOT_COUNTDOWN, REBOOT_TIME, UPGRADE_IMAGE};
+use wire_base::{Full, Payload};
 
 pub fn put_dev_version_request(out: &mut Payload) -> Result<(), Full>
     requires { IsValid (Cmd.DevVersionReq) }
     ensures { Appends out.old out.new (canonical (Cmd.DevVersionReq)) result }
 {
-    if out.room() < NO_BODY_LEN as usize {
-        return Err(Full);
-    }
-    put_u8(out, DEV_VERSION)?;
-    Ok(())
+    out.append(&[DEV_VERSION])
 }
 
 pub fn put_dev_version_answer(firmware: u32, hardware: u32, out: &mut Payload) -> Result<(), Full>
     requires { IsValid (Cmd.DevVersionAns firmware hardware) }
     ensures { Appends out.old out.new (canonical (Cmd.DevVersionAns firmware hardware)) result }
 {
-    if out.room() < DEV_VERSION_ANSWER_LEN as usize {
-        return Err(Full);
-    }
-    put_u8(out, DEV_VERSION)?;
-    put_u32(out, firmware)?;
-    put_u32(out, hardware)?;
-    Ok(())
+    let [a, b, c, d] = firmware.to_le_bytes();
+    let [e, f, g, h] = hardware.to_le_bytes();
+    out.append(&[DEV_VERSION, a, b, c, d, e, f, g, h])
 }
 
 pub fn put_reboot_time_request(time: u32, out: &mut Payload) -> Result<(), Full>
     requires { IsValid (Cmd.DevRebootTimeReq time) }
     ensures { Appends out.old out.new (canonical (Cmd.DevRebootTimeReq time)) result }
 {
-    if out.room() < FOUR_BYTES_LEN as usize {
-        return Err(Full);
-    }
-    put_u8(out, REBOOT_TIME)?;
-    put_u32(out, time)?;
-    Ok(())
+    let [a, b, c, d] = time.to_le_bytes();
+    out.append(&[REBOOT_TIME, a, b, c, d])
 }
 
 pub fn put_reboot_time_answer(time: u32, out: &mut Payload) -> Result<(), Full>
     requires { IsValid (Cmd.DevRebootTimeAns time) }
     ensures { Appends out.old out.new (canonical (Cmd.DevRebootTimeAns time)) result }
 {
-    if out.room() < FOUR_BYTES_LEN as usize {
-        return Err(Full);
-    }
-    put_u8(out, REBOOT_TIME)?;
-    put_u32(out, time)?;
-    Ok(())
+    let [a, b, c, d] = time.to_le_bytes();
+    out.append(&[REBOOT_TIME, a, b, c, d])
 }
 
 pub fn put_countdown_request(count: u32, out: &mut Payload) -> Result<(), Full>
     requires { IsValid (Cmd.DevRebootCountdownReq count) }
     ensures { Appends out.old out.new (canonical (Cmd.DevRebootCountdownReq count)) result }
 {
-    if out.room() < THREE_BYTES_LEN as usize {
-        return Err(Full);
-    }
-    put_u8(out, REBOOT_COUNTDOWN)?;
-    put_u24(out, count)?;
-    Ok(())
+    let [a, b, c, _] = count.to_le_bytes();
+    out.append(&[REBOOT_COUNTDOWN, a, b, c])
 }
 
 pub fn put_countdown_answer(count: u32, out: &mut Payload) -> Result<(), Full>
     requires { IsValid (Cmd.DevRebootCountdownAns count) }
     ensures { Appends out.old out.new (canonical (Cmd.DevRebootCountdownAns count)) result }
 {
-    if out.room() < THREE_BYTES_LEN as usize {
-        return Err(Full);
-    }
-    put_u8(out, REBOOT_COUNTDOWN)?;
-    put_u24(out, count)?;
-    Ok(())
+    let [a, b, c, _] = count.to_le_bytes();
+    out.append(&[REBOOT_COUNTDOWN, a, b, c])
 }
 
 pub fn put_upgrade_request(out: &mut Payload) -> Result<(), Full>
     requires { IsValid (Cmd.DevUpgradeImageReq) }
     ensures { Appends out.old out.new (canonical (Cmd.DevUpgradeImageReq)) result }
 {
-    if out.room() < NO_BODY_LEN as usize {
-        return Err(Full);
-    }
-    put_u8(out, UPGRADE_IMAGE)?;
-    Ok(())
+    out.append(&[UPGRADE_IMAGE])
 }
 
 pub fn put_upgrade_answer(status: u8, next: Option<u32>, out: &mut Payload) -> Result<(), Full>
@@ -99,22 +68,10 @@ pub fn put_upgrade_answer(status: u8, next: Option<u32>, out: &mut Payload) -> R
     ensures { Appends out.old out.new (canonical (Cmd.DevUpgradeImageAns status next)) result }
 {
     match next {
-        None => {
-            if out.room() < ONE_BYTE_LEN as usize {
-                return Err(Full);
-            }
-            put_u8(out, UPGRADE_IMAGE)?;
-            put_u8(out, status)?;
-            Ok(())
-        }
+        None => out.append(&[UPGRADE_IMAGE, status]),
         Some(version) => {
-            if out.room() < NEXT_ANSWER_LEN as usize {
-                return Err(Full);
-            }
-            put_u8(out, UPGRADE_IMAGE)?;
-            put_u8(out, status)?;
-            put_u32(out, version)?;
-            Ok(())
+            let [a, b, c, d] = version.to_le_bytes();
+            out.append(&[UPGRADE_IMAGE, status, a, b, c, d])
         }
     }
 }
@@ -123,22 +80,13 @@ pub fn put_delete_request(version: u32, out: &mut Payload) -> Result<(), Full>
     requires { IsValid (Cmd.DevDeleteImageReq version) }
     ensures { Appends out.old out.new (canonical (Cmd.DevDeleteImageReq version)) result }
 {
-    if out.room() < FOUR_BYTES_LEN as usize {
-        return Err(Full);
-    }
-    put_u8(out, DELETE_IMAGE)?;
-    put_u32(out, version)?;
-    Ok(())
+    let [a, b, c, d] = version.to_le_bytes();
+    out.append(&[DELETE_IMAGE, a, b, c, d])
 }
 
 pub fn put_delete_answer(errors: u8, out: &mut Payload) -> Result<(), Full>
     requires { IsValid (Cmd.DevDeleteImageAns errors) }
     ensures { Appends out.old out.new (canonical (Cmd.DevDeleteImageAns errors)) result }
 {
-    if out.room() < ONE_BYTE_LEN as usize {
-        return Err(Full);
-    }
-    put_u8(out, DELETE_IMAGE)?;
-    put_u8(out, errors)?;
-    Ok(())
+    out.append(&[DELETE_IMAGE, errors])
 }

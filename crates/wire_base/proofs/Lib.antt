@@ -3,3 +3,4 @@ pub mod Putting
 pub mod RowLaws
 pub mod Decided
 pub mod WorkedNumbers
+pub mod Spelled

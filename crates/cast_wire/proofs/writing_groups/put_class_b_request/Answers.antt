@@ -1,8 +1,6 @@
-use Rattle.wire_base.proofs.Putting.{then, puts_same}
+use Rattle.wire_base.proofs.Putting.{puts_same}
 use Rattle.cast_wire.proofs.Writes.{class_b_request_spelled}
 use Rattle.cast_wire.proofs.writing_groups.put_class_b_request.Goals as goal
 
 pub returns : goal.returns
-returns c =
-    let head = then (then c.in_ok-put_u8.ensures c.in_ok-put_u8-2.ensures) c.in_ok-put_u32.ensures in
-    puts_same (class_b_request_spelled c.requires) (then (then (then head c.in_ok-put_u8-3.ensures) c.in_ok-put_u24.ensures) c.in_ok-put_u8-4.ensures)
+returns c = puts_same (class_b_request_spelled c.to_le_bytes.ensures c.to_le_bytes-2.ensures c.requires) c.append.ensures

@@ -7,9 +7,10 @@ pub loop-group-init : goal.loop-group-init
 loop-group-init c = no_groups_put c.args.out.now c.args.groups.now c.requires.room
 
 pub loop-group-preserved : goal.loop-group-preserved
-loop-group-preserved c = group_put c.args.groups.now c.loop-group.group-index _ c.loop-group-test.true c.loop-group.invariant c.in_ok-put_u8.ensures c.in_ok-put_u32.ensures
+loop-group-preserved c =
+    group_put c.args.groups.now c.loop-group.group-index _ c.loop-group-test.true c.requires.fit c.to_le_bytes.ensures c.loop-group.invariant c.in_ok-append.ensures
 
-pub returns-in_err-put_u8 : goal.returns-in_err-put_u8
-returns-in_err-put_u8 c =
+pub returns-in_err-append : goal.returns-in_err-append
+returns-in_err-append c =
     let room = group_room c.args.groups.now c.loop-group.group-index c.loop-group-test.true c.requires.room c.loop-group.invariant in
-    absurd (false≢true (c.in_err-put_u8.ensures.room.1 (omega (arith, room))))
+    absurd (false≢true (c.in_err-append.ensures.room.1 (omega (arith, room))))
