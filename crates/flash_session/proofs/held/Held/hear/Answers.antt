@@ -1,6 +1,5 @@
 use Rattle.std.proofs.Common.{inl, inr, refl, ap, ◌∙◌, arith, rules}
 use Rattle.frag_session.specs.declared.answers.Heard.TheVariants as answer
-use Rattle.frag_session.specs.declared.answers.News.TheVariants as told
 use Rattle.frag_session.specs.Session.{after_fragment}
 use Rattle.flash_session.proofs.Hearing.{told_as, fed_dropped, new_old, slot_answer, has_room, counts_new, counts_old, counts_dropped, stands_new, stands_old, stands_full, stands_dropped, new_moments, new_kept, old_moments, old_kept, full_kept, dropped_kept, no_call}
 use Rattle.flash_session.proofs.Headers.{kept_within}
