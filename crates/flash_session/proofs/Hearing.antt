@@ -26,10 +26,20 @@ use Rattle.flash_session.specs.HeldSession.{HeldSession}
 use Rattle.flash_session.specs.Sessions.{stored_of, IsCount, IsOpenable, LiesFor, LiesForAs, hearing, StandsBut, HeldStands, HeldStandsAs, CountsAs, IsHeldAs}
 use Rattle.flash_session.proofs.Openable.{openable_room, openable_same, numbered_in, cause_unicast, lies_for}
 
+-- a slot gives one answer
+pub fed_dropped : (P : Type 0) (heard : Heard) (t : News) (d : Cause) → heard ≡ answer.Fed t → heard ≡ answer.Dropped d → P
+fed_dropped P heard t d fed dropped = let no : ⊥ = cc in absurd no
+
+pub new_old : (P : Type 0) (heard : Heard) → heard ≡ answer.Fed told.New → heard ≡ answer.Fed told.Old → P
+new_old P heard new old = let no : ⊥ = cc in absurd no
+
 module _ (way : Via) (n : ℕ) (part : List ℕ) (mark : ℕ) where
   -- the answer of the slot, on each history that it stands for
   abbrev pub Answers : HeldSlot → Heard → Type 0
   Answers x heard = (o : Option Session) → Stands x o → heard ≡ answer_of (drop_cause o way n part) (news_in o n part mark)
+
+  pub told_as : (x : HeldSlot) (was is : Heard) → was ≡ is → Answers x was → Answers x is
+  told_as x was is e answers = λ o k. sym e ∙ answers o k
 
   -- it is that of the session
   pub slot_answer : (h : HeldSession) (o : Option Session) (heard : Heard) → HeldStandsAs h o → Answers h.slot heard

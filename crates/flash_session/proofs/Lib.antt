@@ -4,6 +4,7 @@ pub mod Found
 pub mod Fronts
 pub mod Headers
 pub mod Hearing
+pub mod InMemory
 pub mod Knowing
 pub mod Moments
 pub mod Okay

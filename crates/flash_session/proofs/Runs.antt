@@ -1,6 +1,6 @@
 -- How runs of calls go on, one behind the other.
 use Rattle.std.proofs.Common.{ℕ, ◌+◌, ◌≤◌, List, inl, inr, refl, ◌∙◌, arith}
-use Rattle.flash_session.specs.Contents.{SameOutside}
+use Rattle.flash_session.specs.Contents.{SameOutside, Follows}
 use Rattle.flash_session.specs.Moments.{Elapses}
 
 -- nothing was called
@@ -54,3 +54,11 @@ pub both_in_range : (at n : ℕ) (m o p : ℕ) (past mid since : ℕ → List �
     → Elapses (SameOutside at n) m o past mid → Elapses (SameOutside at n) o p mid since → Elapses (SameOutside at n) m p past since
 both_in_range at n m o p past mid since =
     one_more (SameOutside at n) (SameOutside at n) (SameOutside at n) m o p past mid since (λ c d same. same) (λ c d e. outside_joined at n c d e)
+
+pub both_outside : (at n : ℕ) (a b c : List ℕ → Type 0) → Follows (SameOutside at n) a b → Follows (SameOutside at n) b c → Follows (SameOutside at n) a c
+both_outside at n a b c one two = record {
+  from = λ z now.
+      let y = two.from z now in
+      let x = one.from y.0 y.1 in
+      (x.0, x.1, outside_joined at n x.0 y.0 z x.2 y.2);
+}

@@ -195,19 +195,16 @@ impl<F: Flash + Drop> SessionStore<F> {
                 let whole = whole_now(&slots);
                 match slots.setup(&mut self.flash, req) {
                     Ok((slots, bits)) => {
-                        self.state = Some(State::Flash(slots));
+                        put(&mut self.state, State::Flash(slots));
                         Ok(bits)
                     }
                     Err(idles) => {
-                        self.state = Some(State::Down(idles, whole));
+                        put(&mut self.state, State::Down(idles, whole));
                         Err(FlashFault)
                     }
                 }
             }
-            other => {
-                self.state = other;
-                Err(FlashFault)
-            }
+            _ => unreachable!(),
         }
     }
 
@@ -268,19 +265,16 @@ impl<F: Flash + Drop> SessionStore<F> {
                 let whole = whole_now(&slots);
                 match slots.fragment(&mut self.flash, index, via, n, part, mark) {
                     Ok((slots, heard)) => {
-                        self.state = Some(State::Flash(slots));
+                        put(&mut self.state, State::Flash(slots));
                         Ok(heard)
                     }
                     Err(idles) => {
-                        self.state = Some(State::Down(idles, whole));
+                        put(&mut self.state, State::Down(idles, whole));
                         Err(FlashFault)
                     }
                 }
             }
-            other => {
-                self.state = other;
-                Err(FlashFault)
-            }
+            _ => unreachable!(),
         }
     }
 
@@ -327,19 +321,16 @@ impl<F: Flash + Drop> SessionStore<F> {
                 let whole = whole_now(&slots);
                 match slots.delete(&mut self.flash, index) {
                     Ok((slots, lived)) => {
-                        self.state = Some(State::Flash(slots));
+                        put(&mut self.state, State::Flash(slots));
                         Ok(lived)
                     }
                     Err(idles) => {
-                        self.state = Some(State::Down(idles, whole));
+                        put(&mut self.state, State::Down(idles, whole));
                         Err(FlashFault)
                     }
                 }
             }
-            other => {
-                self.state = other;
-                Err(FlashFault)
-            }
+            _ => unreachable!(),
         }
     }
 
@@ -415,11 +406,11 @@ impl<F: Flash + Drop> SessionStore<F> {
                 let (idles, whole) = put_down(state, &self.flash, self.layout);
                 match HeldSlots::open(&mut self.flash, idles, self.layout) {
                     Ok(slots) => {
-                        self.state = Some(State::Flash(slots));
+                        put(&mut self.state, State::Flash(slots));
                         Ok(whole)
                     }
                     Err((idles, fault)) => {
-                        self.state = Some(State::Down(idles, whole));
+                        put(&mut self.state, State::Down(idles, whole));
                         Err(fault)
                     }
                 }
@@ -427,6 +418,13 @@ impl<F: Flash + Drop> SessionStore<F> {
             None => Err(OpenFault::Flash),
         }
     }
+}
+
+/// Puts sessions back where they were taken from.
+fn put(place: &mut Option<State>, state: State)
+    ensures { place.new ≡ Some state }
+{
+    *place = Some(state);
 }
 
 /// The memory of sessions that are held in flash, and which had their file whole.

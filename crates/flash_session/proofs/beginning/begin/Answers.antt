@@ -1,5 +1,5 @@
 use Rattle.std.proofs.Common.{◌⊎◌, inl, inr}
-use Rattle.flash_session.proofs.Runs.{both_in_range}
+use Rattle.flash_session.proofs.Runs.{both_in_range, both_outside}
 use Rattle.flash_session.specs.Lies.{LiesAs, NoSession, Lies, IsOldNoneOrNew, new_stored}
 use Rattle.flash_session.proofs.Moments.{joined}
 use Rattle.flash_session.proofs.beginning.begin.Goals as goal
@@ -10,6 +10,12 @@ returns-in_err-clear-clause-stops g c = both_in_range c.args.base c.args.span _ 
 pub returns-clause-stops : goal.returns-clause-stops
 returns-clause-stops g c =
     both_in_range c.args.base c.args.span _ _ _ _ _ _ (both_in_range c.args.base c.args.span _ _ _ _ _ _ c.close_if.ensures.stops c.clear.ensures.stops) c.open.ensures.stops
+
+pub returns-in_err-clear-clause-held : goal.returns-in_err-clear-clause-held
+returns-in_err-clear-clause-held g c = both_outside c.args.base c.args.span _ _ _ c.close_if.ensures.held c.clear.ensures.held
+
+pub returns-clause-held : goal.returns-clause-held
+returns-clause-held g c = both_outside c.args.base c.args.span _ _ _ c.close_if.ensures.held (both_outside c.args.base c.args.span _ _ _ c.clear.ensures.held c.open.ensures.held)
 
 -- what was there or no session, then no session, then no session or the new one
 pub returns-clause-any_moment : goal.returns-clause-any_moment

@@ -21,3 +21,6 @@ returns-in-Ok-find_behind-clause-held g c = still_joined c.read_byte.ensures.hel
 
 pub returns-in-Ok-find_behind-clause-stops : goal.returns-in-Ok-find_behind-clause-stops
 returns-in-Ok-find_behind-clause-stops g c = elapsed c.read_byte.ensures.stops c.find_behind.ensures.stops
+
+pub returns-in-Err-find_behind-clause-stops : goal.returns-in-Err-find_behind-clause-stops
+returns-in-Err-find_behind-clause-stops g c = elapsed c.read_byte.ensures.stops c.find_behind.ensures.stops

@@ -16,3 +16,9 @@ loop-k-preserved g c = record {
   size = c.read_byte.ensures.size ∙ c.loop-k.invariant.size;
   later = omega (arith, c.loop-k.invariant.later, c.read_byte.ensures.cause.later);
 }
+
+pub returns-in_err-read_byte-clause-stops : goal.returns-in_err-read_byte-clause-stops
+returns-in_err-read_byte-clause-stops g c = elapsed c.loop-k.invariant.stops c.read_byte.ensures.stops
+
+pub returns-then-branch-clause-stops : goal.returns-then-branch-clause-stops
+returns-then-branch-clause-stops g c = elapsed c.loop-k.invariant.stops c.read_byte.ensures.stops

@@ -30,3 +30,9 @@ loop-k-preserved g c = record {
   size = c.replay_one.ensures.size ∙ c.loop-k.invariant.size;
   later = omega (arith, c.loop-k.invariant.later, c.replay_one.ensures.cause.later);
 }
+
+pub returns-in_err-replay_one-clause-stops : goal.returns-in_err-replay_one-clause-stops
+returns-in_err-replay_one-clause-stops g c = elapsed c.loop-k.invariant.stops c.replay_one.ensures.stops
+
+pub returns-then-not-branch-clause-stops : goal.returns-then-not-branch-clause-stops
+returns-then-not-branch-clause-stops g c = elapsed c.loop-k.invariant.stops c.replay_one.ensures.stops
