@@ -1,5 +1,5 @@
 -- What is foreign stays so where nothing was written.
-use Rattle.std.proofs.Common.{◌≡◌, ℕ, ◌+◌, ◌*◌, ◌≤◌, arith, List, [], ◌∷◌, length, refl, sym, subst, ◌∙◌}
+use Rattle.std.proofs.Common.{◌≡◌, ℕ, ◌+◌, ◌*◌, List, [], ◌∷◌, length, refl, sym, subst, ◌∙◌}
 use Rattle.std.specs.Prelude.{◌≢◌}
 use Rattle.frag_model.specs.Fragments.{Fragment}
 use Rattle.frag_session.specs.declared.setups.SetupReq.{SetupReq}
@@ -7,7 +7,7 @@ use Rattle.frag_session.specs.Session.{Session, new_session}
 use Rattle.frag_session.specs.Setup.{setup_bits}
 use Rattle.row_elimination.specs.Room.{Extent, extent_for}
 use Rattle.flash_session.specs.Body.{setup_at}
-use Rattle.flash_session.specs.Contents.{Same, Follows, HasRisen}
+use Rattle.flash_session.specs.Contents.{Same, Follows}
 use Rattle.flash_session.specs.HeldSession.{HeldSession, room_in}
 use Rattle.flash_session.specs.Layout.{body_at, gates_at, tallies_at, most_tallies, spelled}
 use Rattle.flash_session.specs.Lies.{RecordsLie, record_at}
@@ -100,7 +100,3 @@ pub first_foreign : (l : Layout) (base : ℕ) (z : Extent) (b : List ℕ) (place
     → IsFirstForeign (place_in row_words row_bytes base l.span l.limits z) b place → IsFirstForeign (place_at l base) b place
 first_foreign l base z b place is first =
     subst (λ (y : Extent). IsFirstForeign (place_in row_words row_bytes base l.span l.limits y) b place) is first
-
--- a count that rose in a later call has risen
-pub risen_later : (a b c : ℕ) → a ≤ b → HasRisen b c → HasRisen a c
-risen_later a b c le risen = omega (arith, le, risen)

@@ -1,7 +1,7 @@
-use Rattle.std.proofs.Common.{◌*◌, ◌∙◌}
+use Rattle.std.proofs.Common.{◌*◌}
 use Rattle.flash_session.proofs.Still.{same_joined, elapsed}
 use Rattle.session_store.specs.HeldForeign as foreign
-use Rattle.session_store.proofs.ForeignSteps.{none_still, none_last, first_foreign, risen_later}
+use Rattle.session_store.proofs.ForeignSteps.{none_still, none_last, first_foreign}
 use Rattle.session_store.proofs.PlaceSteps.{opened_place, opened_for_last}
 use Rattle.session_store.proofs.held_slots.HeldSlots.open.Goals as goal
 
@@ -69,25 +69,3 @@ returns-in-Err-open-2-clause-foreign g c = λ p is b now.
 pub returns-in-Err-open-3-clause-foreign : goal.returns-in-Err-open-3-clause-foreign
 returns-in-Err-open-3-clause-foreign g c = λ p is b now.
     foreign.fourth (none_still c.args.layout 0 c.args.idles.first _ _ c.requires.idle.first c.in-Ok.ensures.nothing_foreign (same_joined _ _ _ c.open-2.ensures.held (same_joined _ _ _ c.open-3.ensures.held c.open-4.ensures.held)) b now) (none_still c.args.layout c.args.layout.span c.args.idles.second _ _ c.requires.idle.second c.in-Ok-open.ensures.nothing_foreign (same_joined _ _ _ c.open-3.ensures.held c.open-4.ensures.held) b now) (none_still c.args.layout (2 * c.args.layout.span) c.args.idles.third _ _ c.requires.idle.third c.in-Ok-open-2.ensures.nothing_foreign c.open-4.ensures.held b now) (first_foreign c.args.layout (3 * c.args.layout.span) c.args.idles.fourth b p c.requires.idle.fourth (c.in-Err-open-3.ensures.foreign p is b now))
-
--- the flash failed
-pub returns-in-Err-open-clause-fault : goal.returns-in-Err-open-clause-fault
-returns-in-Err-open-clause-fault g c = λ is. risen_later _ _ _ c.open.ensures.later (c.in-Err-open.ensures.fault is)
-
-pub returns-in-Err-open-2-clause-fault : goal.returns-in-Err-open-2-clause-fault
-returns-in-Err-open-2-clause-fault g c = λ is. risen_later _ _ _ c.open.ensures.later (risen_later _ _ _ c.open-2.ensures.later (c.in-Err-open-2.ensures.fault is))
-
-pub returns-in-Err-open-3-clause-fault : goal.returns-in-Err-open-3-clause-fault
-returns-in-Err-open-3-clause-fault g c = λ is. risen_later _ _ _ c.open.ensures.later (risen_later _ _ _ c.open-2.ensures.later (risen_later _ _ _ c.open-3.ensures.later (c.in-Err-open-3.ensures.fault is)))
-
-pub returns-in-Err-open-clause-size : goal.returns-in-Err-open-clause-size
-returns-in-Err-open-clause-size g c = c.open-2.ensures.size ∙ c.open.ensures.size
-
-pub returns-in-Err-open-2-clause-size : goal.returns-in-Err-open-2-clause-size
-returns-in-Err-open-2-clause-size g c = c.open-3.ensures.size ∙ c.open-2.ensures.size ∙ c.open.ensures.size
-
-pub returns-in-Ok-open-3-clause-size : goal.returns-in-Ok-open-3-clause-size
-returns-in-Ok-open-3-clause-size g c = c.open-4.ensures.size ∙ c.open-3.ensures.size ∙ c.open-2.ensures.size ∙ c.open.ensures.size
-
-pub returns-in-Err-open-3-clause-size : goal.returns-in-Err-open-3-clause-size
-returns-in-Err-open-3-clause-size g c = c.open-4.ensures.size ∙ c.open-3.ensures.size ∙ c.open-2.ensures.size ∙ c.open.ensures.size
