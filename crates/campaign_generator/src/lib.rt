@@ -17,6 +17,3 @@ mod script;
 
 pub use generated::{Generated, generate};
 pub use laws::{image_files, lines_are_forms, worked_seed};
-
-#[cfg(test)]
-mod tests;

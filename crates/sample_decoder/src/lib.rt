@@ -51,6 +51,3 @@ fn lines(alloc: Global, mut message: Message<'_>) -> Result<Vec<u8>, AllocError>
     Ok(text)
 }
 // end of sample
-
-#[cfg(test)]
-mod tests;

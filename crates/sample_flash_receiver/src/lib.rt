@@ -160,6 +160,3 @@ pub fn file(receiver: &Receiver) -> Option<&[u8]>
     }
 }
 // end of sample
-
-#[cfg(test)]
-mod tests;

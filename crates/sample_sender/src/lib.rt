@@ -72,6 +72,3 @@ pub fn fragment(encoder: &Encoder, n: u16) -> Option<Payload>
     }
 }
 // end of sample
-
-#[cfg(test)]
-mod tests;

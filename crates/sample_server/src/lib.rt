@@ -100,6 +100,3 @@ pub fn is_updated(server: &Server, device: u8) -> bool
     server.ledger(device) == Stage::Updated
 }
 // end of sample
-
-#[cfg(test)]
-mod tests;

@@ -195,11 +195,11 @@ impl<F: Flash + Drop> SessionStore<F> {
                 let whole = whole_now(&slots);
                 match slots.setup(&mut self.flash, req) {
                     Ok((slots, bits)) => {
-                        put(&mut self.state, State::Flash(slots));
+                        put_slots(&mut self.state, slots);
                         Ok(bits)
                     }
                     Err(idles) => {
-                        put(&mut self.state, State::Down(idles, whole));
+                        put_idles(&mut self.state, idles, whole);
                         Err(FlashFault)
                     }
                 }
@@ -265,11 +265,11 @@ impl<F: Flash + Drop> SessionStore<F> {
                 let whole = whole_now(&slots);
                 match slots.fragment(&mut self.flash, index, via, n, part, mark) {
                     Ok((slots, heard)) => {
-                        put(&mut self.state, State::Flash(slots));
+                        put_slots(&mut self.state, slots);
                         Ok(heard)
                     }
                     Err(idles) => {
-                        put(&mut self.state, State::Down(idles, whole));
+                        put_idles(&mut self.state, idles, whole);
                         Err(FlashFault)
                     }
                 }
@@ -321,11 +321,11 @@ impl<F: Flash + Drop> SessionStore<F> {
                 let whole = whole_now(&slots);
                 match slots.delete(&mut self.flash, index) {
                     Ok((slots, lived)) => {
-                        put(&mut self.state, State::Flash(slots));
+                        put_slots(&mut self.state, slots);
                         Ok(lived)
                     }
                     Err(idles) => {
-                        put(&mut self.state, State::Down(idles, whole));
+                        put_idles(&mut self.state, idles, whole);
                         Err(FlashFault)
                     }
                 }
@@ -406,11 +406,11 @@ impl<F: Flash + Drop> SessionStore<F> {
                 let (idles, whole) = put_down(state, &self.flash, self.layout);
                 match HeldSlots::open(&mut self.flash, idles, self.layout) {
                     Ok(slots) => {
-                        put(&mut self.state, State::Flash(slots));
+                        put_slots(&mut self.state, slots);
                         Ok(whole)
                     }
                     Err((idles, fault)) => {
-                        put(&mut self.state, State::Down(idles, whole));
+                        put_idles(&mut self.state, idles, whole);
                         Err(fault)
                     }
                 }
@@ -420,11 +420,21 @@ impl<F: Flash + Drop> SessionStore<F> {
     }
 }
 
-/// Puts sessions back where they were taken from.
-fn put(place: &mut Option<State>, state: State)
-    ensures { place.new ≡ Some state }
+/// Puts sessions that are held back where they were taken from. It stands alone, so that no session in memory clears room
+/// for those.
+#[inline(never)]
+fn put_slots(place: &mut Option<State>, slots: HeldSlots)
+    ensures { place.new ≡ Some (State.Flash slots) }
 {
-    *place = Some(state);
+    *place = Some(State::Flash(slots));
+}
+
+/// Puts sessions down where they were taken from.
+#[inline(never)]
+fn put_idles(place: &mut Option<State>, idles: Idles, whole: Whole)
+    ensures { place.new ≡ Some (Down idles whole) }
+{
+    *place = Some(State::Down(idles, whole));
 }
 
 /// The memory of sessions that are held in flash, and which had their file whole.

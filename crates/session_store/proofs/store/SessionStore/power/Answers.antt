@@ -9,7 +9,7 @@ pub open-requires-clause-idle : goal.open-requires-clause-idle
 open-requires-clause-idle g c = c.put_down-idles.ensures.idle
 
 pub returns-in-Ok-clause-opened : goal.returns-in-Ok-clause-opened
-returns-in-Ok-clause-opened g c = rw (← c.self.view_is, c.put.ensures) (λ table b now lies.
+returns-in-Ok-clause-opened g c = rw (← c.self.view_is, c.put_slots.ensures) (λ table b now lies.
     let held = c.in-Ok.ensures.opened table b now lies in
     (held_stands c.in-Ok.slots table _ _ held, held))
 

@@ -1,9 +1,10 @@
 //! A campaign of one device, up to its window, and the fragments to its group.
 
-use super::*;
+use campaign_server::{PlanDevice, PlanGroup};
 use image_slots::is_image;
 use mc_keys::RootKind;
 use package_grammar::To;
+use sample_server::{came, campaign, is_updated, queue_of, queue_of_group};
 use std::process::Abort;
 use std::test::*;
 

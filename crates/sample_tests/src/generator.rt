@@ -1,4 +1,6 @@
-use crate::generate;
+//! Images and scripts of seeds, by what another program made of them.
+
+use campaign_generator::generate;
 use sha2::{Digest, Sha256};
 
 /// What another program made of a seed.

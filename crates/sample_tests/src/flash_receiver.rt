@@ -5,7 +5,9 @@ ghost use Rattle.wire_base.specs.Payload.{max_payload};
 ghost use Rattle.sample_receiver.specs.HeldReceiver.{extent};
 ghost use Rattle.sample_flash_receiver.specs.HeldReceiver.{IsReceiver};
 
-use super::*;
+use frag_session::SetupReq;
+use sample_flash_receiver::{Arena, Driver, Part, Receiver, SPAN, arena, file, hear, set_up, start};
+use std::alloc::Global;
 use std::process::Abort;
 use std::test::*;
 

@@ -1,8 +1,8 @@
 //! Payloads of the four packages, and two that are none.
 
-use super::*;
+use sample_decoder::{DecodeError, decode};
 use std::test::*;
-use wire_base::Why;
+use wire_base::{Direction, Refusal, Why};
 
 #[test]
 fn payloads_are_shown_command_by_command(rt: HostRuntime) -> Result<(), Fail> {

@@ -1,6 +1,7 @@
 //! The payloads of a file of three pieces, the last of one byte, and what is no file.
 
-use super::*;
+use frag_encoder::EncoderError;
+use sample_sender::{fragment, sender, setup};
 use std::test::*;
 
 /// The bytes 0 to 96: two pieces of 48, and one more byte.

@@ -1,6 +1,7 @@
 //! A receiver, by payloads that were worked out by hand.
 
-use super::*;
+use frag_session::SetupReq;
+use sample_receiver::{file, hear, receiver, set_up};
 use std::test::*;
 
 /// A file of 5 bytes in 3 pieces of 2, the last of them with one byte of padding.
