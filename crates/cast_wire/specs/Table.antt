@@ -84,6 +84,10 @@ canonical c = spelling (row c)
 abbrev pub IsPort : ℕ → Type 0
 IsPort port = (port ≡ 200) ⊎ (port ≡ 201)
 
+-- a command of TS005 alone, by its one port
+abbrev pub IsOfGroups : Cmd → Type 0
+IsOfGroups c = (row c).ports ≡ 200 ∷ []
+
 -- some command of the table for that port and direction has this identifier
 abbrev pub IsKnown : ℕ → Direction → ℕ → Type 0
 IsKnown port direction cid = table.IsKnown row port direction cid

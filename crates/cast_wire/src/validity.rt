@@ -1,12 +1,13 @@
 ghost use Rattle.std.specs.Prelude.{◌≡◌, ◌↔◌, ◌<◌, ◌≤◌, ◌^◌, length, IsTrue, IfSome, is_none, not, count_ones, All};
-ghost use Rattle.cast_wire.specs.Table.{IsValid, group_parts, start_parts};
+ghost use Rattle.cast_wire.specs.Table.{IsValid, IsOfGroups, group_parts, start_parts};
 ghost use Rattle.wire_base.specs.Rows.{PartsFit};
 
 use crate::cmd::Cmd;
 use crate::group_list::GroupAddress;
 
 /// Whether each field fits its bits, and the fields fit together.
-// Fields that fill their bytes are bound too, so that their ranges are known.
+// Fields that fill their bytes are bound too, so that their ranges are known. Each test is cheaper than a branch, so
+// all are made.
 pub fn valid(cmd: &Cmd) -> bool
     ensures { IsTrue result ↔ IsValid cmd.now }
 {
@@ -22,7 +23,7 @@ pub fn valid(cmd: &Cmd) -> bool
             received,
             missing: _missing,
             ..
-        } => index < 4 && received < 0x4000,
+        } => (index < 4) & (received < 0x4000),
         &Cmd::FragSessionSetupReq {
             index,
             mask,
@@ -32,19 +33,29 @@ pub fn valid(cmd: &Cmd) -> bool
             delay,
             padding: _padding,
             descriptor: _descriptor,
-        } => index < 4 && mask < 16 && algo < 8 && delay < 8,
+        } => (index < 4) & (mask < 16) & (algo < 8) & (delay < 8),
         &Cmd::FragSessionSetupAns { index, .. } => index < 4,
         &Cmd::FragSessionDeleteReq { index } => index < 4,
         &Cmd::FragSessionDeleteAns { index, .. } => index < 4,
-        Cmd::DataFragment { index, n, bytes } => *index < 4
-            && *n < 0x4000
-            && !bytes.as_slice().is_empty(),
+        Cmd::DataFragment { index, n, bytes } => (*index < 4)
+            & (*n < 0x4000)
+            & !bytes.as_slice().is_empty(),
+        group => is_valid_of_groups(group),
+    }
+}
+
+/// The same for a command of the groups.
+fn is_valid_of_groups(cmd: &Cmd) -> bool
+    requires { IsOfGroups cmd.now }
+    ensures { IsTrue result ↔ IsValid cmd.now }
+{
+    match cmd {
         &Cmd::McGroupStatusReq { mask } => mask < 16,
         Cmd::McGroupStatusAns {
             total,
             mask,
             groups,
-        } => *total < 8 && *mask < 16 && are_valid(groups.as_slice(), *mask),
+        } => (*total < 8) & (*mask < 16) & are_valid(groups.as_slice(), *mask),
         &Cmd::McGroupSetupReq {
             id,
             addr,
@@ -61,14 +72,14 @@ pub fn valid(cmd: &Cmd) -> bool
             timeout,
             freq,
             dr: _dr,
-        } => id < 4 && timeout < 16 && freq < 0x100_0000,
+        } => (id < 4) & (timeout < 16) & (freq < 0x100_0000),
         &Cmd::McClassCSessionAns {
             id,
             undefined,
             freq_error,
             dr_error,
             start,
-        } => id < 4 && is_answer(undefined || freq_error || dr_error, start),
+        } => (id < 4) & is_answer(undefined | freq_error | dr_error, start),
         &Cmd::McClassBSessionReq {
             id,
             time: _time,
@@ -76,14 +87,15 @@ pub fn valid(cmd: &Cmd) -> bool
             timeout,
             freq,
             dr: _dr,
-        } => id < 4 && periodicity < 8 && timeout < 16 && freq < 0x100_0000,
+        } => (id < 4) & (periodicity < 8) & (timeout < 16) & (freq < 0x100_0000),
         &Cmd::McClassBSessionAns {
             id,
             undefined,
             freq_error,
             dr_error,
             start,
-        } => id < 4 && is_answer(undefined || freq_error || dr_error, start),
+        } => (id < 4) & is_answer(undefined | freq_error | dr_error, start),
+        _ => unreachable!(),
     }
 }
 

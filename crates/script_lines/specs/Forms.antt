@@ -210,6 +210,29 @@ raw_air_form line =
 
 -- ---- the form that a line spells, if any
 
+-- what goes to a device or comes from one, and the end
+abbrev pub sent_form : List ℕ → Option Form
+sent_form line =
+    if is_word line 0 (codes "down") then down_form line
+    else if is_word line 0 (codes "raw") then raw_form line
+    else if is_word line 0 (codes "air") then air_form line
+    else if is_word line 0 (codes "rawair") then raw_air_form line
+    else if is_word line 0 (codes "up") then up_form line
+    else if is_word line 0 (codes "end") then alone line End
+    else None
+
+-- the moment, what happens to a device, and what the server is asked for
+abbrev pub event_form : List ℕ → Option Form
+event_form line =
+    if is_word line 0 (codes "at") then at_form line
+    else if is_word line 0 (codes "wake") then wake_form line
+    else if is_word line 0 (codes "migrate") then migrate_form line
+    else if is_word line 0 (codes "power") then power_form line
+    else if is_word line 0 (codes "ask") then ask_form line
+    else if is_word line 0 (codes "frag") then alone line Frag
+    else if is_word line 0 (codes "status") then alone line Status
+    else sent_form line
+
 unfoldable pub form_of : List ℕ → Option Form
 form_of line =
     if is_word line 0 (codes "fuota") then header_form line
@@ -217,17 +240,4 @@ form_of line =
     else if is_word line 0 (codes "group") then group_form line
     else if is_word line 0 (codes "window") then window_form line
     else if is_word line 0 (codes "device") then device_form line
-    else if is_word line 0 (codes "at") then at_form line
-    else if is_word line 0 (codes "wake") then wake_form line
-    else if is_word line 0 (codes "migrate") then migrate_form line
-    else if is_word line 0 (codes "power") then power_form line
-    else if is_word line 0 (codes "ask") then ask_form line
-    else if is_word line 0 (codes "frag") then alone line Frag
-    else if is_word line 0 (codes "status") then alone line Status
-    else if is_word line 0 (codes "down") then down_form line
-    else if is_word line 0 (codes "raw") then raw_form line
-    else if is_word line 0 (codes "air") then air_form line
-    else if is_word line 0 (codes "rawair") then raw_air_form line
-    else if is_word line 0 (codes "up") then up_form line
-    else if is_word line 0 (codes "end") then alone line End
-    else None
+    else event_form line

@@ -66,6 +66,27 @@ pair_up line = if count_of line == 2 then number_behind (word line 1) >>= (λ nu
 
 -- ---- the form that a line spells, if any: window X .. and device N X .. have the letter and then what those of one campaign have
 
+-- of a campaign that the line names, and the end
+abbrev pub pair_sent_form : List ℕ → Option PairForm
+pair_sent_form line =
+    if is_word line 0 (codes "frag") then of_named (campaign_at line 1) (pair_alone line Frag)
+    else if is_word line 0 (codes "status") then of_named (campaign_at line 1) (pair_alone line Status)
+    else if is_word line 0 (codes "down") then of_named (letter_of (word line 1)) (pair_down line)
+    else if is_word line 0 (codes "air") then of_named (letter_of (word line 1)) (in_the_air (pair_down line))
+    else if is_word line 0 (codes "up") then of_named (letter_of (word line 1)) (pair_up line)
+    else if is_word line 0 (codes "end") then of_none (alone line End)
+    else None
+
+-- the moment, and what happens to a device
+abbrev pub pair_event_form : List ℕ → Option PairForm
+pair_event_form line =
+    if is_word line 0 (codes "at") then of_none (at_form line)
+    else if is_word line 0 (codes "wake") then of_none (wake_form line)
+    else if is_word line 0 (codes "migrate") then of_none (migrate_form line)
+    else if is_word line 0 (codes "power") then of_none (power_form line)
+    else if is_word line 0 (codes "ask") then of_none (ask_form line)
+    else pair_sent_form line
+
 unfoldable pub pair_form_of : List ℕ → Option PairForm
 pair_form_of line =
     if is_word line 0 (codes "fuota") then of_none (pair_header line)
@@ -73,15 +94,4 @@ pair_form_of line =
     else if is_word line 0 (codes "group") then of_named (campaign_at line 1) (pair_group line)
     else if is_word line 0 (codes "window") then of_named (campaign_at line 1) (window_from line 2)
     else if is_word line 0 (codes "device") then of_named (campaign_at line 2) (device_from line 3)
-    else if is_word line 0 (codes "at") then of_none (at_form line)
-    else if is_word line 0 (codes "wake") then of_none (wake_form line)
-    else if is_word line 0 (codes "migrate") then of_none (migrate_form line)
-    else if is_word line 0 (codes "power") then of_none (power_form line)
-    else if is_word line 0 (codes "ask") then of_none (ask_form line)
-    else if is_word line 0 (codes "frag") then of_named (campaign_at line 1) (pair_alone line Frag)
-    else if is_word line 0 (codes "status") then of_named (campaign_at line 1) (pair_alone line Status)
-    else if is_word line 0 (codes "down") then of_named (letter_of (word line 1)) (pair_down line)
-    else if is_word line 0 (codes "air") then of_named (letter_of (word line 1)) (in_the_air (pair_down line))
-    else if is_word line 0 (codes "up") then of_named (letter_of (word line 1)) (pair_up line)
-    else if is_word line 0 (codes "end") then of_none (alone line End)
-    else None
+    else pair_event_form line

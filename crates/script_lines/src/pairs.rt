@@ -1,7 +1,8 @@
 //! The form that a line of two campaigns' script spells: the letter of a campaign apart, that of a line of one campaign.
 
 ghost use Rattle.std.specs.Prelude.{◌≡◌};
-ghost use Rattle.script_lines.specs.PairForms.{pair_form_of, campaign_at, letter_of, number_behind, of_none, of_named, pair_header, pair_image, pair_group, pair_alone, pair_down, pair_up};
+ghost use Rattle.script_lines.specs.Lines.{word};
+ghost use Rattle.script_lines.specs.PairForms.{pair_form_of, pair_event_form, pair_sent_form, campaign_at, letter_of, number_behind, of_none, of_named, pair_header, pair_image, pair_group, pair_alone, pair_down, pair_up};
 
 use crate::forms::{Campaign, Form, PairForm};
 use crate::numbers::decimal;
@@ -27,7 +28,18 @@ pub fn pair_form(line: &[u8]) -> Option<PairForm<'_>>
         of_named(campaign_at(line, 1), window_from(line, 2))
     } else if is_keyword(keyword, "device") {
         of_named(campaign_at(line, 2), device_from(line, 3))
-    } else if is_keyword(keyword, "at") {
+    } else {
+        pair_event_form(line, keyword)
+    }
+}
+
+/// The form of a line behind those of the plan: the moment, and what happens to a device.
+#[inline(always)]
+fn pair_event_form<'a>(line: &'a [u8], keyword: &[u8]) -> Option<PairForm<'a>>
+    requires { keyword.now ≡ word line.now 0 }
+    ensures { result ≡ pair_event_form line.now }
+{
+    if is_keyword(keyword, "at") {
         of_none(at_form(line))
     } else if is_keyword(keyword, "wake") {
         of_none(wake_form(line))
@@ -37,7 +49,18 @@ pub fn pair_form(line: &[u8]) -> Option<PairForm<'_>>
         of_none(power_form(line))
     } else if is_keyword(keyword, "ask") {
         of_none(ask_form(line))
-    } else if is_keyword(keyword, "frag") {
+    } else {
+        pair_sent_form(line, keyword)
+    }
+}
+
+/// The form of a line behind those: of a campaign that the line names, and the end.
+#[inline(always)]
+fn pair_sent_form<'a>(line: &'a [u8], keyword: &[u8]) -> Option<PairForm<'a>>
+    requires { keyword.now ≡ word line.now 0 }
+    ensures { result ≡ pair_sent_form line.now }
+{
+    if is_keyword(keyword, "frag") {
         of_named(campaign_at(line, 1), pair_alone(line, Form::Frag))
     } else if is_keyword(keyword, "status") {
         of_named(campaign_at(line, 1), pair_alone(line, Form::Status))

@@ -2,7 +2,8 @@
 
 ghost use Rattle.std.specs.Prelude.{◌≡◌, ◌≤◌, ◌+◌};
 ghost use Rattle.std.specs.Str.{bytes_eq};
-ghost use Rattle.script_lines.specs.Forms.{form_of, alone, header_form, image_form, image_words, group_form, group_words, window_from, window_c_words, window_b_words, device_from, device_to, device_of_words, device_words, at_form, wake_form, migrate_form, power_form, ask_form, down_form, down_of, down_words, raw_form, raw_words, in_the_air, air_form, raw_air_form, raw_air_words, up_form, class_at};
+ghost use Rattle.script_lines.specs.Lines.{word};
+ghost use Rattle.script_lines.specs.Forms.{form_of, event_form, sent_form, alone, header_form, image_form, image_words, group_form, group_words, window_from, window_c_words, window_b_words, device_from, device_to, device_of_words, device_words, at_form, wake_form, migrate_form, power_form, ask_form, down_form, down_of, down_words, raw_form, raw_words, in_the_air, air_form, raw_air_form, raw_air_words, up_form, class_at};
 
 use crate::forms::{Class, Form};
 use crate::hex_bytes::HexBytes;
@@ -76,7 +77,18 @@ fn any_form(line: &[u8]) -> Option<Form<'_>>
         window_from(line, 1)
     } else if is_keyword(keyword, "device") {
         device_from(line, 2)
-    } else if is_keyword(keyword, "at") {
+    } else {
+        event_form(line, keyword)
+    }
+}
+
+/// The form of a line behind those of the plan: the moment, what happens to a device, what the server is asked for.
+#[inline(always)]
+fn event_form<'a>(line: &'a [u8], keyword: &[u8]) -> Option<Form<'a>>
+    requires { keyword.now ≡ word line.now 0 }
+    ensures { result ≡ event_form line.now }
+{
+    if is_keyword(keyword, "at") {
         at_form(line)
     } else if is_keyword(keyword, "wake") {
         wake_form(line)
@@ -90,7 +102,18 @@ fn any_form(line: &[u8]) -> Option<Form<'_>>
         alone(line, Form::Frag)
     } else if is_keyword(keyword, "status") {
         alone(line, Form::Status)
-    } else if is_keyword(keyword, "down") {
+    } else {
+        sent_form(line, keyword)
+    }
+}
+
+/// The form of a line behind those: what goes to a device or comes from one, and the end.
+#[inline(always)]
+fn sent_form<'a>(line: &'a [u8], keyword: &[u8]) -> Option<Form<'a>>
+    requires { keyword.now ≡ word line.now 0 }
+    ensures { result ≡ sent_form line.now }
+{
+    if is_keyword(keyword, "down") {
         down_form(line)
     } else if is_keyword(keyword, "raw") {
         raw_form(line)
