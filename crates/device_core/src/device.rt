@@ -121,13 +121,14 @@ impl<F: Flash + Drop> Device<F> {
             return Err(ReserveError::BadConfig);
         }
         let layout = layout_of(&config);
-        let Ok(sessions) = SessionStore::reserve(alloc, flash, layout, config.held) else {
-            return Err(ReserveError::Memory);
-        };
         let Ok(slots) = Slots::reserve(alloc, config.area, config.hw, config.formats) else {
             return Err(ReserveError::Memory);
         };
         let Ok(outbox) = Outbox::reserve(alloc) else {
+            return Err(ReserveError::Memory);
+        };
+        // last, so that no error has to give sessions back
+        let Ok(sessions) = SessionStore::reserve(alloc, flash, layout, config.held) else {
             return Err(ReserveError::Memory);
         };
         Ok(Device {
