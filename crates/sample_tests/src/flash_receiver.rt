@@ -6,7 +6,9 @@ ghost use Rattle.sample_receiver.specs.HeldReceiver.{extent};
 ghost use Rattle.sample_flash_receiver.specs.HeldReceiver.{IsReceiver};
 
 use frag_session::SetupReq;
-use sample_flash_receiver::{Arena, Driver, Part, Receiver, SPAN, arena, file, hear, set_up, start};
+use sample_flash_receiver::{
+    Arena, Driver, Part, Receiver, SPAN, arena, file, hear, set_up, start,
+};
 use std::alloc::Global;
 use std::process::Abort;
 use std::test::*;

@@ -74,7 +74,9 @@ fn agrees(n: u16, cols: u16) -> bool
 
 #[test]
 fn lines_as_the_plain_program_draws_them(rt: HostRuntime) -> Result<(), Fail> {
-    for cols in &[1, 2, 3, 4, 5, 8, 63, 64, 65, 127, 128, 1000, 1024, 4095, 4096] {
+    for cols in &[
+        1, 2, 3, 4, 5, 8, 63, 64, 65, 127, 128, 1000, 1024, 4095, 4096,
+    ] {
         for n in &[1, 2, 3, 5, 7, 9, 4096, 8379, 8380] {
             let (n, cols): (u16, u16) = (*n, *cols);
             assert!(rt; 1 <= n && n <= MAX_PARITY_INDEX && 1 <= cols && cols <= MAX_PIECES);

@@ -1,4 +1,4 @@
-use campaign_world::{NoFile, World};
+use campaign_world::World;
 use device_core::{Class, Delivered, Device, DeviceConfig, MAX_AREA};
 use flash_session::CellFlash;
 use image_slots::{ImageState, is_image};
@@ -38,56 +38,6 @@ fn reports(world: &World, alloc: Global, wanted: &str) -> bool {
         Ok(text) => text.as_slice() == wanted.as_bytes(),
         Err(_) => false,
     }
-}
-
-fn sums_up(world: &World, alloc: Global, wanted: &str) -> bool {
-    match world.summary(alloc) {
-        Ok(text) => text.as_slice() == wanted.as_bytes(),
-        Err(_) => false,
-    }
-}
-
-/// Whether device 1 recovered the image, and there is no device 2.
-fn recovers(world: &World) -> bool {
-    match world.recovered(1) {
-        Ok(file) => { file == IMAGE.as_slice() && matches!(world.recovered(2), Err(NoFile::None)) }
-        Err(_) => false,
-    }
-}
-
-/// A campaign over four fragments in the order 4, 1, 1, 3, 2, and its report.
-#[test]
-fn a_campaign_is_reported(rt: HostRuntime) -> Result<(), Fail> {
-    let lines = [
-        "fuota 1",
-        "image 13 0",
-        DEVICE,
-        "ask 1",
-        "down 1 1",
-        "up 1",
-        "ask 1",
-        "down 2 1",
-        "up 2",
-        "frag",
-        "frag",
-        "frag",
-        "frag",
-        "down 6 1",
-        "down 3 1",
-        "down 3 1",
-        "down 5 1",
-        "down 4 1",
-        "end",
-    ];
-    let mut world = world(&rt, rt.alloc())?;
-    takes(&rt, &mut world, &lines);
-    let report =
-        "fuota report 1\nimage 52 fragments 4 size 13 padding 0 parity 0\ndevice 1 status clock 0 token 0 running 0 next valid 2\ncounts deaf 0 refused 0 full 0 dropped 0\nsession 0 received 5 missing 0 complete at 18 same\nend\n";
-    assert!(rt; reports(&world, rt.alloc(), report));
-    let summary = "image 52 fragments 4\nsent 6 heard 5\ncomplete 1 updated 0\nend\n";
-    assert!(rt; sums_up(&world, rt.alloc(), summary));
-    assert!(rt; recovers(&world));
-    Ok(())
 }
 
 /// A campaign that is carried out form by form, with a line passed by, has the report of its lines, one line further on.
