@@ -150,6 +150,7 @@ fn all_shown(rt: &impl Abort, alloc: Global) -> Result<[Shown; 7], Fail> {
     }
     all[6] = shows(&device);
     assert!(rt; is_done(&device));
+    drop(device);
     Ok(all)
 }
 
@@ -192,6 +193,7 @@ fn goes_on(rt: &impl Abort, alloc: Global, all: &[Shown; 7], calls: u64) -> Resu
     let from = resumes(rt, &mut again, all, at);
     assert!(rt; updated(rt, &mut again, from) == 6);
     assert!(rt; is_done(&again));
+    drop(again);
     Ok(at == 6)
 }
 

@@ -490,6 +490,7 @@ fn commands_are_answered(rt: HostRuntime) {
     exchanges(&rt, &mut device, 0, &FRAGMENTS);
     exchanges(&rt, &mut device, 1_000_000, &GROUPS);
     assert!(rt; device.counts().dropped == 1);
+    drop(device);
 }
 
 #[test]
@@ -504,6 +505,7 @@ fn a_group_beyond_the_last_is_refused(rt: HostRuntime) {
     setup[1] = 0x03;
     assert!(rt; acts(&rt, &mut device, 0, 200, &setup));
     assert!(rt; makes(&mut device, 0, 200, &[0x02, 0x07]));
+    drop(device);
 }
 
 /// A device that received the image at 0 ms.
@@ -544,6 +546,8 @@ fn a_received_image_runs_after_a_reboot(rt: HostRuntime) {
     assert!(rt; runs_the_image(&device));
     let mut other = with_image(&rt, rt.alloc(), CONFIG);
     exchanges(&rt, &mut other, 0, &DELETIONS);
+    drop(device);
+    drop(other);
 }
 
 #[test]
@@ -551,6 +555,7 @@ fn a_campaign_is_answered_in_bytes(rt: HostRuntime) {
     let mut device = reserved(&rt, rt.alloc(), DeviceConfig { rows: 4, ..CONFIG });
     exchanges(&rt, &mut device, 1000, &CAMPAIGN);
     assert!(rt; runs_the_image(&device));
+    drop(device);
 }
 
 /// A device whose clock is 5 s ahead.
@@ -564,7 +569,9 @@ fn runs_at(rt: &impl Abort, alloc: Global, payload: &[u8], t: u64) -> u32 {
     let mut device = with_image(rt, alloc, AHEAD);
     assert!(rt; acts(rt, &mut device, 1000, 203, payload));
     assert!(rt; acts(rt, &mut device, t, 203, &[]));
-    runs(&device)
+    let version = runs(&device);
+    drop(device);
+    version
 }
 
 #[test]
@@ -580,6 +587,7 @@ fn without_an_image_the_moment_is_cleared_all_the_same(rt: HostRuntime) {
     exchanges(&rt, &mut device, 0, &COUNTDOWN);
     receive_image(&rt, &mut device);
     assert!(rt; wakes(&rt, &mut device, 1000) && runs(&device) == 0);
+    drop(device);
 }
 
 #[test]
@@ -599,6 +607,7 @@ fn a_clock_is_mended_once(rt: HostRuntime) {
         );
         assert!(rt; device.clock() == (0, 1));
     }
+    drop(device);
 }
 
 /// A payload acts where it may make at most 8 uplinks.
@@ -611,6 +620,7 @@ fn weighs(rt: &impl Abort, alloc: Global, port: u8, payload: &[u8], weight: u16)
         assert!(rt; answer == Delivered::OutboxFull(weight));
         assert!(rt; uplinks(&mut device) == 0 && device.counts().full == 1);
     }
+    drop(device);
 }
 
 #[test]
@@ -632,6 +642,7 @@ fn a_full_outbox_takes_what_makes_no_uplink(rt: HostRuntime) {
     assert!(rt; delivered(&rt, &mut device, 0, To::Unicast, 203, &[0x01]) == full);
     assert!(rt; makes(&mut device, 0, 202, &[0x01, 0, 0, 0, 0, 0x10]));
     assert!(rt; acts(&rt, &mut device, 0, 203, &[0x01]));
+    drop(device);
 }
 
 /// An empty payload is heard at a moment, or the device is deaf.
@@ -663,6 +674,7 @@ fn class_a_hears_behind_its_uplink(rt: HostRuntime) {
         assert!(rt; hears(&rt, &mut device, t) == heard);
     }
     assert!(rt; deaf(&device) == 3);
+    drop(device);
 }
 
 /// A session of a piece of a byte, that group 2 fills alone.
@@ -709,6 +721,7 @@ fn a_group_is_heard_while_its_session_runs(rt: HostRuntime) {
     for (t, addr, count, heard) in table {
         assert!(rt; group_is_heard(&rt, &mut device, t, addr, count) == heard);
     }
+    drop(device);
 }
 
 /// What becomes of a payload to the group of `WINDOWS`, which makes no uplink.
@@ -757,6 +770,7 @@ fn a_file_comes_by_the_group_in_its_window(rt: HostRuntime) {
     // by unicast the group is deleted, and its session ends
     exchanges(&rt, &mut device, 1_000_999, &END_OF_GROUP);
     assert!(rt; to_group(&rt, &mut device, 1_000_999, 201, &[]) == Delivered::Deaf);
+    drop(device);
 }
 
 /// What the radio hears where no group is heard is foreign, and counted as not heard.
@@ -767,6 +781,7 @@ fn strange_frames_are_foreign(rt: HostRuntime) {
         assert!(rt; aired(&rt, &mut device, 1_000_000, bytes) == Aired::Foreign(*fault));
     }
     assert!(rt; deaf(&device) == 4);
+    drop(device);
 }
 
 /// What the radio hears is a frame of the class session's group, or foreign; what is foreign is counted as not heard, and an
@@ -781,6 +796,7 @@ fn frames_of_the_group_are_heard(rt: HostRuntime) {
     }
     assert!(rt; deaf(&device) == 8 && device.counts().refused == 1);
     assert!(rt; is_to_run(&device));
+    drop(device);
 }
 
 /// A device of LoRaWAN 1.1 unwraps the group's key under another root key.
@@ -796,6 +812,7 @@ fn the_root_key_decides_which_frames_are_heard(rt: HostRuntime) {
     let heard = Aired::Heard(Delivered::Done);
     assert!(rt; aired(&rt, &mut device, 1_000_000, &FRAME_1_1) == heard);
     assert!(rt; is_to_run(&device));
+    drop(device);
 }
 
 /// Whether a device can have so many formats, rows, sessions, groups and bytes for its files.
@@ -817,7 +834,10 @@ fn is_made(
         ..CONFIG
     };
     match Device::reserve(alloc, config, no_flash(rt, alloc)) {
-        Ok(_) => true,
+        Ok(device) => {
+            drop(device);
+            true
+        }
         Err(why) => {
             assert!(rt; why == ReserveError::BadConfig);
             false

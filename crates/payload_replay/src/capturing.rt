@@ -155,7 +155,10 @@ impl Capturing {
             kept,
         } = self;
         match kept {
-            Some(error) => Err(error),
+            Some(error) => {
+                drop(caught);
+                Err(error)
+            }
             None => match caught {
                 Some(caught) => told(alloc, caught),
                 None => Err(refused_behind(0, LineWhy::Syntax)),
@@ -174,7 +177,10 @@ fn catch_first(alloc: Global, header: &[u8]) -> Result<Catch, LineError>
     };
     match b"fuota capture 1\n".to_vec(alloc) {
         Ok(text) => Ok(Catch { text, device }),
-        Err(_) => Err(LineError::Memory),
+        Err(_) => {
+            drop(device);
+            Err(LineError::Memory)
+        }
     }
 }
 
@@ -302,8 +308,10 @@ fn text_of(alloc: Global, caught: Catch) -> Result<Vec<u8>, AllocError>
     ensures { (all : Caught) → CaughtStands caught all
         → IfOk result (λ text. text.items ≡ capture_text all) }
 {
-    let closing = closing_text(alloc, &caught.device)?;
-    let mut text = caught.text;
+    let Catch { mut text, device } = caught;
+    let closing = closing_text(alloc, &device);
+    drop(device);
+    let closing = closing?;
     text.extend_from_slice(closing.as_bytes())?;
     Ok(text)
 }
