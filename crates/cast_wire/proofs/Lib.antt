@@ -1,4 +1,5 @@
 pub mod GroupLists
+pub mod Fields
 pub mod Known
 pub mod Only
 pub mod Spellings

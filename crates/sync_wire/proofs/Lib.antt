@@ -1,4 +1,5 @@
 pub mod Known
+pub mod Fields
 pub mod Only
 pub mod Spellings
 pub mod Decided
