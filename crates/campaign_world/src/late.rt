@@ -108,7 +108,10 @@ fn reserved(alloc: Global, config: DeviceConfig) -> Result<Box<Device<CellFlash>
     power_first(&mut device);
     match Box::new(alloc, device) {
         Ok(boxed) => Ok(boxed),
-        Err(_) => Err(AllocError),
+        Err(error) => {
+            drop(error);
+            Err(AllocError)
+        }
     }
 }
 

@@ -40,7 +40,9 @@ pub fn seed_answer(
     let mut lines = Lines::new();
     hear_piece(&mut lines, script, &mut heard);
     hear_last(&mut lines, &mut heard);
-    summary_answer(alloc, seed, &heard)
+    let answer = summary_answer(alloc, seed, &heard);
+    drop(heard);
+    answer
 }
 
 /// The summary of a campaign behind the lines that it has heard.

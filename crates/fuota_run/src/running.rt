@@ -195,7 +195,9 @@ fn script<F: Files>(
         (Some (plays what image_name name.now)) (answer_in r)) }
 {
     let mut heard = World::new(alloc, image)?;
-    hear_script(alloc, files, what, &mut heard, name)
+    let answer = hear_script(alloc, files, what, &mut heard, name);
+    drop(heard);
+    answer
 }
 
 /// The answer behind the script that a new campaign hears.
@@ -281,7 +283,9 @@ fn pair_script<F: Files>(
         (Some (plays_two name_a name_b name.now)) (answer_in r)) }
 {
     let mut heard = Pair::new(alloc, image_a, image_b)?;
-    hear_pair(alloc, files, &mut heard, name)
+    let answer = hear_pair(alloc, files, &mut heard, name);
+    drop(heard);
+    answer
 }
 
 /// The answer behind the script that two new campaigns hear.
@@ -322,7 +326,9 @@ fn payloads<F: Files>(
     match what {
         FileForm::Replay => {
             let mut heard = Replaying::new(alloc);
-            hear_replay(alloc, files, &mut heard, name)
+            let answer = hear_replay(alloc, files, &mut heard, name);
+            drop(heard);
+            answer
         }
         FileForm::Decode { port, dir } => {
             let heard = Decoding::new(alloc, port, dir);
@@ -388,7 +394,10 @@ fn hear_capture<F: Files>(
 {
     match hear_source(files, name, SCRIPT_LIMIT, &mut heard) {
         Ok(()) => text_answer(alloc, heard.text()),
-        Err(error) => unread_answer(alloc, error),
+        Err(error) => {
+            drop(heard);
+            unread_answer(alloc, error)
+        }
     }
 }
 

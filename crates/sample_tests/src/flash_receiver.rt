@@ -172,7 +172,10 @@ fn received(rt: &impl Abort, alloc: Global, calls: u32) -> Result<u64, Fail> {
     assert_eq!(rt; file(&receiver), None);
     let receiver = heard(rt, receiver, &mut part, &CODED);
     assert_eq!(rt; file(&receiver), Some(FILE.as_slice()));
-    Ok(part.failed)
+    drop(receiver);
+    let failed = part.failed;
+    drop(part);
+    Ok(failed)
 }
 
 #[test]

@@ -37,6 +37,7 @@ fn two_pieces_and_a_coded_fragment_are_a_file(rt: HostRuntime) -> Result<(), Fai
     // coded fragment 1 of 3 pieces, in whose line is piece 2
     hear(&mut receiver, &[0x08, 0x04, 0x00, 0x33, 0x44], 2);
     assert_eq!(rt; file(&receiver), Some(FILE.as_slice()));
+    drop(receiver);
     Ok(())
 }
 
@@ -75,5 +76,6 @@ fn what_has_no_room_is_refused(rt: HostRuntime) -> Result<(), Fail> {
     for (req, bits) in &table {
         assert_eq!(rt; set_up(&mut receiver, *req), *bits);
     }
+    drop(receiver);
     Ok(())
 }

@@ -36,6 +36,7 @@ fn a_file_is_set_up_and_sent(rt: HostRuntime) -> Result<(), Fail> {
     for (n, there) in &[(0, false), (19, true), (20, false), (65535, false)] {
         assert_eq!(rt; fragment(&encoder, *n).is_some(), *there);
     }
+    drop(encoder);
     Ok(())
 }
 

@@ -60,5 +60,6 @@ fn a_campaign_is_driven(rt: HostRuntime) -> Result<(), Fail> {
         assert_eq!(rt; fragment.payload.len(), 51);
     }
     assert!(rt; queue_of_group(&mut server).is_none());
+    drop(server);
     Ok(())
 }

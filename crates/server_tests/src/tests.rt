@@ -516,6 +516,7 @@ fn a_campaign_is_sent_in_bytes(rt: HostRuntime) -> Result<(), Fail> {
     assert!(rt; matches!(campaign.fragment(), Err(NothingLeft::Fragments)));
     asked(&rt, &mut campaign, &CAMPAIGN);
     campaign.asks(&rt, 0, &[]);
+    drop(campaign);
     Ok(())
 }
 
@@ -542,6 +543,8 @@ fn a_group_is_asked_in_bytes(rt: HostRuntime) -> Result<(), Fail> {
         bits: 0x1c,
     };
     assert!(rt; refused.after(&rt, 200, &[0x04, 0x1c]) == stage);
+    drop(campaign);
+    drop(refused);
     Ok(())
 }
 
@@ -566,6 +569,8 @@ fn counts_of_a_group_end(rt: HostRuntime) -> Result<(), Fail> {
     let mut even = with_group(&rt, rt.alloc(), 26, 0, FEW)?;
     assert!(rt; even.fragment().is_ok() && even.fragment().is_ok());
     assert!(rt; matches!(even.fragment(), Err(NothingLeft::Fragments)));
+    drop(short);
+    drop(even);
     Ok(())
 }
 
@@ -637,6 +642,8 @@ fn frames_reach_a_device_with_the_group(rt: HostRuntime) -> Result<(), Fail> {
     };
     hears(&rt, &campaign.server, &mut device, &status, FRAMES[1]);
     assert!(rt; tells(&mut device, &[0x01, 0x01, 0x00, 0x03, 0x00]));
+    drop(campaign);
+    drop(device);
     Ok(())
 }
 
@@ -647,6 +654,7 @@ fn an_answer_moves_its_own_stage_alone(rt: HostRuntime) -> Result<(), Fail> {
         assert!(rt; *number <= 6);
         asked(&rt, &mut campaign, &CAMPAIGN[..*number]);
         assert!(rt; campaign.after(&rt, *port, payload) == *stage);
+        drop(campaign);
     }
     Ok(())
 }
@@ -669,6 +677,7 @@ fn the_time_is_answered_anew_each_time(rt: HostRuntime) -> Result<(), Fail> {
     let cut = campaign.uplink(202, &[0x01, 0x0f, 0, 0, 0], 10_000);
     assert!(rt; cut.is_err());
     campaign.asks(&rt, 203, &[0x01]);
+    drop(campaign);
     Ok(())
 }
 
@@ -694,6 +703,7 @@ fn refused_uplinks_move_nothing(rt: HostRuntime) -> Result<(), Fail> {
     }
     stays(&rt, &mut campaign, 202, &[0; 243], 242, Why::TooLong);
     assert!(rt; campaign.after(&rt, 203, &VERSION[..9]) == Stage::At(Request::Fragments));
+    drop(campaign);
     Ok(())
 }
 

@@ -286,6 +286,7 @@ fn opens_again(rt: &impl Abort, alloc: Global, row: &Stopped) -> Result<(), Fail
         assert!(rt; left.done == (k + 1 == row.found.len()));
         let mut flash = left.flash;
         assert!(rt; opens(rt, &mut flash, 0, left.idle, *found));
+        drop(flash);
     }
     Ok(())
 }
@@ -516,6 +517,7 @@ fn is_foreign(rt: &impl Abort, alloc: Global, row: &Foreign) -> Result<(), Fail>
         poke(rt, &mut flash, *place, *byte);
     }
     assert!(rt; foreign_place(rt, &mut flash, idle) == row.place);
+    drop(flash);
     Ok(())
 }
 
@@ -602,6 +604,7 @@ fn a_session_is_whole_is_deleted_and_begins_again(rt: HostRuntime) -> Result<(),
     assert!(rt; is_whole(&held));
     let idle = is_deleted(&rt, &mut flash, held);
     assert!(rt; opens(&rt, &mut flash, 0, idle, None));
+    drop(flash);
     Ok(())
 }
 
@@ -627,6 +630,7 @@ fn the_count_ends(rt: HostRuntime) -> Result<(), Fail> {
         Ok(held) => assert!(rt; shows(&held) == COUNTED_ALL),
         Err(_) => panic!(rt; "a call of the flash"),
     }
+    drop(stopped);
     Ok(())
 }
 
@@ -655,6 +659,7 @@ fn goes_on_beside(rt: &impl Abort, left: Left, first: SmallIdle) {
     let mut flash = left.flash;
     assert!(rt; !left.done && opens(rt, &mut flash, SPAN, second.close(), NEW_OF_THREE));
     assert!(rt; opens(rt, &mut flash, 0, left.idle, None));
+    drop(flash);
 }
 
 fn writes<F: Flash>(rt: &impl Abort, flash: &mut F, place: u32, bytes: &[u8; 2]) -> bool {
@@ -694,5 +699,6 @@ fn a_flash_in_memory_fails_where_it_is_told_to(rt: HostRuntime) -> Result<(), Fa
     assert!(rt; reads(&rt, &mut flash) == None);
     assert!(rt; reads(&rt, &mut flash) == Some([1, 0, 0, 0]));
     assert!(rt; !syncs(&mut flash));
+    drop(flash);
     Ok(())
 }

@@ -407,6 +407,7 @@ fn the_padding_is_no_part_of_the_file(rt: HostRuntime) {
         file: &[0x11, 0x22, 0x33],
     };
     assert!(rt; shows(&slot, &whole));
+    drop(slot);
 }
 
 /// What is answered after fragments, to a request that asks all, and whether one that asks for pieces missing is answered too.
@@ -510,6 +511,7 @@ fn a_status_stays_at_255_pieces_missing(rt: HostRuntime) {
         ..NOTHING
     };
     assert!(rt; shows(&slot, &heard));
+    drop(slot);
 }
 
 /// Ends a session after fragments, and begins another in its memory.
@@ -525,6 +527,7 @@ fn is_deleted(rt: &impl Abort, alloc: Global, fragments: &[(u16, u8)]) {
     assert!(rt; !slot.delete());
     assert!(rt; sets_up(&mut slot, SETUP, limits) == 0);
     assert!(rt; shows(&slot, &NOTHING));
+    drop(slot);
 }
 
 #[test]
@@ -593,4 +596,5 @@ fn states_hand_their_memory_on(rt: HostRuntime) {
         ..NOTHING
     };
     assert!(rt; shows(&slot, &whole));
+    drop(slot);
 }

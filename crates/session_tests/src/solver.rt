@@ -111,6 +111,7 @@ fn shows(rt: &impl Abort, alloc: Global, pieces: u16, row: &Row) {
     if row.answer == Fed::Complete {
         assert!(rt; receiver.has_block(rt, row.block));
     }
+    drop(receiver);
 }
 
 #[test]
@@ -350,6 +351,8 @@ fn room_is_needed_for_rows_and_for_pieces(rt: HostRuntime) {
     }
     let few = little(&rt, rt.alloc(), 5);
     assert!(rt; fits(&rt, &few, 5, 1, 2) && !fits(&rt, &few, 6, 1, 2));
+    drop(solver);
+    drop(few);
 }
 
 #[test]
@@ -358,6 +361,7 @@ fn a_file_begins_where_there_is_room(rt: HostRuntime) {
     assert!(rt; solver.begin(4, 5, 4, 3) == Err(NoRoom));
     assert!(rt; solver.begin(4, 5, 4, 2) == Ok(()));
     assert!(rt; solver.missing() == 4);
+    drop(solver);
 }
 
 /// Byte `i` of piece `k`.
@@ -444,6 +448,7 @@ fn recovers(rt: &impl Abort, alloc: Global, pieces: u16, size: u8) -> Result<(),
     let whole = feeds_most(rt, alloc, &mut receiver, pieces, size)?;
     feeds_coded(rt, alloc, &mut receiver, pieces, size)?;
     assert!(rt; receiver.has_block(rt, &whole));
+    drop(receiver);
     Ok(())
 }
 

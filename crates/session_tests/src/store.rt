@@ -148,6 +148,7 @@ fn all_shown(rt: &impl Abort, alloc: Global) -> Result<[Shown; 9], Fail> {
         assert!(rt; made(rt, &mut store, *call));
     }
     all[8] = shows(&store);
+    drop(store);
     Ok(all)
 }
 
@@ -204,6 +205,7 @@ fn goes_on(rt: &impl Abort, alloc: Global, all: &[Shown; 9], calls: u64) -> Resu
     let from = resumes(rt, &mut again, all, at);
     assert!(rt; updated(rt, &mut again, from) == 8);
     assert!(rt; is_done(&again));
+    drop(again);
     Ok(at == 8)
 }
 

@@ -36,5 +36,6 @@ fn campaigns_have_different_indexes(rt: HostRuntime) -> Result<(), Fail> {
         Ok(_) => assert!(rt; false),
         Err(error) => assert!(rt; error == fault),
     }
+    drop(pair);
     Ok(())
 }

@@ -65,6 +65,7 @@ fn forms_are_carried_out_as_lines(rt: HostRuntime) -> Result<(), Fail> {
     let report =
         "fuota report 1\nimage 52 fragments 1 size 52 padding 0 parity 0\ndevice 1 fragments clock 0 token 0 running 0 next valid 2\ncounts deaf 0 refused 0 full 0 dropped 0\nsession 0 received 1 missing 0 complete at 11 same\nend\n";
     assert!(rt; reports(&world, rt.alloc(), report));
+    drop(world);
     Ok(())
 }
 
@@ -105,6 +106,7 @@ fn a_refused_line_is_kept(rt: HostRuntime) -> Result<(), Fail> {
         Ok(_) => assert!(rt; false),
         Err(error) => assert!(rt; error == fault),
     }
+    drop(world);
     Ok(())
 }
 
@@ -186,6 +188,7 @@ fn cut_commands_change_nothing(rt: HostRuntime) -> Result<(), Fail> {
     }
     assert!(rt; device.counts().refused == refused);
     assert!(rt; device.clock() == (5, 0));
+    drop(device);
     Ok(())
 }
 

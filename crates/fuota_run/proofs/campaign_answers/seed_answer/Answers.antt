@@ -17,5 +17,5 @@ returns c =
     let first = c.in-Ok.heard in
     let so_far = c.hear_piece.ensures first [] (record { stands = c.new-lines.ensures; heard = heard_none HearsScriptLine first }) in
     let behind = script_heard script image first c.hear_last.new.hearer (c.hear_last.ensures first script so_far) c.in-Ok.ensures.stands c.in-Ok.ensures.fresh in
-    script_answered (summary_answer c.args.seed) image script (seen_answer c.summary_answer.result)
-    (c.summary_answer.ensures (read_lines (Ok (first_world image)) (said_in script)) behind)
+    script_answered (summary_answer c.args.seed) image script (seen_answer c.summary_answer-answer.result)
+    (c.summary_answer-answer.ensures (read_lines (Ok (first_world image)) (said_in script)) behind)
