@@ -85,7 +85,7 @@ heard_stays t word mark down device empty = by_hearing (hears device t down.to) 
 -- ---- what a device that hears it makes of it
 
 -- a call that makes this of each record that it stands for
-made_as : {F : Type 0} (old new : HeldDevice F) (d : Delivered) (call : DeviceState → Outcome Delivered) (after : DeviceState → DeviceState)
+pub made_as : {F : Type 0} (old new : HeldDevice F) (d : Delivered) (call : DeviceState → Outcome Delivered) (after : DeviceState → DeviceState)
     → ((device : DeviceState) → DeviceStands old device → call device ≡ record { device = after device; answer = d })
     → Becomes old new after → Makes Delivered old new d call
 made_as old new d call after is becomes = record {
@@ -93,7 +93,7 @@ made_as old new d call after is becomes = record {
   answers = λ device stands. sym (ap (λ (o : Outcome Delivered). o.answer) (is device stands));
 }
 
-counted : {F : Type 0} (old new : HeldDevice F) (after : Counts → Counts) → new ≡ record old { counts = after old.counts }
+pub counted : {F : Type 0} (old new : HeldDevice F) (after : Counts → Counts) → new ≡ record old { counts = after old.counts }
     → Becomes old new (with_counts after)
 counted {F} old new after is device stands =
     subst (λ (h : HeldDevice F). DeviceStands h (with_counts after device)) (sym is)

@@ -18,3 +18,4 @@ pub mod Stored
 pub mod Powered
 pub mod Downs
 pub mod Empties
+pub mod Messages

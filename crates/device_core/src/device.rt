@@ -766,16 +766,20 @@ impl<F: Flash + Drop> Device<F> {
         let held = self.outbox.len() as u16;
         if let Some(fragment) = message.fragment() {
             steps.tick();
-            self.take_fragment(here, fragment)?;
-            return Ok(Delivered::Done);
+            return match self.take_fragment(here, fragment) {
+                Ok(()) => Ok(Delivered::Done),
+                Err(FlashFault) => Err(FlashFault),
+            };
         }
         let n = held + weights(message.again());
         if n as usize > OUTBOX {
             self.count_full();
             return Ok(Delivered::OutboxFull(n));
         }
-        self.act_on(here, message, steps)?;
-        Ok(Delivered::Done)
+        match self.act_on(here, message, steps) {
+            Ok(()) => Ok(Delivered::Done),
+            Err(FlashFault) => Err(FlashFault),
+        }
     }
 
     /// Acts on a DataFragment that is a message by itself.
