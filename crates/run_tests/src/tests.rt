@@ -105,6 +105,15 @@ fn ends(
     wrote(rt, alloc, words, outside, status, text.as_bytes())
 }
 
+/// The words as a run takes them.
+fn owned(alloc: Global, words: &[&str]) -> Result<Vec<String>, Fail> {
+    let mut owned = Vec::new(alloc);
+    for word in words {
+        owned.push(format!(in alloc; "{word}")?)?;
+    }
+    Ok(owned)
+}
+
 /// Runs the words, and compares the status and what was written.
 fn wrote(
     rt: &impl Abort,
@@ -114,19 +123,28 @@ fn wrote(
     status: Status,
     text: &[u8],
 ) -> Result<(), Fail> {
-    let mut owned = Vec::new(alloc);
-    for word in words {
-        owned.push(format!(in alloc; "{word}")?)?;
-    }
-    let mut files = files(alloc, words, outside)?;
     let fails = [outside.write_fails].to_vec(alloc)?;
     let mut sink = MemSink::reserve(alloc, outside.room, fails)?;
-    assert_eq!(rt;
-        run_held(alloc, &owned, &mut files, &mut sink),
-        Some(status)
-    );
-    assert_eq!(rt; sink.bytes(), text);
+    let ended = ended(alloc, words, outside, &mut sink)?;
+    assert!(rt; ended == Some(status));
+    assert!(rt; sink.bytes() == text);
+    drop(sink);
     Ok(())
+}
+
+/// How a run of the words ends, where there are files of all of them.
+fn ended(
+    alloc: Global,
+    words: &[&str],
+    outside: &Outside,
+    sink: &mut MemSink,
+) -> Result<Option<Status>, Fail> {
+    let owned = owned(alloc, words)?;
+    let mut files = files(alloc, words, outside)?;
+    let status = run_held(alloc, &owned, &mut files, sink);
+    drop(files);
+    drop(owned);
+    Ok(status)
 }
 
 #[test]
@@ -336,10 +354,7 @@ fn says_in_pieces(
     status: Status,
     text: &str,
 ) -> Result<(), Fail> {
-    let mut owned = Vec::new(alloc);
-    for word in words {
-        owned.push(format!(in alloc; "{word}")?)?;
-    }
+    let owned = owned(alloc, words)?;
     let mut files = InPieces {
         lines,
         most,
@@ -347,8 +362,10 @@ fn says_in_pieces(
         chosen: false,
     };
     let mut sink = MemSink::reserve(alloc, 4096, Vec::new(alloc))?;
-    assert_eq!(rt; run(alloc, &owned, &mut files, &mut sink), status);
-    assert_eq!(rt; sink.bytes(), text.as_bytes());
+    assert!(rt; run(alloc, &owned, &mut files, &mut sink) == status);
+    assert!(rt; sink.bytes() == text.as_bytes());
+    drop(sink);
+    drop(owned);
     Ok(())
 }
 

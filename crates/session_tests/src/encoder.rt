@@ -56,6 +56,7 @@ fn is_part(
     let encoder = Encoder::new(alloc, &[0x11, 0x22, 0x33, 0x44, 0x55], frag_size)?;
     let mut out = ArrayVec::new();
     let made = encoder.fragment(n, &mut out);
+    drop(encoder);
     Ok(match part {
         Some(bytes) => made == Ok(()) && out.as_slice() == bytes,
         None => made == Err(Beyond),
@@ -130,6 +131,7 @@ fn coded_fragments_of_an_image(rt: HostRuntime) -> Result<(), Fail> {
         assert_eq!(rt; encoder.fragment(0, &mut out), Err(Beyond));
         assert_eq!(rt; out.as_slice(), part.as_slice());
     }
+    drop(encoder);
     Ok(())
 }
 

@@ -97,6 +97,7 @@ fn a_file_runs_once_it_is_swapped_in(rt: HostRuntime) {
     slots.offer(&IMAGE[..48]);
     slots.swap();
     assert!(rt; is_next(&slots, ImageState::Corrupt));
+    drop(slots);
 }
 
 #[test]
@@ -115,4 +116,5 @@ fn a_file_of_format_2_is_read_again_once_both_are_known(rt: HostRuntime) {
     slots.raise();
     assert!(rt; is_next(&slots, ImageState::None));
     assert!(rt; runs(&slots, &RANGED));
+    drop(slots);
 }
