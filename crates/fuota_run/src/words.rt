@@ -2,7 +2,7 @@
 ghost use Rattle.std.specs.Prelude.{◌≡◌, ◌≢◌, ◌≤◌, List, [], ◌∷◌, ℕ, Option, None, Some, option_map, option_and_then, length, map, slice_get, string_bytes, IfOk, IfSome, codes};
 ghost use Rattle.clap.specs.declared.error.kind.ErrorKind.TheVariants as kind;
 ghost use Rattle.clap.specs.Words.{App, Row, Text, app_of, kind_of, first_of, first_value, found_of, new_app, rows_of, subcommand_rows_of, with_rule, with_subcommand};
-ghost use Rattle.fuota_run.specs.Words.{IsCommand, positional, form, with_forms, with_words, fuota, form_named, campaign_app, recover_app, replay_app, decode_app, generate_app, capture_app, campaigns_app, seen_asked, campaign_asked, recover_asked, replay_asked, decode_asked, generate_asked, capture_asked, campaigns_asked, asked_by, asked, port_of_word, device_of_word, seed_of_word, direction_of_word};
+ghost use Rattle.fuota_run.specs.Words.{IsCommand, positional, form, with_words, fuota, form_named, campaign_app, recover_app, replay_app, decode_app, generate_app, capture_app, campaigns_app, seen_asked, campaign_asked, recover_asked, replay_asked, decode_asked, generate_asked, capture_asked, campaigns_asked, asked_by, asked, port_of_word, device_of_word, seed_of_word, direction_of_word};
 
 use clap::error::{Error, ErrorKind};
 use clap::{Arg, ArgMatches, Command};
@@ -140,40 +140,13 @@ fn no_form<'a>(error: &Error) -> Result<Option<Invocation<'a>>, AllocError>
 fn fuota<'a>(alloc: Global) -> Result<Command<'a>, AllocError>
     ensures { IfOk result (λ c. IsCommand c fuota) }
 {
-    let program = offering_scripts(alloc, Command::new(alloc, "fuota"))?;
-    let program = offering_payloads(alloc, program)?;
-    offering_others(alloc, program)
-}
-
-/// The command, with the forms of an image and a script more.
-fn offering_scripts<'a>(alloc: Global, program: Command<'a>) -> Result<Command<'a>, AllocError>
-    ensures { (app : App) → IsCommand program.entry app
-        → IfOk result
-        (λ c. IsCommand c (with_forms app (campaign_app.top ∷ recover_app.top ∷ []))) }
-{
-    let program = offering(program, campaign_form(alloc)?)?;
-    offering(program, recover_form(alloc)?)
-}
-
-/// The command, with the forms of payloads alone more.
-fn offering_payloads<'a>(alloc: Global, program: Command<'a>) -> Result<Command<'a>, AllocError>
-    ensures { (app : App) → IsCommand program.entry app
-        → IfOk result
-        (λ c. IsCommand c (with_forms app (replay_app.top ∷ decode_app.top ∷ []))) }
-{
-    let program = offering(program, replay_form(alloc)?)?;
-    offering(program, decode_form(alloc)?)
-}
-
-/// The command, with the forms that came behind those more.
-fn offering_others<'a>(alloc: Global, program: Command<'a>) -> Result<Command<'a>, AllocError>
-    ensures { (app : App) → IsCommand program.entry app
-        → IfOk result (λ c. IsCommand c
-        (with_forms app (generate_app.top ∷ capture_app.top ∷ campaigns_app.top ∷ []))) }
-{
-    let program = offering(program, generate_form(alloc)?)?;
-    let program = offering(program, capture_form(alloc)?)?;
-    offering(program, campaigns_form(alloc)?)
+    let program = offering(Command::new(alloc, "fuota"), campaign_form(alloc))?;
+    let program = offering(program, recover_form(alloc))?;
+    let program = offering(program, replay_form(alloc))?;
+    let program = offering(program, decode_form(alloc))?;
+    let program = offering(program, generate_form(alloc))?;
+    let program = offering(program, capture_form(alloc))?;
+    offering(program, campaigns_form(alloc))
 }
 
 fn campaign_form<'a>(alloc: Global) -> Result<Command<'a>, AllocError>
@@ -261,12 +234,22 @@ fn taking<'a>(alloc: Global, command: Command<'a>, name: &'a str) -> Result<Comm
     command.arg(Arg::new(alloc, name).required(true))
 }
 
-/// The command, with one form more.
-fn offering<'a>(command: Command<'a>, form: Command<'a>) -> Result<Command<'a>, AllocError>
-    ensures { (app sub : App) → IsCommand command.entry app → IsCommand form.entry sub
+/// The command, with one form more, where there was memory for that.
+fn offering<'a>(
+    command: Command<'a>,
+    form: Result<Command<'a>, AllocError>,
+) -> Result<Command<'a>, AllocError>
+    ensures { (app sub : App) → IsCommand command.entry app
+        → IfOk form.entry (λ f. IsCommand f sub)
         → IfOk result (λ c. IsCommand c (with_subcommand app sub.top)) }
 {
-    command.subcommand(form)
+    match form {
+        Ok(form) => command.subcommand(form),
+        Err(error) => {
+            drop(command);
+            Err(error)
+        }
+    }
 }
 
 /// What was found: the form that was named, and the words behind it.
