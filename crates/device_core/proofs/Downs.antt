@@ -1,23 +1,25 @@
 -- A device that is up or down, and what a payload makes of it between the reboots that are due.
-use Rattle.std.proofs.Common.{◌≡◌, ◌⊎◌, ℕ, List, Result, Ok, Err, sym, ap, subst, ◌∙◌}
+use Rattle.std.proofs.Common.{◌≡◌, ◌≢◌, ◌⊎◌, ℕ, List, Result, Ok, Err, sym, ap, subst, ◌∙◌}
 use Rattle.flash_session.specs.Moments.{LeavesOnly}
 use Rattle.wire_base.specs.declared.refusal.Direction.TheVariants as direction
 use Rattle.package_grammar.specs.declared.downlink.Downlink.{Downlink}
 use Rattle.package_grammar.specs.Reading.{reading_of}
-use Rattle.session_store.specs.declared.store.FlashFault.{FlashFault}
+use Rattle.session_store.specs.declared.store.FlashFault as fault
 use Rattle.session_store.specs.declared.store.State.{State}
 use Rattle.session_store.specs.declared.store.State.TheVariants.{Memory, Flash, Down}
 use Rattle.session_store.specs.HeldPlaces.{TableLies}
 use Rattle.mc_frames.specs.declared.fault.FrameFault.{FrameFault}
 use Rattle.device_core.specs.declared.delivered.Aired.{Aired}
+use Rattle.device_core.specs.declared.delivered.Aired.TheVariants.{Heard, Foreign}
 use Rattle.device_core.specs.declared.delivered.Delivered.{Delivered}
+use Rattle.device_core.specs.declared.delivered.Delivered.TheVariants.{FlashFault}
 use Rattle.device_core.specs.Deliver.{Outcome, arrival, heard_delivery, delivery}
-use Rattle.device_core.specs.Device.{DeviceState}
+use Rattle.device_core.specs.Device.{DeviceState, after_deaf, with_counts}
 use Rattle.device_core.specs.Firmware.{after_due_reboot}
-use Rattle.device_core.specs.HeldCalls.{LeavesBesides, StaysStored, Keeps, FailsIn, FailsWithin}
+use Rattle.device_core.specs.HeldCalls.{LeavesBesides, StaysStored, Keeps, FailsIn, FailsWithin, FailsOnAir, LeavesPassed}
 use Rattle.device_core.specs.HeldDevice.{HeldDevice, device_of, DeviceStands, Becomes, Makes}
 use Rattle.device_core.specs.HeldSessions.{HeldStore, IsDown, IsUp, StateStands, StateIsStored, StateIsHeld}
-use Rattle.device_core.specs.Passed.{heard_tables, tables_passed, LiesOneOf}
+use Rattle.device_core.specs.Passed.{heard_tables, tables_passed, frame_tables, tables_aired, LiesOneOf}
 use Rattle.device_core.specs.Radio.{brought, after_frame, radio}
 use Rattle.device_core.specs.SessionTable.{SessionTable}
 use Rattle.device_core.proofs.Keeping.{leaves_only}
@@ -41,6 +43,17 @@ makes_down old new answer call down = record {
   answers = λ device stands. absurd (not_down old.sessions.state device.sessions down stands.sessions);
 }
 
+pub down_at : {F : Type 0} (old : HeldDevice F) (s : HeldStore F) → s ≡ old.sessions → IsDown s.state → IsDown old.sessions.state
+down_at {F} old s is down = subst (λ (x : HeldStore F). IsDown x.state) is down
+
+pub down_stored : {F : Type 0} (holds : F → List ℕ → Type 0) (left : F → ℕ → List ℕ → Type 0) (moment : F → ℕ) (old new : HeldDevice F)
+    (after : DeviceState → DeviceState) → IsDown old.sessions.state → StaysStored holds left moment old new after
+down_stored holds left moment old new after down device stands stored = absurd (not_down old.sessions.state device.sessions down stands.sessions)
+
+pub down_moments : {F : Type 0} (holds : F → List ℕ → Type 0) (left : F → ℕ → List ℕ → Type 0) (moment : F → ℕ) (old new : HeldDevice F)
+    (tables : DeviceState → List SessionTable) → IsDown old.sessions.state → LeavesPassed holds left moment old new tables
+down_moments holds left moment old new tables down device stands held = absurd (not_down old.sessions.state device.sessions down stands.sessions)
+
 -- between two reboots that are due
 pub delivered_makes : {F : Type 0} (old mid then new : HeldDevice F) (t word mark : ℕ) (down : Downlink) (d : Delivered)
     → Becomes old mid (after_due_reboot t) → Makes Delivered mid then d (heard_delivery t word mark down) → Becomes then new (after_due_reboot t)
@@ -53,7 +66,7 @@ delivered_makes old mid then new t word mark down d first second third = record 
 
 -- what a stop leaves
 pub delivered_moments : {F A : Type 0} (holds : F → List ℕ → Type 0) (left : F → ℕ → List ℕ → Type 0) (moment faults : F → ℕ)
-    (old mid : HeldDevice F) (new : HeldStore F) (r : Result A FlashFault) (t word mark : ℕ) (down : Downlink) (after : DeviceState → DeviceState)
+    (old mid : HeldDevice F) (new : HeldStore F) (r : Result A fault.FlashFault) (t word mark : ℕ) (down : Downlink) (after : DeviceState → DeviceState)
     → mid.sessions ≡ old.sessions → Becomes old mid (after_due_reboot t)
     → Keeps holds left moment faults mid new r after (λ d. heard_tables t word mark down d)
     → (device : DeviceState) → DeviceStands old device
@@ -134,3 +147,63 @@ foreign_stored {F} holds left moment old new t word mark bytes fault same is dev
     (subst (λ (x : SessionTable). StateIsStored new.sessions.state x (holds new.sessions.flash) (left new.sessions.flash (moment new.sessions.flash)))
     (sym (reboot_keeps t device).sessions)
     (subst (λ (s : HeldStore F). StateIsStored s.state device.sessions (holds s.flash) (left s.flash (moment s.flash))) (sym same) stored))
+
+-- a payload that they brought, as it is delivered
+pub aired_makes : {F : Type 0} (old new : HeldDevice F) (d : Delivered) (t word mark : ℕ) (bytes : List ℕ) (down : Downlink)
+    → ((table : SessionTable) → Ok down ≡ brought (device_of old table) bytes)
+    → (d ≢ FlashFault → Makes Delivered old new d (delivery t word mark down))
+    → Heard d ≢ Heard FlashFault → Makes Aired old new (Heard d) (radio t word mark bytes)
+aired_makes old new d t word mark bytes down is makes plain =
+    let made = makes (λ e. plain (ap Heard e)) in
+    record {
+      stands = λ device stands. subst (λ (o : Outcome Aired). DeviceStands new o.device)
+          (sym (radio_is t word mark bytes (Ok down) device (brought_is old bytes (Ok down) is device stands))) (made.stands device stands);
+      answers = λ device stands. ap Heard (made.answers device stands)
+          ∙ sym (ap (λ (o : Outcome Aired). o.answer) (radio_is t word mark bytes (Ok down) device (brought_is old bytes (Ok down) is device stands)));
+    }
+
+pub same_heard : (d e : Delivered) → Heard d ≡ Heard e → d ≡ e
+same_heard d e is = cc
+
+pub aired_fails : {F : Type 0} (old new : HeldDevice F) (d : Delivered) (t word mark : ℕ) (bytes : List ℕ) (down : Downlink)
+    → ((table : SessionTable) → Ok down ≡ brought (device_of old table) bytes)
+    → (d ≡ FlashFault → (device : DeviceState) → DeviceStands old device → FailsWithin t word mark down device new)
+    → Heard d ≡ Heard FlashFault → (device : DeviceState) → DeviceStands old device → FailsOnAir t word mark bytes device new
+aired_fails old new d t word mark bytes down is fails fault device stands = record {
+  down = down;
+  came = brought_is old bytes (Ok down) is device stands;
+  fails = fails (same_heard d FlashFault fault) device stands;
+}
+
+pub aired_stored : {F : Type 0} (holds : F → List ℕ → Type 0) (left : F → ℕ → List ℕ → Type 0) (moment : F → ℕ)
+    (old new : HeldDevice F) (d : Delivered) (t word mark : ℕ) (bytes : List ℕ) (down : Downlink)
+    → ((table : SessionTable) → Ok down ≡ brought (device_of old table) bytes)
+    → (d ≢ FlashFault → StaysStored holds left moment old new (λ device. (delivery t word mark down device).device))
+    → Heard d ≢ Heard FlashFault → StaysStored holds left moment old new (λ device. (radio t word mark bytes device).device)
+aired_stored holds left moment old new d t word mark bytes down is stays plain device stands stored =
+    subst (λ (o : Outcome Aired). StateIsStored new.sessions.state o.device.sessions (holds new.sessions.flash) (left new.sessions.flash (moment new.sessions.flash)))
+    (sym (radio_is t word mark bytes (Ok down) device (brought_is old bytes (Ok down) is device stands)))
+    (stays (λ e. plain (ap Heard e)) device stands stored)
+
+pub aired_moments : {F : Type 0} (holds : F → List ℕ → Type 0) (left : F → ℕ → List ℕ → Type 0) (moment : F → ℕ)
+    (old new : HeldDevice F) (t word mark : ℕ) (bytes : List ℕ) (down : Downlink)
+    → ((table : SessionTable) → Ok down ≡ brought (device_of old table) bytes)
+    → LeavesPassed holds left moment old new (tables_passed t word mark down)
+    → LeavesPassed holds left moment old new (tables_aired t word mark bytes)
+aired_moments holds left moment old new t word mark bytes down is leaves device stands held =
+    subst (λ (r : Result Downlink FrameFault). LeavesOnly
+    (λ c. TableLies old.sessions.layout device.sessions c ⊎ LiesOneOf old.sessions.layout (frame_tables t word mark r device) c)
+    (moment old.sessions.flash) (moment new.sessions.flash) (left old.sessions.flash) (left new.sessions.flash))
+    (sym (brought_is old bytes (Ok down) is device stands)) (leaves device stands held)
+
+-- bytes that are foreign are counted
+pub foreign_makes : {F : Type 0} (old new : HeldDevice F) (t word mark : ℕ) (bytes : List ℕ) (fault : FrameFault)
+    → ((table : SessionTable) → Err fault ≡ brought (device_of old table) bytes)
+    → Becomes old new (λ device. with_counts after_deaf (after_due_reboot t device))
+    → Makes Aired old new (Foreign fault) (radio t word mark bytes)
+foreign_makes old new t word mark bytes fault is becomes = record {
+  stands = λ device stands. subst (λ (o : Outcome Aired). DeviceStands new o.device)
+      (sym (radio_is t word mark bytes (Err fault) device (brought_is old bytes (Err fault) is device stands))) (becomes device stands);
+  answers = λ device stands. sym (ap (λ (o : Outcome Aired). o.answer)
+      (radio_is t word mark bytes (Err fault) device (brought_is old bytes (Err fault) is device stands)));
+}
