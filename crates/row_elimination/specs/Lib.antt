@@ -7,5 +7,6 @@ pub mod HeldStorage
 pub mod HeldSteps
 pub mod HeldTable
 pub mod HeldTaking
+pub mod Asked
 pub mod Room
 pub mod SolverInside

@@ -5,6 +5,7 @@ ghost use Rattle.row_arena.specs.Rows.{Arena, line_in};
 ghost use Rattle.row_elimination.specs.PackedColumns.{last_slot};
 ghost use Rattle.row_elimination.specs.HeldPlaces.{piece, piece as known, grown};
 ghost use Rattle.row_elimination.specs.HeldStorage.{places_in, IsStored, IsRowOf, SameShape, Slots, TakesOver};
+ghost use Rattle.row_elimination.specs.Asked.{MayAddRow, MayAddBoth};
 
 use crate::columns::{Column, PackedColumn};
 use crate::entries::{put_piece, put_row};
@@ -23,14 +24,7 @@ pub fn add_row<const W: usize, const B: usize, M: Ledger>(
     part: &[u8],
     sums: &mut Steps<M>,
 )
-    requires columns { arena.old.cols ≤ length columns.old }
-    requires inside { p < arena.old.cols }
-    requires stored { IsStored (length part.now) arena.old (take arena.old.cols columns.old) }
-    requires new { IsRowOf arena.old line.now part.now }
-    requires slot { slot < length arena.old.rows }
-    requires fits { slot ≤ last_slot }
-    requires alone { (c : ℕ)
-        → get_or (take arena.old.cols columns.old) c Column.Free ≢ Column.Row slot }
+    requires { MayAddRow columns.old arena.old slot p line.now part.now }
     ensures columns { take arena.old.cols columns.new
         ≡ set (take arena.old.cols columns.old) p (Column.Row slot) }
     ensures places { (area : List ℕ)
@@ -72,16 +66,7 @@ pub fn add_piece_and_row<const W: usize, const B: usize, M: Ledger>(
     part: &[u8],
     sums: &mut Steps<M>,
 )
-    requires columns { arena.old.cols ≤ length columns.old }
-    requires inside { p < arena.old.cols }
-    requires piece_inside { k < arena.old.cols }
-    requires sized { length piece.now ≡ length part.now }
-    requires room { k * length part.now + length part.now ≤ length area.old }
-    requires stored { IsStored (length part.now) arena.old (take arena.old.cols columns.old) }
-    requires new { IsRowOf arena.old line.now part.now }
-    requires kind { (k ≡ p) ⊎ ((k ≢ p) × ((slot : ℕ)
-        × (get_or (take arena.old.cols columns.old) k Column.Free ≡ Column.Row slot))) }
-    requires lead { get_or (take arena.old.cols columns.old) p Column.Free ≡ Column.Free }
+    requires { MayAddBoth columns.old area.old arena.old k piece.now p line.now part.now }
     ensures slots { (spare : List ℕ) (rows count : ℕ)
         → Slots (take arena.old.cols columns.old) spare rows count
         → Slots (take arena.old.cols columns.new) spare rows count }

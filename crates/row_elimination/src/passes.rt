@@ -10,6 +10,7 @@ ghost use Rattle.row_elimination.specs.HeldTable.{max_line_words};
 ghost use Rattle.row_elimination.specs.Inside.{IsReduced, Marks};
 ghost use Rattle.row_elimination.specs.HeldStorage.{places_in, IsStored, IsRowOf, Clears, ClearsAll};
 ghost use Rattle.row_elimination.specs.HeldSteps.{Reduced, TakesRow, TakesRows};
+ghost use Rattle.row_elimination.specs.Asked.{MayPass, MayTakeRows};
 
 use crate::columns::{Column, PackedColumn};
 use crate::tables::LINE_WORDS;
@@ -31,18 +32,7 @@ pub fn reduce<const W: usize, const B: usize, M: Ledger>(
     rest: &mut [u8],
     sums: &mut Steps<M>,
 )
-    requires stored { IsStored (length part.now) arena.now columns.now }
-    requires marks { Marks (line_in known.now)
-        (places_in (length part.now) area.now arena.now columns.now) }
-    requires reduced { IsReduced (length columns.now) (length part.now)
-        (places_in (length part.now) area.now arena.now columns.now) }
-    requires piece { IsPiece (length part.now) part.now }
-    requires words { length line.old ≡ words_for (length columns.now) }
-    requires same { length line.old ≡ length known.now }
-    requires few { length line.old ≤ max_line_words }
-    requires within { line_in line.old < 2 ^ length columns.now }
-    requires picks { 64 * length line.old ≤ length picks.old }
-    requires sized { length rest.old ≡ length part.now }
+    requires { MayPass columns.now area.now known.now arena.now line.old picks.old part.now rest.old }
     ensures left { Reduced (length columns.now) (length part.now) (places_in (length part.now)
         area.now arena.now columns.now) (line_in line.old) part.now (line_in line.new) rest.new }
     ensures few { sums.new ≤ sums.old + columns_in (line_in line.old) }
@@ -78,13 +68,7 @@ fn take_rows<const W: usize, const B: usize, M: Ledger>(
     rest: &mut [u8],
     sums: &mut Steps<M>,
 )
-    requires stored { IsStored (length rest.old) arena.now columns.now }
-    requires words { length line.old ≡ words_for (length columns.now) }
-    requires few { length line.old ≤ max_line_words }
-    requires within { line_in line.old < 2 ^ length columns.now }
-    requires none { (c : ℕ) → get_or columns.now c Column.Free ≡ Column.Piece
-        → bit_at (line_in line.old) c ≡ 0 }
-    requires picks { 64 * length line.old ≤ length picks.old }
+    requires { MayTakeRows columns.now arena.now line.old picks.old rest.old }
     ensures taken { TakesRows (length rest.old) arena.now columns.now (line_in line.old) rest.old
         (line_in line.new) rest.new }
     ensures few { sums.new ≤ sums.old + columns_in (line_in line.old) }

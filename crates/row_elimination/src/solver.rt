@@ -85,9 +85,6 @@ impl<const W: usize, const B: usize> Solver<W, B> {
         ensures extent { IfOk result (λ solver.
             solver.extent ≡ record { area = area; pieces = pieces }) }
     {
-        let Ok(table) = Table::new(alloc, area, pieces) else {
-            return Err(Memory);
-        };
         let Ok(line) = Vec::with_capacity(alloc, words_for(pieces)) else {
             return Err(Memory);
         };
@@ -95,6 +92,9 @@ impl<const W: usize, const B: usize> Solver<W, B> {
             return Err(Memory);
         };
         let Ok(part) = vec![in alloc; 0u8; MAX_FRAG_SIZE] else {
+            return Err(Memory);
+        };
+        let Ok(table) = Table::new(alloc, area, pieces) else {
             return Err(Memory);
         };
         let kept = Kept {

@@ -10,6 +10,7 @@ ghost use Rattle.row_elimination.specs.HeldStorage.{chunk};
 ghost use Rattle.row_elimination.specs.HeldSteps.{Reduced, IsNew, Knows, Tells};
 ghost use Rattle.row_elimination.specs.HeldTable.{Grid, SameRoom, max_line_words};
 ghost use Rattle.frag_model.specs.Limits.{max_pieces};
+ghost use Rattle.row_elimination.specs.Asked.{MayReduce, MayPush, MayLearn};
 
 use crate::additions::{add_piece, add_piece_and_row, add_row};
 use crate::bytes::chunk;
@@ -200,11 +201,7 @@ impl<const W: usize, const B: usize> Table<W, B> {
         rest: &mut [u8],
         sums: &mut Steps<M>,
     )
-        requires words { length line.old ≡ words_for self.now.shape.nb_frag }
-        requires within { line_in line.old < 2 ^ self.now.shape.nb_frag }
-        requires picks { 64 * length line.old ≤ length picks.old }
-        requires sized { length rest.old ≡ length part.now }
-        requires piece { IsPiece self.now.shape.frag_size part.now }
+        requires { MayReduce self.now line.old picks.old part.now rest.old }
         ensures left { Reduced self.now.shape.nb_frag self.now.shape.frag_size self.now.places
             (line_in line.old) part.now (line_in line.new) rest.new }
         ensures held { IsReduced self.now.shape.nb_frag self.now.shape.frag_size self.now.places }
@@ -228,11 +225,7 @@ impl<const W: usize, const B: usize> Table<W, B> {
 
     /// Takes in a new row, which its column `p` leads, and counts the rows that it is added to.
     pub fn push<M: Ledger>(&mut self, p: u16, line: &[u64], part: &[u8], sums: &mut Steps<M>)
-        requires words { length line.now ≡ words_for self.old.shape.nb_frag }
-        requires sized { length part.now ≡ self.old.shape.frag_size }
-        requires new { IsNew self.old.shape.nb_frag self.old.shape.frag_size self.old.places p
-            (line_in line.now) part.now }
-        requires room { rows_held self.old.places < self.old.shape.rows }
+        requires { MayPush self.old p line.now part.now }
         ensures grown { self.new
             ≡ record self.old { places = grown p (line_in line.now) part.now self.old.places } }
         ensures few { sums.new ≤ sums.old + self.old.shape.rows }
@@ -297,13 +290,7 @@ impl<const W: usize, const B: usize> Table<W, B> {
         part: &[u8],
         sums: &mut Steps<M>,
     )
-        requires words { length line.now ≡ words_for self.old.shape.nb_frag }
-        requires sized { length part.now ≡ self.old.shape.frag_size }
-        requires new { IsNew self.old.shape.nb_frag self.old.shape.frag_size self.old.places p
-            (line_in line.now) part.now }
-        requires known { Knows self.old.shape
-            (grown p (line_in line.now) part.now self.old.places) k piece.now }
-        requires fresh { is_piece (get_or self.old.places k free) ≡ false }
+        requires { MayLearn self.old k piece.now p line.now part.now }
         ensures places { self.new.places
             ≡ set (grown p (line_in line.now) part.now self.old.places) k (known piece.now) }
         ensures room { SameRoom self.old self.new }
@@ -325,13 +312,7 @@ impl<const W: usize, const B: usize> Table<W, B> {
     )
         requires reached { k * self.old.shape.frag_size + self.old.shape.frag_size
             ≤ length self.old.area }
-        requires words { length line.now ≡ words_for self.old.shape.nb_frag }
-        requires sized { length part.now ≡ self.old.shape.frag_size }
-        requires new { IsNew self.old.shape.nb_frag self.old.shape.frag_size self.old.places p
-            (line_in line.now) part.now }
-        requires known { Knows self.old.shape
-            (grown p (line_in line.now) part.now self.old.places) k piece.now }
-        requires fresh { is_piece (get_or self.old.places k free) ≡ false }
+        requires new { MayLearn self.old k piece.now p line.now part.now }
         ensures places { self.new.places
             ≡ set (grown p (line_in line.now) part.now self.old.places) k (known piece.now) }
         ensures room { SameRoom self.old self.new }

@@ -12,6 +12,7 @@ ghost use Rattle.row_elimination.specs.HeldTable.{SameRoom, max_line_words};
 ghost use Rattle.row_elimination.specs.HeldSolver.{Takes, Receives};
 ghost use Rattle.row_elimination.specs.HeldTaking.{held_of, IsReady, IsZero, stage_after, FedAs, DecidedAs};
 ghost use Rattle.frag_model.specs.Limits.{max_parity_index, max_pieces};
+ghost use Rattle.row_elimination.specs.Asked.{MayTakeAgain, MayTakeFirst, MayTakeIn, MayTakeNew};
 
 use crate::drawing::draw;
 use crate::stages::Fed;
@@ -73,9 +74,7 @@ fn take_again<const W: usize, const B: usize>(
     part: &[u8],
     piece: &[u8],
 ) -> Fed
-    requires ready { IsReady table.now n part.now 0 (xor_bytes part.now piece.now) }
-    requires uncoded { n ≤ table.now.shape.nb_frag }
-    requires before { get_or table.now.places (n - 1) free ≡ known piece.now }
+    requires { MayTakeAgain table.now n part.now piece.now }
     ensures { FedAs result (held_of stage.Receiving table.now)
         (held_of (stage_after result) table.now) n part.now }
 {
@@ -88,10 +87,7 @@ fn take_again<const W: usize, const B: usize>(
 
 /// Takes in a piece that did not come before, where no row is held.
 fn take_first<const W: usize, const B: usize>(table: &mut Table<W, B>, n: u16, part: &[u8]) -> Fed
-    requires ready { IsReady table.old n part.now (2 ^ (n - 1)) part.now }
-    requires uncoded { n ≤ table.old.shape.nb_frag }
-    requires fresh { get_or table.old.places (n - 1) free ≡ free }
-    requires none { rows_held table.old.places ≡ 0 }
+    requires { MayTakeFirst table.old n part.now }
     ensures fed { FedAs result (held_of stage.Receiving table.old)
         (held_of (stage_after result) table.new) n part.now }
     ensures room { SameRoom table.old table.new }
@@ -111,15 +107,7 @@ fn take_in<const W: usize, const B: usize, M: Ledger>(
     rest: &mut [u8],
     sums: &mut Steps<M>,
 ) -> Fed
-    requires words { length line.old ≡ words_for table.old.shape.nb_frag }
-    requires few { length line.old ≤ max_line_words }
-    requires drawn { line_in line.old ≡ line_of table.old.shape.nb_frag n }
-    requires picks { 64 * length line.old ≤ length picks.old }
-    requires sized { length rest.old ≡ length part.now }
-    requires piece { IsPiece table.old.shape.frag_size part.now }
-    requires some { 1 ≤ table.old.shape.frag_size }
-    requires first { 1 ≤ n }
-    requires more { gained_held table.old.places < table.old.shape.nb_frag }
+    requires { MayTakeIn table.old n part.now line.old picks.old rest.old }
     ensures fed { FedAs result (held_of stage.Receiving table.old)
         (held_of (stage_after result) table.new) n part.now }
     ensures room { SameRoom table.old table.new }
@@ -167,10 +155,7 @@ fn take_new<const W: usize, const B: usize, M: Ledger>(
     rest: &[u8],
     sums: &mut Steps<M>,
 ) -> Fed
-    requires ready { IsReady table.old n part.now (line_in line.now) rest.now }
-    requires words { length line.now ≡ words_for table.old.shape.nb_frag }
-    requires inside { p < table.old.shape.nb_frag }
-    requires has { bit_at (line_in line.now) p ≡ 1 }
+    requires { MayTakeNew table.old n part.now p line.now rest.now }
     ensures fed { FedAs result (held_of stage.Receiving table.old)
         (held_of (stage_after result) table.new) n part.now }
     ensures room { SameRoom table.old table.new }
@@ -196,10 +181,7 @@ fn take_piece<const W: usize, const B: usize, M: Ledger>(
     rest: &[u8],
     sums: &mut Steps<M>,
 ) -> Fed
-    requires ready { IsReady table.old n part.now (line_in line.now) rest.now }
-    requires words { length line.now ≡ words_for table.old.shape.nb_frag }
-    requires inside { p < table.old.shape.nb_frag }
-    requires has { bit_at (line_in line.now) p ≡ 1 }
+    requires new { MayTakeNew table.old n part.now p line.now rest.now }
     requires uncoded { n ≤ table.old.shape.nb_frag }
     ensures fed { FedAs result (held_of stage.Receiving table.old)
         (held_of (stage_after result) table.new) n part.now }
@@ -222,10 +204,7 @@ fn take_row<const W: usize, const B: usize, M: Ledger>(
     rest: &[u8],
     sums: &mut Steps<M>,
 ) -> Fed
-    requires ready { IsReady table.old n part.now (line_in line.now) rest.now }
-    requires words { length line.now ≡ words_for table.old.shape.nb_frag }
-    requires inside { p < table.old.shape.nb_frag }
-    requires has { bit_at (line_in line.now) p ≡ 1 }
+    requires new { MayTakeNew table.old n part.now p line.now rest.now }
     requires coded { table.old.shape.nb_frag < n }
     requires spare { rows_held table.old.places < table.old.shape.rows }
     ensures fed { FedAs result (held_of stage.Receiving table.old)

@@ -9,16 +9,13 @@ pub reduce-requires : goal.reduce-requires
 reduce-requires g c =
     let t = c.args.table.now in (
       omega arith,
-      (
-        c.requires.words,
-        (
-          subst (λ (l : ℕ). l < 2 ^ t.shape.nb_frag) (sym c.requires.drawn) (line_of-lt t.shape.nb_frag c.args.n c.requires.first),
-          (
-            c.requires.picks,
-            (c.requires.sized, c.requires.piece),
-          ),
-        ),
-      ),
+      record {
+        words = c.requires.words;
+        within = subst (λ (l : ℕ). l < 2 ^ t.shape.nb_frag) (sym c.requires.drawn) (line_of-lt t.shape.nb_frag c.args.n c.requires.first);
+        picks = c.requires.picks;
+        sized = c.requires.sized;
+        piece = c.requires.piece;
+      },
     )
 
 pub take_new-requires : goal.take_new-requires
@@ -26,14 +23,13 @@ take_new-requires g c =
     let t = c.args.table.now in
     let l : ℕ = line_in c.reduce.new.line in (
       omega arith,
-      (
-        ready_reduced t c.args.n c.args.part.now (line_in c.args.line.now) l c.reduce.new.rest c.requires.drawn c.reduce.ensures.held c.reduce.ensures.room c.requires.more c.requires.some c.requires.first
-            c.requires.piece c.reduce.ensures.left,
-        (
-          c.reduce.auto.line ∙ c.requires.words,
-          (column_inside t.shape.nb_frag l c.in-Some.p c.reduce.ensures.left.within c.in-Some.ensures, c.in-Some.ensures),
-        ),
-      ),
+      record {
+        ready = ready_reduced t c.args.n c.args.part.now (line_in c.args.line.now) l c.reduce.new.rest c.requires.drawn c.reduce.ensures.held c.reduce.ensures.room c.requires.more c.requires.some c.requires.first
+            c.requires.piece c.reduce.ensures.left;
+        words = c.reduce.auto.line ∙ c.requires.words;
+        inside = column_inside t.shape.nb_frag l c.in-Some.p c.reduce.ensures.left.within c.in-Some.ensures;
+        has = c.in-Some.ensures;
+      },
     )
 
 pub take_old-requires : goal.take_old-requires

@@ -10,28 +10,22 @@ pub learn-requires : goal.learn-requires
 learn-requires g c =
     let t = c.args.table.now in
     let l : ℕ = line_in c.args.line.now in
-    let is : c.args.n ≡ suc (c.args.n - 1) = omega (arith, c.requires.ready.first) in (
+    let is : c.args.n ≡ suc (c.args.n - 1) = omega (arith, c.requires.new.ready.first) in (
       omega arith,
-      (
-        c.requires.words,
-        (
-          c.requires.ready.left.piece.sized,
-          (
-            is_new_row t.shape.nb_frag t.shape.frag_size t.places _ c.args.part.now c.args.p l c.args.rest.now c.requires.ready.held c.requires.ready.left c.requires.inside c.requires.has,
-            (
-              knows_grown t c.args.n (c.args.n - 1) c.args.p l c.args.part.now c.args.rest.now c.requires.ready is c.requires.uncoded c.requires.inside c.requires.has,
-              is_fresh t c.args.n (c.args.n - 1) c.args.p l c.args.part.now c.args.rest.now c.requires.ready is c.requires.uncoded c.requires.has,
-            ),
-          ),
-        ),
-      ),
+      record {
+        words = c.requires.new.words;
+        sized = c.requires.new.ready.left.piece.sized;
+        new = is_new_row t.shape.nb_frag t.shape.frag_size t.places _ c.args.part.now c.args.p l c.args.rest.now c.requires.new.ready.held c.requires.new.ready.left c.requires.new.inside c.requires.new.has;
+        known = knows_grown t c.args.n (c.args.n - 1) c.args.p l c.args.part.now c.args.rest.now c.requires.new.ready is c.requires.uncoded c.requires.new.inside c.requires.new.has;
+        fresh = is_fresh t c.args.n (c.args.n - 1) c.args.p l c.args.part.now c.args.rest.now c.requires.new.ready is c.requires.uncoded c.requires.new.has;
+      },
     )
 
 pub decide-requires : goal.decide-requires
 decide-requires g c =
     let t = c.args.table.now in
     let l : ℕ = line_in c.args.line.now in
-    let known = knows_grown t c.args.n (c.args.n - 1) c.args.p l c.args.part.now c.args.rest.now c.requires.ready (omega (arith, c.requires.ready.first)) c.requires.uncoded c.requires.inside c.requires.has in (
+    let known = knows_grown t c.args.n (c.args.n - 1) c.args.p l c.args.part.now c.args.rest.now c.requires.new.ready (omega (arith, c.requires.new.ready.first)) c.requires.uncoded c.requires.new.inside c.requires.new.has in (
       omega arith,
       reduced_in t c.learn.new.self (set (grown c.args.p l c.args.rest.now t.places) (c.args.n - 1) (piece c.args.part.now)) c.learn.ensures.room c.learn.ensures.places
           (settled_reduced t.shape (grown c.args.p l c.args.rest.now t.places) (c.args.n - 1) c.args.part.now known),
@@ -45,13 +39,13 @@ returns-clause-fed g c =
     let q = c.args.rest.now in
     let part = c.args.part.now in
     let k : ℕ = c.args.n - 1 in
-    let is : c.args.n ≡ suc k = omega (arith, c.requires.ready.first) in
+    let is : c.args.n ≡ suc k = omega (arith, c.requires.new.ready.first) in
     let inside : c.args.p < t.shape.nb_frag = omega arith in
-    let own = c.requires.has in
-    let known = knows_grown t c.args.n k c.args.p l part q c.requires.ready is c.requires.uncoded inside own in
+    let own = c.requires.new.has in
+    let known = knows_grown t c.args.n k c.args.p l part q c.requires.new.ready is c.requires.uncoded inside own in
     let held = reduced_in t now (set (grown c.args.p l q t.places) k (piece part)) c.learn.ensures.room c.learn.ensures.places (settled_reduced t.shape (grown c.args.p l q t.places) k part known) in
-    decided c.decide.result t now c.decide.new.table c.args.n part c.requires.ready.piece.sized c.requires.ready.held c.requires.ready.some
-    (takes_new_piece t now c.args.n k c.args.p l part q c.requires.ready is c.requires.uncoded inside own c.learn.ensures.room c.learn.ensures.places)
+    decided c.decide.result t now c.decide.new.table c.args.n part c.requires.new.ready.piece.sized c.requires.new.ready.held c.requires.new.ready.some
+    (takes_new_piece t now c.args.n k c.args.p l part q c.requires.new.ready is c.requires.uncoded inside own c.learn.ensures.room c.learn.ensures.places)
     held c.learn.ensures.room c.decide.ensures
 
 pub returns-clause-room : goal.returns-clause-room
@@ -64,9 +58,9 @@ returns-clause-held g c =
     let q = c.args.rest.now in
     let part = c.args.part.now in
     let k : ℕ = c.args.n - 1 in
-    let is : c.args.n ≡ suc k = omega (arith, c.requires.ready.first) in
+    let is : c.args.n ≡ suc k = omega (arith, c.requires.new.ready.first) in
     let inside : c.args.p < t.shape.nb_frag = omega arith in
-    let known = knows_grown t c.args.n k c.args.p l part q c.requires.ready is c.requires.uncoded inside c.requires.has in
+    let known = knows_grown t c.args.n k c.args.p l part q c.requires.new.ready is c.requires.uncoded inside c.requires.new.has in
     decided_held c.decide.result c.learn.new.self c.decide.new.table
     (reduced_in t c.learn.new.self (set (grown c.args.p l q t.places) k (piece part)) c.learn.ensures.room c.learn.ensures.places (settled_reduced t.shape (grown c.args.p l q t.places) k part known))
     c.decide.ensures

@@ -11,16 +11,12 @@ pub push-requires : goal.push-requires
 push-requires g c =
     let t = c.args.table.now in (
       omega arith,
-      (
-        c.requires.words,
-        (
-          c.requires.ready.left.piece.sized,
-          (
-            is_new_row t.shape.nb_frag t.shape.frag_size t.places _ c.args.part.now c.args.p (line_in c.args.line.now) c.args.rest.now c.requires.ready.held c.requires.ready.left c.requires.inside c.requires.has,
-            c.requires.spare,
-          ),
-        ),
-      ),
+      record {
+        words = c.requires.new.words;
+        sized = c.requires.new.ready.left.piece.sized;
+        new = is_new_row t.shape.nb_frag t.shape.frag_size t.places _ c.args.part.now c.args.p (line_in c.args.line.now) c.args.rest.now c.requires.new.ready.held c.requires.new.ready.left c.requires.new.inside c.requires.new.has;
+        room = c.requires.spare;
+      },
     )
 
 pub decide-requires : goal.decide-requires
@@ -28,7 +24,7 @@ decide-requires g c =
     let t = c.args.table.now in
     let l : ℕ = line_in c.args.line.now in
     let q = c.args.rest.now in
-    let new = is_new_row t.shape.nb_frag t.shape.frag_size t.places _ c.args.part.now c.args.p l q c.requires.ready.held c.requires.ready.left c.requires.inside c.requires.has in (
+    let new = is_new_row t.shape.nb_frag t.shape.frag_size t.places _ c.args.part.now c.args.p l q c.requires.new.ready.held c.requires.new.ready.left c.requires.new.inside c.requires.new.has in (
       omega arith,
       reduced_in t c.push.new.self (grown c.args.p l q t.places) (room_grown t c.push.new.self (grown c.args.p l q t.places) c.push.ensures.grown) (ap (λ (x : Grid). x.places) c.push.ensures.grown)
           (grown_reduced t.shape.nb_frag t.shape.frag_size t.places c.args.p l q new),
@@ -42,12 +38,12 @@ returns-clause-fed g c =
     let q = c.args.rest.now in
     let part = c.args.part.now in
     let inside : c.args.p < t.shape.nb_frag = omega arith in
-    let own = c.requires.has in
-    let new = is_new_row t.shape.nb_frag t.shape.frag_size t.places _ part c.args.p l q c.requires.ready.held c.requires.ready.left inside own in
+    let own = c.requires.new.has in
+    let new = is_new_row t.shape.nb_frag t.shape.frag_size t.places _ part c.args.p l q c.requires.new.ready.held c.requires.new.ready.left inside own in
     let room = room_grown t now (grown c.args.p l q t.places) c.push.ensures.grown in
     let held = reduced_in t now (grown c.args.p l q t.places) room (ap (λ (x : Grid). x.places) c.push.ensures.grown) (grown_reduced t.shape.nb_frag t.shape.frag_size t.places c.args.p l q new) in
-    decided c.decide.result t now c.decide.new.table c.args.n part c.requires.ready.piece.sized c.requires.ready.held c.requires.ready.some
-    (takes_coded_row t now c.args.n c.args.p l part q c.requires.ready c.requires.coded inside own c.requires.spare c.push.ensures.grown)
+    decided c.decide.result t now c.decide.new.table c.args.n part c.requires.new.ready.piece.sized c.requires.new.ready.held c.requires.new.ready.some
+    (takes_coded_row t now c.args.n c.args.p l part q c.requires.new.ready c.requires.coded inside own c.requires.spare c.push.ensures.grown)
     held room c.decide.ensures
 
 pub returns-clause-room : goal.returns-clause-room
@@ -61,7 +57,7 @@ returns-clause-held g c =
     let l : ℕ = line_in c.args.line.now in
     let q = c.args.rest.now in
     let inside : c.args.p < t.shape.nb_frag = omega arith in
-    let new = is_new_row t.shape.nb_frag t.shape.frag_size t.places _ c.args.part.now c.args.p l q c.requires.ready.held c.requires.ready.left inside c.requires.has in
+    let new = is_new_row t.shape.nb_frag t.shape.frag_size t.places _ c.args.part.now c.args.p l q c.requires.new.ready.held c.requires.new.ready.left inside c.requires.new.has in
     decided_held c.decide.result c.push.new.self c.decide.new.table
     (reduced_in t c.push.new.self (grown c.args.p l q t.places) (room_grown t c.push.new.self (grown c.args.p l q t.places) c.push.ensures.grown) (ap (λ (x : Grid). x.places) c.push.ensures.grown)
     (grown_reduced t.shape.nb_frag t.shape.frag_size t.places c.args.p l q new))

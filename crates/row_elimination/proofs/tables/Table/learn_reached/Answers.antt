@@ -20,42 +20,28 @@ add_piece_and_row-requires g c =
     let shape : Shape = record { nb_frag = s.nb_frag; frag_size = s.frag_size; rows = s.rows } in
     let os : List Column = take s.nb_frag s.columns.items in
     let ps : List Place = places_in s.frag_size s.area.items s.arena os in
-    let ln = c.requires.words ∙ ap (λ (x : Grid). words_for x.shape.nb_frag) (sym c.self.view_is) in
-    let sz : length part ≡ s.frag_size = c.requires.sized ∙ ap (λ (x : Grid). x.shape.frag_size) (sym c.self.view_is) in
-    let new : IsNew s.nb_frag s.frag_size ps c.args.p l part = subst (λ (x : Grid). IsNew x.shape.nb_frag x.shape.frag_size x.places c.args.p l part) (sym c.self.view_is) c.requires.new in
+    let ln = c.requires.new.words ∙ ap (λ (x : Grid). words_for x.shape.nb_frag) (sym c.self.view_is) in
+    let sz : length part ≡ s.frag_size = c.requires.new.sized ∙ ap (λ (x : Grid). x.shape.frag_size) (sym c.self.view_is) in
+    let new : IsNew s.nb_frag s.frag_size ps c.args.p l part = subst (λ (x : Grid). IsNew x.shape.nb_frag x.shape.frag_size x.places c.args.p l part) (sym c.self.view_is) c.requires.new.new in
     let known_is : Knows shape (grown c.args.p l part ps) c.args.k c.args.piece.now =
-    subst (λ (x : Grid). Knows x.shape (grown c.args.p l part x.places) c.args.k c.args.piece.now) (sym c.self.view_is) c.requires.known in
-    let fresh : is_piece (get_or ps c.args.k free) ≡ false = subst (λ (x : Grid). is_piece (get_or x.places c.args.k free) ≡ false) (sym c.self.view_is) c.requires.fresh in
+    subst (λ (x : Grid). Knows x.shape (grown c.args.p l part x.places) c.args.k c.args.piece.now) (sym c.self.view_is) c.requires.new.known in
+    let fresh : is_piece (get_or ps c.args.k free) ≡ false = subst (λ (x : Grid). is_piece (get_or x.places c.args.k free) ≡ false) (sym c.self.view_is) c.requires.new.fresh in
     let cols = i.arena_cols in (
       omega (arith, c.self.invariant.words_few, c.self.invariant.bytes_few),
-      (
-        omega (arith, cols, ap length c.deref_mut.ensures.value, i.most, i.columns_sized),
-        (
-          omega (arith, new.inside, cols),
-          (
-            omega (arith, known_is.inside, cols),
-            (
-              known_is.piece.sized ∙ sym sz,
-              (
-                rw (sz, c.deref_mut-2.ensures.value)
-                    (subst (λ (x : Grid). c.args.k * x.shape.frag_size + x.shape.frag_size ≤ length x.area) (sym c.self.view_is) c.requires.reached),
-                (
-                  rw (c.deref_mut.ensures.value)
-                      (stored_at s.nb_frag s.frag_size s.arena.cols (length part) s.rows s.count s.gained s.columns.items s.spare.items s.known.items s.area.items s.arena i i.arena_cols sz),
-                  (
-                    file_row s.nb_frag s.frag_size s.rows s.count s.gained s.columns.items s.spare.items s.known.items s.area.items s.arena line part i ln new.within sz,
-                    (
-                      rw (c.deref_mut.ensures.value, i.arena_cols)
-                          (learned_kind shape s.area.items s.arena os c.args.k c.args.p l part c.args.piece.now new known_is fresh),
-                      rw (c.deref_mut.ensures.value, i.arena_cols) (lead_free s.nb_frag s.frag_size s.area.items s.arena os c.args.p l part new),
-                    ),
-                  ),
-                ),
-              ),
-            ),
-          ),
-        ),
-      ),
+      record {
+        columns = omega (arith, cols, ap length c.deref_mut.ensures.value, i.most, i.columns_sized);
+        inside = omega (arith, new.inside, cols);
+        piece_inside = omega (arith, known_is.inside, cols);
+        sized = known_is.piece.sized ∙ sym sz;
+        room = rw (sz, c.deref_mut-2.ensures.value)
+            (subst (λ (x : Grid). c.args.k * x.shape.frag_size + x.shape.frag_size ≤ length x.area) (sym c.self.view_is) c.requires.reached);
+        stored = rw (c.deref_mut.ensures.value)
+            (stored_at s.nb_frag s.frag_size s.arena.cols (length part) s.rows s.count s.gained s.columns.items s.spare.items s.known.items s.area.items s.arena i i.arena_cols sz);
+        new = file_row s.nb_frag s.frag_size s.rows s.count s.gained s.columns.items s.spare.items s.known.items s.area.items s.arena line part i ln new.within sz;
+        kind = rw (c.deref_mut.ensures.value, i.arena_cols)
+            (learned_kind shape s.area.items s.arena os c.args.k c.args.p l part c.args.piece.now new known_is fresh);
+        lead = rw (c.deref_mut.ensures.value, i.arena_cols) (lead_free s.nb_frag s.frag_size s.area.items s.arena os c.args.p l part new);
+      },
     )
 
 pub mark-requires-clause-words : goal.mark-requires-clause-words
@@ -89,11 +75,11 @@ invariant_of-self g c =
     let now = c.add_piece_and_row.new in
     let cols : ℕ = arena.cols in
     let cn : cols ≡ nb = i.arena_cols in
-    let sz : length part ≡ size = c.requires.sized ∙ ap (λ (x : Grid). x.shape.frag_size) (sym c.self.view_is) in
-    let new : IsNew nb size ps c.args.p l part = subst (λ (x : Grid). IsNew x.shape.nb_frag x.shape.frag_size x.places c.args.p l part) (sym c.self.view_is) c.requires.new in
+    let sz : length part ≡ size = c.requires.new.sized ∙ ap (λ (x : Grid). x.shape.frag_size) (sym c.self.view_is) in
+    let new : IsNew nb size ps c.args.p l part = subst (λ (x : Grid). IsNew x.shape.nb_frag x.shape.frag_size x.places c.args.p l part) (sym c.self.view_is) c.requires.new.new in
     let known_is : Knows shape (grown c.args.p l part ps) c.args.k c.args.piece.now =
-    subst (λ (x : Grid). Knows x.shape (grown c.args.p l part x.places) c.args.k c.args.piece.now) (sym c.self.view_is) c.requires.known in
-    let fresh : is_piece (get_or ps c.args.k free) ≡ false = subst (λ (x : Grid). is_piece (get_or x.places c.args.k free) ≡ false) (sym c.self.view_is) c.requires.fresh in
+    subst (λ (x : Grid). Knows x.shape (grown c.args.p l part x.places) c.args.k c.args.piece.now) (sym c.self.view_is) c.requires.new.known in
+    let fresh : is_piece (get_or ps c.args.k free) ≡ false = subst (λ (x : Grid). is_piece (get_or x.places c.args.k free) ≡ false) (sym c.self.view_is) c.requires.new.fresh in
     let slots : Slots (take cols columns) s.spare.items s.rows s.count → Slots (take cols now.columns) s.spare.items s.rows s.count =
     subst (λ (os : List Column). Slots (take cols os) s.spare.items s.rows s.count → Slots (take cols now.columns) s.spare.items s.rows s.count) c.deref_mut.ensures.value
     (c.add_piece_and_row.ensures.slots s.spare.items s.rows s.count) in
