@@ -49,7 +49,8 @@ impl<const W: usize, const B: usize> Model for Slot<W, B> {
 impl<const W: usize, const B: usize> Drop for Slot<W, B> {
     /// Gives the memory of its solver back, in whichever state it is.
     fn drop(self) {
-        let Slot { state: _ } = self;
+        let Slot { state } = self;
+        drop(state);
     }
 }
 
@@ -183,7 +184,7 @@ impl<const W: usize, const B: usize> Slot<W, B> {
         ensures { self.new ≡ idle (extent_of self.old) }
     {
         if let Some(state) = self.state.take() {
-            self.state = Some(ended(state));
+            put(&mut self.state, ended(state));
         }
     }
 
@@ -194,7 +195,7 @@ impl<const W: usize, const B: usize> Slot<W, B> {
         ensures extent { extent_of self.new ≡ extent_of self.old }
     {
         if let Some(state) = self.state.take() {
-            self.state = Some(renewed(state, req, limits));
+            put(&mut self.state, renewed(state, req, limits));
         }
     }
 
@@ -206,7 +207,7 @@ impl<const W: usize, const B: usize> Slot<W, B> {
         ensures extent { extent_of self.new ≡ extent_of self.old }
     {
         if let Some(state) = self.state.take() {
-            self.state = Some(fed(state, n, part, mark));
+            put(&mut self.state, fed(state, n, part, mark));
         }
     }
 
@@ -250,6 +251,14 @@ impl<const W: usize, const B: usize> Slot<W, B> {
             _ => None,
         }
     }
+}
+
+/// Puts a state into the place that was left empty for it.
+#[inline(always)]
+fn put<const W: usize, const B: usize>(place: &mut Option<State<W, B>>, state: State<W, B>)
+    ensures { place.new ≡ Some state.entry }
+{
+    *place = Some(state);
 }
 
 /// Whether a fragment changed what is known.
