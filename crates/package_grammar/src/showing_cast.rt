@@ -3,8 +3,8 @@ ghost use Rattle.std.specs.Prelude.{◌≡◌, ◌++◌, OnOk, string_bytes};
 ghost use Rattle.package_grammar.specs.Texts.{cast_text};
 
 use crate::showing_parts::{
-    put_coding, put_fragment, put_frames, put_group_key, put_number, put_pieces, put_session,
-    put_session_answer, put_status, put_text, put_truth, put_word,
+    put_class_b, put_class_c, put_counts, put_flagged, put_fragment, put_group_setup,
+    put_session_answer, put_setup, put_status, put_text, put_word, put_words,
 };
 use cast_wire::{Cmd, refusal_bits};
 use std::alloc::AllocError;
@@ -20,24 +20,23 @@ pub fn put_cast(cmd: &Cmd, text: &mut String) -> Result<(), AllocError>
             identifier,
             version,
         } => {
-            put_word("PackageVersionAns id=", *identifier, text)?;
-            put_word(" version=", *version, text)
+            put_words(
+                "PackageVersionAns id=",
+                *identifier,
+                " version=",
+                *version,
+                text,
+            )
         }
         Cmd::FragSessionStatusReq { index, all } => {
-            put_word("FragSessionStatusReq index=", *index, text)?;
-            put_truth(" all=", *all, text)
+            put_flagged("FragSessionStatusReq index=", *index, " all=", *all, text)
         }
         Cmd::FragSessionStatusAns {
             index,
             received,
             missing,
             norows,
-        } => {
-            put_word("FragSessionStatusAns index=", *index, text)?;
-            put_number(" received=", *received as u32, text)?;
-            put_word(" missing=", *missing, text)?;
-            put_truth(" norows=", *norows, text)
-        }
+        } => { put_counts(*index, *received, *missing, *norows, text) }
         Cmd::FragSessionSetupReq {
             index,
             mask,
@@ -48,8 +47,17 @@ pub fn put_cast(cmd: &Cmd, text: &mut String) -> Result<(), AllocError>
             padding,
             descriptor,
         } => {
-            put_pieces(*index, *mask, *nb_frag, *frag_size, text)?;
-            put_coding(*algo, *delay, *padding, *descriptor, text)
+            put_setup(
+                *index,
+                *mask,
+                *nb_frag,
+                *frag_size,
+                *algo,
+                *delay,
+                *padding,
+                *descriptor,
+                text,
+            )
         }
         Cmd::FragSessionSetupAns {
             index,
@@ -64,8 +72,7 @@ pub fn put_cast(cmd: &Cmd, text: &mut String) -> Result<(), AllocError>
                 *no_memory,
                 *encoding_unsupported,
             );
-            put_word("FragSessionSetupAns index=", *index, text)?;
-            put_word(" bits=", bits, text)
+            put_words("FragSessionSetupAns index=", *index, " bits=", bits, text)
         }
         Cmd::FragSessionDeleteReq { index } => put_word(
             "FragSessionDeleteReq index=",
@@ -73,8 +80,13 @@ pub fn put_cast(cmd: &Cmd, text: &mut String) -> Result<(), AllocError>
             text,
         ),
         Cmd::FragSessionDeleteAns { index, missing } => {
-            put_word("FragSessionDeleteAns index=", *index, text)?;
-            put_truth(" missing=", *missing, text)
+            put_flagged(
+                "FragSessionDeleteAns index=",
+                *index,
+                " missing=",
+                *missing,
+                text,
+            )
         }
         Cmd::DataFragment { index, n, bytes } => put_fragment(*index, *n, bytes.as_slice(), text),
         Cmd::McGroupStatusReq { mask } => put_word("McGroupStatusReq mask=", *mask, text),
@@ -89,18 +101,13 @@ pub fn put_cast(cmd: &Cmd, text: &mut String) -> Result<(), AllocError>
             key,
             min,
             max,
-        } => {
-            put_group_key(*id, *addr, key.as_slice(), text)?;
-            put_frames(*min, *max, text)
-        }
+        } => { put_group_setup(*id, *addr, key.as_slice(), *min, *max, text) }
         Cmd::McGroupSetupAns { id, error } => {
-            put_word("McGroupSetupAns id=", *id, text)?;
-            put_truth(" error=", *error, text)
+            put_flagged("McGroupSetupAns id=", *id, " error=", *error, text)
         }
         Cmd::McGroupDeleteReq { id } => put_word("McGroupDeleteReq id=", *id, text),
         Cmd::McGroupDeleteAns { id, undefined } => {
-            put_word("McGroupDeleteAns id=", *id, text)?;
-            put_truth(" undefined=", *undefined, text)
+            put_flagged("McGroupDeleteAns id=", *id, " undefined=", *undefined, text)
         }
         Cmd::McClassCSessionReq {
             id,
@@ -108,11 +115,7 @@ pub fn put_cast(cmd: &Cmd, text: &mut String) -> Result<(), AllocError>
             timeout,
             freq,
             dr,
-        } => {
-            put_word("McClassCSessionReq id=", *id, text)?;
-            put_number(" time=", *time, text)?;
-            put_session(*timeout, *freq, *dr, text)
-        }
+        } => { put_class_c(*id, *time, *timeout, *freq, *dr, text) }
         Cmd::McClassCSessionAns {
             id,
             undefined,
@@ -132,12 +135,7 @@ pub fn put_cast(cmd: &Cmd, text: &mut String) -> Result<(), AllocError>
             timeout,
             freq,
             dr,
-        } => {
-            put_word("McClassBSessionReq id=", *id, text)?;
-            put_number(" time=", *time, text)?;
-            put_word(" periodicity=", *periodicity, text)?;
-            put_session(*timeout, *freq, *dr, text)
-        }
+        } => { put_class_b(*id, *time, *periodicity, *timeout, *freq, *dr, text) }
         Cmd::McClassBSessionAns {
             id,
             undefined,

@@ -77,6 +77,36 @@ pub fn put_truth(head: &str, value: bool, text: &mut String) -> Result<(), Alloc
     put_word(head, flag_value(value, 1), text)
 }
 
+/// Puts two heads, each with its number, at the end.
+pub fn put_words(
+    head: &str,
+    number: u8,
+    next: &str,
+    other: u8,
+    text: &mut String,
+) -> Result<(), AllocError>
+    ensures { OnOk result (string_bytes text.new
+        ≡ string_bytes text.old ++ (head.now ++ decimal number ++ (next.now ++ decimal other))) }
+{
+    put_word(head, number, text)?;
+    put_word(next, other, text)
+}
+
+/// Puts a head with its number, and one with a truth value, at the end.
+pub fn put_flagged(
+    head: &str,
+    number: u8,
+    next: &str,
+    value: bool,
+    text: &mut String,
+) -> Result<(), AllocError>
+    ensures { OnOk result (string_bytes text.new
+        ≡ string_bytes text.old ++ (head.now ++ decimal number ++ (next.now ++ truth value))) }
+{
+    put_word(head, number, text)?;
+    put_truth(next, value, text)
+}
+
 /// The same of a number that may be absent: a dash then.
 pub fn put_there(head: &str, number: Option<u32>, text: &mut String) -> Result<(), AllocError>
     ensures { OnOk result
@@ -129,8 +159,28 @@ fn put_groups(groups: &[GroupAddress], text: &mut String) -> Result<(), AllocErr
     }
 }
 
+/// A FragSessionSetupReq.
+pub fn put_setup(
+    index: u8,
+    mask: u8,
+    nb_frag: u16,
+    frag_size: u8,
+    algo: u8,
+    delay: u8,
+    padding: u8,
+    descriptor: u32,
+    text: &mut String,
+) -> Result<(), AllocError>
+    ensures { OnOk result (string_bytes text.new
+        ≡ string_bytes text.old ++ (pieces_text index mask nb_frag frag_size
+        ++ coding_text algo delay padding descriptor)) }
+{
+    put_pieces(index, mask, nb_frag, frag_size, text)?;
+    put_coding(algo, delay, padding, descriptor, text)
+}
+
 /// A FragSessionSetupReq's session and pieces.
-pub fn put_pieces(
+fn put_pieces(
     index: u8,
     mask: u8,
     nb_frag: u16,
@@ -147,7 +197,7 @@ pub fn put_pieces(
 }
 
 /// A FragSessionSetupReq's coding, and what the file is.
-pub fn put_coding(
+fn put_coding(
     algo: u8,
     delay: u8,
     padding: u8,
@@ -164,8 +214,43 @@ pub fn put_coding(
     put_number_hex(descriptor, text)
 }
 
+/// A FragSessionStatusAns.
+pub fn put_counts(
+    index: u8,
+    received: u16,
+    missing: u8,
+    norows: bool,
+    text: &mut String,
+) -> Result<(), AllocError>
+    ensures { OnOk result (string_bytes text.new
+        ≡ string_bytes text.old ++ (codes "FragSessionStatusAns index=" ++ decimal index
+        ++ (codes " received=" ++ decimal received
+        ++ (codes " missing=" ++ decimal missing ++ (codes " norows=" ++ truth norows))))) }
+{
+    put_word("FragSessionStatusAns index=", index, text)?;
+    put_number(" received=", received as u32, text)?;
+    put_word(" missing=", missing, text)?;
+    put_truth(" norows=", norows, text)
+}
+
+/// A McGroupSetupReq.
+pub fn put_group_setup(
+    id: u8,
+    addr: u32,
+    key: &[u8],
+    min: u32,
+    max: u32,
+    text: &mut String,
+) -> Result<(), AllocError>
+    ensures { OnOk result (string_bytes text.new
+        ≡ string_bytes text.old ++ (group_key_text id addr key.now ++ frames_text min max)) }
+{
+    put_group_key(id, addr, key, text)?;
+    put_frames(min, max, text)
+}
+
 /// A McGroupSetupReq's group, with its wrapped key.
-pub fn put_group_key(id: u8, addr: u32, key: &[u8], text: &mut String) -> Result<(), AllocError>
+fn put_group_key(id: u8, addr: u32, key: &[u8], text: &mut String) -> Result<(), AllocError>
     ensures { OnOk result
         (string_bytes text.new ≡ string_bytes text.old ++ group_key_text id addr key.now) }
 {
@@ -177,15 +262,58 @@ pub fn put_group_key(id: u8, addr: u32, key: &[u8], text: &mut String) -> Result
 }
 
 /// A McGroupSetupReq's frame counts.
-pub fn put_frames(min: u32, max: u32, text: &mut String) -> Result<(), AllocError>
+fn put_frames(min: u32, max: u32, text: &mut String) -> Result<(), AllocError>
     ensures { OnOk result (string_bytes text.new ≡ string_bytes text.old ++ frames_text min max) }
 {
     put_number(" min=", min, text)?;
     put_number(" max=", max, text)
 }
 
+/// A McClassCSessionReq.
+pub fn put_class_c(
+    id: u8,
+    time: u32,
+    timeout: u8,
+    freq: u32,
+    dr: u8,
+    text: &mut String,
+) -> Result<(), AllocError>
+    ensures { OnOk result (string_bytes text.new
+        ≡ string_bytes text.old ++ (codes "McClassCSessionReq id=" ++ decimal id
+        ++ (codes " time=" ++ decimal time
+        ++ (codes " timeout=" ++ decimal timeout
+        ++ (codes " freq=" ++ decimal freq ++ (codes " dr=" ++ decimal dr)))))) }
+{
+    put_word("McClassCSessionReq id=", id, text)?;
+    put_number(" time=", time, text)?;
+    put_session(timeout, freq, dr, text)
+}
+
+/// A McClassBSessionReq.
+pub fn put_class_b(
+    id: u8,
+    time: u32,
+    periodicity: u8,
+    timeout: u8,
+    freq: u32,
+    dr: u8,
+    text: &mut String,
+) -> Result<(), AllocError>
+    ensures { OnOk result (string_bytes text.new
+        ≡ string_bytes text.old ++ (codes "McClassBSessionReq id=" ++ decimal id
+        ++ (codes " time=" ++ decimal time
+        ++ (codes " periodicity=" ++ decimal periodicity
+        ++ (codes " timeout=" ++ decimal timeout
+        ++ (codes " freq=" ++ decimal freq ++ (codes " dr=" ++ decimal dr))))))) }
+{
+    put_word("McClassBSessionReq id=", id, text)?;
+    put_number(" time=", time, text)?;
+    put_word(" periodicity=", periodicity, text)?;
+    put_session(timeout, freq, dr, text)
+}
+
 /// When a session begins, how long it lasts at most, and how it is heard.
-pub fn put_session(timeout: u8, freq: u32, dr: u8, text: &mut String) -> Result<(), AllocError>
+fn put_session(timeout: u8, freq: u32, dr: u8, text: &mut String) -> Result<(), AllocError>
     ensures { OnOk result (string_bytes text.new
         ≡ string_bytes text.old ++ (codes " timeout=" ++ decimal timeout
         ++ (codes " freq=" ++ decimal freq ++ (codes " dr=" ++ decimal dr)))) }

@@ -1,0 +1,5 @@
+use Rattle.package_grammar.proofs.Appended.{two_put}
+use Rattle.package_grammar.proofs.showing_parts.put_setup.Goals as goal
+
+pub returns : goal.returns
+returns c = two_put _ _ _ _ _ _ c.in_ok-put_pieces.ensures c.put_coding.ensures
