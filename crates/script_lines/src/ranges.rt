@@ -1,6 +1,7 @@
 //! The ranges of a form's numbers.
 
-ghost use Rattle.std.specs.Prelude.{◌≡◌};
+ghost use Rattle.std.specs.Prelude.{◌≡◌, ◌&&◌, nat_le, nat_lt};
+ghost use Rattle.script_lines.specs.Limits.{max_frag_size, max_index, max_parity};
 ghost use Rattle.script_lines.specs.Ranges.{in_range, is_u32, is_window, is_device};
 
 use crate::forms::Form;
@@ -37,15 +38,8 @@ pub fn in_range(form: &Form) -> bool
             frag_size,
             parity,
             index,
-        } => {
-            1 <= frag_size
-                && frag_size <= MAX_FRAG_SIZE
-                && parity <= MAX_PARITY
-                && index <= MAX_INDEX
-        }
-        Form::Group { id, min, max, .. } => {
-            is_u32(min) && is_u32(max) && min < max && id <= MAX_INDEX
-        }
+        } => is_image(frag_size, parity, index),
+        Form::Group { id, min, max, .. } => is_group(id, min, max),
         Form::WindowC {
             start,
             timeout,
@@ -80,6 +74,21 @@ pub fn is_u32(n: u64) -> bool
     ensures { result ≡ is_u32 n }
 {
     n < 1 << 32
+}
+
+/// Whether an image's numbers are within their ranges.
+fn is_image(frag_size: u64, parity: u64, index: u64) -> bool
+    ensures { result ≡ nat_le 1 frag_size && nat_le frag_size max_frag_size
+        && nat_le parity max_parity && nat_le index max_index }
+{
+    1 <= frag_size && frag_size <= MAX_FRAG_SIZE && parity <= MAX_PARITY && index <= MAX_INDEX
+}
+
+/// Whether a group's numbers are within their ranges.
+fn is_group(id: u64, min: u64, max: u64) -> bool
+    ensures { result ≡ is_u32 min && is_u32 max && nat_lt min max && nat_le id max_index }
+{
+    is_u32(min) && is_u32(max) && min < max && id <= MAX_INDEX
 }
 
 /// Whether a window's numbers are within their bits.
