@@ -19,24 +19,26 @@ pub fn put_cast(cmd: &Cmd, text: &mut String) -> Result<(), AllocError>
         Cmd::PackageVersionAns {
             identifier,
             version,
-        } => {
-            put_words(
-                "PackageVersionAns id=",
-                *identifier,
-                " version=",
-                *version,
-                text,
-            )
-        }
-        Cmd::FragSessionStatusReq { index, all } => {
-            put_flagged("FragSessionStatusReq index=", *index, " all=", *all, text)
-        }
+        } => put_words(
+            "PackageVersionAns id=",
+            *identifier,
+            " version=",
+            *version,
+            text,
+        ),
+        Cmd::FragSessionStatusReq { index, all } => put_flagged(
+            "FragSessionStatusReq index=",
+            *index,
+            " all=",
+            *all,
+            text,
+        ),
         Cmd::FragSessionStatusAns {
             index,
             received,
             missing,
             norows,
-        } => { put_counts(*index, *received, *missing, *norows, text) }
+        } => put_counts(*index, *received, *missing, *norows, text),
         Cmd::FragSessionSetupReq {
             index,
             mask,
@@ -46,19 +48,17 @@ pub fn put_cast(cmd: &Cmd, text: &mut String) -> Result<(), AllocError>
             delay,
             padding,
             descriptor,
-        } => {
-            put_setup(
-                *index,
-                *mask,
-                *nb_frag,
-                *frag_size,
-                *algo,
-                *delay,
-                *padding,
-                *descriptor,
-                text,
-            )
-        }
+        } => put_setup(
+            *index,
+            *mask,
+            *nb_frag,
+            *frag_size,
+            *algo,
+            *delay,
+            *padding,
+            *descriptor,
+            text,
+        ),
         Cmd::FragSessionSetupAns {
             index,
             wrong_descriptor,
@@ -79,15 +79,13 @@ pub fn put_cast(cmd: &Cmd, text: &mut String) -> Result<(), AllocError>
             *index,
             text,
         ),
-        Cmd::FragSessionDeleteAns { index, missing } => {
-            put_flagged(
-                "FragSessionDeleteAns index=",
-                *index,
-                " missing=",
-                *missing,
-                text,
-            )
-        }
+        Cmd::FragSessionDeleteAns { index, missing } => put_flagged(
+            "FragSessionDeleteAns index=",
+            *index,
+            " missing=",
+            *missing,
+            text,
+        ),
         Cmd::DataFragment { index, n, bytes } => put_fragment(*index, *n, bytes.as_slice(), text),
         Cmd::McGroupStatusReq { mask } => put_word("McGroupStatusReq mask=", *mask, text),
         Cmd::McGroupStatusAns {
@@ -101,21 +99,29 @@ pub fn put_cast(cmd: &Cmd, text: &mut String) -> Result<(), AllocError>
             key,
             min,
             max,
-        } => { put_group_setup(*id, *addr, key.as_slice(), *min, *max, text) }
-        Cmd::McGroupSetupAns { id, error } => {
-            put_flagged("McGroupSetupAns id=", *id, " error=", *error, text)
-        }
+        } => put_group_setup(*id, *addr, key.as_slice(), *min, *max, text),
+        Cmd::McGroupSetupAns { id, error } => put_flagged(
+            "McGroupSetupAns id=",
+            *id,
+            " error=",
+            *error,
+            text,
+        ),
         Cmd::McGroupDeleteReq { id } => put_word("McGroupDeleteReq id=", *id, text),
-        Cmd::McGroupDeleteAns { id, undefined } => {
-            put_flagged("McGroupDeleteAns id=", *id, " undefined=", *undefined, text)
-        }
+        Cmd::McGroupDeleteAns { id, undefined } => put_flagged(
+            "McGroupDeleteAns id=",
+            *id,
+            " undefined=",
+            *undefined,
+            text,
+        ),
         Cmd::McClassCSessionReq {
             id,
             time,
             timeout,
             freq,
             dr,
-        } => { put_class_c(*id, *time, *timeout, *freq, *dr, text) }
+        } => put_class_c(*id, *time, *timeout, *freq, *dr, text),
         Cmd::McClassCSessionAns {
             id,
             undefined,
@@ -135,7 +141,7 @@ pub fn put_cast(cmd: &Cmd, text: &mut String) -> Result<(), AllocError>
             timeout,
             freq,
             dr,
-        } => { put_class_b(*id, *time, *periodicity, *timeout, *freq, *dr, text) }
+        } => put_class_b(*id, *time, *periodicity, *timeout, *freq, *dr, text),
         Cmd::McClassBSessionAns {
             id,
             undefined,

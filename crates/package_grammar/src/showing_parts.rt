@@ -77,6 +77,20 @@ pub fn put_truth(head: &str, value: bool, text: &mut String) -> Result<(), Alloc
     put_word(head, flag_value(value, 1), text)
 }
 
+/// The same of a number that may be absent: a dash then.
+pub fn put_there(head: &str, number: Option<u32>, text: &mut String) -> Result<(), AllocError>
+    ensures { OnOk result
+        (string_bytes text.new ≡ string_bytes text.old ++ (head.now ++ there number)) }
+{
+    match number {
+        Some(number) => put_number(head, number, text),
+        None => {
+            put_text(head, text)?;
+            text.push('-')
+        }
+    }
+}
+
 /// Puts two heads, each with its number, at the end.
 pub fn put_words(
     head: &str,
@@ -105,20 +119,6 @@ pub fn put_flagged(
 {
     put_word(head, number, text)?;
     put_truth(next, value, text)
-}
-
-/// The same of a number that may be absent: a dash then.
-pub fn put_there(head: &str, number: Option<u32>, text: &mut String) -> Result<(), AllocError>
-    ensures { OnOk result
-        (string_bytes text.new ≡ string_bytes text.old ++ (head.now ++ there number)) }
-{
-    match number {
-        Some(number) => put_number(head, number, text),
-        None => {
-            put_text(head, text)?;
-            text.push('-')
-        }
-    }
 }
 
 fn put_group(group: &GroupAddress, text: &mut String) -> Result<(), AllocError>

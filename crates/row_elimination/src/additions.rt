@@ -1,10 +1,10 @@
 //! What a fragment adds to the table: a row, a piece, or a piece that takes the place of a row.
 
-ghost use Rattle.std.specs.Prelude.{◌≡◌, ◌≢◌, ◌⊎◌, ℕ, ◌+◌, ◌*◌, ◌<◌, ◌≤◌, length, get_or, List, set, take};
+ghost use Rattle.std.specs.Prelude.{◌≡◌, ◌≢◌, ℕ, ◌+◌, ◌*◌, ◌<◌, ◌≤◌, length, get_or, List, set, take};
 ghost use Rattle.row_arena.specs.Rows.{Arena, line_in};
 ghost use Rattle.row_elimination.specs.PackedColumns.{last_slot};
 ghost use Rattle.row_elimination.specs.HeldPlaces.{piece, piece as known, grown};
-ghost use Rattle.row_elimination.specs.HeldStorage.{places_in, IsStored, IsRowOf, SameShape, Slots, TakesOver};
+ghost use Rattle.row_elimination.specs.HeldStorage.{places_in, IsRowOf, SameShape, Slots, TakesOver};
 ghost use Rattle.row_elimination.specs.Asked.{MayAddRow, MayAddBoth};
 
 use crate::columns::{Column, PackedColumn};

@@ -1,14 +1,13 @@
 //! Taking the columns that lead out of an equation, and a new row's column out of the rows.
 
-ghost use Rattle.std.specs.Prelude.{◌≡◌, ◌≢◌, ℕ, List, ◌+◌, ◌*◌, ◌<◌, ◌≤◌, ◌^◌, length, take, get_or, slice_index, bit_xor};
+ghost use Rattle.std.specs.Prelude.{◌≡◌, ℕ, ◌+◌, ◌*◌, ◌<◌, ◌≤◌, length, take, slice_index, bit_xor};
 ghost use Rattle.std.specs.Int.{bit_at};
 ghost use Rattle.std.specs.Simd.Lanes.{zip2};
-ghost use Rattle.frag_model.specs.Fragments.{IsPiece, columns_in};
+ghost use Rattle.frag_model.specs.Fragments.{columns_in};
 ghost use Rattle.row_arena.specs.Rows.{line_in, words_for};
 ghost use Rattle.row_arena.specs.Sums.{after_flips, AreInside, IsSum};
 ghost use Rattle.row_elimination.specs.HeldTable.{max_line_words};
-ghost use Rattle.row_elimination.specs.Inside.{IsReduced, Marks};
-ghost use Rattle.row_elimination.specs.HeldStorage.{places_in, IsStored, IsRowOf, Clears, ClearsAll};
+ghost use Rattle.row_elimination.specs.HeldStorage.{places_in, IsRowOf, Clears, ClearsAll};
 ghost use Rattle.row_elimination.specs.HeldSteps.{Reduced, TakesRow, TakesRows};
 ghost use Rattle.row_elimination.specs.Asked.{MayPass, MayTakeRows};
 

@@ -1,7 +1,7 @@
 //! A file that is recovered from whatever fragments of it come.
 
 ghost use Rattle.std.specs.Prelude.{◌≡◌, ◌*◌, ◌+◌, ◌/◌, ◌<◌, ◌≤◌, length, max, is_ok, IfOk, OnOk, OnErr};
-ghost use Rattle.frag_model.specs.Fragments.{Shape, columns_in, draws_of, line_of};
+ghost use Rattle.frag_model.specs.Fragments.{columns_in, draws_of, line_of};
 ghost use Rattle.row_elimination.specs.HeldSolver.{missing_of, TwoFit, IsBegun, Receives, Completes, Contradicts, Overflows};
 ghost use Rattle.row_elimination.specs.HeldPlaces.{pieces_held};
 ghost use Rattle.row_elimination.specs.Room.{extent_for, has_room};

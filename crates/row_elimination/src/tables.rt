@@ -1,13 +1,13 @@
 //! The table of all that is held: pieces in their area, and the rows in slots.
 
-ghost use Rattle.std.specs.Prelude.{◌≡◌, ◌≢◌, ℕ, ◌+◌, ◌-◌, ◌*◌, ◌<◌, ◌≤◌, ◌==◌, ◌++◌, length, get_or, set, replicate, take, true, false, IfOk, bit_xor, ◌^◌, MatchOption, nat_le, vec_capacity};
+ghost use Rattle.std.specs.Prelude.{◌≡◌, ℕ, ◌+◌, ◌-◌, ◌*◌, ◌<◌, ◌≤◌, ◌==◌, ◌++◌, length, get_or, set, replicate, take, true, false, IfOk, bit_xor, ◌^◌, MatchOption, vec_capacity};
 ghost use Rattle.frag_model.specs.Fragments.{Equation, IsPiece, columns_in};
 ghost use Rattle.row_arena.specs.Limits.{max_bytes, max_words};
 ghost use Rattle.row_arena.specs.Rows.{has_room, line_in, words_for};
 ghost use Rattle.row_elimination.specs.HeldPlaces.{free, piece as known, is_piece, grown, pieces_held, rows_held, gained_held};
 ghost use Rattle.row_elimination.specs.Inside.{IsReduced};
 ghost use Rattle.row_elimination.specs.HeldStorage.{chunk};
-ghost use Rattle.row_elimination.specs.HeldSteps.{Reduced, IsNew, Knows, Tells};
+ghost use Rattle.row_elimination.specs.HeldSteps.{Reduced, Knows, Tells};
 ghost use Rattle.row_elimination.specs.HeldTable.{Grid, SameRoom, max_line_words};
 ghost use Rattle.frag_model.specs.Limits.{max_pieces};
 ghost use Rattle.row_elimination.specs.Asked.{MayReduce, MayPush, MayLearn};

@@ -1,15 +1,14 @@
 //! Taking one fragment into a table.
 
-ghost use Rattle.std.specs.Prelude.{◌≡◌, ◌≢◌, ℕ, ◌+◌, ◌-◌, ◌*◌, ◌/◌, ◌^◌, ◌<◌, ◌≤◌, length, get_or, true, false, All, MatchOption};
+ghost use Rattle.std.specs.Prelude.{◌≡◌, ◌≢◌, ℕ, ◌+◌, ◌-◌, ◌*◌, ◌/◌, ◌<◌, ◌≤◌, length, get_or, true, false, MatchOption};
 ghost use Rattle.std.specs.Int.{bit_at};
-ghost use Rattle.frag_model.specs.Fragments.{IsPiece, columns_in, draws_of, line_of, xor_bytes};
+ghost use Rattle.frag_model.specs.Fragments.{columns_in, draws_of, line_of};
 ghost use Rattle.row_arena.specs.Rows.{line_in, words_for};
-ghost use Rattle.row_elimination.specs.declared.stages.Stage.{Stage};
 ghost use Rattle.row_elimination.specs.declared.stages.Stage.TheVariants as stage;
-ghost use Rattle.row_elimination.specs.HeldPlaces.{free, piece as known, gained_held, rows_held};
+ghost use Rattle.row_elimination.specs.HeldPlaces.{gained_held, rows_held};
 ghost use Rattle.row_elimination.specs.Inside.{IsReduced};
 ghost use Rattle.row_elimination.specs.HeldTable.{SameRoom, max_line_words};
-ghost use Rattle.row_elimination.specs.HeldSolver.{Takes, Receives};
+ghost use Rattle.row_elimination.specs.HeldSolver.{Takes};
 ghost use Rattle.row_elimination.specs.HeldTaking.{held_of, IsReady, IsZero, stage_after, FedAs, DecidedAs};
 ghost use Rattle.frag_model.specs.Limits.{max_parity_index, max_pieces};
 ghost use Rattle.row_elimination.specs.Asked.{MayTakeAgain, MayTakeFirst, MayTakeIn, MayTakeNew};
