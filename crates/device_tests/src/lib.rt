@@ -1,8 +1,12 @@
-//! Tests of `device_core`, payload by payload and frame by frame, and over a flash that stops. There is no other code
-//! here.
+//! Tests of `device_core`, payload by payload and frame by frame, and over a flash that stops, of `campaign_server`, and of
+//! the samples and `campaign_generator`. There is no other code here.
 #![tactic(auto)]
 
 #[cfg(test)]
+mod device;
+#[cfg(test)]
 mod power;
 #[cfg(test)]
-mod tests;
+mod samples;
+#[cfg(test)]
+mod server;

@@ -14,7 +14,7 @@ use std::test::*;
 use wire_base::Payload;
 
 /// An image file for hardware 1 with firmware 2, its body and digest those of the text abc, in two pieces of 26 bytes.
-const IMAGE: [u8; 52] = [
+static IMAGE: [u8; 52] = [
     0x46, 0x55, 0x49, 0x4d, 0x01, 0x01, 0x00, 0x00, 0x00, 0x02, 0x00, 0x00, 0x00, 0x03, 0x00, 0x00,
     0x00, 0xba, 0x78, 0x16, 0xbf, 0x8f, 0x01, 0xcf, 0xea, 0x41, 0x41, 0x40, 0xde, 0x5d, 0xae, 0x22,
     0x23, 0xb0, 0x03, 0x61, 0xa3, 0x96, 0x17, 0x7a, 0x9c, 0xb4, 0x10, 0xff, 0x61, 0xf2, 0x00, 0x15,
@@ -48,7 +48,7 @@ const CONFIG: DeviceConfig = DeviceConfig {
 
 /// The payloads of the update on port 201: a status request with a setup of session 0 behind it, piece 1 twice, a setup
 /// of session 3, piece 2, and the end of session 3 with a status request behind it.
-const PAYLOADS: [&[u8]; 6] = [
+static PAYLOADS: [&[u8]; 6] = [
     &[0x01, 0x01, 0x02, 0x00, 2, 0, 26, 0x00, 0, 0, 0, 0, 0],
     &[
         0x08, 0x01, 0x00, 0x46, 0x55, 0x49, 0x4d, 0x01, 0x01, 0x00, 0x00, 0x00, 0x02, 0x00, 0x00,
@@ -69,8 +69,11 @@ const PAYLOADS: [&[u8]; 6] = [
 /// What sessions 0 and 3 received; none where there is no session.
 type Shown = (Option<u16>, Option<u16>);
 
-fn memory(alloc: Global) -> Result<MemFlash, Fail> {
-    Ok(MemFlash::reserve(alloc, 4 * SPAN, ROOM, Vec::new(alloc))?)
+fn memory(rt: &impl Abort, alloc: Global) -> MemFlash {
+    match MemFlash::reserve(alloc, 4 * SPAN, ROOM, Vec::new(alloc)) {
+        Ok(flash) => flash,
+        Err(_) => panic!(rt; "no memory"),
+    }
 }
 
 /// A device whose flash is stopped after so many calls.
@@ -138,20 +141,25 @@ fn is_done(device: &Device<StopFlash>) -> bool {
         && device.slots().next() == ImageState::Valid(2)
 }
 
-/// What the sessions show before each payload, and behind the last.
-fn all_shown(rt: &impl Abort, alloc: Global) -> Result<[Shown; 7], Fail> {
-    let mut device = device(rt, alloc, memory(alloc)?, ALL);
+/// What the sessions of a device that gets power show before each payload, and behind the last.
+fn all_shown_by(rt: &impl Abort, device: &mut Device<StopFlash>) -> [Shown; 7] {
     assert!(rt; device.is_down());
-    assert!(rt; power(rt, &mut device));
+    assert!(rt; power(rt, device));
     let mut all = [(None, None); 7];
     for (at, payload) in PAYLOADS.iter().enumerate() {
-        all[at] = shows(&device);
-        assert!(rt; acted(rt, &mut device, payload));
+        all[at] = shows(device);
+        assert!(rt; acted(rt, device, payload));
     }
-    all[6] = shows(&device);
-    assert!(rt; is_done(&device));
+    all[6] = shows(device);
+    assert!(rt; is_done(device));
+    all
+}
+
+fn all_shown(rt: &impl Abort, alloc: Global) -> [Shown; 7] {
+    let mut device = device(rt, alloc, memory(rt, alloc), ALL);
+    let all = all_shown_by(rt, &mut device);
     drop(device);
-    Ok(all)
+    all
 }
 
 /// The update from a payload on, as far as the flash goes; how many payloads acted by then.
@@ -179,31 +187,42 @@ fn resumes(rt: &impl Abort, device: &mut Device<StopFlash>, all: &[Shown; 7], at
     at
 }
 
-/// The update with a flash that is stopped after so many calls, and another device over what it left; true where no
-/// call was stopped.
-fn goes_on(rt: &impl Abort, alloc: Global, all: &[Shown; 7], calls: u64) -> Result<bool, Fail> {
-    let mut first = device(rt, alloc, memory(alloc)?, calls);
-    let at = if power(rt, &mut first) {
-        updated(rt, &mut first, 0)
+/// The update with a flash that is stopped, from its first power on; how many payloads acted by then.
+fn goes_as_far(rt: &impl Abort, first: &mut Device<StopFlash>) -> usize {
+    let at = if power(rt, first) {
+        updated(rt, first, 0)
     } else {
         0
     };
     assert!(rt; first.is_down() == (at < 6));
+    at
+}
+
+/// The update goes on behind a stop in the payload `at`, to its end.
+fn ends(rt: &impl Abort, again: &mut Device<StopFlash>, all: &[Shown; 7], at: usize) {
+    let from = resumes(rt, again, all, at);
+    assert!(rt; updated(rt, again, from) == 6);
+    assert!(rt; is_done(again));
+}
+
+/// The update with a flash that is stopped after so many calls, and another device over what it left; true where no
+/// call was stopped.
+fn goes_on(rt: &impl Abort, alloc: Global, all: &[Shown; 7], calls: u64) -> bool {
+    let mut first = device(rt, alloc, memory(rt, alloc), calls);
+    let at = goes_as_far(rt, &mut first);
     let mut again = over(rt, alloc, first);
-    let from = resumes(rt, &mut again, all, at);
-    assert!(rt; updated(rt, &mut again, from) == 6);
-    assert!(rt; is_done(&again));
+    ends(rt, &mut again, all, at);
     drop(again);
-    Ok(at == 6)
+    at == 6
 }
 
 #[test]
-fn an_update_goes_on_after_a_stop_at_any_call(rt: HostRuntime) -> Result<(), Fail> {
-    let all = all_shown(&rt, rt.alloc())?;
+fn an_update_goes_on_after_a_stop_at_any_call(rt: HostRuntime) {
+    let all = all_shown(&rt, rt.alloc());
     for calls in 0..1_000 {
-        if goes_on(&rt, rt.alloc(), &all, calls)? {
+        if goes_on(&rt, rt.alloc(), &all, calls) {
             assert!(&rt; calls > 25);
-            return Ok(());
+            return;
         }
     }
     panic!(&rt; "it never ends");

@@ -8,7 +8,7 @@ use frag_session::{Cause, Heard, Idle, Limits, News, SetupReq, Verdict, Via};
 use row_elimination::Solver;
 use std::alloc::Global;
 use std::process::Abort;
-use std::test::Fail;
+use std::test::*;
 
 /// Storage for four rows of eight pieces of a byte.
 type SmallHeld = Held<4, 4>;
@@ -154,8 +154,19 @@ fn shows(held: &SmallHeld) -> Shown {
 }
 
 /// Memory for a flash of so many bytes, none of whose calls fails.
-fn memory(alloc: Global, size: u32, room: u32) -> Result<MemFlash, Fail> {
-    Ok(MemFlash::reserve(alloc, size, room, Vec::new(alloc))?)
+fn memory(rt: &impl Abort, alloc: Global, size: u32, room: u32) -> MemFlash {
+    match MemFlash::reserve(alloc, size, room, Vec::new(alloc)) {
+        Ok(flash) => flash,
+        Err(_) => panic!(rt; "no memory"),
+    }
+}
+
+/// The same for a session from 0 on, of which no call is written down.
+fn cells(rt: &impl Abort, alloc: Global) -> CellFlash {
+    match CellFlash::reserve(alloc, SPAN) {
+        Ok(flash) => flash,
+        Err(_) => panic!(rt; "no memory"),
+    }
 }
 
 /// What is left of a call that was stopped.
@@ -167,10 +178,10 @@ struct Left {
 }
 
 /// The last call after others, stopped after `k` calls of the flash.
-fn stop(rt: &impl Abort, alloc: Global, before: &[Call], last: Call, k: u64) -> Result<Left, Fail> {
-    let mut flash = memory(alloc, SPAN, ROOM)?;
+fn stop(rt: &impl Abort, alloc: Global, before: &[Call], last: Call, k: u64) -> Left {
+    let mut flash = memory(rt, alloc, SPAN, ROOM);
     let held = make_all(rt, &mut flash, solver(rt, alloc), before);
-    Ok(make_stopped(rt, held, 0, flash, last, k))
+    make_stopped(rt, held, 0, flash, last, k)
 }
 
 /// A call of the session from `base` on that is stopped after `k` calls of the flash.
@@ -206,7 +217,7 @@ struct Stopped<'a> {
 
 const ONE: [Call; 2] = [Call::Setup(4), Call::Hear(1, 0x11)];
 
-const STOPPED: [Stopped; 9] = [
+static STOPPED: [Stopped; 9] = [
     // A record and its gate, each written and synced.
     Stopped {
         before: &ONE,
@@ -277,26 +288,36 @@ fn opens<F: Flash>(
     idle: SmallIdle,
     found: Shown,
 ) -> bool {
-    shows(&open_at(rt, flash, base, idle)) == found
+    let held = open_at(rt, flash, base, idle);
+    let shown = shows(&held);
+    drop(held);
+    shown == found
 }
 
-fn opens_again(rt: &impl Abort, alloc: Global, row: &Stopped) -> Result<(), Fail> {
+/// What opens where the call is stopped after `k` calls of the flash; whether it was done by then.
+fn opens_behind(rt: &impl Abort, alloc: Global, row: &Stopped, k: u64, found: Shown) -> bool {
+    let Left {
+        mut flash,
+        idle,
+        done,
+    } = stop(rt, alloc, row.before, row.last, k);
+    assert!(rt; opens(rt, &mut flash, 0, idle, found));
+    drop(flash);
+    done
+}
+
+fn opens_again(rt: &impl Abort, alloc: Global, row: &Stopped) {
     for (k, found) in row.found.iter().enumerate() {
-        let left = stop(rt, alloc, row.before, row.last, k as u64)?;
-        assert!(rt; left.done == (k + 1 == row.found.len()));
-        let mut flash = left.flash;
-        assert!(rt; opens(rt, &mut flash, 0, left.idle, *found));
-        drop(flash);
+        let done = opens_behind(rt, alloc, row, k as u64, *found);
+        assert!(rt; done == (k + 1 == row.found.len()));
     }
-    Ok(())
 }
 
 #[test]
-fn a_stop_leaves_what_was_or_what_comes(rt: HostRuntime) -> Result<(), Fail> {
+fn a_stop_leaves_what_was_or_what_comes(rt: HostRuntime) {
     for row in &STOPPED {
-        opens_again(&rt, rt.alloc(), row)?;
+        opens_again(&rt, rt.alloc(), row);
     }
-    Ok(())
 }
 
 /// A call after others that is stopped behind a call of the flash that wrote a byte, which is not synced then, and what opens
@@ -310,7 +331,7 @@ struct Torn<'a> {
     shut: Shown,
 }
 
-const TORN: [Torn; 8] = [
+static TORN: [Torn; 8] = [
     // The record's number, its data, and its gate.
     Torn {
         before: &ONE,
@@ -403,33 +424,40 @@ fn differs<F: Flash>(rt: &impl Abort, one: &mut F, other: &mut F, place: u32) ->
     false
 }
 
-/// Opens it with each byte at the place.
-fn opens_with_each_byte(rt: &impl Abort, left: Left, row: &Torn) {
-    let mut flash = left.flash;
-    let mut idle = left.idle;
+/// It opens with each byte at the place.
+fn opens_with_each_byte(rt: &impl Abort, alloc: Global, flash: &mut MemFlash, row: &Torn) {
     for byte in 0..=255u8 {
-        poke(rt, &mut flash, row.place, byte);
-        let held = open(rt, &mut flash, idle);
+        poke(rt, flash, row.place, byte);
         let found = if byte == 0xa5 { row.open } else { row.shut };
-        assert!(rt; shows(&held) == found);
-        idle = held.close();
+        assert!(rt; opens(rt, flash, 0, solver(rt, alloc), found));
     }
 }
 
-fn opens_torn(rt: &impl Abort, alloc: Global, row: &Torn) -> Result<(), Fail> {
-    let mut one_call_less = stop(rt, alloc, row.before, row.last, row.stop.saturating_sub(1))?;
-    let mut left = stop(rt, alloc, row.before, row.last, row.stop)?;
-    assert!(rt; differs(rt, &mut one_call_less.flash, &mut left.flash, row.place));
-    opens_with_each_byte(rt, left, row);
-    Ok(())
+/// The flash that is left of the torn call, stopped after so many calls of the flash.
+fn left_flash(rt: &impl Abort, alloc: Global, row: &Torn, calls: u64) -> MemFlash {
+    let Left {
+        flash,
+        idle,
+        done: _done,
+    } = stop(rt, alloc, row.before, row.last, calls);
+    drop(idle);
+    flash
+}
+
+fn opens_torn(rt: &impl Abort, alloc: Global, row: &Torn) {
+    let mut one_call_less = left_flash(rt, alloc, row, row.stop.saturating_sub(1));
+    let mut flash = left_flash(rt, alloc, row, row.stop);
+    assert!(rt; differs(rt, &mut one_call_less, &mut flash, row.place));
+    opens_with_each_byte(rt, alloc, &mut flash, row);
+    drop(one_call_less);
+    drop(flash);
 }
 
 #[test]
-fn any_byte_that_a_stop_leaves_opens(rt: HostRuntime) -> Result<(), Fail> {
+fn any_byte_that_a_stop_leaves_opens(rt: HostRuntime) {
     for row in &TORN {
-        opens_torn(&rt, rt.alloc(), row)?;
+        opens_torn(&rt, rt.alloc(), row);
     }
-    Ok(())
 }
 
 /// Bytes that are written over a session with records 1 and 3, and the place that is foreign then.
@@ -438,7 +466,7 @@ struct Foreign<'a> {
     place: Option<u32>,
 }
 
-const FOREIGN: [Foreign; 13] = [
+static FOREIGN: [Foreign; 13] = [
     // Another coding, and one piece more than there is room for.
     Foreign {
         bytes: &[(5, 8)],
@@ -503,30 +531,47 @@ const FOREIGN: [Foreign; 13] = [
 fn foreign_place(rt: &impl Abort, flash: &mut CellFlash, idle: SmallIdle) -> Option<u32> {
     assert!(rt; fits(flash, 0));
     match Held::open(flash, 0, SPAN, idle, LIMITS) {
-        Ok(_) => None,
-        Err((_, OpenFault::Foreign(place))) => Some(place),
-        Err(_) => panic!(rt; "a call of the flash"),
+        Ok(held) => {
+            drop(held);
+            None
+        }
+        Err((idle, fault)) => {
+            drop(idle);
+            place_of(rt, fault)
+        }
     }
 }
 
-fn is_foreign(rt: &impl Abort, alloc: Global, row: &Foreign) -> Result<(), Fail> {
-    let mut flash = CellFlash::reserve(alloc, SPAN)?;
-    let calls = [Call::Setup(4), Call::Hear(1, 0x11), Call::Hear(3, 0x33)];
-    let idle = make_all(rt, &mut flash, solver(rt, alloc), &calls).close();
-    for (place, byte) in row.bytes {
-        poke(rt, &mut flash, *place, *byte);
+fn place_of(rt: &impl Abort, fault: OpenFault) -> Option<u32> {
+    match fault {
+        OpenFault::Foreign(place) => Some(place),
+        _ => panic!(rt; "a call of the flash"),
     }
+}
+
+static WRITTEN: [Call; 3] = [Call::Setup(4), Call::Hear(1, 0x11), Call::Hear(3, 0x33)];
+
+/// Writes bytes over what a session with records 1 and 3 wrote.
+fn writes_over(rt: &impl Abort, alloc: Global, flash: &mut CellFlash, row: &Foreign) -> SmallIdle {
+    let idle = make_all(rt, flash, solver(rt, alloc), &WRITTEN).close();
+    for (place, byte) in row.bytes {
+        poke(rt, flash, *place, *byte);
+    }
+    idle
+}
+
+fn is_foreign(rt: &impl Abort, alloc: Global, row: &Foreign) {
+    let mut flash = cells(rt, alloc);
+    let idle = writes_over(rt, alloc, &mut flash, row);
     assert!(rt; foreign_place(rt, &mut flash, idle) == row.place);
     drop(flash);
-    Ok(())
 }
 
 #[test]
-fn the_lowest_foreign_place_is_named(rt: HostRuntime) -> Result<(), Fail> {
+fn the_lowest_foreign_place_is_named(rt: HostRuntime) {
     for row in &FOREIGN {
-        is_foreign(&rt, rt.alloc(), row)?;
+        is_foreign(&rt, rt.alloc(), row);
     }
-    Ok(())
 }
 
 /// A setup of another algorithm is refused, and there is no session then that hears.
@@ -587,25 +632,30 @@ fn is_deleted(rt: &impl Abort, flash: &mut CellFlash, held: SmallHeld) -> SmallI
     held.close()
 }
 
-#[test]
-fn a_session_is_whole_is_deleted_and_begins_again(rt: HostRuntime) -> Result<(), Fail> {
-    let mut flash = CellFlash::reserve(rt.alloc(), SPAN)?;
-    let idle = hears_nothing(&rt, &mut flash, solver(&rt, rt.alloc()));
-    let calls = [
-        Call::Setup(4),
-        Call::Hear(1, 0x11),
-        Call::Hear(2, 0x22),
-        Call::Hear(2, 0x22),
-        Call::Hear(3, 0x33),
-    ];
-    let held = make_all(&rt, &mut flash, idle, &calls);
-    let idle = hears_twice(&rt, &mut flash, held);
-    let held = open(&rt, &mut flash, idle);
+static ALL_BUT_ONE: [Call; 5] = [
+    Call::Setup(4),
+    Call::Hear(1, 0x11),
+    Call::Hear(2, 0x22),
+    Call::Hear(2, 0x22),
+    Call::Hear(3, 0x33),
+];
+
+/// The memory of a session that is whole.
+fn is_whole_again(rt: &impl Abort, flash: &mut CellFlash, idle: SmallIdle) -> SmallIdle {
+    let held = open(rt, flash, idle);
     assert!(rt; is_whole(&held));
-    let idle = is_deleted(&rt, &mut flash, held);
+    is_deleted(rt, flash, held)
+}
+
+#[test]
+fn a_session_is_whole_is_deleted_and_begins_again(rt: HostRuntime) {
+    let mut flash = cells(&rt, rt.alloc());
+    let idle = hears_nothing(&rt, &mut flash, solver(&rt, rt.alloc()));
+    let held = make_all(&rt, &mut flash, idle, &ALL_BUT_ONE);
+    let idle = hears_twice(&rt, &mut flash, held);
+    let idle = is_whole_again(&rt, &mut flash, idle);
     assert!(rt; opens(&rt, &mut flash, 0, idle, None));
     drop(flash);
-    Ok(())
 }
 
 const COUNTED_ALL: Shown = Some((16_383, 3));
@@ -617,48 +667,73 @@ fn count_all<F: Flash>(rt: &impl Abort, flash: &mut F) {
     }
 }
 
+/// One more fragment is heard without a call of the flash, and not counted.
+fn counts_no_more(rt: &impl Abort, held: SmallHeld, flash: MemFlash)
+    requires base { held.base ≡ 0 }
+    requires span { held.span ≡ SPAN }
+{
+    let mut stopped = StopFlash::over(flash, 0);
+    match make(rt, held, 0, &mut stopped, Call::Hear(1, 0x11)) {
+        Ok(held) => {
+            assert!(rt; shows(&held) == COUNTED_ALL);
+            drop(held);
+        }
+        Err(_) => panic!(rt; "a call of the flash"),
+    }
+    drop(stopped);
+}
+
 /// 16,383 fragments are counted; one more takes no call of the flash.
 #[test]
-fn the_count_ends(rt: HostRuntime) -> Result<(), Fail> {
-    let mut flash = memory(rt.alloc(), SPAN, ROOM)?;
+fn the_count_ends(rt: HostRuntime) {
+    let mut flash = memory(&rt, rt.alloc(), SPAN, ROOM);
     let idle = make_all(&rt, &mut flash, solver(&rt, rt.alloc()), &ONE).close();
     count_all(&rt, &mut flash);
     let held = open(&rt, &mut flash, idle);
     assert!(rt; shows(&held) == COUNTED_ALL);
-    let mut stopped = StopFlash::over(flash, 0);
-    match make(&rt, held, 0, &mut stopped, Call::Hear(1, 0x11)) {
-        Ok(held) => assert!(rt; shows(&held) == COUNTED_ALL),
-        Err(_) => panic!(rt; "a call of the flash"),
-    }
-    drop(stopped);
-    Ok(())
+    counts_no_more(&rt, held, flash);
 }
 
 /// Two sessions on one flash: where a call of one is stopped, the other opens as it was.
 #[test]
-fn a_stop_leaves_the_session_beside(rt: HostRuntime) -> Result<(), Fail> {
-    let mut flash = memory(rt.alloc(), 2 * SPAN, 2 * ROOM)?;
+fn a_stop_leaves_the_session_beside(rt: HostRuntime) {
+    let mut flash = memory(&rt, rt.alloc(), 2 * SPAN, 2 * ROOM);
     let first = make_all(&rt, &mut flash, solver(&rt, rt.alloc()), &ONE).close();
     let second = open_at(&rt, &mut flash, SPAN, solver(&rt, rt.alloc()));
     let left = make_stopped(&rt, second, SPAN, flash, Call::Setup(3), 3);
     goes_on_beside(&rt, left, first);
-    Ok(())
 }
 
-/// The second session was stopped as it began; the first one is stopped as it ends.
+/// The second session was stopped as it began, and goes on; the first one opens as it was.
 fn goes_on_beside(rt: &impl Abort, left: Left, first: SmallIdle) {
-    let mut flash = left.flash;
+    let Left {
+        mut flash,
+        idle,
+        done,
+    } = left;
     let first = open(rt, &mut flash, first);
-    assert!(rt; !left.done && shows(&first) == HEARD_ONE);
-    let second = open_at(rt, &mut flash, SPAN, left.idle);
+    assert!(rt; !done && shows(&first) == HEARD_ONE);
+    let second = open_at(rt, &mut flash, SPAN, idle);
     assert!(rt; shows(&second) == None);
-    let Ok(second) = make(rt, second, SPAN, &mut flash, Call::Setup(3)) else {
-        panic!(rt; "the setup failed");
-    };
-    let left = make_stopped(rt, first, 0, flash, Call::Delete, 1);
-    let mut flash = left.flash;
-    assert!(rt; !left.done && opens(rt, &mut flash, SPAN, second.close(), NEW_OF_THREE));
-    assert!(rt; opens(rt, &mut flash, 0, left.idle, None));
+    match make(rt, second, SPAN, &mut flash, Call::Setup(3)) {
+        Ok(second) => ends_beside(
+            rt,
+            make_stopped(rt, first, 0, flash, Call::Delete, 1),
+            second.close(),
+        ),
+        Err(_) => panic!(rt; "the setup failed"),
+    }
+}
+
+/// The first session was stopped as it ends.
+fn ends_beside(rt: &impl Abort, left: Left, second: SmallIdle) {
+    let Left {
+        mut flash,
+        idle,
+        done,
+    } = left;
+    assert!(rt; !done && opens(rt, &mut flash, SPAN, second, NEW_OF_THREE));
+    assert!(rt; opens(rt, &mut flash, 0, idle, None));
     drop(flash);
 }
 

@@ -6,7 +6,7 @@ use frag_session::*;
 use row_elimination::Solver;
 use std::alloc::Global;
 use std::process::Abort;
-use std::test::Fail;
+use std::test::*;
 
 /// Storage for four rows of four pieces of one byte.
 type SmallSlot = Slot<4, 4>;
@@ -106,256 +106,279 @@ fn follows(rt: &impl Abort, alloc: Global, nb_frag: u16, row: &Row) {
     let mut slot = begun(rt, alloc, nb_frag, row.rows);
     feed(rt, &mut slot, row.fragments, 3);
     assert!(rt; shows(&slot, row));
+    drop(slot);
 }
+
+/// Sessions of four pieces.
+static FOUR: [Row<'static>; 13] = [
+    Row {
+        rows: 0,
+        fragments: &[(4, 0x44), (1, 0x11), (3, 0x33), (2, 0x22)],
+        received: 4,
+        missing: 0,
+        verdict: Verdict::Complete(6),
+        file: &[0x11, 0x22, 0x33, 0x44],
+    },
+    Row {
+        rows: 2,
+        fragments: &[(1, 0x11), (3, 0x33), (7, 0x66), (8, 0x11)],
+        received: 4,
+        missing: 0,
+        verdict: Verdict::Complete(6),
+        file: &[0x11, 0x22, 0x33, 0x44],
+    },
+    Row {
+        rows: 2,
+        fragments: &[(7, 0x66), (8, 0x11), (1, 0x11), (3, 0x33)],
+        received: 4,
+        missing: 0,
+        verdict: Verdict::Complete(6),
+        file: &[0x11, 0x22, 0x33, 0x44],
+    },
+    Row {
+        rows: 2,
+        fragments: &[(1, 0x11), (5, 0x22), (6, 0x22)],
+        received: 3,
+        missing: 2,
+        verdict: Verdict::Receiving,
+        file: &[],
+    },
+    Row {
+        rows: 1,
+        fragments: &[(1, 0x11), (2, 0x22), (3, 0x33), (11, 0x44)],
+        received: 4,
+        missing: 0,
+        verdict: Verdict::Complete(6),
+        file: &[0x11, 0x22, 0x33, 0x44],
+    },
+    Row {
+        rows: 1,
+        fragments: &[(7, 0x66), (8, 0x11)],
+        received: 2,
+        missing: 3,
+        verdict: Verdict::NoRows(4),
+        file: &[],
+    },
+    Row {
+        rows: 1,
+        fragments: &[(1, 0x11), (3, 0x33), (7, 0x66), (8, 0x11)],
+        received: 4,
+        missing: 1,
+        verdict: Verdict::NoRows(6),
+        file: &[],
+    },
+    Row {
+        rows: 0,
+        fragments: &[(1, 0x11), (1, 0x12)],
+        received: 2,
+        missing: 3,
+        verdict: Verdict::Conflict(4),
+        file: &[],
+    },
+    Row {
+        rows: 0,
+        fragments: &[(2, 0x22), (2, 0x22), (2, 0x22)],
+        received: 3,
+        missing: 3,
+        verdict: Verdict::Receiving,
+        file: &[],
+    },
+    Row {
+        rows: 0,
+        fragments: &[(7, 0x66)],
+        received: 1,
+        missing: 4,
+        verdict: Verdict::NoRows(3),
+        file: &[],
+    },
+    Row {
+        rows: 1,
+        fragments: &[(7, 0x66), (8, 0x11), (1, 0x11), (3, 0x33)],
+        received: 4,
+        missing: 3,
+        verdict: Verdict::NoRows(4),
+        file: &[],
+    },
+    Row {
+        rows: 0,
+        fragments: &[(1, 0x11), (1, 0x12), (1, 0x11), (2, 0x22)],
+        received: 4,
+        missing: 3,
+        verdict: Verdict::Conflict(4),
+        file: &[],
+    },
+    Row {
+        rows: 0,
+        fragments: &[(3, 0x33), (1, 0x11), (4, 0x44), (2, 0x22), (1, 0x12)],
+        received: 5,
+        missing: 0,
+        verdict: Verdict::Complete(6),
+        file: &[0x11, 0x22, 0x33, 0x44],
+    },
+];
 
 /// Sessions of four pieces: a verdict comes at the fragment that decides, and stays while more are counted.
 #[test]
 fn verdicts_come_at_the_fragment_that_decides(rt: HostRuntime) {
-    let rows = [
-        Row {
-            rows: 0,
-            fragments: &[(4, 0x44), (1, 0x11), (3, 0x33), (2, 0x22)],
-            received: 4,
-            missing: 0,
-            verdict: Verdict::Complete(6),
-            file: &[0x11, 0x22, 0x33, 0x44],
-        },
-        Row {
-            rows: 2,
-            fragments: &[(1, 0x11), (3, 0x33), (7, 0x66), (8, 0x11)],
-            received: 4,
-            missing: 0,
-            verdict: Verdict::Complete(6),
-            file: &[0x11, 0x22, 0x33, 0x44],
-        },
-        Row {
-            rows: 2,
-            fragments: &[(7, 0x66), (8, 0x11), (1, 0x11), (3, 0x33)],
-            received: 4,
-            missing: 0,
-            verdict: Verdict::Complete(6),
-            file: &[0x11, 0x22, 0x33, 0x44],
-        },
-        Row {
-            rows: 2,
-            fragments: &[(1, 0x11), (5, 0x22), (6, 0x22)],
-            received: 3,
-            missing: 2,
-            verdict: Verdict::Receiving,
-            file: &[],
-        },
-        Row {
-            rows: 1,
-            fragments: &[(1, 0x11), (2, 0x22), (3, 0x33), (11, 0x44)],
-            received: 4,
-            missing: 0,
-            verdict: Verdict::Complete(6),
-            file: &[0x11, 0x22, 0x33, 0x44],
-        },
-        Row {
-            rows: 1,
-            fragments: &[(7, 0x66), (8, 0x11)],
-            received: 2,
-            missing: 3,
-            verdict: Verdict::NoRows(4),
-            file: &[],
-        },
-        Row {
-            rows: 1,
-            fragments: &[(1, 0x11), (3, 0x33), (7, 0x66), (8, 0x11)],
-            received: 4,
-            missing: 1,
-            verdict: Verdict::NoRows(6),
-            file: &[],
-        },
-        Row {
-            rows: 0,
-            fragments: &[(1, 0x11), (1, 0x12)],
-            received: 2,
-            missing: 3,
-            verdict: Verdict::Conflict(4),
-            file: &[],
-        },
-        Row {
-            rows: 0,
-            fragments: &[(2, 0x22), (2, 0x22), (2, 0x22)],
-            received: 3,
-            missing: 3,
-            verdict: Verdict::Receiving,
-            file: &[],
-        },
-        Row {
-            rows: 0,
-            fragments: &[(7, 0x66)],
-            received: 1,
-            missing: 4,
-            verdict: Verdict::NoRows(3),
-            file: &[],
-        },
-        Row {
-            rows: 1,
-            fragments: &[(7, 0x66), (8, 0x11), (1, 0x11), (3, 0x33)],
-            received: 4,
-            missing: 3,
-            verdict: Verdict::NoRows(4),
-            file: &[],
-        },
-        Row {
-            rows: 0,
-            fragments: &[(1, 0x11), (1, 0x12), (1, 0x11), (2, 0x22)],
-            received: 4,
-            missing: 3,
-            verdict: Verdict::Conflict(4),
-            file: &[],
-        },
-        Row {
-            rows: 0,
-            fragments: &[(3, 0x33), (1, 0x11), (4, 0x44), (2, 0x22), (1, 0x12)],
-            received: 5,
-            missing: 0,
-            verdict: Verdict::Complete(6),
-            file: &[0x11, 0x22, 0x33, 0x44],
-        },
-    ];
-    for row in &rows {
+    for row in &FOUR {
         follows(&rt, rt.alloc(), 4, row);
     }
 }
 
+/// Sessions of one piece.
+static ONE_PIECE: [Row<'static>; 3] = [
+    Row {
+        rows: 0,
+        fragments: &[(2, 0), (1, 0x5a)],
+        received: 2,
+        missing: 0,
+        verdict: Verdict::Complete(4),
+        file: &[0x5a],
+    },
+    Row {
+        rows: 1,
+        fragments: &[(2, 0), (1, 0x5a)],
+        received: 2,
+        missing: 0,
+        verdict: Verdict::Complete(4),
+        file: &[0x5a],
+    },
+    Row {
+        rows: 0,
+        fragments: &[(2, 1)],
+        received: 1,
+        missing: 1,
+        verdict: Verdict::Conflict(3),
+        file: &[],
+    },
+];
+
 /// Sessions of one piece, of which a coded fragment tells nothing.
 #[test]
 fn over_one_piece_coded_lines_are_empty(rt: HostRuntime) {
-    let rows = [
-        Row {
-            rows: 0,
-            fragments: &[(2, 0), (1, 0x5a)],
-            received: 2,
-            missing: 0,
-            verdict: Verdict::Complete(4),
-            file: &[0x5a],
-        },
-        Row {
-            rows: 1,
-            fragments: &[(2, 0), (1, 0x5a)],
-            received: 2,
-            missing: 0,
-            verdict: Verdict::Complete(4),
-            file: &[0x5a],
-        },
-        Row {
-            rows: 0,
-            fragments: &[(2, 1)],
-            received: 1,
-            missing: 1,
-            verdict: Verdict::Conflict(3),
-            file: &[],
-        },
-    ];
-    for row in &rows {
+    for row in &ONE_PIECE {
         follows(&rt, rt.alloc(), 1, row);
     }
 }
 
+/// The bits of a setup, 0 where there is a session then.
+fn refusal(rt: &impl Abort, alloc: Global, req: SetupReq, limits: Limits) -> u8 {
+    let mut slot = reserved(rt, alloc, 262_382);
+    let bits = sets_up(&mut slot, req, limits);
+    assert!(rt; lives(&slot) == (bits == 0));
+    drop(slot);
+    bits
+}
+
+/// Only the descriptor 7 is taken.
+const ONLY: Limits = Limits {
+    descriptor: Some(7),
+    ..LIMITS
+};
+
+static REFUSED: [(SetupReq, Limits, u8); 6] = [
+    (
+        SetupReq {
+            nb_frag: 0,
+            ..SETUP
+        },
+        LIMITS,
+        0b0001,
+    ),
+    (
+        SetupReq {
+            padding: 1,
+            ..SETUP
+        },
+        LIMITS,
+        0b0001,
+    ),
+    (
+        SetupReq {
+            nb_frag: 4097,
+            ..SETUP
+        },
+        LIMITS,
+        0b0010,
+    ),
+    (
+        SetupReq {
+            index: 3,
+            algo: 1,
+            ..SETUP
+        },
+        LIMITS,
+        0b0001,
+    ),
+    (
+        SetupReq {
+            index: 4,
+            frag_size: 240,
+            descriptor: 8,
+            ..SETUP
+        },
+        ONLY,
+        0b1110,
+    ),
+    (
+        SetupReq {
+            descriptor: 7,
+            ..SETUP
+        },
+        ONLY,
+        0b0000,
+    ),
+];
+
 #[test]
 fn refusals_are_told_together(rt: HostRuntime) {
-    let only = Limits {
-        descriptor: Some(7),
-        ..LIMITS
-    };
-    let rows = [
-        (
-            SetupReq {
-                nb_frag: 0,
-                ..SETUP
-            },
-            LIMITS,
-            0b0001,
-        ),
-        (
-            SetupReq {
-                padding: 1,
-                ..SETUP
-            },
-            LIMITS,
-            0b0001,
-        ),
-        (
-            SetupReq {
-                nb_frag: 4097,
-                ..SETUP
-            },
-            LIMITS,
-            0b0010,
-        ),
-        (
-            SetupReq {
-                index: 3,
-                algo: 1,
-                ..SETUP
-            },
-            LIMITS,
-            0b0001,
-        ),
-        (
-            SetupReq {
-                index: 4,
-                frag_size: 240,
-                descriptor: 8,
-                ..SETUP
-            },
-            only,
-            0b1110,
-        ),
-        (
-            SetupReq {
-                descriptor: 7,
-                ..SETUP
-            },
-            only,
-            0b0000,
-        ),
-    ];
-    for (request, limits, bits) in rows {
-        let mut slot = reserved(&rt, rt.alloc(), 262_382);
-        assert!(rt; sets_up(&mut slot, request, limits) == bits);
-        assert!(rt; lives(&slot) == (bits == 0));
+    for (req, limits, bits) in &REFUSED {
+        assert!(rt; refusal(&rt, rt.alloc(), *req, *limits) == *bits);
     }
 }
 
 /// The bits of a setup of four pieces of one byte, over two rows.
 fn bits_of<const W: usize, const B: usize>(rt: &impl Abort, alloc: Global, area: u32) -> u8 {
     let mut slot: Slot<W, B> = reserved(rt, alloc, area);
-    slot.setup(SETUP, Limits { rows: 2, ..LIMITS })
+    let bits = slot.setup(SETUP, Limits { rows: 2, ..LIMITS });
+    drop(slot);
+    bits
 }
 
 #[test]
 fn two_rows_of_four_pieces_need_storage(rt: HostRuntime) {
     let alloc = rt.alloc();
-    assert_eq!(rt; bits_of::<2, 2>(&rt, alloc, 4), 0);
-    assert_eq!(rt; bits_of::<1, 2>(&rt, alloc, 4), 2);
-    assert_eq!(rt; bits_of::<2, 1>(&rt, alloc, 4), 2);
-    assert_eq!(rt; bits_of::<2, 2>(&rt, alloc, 3), 2);
+    assert!(rt; bits_of::<2, 2>(&rt, alloc, 4) == 0);
+    assert!(rt; bits_of::<1, 2>(&rt, alloc, 4) == 2);
+    assert!(rt; bits_of::<2, 1>(&rt, alloc, 4) == 2);
+    assert!(rt; bits_of::<2, 2>(&rt, alloc, 3) == 2);
+}
+
+/// How a fragment comes, its number and its bytes, and what is answered.
+static HEARD: [(Via, u16, &[u8], Heard); 9] = [
+    (Via::Group(0), 0, &[], Heard::Dropped(Cause::Group)),
+    (Via::Group(9), 1, &[0x11], Heard::Dropped(Cause::Group)),
+    (Via::Unicast, 0, &[], Heard::Dropped(Cause::Index)),
+    (Via::Unicast, 0, &[0x11], Heard::Dropped(Cause::Index)),
+    (Via::Unicast, 8385, &[0x11], Heard::Dropped(Cause::Index)),
+    (Via::Group(1), 1, &[0x11, 0x22], Heard::Dropped(Cause::Size)),
+    (Via::Unicast, 8384, &[], Heard::Dropped(Cause::Size)),
+    (Via::Group(1), 1, &[0x11], Heard::Fed(News::New)),
+    (Via::Unicast, 8384, &[0x11], Heard::Fed(News::New)),
+];
+
+/// Without a session it hears nothing.
+fn is_deaf(rt: &impl Abort, slot: &mut SmallSlot, via: Via, n: u16, part: &[u8]) {
+    assert!(rt; hears(slot, via, n, part, 9) == Heard::Dropped(Cause::NoSession));
 }
 
 #[test]
 fn fragments_are_dropped_for_the_first_cause(rt: HostRuntime) {
-    let rows: [(Via, u16, &[u8], Heard); 9] = [
-        (Via::Group(0), 0, &[], Heard::Dropped(Cause::Group)),
-        (Via::Group(9), 1, &[0x11], Heard::Dropped(Cause::Group)),
-        (Via::Unicast, 0, &[], Heard::Dropped(Cause::Index)),
-        (Via::Unicast, 0, &[0x11], Heard::Dropped(Cause::Index)),
-        (Via::Unicast, 8385, &[0x11], Heard::Dropped(Cause::Index)),
-        (Via::Group(1), 1, &[0x11, 0x22], Heard::Dropped(Cause::Size)),
-        (Via::Unicast, 8384, &[], Heard::Dropped(Cause::Size)),
-        (Via::Group(1), 1, &[0x11], Heard::Fed(News::New)),
-        (Via::Unicast, 8384, &[0x11], Heard::Fed(News::New)),
-    ];
     let mut slot = reserved(&rt, rt.alloc(), 4);
-    let none = Heard::Dropped(Cause::NoSession);
-    assert!(rt; hears(&mut slot, Via::Group(0), 0, &[], 1) == none);
+    is_deaf(&rt, &mut slot, Via::Group(0), 0, &[]);
     assert!(rt; sets_up(&mut slot, SETUP, Limits { rows: 4, ..LIMITS }) == 0);
-    for (via, n, part, answer) in rows {
-        assert!(rt; hears(&mut slot, via, n, part, 2) == answer);
+    for (via, n, part, answer) in &HEARD {
+        assert!(rt; hears(&mut slot, *via, *n, part, 2) == *answer);
     }
     let heard = Row {
         received: 2,
@@ -363,6 +386,7 @@ fn fragments_are_dropped_for_the_first_cause(rt: HostRuntime) {
         ..NOTHING
     };
     assert!(rt; shows(&slot, &heard));
+    drop(slot);
 }
 
 #[test]
@@ -383,6 +407,7 @@ fn an_equal_setup_keeps_the_session_and_another_begins_anew(rt: HostRuntime) {
     };
     assert!(rt; sets_up(&mut slot, other, LIMITS) == 0);
     assert!(rt; shows(&slot, &NOTHING));
+    drop(slot);
 }
 
 #[test]
@@ -411,7 +436,6 @@ fn the_padding_is_no_part_of_the_file(rt: HostRuntime) {
 }
 
 /// What is answered after fragments, to a request that asks all, and whether one that asks for pieces missing is answered too.
-#[derive(Clone, Copy)]
 struct Asked<'a> {
     rows: u16,
     fragments: &'a [(u16, u8)],
@@ -426,19 +450,25 @@ const STATUS: StatusAns = StatusAns {
     delay: 5,
 };
 
-fn answer(slot: &SmallSlot, via: Via, all: bool) -> Option<StatusAns> {
-    slot.status(via, all)
+/// Whether the request is answered with this.
+fn is_answered(slot: &SmallSlot, via: Via, all: bool, wanted: StatusAns) -> bool {
+    match slot.status(via, all) {
+        Some(status) => status == wanted,
+        None => false,
+    }
 }
 
 fn answers(rt: &impl Abort, slot: &SmallSlot, via: Via, status: StatusAns, lacks: bool) {
-    let lacking = if lacks { Some(status) } else { None };
-    assert!(rt; answer(slot, via, true) == Some(status));
-    assert!(rt; answer(slot, via, false) == lacking);
+    assert!(rt; is_answered(slot, via, true, status));
+    if lacks {
+        assert!(rt; is_answered(slot, via, false, status));
+    } else {
+        assert!(rt; slot.status(via, false).is_none());
+    }
 }
 
 fn is_silent(rt: &impl Abort, slot: &SmallSlot, via: Via) {
-    assert!(rt; answer(slot, via, true) == None);
-    assert!(rt; answer(slot, via, false) == None);
+    assert!(rt; slot.status(via, true).is_none() && slot.status(via, false).is_none());
 }
 
 fn tells(rt: &impl Abort, alloc: Global, asked: &Asked) {
@@ -448,44 +478,46 @@ fn tells(rt: &impl Abort, alloc: Global, asked: &Asked) {
     answers(rt, &slot, Via::Group(1), asked.status, asked.lacks);
     is_silent(rt, &slot, Via::Group(0));
     is_silent(rt, &slot, Via::Group(9));
+    drop(slot);
 }
+
+static ASKED: [Asked<'static>; 4] = [
+    Asked {
+        rows: 0,
+        fragments: &[(2, 0x22), (2, 0x22)],
+        status: STATUS,
+        lacks: true,
+    },
+    Asked {
+        rows: 1,
+        fragments: &[(7, 0x66), (8, 0x11)],
+        status: StatusAns {
+            norows: true,
+            ..STATUS
+        },
+        lacks: true,
+    },
+    Asked {
+        rows: 0,
+        fragments: &[(1, 0x11), (1, 0x12)],
+        status: STATUS,
+        lacks: true,
+    },
+    Asked {
+        rows: 2,
+        fragments: &[(1, 0x11), (3, 0x33), (7, 0x66), (8, 0x11)],
+        status: StatusAns {
+            received: 4,
+            missing: 0,
+            ..STATUS
+        },
+        lacks: false,
+    },
+];
 
 #[test]
 fn a_status_names_what_is_missing_and_whether_rows_sufficed(rt: HostRuntime) {
-    let rows = [
-        Asked {
-            rows: 0,
-            fragments: &[(2, 0x22), (2, 0x22)],
-            status: STATUS,
-            lacks: true,
-        },
-        Asked {
-            rows: 1,
-            fragments: &[(7, 0x66), (8, 0x11)],
-            status: StatusAns {
-                norows: true,
-                ..STATUS
-            },
-            lacks: true,
-        },
-        Asked {
-            rows: 0,
-            fragments: &[(1, 0x11), (1, 0x12)],
-            status: STATUS,
-            lacks: true,
-        },
-        Asked {
-            rows: 2,
-            fragments: &[(1, 0x11), (3, 0x33), (7, 0x66), (8, 0x11)],
-            status: StatusAns {
-                received: 4,
-                missing: 0,
-                ..STATUS
-            },
-            lacks: false,
-        },
-    ];
-    for asked in &rows {
+    for asked in &ASKED {
         tells(&rt, rt.alloc(), asked);
     }
 }
@@ -522,24 +554,25 @@ fn is_deleted(rt: &impl Abort, alloc: Global, fragments: &[(u16, u8)]) {
     assert!(rt; slot.delete());
     assert!(rt; !lives(&slot));
     is_silent(rt, &slot, Via::Unicast);
-    let none = Heard::Dropped(Cause::NoSession);
-    assert!(rt; hears(&mut slot, Via::Unicast, 1, &[0x11], 9) == none);
+    is_deaf(rt, &mut slot, Via::Unicast, 1, &[0x11]);
     assert!(rt; !slot.delete());
     assert!(rt; sets_up(&mut slot, SETUP, limits) == 0);
     assert!(rt; shows(&slot, &NOTHING));
     drop(slot);
 }
 
+/// Fragments after which a session is new, receives, is complete, has too few rows, or has a conflict.
+static STATES: [&[(u16, u8)]; 5] = [
+    &[],
+    &[(2, 0x22)],
+    &[(4, 0x44), (1, 0x11), (3, 0x33), (2, 0x22)],
+    &[(7, 0x66), (8, 0x11)],
+    &[(1, 0x11), (1, 0x12)],
+];
+
 #[test]
 fn a_session_is_deleted_in_every_state(rt: HostRuntime) {
-    let rows: [&[(u16, u8)]; 5] = [
-        &[],
-        &[(2, 0x22)],
-        &[(4, 0x44), (1, 0x11), (3, 0x33), (2, 0x22)],
-        &[(7, 0x66), (8, 0x11)],
-        &[(1, 0x11), (1, 0x12)],
-    ];
-    for fragments in rows {
+    for fragments in &STATES {
         is_deleted(&rt, rt.alloc(), fragments);
     }
 }

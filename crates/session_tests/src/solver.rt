@@ -8,7 +8,7 @@ use row_elimination::*;
 use std::alloc::Global;
 use std::marker::Model;
 use std::process::Abort;
-use std::test::Fail;
+use std::test::*;
 
 /// A solver with a file, so many pieces of so many bytes, and where it stands after what it answered.
 #[derive(Drop)]
@@ -70,16 +70,15 @@ impl<const W: usize, const B: usize> Receiver<W, B> {
         self.solver.missing()
     }
 
-    fn has_block(&self, rt: &impl Abort, block: &[u8]) -> bool {
+    fn block(&self, rt: &impl Abort) -> &[u8] {
         assert!(rt; self.stage == Stage::Complete);
-        self.solver.block() == block
+        self.solver.block()
     }
 }
 
 type SmallReceiver = Receiver<16, 64>;
 
 /// What a solver answers after fragments, and shows.
-#[derive(Clone, Copy)]
 struct Row<'a> {
     rows: u16,
     fragments: &'a [(u16, u8)],
@@ -109,124 +108,129 @@ fn shows(rt: &impl Abort, alloc: Global, pieces: u16, row: &Row) {
     assert!(rt; fed(rt, &mut receiver, row.fragments) == row.answer);
     assert!(rt; receiver.missing() == row.missing);
     if row.answer == Fed::Complete {
-        assert!(rt; receiver.has_block(rt, row.block));
+        assert!(rt; receiver.block(rt) == row.block);
     }
     drop(receiver);
 }
 
+const WHOLE: [u8; 4] = [0x11, 0x22, 0x33, 0x44];
+
+/// Solvers of four pieces.
+static FOUR: [Row<'static>; 12] = [
+    Row {
+        rows: 0,
+        fragments: &[(4, 0x44), (1, 0x11), (3, 0x33), (2, 0x22)],
+        answer: Fed::Complete,
+        missing: 0,
+        block: &WHOLE,
+    },
+    Row {
+        rows: 2,
+        fragments: &[(1, 0x11), (3, 0x33), (7, 0x66), (8, 0x11)],
+        answer: Fed::Complete,
+        missing: 0,
+        block: &WHOLE,
+    },
+    Row {
+        rows: 2,
+        fragments: &[(7, 0x66), (8, 0x11), (1, 0x11), (3, 0x33)],
+        answer: Fed::Complete,
+        missing: 0,
+        block: &WHOLE,
+    },
+    Row {
+        rows: 2,
+        fragments: &[(1, 0x11), (5, 0x22), (6, 0x22)],
+        answer: Fed::Receiving,
+        missing: 2,
+        block: &[],
+    },
+    Row {
+        rows: 1,
+        fragments: &[(1, 0x11), (2, 0x22), (3, 0x33), (11, 0x44)],
+        answer: Fed::Complete,
+        missing: 0,
+        block: &WHOLE,
+    },
+    Row {
+        rows: 1,
+        fragments: &[(7, 0x66), (8, 0x11)],
+        answer: Fed::NoRows,
+        missing: 3,
+        block: &[],
+    },
+    Row {
+        rows: 1,
+        fragments: &[(1, 0x11), (3, 0x33), (7, 0x66), (8, 0x11)],
+        answer: Fed::NoRows,
+        missing: 1,
+        block: &[],
+    },
+    Row {
+        rows: 0,
+        fragments: &[(1, 0x11), (1, 0x12)],
+        answer: Fed::Conflict,
+        missing: 3,
+        block: &[],
+    },
+    Row {
+        rows: 0,
+        fragments: &[(2, 0x22), (2, 0x22), (2, 0x22)],
+        answer: Fed::Receiving,
+        missing: 3,
+        block: &[],
+    },
+    Row {
+        rows: 2,
+        fragments: &[(7, 0x66), (1, 0x11), (8, 0x11), (1, 0x11), (3, 0x33)],
+        answer: Fed::Complete,
+        missing: 0,
+        block: &WHOLE,
+    },
+    Row {
+        rows: 2,
+        fragments: &[(7, 0x66), (1, 0x11), (1, 0x10)],
+        answer: Fed::Conflict,
+        missing: 2,
+        block: &[],
+    },
+    Row {
+        rows: 2,
+        fragments: &[(11, 0x44), (4, 0x44), (5, 0x22), (6, 0x23)],
+        answer: Fed::Conflict,
+        missing: 2,
+        block: &[],
+    },
+];
+
+/// Solvers of one piece, of which a coded fragment tells nothing.
+static ONE: [Row<'static>; 2] = [
+    Row {
+        rows: 1,
+        fragments: &[(2, 0), (1, 0x5a)],
+        answer: Fed::Complete,
+        missing: 0,
+        block: &[0x5a],
+    },
+    Row {
+        rows: 1,
+        fragments: &[(2, 1)],
+        answer: Fed::Conflict,
+        missing: 1,
+        block: &[],
+    },
+];
+
 #[test]
 fn four_pieces(rt: HostRuntime) {
-    let whole = [0x11, 0x22, 0x33, 0x44];
-    let rows = [
-        Row {
-            rows: 0,
-            fragments: &[(4, 0x44), (1, 0x11), (3, 0x33), (2, 0x22)],
-            answer: Fed::Complete,
-            missing: 0,
-            block: &whole,
-        },
-        Row {
-            rows: 2,
-            fragments: &[(1, 0x11), (3, 0x33), (7, 0x66), (8, 0x11)],
-            answer: Fed::Complete,
-            missing: 0,
-            block: &whole,
-        },
-        Row {
-            rows: 2,
-            fragments: &[(7, 0x66), (8, 0x11), (1, 0x11), (3, 0x33)],
-            answer: Fed::Complete,
-            missing: 0,
-            block: &whole,
-        },
-        Row {
-            rows: 2,
-            fragments: &[(1, 0x11), (5, 0x22), (6, 0x22)],
-            answer: Fed::Receiving,
-            missing: 2,
-            block: &[],
-        },
-        Row {
-            rows: 1,
-            fragments: &[(1, 0x11), (2, 0x22), (3, 0x33), (11, 0x44)],
-            answer: Fed::Complete,
-            missing: 0,
-            block: &whole,
-        },
-        Row {
-            rows: 1,
-            fragments: &[(7, 0x66), (8, 0x11)],
-            answer: Fed::NoRows,
-            missing: 3,
-            block: &[],
-        },
-        Row {
-            rows: 1,
-            fragments: &[(1, 0x11), (3, 0x33), (7, 0x66), (8, 0x11)],
-            answer: Fed::NoRows,
-            missing: 1,
-            block: &[],
-        },
-        Row {
-            rows: 0,
-            fragments: &[(1, 0x11), (1, 0x12)],
-            answer: Fed::Conflict,
-            missing: 3,
-            block: &[],
-        },
-        Row {
-            rows: 0,
-            fragments: &[(2, 0x22), (2, 0x22), (2, 0x22)],
-            answer: Fed::Receiving,
-            missing: 3,
-            block: &[],
-        },
-        Row {
-            rows: 2,
-            fragments: &[(7, 0x66), (1, 0x11), (8, 0x11), (1, 0x11), (3, 0x33)],
-            answer: Fed::Complete,
-            missing: 0,
-            block: &whole,
-        },
-        Row {
-            rows: 2,
-            fragments: &[(7, 0x66), (1, 0x11), (1, 0x10)],
-            answer: Fed::Conflict,
-            missing: 2,
-            block: &[],
-        },
-        Row {
-            rows: 2,
-            fragments: &[(11, 0x44), (4, 0x44), (5, 0x22), (6, 0x23)],
-            answer: Fed::Conflict,
-            missing: 2,
-            block: &[],
-        },
-    ];
-    for row in &rows {
+    for row in &FOUR {
         shows(&rt, rt.alloc(), 4, row);
     }
 }
 
 #[test]
 fn one_piece(rt: HostRuntime) {
-    let rows = [
-        Row {
-            rows: 1,
-            fragments: &[(2, 0), (1, 0x5a)],
-            answer: Fed::Complete,
-            missing: 0,
-            block: &[0x5a],
-        },
-        Row {
-            rows: 1,
-            fragments: &[(2, 1)],
-            answer: Fed::Conflict,
-            missing: 1,
-            block: &[],
-        },
-    ];
-    for row in &rows {
+    for row in &ONE {
         shows(&rt, rt.alloc(), 1, row);
     }
 }
@@ -245,77 +249,79 @@ fn byte_of(rt: &impl Abort, pieces: u16, n: u16) -> u8 {
     byte
 }
 
-/// What all sums of the lines of the numbers, newest first, lead to, and how many pieces they leave to be gained.
+/// What all sums of the lines of the numbers, newest first and at most 16, lead to, and how many pieces they leave to be gained.
 fn by_sums(
     rt: &impl Abort,
     alloc: Global,
     pieces: u16,
     rows: u16,
     numbers: &[u16],
-) -> Result<(Fed, usize), Fail> {
-    assert!(rt; 1 <= pieces && pieces <= 64);
-    let excess = excess(rt, alloc, pieces, numbers)?;
-    let mut lines = Vec::new(alloc);
-    for n in numbers {
+) -> (Fed, usize) {
+    assert!(rt; 1 <= pieces && pieces <= 64 && numbers.len() <= 16);
+    let mut lines = [0; 16];
+    for (at, n) in numbers.iter().enumerate() {
         assert!(rt; 1 <= *n && *n <= pieces + MAX_PARITY_INDEX);
-        lines.push(plain_line_of(pieces, *n))?;
+        lines[at] = plain_line_of(pieces, *n);
     }
-    let gain = plain_gain(&lines);
-    let answer = if excess > rows as usize {
+    let gain = plain_gain(&lines[..numbers.len()]);
+    let answer = if excess(rt, alloc, pieces, numbers) > rows as usize {
         Fed::NoRows
     } else if gain == pieces as usize {
         Fed::Complete
     } else {
         Fed::Receiving
     };
-    Ok((answer, (pieces as usize).saturating_sub(gain)))
+    (answer, (pieces as usize).saturating_sub(gain))
 }
 
-/// Feeds the fragments with these numbers until something is decided.
-fn agrees(
+/// Feeds the fragments with these numbers, of which the last comes first, until something is decided.
+fn follows_sums(
     rt: &impl Abort,
     alloc: Global,
+    receiver: &mut SmallReceiver,
     pieces: u16,
     rows: u16,
     numbers: &[u16],
-) -> Result<(), Fail> {
-    let mut receiver = begun(rt, alloc, pieces, rows);
-    let mut heard = Vec::new(alloc);
-    for n in numbers {
-        let byte = byte_of(rt, pieces, *n);
-        let answer = receiver.feed(rt, *n, &[byte]);
-        heard.insert(0, *n)?;
-        let (expected, missing) = by_sums(rt, alloc, pieces, rows, &heard)?;
+) {
+    for at in 0..numbers.len() {
+        let heard = &numbers[numbers.len() - 1 - at..];
+        let answer = receiver.feed(rt, heard[0], &[byte_of(rt, pieces, heard[0])]);
+        let (expected, missing) = by_sums(rt, alloc, pieces, rows, heard);
         assert!(rt; answer == expected);
-        if answer == Fed::Receiving {
-            assert!(rt; receiver.missing() as usize == missing);
-        } else {
-            return Ok(());
+        if answer != Fed::Receiving {
+            return;
         }
+        assert!(rt; receiver.missing() as usize == missing);
     }
-    Ok(())
 }
 
+fn agrees(rt: &impl Abort, alloc: Global, pieces: u16, rows: u16, numbers: &[u16]) {
+    let mut receiver = begun(rt, alloc, pieces, rows);
+    follows_sums(rt, alloc, &mut receiver, pieces, rows, numbers);
+    drop(receiver);
+}
+
+/// Pieces, rows, and the numbers of fragments, newest first.
+static SUMS: [(u16, u16, &[u16]); 12] = [
+    (1, 0, &[1, 2]),
+    (1, 1, &[1, 2, 5]),
+    (2, 0, &[1, 2, 2]),
+    (2, 2, &[2, 1, 4, 3]),
+    (3, 1, &[3, 2, 1, 7, 6, 5, 4]),
+    (3, 3, &[9, 8, 7, 6, 5, 4]),
+    (4, 4, &[10, 9, 8, 7, 6, 5, 11]),
+    (5, 2, &[5, 10, 4, 9, 3, 8, 2, 7, 1, 6]),
+    (5, 5, &[1, 2, 3, 4, 5, 6, 7, 8, 9, 10]),
+    (8, 3, &[8, 7, 6, 5, 12, 4, 3, 3, 11, 2, 1, 10, 9]),
+    (8, 8, &[20, 19, 18, 17, 16, 15, 14, 13, 12, 11, 10, 9]),
+    (9, 4, &[4, 2, 14, 13, 12, 11, 10, 9, 7, 5, 3, 1]),
+];
+
 #[test]
-fn answers_are_those_of_all_sums(rt: HostRuntime) -> Result<(), Fail> {
-    let table: [(u16, u16, &[u16]); 12] = [
-        (1, 0, &[2, 1]),
-        (1, 1, &[5, 2, 1]),
-        (2, 0, &[2, 2, 1]),
-        (2, 2, &[3, 4, 1, 2]),
-        (3, 1, &[4, 5, 6, 7, 1, 2, 3]),
-        (3, 3, &[4, 5, 6, 7, 8, 9]),
-        (4, 4, &[11, 5, 6, 7, 8, 9, 10]),
-        (5, 2, &[6, 1, 7, 2, 8, 3, 9, 4, 10, 5]),
-        (5, 5, &[10, 9, 8, 7, 6, 5, 4, 3, 2, 1]),
-        (8, 3, &[9, 10, 1, 2, 11, 3, 3, 4, 12, 5, 6, 7, 8]),
-        (8, 8, &[9, 10, 11, 12, 13, 14, 15, 16, 17, 18, 19, 20]),
-        (9, 4, &[1, 3, 5, 7, 9, 10, 11, 12, 13, 14, 2, 4]),
-    ];
-    for (pieces, rows, numbers) in &table {
-        agrees(&rt, rt.alloc(), *pieces, *rows, numbers)?;
+fn answers_are_those_of_all_sums(rt: HostRuntime) {
+    for (pieces, rows, numbers) in &SUMS {
+        agrees(&rt, rt.alloc(), *pieces, *rows, numbers);
     }
-    Ok(())
 }
 
 /// Two words and ten bytes for rows, and an area of 20 bytes.
@@ -332,26 +338,32 @@ fn fits(rt: &impl Abort, solver: &Solver<2, 10>, nb_frag: u16, frag_size: u8, ro
     solver.fits(nb_frag, frag_size, rows)
 }
 
+/// Pieces, their bytes, rows, and whether there is room.
+static ROOMS: [(u16, u8, u16, bool); 9] = [
+    (0, 0, 0, true),
+    (64, 0, 2, true),
+    (65, 0, 1, true),
+    (65, 0, 2, false),
+    (4, 5, 2, true),
+    (4, 5, 3, false),
+    (4, 6, 1, false),
+    (20, 1, 0, true),
+    (21, 1, 0, false),
+];
+
 #[test]
 fn room_is_needed_for_rows_and_for_pieces(rt: HostRuntime) {
     let solver = little(&rt, rt.alloc(), 4096);
-    let table = [
-        (0, 0, 0, true),
-        (64, 0, 2, true),
-        (65, 0, 1, true),
-        (65, 0, 2, false),
-        (4, 5, 2, true),
-        (4, 5, 3, false),
-        (4, 6, 1, false),
-        (20, 1, 0, true),
-        (21, 1, 0, false),
-    ];
-    for (nb_frag, frag_size, rows, room) in table {
-        assert!(rt; fits(&rt, &solver, nb_frag, frag_size, rows) == room);
+    for (nb_frag, frag_size, rows, room) in &ROOMS {
+        assert!(rt; fits(&rt, &solver, *nb_frag, *frag_size, *rows) == *room);
     }
+    drop(solver);
+}
+
+#[test]
+fn room_is_needed_for_the_number_of_pieces(rt: HostRuntime) {
     let few = little(&rt, rt.alloc(), 5);
     assert!(rt; fits(&rt, &few, 5, 1, 2) && !fits(&rt, &few, 6, 1, 2));
-    drop(solver);
     drop(few);
 }
 
@@ -365,99 +377,102 @@ fn a_file_begins_where_there_is_room(rt: HostRuntime) {
 }
 
 /// Byte `i` of piece `k`.
-fn byte_in(k: u16, i: u8) -> u8 {
-    ((k % 251) as u8).wrapping_mul(7) ^ i.wrapping_mul(13) ^ (k % 5) as u8
+fn byte_in(k: usize, i: usize) -> u8 {
+    ((k % 251) as u8).wrapping_mul(7) ^ ((i % 256) as u8).wrapping_mul(13) ^ (k % 5) as u8
+}
+
+/// Adds piece `k`.
+fn add(part: &mut [u8; 239], k: u16) {
+    for (i, byte) in part.iter_mut().enumerate() {
+        *byte ^= byte_in(k as usize, i);
+    }
 }
 
 /// Piece `k`.
-fn piece(alloc: Global, size: u8, k: u16) -> Result<Vec<u8>, Fail> {
-    let mut part = Vec::new(alloc);
-    for i in 0..size {
-        part.push(byte_in(k, i))?;
-    }
-    Ok(part)
+fn piece(k: u16) -> [u8; 239] {
+    let mut part = [0; 239];
+    add(&mut part, k);
+    part
 }
 
 /// The coded fragment `n` of so many pieces, summed plainly.
-fn coded(rt: &impl Abort, alloc: Global, pieces: u16, size: u8, n: u16) -> Result<Vec<u8>, Fail> {
+fn coded(rt: &impl Abort, pieces: u16, n: u16) -> [u8; 239] {
     assert!(rt; 1 <= n && n <= MAX_PARITY_INDEX && 1 <= pieces && pieces <= 70);
     let mut words = [0; 2];
     line_uncounted(n, pieces, &mut words);
-    let mut part = Vec::new(alloc);
-    for i in 0..size {
-        let mut byte = 0;
-        for k in 0..pieces {
-            if words[k as usize / 64] >> (k % 64) & 1 == 1 {
-                byte ^= byte_in(k, i);
-            }
+    let mut part = [0; 239];
+    for k in 0..pieces {
+        if words[k as usize / 64] >> (k % 64) & 1 == 1 {
+            add(&mut part, k);
         }
-        part.push(byte)?;
     }
-    Ok(part)
+    part
 }
 
+type LargeReceiver = Receiver<16, 1912>;
+
 /// A solver of eight rows for so many pieces of so many bytes.
-fn made(rt: &impl Abort, alloc: Global, pieces: u16, size: u8) -> Receiver<16, 1912> {
+fn made(rt: &impl Abort, alloc: Global, pieces: u16, size: u8) -> LargeReceiver {
     match Solver::reserve(alloc, 16730) {
         Ok(solver) => Receiver::begin(rt, solver, pieces, size, 8),
         Err(_) => panic!(rt; "no memory"),
     }
 }
 
-/// The file, of which each tenth piece is lost and the others are fed.
-fn feeds_most(
-    rt: &impl Abort,
-    alloc: Global,
-    receiver: &mut Receiver<16, 1912>,
-    pieces: u16,
-    size: u8,
-) -> Result<Vec<u8>, Fail> {
-    assert!(rt; pieces <= 70);
-    let mut whole = Vec::new(alloc);
+/// Each tenth piece is lost, and the others are fed.
+fn feeds_most(rt: &impl Abort, receiver: &mut LargeReceiver, pieces: u16, size: u8) {
+    assert!(rt; pieces <= 70 && size <= 239);
     for k in 0..pieces {
-        let part = piece(alloc, size, k)?;
         if k % 10 != 3 {
-            assert!(rt; receiver.feed(rt, k + 1, &part) == Fed::Receiving);
+            let fed = receiver.feed(rt, k + 1, &piece(k)[..size as usize]);
+            assert!(rt; fed == Fed::Receiving);
         }
-        whole.extend_from_slice(&part)?;
     }
-    Ok(whole)
 }
 
 /// Feeds coded fragments until all pieces are there.
-fn feeds_coded(
-    rt: &impl Abort,
-    alloc: Global,
-    receiver: &mut Receiver<16, 1912>,
-    pieces: u16,
-    size: u8,
-) -> Result<(), Fail> {
-    assert!(rt; pieces <= 70);
-    for n in 1..40 {
-        let part = coded(rt, alloc, pieces, size, n)?;
-        if receiver.feed(rt, pieces + n, &part) == Fed::Complete {
-            return Ok(());
+fn feeds_coded(rt: &impl Abort, receiver: &mut LargeReceiver, pieces: u16, size: u8) {
+    assert!(rt; pieces <= 70 && size <= 239);
+    for n in 1..40u16 {
+        let part = coded(rt, pieces, n);
+        if receiver.feed(rt, pieces + n, &part[..size as usize]) == Fed::Complete {
+            return;
         }
     }
     panic!(rt; "it never ends");
 }
 
-/// Recovers a file of which each tenth piece comes by coded fragments alone.
-fn recovers(rt: &impl Abort, alloc: Global, pieces: u16, size: u8) -> Result<(), Fail> {
-    let mut receiver = made(rt, alloc, pieces, size);
-    let whole = feeds_most(rt, alloc, &mut receiver, pieces, size)?;
-    feeds_coded(rt, alloc, &mut receiver, pieces, size)?;
-    assert!(rt; receiver.has_block(rt, &whole));
-    drop(receiver);
-    Ok(())
-}
-
-#[test]
-fn pieces_of_many_sizes(rt: HostRuntime) -> Result<(), Fail> {
-    for pieces in [8, 63, 64, 65, 70] {
-        for size in [1, 3, 31, 32, 63, 64, 65, 127, 128, 191, 239] {
-            recovers(&rt, rt.alloc(), pieces, size)?;
+/// Whether these are all bytes of the pieces.
+fn is_whole(block: &[u8], pieces: u16, size: u8) -> bool {
+    if size == 0 || block.len() != pieces as usize * size as usize {
+        return false;
+    }
+    for (place, byte) in block.iter().enumerate() {
+        if *byte != byte_in(place / size as usize, place % size as usize) {
+            return false;
         }
     }
-    Ok(())
+    true
+}
+
+/// Recovers a file of which each tenth piece comes by coded fragments alone.
+fn recovers(rt: &impl Abort, alloc: Global, pieces: u16, size: u8) {
+    let mut receiver = made(rt, alloc, pieces, size);
+    feeds_most(rt, &mut receiver, pieces, size);
+    feeds_coded(rt, &mut receiver, pieces, size);
+    assert!(rt; is_whole(receiver.block(rt), pieces, size));
+    drop(receiver);
+}
+
+static PIECES: [u16; 5] = [8, 63, 64, 65, 70];
+
+static SIZES: [u8; 11] = [1, 3, 31, 32, 63, 64, 65, 127, 128, 191, 239];
+
+#[test]
+fn pieces_of_many_sizes(rt: HostRuntime) {
+    for pieces in &PIECES {
+        for size in &SIZES {
+            recovers(&rt, rt.alloc(), *pieces, *size);
+        }
+    }
 }

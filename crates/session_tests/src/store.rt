@@ -4,7 +4,7 @@ ghost use Rattle.std.specs.Prelude.{◌*◌, ◌≤◌};
 
 use flash_session::{Flash, MemFlash, StopFlash};
 use frag_session::{Limits, SetupReq, Verdict, Via};
-use session_store::{FlashFault, Layout, SessionStore};
+use session_store::{Layout, SessionStore};
 use std::alloc::Global;
 use std::process::Abort;
 use std::test::*;
@@ -37,7 +37,7 @@ enum Call {
 }
 
 /// A session that hears one fragment and ends at last, and beside it one whose file comes.
-const UPDATE: [Call; 8] = [
+static UPDATE: [Call; 8] = [
     Call::Setup(3),
     Call::Hear(3, 2, 0x55),
     Call::Setup(1),
@@ -48,17 +48,22 @@ const UPDATE: [Call; 8] = [
     Call::Delete(3),
 ];
 
-const FILE: [u8; 4] = [0x11, 0x22, 0x33, 0x44];
+static FILE: [u8; 4] = [0x11, 0x22, 0x33, 0x44];
 
 /// How many fragments the two sessions heard; none where there is no session.
 type Shown = (Option<u16>, Option<u16>);
 
-fn memory(alloc: Global) -> Result<MemFlash, Fail> {
-    Ok(MemFlash::reserve(alloc, 4 * SPAN, ROOM, Vec::new(alloc))?)
+type Store = SessionStore<StopFlash>;
+
+fn memory(rt: &impl Abort, alloc: Global) -> MemFlash {
+    match MemFlash::reserve(alloc, 4 * SPAN, ROOM, Vec::new(alloc)) {
+        Ok(flash) => flash,
+        Err(_) => panic!(rt; "no memory"),
+    }
 }
 
 /// A store whose flash is stopped after so many calls.
-fn store(rt: &impl Abort, alloc: Global, flash: MemFlash, calls: u64) -> SessionStore<StopFlash> {
+fn store(rt: &impl Abort, alloc: Global, flash: MemFlash, calls: u64) -> Store {
     let flash = StopFlash::over(flash, calls);
     assert!(rt; flash.size() as u64 >= 4 * SPAN as u64);
     match SessionStore::reserve(alloc, flash, LAYOUT, true) {
@@ -68,22 +73,18 @@ fn store(rt: &impl Abort, alloc: Global, flash: MemFlash, calls: u64) -> Session
 }
 
 /// The same over the flash of a store that is no more.
-fn over(rt: &impl Abort, alloc: Global, first: SessionStore<StopFlash>) -> SessionStore<StopFlash> {
+fn over(rt: &impl Abort, alloc: Global, first: Store) -> Store {
     store(rt, alloc, first.close().inner(), ALL)
 }
 
-fn power(rt: &impl Abort, store: &mut SessionStore<StopFlash>) -> bool {
+fn power(rt: &impl Abort, store: &mut Store) -> bool {
     assert!(rt; store.is_held());
     store.power().is_ok()
 }
 
-fn sets_up(
-    rt: &impl Abort,
-    store: &mut SessionStore<StopFlash>,
-    index: u8,
-) -> Result<(), FlashFault> {
+fn sets_up(rt: &impl Abort, store: &mut Store, index: u8) -> bool {
     assert!(rt; index < 4 && !store.is_down());
-    let bits = store.setup(SetupReq {
+    let req = SetupReq {
         index,
         mask: 0,
         nb_frag: 4,
@@ -92,27 +93,36 @@ fn sets_up(
         delay: 0,
         padding: 0,
         descriptor: 0,
-    })?;
-    assert!(rt; bits == 0);
-    Ok(())
-}
-
-/// Whether a call was made; else the flash was stopped in it.
-fn made(rt: &impl Abort, store: &mut SessionStore<StopFlash>, call: Call) -> bool {
-    match call {
-        Call::Setup(index) => sets_up(rt, store, index).is_ok(),
-        Call::Hear(index, n, byte) => {
-            assert!(rt; index < 4 && !store.is_down());
-            store.fragment(index, Via::Unicast, n, &[byte], 7).is_ok()
+    };
+    match store.setup(req) {
+        Ok(bits) => {
+            assert!(rt; bits == 0);
+            true
         }
-        Call::Delete(index) => {
-            assert!(rt; index < 4 && !store.is_down());
-            store.delete(index).is_ok()
-        }
+        Err(_) => false,
     }
 }
 
-fn received(store: &SessionStore<StopFlash>, index: u8) -> Option<u16>
+fn hears(rt: &impl Abort, store: &mut Store, index: u8, n: u16, byte: u8) -> bool {
+    assert!(rt; index < 4 && !store.is_down());
+    store.fragment(index, Via::Unicast, n, &[byte], 7).is_ok()
+}
+
+fn deletes(rt: &impl Abort, store: &mut Store, index: u8) -> bool {
+    assert!(rt; index < 4 && !store.is_down());
+    store.delete(index).is_ok()
+}
+
+/// Whether a call was made; else the flash was stopped in it.
+fn made(rt: &impl Abort, store: &mut Store, call: Call) -> bool {
+    match call {
+        Call::Setup(index) => sets_up(rt, store, index),
+        Call::Hear(index, n, byte) => hears(rt, store, index, n, byte),
+        Call::Delete(index) => deletes(rt, store, index),
+    }
+}
+
+fn received(store: &Store, index: u8) -> Option<u16>
     requires { index ≤ 3 }
 {
     match store.view(index) {
@@ -121,12 +131,12 @@ fn received(store: &SessionStore<StopFlash>, index: u8) -> Option<u16>
     }
 }
 
-fn shows(store: &SessionStore<StopFlash>) -> Shown {
+fn shows(store: &Store) -> Shown {
     (received(store, 1), received(store, 3))
 }
 
 /// Whether the update is whole.
-fn is_done(store: &SessionStore<StopFlash>) -> bool {
+fn is_done(store: &Store) -> bool {
     match store.view(1) {
         Some(view) => {
             view.verdict == Verdict::Complete(7)
@@ -137,23 +147,28 @@ fn is_done(store: &SessionStore<StopFlash>) -> bool {
     }
 }
 
-/// What the sessions show before each call, and behind the last.
-fn all_shown(rt: &impl Abort, alloc: Global) -> Result<[Shown; 9], Fail> {
-    let mut store = store(rt, alloc, memory(alloc)?, ALL);
+/// What the sessions of a store that gets power show before each call, and behind the last.
+fn all_shown_by(rt: &impl Abort, store: &mut Store) -> [Shown; 9] {
     assert!(rt; store.is_down());
-    assert!(rt; power(rt, &mut store));
+    assert!(rt; power(rt, store));
     let mut all = [(None, None); 9];
     for (at, call) in UPDATE.iter().enumerate() {
-        all[at] = shows(&store);
-        assert!(rt; made(rt, &mut store, *call));
+        all[at] = shows(store);
+        assert!(rt; made(rt, store, *call));
     }
-    all[8] = shows(&store);
+    all[8] = shows(store);
+    all
+}
+
+fn all_shown(rt: &impl Abort, alloc: Global) -> [Shown; 9] {
+    let mut store = store(rt, alloc, memory(rt, alloc), ALL);
+    let all = all_shown_by(rt, &mut store);
     drop(store);
-    Ok(all)
+    all
 }
 
 /// The update from a call on, as far as the flash goes; how many calls were made by then.
-fn updated(rt: &impl Abort, store: &mut SessionStore<StopFlash>, from: usize) -> usize {
+fn updated(rt: &impl Abort, store: &mut Store, from: usize) -> usize {
     for (number, call) in UPDATE.iter().enumerate() {
         if number >= from && !made(rt, store, *call) {
             return number;
@@ -163,19 +178,14 @@ fn updated(rt: &impl Abort, store: &mut SessionStore<StopFlash>, from: usize) ->
 }
 
 /// A store whose flash was stopped is down and has no session, also where it gets power again.
-fn stays_down(rt: &impl Abort, store: &mut SessionStore<StopFlash>) {
+fn stays_down(rt: &impl Abort, store: &mut Store) {
     assert!(rt; store.is_down() && !power(rt, store));
     assert!(rt; received(store, 3) == None);
 }
 
 /// Power behind a stop in the call `at`; the call from which the update goes on. The sessions are as before that one or
 /// behind it, or, where it sets one up or ends one, with none at its index.
-fn resumes(
-    rt: &impl Abort,
-    store: &mut SessionStore<StopFlash>,
-    all: &[Shown; 9],
-    at: usize,
-) -> usize {
+fn resumes(rt: &impl Abort, store: &mut Store, all: &[Shown; 9], at: usize) -> usize {
     assert!(rt; power(rt, store));
     assert!(rt; at <= 8);
     let shown = shows(store);
@@ -188,34 +198,45 @@ fn resumes(
     at
 }
 
-/// The update with a flash that is stopped after so many calls, and power behind it; true where no call was stopped.
-fn goes_on(rt: &impl Abort, alloc: Global, all: &[Shown; 9], calls: u64) -> Result<bool, Fail> {
-    let mut first = store(rt, alloc, memory(alloc)?, calls);
-    let at = if power(rt, &mut first) {
-        updated(rt, &mut first, 0)
+/// The update with a flash that is stopped, from its first power on; how many calls were made by then.
+fn goes_as_far(rt: &impl Abort, first: &mut Store) -> usize {
+    let at = if power(rt, first) {
+        updated(rt, first, 0)
     } else {
         0
     };
     if at < 8 {
-        stays_down(rt, &mut first);
+        stays_down(rt, first);
     } else {
         assert!(rt; !first.is_down());
     }
+    at
+}
+
+/// The update goes on behind a stop in the call `at`, to its end.
+fn ends(rt: &impl Abort, again: &mut Store, all: &[Shown; 9], at: usize) {
+    let from = resumes(rt, again, all, at);
+    assert!(rt; updated(rt, again, from) == 8);
+    assert!(rt; is_done(again));
+}
+
+/// The update with a flash that is stopped after so many calls, and power behind it; true where no call was stopped.
+fn goes_on(rt: &impl Abort, alloc: Global, all: &[Shown; 9], calls: u64) -> bool {
+    let mut first = store(rt, alloc, memory(rt, alloc), calls);
+    let at = goes_as_far(rt, &mut first);
     let mut again = over(rt, alloc, first);
-    let from = resumes(rt, &mut again, all, at);
-    assert!(rt; updated(rt, &mut again, from) == 8);
-    assert!(rt; is_done(&again));
+    ends(rt, &mut again, all, at);
     drop(again);
-    Ok(at == 8)
+    at == 8
 }
 
 #[test]
-fn an_update_goes_on_after_a_stop_at_any_call(rt: HostRuntime) -> Result<(), Fail> {
-    let all = all_shown(&rt, rt.alloc())?;
+fn an_update_goes_on_after_a_stop_at_any_call(rt: HostRuntime) {
+    let all = all_shown(&rt, rt.alloc());
     for calls in 0..1_000 {
-        if goes_on(&rt, rt.alloc(), &all, calls)? {
+        if goes_on(&rt, rt.alloc(), &all, calls) {
             assert!(&rt; calls > 35);
-            return Ok(());
+            return;
         }
     }
     panic!(&rt; "it never ends");

@@ -1,31 +1,26 @@
 //! Sums of every length from 0 to 300. What is added differs at each place by the same, so that a byte added elsewhere shows.
 
-ghost use Rattle.std.specs.Prelude.{◌≡◌, length, IfOk};
+ghost use Rattle.std.specs.Prelude.{◌≤◌};
 
 use row_arena::{xor_bytes, xor_words};
-use std::alloc::Global;
 use std::test::*;
 
-/// So many bytes, each other than its neighbours.
-fn some_bytes(alloc: Global, first: u8, n: usize) -> Result<Vec<u8>, Fail>
-    ensures { IfOk result (λ bytes. length bytes.items ≡ n) }
-{
-    let mut bytes = Vec::new(alloc);
-    for i in 0..n {
-        bytes.push((i % 251) as u8 ^ first)?;
+/// Bytes, each other than its neighbours.
+fn some_bytes(first: u8) -> [u8; 300] {
+    let mut bytes = [0; 300];
+    for (i, byte) in bytes.iter_mut().enumerate() {
+        *byte = (i % 251) as u8 ^ first;
     }
-    Ok(bytes)
+    bytes
 }
 
-/// So many words, each other than its neighbours.
-fn some_words(alloc: Global, first: u64, n: usize) -> Result<Vec<u64>, Fail>
-    ensures { IfOk result (λ words. length words.items ≡ n) }
-{
-    let mut words = Vec::new(alloc);
-    for i in 0..n {
-        words.push(i as u64 ^ first)?;
+/// Words, each other than its neighbours.
+fn some_words(first: u64) -> [u64; 300] {
+    let mut words = [0; 300];
+    for (i, word) in words.iter_mut().enumerate() {
+        *word = i as u64 ^ first;
     }
-    Ok(words)
+    words
 }
 
 const BYTE: u8 = 0xa5;
@@ -37,26 +32,36 @@ const WORD: u64 = 0xa5a5_a5a5_0000_0000;
 const OTHER_WORD: u64 = 0x3c3c_0000_0000_3c3c;
 
 /// Whether so many bytes are added each to its own: each is then the same.
-fn adds_bytes(alloc: Global, n: usize) -> Result<bool, Fail> {
-    let from = some_bytes(alloc, BYTE, n)?;
-    let mut sum = some_bytes(alloc, OTHER_BYTE, n)?;
-    xor_bytes(&mut sum, &from);
-    Ok(sum.iter().all(|byte| *byte == BYTE ^ OTHER_BYTE))
+fn adds_bytes(n: usize) -> bool
+    requires { n ≤ 300 }
+{
+    let mut sum = some_bytes(OTHER_BYTE);
+    xor_bytes(&mut sum[..n], &some_bytes(BYTE)[..n]);
+    for byte in &sum[..n] {
+        if *byte != BYTE ^ OTHER_BYTE {
+            return false;
+        }
+    }
+    true
 }
 
 /// The same of words.
-fn adds_words(alloc: Global, n: usize) -> Result<bool, Fail> {
-    let from = some_words(alloc, WORD, n)?;
-    let mut sum = some_words(alloc, OTHER_WORD, n)?;
-    xor_words(&mut sum, &from);
-    Ok(sum.iter().all(|word| *word == WORD ^ OTHER_WORD))
+fn adds_words(n: usize) -> bool
+    requires { n ≤ 300 }
+{
+    let mut sum = some_words(OTHER_WORD);
+    xor_words(&mut sum[..n], &some_words(WORD)[..n]);
+    for word in &sum[..n] {
+        if *word != WORD ^ OTHER_WORD {
+            return false;
+        }
+    }
+    true
 }
 
 #[test]
-fn sums_of_every_length(rt: HostRuntime) -> Result<(), Fail> {
+fn sums_of_every_length(rt: HostRuntime) {
     for n in 0..301 {
-        assert!(rt; adds_bytes(rt.alloc(), n)?);
-        assert!(rt; adds_words(rt.alloc(), n)?);
+        assert!(rt; adds_bytes(n) && adds_words(n));
     }
-    Ok(())
 }

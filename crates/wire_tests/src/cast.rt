@@ -17,68 +17,55 @@ fn spells(rt: &impl Abort, port: u8, dir: Direction, bytes: &[u8], cmd: &Cmd) {
     }
     let mut out = Payload::new();
     assert!(rt; valid(cmd));
-    assert!(rt; write_one(cmd, &mut out) == Ok(()));
+    assert!(rt; write_one(cmd, &mut out).is_ok());
     assert!(rt; out.as_slice() == bytes);
 }
 
-const SETUP_REQUEST: [u8; 11] = [
+static SETUP_REQUEST: [u8; 11] = [
     0x02, 0x1e, 0x04, 0x01, 0x0d, 0x2b, 0x05, 0x44, 0x33, 0x22, 0x11,
 ];
 
-const FRAGMENT: [u8; 5] = [0x08, 0x05, 0x80, 0xaa, 0xbb];
+static FRAGMENT: [u8; 5] = [0x08, 0x05, 0x80, 0xaa, 0xbb];
 
 #[test]
 fn commands_of_fragments_are_spelled_as_the_standard_has_them(rt: HostRuntime) {
-    let (down, up) = (Direction::Down, Direction::Up);
-    let rows: [(Direction, &[u8], Cmd); 4] = [
-        (
-            down,
-            &SETUP_REQUEST,
-            Cmd::FragSessionSetupReq {
-                index: 1,
-                mask: 14,
-                nb_frag: 0x0104,
-                frag_size: 13,
-                algo: 5,
-                delay: 3,
-                padding: 5,
-                descriptor: 0x11223344,
-            },
-        ),
-        (
-            up,
-            &[0x02, 0x49],
-            Cmd::FragSessionSetupAns {
-                index: 1,
-                wrong_descriptor: true,
-                index_unsupported: false,
-                no_memory: false,
-                encoding_unsupported: true,
-            },
-        ),
-        (
-            down,
-            &FRAGMENT,
-            Cmd::DataFragment {
-                index: 2,
-                n: 5,
-                bytes: FragmentBytes::from_slice(&[0xaa, 0xbb]),
-            },
-        ),
-        (
-            up,
-            &[0x01, 0x04, 0x00, 0x00, 0x00],
-            Cmd::FragSessionStatusAns {
-                index: 0,
-                received: 4,
-                missing: 0,
-                norows: false,
-            },
-        ),
-    ];
-    for (dir, bytes, cmd) in &rows {
-        spells(&rt, 201, *dir, bytes, cmd);
-    }
+    let setup = Cmd::FragSessionSetupReq {
+        index: 1,
+        mask: 14,
+        nb_frag: 0x0104,
+        frag_size: 13,
+        algo: 5,
+        delay: 3,
+        padding: 5,
+        descriptor: 0x11223344,
+    };
+    spells(&rt, 201, Direction::Down, &SETUP_REQUEST, &setup);
+    let fragment = Cmd::DataFragment {
+        index: 2,
+        n: 5,
+        bytes: FragmentBytes::from_slice(&[0xaa, 0xbb]),
+    };
+    spells(&rt, 201, Direction::Down, &FRAGMENT, &fragment);
+}
+
+#[test]
+fn answers_of_fragments_are_spelled_as_the_standard_has_them(rt: HostRuntime) {
+    let setup = Cmd::FragSessionSetupAns {
+        index: 1,
+        wrong_descriptor: true,
+        index_unsupported: false,
+        no_memory: false,
+        encoding_unsupported: true,
+    };
+    spells(&rt, 201, Direction::Up, &[0x02, 0x49], &setup);
+    let status = Cmd::FragSessionStatusAns {
+        index: 0,
+        received: 4,
+        missing: 0,
+        norows: false,
+    };
+    let bytes = [0x01, 0x04, 0x00, 0x00, 0x00];
+    spells(&rt, 201, Direction::Up, &bytes, &status);
 }
 
 #[test]
@@ -96,47 +83,34 @@ fn the_answer_to_a_setup_has_its_bits(rt: HostRuntime) {
 
 #[test]
 fn commands_of_groups_are_spelled_as_the_standard_has_them(rt: HostRuntime) {
-    let (down, up) = (Direction::Down, Direction::Up);
-    let rows: [(Direction, &[u8], Cmd); 3] = [
-        (
-            down,
-            &[
-                0x04, 0x00, 0xf2, 0x03, 0x00, 0x00, 0x00, 0x28, 0x76, 0x84, 0x00,
-            ],
-            Cmd::McClassCSessionReq {
-                id: 0,
-                time: 1_010,
-                timeout: 0,
-                freq: 8_681_000,
-                dr: 0,
-            },
-        ),
-        (
-            up,
-            &[0x04, 0x00, 0x0a, 0x00, 0x00],
-            Cmd::McClassCSessionAns {
-                id: 0,
-                undefined: false,
-                freq_error: false,
-                dr_error: false,
-                start: Some(10),
-            },
-        ),
-        (
-            up,
-            &[0x04, 0x1c],
-            Cmd::McClassCSessionAns {
-                id: 0,
-                undefined: true,
-                freq_error: true,
-                dr_error: true,
-                start: None,
-            },
-        ),
+    let request = Cmd::McClassCSessionReq {
+        id: 0,
+        time: 1_010,
+        timeout: 0,
+        freq: 8_681_000,
+        dr: 0,
+    };
+    let bytes = [
+        0x04, 0x00, 0xf2, 0x03, 0x00, 0x00, 0x00, 0x28, 0x76, 0x84, 0x00,
     ];
-    for (dir, bytes, cmd) in &rows {
-        spells(&rt, 200, *dir, bytes, cmd);
-    }
+    spells(&rt, 200, Direction::Down, &bytes, &request);
+    let answer = Cmd::McClassCSessionAns {
+        id: 0,
+        undefined: false,
+        freq_error: false,
+        dr_error: false,
+        start: Some(10),
+    };
+    let bytes = [0x04, 0x00, 0x0a, 0x00, 0x00];
+    spells(&rt, 200, Direction::Up, &bytes, &answer);
+    let refusal = Cmd::McClassCSessionAns {
+        id: 0,
+        undefined: true,
+        freq_error: true,
+        dr_error: true,
+        start: None,
+    };
+    spells(&rt, 200, Direction::Up, &[0x04, 0x1c], &refusal);
 }
 
 #[test]

@@ -3,71 +3,96 @@
 use package_grammar::*;
 use std::alloc::Global;
 use std::process::Abort;
-use std::test::Fail;
+use std::test::*;
 use wire_base::{Direction, Payload, Refusal, Why};
 
-const LONG: [u8; 243] = [0; 243];
+static LONG: [u8; 243] = [0; 243];
 
-fn stop(at: u16, why: Why) -> Result<u16, Refusal> {
-    Err(Refusal { at, why })
+/// The payload is a message of so many commands.
+fn counts(rt: &impl Abort, port: u8, dir: Direction, bytes: &[u8], commands: u16) {
+    match check(port, dir, bytes) {
+        Ok(found) => assert!(rt; found == commands),
+        Err(_) => panic!(rt; "it is refused"),
+    }
+}
+
+/// The payload is refused at a byte, for this.
+fn stops(rt: &impl Abort, port: u8, dir: Direction, bytes: &[u8], at: u16, why: Why) {
+    match check(port, dir, bytes) {
+        Ok(_) => panic!(rt; "it is a message"),
+        Err(refusal) => assert!(rt; refusal == Refusal { at, why }),
+    }
 }
 
 #[test]
 fn messages_are_counted_or_stop(rt: HostRuntime) {
     use Direction::*;
-    let rows = [
-        (201, Down, &LONG[..0], Ok(0)),
-        (201, Down, &[0x01, 0x01, 0x03, 0x00][..], Ok(2)),
-        (
-            201,
-            Down,
-            &[0x01, 0x01, 0x08, 0x01, 0x00][..],
-            stop(5, Why::Short),
-        ),
-        (
-            201,
-            Up,
-            &[0x08, 0x01, 0x00, 0x11][..],
-            stop(0, Why::UnknownCommand),
-        ),
-        (
-            203,
-            Up,
-            &[0x04, 0x03, 0x02, 0x00, 0x00][..],
-            stop(5, Why::Short),
-        ),
-        (203, Up, &[0x04, 0x02][..], Ok(1)),
-        (204, Down, &[0x00][..], stop(0, Why::Port)),
-        (202, Down, &LONG[..], stop(242, Why::TooLong)),
-        (202, Down, &LONG[..242], Ok(242)),
-    ];
-    for (port, dir, bytes, answer) in &rows {
-        assert!(rt; check(*port, *dir, bytes) == *answer);
+    counts(&rt, 201, Down, &[], 0);
+    counts(&rt, 201, Down, &[0x01, 0x01, 0x03, 0x00], 2);
+    counts(&rt, 203, Up, &[0x04, 0x02], 1);
+    counts(&rt, 202, Down, &LONG[..242], 242);
+    stops(
+        &rt,
+        201,
+        Down,
+        &[0x01, 0x01, 0x08, 0x01, 0x00],
+        5,
+        Why::Short,
+    );
+    stops(
+        &rt,
+        201,
+        Up,
+        &[0x08, 0x01, 0x00, 0x11],
+        0,
+        Why::UnknownCommand,
+    );
+    stops(&rt, 203, Up, &[0x04, 0x03, 0x02, 0x00, 0x00], 5, Why::Short);
+    stops(&rt, 204, Down, &[0x00], 0, Why::Port);
+    stops(&rt, 202, Down, &LONG, 242, Why::TooLong);
+}
+
+fn status() -> Command<'static> {
+    Command::Cast(cast_wire::Cmd::FragSessionStatusReq {
+        index: 0,
+        all: true,
+    })
+}
+
+fn delete() -> Command<'static> {
+    Command::Cast(cast_wire::Cmd::FragSessionDeleteReq { index: 2 })
+}
+
+/// The next command of the message is this.
+fn hands_out(rt: &impl Abort, message: &mut Message, command: Command) {
+    match message.next() {
+        Some(next) => assert!(rt; next == command),
+        None => panic!(rt; "no command is left"),
     }
 }
 
 #[test]
 fn a_message_hands_out_its_commands_in_order(rt: HostRuntime) {
-    let bytes = [0x01, 0x01, 0x03, 0x02];
-    let Ok(mut message) = Message::read(201, Direction::Down, &bytes) else {
-        assert!(rt; false);
-        return;
-    };
-    assert!(rt; message.again().count() == 2);
-    let status = cast_wire::Cmd::FragSessionStatusReq {
-        index: 0,
-        all: true,
-    };
-    let delete = cast_wire::Cmd::FragSessionDeleteReq { index: 2 };
-    assert!(rt; message.next() == Some(Command::Cast(status)));
-    assert!(rt; spelled(201, Direction::Down, &Command::Cast(delete)).as_slice() == &bytes[2..]);
-    let delete = cast_wire::Cmd::FragSessionDeleteReq { index: 2 };
-    assert!(rt; message.next() == Some(Command::Cast(delete)));
-    assert!(rt; message.next() == None);
+    match Message::read(201, Direction::Down, &[0x01, 0x01, 0x03, 0x02]) {
+        Ok(mut message) => {
+            assert!(rt; message.again().count() == 2);
+            hands_out(&rt, &mut message, status());
+            hands_out(&rt, &mut message, delete());
+            assert!(rt; message.next().is_none());
+        }
+        Err(_) => assert!(rt; false),
+    }
+}
+
+#[test]
+fn a_command_is_spelled(rt: HostRuntime) {
+    let delete = Command::Cast(cast_wire::Cmd::FragSessionDeleteReq { index: 2 });
+    let payload = spelled(201, Direction::Down, &delete);
+    assert!(rt; payload.as_slice() == [0x03, 0x02].as_slice());
 }
 
 /// A command of each row of the tables: port, direction, its canonical bytes in hex, its text.
-const COMMANDS: [(u8, Direction, &str, &str); 40] = [
+static COMMANDS: [(u8, Direction, &str, &str); 40] = [
     (200, Direction::Down, "00", "PackageVersionReq"),
     (
         200,
@@ -251,7 +276,7 @@ const COMMANDS: [(u8, Direction, &str, &str); 40] = [
 ];
 
 /// Commands with all their reserved bits set, and as they are written.
-const RESERVED: [(u8, Direction, &str, &str); 23] = [
+static RESERVED: [(u8, Direction, &str, &str); 23] = [
     (202, Direction::Up, "0100000000ff", "01000000001f"),
     (202, Direction::Down, "0100000000f3", "010000000003"),
     (202, Direction::Down, "02fb", "020b"),
@@ -312,105 +337,167 @@ fn text_and_bytes(
     dir: Direction,
     bytes: &[u8],
     canonical: &[u8],
-) -> Result<Vec<u8>, Fail> {
+) -> Vec<u8> {
     let mut text = Vec::new(alloc);
-    let mut out = Payload::new();
-    if !bytes.is_empty() {
-        if let Ok((command, next)) = read_one(port, dir, bytes, 0) {
+    assert!(rt; !bytes.is_empty());
+    match read_one(port, dir, bytes, 0) {
+        Ok((command, next)) => {
             assert!(rt; next as usize == bytes.len());
-            assert!(rt; write_one(port, dir, &command, &mut out) == Ok(()));
-            show(&command, &mut text)?;
+            let mut out = Payload::new();
+            assert!(rt; write_one(port, dir, &command, &mut out).is_ok());
+            assert!(rt; out.as_slice() == canonical);
+            assert!(rt; show(&command, &mut text).is_ok());
         }
+        Err(_) => panic!(rt; "it is no command"),
     }
-    assert_eq!(rt; out.as_slice(), canonical);
-    Ok(text)
+    text
+}
+
+/// The bytes are a command with this text, which is written with these bytes.
+fn is_shown(rt: &impl Abort, alloc: Global, port: u8, dir: Direction, digits: &str, text: &str) {
+    let bytes = bytes_of(alloc, digits);
+    let shown = text_and_bytes(rt, alloc, port, dir, &bytes, &bytes);
+    assert!(rt; shown.as_slice() == text.as_bytes());
+    drop(shown);
+    drop(bytes);
 }
 
 #[test]
-fn each_command_is_read_written_and_shown(rt: HostRuntime) -> Result<(), Fail> {
+fn each_command_is_read_written_and_shown(rt: HostRuntime) {
     for (port, dir, digits, text) in &COMMANDS {
-        let bytes = bytes_of(rt.alloc(), digits);
-        let shown = text_and_bytes(&rt, rt.alloc(), *port, *dir, &bytes, &bytes)?;
-        assert_eq!(rt; shown.as_slice(), text.as_bytes());
+        is_shown(&rt, rt.alloc(), *port, *dir, digits, text);
     }
-    Ok(())
+}
+
+/// The bytes are a command that is written with other bytes.
+fn is_written(
+    rt: &impl Abort,
+    alloc: Global,
+    port: u8,
+    dir: Direction,
+    digits: &str,
+    canonical: &str,
+) {
+    let bytes = bytes_of(alloc, digits);
+    let written = bytes_of(alloc, canonical);
+    assert!(rt; bytes.as_slice() != written.as_slice());
+    drop(text_and_bytes(rt, alloc, port, dir, &bytes, &written));
+    drop(written);
+    drop(bytes);
 }
 
 #[test]
-fn reserved_bits_are_ignored_and_written_0(rt: HostRuntime) -> Result<(), Fail> {
+fn reserved_bits_are_ignored_and_written_0(rt: HostRuntime) {
     for (port, dir, digits, canonical) in &RESERVED {
-        let bytes = bytes_of(rt.alloc(), digits);
-        let written = bytes_of(rt.alloc(), canonical);
-        assert!(rt; bytes.as_slice() != written.as_slice());
-        let _text = text_and_bytes(&rt, rt.alloc(), *port, *dir, &bytes, &written)?;
+        is_written(&rt, rt.alloc(), *port, *dir, digits, canonical);
     }
-    Ok(())
 }
 
-/// A fragment's front is a fragment, once it has a byte of it.
-#[test]
-fn each_command_cut_short_is_refused_at_the_cut(rt: HostRuntime) -> Result<(), Fail> {
-    for (port, dir, digits, text) in &COMMANDS {
-        let bytes = bytes_of(rt.alloc(), digits);
-        assert!(rt; bytes.len() <= 242);
-        let is_fragment = text.starts_with("DataFragment");
-        for cut in 1..bytes.len() {
-            let answer = if is_fragment && cut > 3 {
-                Ok(1)
-            } else {
-                stop(cut as u16, Why::Short)
-            };
-            assert!(rt; check(*port, *dir, bytes.split_at(cut).0) == answer);
+/// The bytes are refused at each cut. A fragment's front is a fragment, once it has a byte of it.
+fn is_cut(rt: &impl Abort, port: u8, dir: Direction, bytes: &[u8], is_fragment: bool) {
+    assert!(rt; bytes.len() <= 242);
+    for cut in 1..bytes.len() {
+        if is_fragment && cut > 3 {
+            counts(rt, port, dir, bytes.split_at(cut).0, 1);
+        } else {
+            stops(rt, port, dir, bytes.split_at(cut).0, cut as u16, Why::Short);
         }
     }
-    Ok(())
+}
+
+fn is_cut_short(
+    rt: &impl Abort,
+    alloc: Global,
+    port: u8,
+    dir: Direction,
+    digits: &str,
+    text: &str,
+) {
+    let bytes = bytes_of(alloc, digits);
+    is_cut(rt, port, dir, &bytes, text.starts_with("DataFragment"));
+    drop(bytes);
+}
+
+#[test]
+fn each_command_cut_short_is_refused_at_the_cut(rt: HostRuntime) {
+    for (port, dir, digits, text) in &COMMANDS {
+        is_cut_short(&rt, rt.alloc(), *port, *dir, digits, text);
+    }
 }
 
 /// Other values than the table's: negative, absent, none, all.
-#[test]
-fn values_have_their_texts(rt: HostRuntime) -> Result<(), Fail> {
-    let rows = [
-        (
-            202,
-            Direction::Down,
-            "0105000000f3",
-            "AppTimeAns correction=5 token=3",
-        ),
-        (
-            202,
-            Direction::Down,
-            "010000008000",
-            "AppTimeAns correction=-2147483648 token=0",
-        ),
-        (
-            200,
-            Direction::Up,
-            "0100",
-            "McGroupStatusAns total=0 mask=0 groups=-",
-        ),
-        (
-            200,
-            Direction::Up,
-            "041c",
-            "McClassCSessionAns id=0 bits=28 start=-",
-        ),
-        (
-            203,
-            Direction::Up,
-            "0402",
-            "DevUpgradeImageAns status=2 next=-",
-        ),
-    ];
-    for (port, dir, digits, text) in &rows {
-        let bytes = bytes_of(rt.alloc(), digits);
-        let mut room = String::new(rt.alloc());
-        let mut shown = Vec::new(rt.alloc());
-        if let Ok(mut message) = Message::read(*port, *dir, &bytes) {
-            let shows = message.show_next(&mut room, &mut shown)?;
-            let shows_more = message.show_next(&mut room, &mut shown)?;
-            assert!(rt; shows && !shows_more);
-        }
-        assert_eq!(rt; shown.as_slice(), text.as_bytes());
+static VALUES: [(u8, Direction, &str, &str); 5] = [
+    (
+        202,
+        Direction::Down,
+        "0105000000f3",
+        "AppTimeAns correction=5 token=3",
+    ),
+    (
+        202,
+        Direction::Down,
+        "010000008000",
+        "AppTimeAns correction=-2147483648 token=0",
+    ),
+    (
+        200,
+        Direction::Up,
+        "0100",
+        "McGroupStatusAns total=0 mask=0 groups=-",
+    ),
+    (
+        200,
+        Direction::Up,
+        "041c",
+        "McClassCSessionAns id=0 bits=28 start=-",
+    ),
+    (
+        203,
+        Direction::Up,
+        "0402",
+        "DevUpgradeImageAns status=2 next=-",
+    ),
+];
+
+/// Whether the next command's text is written behind what is there; false where none is left.
+fn shows_next(
+    rt: &impl Abort,
+    message: &mut Message,
+    room: &mut String,
+    shown: &mut Vec<u8>,
+) -> bool {
+    match message.show_next(room, shown) {
+        Ok(shows) => shows,
+        Err(_) => panic!(rt; "no memory"),
     }
-    Ok(())
+}
+
+/// The text of the one command of a message.
+fn text_of_one(rt: &impl Abort, alloc: Global, port: u8, dir: Direction, bytes: &[u8]) -> Vec<u8> {
+    let mut room = String::new(alloc);
+    let mut shown = Vec::new(alloc);
+    match Message::read(port, dir, bytes) {
+        Ok(mut message) => {
+            assert!(rt; shows_next(rt, &mut message, &mut room, &mut shown));
+            assert!(rt; !shows_next(rt, &mut message, &mut room, &mut shown));
+        }
+        Err(_) => panic!(rt; "it is no message"),
+    }
+    drop(room);
+    shown
+}
+
+fn has_text(rt: &impl Abort, alloc: Global, port: u8, dir: Direction, digits: &str, text: &str) {
+    let bytes = bytes_of(alloc, digits);
+    let shown = text_of_one(rt, alloc, port, dir, &bytes);
+    assert!(rt; shown.as_slice() == text.as_bytes());
+    drop(shown);
+    drop(bytes);
+}
+
+#[test]
+fn values_have_their_texts(rt: HostRuntime) {
+    for (port, dir, digits, text) in &VALUES {
+        has_text(&rt, rt.alloc(), *port, *dir, digits, text);
+    }
 }

@@ -10,7 +10,7 @@ fn spells(rt: &impl Abort, port: u8, dir: Direction, bytes: &[u8], cmd: &Cmd) {
     reads(rt, port, dir, bytes, cmd);
     let mut out = Payload::new();
     assert!(rt; valid(cmd));
-    assert!(rt; write_one(cmd, &mut out) == Ok(()));
+    assert!(rt; write_one(cmd, &mut out).is_ok());
     assert!(rt; out.as_slice() == bytes);
 }
 
@@ -26,60 +26,64 @@ fn reads(rt: &impl Abort, port: u8, dir: Direction, bytes: &[u8], cmd: &Cmd) {
     }
 }
 
+static CLOCK: [(Direction, &[u8], Cmd); 8] = [
+    (Direction::Down, &[0x00], Cmd::PackageVersionReq),
+    (
+        Direction::Up,
+        &[0x00, 0x01, 0x01],
+        Cmd::PackageVersionAns {
+            identifier: 1,
+            version: 1,
+        },
+    ),
+    (
+        Direction::Up,
+        &[0x01, 0x44, 0x33, 0x22, 0x11, 0x19],
+        Cmd::AppTimeReq {
+            time: 0x11223344,
+            required: true,
+            token: 9,
+        },
+    ),
+    (
+        Direction::Down,
+        &[0x01, 0x05, 0x00, 0x00, 0x00, 0x03],
+        Cmd::AppTimeAns {
+            correction: 5,
+            token: 3,
+        },
+    ),
+    (
+        Direction::Down,
+        &[0x01, 0xfe, 0xff, 0xff, 0xff, 0x0f],
+        Cmd::AppTimeAns {
+            correction: -2,
+            token: 15,
+        },
+    ),
+    (
+        Direction::Down,
+        &[0x02, 0x07],
+        Cmd::DeviceAppTimePeriodicityReq { period: 7 },
+    ),
+    (
+        Direction::Up,
+        &[0x02, 0x01, 0xf2, 0x03, 0x00, 0x00],
+        Cmd::DeviceAppTimePeriodicityAns {
+            unsupported: true,
+            time: 1_010,
+        },
+    ),
+    (
+        Direction::Down,
+        &[0x03, 0x05],
+        Cmd::ForceDeviceResyncReq { count: 5 },
+    ),
+];
+
 #[test]
 fn commands_of_the_clock_are_spelled_as_the_standard_has_them(rt: HostRuntime) {
-    let (down, up) = (Direction::Down, Direction::Up);
-    let rows: [(Direction, &[u8], Cmd); 8] = [
-        (down, &[0x00], Cmd::PackageVersionReq),
-        (
-            up,
-            &[0x00, 0x01, 0x01],
-            Cmd::PackageVersionAns {
-                identifier: 1,
-                version: 1,
-            },
-        ),
-        (
-            up,
-            &[0x01, 0x44, 0x33, 0x22, 0x11, 0x19],
-            Cmd::AppTimeReq {
-                time: 0x11223344,
-                required: true,
-                token: 9,
-            },
-        ),
-        (
-            down,
-            &[0x01, 0x05, 0x00, 0x00, 0x00, 0x03],
-            Cmd::AppTimeAns {
-                correction: 5,
-                token: 3,
-            },
-        ),
-        (
-            down,
-            &[0x01, 0xfe, 0xff, 0xff, 0xff, 0x0f],
-            Cmd::AppTimeAns {
-                correction: -2,
-                token: 15,
-            },
-        ),
-        (
-            down,
-            &[0x02, 0x07],
-            Cmd::DeviceAppTimePeriodicityReq { period: 7 },
-        ),
-        (
-            up,
-            &[0x02, 0x01, 0xf2, 0x03, 0x00, 0x00],
-            Cmd::DeviceAppTimePeriodicityAns {
-                unsupported: true,
-                time: 1_010,
-            },
-        ),
-        (down, &[0x03, 0x05], Cmd::ForceDeviceResyncReq { count: 5 }),
-    ];
-    for (dir, bytes, cmd) in &rows {
+    for (dir, bytes, cmd) in &CLOCK {
         spells(&rt, 202, *dir, bytes, cmd);
     }
 }
@@ -94,65 +98,69 @@ fn the_four_reserved_bits_are_free(rt: HostRuntime) {
     reads(&rt, 202, Direction::Down, &bytes, &later);
 }
 
+static FIRMWARE: [(Direction, &[u8], Cmd); 12] = [
+    (Direction::Down, &[0x00], Cmd::PackageVersionReq),
+    (Direction::Down, &[0x01], Cmd::DevVersionReq),
+    (
+        Direction::Up,
+        &[0x01, 0x02, 0x00, 0x00, 0x00, 0x01, 0x00, 0x00, 0x00],
+        Cmd::DevVersionAns {
+            firmware: 2,
+            hardware: 1,
+        },
+    ),
+    (
+        Direction::Down,
+        &[0x02, 0xf2, 0x03, 0x00, 0x00],
+        Cmd::DevRebootTimeReq { time: 1_010 },
+    ),
+    (
+        Direction::Up,
+        &[0x02, 0xf2, 0x03, 0x00, 0x00],
+        Cmd::DevRebootTimeAns { time: 1_010 },
+    ),
+    (
+        Direction::Down,
+        &[0x03, 0x33, 0x22, 0x11],
+        Cmd::DevRebootCountdownReq { count: 0x112233 },
+    ),
+    (
+        Direction::Up,
+        &[0x03, 0x33, 0x22, 0x11],
+        Cmd::DevRebootCountdownAns { count: 0x112233 },
+    ),
+    (Direction::Down, &[0x04], Cmd::DevUpgradeImageReq),
+    (
+        Direction::Up,
+        &[0x04, 0x03, 0x02, 0x00, 0x00, 0x00],
+        Cmd::DevUpgradeImageAns {
+            status: 3,
+            next: Some(2),
+        },
+    ),
+    (
+        Direction::Up,
+        &[0x04, 0x02],
+        Cmd::DevUpgradeImageAns {
+            status: 2,
+            next: None,
+        },
+    ),
+    (
+        Direction::Down,
+        &[0x05, 0x02, 0x00, 0x00, 0x00],
+        Cmd::DevDeleteImageReq { version: 2 },
+    ),
+    (
+        Direction::Up,
+        &[0x05, 0x02],
+        Cmd::DevDeleteImageAns { errors: 2 },
+    ),
+];
+
 #[test]
 fn commands_of_the_firmware_are_spelled_as_the_standard_has_them(rt: HostRuntime) {
-    let (down, up) = (Direction::Down, Direction::Up);
-    let rows: [(Direction, &[u8], Cmd); 12] = [
-        (down, &[0x00], Cmd::PackageVersionReq),
-        (down, &[0x01], Cmd::DevVersionReq),
-        (
-            up,
-            &[0x01, 0x02, 0x00, 0x00, 0x00, 0x01, 0x00, 0x00, 0x00],
-            Cmd::DevVersionAns {
-                firmware: 2,
-                hardware: 1,
-            },
-        ),
-        (
-            down,
-            &[0x02, 0xf2, 0x03, 0x00, 0x00],
-            Cmd::DevRebootTimeReq { time: 1_010 },
-        ),
-        (
-            up,
-            &[0x02, 0xf2, 0x03, 0x00, 0x00],
-            Cmd::DevRebootTimeAns { time: 1_010 },
-        ),
-        (
-            down,
-            &[0x03, 0x33, 0x22, 0x11],
-            Cmd::DevRebootCountdownReq { count: 0x112233 },
-        ),
-        (
-            up,
-            &[0x03, 0x33, 0x22, 0x11],
-            Cmd::DevRebootCountdownAns { count: 0x112233 },
-        ),
-        (down, &[0x04], Cmd::DevUpgradeImageReq),
-        (
-            up,
-            &[0x04, 0x03, 0x02, 0x00, 0x00, 0x00],
-            Cmd::DevUpgradeImageAns {
-                status: 3,
-                next: Some(2),
-            },
-        ),
-        (
-            up,
-            &[0x04, 0x02],
-            Cmd::DevUpgradeImageAns {
-                status: 2,
-                next: None,
-            },
-        ),
-        (
-            down,
-            &[0x05, 0x02, 0x00, 0x00, 0x00],
-            Cmd::DevDeleteImageReq { version: 2 },
-        ),
-        (up, &[0x05, 0x02], Cmd::DevDeleteImageAns { errors: 2 }),
-    ];
-    for (dir, bytes, cmd) in &rows {
+    for (dir, bytes, cmd) in &FIRMWARE {
         spells(&rt, 203, *dir, bytes, cmd);
     }
 }

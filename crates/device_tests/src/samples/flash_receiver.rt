@@ -84,28 +84,40 @@ const SETUP: SetupReq = SetupReq {
     descriptor: 7,
 };
 
-const FILE: [u8; 5] = [0x11, 0x22, 0x33, 0x44, 0x55];
+static FILE: [u8; 5] = [0x11, 0x22, 0x33, 0x44, 0x55];
 
 /// Pieces 1 and 3 of session 0, piece 2 of session 1, no fragment, and coded fragment 1, in whose line piece 2 is.
-const PIECE_ONE: [u8; 5] = [0x08, 0x01, 0x00, 0x11, 0x22];
+static PIECE_ONE: [u8; 5] = [0x08, 0x01, 0x00, 0x11, 0x22];
 
-const PIECE_THREE: [u8; 5] = [0x08, 0x03, 0x00, 0x55, 0x00];
+static PIECE_THREE: [u8; 5] = [0x08, 0x03, 0x00, 0x55, 0x00];
 
-const OF_ANOTHER: [u8; 5] = [0x08, 0x02, 0x40, 0x33, 0x44];
+static OF_ANOTHER: [u8; 5] = [0x08, 0x02, 0x40, 0x33, 0x44];
 
-const NO_FRAGMENT: [u8; 1] = [0x00];
+static NO_FRAGMENT: [u8; 1] = [0x00];
 
-const CODED: [u8; 5] = [0x08, 0x04, 0x00, 0x33, 0x44];
+static CODED: [u8; 5] = [0x08, 0x04, 0x00, 0x33, 0x44];
 
 /// Calls of the part that no test reaches.
 const ENOUGH: u32 = 1_000_000;
 
-fn part_of(alloc: Global, calls: u32) -> Result<Part<Ram>, Fail> {
-    let bytes = vec![in alloc; 0u8; SPAN as usize]?;
-    Ok(Part {
-        driver: Ram { bytes, calls },
-        failed: 0,
-    })
+fn part_of(rt: &impl Abort, alloc: Global, calls: u32) -> Part<Ram> {
+    match vec![in alloc; 0u8; SPAN as usize] {
+        Ok(bytes) => Part {
+            driver: Ram { bytes, calls },
+            failed: 0,
+        },
+        Err(_) => panic!(rt; "no memory"),
+    }
+}
+
+/// All memory of a receiver.
+fn empty(rt: &impl Abort, alloc: Global) -> Arena
+    ensures { result ≡ extent }
+{
+    match arena(alloc) {
+        Ok(empty) => empty,
+        Err(_) => panic!(rt; "no memory"),
+    }
 }
 
 /// The part works again, and is opened.
@@ -127,7 +139,7 @@ fn begun(rt: &impl Abort, receiver: Receiver, part: &mut Part<Ram>) -> Receiver
 {
     let empty = match set_up(receiver, part, SETUP) {
         Ok((receiver, bits)) => {
-            assert_eq!(rt; bits, 0);
+            assert!(rt; bits == 0);
             return receiver;
         }
         Err(empty) => empty,
@@ -156,35 +168,64 @@ fn heard(rt: &impl Abort, receiver: Receiver, part: &mut Part<Ram>, payload: &[u
     }
 }
 
-/// Over a part that fails once, behind so many calls: how often it failed. The file is whole at the end.
-fn received(rt: &impl Abort, alloc: Global, calls: u32) -> Result<u64, Fail> {
-    let mut part = part_of(alloc, calls)?;
-    let empty = arena(alloc)?;
-    let receiver = match start(&mut part, empty) {
+/// The first start, once more where the part failed in it.
+fn first(rt: &impl Abort, part: &mut Part<Ram>, empty: Arena) -> Receiver
+    requires { empty ≡ extent }
+    ensures { IsReceiver result }
+{
+    match start(part, empty) {
         Ok(receiver) => receiver,
-        Err((empty, _)) => started(rt, &mut part, empty),
-    };
-    let receiver = begun(rt, receiver, &mut part);
-    let receiver = heard(rt, receiver, &mut part, &PIECE_ONE);
-    let receiver = heard(rt, receiver, &mut part, &PIECE_THREE);
-    let receiver = heard(rt, receiver, &mut part, &OF_ANOTHER);
-    let receiver = heard(rt, receiver, &mut part, &NO_FRAGMENT);
-    assert_eq!(rt; file(&receiver), None);
-    let receiver = heard(rt, receiver, &mut part, &CODED);
-    assert_eq!(rt; file(&receiver), Some(FILE.as_slice()));
+        Err((empty, _)) => started(rt, part, empty),
+    }
+}
+
+/// What leaves piece 2 missing.
+fn heard_most(rt: &impl Abort, receiver: Receiver, part: &mut Part<Ram>) -> Receiver
+    requires { IsReceiver receiver }
+    ensures { IsReceiver result }
+{
+    let receiver = heard(rt, receiver, part, &PIECE_ONE);
+    let receiver = heard(rt, receiver, part, &PIECE_THREE);
+    let receiver = heard(rt, receiver, part, &OF_ANOTHER);
+    let receiver = heard(rt, receiver, part, &NO_FRAGMENT);
+    assert!(rt; file(&receiver).is_none());
+    receiver
+}
+
+fn is_whole(receiver: &Receiver) -> bool {
+    match file(receiver) {
+        Some(bytes) => bytes == FILE.as_slice(),
+        None => false,
+    }
+}
+
+/// Receives the file, which is whole at the end.
+fn receives(rt: &impl Abort, part: &mut Part<Ram>, empty: Arena)
+    requires { empty ≡ extent }
+{
+    let receiver = first(rt, part, empty);
+    let receiver = begun(rt, receiver, part);
+    let receiver = heard_most(rt, receiver, part);
+    let receiver = heard(rt, receiver, part, &CODED);
+    assert!(rt; is_whole(&receiver));
     drop(receiver);
+}
+
+/// Over a part that fails once, behind so many calls: how often it failed.
+fn received(rt: &impl Abort, alloc: Global, calls: u32) -> u64 {
+    let mut part = part_of(rt, alloc, calls);
+    receives(rt, &mut part, empty(rt, alloc));
     let failed = part.failed;
     drop(part);
-    Ok(failed)
+    failed
 }
 
 #[test]
-fn a_file_outlasts_a_stop_at_any_call(rt: HostRuntime) -> Result<(), Fail> {
+fn a_file_outlasts_a_stop_at_any_call(rt: HostRuntime) {
     // a start reads behind a sync, a setup takes five calls, and each of three fragments two writes with a sync behind each
     let all = 2 + 5 + 3 * 4;
     for calls in 0..all {
-        assert_eq!(rt; received(&rt, rt.alloc(), calls)?, 1);
+        assert!(rt; received(&rt, rt.alloc(), calls) == 1);
     }
-    assert_eq!(rt; received(&rt, rt.alloc(), all)?, 0);
-    Ok(())
+    assert!(rt; received(&rt, rt.alloc(), all) == 0);
 }

@@ -1,4 +1,6 @@
-ghost use Rattle.std.specs.Prelude.{◌≡◌, length, IfOk};
+//! What a server asks, sends and answers, byte by byte, and a device that hears it.
+
+ghost use Rattle.std.specs.Prelude.{◌≡◌, length};
 
 use campaign_server::{
     Field, Kind, NothingLeft, Plan, PlanDevice, PlanGroup, PlanWindow, Request, Server,
@@ -9,7 +11,7 @@ use flash_session::CellFlash;
 use image_slots::is_image;
 use mc_keys::RootKind;
 use package_grammar::{Downlink, To};
-use std::alloc::{AllocError, Global};
+use std::alloc::Global;
 use std::process::Abort;
 use std::test::*;
 use wire_base::{Refusal, Why};
@@ -27,7 +29,7 @@ static FRAMES: [&[u8]; 2] = [
 ];
 
 /// An image file for hardware 1 with firmware 2, its body and digest those of the text abc.
-const IMAGE: [u8; 52] = [
+static IMAGE: [u8; 52] = [
     0x46, 0x55, 0x49, 0x4d, 0x01, 0x01, 0x00, 0x00, 0x00, 0x02, 0x00, 0x00, 0x00, 0x03, 0x00, 0x00,
     0x00, 0xba, 0x78, 0x16, 0xbf, 0x8f, 0x01, 0xcf, 0xea, 0x41, 0x41, 0x40, 0xde, 0x5d, 0xae, 0x22,
     0x23, 0xb0, 0x03, 0x61, 0xa3, 0x96, 0x17, 0x7a, 0x9c, 0xb4, 0x10, 0xff, 0x61, 0xf2, 0x00, 0x15,
@@ -67,79 +69,94 @@ const WINDOW: PlanWindow = PlanWindow {
 };
 
 fn plan(
+    rt: &impl Abort,
     alloc: Global,
     frag_size: u8,
     parity: u16,
     group: Option<PlanGroup>,
     window: Option<PlanWindow>,
     count: usize,
-) -> Result<Plan, AllocError>
-    ensures { IfOk result (λ p. length p.devices ≡ count) }
+) -> Plan
+    ensures { length result.devices ≡ count }
 {
-    let mut devices = Vec::new(alloc);
     let device = PlanDevice {
         key: [0; 16],
         root: RootKind::V10,
     };
-    devices.resize(count, device)?;
-    Ok(Plan {
-        frag_size,
-        parity,
-        index: 0,
-        group,
-        window,
-        devices,
-    })
-}
-
-/// The field for which a plan for the image of 52 bytes is refused; none where it has a server.
-fn wrong_field(rt: &impl Abort, alloc: Global, plan: Plan) -> Option<Field> {
-    let parity = plan.parity;
-    assert!(rt; is_image(&IMAGE));
-    match Server::new(alloc, plan, &IMAGE) {
-        Ok(server) => {
-            assert!(rt; server.parity() == parity);
-            None
-        }
-        Err(ServerError::BadPlan(field)) => Some(field),
+    match vec![in alloc; device; count] {
+        Ok(devices) => Plan {
+            frag_size,
+            parity,
+            index: 0,
+            group,
+            window,
+            devices,
+        },
         Err(_) => panic!(rt; "no memory"),
     }
 }
 
+/// A plan for the image of 52 bytes is refused for this field; where there is none, it has a server.
+fn is_wrong(rt: &impl Abort, alloc: Global, plan: Plan, wrong: Option<Field>) {
+    let parity = plan.parity;
+    assert!(rt; is_image(&IMAGE));
+    match Server::new(alloc, plan, &IMAGE) {
+        Ok(server) => {
+            assert!(rt; server.parity() == parity && wrong.is_none());
+            drop(server);
+        }
+        Err(ServerError::BadPlan(field)) => assert!(rt; wrong == Some(field)),
+        Err(_) => panic!(rt; "no memory"),
+    }
+}
+
+const LATE: PlanGroup = PlanGroup { min: 10, ..GROUP };
+
+const LOUD: PlanWindow = PlanWindow {
+    timeout: 16,
+    ..WINDOW
+};
+
+/// Piece size, coded fragments, group, window, number of devices, and the first of these that is wrong.
+type Planned = (
+    u8,
+    u16,
+    Option<PlanGroup>,
+    Option<PlanWindow>,
+    usize,
+    Option<Field>,
+);
+
+static PLANS: [Planned; 12] = [
+    (13, 4, None, None, 1, None),
+    (13, 512, Some(GROUP), Some(WINDOW), 64, None),
+    (0, 513, Some(LATE), None, 0, Some(Field::FragSize)),
+    (240, 4, None, None, 1, Some(Field::FragSize)),
+    (13, 513, Some(LATE), None, 0, Some(Field::Parity)),
+    (13, 4, Some(LATE), None, 0, Some(Field::Group)),
+    (13, 4, Some(GROUP), None, 0, Some(Field::Window)),
+    (13, 4, None, Some(WINDOW), 1, Some(Field::Window)),
+    (13, 4, Some(GROUP), Some(LOUD), 1, Some(Field::Window)),
+    (13, 4, None, None, 0, Some(Field::Devices)),
+    (13, 4, None, None, 65, Some(Field::Devices)),
+    (13, 4, Some(GROUP), Some(WINDOW), 1, None),
+];
+
 /// Plans for the image of 52 bytes, and the first field of each that is wrong.
 #[test]
-fn the_first_wrong_field_is_named(rt: HostRuntime) -> Result<(), Fail> {
-    let late = Some(PlanGroup { min: 10, ..GROUP });
-    let loud = Some(PlanWindow {
-        timeout: 16,
-        ..WINDOW
-    });
-    let cases: [(
-        u8,
-        u16,
-        Option<PlanGroup>,
-        Option<PlanWindow>,
-        usize,
-        Option<Field>,
-    ); 12] = [
-        (13, 4, None, None, 1, None),
-        (13, 512, Some(GROUP), Some(WINDOW), 64, None),
-        (0, 513, late, None, 0, Some(Field::FragSize)),
-        (240, 4, None, None, 1, Some(Field::FragSize)),
-        (13, 513, late, None, 0, Some(Field::Parity)),
-        (13, 4, late, None, 0, Some(Field::Group)),
-        (13, 4, Some(GROUP), None, 0, Some(Field::Window)),
-        (13, 4, None, Some(WINDOW), 1, Some(Field::Window)),
-        (13, 4, Some(GROUP), loud, 1, Some(Field::Window)),
-        (13, 4, None, None, 0, Some(Field::Devices)),
-        (13, 4, None, None, 65, Some(Field::Devices)),
-        (13, 4, Some(GROUP), Some(WINDOW), 1, None),
-    ];
-    for (frag_size, parity, group, window, count, wanted) in cases {
-        let plan = plan(rt.alloc(), frag_size, parity, group, window, count)?;
-        assert!(rt; wrong_field(&rt, rt.alloc(), plan) == wanted);
+fn the_first_wrong_field_is_named(rt: HostRuntime) {
+    for (frag_size, parity, group, window, count, wrong) in &PLANS {
+        let plan = plan(
+            &rt,
+            rt.alloc(),
+            *frag_size,
+            *parity,
+            *group,
+            *window,
+            *count,
+        );
+        is_wrong(&rt, rt.alloc(), plan, *wrong);
     }
-    Ok(())
 }
 
 /// What is asked, by port and bytes, the uplink that answers it, and the stage behind that.
@@ -440,11 +457,11 @@ impl OneDevice {
         parity: u16,
         group: Option<PlanGroup>,
         window: Option<PlanWindow>,
-    ) -> Result<Self, Fail> {
-        let plan = plan(alloc, frag_size, parity, group, window, 1)?;
+    ) -> Self {
+        let plan = plan(rt, alloc, frag_size, parity, group, window, 1);
         assert!(rt; is_image(&IMAGE));
         match Server::new(alloc, plan, &IMAGE) {
-            Ok(server) => Ok(OneDevice { server }),
+            Ok(server) => OneDevice { server },
             Err(_) => panic!(rt; "no server"),
         }
     }
@@ -504,20 +521,29 @@ fn asked(rt: &impl Abort, campaign: &mut OneDevice, all: &[Asked]) {
     }
 }
 
+/// A campaign without a group, in pieces of 13 bytes.
+fn without_group(rt: &impl Abort, alloc: Global) -> OneDevice {
+    OneDevice::begin(rt, alloc, 13, 4, None, None)
+}
+
+/// The next fragment goes down by unicast.
+fn sends(rt: &impl Abort, campaign: &mut OneDevice, fragment: &[u8]) {
+    match campaign.fragment() {
+        Ok(down) => assert!(rt; is_down(&down, To::Unicast, 201, fragment)),
+        Err(_) => panic!(rt; "nothing is sent"),
+    }
+}
+
 #[test]
-fn a_campaign_is_sent_in_bytes(rt: HostRuntime) -> Result<(), Fail> {
-    let mut campaign = OneDevice::begin(&rt, rt.alloc(), 13, 4, None, None)?;
+fn a_campaign_is_sent_in_bytes(rt: HostRuntime) {
+    let mut campaign = without_group(&rt, rt.alloc());
     for fragment in &FRAGMENTS {
-        match campaign.fragment() {
-            Ok(down) => assert!(rt; is_down(&down, To::Unicast, 201, fragment)),
-            Err(_) => assert!(rt; false),
-        }
+        sends(&rt, &mut campaign, fragment);
     }
     assert!(rt; matches!(campaign.fragment(), Err(NothingLeft::Fragments)));
     asked(&rt, &mut campaign, &CAMPAIGN);
     campaign.asks(&rt, 0, &[]);
     drop(campaign);
-    Ok(())
 }
 
 /// A campaign with the group and the window.
@@ -527,57 +553,74 @@ fn with_group(
     frag_size: u8,
     parity: u16,
     group: PlanGroup,
-) -> Result<OneDevice, Fail> {
+) -> OneDevice {
     OneDevice::begin(rt, alloc, frag_size, parity, Some(group), Some(WINDOW))
 }
 
 #[test]
-fn a_group_is_asked_in_bytes(rt: HostRuntime) -> Result<(), Fail> {
-    let mut campaign = with_group(&rt, rt.alloc(), 52, 0, GROUP)?;
+fn a_group_is_asked_in_bytes(rt: HostRuntime) {
+    let mut campaign = with_group(&rt, rt.alloc(), 52, 0, GROUP);
     asked(&rt, &mut campaign, &GROUP_CAMPAIGN);
     assert!(rt; campaign.after(&rt, 200, &[0x02, 0x04]) == Stage::At(Request::Status));
-    let mut refused = with_group(&rt, rt.alloc(), 52, 0, GROUP)?;
+    drop(campaign);
+}
+
+#[test]
+fn a_window_is_refused_in_bytes(rt: HostRuntime) {
+    let mut refused = with_group(&rt, rt.alloc(), 52, 0, GROUP);
     asked(&rt, &mut refused, &GROUP_CAMPAIGN[..3]);
     let stage = Stage::Refused {
         request: Request::Window,
         bits: 0x1c,
     };
     assert!(rt; refused.after(&rt, 200, &[0x04, 0x1c]) == stage);
-    drop(campaign);
     drop(refused);
-    Ok(())
 }
 
 /// A group of two counts.
 const FEW: PlanGroup = PlanGroup { max: 2, ..GROUP };
 
-/// The counts of a group end before its fragments, and with them.
-#[test]
-fn counts_of_a_group_end(rt: HostRuntime) -> Result<(), Fail> {
-    let mut short = with_group(&rt, rt.alloc(), 26, 1, FEW)?;
-    assert!(rt; short.fragment().is_ok());
+/// A request for the status goes to the group with count 1.
+fn asks_all(rt: &impl Abort, campaign: &mut OneDevice) {
     let to = To::Group {
         addr: 0x1122_3344,
         count: 1,
     };
-    match short.status_all() {
+    match campaign.status_all() {
         Some(down) => assert!(rt; is_down(&down, to, 201, &[0x01, 0x00])),
-        None => assert!(rt; false),
+        None => panic!(rt; "nothing is asked"),
     }
-    assert!(rt; matches!(short.fragment(), Err(NothingLeft::Counts)));
-    assert!(rt; short.status_all().is_none());
-    let mut even = with_group(&rt, rt.alloc(), 26, 0, FEW)?;
-    assert!(rt; even.fragment().is_ok() && even.fragment().is_ok());
-    assert!(rt; matches!(even.fragment(), Err(NothingLeft::Fragments)));
-    drop(short);
-    drop(even);
-    Ok(())
 }
 
-fn device(rt: &impl Abort, alloc: Global) -> Result<Device<CellFlash>, Fail> {
-    let flash = CellFlash::reserve(alloc, 0)?;
-    match Device::reserve(alloc, CONFIG, flash) {
-        Ok(device) => Ok(device),
+#[test]
+fn counts_of_a_group_end_before_its_fragments(rt: HostRuntime) {
+    let mut short = with_group(&rt, rt.alloc(), 26, 1, FEW);
+    assert!(rt; short.fragment().is_ok());
+    asks_all(&rt, &mut short);
+    assert!(rt; matches!(short.fragment(), Err(NothingLeft::Counts)));
+    assert!(rt; short.status_all().is_none());
+    drop(short);
+}
+
+#[test]
+fn counts_of_a_group_end_with_its_fragments(rt: HostRuntime) {
+    let mut even = with_group(&rt, rt.alloc(), 26, 0, FEW);
+    assert!(rt; even.fragment().is_ok() && even.fragment().is_ok());
+    assert!(rt; matches!(even.fragment(), Err(NothingLeft::Fragments)));
+    drop(even);
+}
+
+/// A device whose sessions are in memory alone needs no flash.
+fn no_flash(rt: &impl Abort, alloc: Global) -> CellFlash {
+    match CellFlash::reserve(alloc, 0) {
+        Ok(flash) => flash,
+        Err(_) => panic!(rt; "no flash"),
+    }
+}
+
+fn device(rt: &impl Abort, alloc: Global) -> Device<CellFlash> {
+    match Device::reserve(alloc, CONFIG, no_flash(rt, alloc)) {
+        Ok(device) => device,
         Err(_) => panic!(rt; "no device"),
     }
 }
@@ -623,40 +666,53 @@ fn tells(device: &mut Device<CellFlash>, bytes: &[u8]) -> bool {
     }
 }
 
-/// A device that the server sets up hears what the server sends to the group, in its window.
-#[test]
-fn frames_reach_a_device_with_the_group(rt: HostRuntime) -> Result<(), Fail> {
-    let mut campaign = with_group(&rt, rt.alloc(), 13, 4, GROUP)?;
-    let mut device = device(&rt, rt.alloc())?;
+/// The device answers what it is asked first, four times.
+fn sets_up(rt: &impl Abort, campaign: &mut OneDevice, device: &mut Device<CellFlash>) {
     for _ in 0..4 {
-        let down = campaign.asked(&rt);
-        answers(&rt, &mut campaign, &mut device, &down);
+        let down = campaign.asked(rt);
+        answers(rt, campaign, device, &down);
     }
     assert!(rt; campaign.stage() == Stage::At(Request::Status));
-    let Ok(fragment) = campaign.fragment() else {
-        panic!(rt; "no fragment");
-    };
-    hears(&rt, &campaign.server, &mut device, &fragment, FRAMES[0]);
-    let Some(status) = campaign.status_all() else {
-        panic!(rt; "no count");
-    };
-    hears(&rt, &campaign.server, &mut device, &status, FRAMES[1]);
+}
+
+/// It hears a fragment, and then a status request.
+fn hears_two(rt: &impl Abort, campaign: &mut OneDevice, device: &mut Device<CellFlash>) {
+    match campaign.fragment() {
+        Ok(fragment) => hears(rt, &campaign.server, device, &fragment, FRAMES[0]),
+        Err(_) => panic!(rt; "no fragment"),
+    }
+    match campaign.status_all() {
+        Some(status) => hears(rt, &campaign.server, device, &status, FRAMES[1]),
+        None => panic!(rt; "no count"),
+    }
+}
+
+/// A device that the server sets up hears what the server sends to the group, in its window.
+#[test]
+fn frames_reach_a_device_with_the_group(rt: HostRuntime) {
+    let mut campaign = with_group(&rt, rt.alloc(), 13, 4, GROUP);
+    let mut device = device(&rt, rt.alloc());
+    sets_up(&rt, &mut campaign, &mut device);
+    hears_two(&rt, &mut campaign, &mut device);
     assert!(rt; tells(&mut device, &[0x01, 0x01, 0x00, 0x03, 0x00]));
     drop(campaign);
     drop(device);
-    Ok(())
+}
+
+/// The stage behind an uplink that comes after so many answers of `CAMPAIGN`.
+fn moves(rt: &impl Abort, alloc: Global, number: usize, port: u8, payload: &[u8], stage: Stage) {
+    let mut campaign = without_group(rt, alloc);
+    assert!(rt; number <= 6);
+    asked(rt, &mut campaign, &CAMPAIGN[..number]);
+    assert!(rt; campaign.after(rt, port, payload) == stage);
+    drop(campaign);
 }
 
 #[test]
-fn an_answer_moves_its_own_stage_alone(rt: HostRuntime) -> Result<(), Fail> {
+fn an_answer_moves_its_own_stage_alone(rt: HostRuntime) {
     for (number, port, payload, stage) in &OTHERS {
-        let mut campaign = OneDevice::begin(&rt, rt.alloc(), 13, 4, None, None)?;
-        assert!(rt; *number <= 6);
-        asked(&rt, &mut campaign, &CAMPAIGN[..*number]);
-        assert!(rt; campaign.after(&rt, *port, payload) == *stage);
-        drop(campaign);
+        moves(&rt, rt.alloc(), *number, *port, payload, *stage);
     }
-    Ok(())
 }
 
 /// Whether this is answered to an uplink on port 202; nothing where there are no bytes.
@@ -669,28 +725,27 @@ fn is_answered(campaign: &mut OneDevice, t: u64, payload: &[u8], answer: &[u8]) 
 }
 
 #[test]
-fn the_time_is_answered_anew_each_time(rt: HostRuntime) -> Result<(), Fail> {
-    let mut campaign = OneDevice::begin(&rt, rt.alloc(), 13, 4, None, None)?;
+fn the_time_is_answered_anew_each_time(rt: HostRuntime) {
+    let mut campaign = without_group(&rt, rt.alloc());
     for (t, payload, answer) in &TIMES {
         assert!(rt; is_answered(&mut campaign, *t, payload, answer));
     }
-    let cut = campaign.uplink(202, &[0x01, 0x0f, 0, 0, 0], 10_000);
-    assert!(rt; cut.is_err());
+    assert!(rt;
+        campaign
+            .uplink(202, &[0x01, 0x0f, 0, 0, 0], 10_000)
+            .is_err()
+    );
     campaign.asks(&rt, 203, &[0x01]);
     drop(campaign);
-    Ok(())
 }
 
-/// An uplink that is cut, foreign or too long is refused at its place, and the server stays as it was, the stage of the
-/// command before the cut too; so the whole one moves it then.
-#[test]
-fn refused_uplinks_move_nothing(rt: HostRuntime) -> Result<(), Fail> {
-    let mut campaign = OneDevice::begin(&rt, rt.alloc(), 13, 4, None, None)?;
+/// What is left of `VERSION` where it is cut, but not between its commands.
+fn stays_at_cuts(rt: &impl Abort, campaign: &mut OneDevice) {
     for length in 1..18usize {
         if length != 9 {
             stays(
-                &rt,
-                &mut campaign,
+                rt,
+                campaign,
                 203,
                 &VERSION[..length],
                 length as u16,
@@ -698,13 +753,20 @@ fn refused_uplinks_move_nothing(rt: HostRuntime) -> Result<(), Fail> {
             );
         }
     }
+}
+
+/// An uplink that is cut, foreign or too long is refused at its place, and the server stays as it was, the stage of the
+/// command before the cut too; so the whole one moves it then.
+#[test]
+fn refused_uplinks_move_nothing(rt: HostRuntime) {
+    let mut campaign = without_group(&rt, rt.alloc());
+    stays_at_cuts(&rt, &mut campaign);
     for (port, payload, at, why) in &FOREIGN {
         stays(&rt, &mut campaign, *port, payload, *at, *why);
     }
     stays(&rt, &mut campaign, 202, &[0; 243], 242, Why::TooLong);
     assert!(rt; campaign.after(&rt, 203, &VERSION[..9]) == Stage::At(Request::Fragments));
     drop(campaign);
-    Ok(())
 }
 
 /// The uplink is refused so, and the server still asks for the version.

@@ -28,7 +28,7 @@ const CONFIG: DeviceConfig = DeviceConfig {
 };
 
 /// An image file for hardware 1 with firmware 2, its body and digest those of the text abc.
-const IMAGE: [u8; 52] = [
+static IMAGE: [u8; 52] = [
     0x46, 0x55, 0x49, 0x4d, 0x01, 0x01, 0x00, 0x00, 0x00, 0x02, 0x00, 0x00, 0x00, 0x03, 0x00, 0x00,
     0x00, 0xba, 0x78, 0x16, 0xbf, 0x8f, 0x01, 0xcf, 0xea, 0x41, 0x41, 0x40, 0xde, 0x5d, 0xae, 0x22,
     0x23, 0xb0, 0x03, 0x61, 0xa3, 0x96, 0x17, 0x7a, 0x9c, 0xb4, 0x10, 0xff, 0x61, 0xf2, 0x00, 0x15,
@@ -39,7 +39,7 @@ const IMAGE: [u8; 52] = [
 type Exchange = (u8, &'static [u8], &'static [u8]);
 
 /// PackageVersionReq is answered on the port that it came on.
-const PACKAGES: [Exchange; 4] = [
+static PACKAGES: [Exchange; 4] = [
     (200, &[0x00], &[0x00, 2, 1]),
     (201, &[0x00], &[0x00, 3, 1]),
     (202, &[0x00], &[0x00, 1, 1]),
@@ -47,7 +47,7 @@ const PACKAGES: [Exchange; 4] = [
 ];
 
 /// Sessions are set up, hear, tell of themselves and end, each by its own index.
-const FRAGMENTS: [Exchange; 20] = [
+static FRAGMENTS: [Exchange; 20] = [
     (201, &[0x01, 0x01], &[]),
     (201, &[0x03, 0x00], &[0x03, 0x04]),
     (
@@ -107,7 +107,7 @@ const FRAGMENTS: [Exchange; 20] = [
 ];
 
 /// Groups 0 and 2 are set up, told and ended; then a session of class C on none, and one on group 2.
-const GROUPS: [Exchange; 7] = [
+static GROUPS: [Exchange; 7] = [
     (
         200,
         &[
@@ -146,7 +146,7 @@ const GROUPS: [Exchange; 7] = [
 ];
 
 /// A session for the image in one fragment.
-const SETUP: [Exchange; 2] = [
+static SETUP: [Exchange; 2] = [
     (201, &[0x01, 0x01], &[]),
     (
         201,
@@ -156,7 +156,7 @@ const SETUP: [Exchange; 2] = [
 ];
 
 /// A received image is told, deleted by its version alone, and runs after a reboot; all ones cancel one.
-const FIRMWARE: [Exchange; 8] = [
+static FIRMWARE: [Exchange; 8] = [
     (203, &[0x04], &[0x04, 0x03, 2, 0, 0, 0]),
     (203, &[0x05, 3, 0, 0, 0], &[0x05, 0x02]),
     (
@@ -173,7 +173,7 @@ const FIRMWARE: [Exchange; 8] = [
 
 /// A campaign of four fragments, of which two are lost and two coded ones heard: what the server
 /// sends, and what is answered.
-const CAMPAIGN: [Exchange; 10] = [
+static CAMPAIGN: [Exchange; 10] = [
     (
         203,
         &[0x01],
@@ -229,7 +229,7 @@ const CAMPAIGN: [Exchange; 10] = [
 ];
 
 /// Sessions of class C on group 0: one is refused, and one replaces the other.
-const WINDOWS: [Exchange; 5] = [
+static WINDOWS: [Exchange; 5] = [
     (
         200,
         &[0x04, 0x00, 0xf2, 0x03, 0, 0, 0, 0, 0, 0, 6],
@@ -280,7 +280,7 @@ const FRAME_1_1: [u8; 68] = [
 ];
 
 /// Bytes that the radio hears where no group is heard, and what becomes of them: none is a frame for the device.
-const STRANGE: [(&[u8], FrameFault); 4] = [
+static STRANGE: [(&[u8], FrameFault); 4] = [
     (&[0x60; 12], FrameFault::Short),
     (&[0x60; 256], FrameFault::Long),
     (&[0x60; 255], FrameFault::Header),
@@ -288,7 +288,7 @@ const STRANGE: [(&[u8], FrameFault); 4] = [
 ];
 
 /// Bytes that the radio hears at a moment in ms, with the session of `WINDOWS`, and what becomes of them.
-const AIRED: [(u64, &[u8], Aired); 11] = [
+static AIRED: [(u64, &[u8], Aired); 11] = [
     (1_000_000, &FRAME_1_1, Aired::Foreign(FrameFault::Mic)),
     (1_000_000, &[0; 12], Aired::Foreign(FrameFault::Short)),
     (
@@ -339,7 +339,7 @@ const AIRED: [(u64, &[u8], Aired); 11] = [
 ];
 
 /// An image is deleted by its version alone, and once; all ones cancel a reboot.
-const DELETIONS: [Exchange; 5] = [
+static DELETIONS: [Exchange; 5] = [
     (203, &[0x05, 3, 0, 0, 0], &[0x05, 0x02]),
     (203, &[0x05, 2, 0, 0, 0], &[0x05, 0x00]),
     (203, &[0x05, 2, 0, 0, 0], &[0x05, 0x01]),
@@ -353,7 +353,7 @@ const DELETIONS: [Exchange; 5] = [
 
 /// Commands in one payload at 1,000 ms, to a device whose clock is 5 s ahead; then a moment, and the
 /// version that runs there.
-const REBOOTS: [(&[u8], u64, u32); 14] = [
+static REBOOTS: [(&[u8], u64, u32); 14] = [
     (&[0x03, 0, 0, 0], 1000, 2),
     (&[0x03, 10, 0, 0], 10_999, 0),
     (&[0x03, 10, 0, 0], 11_000, 2),
@@ -371,10 +371,10 @@ const REBOOTS: [(&[u8], u64, u32); 14] = [
 ];
 
 /// A reboot at once.
-const COUNTDOWN: [Exchange; 1] = [(203, &[0x03, 0, 0, 0], &[0x03, 0, 0, 0])];
+static COUNTDOWN: [Exchange; 1] = [(203, &[0x03, 0, 0, 0], &[0x03, 0, 0, 0])];
 
 /// Payloads at a fresh device: the port, the payload, and the uplinks that it may make.
-const WEIGHTS: [(u8, &[u8], u16); 6] = [
+static WEIGHTS: [(u8, &[u8], u16); 6] = [
     (202, &[0x03, 0x07], 7),
     (202, &[0x03, 0x07, 0x03, 0x07], 14),
     (202, &[0x03, 0x00], 0),
@@ -590,23 +590,20 @@ fn without_an_image_the_moment_is_cleared_all_the_same(rt: HostRuntime) {
     drop(device);
 }
 
+/// The clock is right behind the answer, whether it was before or not.
+fn takes_the_correction(rt: &impl Abort, device: &mut Device<CellFlash>) {
+    let answer = [0x01, 0xfb, 0xff, 0xff, 0xff, 0x00];
+    assert!(rt; acts(rt, device, 10_000, 202, &answer));
+    assert!(rt; device.clock() == (0, 1));
+}
+
 #[test]
 fn a_clock_is_mended_once(rt: HostRuntime) {
     let mut device = reserved(&rt, rt.alloc(), AHEAD);
     assert!(rt; wakes(&rt, &mut device, 10_000));
     assert!(rt; makes(&mut device, 10_000, 202, &[0x01, 15, 0, 0, 0, 0x10]));
-    for _ in 0..2 {
-        assert!(rt;
-            acts(
-                &rt,
-                &mut device,
-                10_000,
-                202,
-                &[0x01, 0xfb, 0xff, 0xff, 0xff, 0x00]
-            )
-        );
-        assert!(rt; device.clock() == (0, 1));
-    }
+    takes_the_correction(&rt, &mut device);
+    takes_the_correction(&rt, &mut device);
     drop(device);
 }
 
@@ -654,6 +651,15 @@ fn hears(rt: &impl Abort, device: &mut Device<CellFlash>, t: u64) -> bool {
     }
 }
 
+/// Moments in ms, and whether a device of class A hears then, whose uplink was due at 5,000 ms.
+static HEARD_BY_A: [(u64, bool); 5] = [
+    (5999, false),
+    (6000, true),
+    (6099, true),
+    (6100, false),
+    (7000, true),
+];
+
 #[test]
 fn class_a_hears_behind_its_uplink(rt: HostRuntime) {
     let class_a = DeviceConfig {
@@ -663,22 +669,15 @@ fn class_a_hears_behind_its_uplink(rt: HostRuntime) {
     let mut device = reserved(&rt, rt.alloc(), class_a);
     assert!(rt; !hears(&rt, &mut device, 6000));
     assert!(rt; wakes(&rt, &mut device, 5000));
-    let table = [
-        (5999, false),
-        (6000, true),
-        (6099, true),
-        (6100, false),
-        (7000, true),
-    ];
-    for (t, heard) in table {
-        assert!(rt; hears(&rt, &mut device, t) == heard);
+    for (t, heard) in &HEARD_BY_A {
+        assert!(rt; hears(&rt, &mut device, *t) == *heard);
     }
     assert!(rt; deaf(&device) == 3);
     drop(device);
 }
 
 /// A session of a piece of a byte, that group 2 fills alone.
-const OF_GROUP_2: [Exchange; 1] = [(
+static OF_GROUP_2: [Exchange; 1] = [(
     201,
     &[0x02, 0x04, 1, 0, 1, 0x00, 0, 0, 0, 0, 0],
     &[0x02, 0x00],
@@ -704,45 +703,46 @@ fn group_is_heard(
     }
 }
 
+/// Moments, addresses and counts, and whether a frame is heard that has them.
+static HEARD_BY_GROUP: [(u64, u32, u32, bool); 6] = [
+    (1_009_999, 0x55667788, 0, false),
+    (1_010_000, 0x55667788, 0, true),
+    (1_010_999, 0x55667788, 9, true),
+    (1_010_999, 0x55667788, 10, false),
+    (1_010_999, 0x11223344, 0, false),
+    (1_011_000, 0x55667788, 0, false),
+];
+
 #[test]
 fn a_group_is_heard_while_its_session_runs(rt: HostRuntime) {
     let mut device = reserved(&rt, rt.alloc(), CONFIG);
     exchanges(&rt, &mut device, 1_000_000, &GROUPS);
     exchanges(&rt, &mut device, 1_000_000, &OF_GROUP_2);
-    let addr = 0x55667788;
-    let table = [
-        (1_009_999, addr, 0, false),
-        (1_010_000, addr, 0, true),
-        (1_010_999, addr, 9, true),
-        (1_010_999, addr, 10, false),
-        (1_010_999, 0x11223344, 0, false),
-        (1_011_000, addr, 0, false),
-    ];
-    for (t, addr, count, heard) in table {
-        assert!(rt; group_is_heard(&rt, &mut device, t, addr, count) == heard);
+    for (t, addr, count, heard) in &HEARD_BY_GROUP {
+        assert!(rt; group_is_heard(&rt, &mut device, *t, *addr, *count) == *heard);
     }
     drop(device);
 }
 
-/// What becomes of a payload to the group of `WINDOWS`, which makes no uplink.
-fn to_group(
+/// This becomes of a payload to the group of `WINDOWS`, which makes no uplink.
+fn becomes(
     rt: &impl Abort,
     device: &mut Device<CellFlash>,
     t: u64,
     port: u8,
     payload: &[u8],
-) -> Delivered {
+    answer: Delivered,
+) {
     let to = To::Group {
         addr: 0x11223344,
         count: 0,
     };
-    let answer = delivered(rt, device, t, to, port, payload);
+    assert!(rt; delivered(rt, device, t, to, port, payload) == answer);
     assert!(rt; makes_none(device));
-    answer
 }
 
 /// The end of group 0.
-const END_OF_GROUP: [Exchange; 1] = [(200, &[0x03, 0x00], &[0x03, 0x00])];
+static END_OF_GROUP: [Exchange; 1] = [(200, &[0x03, 0x00], &[0x03, 0x00])];
 
 #[test]
 fn a_file_comes_by_the_group_in_its_window(rt: HostRuntime) {
@@ -750,26 +750,37 @@ fn a_file_comes_by_the_group_in_its_window(rt: HostRuntime) {
     exchanges(&rt, &mut device, 1_000_000, &WINDOWS);
     let whole = fragment();
     // only fragments and status requests act, and what is skipped has its weight all the same
-    let table: [(u64, u8, &[u8], Delivered); 6] = [
-        (999_999, 201, &whole, Delivered::Deaf),
-        (1_000_000, 200, &[0x03, 0x00], Delivered::Done),
-        (
-            1_000_000,
-            203,
-            &[1, 1, 1, 1, 1, 1, 1, 1, 1],
-            Delivered::OutboxFull(9),
-        ),
-        (1_000_999, 201, &whole, Delivered::Done),
-        (1_000_999, 200, &[0x03, 0x00], Delivered::Done),
-        (1_001_000, 201, &whole, Delivered::Deaf),
-    ];
-    for (t, port, payload, answer) in table {
-        assert!(rt; to_group(&rt, &mut device, t, port, payload) == answer);
-    }
+    becomes(&rt, &mut device, 999_999, 201, &whole, Delivered::Deaf);
+    becomes(
+        &rt,
+        &mut device,
+        1_000_000,
+        200,
+        &[0x03, 0x00],
+        Delivered::Done,
+    );
+    becomes(
+        &rt,
+        &mut device,
+        1_000_000,
+        203,
+        &[1; 9],
+        Delivered::OutboxFull(9),
+    );
+    becomes(&rt, &mut device, 1_000_999, 201, &whole, Delivered::Done);
+    becomes(
+        &rt,
+        &mut device,
+        1_000_999,
+        200,
+        &[0x03, 0x00],
+        Delivered::Done,
+    );
+    becomes(&rt, &mut device, 1_001_000, 201, &whole, Delivered::Deaf);
     assert!(rt; is_to_run(&device) && deaf(&device) == 2);
     // by unicast the group is deleted, and its session ends
     exchanges(&rt, &mut device, 1_000_999, &END_OF_GROUP);
-    assert!(rt; to_group(&rt, &mut device, 1_000_999, 201, &[]) == Delivered::Deaf);
+    becomes(&rt, &mut device, 1_000_999, 201, &[], Delivered::Deaf);
     drop(device);
 }
 
@@ -845,21 +856,23 @@ fn is_made(
     }
 }
 
+/// Formats, rows, sessions, groups and bytes, of which one is out of bounds.
+static OUT_OF_BOUNDS: [(u8, u16, u8, u8, u32); 9] = [
+    (0, 0, 4, 4, MAX_AREA),
+    (3, 0, 4, 4, MAX_AREA),
+    (2, 257, 4, 4, MAX_AREA),
+    (2, 0, 0, 4, MAX_AREA),
+    (2, 0, 5, 4, MAX_AREA),
+    (2, 0, 4, 0, MAX_AREA),
+    (2, 0, 4, 5, MAX_AREA),
+    (2, 0, 4, 4, 0),
+    (2, 0, 4, 4, MAX_AREA + 1),
+];
+
 #[test]
 fn numbers_out_of_bounds_make_no_device(rt: HostRuntime) {
-    let table = [
-        (0, 0, 4, 4, MAX_AREA),
-        (3, 0, 4, 4, MAX_AREA),
-        (2, 257, 4, 4, MAX_AREA),
-        (2, 0, 0, 4, MAX_AREA),
-        (2, 0, 5, 4, MAX_AREA),
-        (2, 0, 4, 0, MAX_AREA),
-        (2, 0, 4, 5, MAX_AREA),
-        (2, 0, 4, 4, 0),
-        (2, 0, 4, 4, MAX_AREA + 1),
-    ];
-    for (formats, rows, sessions, groups, area) in table {
-        assert!(rt; !is_made(&rt, rt.alloc(), formats, rows, sessions, groups, area));
+    for (formats, rows, sessions, groups, area) in &OUT_OF_BOUNDS {
+        assert!(rt; !is_made(&rt, rt.alloc(), *formats, *rows, *sessions, *groups, *area));
     }
     assert!(rt; is_made(&rt, rt.alloc(), 2, 256, 4, 4, MAX_AREA));
 }

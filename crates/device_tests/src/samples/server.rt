@@ -1,0 +1,94 @@
+//! A campaign of one device, up to its window, and the fragments to its group.
+
+ghost use Rattle.std.specs.Prelude.{◌≡◌, length};
+
+use campaign_server::{PlanDevice, PlanGroup, Server};
+use image_slots::is_image;
+use mc_keys::RootKind;
+use package_grammar::To;
+use sample_server::{came, campaign, is_updated, queue_of, queue_of_group};
+use std::alloc::Global;
+use std::process::Abort;
+use std::test::*;
+
+/// An image file for hardware 1 with firmware 2, its body and digest those of the text abc.
+static IMAGE: [u8; 52] = [
+    0x46, 0x55, 0x49, 0x4d, 0x01, 0x01, 0x00, 0x00, 0x00, 0x02, 0x00, 0x00, 0x00, 0x03, 0x00, 0x00,
+    0x00, 0xba, 0x78, 0x16, 0xbf, 0x8f, 0x01, 0xcf, 0xea, 0x41, 0x41, 0x40, 0xde, 0x5d, 0xae, 0x22,
+    0x23, 0xb0, 0x03, 0x61, 0xa3, 0x96, 0x17, 0x7a, 0x9c, 0xb4, 0x10, 0xff, 0x61, 0xf2, 0x00, 0x15,
+    0xad, 0x61, 0x62, 0x63,
+];
+
+fn group() -> PlanGroup {
+    PlanGroup {
+        id: 0,
+        addr: 0x1122_3344,
+        key: [0; 16],
+        min: 7,
+        max: 9,
+    }
+}
+
+/// The one device of the campaign.
+fn devices(rt: &impl Abort, alloc: Global) -> Vec<PlanDevice>
+    ensures { length result.items ≡ 1 }
+{
+    let device = PlanDevice {
+        key: [0; 16],
+        root: RootKind::V10,
+    };
+    match vec![in alloc; device; 1] {
+        Ok(devices) => devices,
+        Err(_) => panic!(rt; "no memory"),
+    }
+}
+
+fn begun(rt: &impl Abort, alloc: Global) -> Server
+    ensures { length result.plan.devices ≡ 1 }
+{
+    assert!(rt; is_image(&IMAGE));
+    match campaign(alloc, &IMAGE, group(), 1000, devices(rt, alloc)) {
+        Ok(server) => server,
+        Err(_) => panic!(rt; "a plan that is none"),
+    }
+}
+
+/// What is asked of the device.
+fn asks(rt: &impl Abort, server: &Server, port: u8, bytes: &[u8])
+    requires { length server.now.plan.devices ≡ 1 }
+{
+    match queue_of(server, 1) {
+        Some(asked) => assert!(rt; asked.port == port && asked.payload.as_slice() == bytes),
+        None => panic!(rt; "nothing is asked"),
+    }
+}
+
+/// A fragment goes to the group, with this count.
+fn sends(rt: &impl Abort, server: &mut Server, count: u32) {
+    match queue_of_group(server) {
+        Some(fragment) => {
+            let to = To::Group {
+                addr: 0x1122_3344,
+                count,
+            };
+            assert!(rt; fragment.to == to);
+            assert!(rt; fragment.port == 201 && fragment.payload.len() == 51);
+        }
+        None => panic!(rt; "nothing is sent"),
+    }
+}
+
+#[test]
+fn a_campaign_is_driven(rt: HostRuntime) {
+    let mut server = begun(&rt, rt.alloc());
+    // DevVersionReq, and its answer: firmware 0, hardware 1
+    asks(&rt, &server, 203, &[0x01]);
+    assert!(rt; !is_updated(&server, 1));
+    let answer = [0x01, 0, 0, 0, 0, 1, 0, 0, 0];
+    assert!(rt; matches!(came(&mut server, 1, 203, &answer, 0), Ok(None)));
+    // two fragments, and then the group's counts are spent
+    sends(&rt, &mut server, 7);
+    sends(&rt, &mut server, 8);
+    assert!(rt; queue_of_group(&mut server).is_none());
+    drop(server);
+}
