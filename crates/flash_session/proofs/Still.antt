@@ -1,7 +1,7 @@
 -- Runs of reads.
-use Rattle.std.proofs.Common.{◌≡◌, ◌≢◌, ℕ, ◌+◌, List, Option, Some, None, MatchOption, IfOk, IfErr, OnOk, Result, Ok, Err, refl, sym, subst, ◌∙◌, inl, inr, arith}
+use Rattle.std.proofs.Common.{◌≡◌, ◌≢◌, ℕ, ◌+◌, ◌≤◌, List, Option, Some, None, MatchOption, IfOk, IfErr, OnOk, OnErr, Result, Ok, Err, refl, sym, subst, ◌∙◌, inl, inr, arith}
 use Rattle.std.proofs.lemmas.Bool.{cases_eq}
-use Rattle.flash_session.specs.Contents.{byte_at, Same, Follows, StillHolds, IsKept}
+use Rattle.flash_session.specs.Contents.{byte_at, Same, Follows, StillHolds, IsKept, HasRisen, HasCause}
 use Rattle.flash_session.specs.Gates.{AreOpen, AreShut}
 use Rattle.flash_session.specs.Layout.{open_gate}
 use Rattle.flash_session.specs.Moments.{Elapses}
@@ -49,6 +49,38 @@ shut_more holds0 holds at from k shut follows now = record {
   ];
 }
 
+-- gates that are shut still are
+pub shut_kept : (holds0 holds : List ℕ → Type 0) (at from k : ℕ) → AreShut holds0 at from k → Follows Same holds0 holds → AreShut holds at from k
+shut_kept holds0 holds at from k shut follows = record {
+  shut = λ b held j le lt is. let before = follows.from b held in shut.shut before.0 before.1 j le lt (sym (before.2.all (at + j)) ∙ is);
+}
+
+-- and gates that are open
+pub open_kept : (holds0 holds : List ℕ → Type 0) (at from k : ℕ) → AreOpen holds0 at from k → Follows Same holds0 holds → AreOpen holds at from k
+open_kept holds0 holds at from k opened follows = record {
+  opened = λ b held j le lt. let before = follows.from b held in before.2.all (at + j) ∙ opened.opened before.0 before.1 j le lt;
+}
+
+-- one gate alone
+pub open_here : (holds : List ℕ → Type 0) (at k : ℕ) → ((b : List ℕ) → holds b → byte_at b (at + k) ≡ open_gate) → AreOpen holds at k (k + 1)
+open_here holds at k now = record {
+  opened = λ b held j le lt. let here : j ≡ k = omega (arith, le, lt) in subst (λ (i : ℕ). byte_at b (at + i) ≡ open_gate) (sym here) (now b held);
+}
+
+pub shut_here : (holds : List ℕ → Type 0) (at k : ℕ) → ((b : List ℕ) → holds b → byte_at b (at + k) ≢ open_gate) → AreShut holds at k (k + 1)
+shut_here holds at k now = record {
+  shut = λ b held j le lt. let here : j ≡ k = omega (arith, le, lt) in subst (λ (i : ℕ). byte_at b (at + i) ≢ open_gate) (sym here) (now b held);
+}
+
+-- a count that rose in the last call rose
+pub risen_behind : (m n o : ℕ) → m ≤ n → HasRisen n o → HasRisen m o
+risen_behind m n o before risen = omega (arith, before, risen)
+
+-- and so did that of a run whose last call failed
+pub cause_behind : {T E : Type 0} {m n o : ℕ} (r : Result T E) → m ≤ n → HasCause n o r → HasCause m o r
+cause_behind {T} {E} {m} {n} {o} (Ok x) before cause = record { later = omega (arith, before, cause.later); failed = tt }
+cause_behind {T} {E} {m} {n} {o} (Err e) before cause = record { later = omega (arith, before, cause.later); failed = risen_behind m n o before cause.failed }
+
 pub found_some : {A : Type 0} (P : Type 0) (Q : A → Type 0) (o : Option A) (k : A) → o ≡ Some k → MatchOption o P Q → Q k
 found_some {A} P Q o k is found = subst (λ (x : Option A). MatchOption x P Q) is found
 
@@ -63,6 +95,10 @@ on_err to (Err e) p = to e p
 pub on_ok : {T E : Type 0} {P Q : T → Type 0} → ((x : T) → P x → Q x) → (r : Result T E) → IfOk r P → IfOk r Q
 on_ok to (Ok x) p = to x p
 on_ok to (Err e) p = tt
+
+pub on_err_any : {T E : Type 0} {P : Type 0} → P → (r : Result T E) → OnErr r P
+on_err_any p (Ok x) = tt
+on_err_any p (Err e) = p
 
 pub on_ok_any : {T E : Type 0} {P : Type 0} → P → (r : Result T E) → OnOk r P
 on_ok_any p (Ok x) = p

@@ -224,7 +224,6 @@ fn find_tallies<F: Flash, const W: usize, const B: usize>(
 }
 
 /// The same, where all gates are counted.
-#[tactic(auto, using(crate::proofs::Found::no_heard))]
 fn find_records<F: Flash, const W: usize, const B: usize>(
     flash: &mut F,
     base: u32,

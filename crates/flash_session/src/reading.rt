@@ -137,7 +137,6 @@ pub enum Front {
 }
 
 /// What the gates from a place on are like.
-#[tactic(auto, using(crate::proofs::Fronts::front_whole, crate::proofs::Fronts::all_open))]
 pub fn read_front<F: Flash>(flash: &mut F, at: u32, most: u16) -> Result<Front, Failed>
     requires { at + most ≤ F.room flash.old }
     ensures found { IfOk result (λ front. IsFront (F.holds flash.new) at most front) }

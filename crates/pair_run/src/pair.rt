@@ -1,14 +1,15 @@
 //! Two campaigns as their script tells them, line by line.
 
-ghost use Rattle.std.specs.Prelude.{◌≡◌, ◌≤◌, ◌<◌, ◌+◌, ◌++◌, true, List, length, None, Some, Ok, Err, IfOk, IfErr, OnErr, OnOk, is_some, vec_len, vec_capacity};
+ghost use Rattle.std.specs.Prelude.{◌≡◌, ◌≤◌, ◌<◌, ◌+◌, ◌++◌, ◌&&◌, true, List, length, None, Some, Ok, Err, IfOk, IfErr, OnErr, OnOk, is_some, vec_len, vec_capacity};
 ghost use Rattle.image_slots.specs.Image.{is_image};
 ghost use Rattle.script_lines.specs.Limits.{max_lines};
 ghost use Rattle.pair_run.specs.Pair.{PairState, first_pair, side, other};
-ghost use Rattle.pair_run.specs.PairCauses.{common_cause, both_cause, crossing_cause, pair_cause_of, target_cause};
+ghost use Rattle.pair_run.specs.PairCauses.{common_cause, both_cause, crossing_cause, pair_cause_of, target_cause, pair_may_come, is_next, is_apart};
+ghost use Rattle.script_lines.specs.Ranges.{in_range};
 ghost use Rattle.pair_run.specs.PairMaking.{after_target, joined};
 ghost use Rattle.device_core.specs.Device.{DeviceState};
 ghost use Rattle.campaign_world.specs.HeldWorld.{world_of};
-ghost use Rattle.campaign_world.specs.Causes.{has_begun, has_ended};
+ghost use Rattle.campaign_world.specs.Causes.{fits_flash, names_device, has_begun, has_ended};
 
 use crate::causes::{goes_by, is_apart, is_next, pair_may_come};
 use crate::owners::Owner;
@@ -50,14 +51,21 @@ impl Pair {
         ensures stands { IfOk result (λ p. PairStands p (first_pair image_a.now image_b.now)) }
         ensures fresh { IfOk result (λ p. p.kept ≡ None) }
     {
-        let a = World::new(alloc, image_a)?;
-        let b = World::new(alloc, image_b)?;
-        Ok(Pair {
-            a,
-            b,
-            owners: Vec::new(alloc),
-            kept: None,
-        })
+        match World::new(alloc, image_a) {
+            Ok(a) => match World::new(alloc, image_b) {
+                Ok(b) => Ok(Pair {
+                    a,
+                    b,
+                    owners: Vec::new(alloc),
+                    kept: None,
+                }),
+                Err(error) => {
+                    drop(a);
+                    Err(error)
+                }
+            },
+            Err(error) => Err(error),
+        }
     }
 
     /// Takes the next line of the script, without its line feed. After a refused line each later one is answered with that
@@ -165,29 +173,63 @@ impl Pair {
     }
 
     /// The first cause that concerns both campaigns.
-    #[tactic(auto, unfolding(crate::specs::PairCauses::common_cause))]
     fn common_cause(&self, pair_form: &PairForm) -> Option<LineWhy>
         ensures { OfBoth self.now (λ pair. result ≡ common_cause pair pair_form.now) }
     {
-        let form = &pair_form.form;
-        if !pair_may_come(self.a.section(), self.b.section(), pair_form.campaign, form) {
+        if !self.comes(pair_form) {
             return Some(LineWhy::Order);
         }
-        let owners: &[Owner] = &self.owners;
-        let count = owners.len();
-        let fits = in_range(form)
-            && is_next(count, form)
-            && is_apart(self.a.plan(), pair_form.campaign, form);
-        if !fits {
+        if !self.is_in_range(pair_form) {
             return Some(LineWhy::Range);
         }
-        if !names_device(count, form) {
+        if !self.names_device(&pair_form.form) {
             return Some(LineWhy::Device);
         }
-        if !fits_flash(self.a.flash_count() + self.b.flash_count(), form) {
+        if !self.fits_flash(&pair_form.form) {
             return Some(LineWhy::Limit);
         }
         None
+    }
+
+    /// Whether the line may come here.
+    fn comes(&self, pair_form: &PairForm) -> bool
+        ensures { result ≡ pair_may_come self.now.a.section self.now.b.section pair_form.now.campaign
+            pair_form.now.form }
+    {
+        pair_may_come(
+            self.a.section(),
+            self.b.section(),
+            pair_form.campaign,
+            &pair_form.form,
+        )
+    }
+
+    /// Whether its fields are in range, behind the devices of both and what the first one plans.
+    fn is_in_range(&self, pair_form: &PairForm) -> bool
+        ensures { result ≡ (in_range pair_form.now.form
+            && is_next (length self.now.owners) pair_form.now.form
+            && is_apart self.now.a.server.plan pair_form.now.campaign pair_form.now.form) }
+    {
+        let form = &pair_form.form;
+        let owners: &[Owner] = &self.owners;
+        in_range(form)
+            && is_next(owners.len(), form)
+            && is_apart(self.a.plan(), pair_form.campaign, form)
+    }
+
+    /// Whether it tells of none but a device of the two.
+    fn names_device(&self, form: &Form) -> bool
+        ensures { result ≡ names_device (length self.now.owners) form.now }
+    {
+        let owners: &[Owner] = &self.owners;
+        names_device(owners.len(), form)
+    }
+
+    /// Whether there is flash for its device behind those of both that have one.
+    fn fits_flash(&self, form: &Form) -> bool
+        ensures { result ≡ fits_flash (length self.now.a.flash + length self.now.b.flash) form.now }
+    {
+        fits_flash(self.a.flash_count() + self.b.flash_count(), form)
     }
 
     /// The first cause in the campaign whose the line is.

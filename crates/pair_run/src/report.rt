@@ -31,13 +31,21 @@ pub fn report(
     let (Some(server_a), Some(server_b)) = (a.server(), b.server()) else {
         unreachable!()
     };
-    let image_a = pair_image_line(alloc, Campaign::A, server_a)?;
-    let image_b = pair_image_line(alloc, Campaign::B, server_b)?;
+    let mut text = head(alloc, server_a, server_b)?;
     let parts = pair_parts(alloc, a, b, owners)?;
-    let mut text = first_lines(alloc, image_a.as_str(), image_b.as_str())?.into_bytes();
     text.extend_from_slice(&parts)?;
     text.extend_from_slice(b"end\n")?;
     Ok(text)
+}
+
+/// What each sends, under the report's first line.
+fn head(alloc: Global, a: &Server, b: &Server) -> Result<Vec<u8>, AllocError>
+    ensures { IfOk result (λ text. text.items ≡ codes "fuota report 2\n"
+        ++ (pair_image_line Campaign.A a.now ++ pair_image_line Campaign.B b.now)) }
+{
+    let image_a = pair_image_line(alloc, Campaign::A, a)?;
+    let image_b = pair_image_line(alloc, Campaign::B, b)?;
+    Ok(first_lines(alloc, image_a.as_str(), image_b.as_str())?.into_bytes())
 }
 
 fn first_lines(alloc: Global, image_a: &str, image_b: &str) -> Result<String, AllocError>

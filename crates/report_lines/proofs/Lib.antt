@@ -3,3 +3,4 @@ pub mod Lines
 pub mod Behind
 pub mod WorkedLines
 pub mod Places
+pub mod Texts

@@ -1,6 +1,6 @@
 //! The lines of a device's sessions, each with its verdict.
 
-ghost use Rattle.std.specs.Prelude.{◌≡◌, ◌<◌, ◌++◌, Some, codes};
+ghost use Rattle.std.specs.Prelude.{◌≡◌, ◌<◌, ◌++◌, Some, OnOk, codes, string_bytes};
 ghost use Rattle.std.specs.Fmt.{decimal};
 ghost use Rattle.frag_session.specs.Session.{view_of};
 ghost use Rattle.frag_session.specs.HeldView.{seen};
@@ -35,29 +35,28 @@ pub fn session_lines<F: Flash + Drop>(
     ensures { (d : DeviceState) → DeviceStands device.now d
         → IsText result (session_lines (tail_of tail.entry) d.sessions) }
 {
-    let first = session_line(alloc, device, 0, tail)?;
-    let second = session_line(alloc, device, 1, tail)?;
-    let third = session_line(alloc, device, 2, tail)?;
-    let fourth = session_line(alloc, device, 3, tail)?;
-    four_texts(
-        alloc,
-        first.as_str(),
-        second.as_str(),
-        third.as_str(),
-        fourth.as_str(),
-    )
+    let mut text = session_line(alloc, device, 0, tail)?;
+    put_line(alloc, device, 1, tail, &mut text)?;
+    put_line(alloc, device, 2, tail, &mut text)?;
+    put_line(alloc, device, 3, tail, &mut text)?;
+    Ok(text)
 }
 
-fn four_texts(
+/// Puts the line of a session behind those before it, if there is one.
+fn put_line<F: Flash + Drop>(
     alloc: Global,
-    first: &str,
-    second: &str,
-    third: &str,
-    fourth: &str,
-) -> Result<String, AllocError>
-    ensures { IsText result (first.now ++ (second.now ++ (third.now ++ fourth.now))) }
+    device: &Device<F>,
+    index: u8,
+    tail: Tail,
+    text: &mut String,
+) -> Result<(), AllocError>
+    requires { index < 4 }
+    ensures { (d : DeviceState) → DeviceStands device.now d
+        → OnOk result (string_bytes text.new ≡ string_bytes text.old
+        ++ session_line (tail_of tail.entry) index (view_of (session_at d.sessions index))) }
 {
-    format!(in alloc; "{first}{second}{third}{fourth}")
+    let line = session_line(alloc, device, index, tail)?;
+    text.push_str(line.as_str())
 }
 
 /// The line of a session, if there is one.

@@ -88,12 +88,42 @@ impl Idles {
     pub fn reserve(alloc: Global, area: u32) -> Result<Self, Memory>
         ensures { IfOk result (AreIdle area) }
     {
-        Ok(Idles {
-            first: Idle::new(Solver::reserve(alloc, area)?),
-            second: Idle::new(Solver::reserve(alloc, area)?),
-            third: Idle::new(Solver::reserve(alloc, area)?),
-            fourth: Idle::new(Solver::reserve(alloc, area)?),
-        })
+        match two_idle(alloc, area) {
+            Ok((first, second)) => match two_idle(alloc, area) {
+                Ok((third, fourth)) => Ok(Idles {
+                    first,
+                    second,
+                    third,
+                    fourth,
+                }),
+                Err(error) => {
+                    drop(first);
+                    drop(second);
+                    Err(error)
+                }
+            },
+            Err(error) => Err(error),
+        }
+    }
+}
+
+/// The memory of two sessions. Where it is wanting what was taken is given up by name.
+fn two_idle(
+    alloc: Global,
+    area: u32,
+) -> Result<(Idle<ROW_WORDS, ROW_BYTES>, Idle<ROW_WORDS, ROW_BYTES>), Memory>
+    ensures first { IfOk result (λ r. r.0 ≡ extent_for area) }
+    ensures second { IfOk result (λ r. r.1 ≡ extent_for area) }
+{
+    match Solver::reserve(alloc, area) {
+        Ok(first) => match Solver::reserve(alloc, area) {
+            Ok(second) => Ok((Idle::new(first), Idle::new(second))),
+            Err(error) => {
+                drop(first);
+                Err(error)
+            }
+        },
+        Err(error) => Err(error),
     }
 }
 

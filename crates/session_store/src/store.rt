@@ -80,25 +80,18 @@ impl<F: Flash + Drop> SessionStore<F> {
         ensures laid { IfOk result (λ s. (s.layout ≡ layout) × (s.held ≡ held)) }
         ensures flash { IfOk result (λ s. s.flash ≡ flash) }
     {
-        let state = if held {
-            State::Down(
-                Idles::reserve(alloc, layout.area)?,
-                Whole {
-                    first: false,
-                    second: false,
-                    third: false,
-                    fourth: false,
-                },
-            )
-        } else {
-            State::Memory(SessionSlots::reserve(alloc, layout.area)?)
-        };
-        Ok(SessionStore {
-            flash,
-            layout,
-            held,
-            state: Some(state),
-        })
+        match first_state(alloc, layout, held) {
+            Ok(state) => Ok(SessionStore {
+                flash,
+                layout,
+                held,
+                state: Some(state),
+            }),
+            Err(error) => {
+                drop(flash);
+                Err(error)
+            }
+        }
     }
 
     /// Whether they are down until power comes.
@@ -139,8 +132,9 @@ impl<F: Flash + Drop> SessionStore<F> {
             flash,
             layout: _layout,
             held: _held,
-            state: _,
+            state,
         } = self;
+        drop(state);
         flash
     }
 
@@ -415,7 +409,36 @@ impl<F: Flash + Drop> SessionStore<F> {
                     }
                 }
             }
-            None => Err(OpenFault::Flash),
+            None => unreachable!(),
+        }
+    }
+}
+
+/// Where the sessions of a new device are.
+fn first_state(alloc: Global, layout: Layout, held: bool) -> Result<State, Memory>
+    ensures memory { held ≡ false → IfOk result
+        (λ state. StateStands state no_sessions × StateFits layout false 0 state) }
+    ensures down { held ≡ true
+        → IfOk result (λ state. (idles : _) × (state ≡ Down idles none_whole)
+        × AreIdle layout.area idles) }
+{
+    if held {
+        match Idles::reserve(alloc, layout.area) {
+            Ok(idles) => Ok(State::Down(
+                idles,
+                Whole {
+                    first: false,
+                    second: false,
+                    third: false,
+                    fourth: false,
+                },
+            )),
+            Err(error) => Err(error),
+        }
+    } else {
+        match SessionSlots::reserve(alloc, layout.area) {
+            Ok(slots) => Ok(State::Memory(slots)),
+            Err(error) => Err(error),
         }
     }
 }

@@ -12,7 +12,7 @@ use Rattle.flash_session.proofs.Fronts.{carried}
 use Rattle.flash_session.proofs.Openable.{setup_places}
 use Rattle.flash_session.proofs.Opened.{spelled_same}
 use Rattle.flash_session.proofs.Renewing.{in_memory}
-use Rattle.flash_session.proofs.Still.{still_joined, elapsed, on_ok, on_err}
+use Rattle.flash_session.proofs.Still.{still_joined, elapsed, on_ok, on_err, risen_behind}
 use Rattle.flash_session.proofs.finding.find_behind.Goals as goal
 
 pub returns-then-refusal-ne0-clause-foreign : goal.returns-then-refusal-ne0-clause-foreign
@@ -61,3 +61,12 @@ returns-else-refusal-ne0-clause-held g c = still_joined c.read_setup.ensures.hel
 
 pub returns-else-refusal-ne0-clause-stops : goal.returns-else-refusal-ne0-clause-stops
 returns-else-refusal-ne0-clause-stops g c = elapsed c.read_setup.ensures.stops c.find_session.ensures.stops
+
+pub returns-else-refusal-ne0-clause-fault : goal.returns-else-refusal-ne0-clause-fault
+returns-else-refusal-ne0-clause-fault g c = on_err (λ e fault is. risen_behind _ _ _ c.read_setup.ensures.cause.later (fault is)) c.find_session.result c.find_session.ensures.fault
+
+pub returns-else-refusal-ne0-clause-size : goal.returns-else-refusal-ne0-clause-size
+returns-else-refusal-ne0-clause-size g c = c.find_session.ensures.size ∙ c.read_setup.ensures.size
+
+pub returns-else-refusal-ne0-clause-later : goal.returns-else-refusal-ne0-clause-later
+returns-else-refusal-ne0-clause-later g c = omega (arith, c.read_setup.ensures.cause.later, c.find_session.ensures.later)

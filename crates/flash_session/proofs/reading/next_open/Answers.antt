@@ -1,5 +1,8 @@
-use Rattle.std.proofs.Common.{sym, ◌∙◌, arith}
-use Rattle.flash_session.proofs.Still.{still_joined, elapsed, shut_more}
+use Rattle.std.proofs.Common.{◌≡◌, ℕ, sym, subst, refl, ◌∙◌, arith}
+use Rattle.flash_session.specs.Contents.{Same}
+use Rattle.flash_session.specs.Gates.{AreShut}
+use Rattle.flash_session.proofs.Runs.{no_call}
+use Rattle.flash_session.proofs.Still.{still_joined, still_self, elapsed, shut_more, shut_kept, open_here, risen_behind, on_err_any}
 use Rattle.flash_session.proofs.reading.next_open.Goals as goal
 
 pub returns-in_err-read_byte-clause-held : goal.returns-in_err-read_byte-clause-held
@@ -22,3 +25,55 @@ returns-in_err-read_byte-clause-stops g c = elapsed c.loop-k.invariant.stops c.r
 
 pub returns-then-branch-clause-stops : goal.returns-then-branch-clause-stops
 returns-then-branch-clause-stops g c = elapsed c.loop-k.invariant.stops c.read_byte.ensures.stops
+
+pub loop-k-init : goal.loop-k-init
+loop-k-init g c = record {
+  shut = record { shut = λ b now k le lt. absurd (omega (arith, le, lt)) };
+  held = still_self _;
+  stops = no_call Same _ _ (λ b. record { all = λ i. refl });
+  size = refl;
+  later = omega arith;
+}
+
+pub returns-in_err-read_byte-clause-size : goal.returns-in_err-read_byte-clause-size
+returns-in_err-read_byte-clause-size g c = c.read_byte.ensures.size ∙ c.loop-k.invariant.size
+
+pub returns-in_err-read_byte-clause-cause : goal.returns-in_err-read_byte-clause-cause
+returns-in_err-read_byte-clause-cause g c = record {
+  later = omega (arith, c.loop-k.invariant.later, c.read_byte.ensures.cause.later);
+  failed = on_err_any (risen_behind _ _ _ c.loop-k.invariant.later c.in_err-read_byte.ensures.cause.failed) c.from_residual.result;
+}
+
+pub returns-then-branch-clause-found : goal.returns-then-branch-clause-found
+returns-then-branch-clause-found g c = (
+  omega arith,
+  c.loop-k-test.true,
+  shut_kept _ _ c.args.at c.args.from c.loop-k.k c.loop-k.invariant.shut c.read_byte.ensures.held.held,
+  open_here _ c.args.at c.loop-k.k (λ b now. c.in_ok-read_byte.ensures.byte b now ∙ c.if-branch.true),
+)
+
+pub returns-then-branch-clause-size : goal.returns-then-branch-clause-size
+returns-then-branch-clause-size g c = c.read_byte.ensures.size ∙ c.loop-k.invariant.size
+
+pub returns-then-branch-clause-cause : goal.returns-then-branch-clause-cause
+returns-then-branch-clause-cause g c = record {
+  later = omega (arith, c.loop-k.invariant.later, c.read_byte.ensures.cause.later);
+  failed = tt;
+}
+
+pub returns-clause-found : goal.returns-clause-found
+returns-clause-found g c =
+    let all : c.loop-k.k ≡ c.args.most = omega arith in
+    subst (λ (n : ℕ). AreShut (g.F.Flash.holds c.loop-k.flash) c.args.at c.args.from n) all c.loop-k.invariant.shut
+
+pub returns-clause-held : goal.returns-clause-held
+returns-clause-held g c = c.loop-k.invariant.held
+
+pub returns-clause-stops : goal.returns-clause-stops
+returns-clause-stops g c = c.loop-k.invariant.stops
+
+pub returns-clause-size : goal.returns-clause-size
+returns-clause-size g c = c.loop-k.invariant.size
+
+pub returns-clause-cause : goal.returns-clause-cause
+returns-clause-cause g c = record { later = c.loop-k.invariant.later; failed = tt }

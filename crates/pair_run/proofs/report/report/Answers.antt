@@ -1,7 +1,5 @@
 use Rattle.std.proofs.Common.{List, ℕ, ◌++◌, sym, ap, ◌∙◌}
 use Rattle.std.specs.Prelude.{codes}
-use Rattle.std.specs.Global.{Global}
-use Rattle.std.specs.declared.vec.Vec.{Vec}
 use Rattle.script_lines.specs.declared.forms.Campaign.TheVariants as campaign
 use Rattle.campaign_server.specs.Server.{ServerState}
 use Rattle.campaign_world.specs.World.{WorldState}
@@ -11,11 +9,9 @@ use Rattle.pair_run.proofs.report.report.Goals as goal
 
 pub returns : goal.returns
 returns c = λ pair sa sb own.
-    report_told pair _ c.into_bytes-text.result.items c.deref.result.now c.as_str.result.now c.as_str-2.result.now
+    report_told pair _ _ c.deref.result.now _ _
     (c.in_ok-extend_from_slice-2.ensures.items ∙ ap (λ (l : List ℕ). l ++ codes "end\n") c.in_ok-extend_from_slice.ensures.items)
-    (ap (λ (v : Vec ℕ Global). v.items) c.into_bytes-text.ensures.value ∙ c.in_ok-first_lines.ensures)
-    (c.as_str.ensures.value ∙ (c.in_ok-image_a.ensures
-    ∙ ap (λ (s : ServerState). pair_image_line campaign.A s) (c.in-Some-Some.ensures.found ∙ sym (ap (λ (w : WorldState). w.server) sa.rest))))
-    (c.as_str-2.ensures.value ∙ (c.in_ok-image_b.ensures
-    ∙ ap (λ (s : ServerState). pair_image_line campaign.B s) (c.in-Some-Some.ensures'.found ∙ sym (ap (λ (w : WorldState). w.server) sb.rest))))
+    c.in_ok-text.ensures
+    (ap (λ (s : ServerState). pair_image_line campaign.A s) (c.in-Some-Some.ensures.found ∙ sym (ap (λ (w : WorldState). w.server) sa.rest)))
+    (ap (λ (s : ServerState). pair_image_line campaign.B s) (c.in-Some-Some.ensures'.found ∙ sym (ap (λ (w : WorldState). w.server) sb.rest)))
     (c.deref.ensures.value ∙ c.in_ok-parts.ensures pair sa sb own)

@@ -1,5 +1,5 @@
-use Rattle.std.proofs.Common.{◌*◌}
-use Rattle.flash_session.proofs.Still.{same_joined, elapsed}
+use Rattle.std.proofs.Common.{◌*◌, ◌∙◌, arith}
+use Rattle.flash_session.proofs.Still.{same_joined, elapsed, risen_behind}
 use Rattle.session_store.specs.HeldForeign as foreign
 use Rattle.session_store.proofs.ForeignSteps.{none_still, none_last, first_foreign}
 use Rattle.session_store.proofs.PlaceSteps.{opened_place, opened_for_last}
@@ -69,3 +69,51 @@ returns-in-Err-open-2-clause-foreign g c = λ p is b now.
 pub returns-in-Err-open-3-clause-foreign : goal.returns-in-Err-open-3-clause-foreign
 returns-in-Err-open-3-clause-foreign g c = λ p is b now.
     foreign.fourth (none_still c.args.layout 0 c.args.idles.first _ _ c.requires.idle.first c.in-Ok.ensures.nothing_foreign (same_joined _ _ _ c.open-2.ensures.held (same_joined _ _ _ c.open-3.ensures.held c.open-4.ensures.held)) b now) (none_still c.args.layout c.args.layout.span c.args.idles.second _ _ c.requires.idle.second c.in-Ok-open.ensures.nothing_foreign (same_joined _ _ _ c.open-3.ensures.held c.open-4.ensures.held) b now) (none_still c.args.layout (2 * c.args.layout.span) c.args.idles.third _ _ c.requires.idle.third c.in-Ok-open-2.ensures.nothing_foreign c.open-4.ensures.held b now) (first_foreign c.args.layout (3 * c.args.layout.span) c.args.idles.fourth b p c.requires.idle.fourth (c.in-Err-open-3.ensures.foreign p is b now))
+
+pub returns-in-Err-clause-size : goal.returns-in-Err-clause-size
+returns-in-Err-clause-size g c = c.open.ensures.size
+
+pub returns-in-Err-clause-later : goal.returns-in-Err-clause-later
+returns-in-Err-clause-later g c = c.open.ensures.later
+
+pub returns-in-Err-clause-fault : goal.returns-in-Err-clause-fault
+returns-in-Err-clause-fault g c = λ is. c.in-Err.ensures.fault is
+
+pub returns-in-Err-open-clause-size : goal.returns-in-Err-open-clause-size
+returns-in-Err-open-clause-size g c = c.open-2.ensures.size ∙ c.open.ensures.size
+
+pub returns-in-Err-open-clause-later : goal.returns-in-Err-open-clause-later
+returns-in-Err-open-clause-later g c = omega (arith, c.open.ensures.later, c.open-2.ensures.later)
+
+pub returns-in-Err-open-clause-fault : goal.returns-in-Err-open-clause-fault
+returns-in-Err-open-clause-fault g c = λ is. risen_behind _ _ _ c.open.ensures.later (c.in-Err-open.ensures.fault is)
+
+pub returns-in-Err-open-2-clause-size : goal.returns-in-Err-open-2-clause-size
+returns-in-Err-open-2-clause-size g c = c.open-3.ensures.size ∙ c.open-2.ensures.size ∙ c.open.ensures.size
+
+pub returns-in-Err-open-2-clause-later : goal.returns-in-Err-open-2-clause-later
+returns-in-Err-open-2-clause-later g c = omega (arith, c.open.ensures.later, c.open-2.ensures.later, c.open-3.ensures.later)
+
+pub returns-in-Err-open-2-clause-fault : goal.returns-in-Err-open-2-clause-fault
+returns-in-Err-open-2-clause-fault g c = λ is. risen_behind _ _ _ (omega (arith, c.open.ensures.later, c.open-2.ensures.later)) (c.in-Err-open-2.ensures.fault is)
+
+pub returns-in-Err-open-3-clause-size : goal.returns-in-Err-open-3-clause-size
+returns-in-Err-open-3-clause-size g c = c.open-4.ensures.size ∙ c.open-3.ensures.size ∙ c.open-2.ensures.size ∙ c.open.ensures.size
+
+pub returns-in-Err-open-3-clause-later : goal.returns-in-Err-open-3-clause-later
+returns-in-Err-open-3-clause-later g c = omega (arith, c.open.ensures.later, c.open-2.ensures.later, c.open-3.ensures.later, c.open-4.ensures.later)
+
+pub returns-in-Err-open-3-clause-fault : goal.returns-in-Err-open-3-clause-fault
+returns-in-Err-open-3-clause-fault g c = λ is. risen_behind _ _ _ (omega (arith, c.open.ensures.later, c.open-2.ensures.later, c.open-3.ensures.later)) (c.in-Err-open-3.ensures.fault is)
+
+pub returns-in-Ok-open-3-clause-size : goal.returns-in-Ok-open-3-clause-size
+returns-in-Ok-open-3-clause-size g c = c.open-4.ensures.size ∙ c.open-3.ensures.size ∙ c.open-2.ensures.size ∙ c.open.ensures.size
+
+pub returns-in-Ok-open-3-clause-later : goal.returns-in-Ok-open-3-clause-later
+returns-in-Ok-open-3-clause-later g c = omega (arith, c.open.ensures.later, c.open-2.ensures.later, c.open-3.ensures.later, c.open-4.ensures.later)
+
+pub returns-in-Err-clause-held : goal.returns-in-Err-clause-held
+returns-in-Err-clause-held g c = c.open.ensures.held
+
+pub returns-in-Err-clause-stops : goal.returns-in-Err-clause-stops
+returns-in-Err-clause-stops g c = c.open.ensures.stops
