@@ -1,5 +1,5 @@
-//! Tests of `aes_block`, `mc_keys`, `mc_frames`, `mc_group`, `clock_sync` and `class_windows`, by values from outside. There is
-//! no other code here.
+//! Tests of `aes_block`, `mc_keys`, `mc_frames`, `mc_group`, `clock_sync` and `class_windows`, by values from outside, and of
+//! `script_lines`. There is no other code here.
 #![tactic(auto)]
 
 #[cfg(test)]
@@ -12,5 +12,7 @@ mod frames;
 mod groups;
 #[cfg(test)]
 mod keys;
+#[cfg(test)]
+mod lines;
 #[cfg(test)]
 mod windows;
