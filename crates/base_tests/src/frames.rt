@@ -1,13 +1,14 @@
 //! Codes and frames against RFC 4493 and another CMAC.
 
 use mc_frames::{FrameFault, Keys, cmac, frame, open};
+use std::process::Abort;
 use std::test::*;
 use wire_base::Payload;
 
 const KEY: u128 = 0x2b7e151628aed2a6abf7158809cf4f3c;
 
 /// The message of RFC 4493's examples, of which each takes the first bytes.
-const MESSAGE: [u8; 64] = [
+static MESSAGE: [u8; 64] = [
     0x6b, 0xc1, 0xbe, 0xe2, 0x2e, 0x40, 0x9f, 0x96, 0xe9, 0x3d, 0x7e, 0x11, 0x73, 0x93, 0x17, 0x2a,
     0xae, 0x2d, 0x8a, 0x57, 0x1e, 0x03, 0xac, 0x9c, 0x9e, 0xb7, 0x6f, 0xac, 0x45, 0xaf, 0x8e, 0x51,
     0x30, 0xc8, 0x1c, 0x46, 0xa3, 0x5c, 0xe4, 0x11, 0xe5, 0xfb, 0xc1, 0x19, 0x1a, 0x0a, 0x52, 0xef,
@@ -131,22 +132,40 @@ fn frames_are_those_of_another_maker(rt: HostRuntime) {
     assert!(rt; long.as_slice() == LONG_FRAME.as_slice());
 }
 
+/// The frame is opened, whose count is from `min` up to below `max`.
+fn is_opened(
+    rt: &impl Abort,
+    min: u32,
+    max: u32,
+    bytes: &[u8],
+    count: u32,
+    port: u8,
+    payload: &[u8],
+) {
+    match open(&KEYS, ADDR, min, max, bytes) {
+        Ok(opened) => {
+            assert!(rt; opened.count == count && opened.port == port);
+            assert!(rt; opened.payload.as_slice() == payload);
+        }
+        Err(_) => panic!(rt; "it is not opened"),
+    }
+}
+
 #[test]
 fn frames_are_opened(rt: HostRuntime) {
-    for bytes in [&FRAME, &PENDING_FRAME] {
-        match open(&KEYS, ADDR, 2, 70_000, bytes) {
-            Ok(opened) => {
-                assert!(rt; opened.count == 65_537);
-                assert!(rt; opened.port == 201);
-                assert!(rt; opened.payload.as_slice() == [0xab, 0xcd].as_slice());
-            }
-            Err(_) => assert!(rt; false),
-        }
-    }
-    match open(&KEYS, ADDR, 0x0102_0304, 0x0102_0305, &LONG_FRAME) {
-        Ok(opened) => assert!(rt; opened.payload.as_slice() == long_payload().as_slice()),
-        Err(_) => assert!(rt; false),
-    }
+    is_opened(&rt, 2, 70_000, &FRAME, 65_537, 201, &[0xab, 0xcd]);
+    is_opened(&rt, 2, 70_000, &PENDING_FRAME, 65_537, 201, &[0xab, 0xcd]);
+    let long = long_payload();
+    let count = 0x0102_0304;
+    is_opened(
+        &rt,
+        count,
+        count + 1,
+        &LONG_FRAME,
+        count,
+        200,
+        long.as_slice(),
+    );
 }
 
 fn fault(keys: &Keys, addr: u32, min: u32, max: u32, bytes: &[u8]) -> Option<FrameFault> {
@@ -167,7 +186,7 @@ const PORTLESS: [u8; 15] = [
 
 /// The counts from which and below which a frame is heard, and what is wrong with it; one count above its own the low bytes of
 /// `FRAME` stand for 131,073.
-const FAULTS: [(u32, u32, &[u8], FrameFault); 8] = [
+static FAULTS: [(u32, u32, &[u8], FrameFault); 8] = [
     (2, 70_000, &TURNED, FrameFault::Mic),
     (
         2,

@@ -6,37 +6,36 @@ use mc_keys::RootKind;
 use std::process::Abort;
 use std::test::*;
 
+static TOLD: [GroupAddress; 2] = [
+    GroupAddress {
+        id: 0,
+        addr: 0x11223344,
+    },
+    GroupAddress {
+        id: 2,
+        addr: 0x55667788,
+    },
+];
+
+/// The answer tells of two groups.
+fn tells_two(rt: &impl Abort, answer: &Cmd) {
+    match answer {
+        Cmd::McGroupStatusAns {
+            total,
+            mask,
+            groups,
+        } => assert!(rt; *total == 2 && *mask == 5 && groups.as_slice() == TOLD.as_slice()),
+        _ => panic!(rt; "another answer"),
+    }
+}
+
 #[test]
 fn groups_are_told_in_rising_order(rt: HostRuntime) {
     let key = [0; 16];
     let mut table = GroupTable::new(4);
     assert!(rt; table.setup(&key, RootKind::V10, 2, 0x55667788, &key, 0, 100) == GroupAnswer::Ok);
     assert!(rt; table.setup(&key, RootKind::V10, 0, 0x11223344, &key, 0, 100) == GroupAnswer::Ok);
-    match table.status(15) {
-        Cmd::McGroupStatusAns {
-            total,
-            mask,
-            groups,
-        } => {
-            assert!(rt; total == 2);
-            assert!(rt; mask == 5);
-            assert!(rt;
-                groups.as_slice()
-                    == [
-                        GroupAddress {
-                            id: 0,
-                            addr: 0x11223344
-                        },
-                        GroupAddress {
-                            id: 2,
-                            addr: 0x55667788
-                        }
-                    ]
-                    .as_slice()
-            );
-        }
-        _ => assert!(rt; false),
-    }
+    tells_two(&rt, &table.status(15));
 }
 
 #[test]
@@ -101,27 +100,36 @@ static KEYS: [(RootKind, u128, u128, u128); 8] = [
     ),
 ];
 
+/// The group set up has the key.
+fn has_key(
+    rt: &impl Abort,
+    table: &mut GroupTable,
+    root: RootKind,
+    gen_app_key: u128,
+    wrapped: u128,
+    key: u128,
+) {
+    let gen_app_key = gen_app_key.to_be_bytes();
+    let wrapped = wrapped.to_be_bytes();
+    let answer = table.setup(&gen_app_key, root, 1, 0x11223344, &wrapped, 3, 5);
+    assert!(rt; answer == GroupAnswer::Ok);
+    let group = Group {
+        addr: 0x11223344,
+        key: key.to_be_bytes(),
+        min: 3,
+        max: 5,
+    };
+    match table.get(1) {
+        Some(found) => assert!(rt; found == group),
+        None => panic!(rt; "no group"),
+    }
+}
+
 #[test]
 fn a_group_has_the_key_that_another_aes_wrapped(rt: HostRuntime) {
     let mut table = GroupTable::new(2);
     for (root, gen_app_key, wrapped, key) in &KEYS {
-        let group = Group {
-            addr: 0x11223344,
-            key: key.to_be_bytes(),
-            min: 3,
-            max: 5,
-        };
-        let answer = table.setup(
-            &gen_app_key.to_be_bytes(),
-            *root,
-            1,
-            group.addr,
-            &wrapped.to_be_bytes(),
-            group.min,
-            group.max,
-        );
-        assert!(rt; answer == GroupAnswer::Ok);
-        assert!(rt; table.get(1) == Some(group));
+        has_key(&rt, &mut table, *root, *gen_app_key, *wrapped, *key);
     }
 }
 
@@ -144,18 +152,21 @@ fn a_group_has_the_session_keys_of_another_aes(rt: HostRuntime) {
     assert!(rt; net_s_key == 0x19d8d8e0f12f6252d7e0f8687f3f43c2u128.to_be_bytes());
 }
 
+/// Group, address and count of a frame, and whether it is heard.
+static COUNTS: [(u8, u32, u32, bool); 7] = [
+    (1, 0x11223344, 2, false),
+    (1, 0x11223344, 3, true),
+    (1, 0x11223344, 4, true),
+    (1, 0x11223344, 5, false),
+    (1, 0x11223345, 3, false),
+    (0, 0x11223344, 3, false),
+    (2, 0x11223344, 3, false),
+];
+
 #[test]
 fn a_group_hears_its_counts(rt: HostRuntime) {
     let table = table_of_one(&rt);
-    for (id, addr, count, heard) in [
-        (1, 0x11223344, 2, false),
-        (1, 0x11223344, 3, true),
-        (1, 0x11223344, 4, true),
-        (1, 0x11223344, 5, false),
-        (1, 0x11223345, 3, false),
-        (0, 0x11223344, 3, false),
-        (2, 0x11223344, 3, false),
-    ] {
-        assert!(rt; table.accepts(id, addr, count) == heard);
+    for (id, addr, count, heard) in &COUNTS {
+        assert!(rt; table.accepts(*id, *addr, *count) == *heard);
     }
 }

@@ -25,11 +25,11 @@ const NET_S_KEY: u128 = 0x9f0420feddea37d9f057e1a21f2cd4ca;
 
 #[test]
 fn roots_are_those_of_another_aes(rt: HostRuntime) {
-    for (kind, bytes) in [(RootKind::V10, ROOT), (RootKind::V11, ROOT_1_1)] {
-        assert!(rt; mc_keys::root(kind, &GEN_APP_KEY.to_be_bytes()) == bytes.to_be_bytes());
-    }
-    assert!(rt; root_1_0(&GEN_APP_KEY.to_be_bytes()) == ROOT.to_be_bytes());
-    assert!(rt; root_1_1(&GEN_APP_KEY.to_be_bytes()) == ROOT_1_1.to_be_bytes());
+    let key = GEN_APP_KEY.to_be_bytes();
+    assert!(rt; mc_keys::root(RootKind::V10, &key) == ROOT.to_be_bytes());
+    assert!(rt; mc_keys::root(RootKind::V11, &key) == ROOT_1_1.to_be_bytes());
+    assert!(rt; root_1_0(&key) == ROOT.to_be_bytes());
+    assert!(rt; root_1_1(&key) == ROOT_1_1.to_be_bytes());
 }
 
 #[test]

@@ -37,29 +37,40 @@ fn hears(rt: &impl Abort, beacon: u32, addr: u32, periodicity: u8, ms: u64) -> b
 /// The first and the last ms of a slot are heard, and its neighbours aren't.
 fn hears_in_slot(rt: &impl Abort, beacon: u32, addr: u32, periodicity: u8, slot: u16) {
     let begin = 2120 + 30 * slot as u64;
-    for (ms, open) in [
-        (begin - 1, false),
-        (begin, true),
-        (begin + 29, true),
-        (begin + 30, false),
-    ] {
-        assert_eq!(rt; hears(rt, beacon, addr, periodicity, ms), open);
-    }
+    assert!(rt; !hears(rt, beacon, addr, periodicity, begin - 1));
+    assert!(rt; hears(rt, beacon, addr, periodicity, begin));
+    assert!(rt; hears(rt, beacon, addr, periodicity, begin + 29));
+    assert!(rt; !hears(rt, beacon, addr, periodicity, begin + 30));
 }
 
-/// In the first and the last slot of a beacon period, as above; a slot behind the last one lies past slot 4,095, and none begins
-/// before 2,120 ms.
+/// It hears in the slot and in the last one of the beacon period; a slot behind that lies past slot 4,095, and none
+/// begins before 2,120 ms.
+fn hears_in_slots(rt: &impl Abort, beacon: u32, addr: u32, periodicity: u8, offset: u16) {
+    assert!(rt; periodicity < 8 && offset < 4096);
+    let period = 32u16 << periodicity;
+    let last = 4096 - period + offset % period;
+    hears_in_slot(rt, beacon, addr, periodicity, offset);
+    hears_in_slot(rt, beacon, addr, periodicity, last);
+    is_deaf(rt, beacon, addr, periodicity, 0);
+    is_deaf(rt, beacon, addr, periodicity, 2119);
+    is_deaf(
+        rt,
+        beacon,
+        addr,
+        periodicity,
+        2120 + 30 * (last as u64 + period as u64),
+    );
+}
+
+/// At so many ms after its beacon it hears nothing, where the beacon period is not over.
+fn is_deaf(rt: &impl Abort, beacon: u32, addr: u32, periodicity: u8, ms: u64) {
+    assert!(rt; ms >= 128_000 || !hears(rt, beacon, addr, periodicity, ms));
+}
+
 #[test]
 fn class_b_hears_in_its_slots(rt: HostRuntime) {
     for (beacon, addr, periodicity, offset) in &PING_SLOTS {
-        assert!(rt; *periodicity < 8 && *offset < 4096);
-        let period = 32u16 << *periodicity;
-        let last = 4096 - period + *offset % period;
-        hears_in_slot(&rt, *beacon, *addr, *periodicity, *offset);
-        hears_in_slot(&rt, *beacon, *addr, *periodicity, last);
-        for ms in [0, 2119, 2120 + 30 * (last as u64 + period as u64)] {
-            assert!(rt; ms >= 128_000 || !hears(&rt, *beacon, *addr, *periodicity, ms));
-        }
+        hears_in_slots(&rt, *beacon, *addr, *periodicity, *offset);
     }
 }
 
@@ -72,14 +83,10 @@ fn a_class_b_session_runs_from_its_beacon_on(rt: HostRuntime) {
     };
     let addr = 0x11223344;
     // beacons at 896, 1,024, 1,152 and 1,280 s have the ping offsets that are listed
-    for (slot, open) in [
-        (896_000 + 2120 + 30 * 18, false),
-        (1_024_000 + 2120 + 30 * 23, true),
-        (1_152_000 + 2120 + 30 * 19, true),
-        (1_280_000 + 2120 + 30 * 11, false),
-    ] {
-        assert!(rt; session.open_at(slot, addr) == open);
-    }
+    assert!(rt; !session.open_at(896_000 + 2120 + 30 * 18, addr));
+    assert!(rt; session.open_at(1_024_000 + 2120 + 30 * 23, addr));
+    assert!(rt; session.open_at(1_152_000 + 2120 + 30 * 19, addr));
+    assert!(rt; !session.open_at(1_280_000 + 2120 + 30 * 11, addr));
 }
 
 #[test]
@@ -94,47 +101,53 @@ fn class_c_hears_while_it_runs(rt: HostRuntime) {
     assert!(rt; !session.open_at(1_014_000));
 }
 
+/// Moments, and whether a device hears then whose uplink was due at 5,000 ms.
+static MOMENTS_OF_A: [(u64, bool); 11] = [
+    (0, false),
+    (3000, false),
+    (4000, false),
+    (5999, false),
+    (6000, true),
+    (6099, true),
+    (6100, false),
+    (6999, false),
+    (7000, true),
+    (7099, true),
+    (7100, false),
+];
+
 #[test]
 fn class_a_hears_in_two_windows(rt: HostRuntime) {
     let device = ClassA {
         last_due: Some(5000),
     };
-    for (t, open) in [
-        (0, false),
-        (3000, false),
-        (4000, false),
-        (5999, false),
-        (6000, true),
-        (6099, true),
-        (6100, false),
-        (6999, false),
-        (7000, true),
-        (7099, true),
-        (7100, false),
-    ] {
-        assert!(rt; device.open_at(t) == open);
+    for (t, open) in &MOMENTS_OF_A {
+        assert!(rt; device.open_at(*t) == *open);
     }
     let silent = ClassA { last_due: None };
     assert!(rt; !silent.open_at(6000));
 }
 
+/// Whether the group is there, the time, the session's start, frequency and data rate, and the answer.
+static ANSWERED: [(bool, u32, u32, u32, u8, (u8, Option<u32>)); 13] = [
+    (true, 1000, 1010, 8_681_000, 0, (0, Some(10))),
+    (true, 1000, 1010, 8_630_000, 5, (0, Some(10))),
+    (true, 1000, 1010, 8_700_000, 0, (0, Some(10))),
+    (false, 1000, 1010, 0, 6, (0x1c, None)),
+    (false, 1000, 1010, 8_681_000, 0, (0x10, None)),
+    (true, 1000, 1010, 8_629_999, 0, (0x08, None)),
+    (true, 1000, 1010, 8_700_001, 0, (0x08, None)),
+    (true, 1000, 1010, 8_681_000, 6, (0x04, None)),
+    (true, 1000, 999, 8_681_000, 0, (0, Some(0))),
+    (true, 0, 0x7fff_ffff, 8_681_000, 0, (0, Some(0xff_ffff))),
+    (true, 0, 0x8000_0000, 8_681_000, 0, (0, Some(0))),
+    (true, 0, 0xff_fffe, 8_681_000, 0, (0, Some(0xff_fffe))),
+    (true, 0xffff_ffff, 1, 8_681_000, 0, (0, Some(2))),
+];
+
 #[test]
 fn requests_are_answered(rt: HostRuntime) {
-    for (there, now, start, freq, dr, answer) in [
-        (true, 1000, 1010, 8_681_000, 0, (0, Some(10))),
-        (true, 1000, 1010, 8_630_000, 5, (0, Some(10))),
-        (true, 1000, 1010, 8_700_000, 0, (0, Some(10))),
-        (false, 1000, 1010, 0, 6, (0x1c, None)),
-        (false, 1000, 1010, 8_681_000, 0, (0x10, None)),
-        (true, 1000, 1010, 8_629_999, 0, (0x08, None)),
-        (true, 1000, 1010, 8_700_001, 0, (0x08, None)),
-        (true, 1000, 1010, 8_681_000, 6, (0x04, None)),
-        (true, 1000, 999, 8_681_000, 0, (0, Some(0))),
-        (true, 0, 0x7fff_ffff, 8_681_000, 0, (0, Some(0xff_ffff))),
-        (true, 0, 0x8000_0000, 8_681_000, 0, (0, Some(0))),
-        (true, 0, 0xff_fffe, 8_681_000, 0, (0, Some(0xff_fffe))),
-        (true, 0xffff_ffff, 1, 8_681_000, 0, (0, Some(2))),
-    ] {
-        assert!(rt; session_answer(there, now, start, freq, dr) == answer);
+    for (there, now, start, freq, dr, answer) in &ANSWERED {
+        assert!(rt; session_answer(*there, *now, *start, *freq, *dr) == *answer);
     }
 }

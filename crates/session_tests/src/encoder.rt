@@ -64,7 +64,8 @@ fn a_size_that_makes_no_pieces_is_refused(rt: HostRuntime) {
     is_uncut(&rt, rt.alloc(), &[0; 4097], 1);
 }
 
-/// Fragment `n` of the file 11 22 33 44 55 in pieces of `frag_size` bytes is this; there is no such one where it is empty.
+/// Fragment `n` of the file 11 22 33 44 55 in pieces of `frag_size` bytes is this; there is no such one where it is
+/// empty.
 fn is_part(rt: &impl Abort, alloc: Global, frag_size: u8, n: u16, part: &[u8]) {
     let encoder = encoder(rt, alloc, &[0x11, 0x22, 0x33, 0x44, 0x55], frag_size);
     let mut out = ArrayVec::new();

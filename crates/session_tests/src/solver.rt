@@ -249,7 +249,8 @@ fn byte_of(rt: &impl Abort, pieces: u16, n: u16) -> u8 {
     byte
 }
 
-/// What all sums of the lines of the numbers, newest first and at most 16, lead to, and how many pieces they leave to be gained.
+/// What all sums of the lines of the numbers, newest first and at most 16, lead to, and how many pieces they leave to be
+/// gained.
 fn by_sums(
     rt: &impl Abort,
     alloc: Global,
