@@ -1,8 +1,8 @@
 -- Bytes that are read are those behind the ones that were read before.
-use Rattle.std.proofs.Common.{◌≡◌, List, [], ℕ, ◌++◌, Option, Some, None, IsSome, Result, Ok, Err, OnOk, is_err, false, sym, ap, subst, ◌∙◌, append-nil, append_assoc}
+use Rattle.std.proofs.Common.{◌≡◌, List, [], ℕ, ◌++◌, Option, Some, None, IsSome, Result, Ok, Err, OnOk, OnErr, IfSome, is_err, true, false, ◌<◌, length, sym, ap, subst, ◌∙◌, append-nil, append_assoc, length-append, arith}
 use Rattle.std.specs.Io.KnownBytes.{Consumes, IsAtEnd}
 use Rattle.fuota_run.specs.Outside.{Held, HoldsName, IsWhole, IsReadSoFar}
-use Rattle.fuota_run.specs.Source.{IsSource}
+use Rattle.fuota_run.specs.Source.{IsSource, IsTooLong}
 
 pub reads_on : (held : Option Held) (name xs ys : List ℕ) (before left : Option (List ℕ)) → IsReadSoFar held name xs before → Consumes before left ys → IsReadSoFar held name (xs ++ ys) left
 reads_on None name xs ys before left so_far more = tt
@@ -27,3 +27,14 @@ all_read (Some h) name bytes limit (Some l) so_far end =
 pub on_ok : {T E P : Type 0} (r : Result T E) → is_err r ≡ false → OnOk r P → P
 on_ok (Ok x) ok is = is
 on_ok (Err e) ok is = absurd cc
+
+pub on_err : {T E P : Type 0} (r : Result T E) → is_err r ≡ true → OnErr r P → P
+on_err (Ok x) failed is = absurd cc
+on_err (Err e) failed is = is
+
+-- more was read than the limit
+pub too_long : (held : Option Held) (name bytes : List ℕ) (limit : ℕ) (left : Option (List ℕ)) → limit < length bytes → IsReadSoFar held name bytes left → IsTooLong held name limit
+too_long None name bytes limit left more so_far = tt
+too_long (Some h) name bytes limit None more so_far = absurd so_far
+too_long (Some h) name bytes limit (Some rest) more so_far =
+    subst (λ (o : Option (List ℕ)). IfSome o (λ b. limit < length b)) (sym so_far) (omega (arith, length-append bytes rest, more))

@@ -1,5 +1,5 @@
 -- A source that is longer than its limit: how many of its bytes were taken.
-use Rattle.std.proofs.Common.{◌≡◌, ℕ, List, length, Option, None, Some, refl, ap, subst}
+use Rattle.std.proofs.Common.{◌≡◌, ℕ, List, length, Option, None, Some, Ok, Err, IsErrOf, refl, ap, subst}
 use Rattle.fuota_run.specs.declared.source.SourceError.{SourceError}
 use Rattle.fuota_run.specs.declared.source.SourceError.TheVariants as error
 use Rattle.fuota_run.specs.declared.status.Status.TheVariants as status
@@ -7,6 +7,19 @@ use Rattle.fuota_run.specs.Outside.{Held, IsReadSoFar}
 use Rattle.fuota_run.specs.Source.{IsTaken}
 use Rattle.fuota_run.specs.Answer.{Answer}
 use Rattle.fuota_run.specs.HeldAnswer.{IsUnreadAnswer}
+
+-- which error it is
+pub same_taken : {T : Type 0} (n m : ℕ) → IsErrOf {T = T} {E = SourceError} (Err (error.TooLong n)) (error.TooLong m) → n ≡ m
+same_taken n m is = cc
+
+pub failed_long : {T : Type 0} (n : ℕ) → IsErrOf {T = T} {E = SourceError} (Err error.Failed) (error.TooLong n) → ⊥
+failed_long n is = cc
+
+pub long_failed : {T : Type 0} (n : ℕ) → IsErrOf {T = T} {E = SourceError} (Err (error.TooLong n)) error.Failed → ⊥
+long_failed n is = cc
+
+pub ok_err : {T : Type 0} {x : T} {e : SourceError} → Ok x ≡ Err e → ⊥
+ok_err is = cc
 
 -- what was read so far was taken
 pub taken_so_far : (held : Option Held) (name bytes : List ℕ) (taken : ℕ) (left : Option (List ℕ)) → length bytes ≡ taken → IsReadSoFar held name bytes left → IsTaken held name taken left

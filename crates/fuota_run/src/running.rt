@@ -111,7 +111,6 @@ pub fn run<F: Files, O: Sink>(alloc: Global, words: &[String], files: &mut F, ou
 }
 
 /// The answer to the words over the files.
-#[tactic(auto, using(crate::proofs::AnswerLemmas::holds_asked))]
 fn answer_to<F: Files>(alloc: Global, words: &[String], files: &mut F) -> Result<Answer, AllocError>
     requires { HoldsForm (F.held files.old) (map string_bytes words.now) }
     ensures answer { IfOk result (λ r. IsSoundOver (F.held files.old)

@@ -22,7 +22,6 @@ pub enum SourceError {
 }
 
 /// All bytes of a file, read to its end, or to one byte more than the limit.
-#[tactic(auto, using(crate::proofs::Taken::taken_so_far))]
 pub fn read_source<F: Files>(
     alloc: Global,
     files: &mut F,

@@ -102,26 +102,41 @@ fn read_form<'a>(
 }
 
 /// The form with a keyword, as a command of its own; None where there is none.
-#[tactic(auto, unfolding(crate::specs::Words::form_named))]
 fn form_named<'a>(alloc: Global, keyword: &str) -> Result<Option<Command<'a>>, AllocError>
     ensures { IfOk result (λ o. option_map app_of o ≡ form_named keyword.now) }
 {
     if keyword == "campaign" {
-        Ok(Some(campaign_form(alloc)?))
-    } else if keyword == "recover" {
-        Ok(Some(recover_form(alloc)?))
-    } else if keyword == "replay" {
-        Ok(Some(replay_form(alloc)?))
-    } else if keyword == "decode" {
-        Ok(Some(decode_form(alloc)?))
-    } else if keyword == "generate" {
-        Ok(Some(generate_form(alloc)?))
-    } else if keyword == "capture" {
-        Ok(Some(capture_form(alloc)?))
-    } else if keyword == "campaigns" {
-        Ok(Some(campaigns_form(alloc)?))
-    } else {
-        Ok(None)
+        return named(campaign_form(alloc));
+    }
+    if keyword == "recover" {
+        return named(recover_form(alloc));
+    }
+    if keyword == "replay" {
+        return named(replay_form(alloc));
+    }
+    if keyword == "decode" {
+        return named(decode_form(alloc));
+    }
+    if keyword == "generate" {
+        return named(generate_form(alloc));
+    }
+    if keyword == "capture" {
+        return named(capture_form(alloc));
+    }
+    if keyword == "campaigns" {
+        return named(campaigns_form(alloc));
+    }
+    Ok(None)
+}
+
+/// The form that was named, where there was memory for it.
+fn named<'a>(form: Result<Command<'a>, AllocError>) -> Result<Option<Command<'a>>, AllocError>
+    ensures { (app : App) → IfOk form.entry (λ f. IsCommand f app)
+        → IfOk result (λ o. option_map app_of o ≡ Some app) }
+{
+    match form {
+        Ok(form) => Ok(Some(form)),
+        Err(error) => Err(error),
     }
 }
 
@@ -140,12 +155,12 @@ fn no_form<'a>(error: &Error) -> Result<Option<Invocation<'a>>, AllocError>
 fn fuota<'a>(alloc: Global) -> Result<Command<'a>, AllocError>
     ensures { IfOk result (λ c. IsCommand c fuota) }
 {
-    let program = offering(Command::new(alloc, "fuota"), campaign_form(alloc))?;
-    let program = offering(program, recover_form(alloc))?;
-    let program = offering(program, replay_form(alloc))?;
-    let program = offering(program, decode_form(alloc))?;
-    let program = offering(program, generate_form(alloc))?;
-    let program = offering(program, capture_form(alloc))?;
+    let program = offering(Ok(Command::new(alloc, "fuota")), campaign_form(alloc));
+    let program = offering(program, recover_form(alloc));
+    let program = offering(program, replay_form(alloc));
+    let program = offering(program, decode_form(alloc));
+    let program = offering(program, generate_form(alloc));
+    let program = offering(program, capture_form(alloc));
     offering(program, campaigns_form(alloc))
 }
 
@@ -234,8 +249,27 @@ fn taking<'a>(alloc: Global, command: Command<'a>, name: &'a str) -> Result<Comm
     command.arg(Arg::new(alloc, name).required(true))
 }
 
-/// The command, with one form more, where there was memory for that.
+/// The command, with one form more, where there was memory for both. Neither is unpacked by the caller, who would give up
+/// one of them at each want of memory.
 fn offering<'a>(
+    command: Result<Command<'a>, AllocError>,
+    form: Result<Command<'a>, AllocError>,
+) -> Result<Command<'a>, AllocError>
+    ensures { (app sub : App) → IfOk command.entry (λ c. IsCommand c app)
+        → IfOk form.entry (λ f. IsCommand f sub)
+        → IfOk result (λ c. IsCommand c (with_subcommand app sub.top)) }
+{
+    match command {
+        Ok(command) => offered(command, form),
+        Err(error) => {
+            drop(form);
+            Err(error)
+        }
+    }
+}
+
+/// The same once there is the command.
+fn offered<'a>(
     command: Command<'a>,
     form: Result<Command<'a>, AllocError>,
 ) -> Result<Command<'a>, AllocError>
