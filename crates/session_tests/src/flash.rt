@@ -574,36 +574,59 @@ fn the_lowest_foreign_place_is_named(rt: HostRuntime) {
     }
 }
 
-/// A setup of another algorithm is refused, and there is no session then that hears.
-fn hears_nothing(rt: &impl Abort, flash: &mut CellFlash, idle: SmallIdle) -> SmallIdle {
-    let held = open(rt, flash, idle);
+/// A setup of another algorithm is refused.
+fn refuses(rt: &impl Abort, flash: &mut CellFlash, held: SmallHeld) -> SmallHeld
+    requires base { held.base ≡ 0 }
+    requires span { held.span ≡ SPAN }
+    ensures base { result.base ≡ 0 }
+    ensures span { result.span ≡ SPAN }
+{
     assert!(rt; fits(flash, 0));
-    let Ok((held, bits)) = held.setup(flash, SetupReq { algo: 1, ..SETUP }) else {
-        panic!(rt; "the setup failed");
-    };
-    assert!(rt; bits == 1 && fits(flash, 0));
-    let Ok((held, heard)) = held.hear(flash, Via::Unicast, 1, &[0x11], 5) else {
-        panic!(rt; "the fragment failed");
-    };
-    assert!(rt; heard == Heard::Dropped(Cause::NoSession));
-    held.close()
+    match held.setup(flash, SetupReq { algo: 1, ..SETUP }) {
+        Ok((held, bits)) => {
+            assert!(rt; bits == 1);
+            held
+        }
+        Err(_) => panic!(rt; "the setup failed"),
+    }
 }
 
-/// The last piece comes twice.
-fn hears_twice(rt: &impl Abort, flash: &mut CellFlash, held: SmallHeld) -> SmallIdle
+/// There is no session that hears.
+fn is_deaf(rt: &impl Abort, flash: &mut CellFlash, held: SmallHeld) -> SmallIdle
     requires base { held.base ≡ 0 }
     requires span { held.span ≡ SPAN }
 {
     assert!(rt; fits(flash, 0));
-    let Ok((held, heard)) = held.hear(flash, Via::Unicast, 4, &[0x44], 9) else {
-        panic!(rt; "the fragment failed");
-    };
-    assert!(rt; heard == Heard::Fed(News::New) && fits(flash, 0));
-    let Ok((held, heard)) = held.hear(flash, Via::Unicast, 4, &[0x44], 10) else {
-        panic!(rt; "the fragment failed");
-    };
-    assert!(rt; heard == Heard::Fed(News::Old));
-    held.close()
+    match held.hear(flash, Via::Unicast, 1, &[0x11], 5) {
+        Ok((held, heard)) => {
+            assert!(rt; heard == Heard::Dropped(Cause::NoSession));
+            held.close()
+        }
+        Err(_) => panic!(rt; "the fragment failed"),
+    }
+}
+
+/// The last piece comes, and this is what it tells.
+fn hears_last(
+    rt: &impl Abort,
+    flash: &mut CellFlash,
+    held: SmallHeld,
+    mark: u64,
+    news: News,
+) -> SmallHeld
+    requires base { held.base ≡ 0 }
+    requires span { held.span ≡ SPAN }
+    ensures base { result.base ≡ 0 }
+    ensures span { result.span ≡ SPAN }
+{
+    assert!(rt; fits(flash, 0));
+    match held.hear(flash, Via::Unicast, 4, &[0x44], mark) {
+        Ok((held, heard)) => {
+            assert!(rt; heard == Heard::Fed(news));
+            held
+        }
+        Err(_) => panic!(rt; "the fragment failed"),
+    }
 }
 
 /// Whether four pieces are whole by six fragments, at mark 9.
@@ -650,10 +673,13 @@ fn is_whole_again(rt: &impl Abort, flash: &mut CellFlash, idle: SmallIdle) -> Sm
 #[test]
 fn a_session_is_whole_is_deleted_and_begins_again(rt: HostRuntime) {
     let mut flash = cells(&rt, rt.alloc());
-    let idle = hears_nothing(&rt, &mut flash, solver(&rt, rt.alloc()));
+    let held = open(&rt, &mut flash, solver(&rt, rt.alloc()));
+    let held = refuses(&rt, &mut flash, held);
+    let idle = is_deaf(&rt, &mut flash, held);
     let held = make_all(&rt, &mut flash, idle, &ALL_BUT_ONE);
-    let idle = hears_twice(&rt, &mut flash, held);
-    let idle = is_whole_again(&rt, &mut flash, idle);
+    let held = hears_last(&rt, &mut flash, held, 9, News::New);
+    let held = hears_last(&rt, &mut flash, held, 10, News::Old);
+    let idle = is_whole_again(&rt, &mut flash, held.close());
     assert!(rt; opens(&rt, &mut flash, 0, idle, None));
     drop(flash);
 }
@@ -737,43 +763,51 @@ fn ends_beside(rt: &impl Abort, left: Left, second: SmallIdle) {
     drop(flash);
 }
 
-fn writes<F: Flash>(rt: &impl Abort, flash: &mut F, place: u32, bytes: &[u8; 2]) -> bool {
+fn writes(rt: &impl Abort, flash: &mut MemFlash, place: u32, bytes: &[u8; 2]) -> bool {
     assert!(rt; place as u64 + 2 <= flash.size() as u64);
     flash.write(place, bytes).is_ok()
 }
 
-fn fills<F: Flash>(rt: &impl Abort, flash: &mut F, place: u32, count: u32) -> bool {
+fn fills(rt: &impl Abort, flash: &mut MemFlash, place: u32, count: u32) -> bool {
     assert!(rt; place as u64 + count as u64 <= flash.size() as u64);
     flash.fill(place, count).is_ok()
 }
 
-fn syncs<F: Flash>(flash: &mut F) -> bool {
+fn syncs(flash: &mut MemFlash) -> bool {
     flash.sync().is_ok()
 }
 
-/// The first four bytes, where they are read.
-fn reads<F: Flash>(rt: &impl Abort, flash: &mut F) -> Option<[u8; 4]> {
+/// Whether the first four bytes are read, and are these.
+fn reads(rt: &impl Abort, flash: &mut MemFlash, wanted: &[u8; 4]) -> bool {
     let mut bytes = [7; 4];
     assert!(rt; 4 <= flash.size());
-    match flash.read(0, &mut bytes) {
-        Ok(()) => Some(bytes),
-        Err(_) => None,
-    }
+    flash.read(0, &mut bytes).is_ok() && bytes == *wanted
+}
+
+fn fails_to_read(rt: &impl Abort, flash: &mut MemFlash) -> bool {
+    assert!(rt; 4 <= flash.size());
+    flash.read(0, &mut [7; 4]).is_err()
+}
+
+/// Calls 2 and 6 fail, and those that the log has no room for.
+fn fails_where_it_is_told_to(rt: &impl Abort, flash: &mut MemFlash) {
+    assert!(rt; flash.size() == 8);
+    assert!(rt; writes(rt, flash, 0, &[1, 2]));
+    assert!(rt; !writes(rt, flash, 0, &[3, 4]));
+    assert!(rt; syncs(flash));
+    assert!(rt; !fills(rt, flash, 1, 3));
+    assert!(rt; fills(rt, flash, 1, 2));
+    assert!(rt; fails_to_read(rt, flash));
+    assert!(rt; reads(rt, flash, &[1, 0, 0, 0]));
+    assert!(rt; !syncs(flash));
 }
 
 /// The calls that fail: those that are listed, and those that the log has no room for.
 #[test]
 fn a_flash_in_memory_fails_where_it_is_told_to(rt: HostRuntime) -> Result<(), Fail> {
-    let mut flash = MemFlash::reserve(rt.alloc(), 8, 5, vec![in rt.alloc(); 2, 6]?)?;
-    assert!(rt; flash.size() == 8);
-    assert!(rt; writes(&rt, &mut flash, 0, &[1, 2]));
-    assert!(rt; !writes(&rt, &mut flash, 0, &[3, 4]));
-    assert!(rt; syncs(&mut flash));
-    assert!(rt; !fills(&rt, &mut flash, 1, 3));
-    assert!(rt; fills(&rt, &mut flash, 1, 2));
-    assert!(rt; reads(&rt, &mut flash) == None);
-    assert!(rt; reads(&rt, &mut flash) == Some([1, 0, 0, 0]));
-    assert!(rt; !syncs(&mut flash));
+    let fails = vec![in rt.alloc(); 2, 6]?;
+    let mut flash = MemFlash::reserve(rt.alloc(), 8, 5, fails)?;
+    fails_where_it_is_told_to(&rt, &mut flash);
     drop(flash);
     Ok(())
 }

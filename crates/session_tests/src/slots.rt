@@ -546,17 +546,21 @@ fn a_status_stays_at_255_pieces_missing(rt: HostRuntime) {
     drop(slot);
 }
 
+/// Ends a session.
+fn ends(rt: &impl Abort, slot: &mut SmallSlot) {
+    assert!(rt; slot.delete());
+    assert!(rt; !lives(slot));
+    is_silent(rt, slot, Via::Unicast);
+    is_deaf(rt, slot, Via::Unicast, 1, &[0x11]);
+    assert!(rt; !slot.delete());
+}
+
 /// Ends a session after fragments, and begins another in its memory.
 fn is_deleted(rt: &impl Abort, alloc: Global, fragments: &[(u16, u8)]) {
-    let limits = Limits { rows: 1, ..LIMITS };
-    let mut slot = begun(rt, alloc, 4, limits.rows);
+    let mut slot = begun(rt, alloc, 4, 1);
     feed(rt, &mut slot, fragments, 3);
-    assert!(rt; slot.delete());
-    assert!(rt; !lives(&slot));
-    is_silent(rt, &slot, Via::Unicast);
-    is_deaf(rt, &mut slot, Via::Unicast, 1, &[0x11]);
-    assert!(rt; !slot.delete());
-    assert!(rt; sets_up(&mut slot, SETUP, limits) == 0);
+    ends(rt, &mut slot);
+    assert!(rt; sets_up(&mut slot, SETUP, Limits { rows: 1, ..LIMITS }) == 0);
     assert!(rt; shows(&slot, &NOTHING));
     drop(slot);
 }
