@@ -7,7 +7,7 @@ ghost use Rattle.fuota_run.specs.Ending.{HoldsForm};
 use fuota_run::*;
 use std::alloc::Global;
 use std::process::Abort;
-use std::test::Fail;
+use std::test::*;
 
 /// An image file for hardware 1 with firmware 2, its body and digest those of the text abc.
 const IMAGE: [u8; 52] = [
@@ -25,7 +25,7 @@ const EVENTS: &str =
 const REPORT: &str =
     "fuota report 1\nimage 52 fragments 4 size 13 padding 0 parity 0\ndevice 1 status clock 0 token 0 running 0 next valid 2\ncounts deaf 0 refused 0 full 0 dropped 0\nsession 0 received 5 missing 0 complete at 18 same\nend\n";
 
-const WORDS: [&str; 4] = ["fuota", "campaign", "image", "script"];
+static WORDS: [&str; 4] = ["fuota", "campaign", "image", "script"];
 
 /// What is written where the words are no form.
 const USAGE: &str =
@@ -52,16 +52,68 @@ const SOUND: Outside<'static, 'static> = Outside {
     room: 4096,
 };
 
-/// The two files, and behind them an empty one under each word, which is found where the two have other names.
-fn files(alloc: Global, words: &[&str], outside: &Outside) -> Result<MemFiles, Fail> {
-    let script = format!(in alloc; "{}{}", outside.start, outside.events)?.into_bytes();
-    let mut files = Vec::new(alloc);
-    files.push((format!(in alloc; "image")?, outside.image.to_vec(alloc)?))?;
-    files.push((format!(in alloc; "script")?, script))?;
-    for word in words {
-        files.push((format!(in alloc; "{word}")?, Vec::new(alloc)))?;
+fn text_of(rt: &impl Abort, alloc: Global, text: &str) -> String {
+    match format!(in alloc; "{text}") {
+        Ok(text) => text,
+        Err(_) => panic!(rt; "no memory"),
     }
-    Ok(MemFiles::new(files, [outside.read_fails].to_vec(alloc)?))
+}
+
+fn bytes_of(rt: &impl Abort, alloc: Global, bytes: &[u8]) -> Vec<u8> {
+    match bytes.to_vec(alloc) {
+        Ok(bytes) => bytes,
+        Err(_) => panic!(rt; "no memory"),
+    }
+}
+
+/// The script of a run.
+fn script_of(rt: &impl Abort, alloc: Global, outside: &Outside) -> Vec<u8> {
+    match format!(in alloc; "{}{}", outside.start, outside.events) {
+        Ok(script) => script.into_bytes(),
+        Err(_) => panic!(rt; "no memory"),
+    }
+}
+
+/// A file under a name, behind the others.
+fn adds(
+    rt: &impl Abort,
+    alloc: Global,
+    files: &mut Vec<(String, Vec<u8>)>,
+    name: &str,
+    bytes: Vec<u8>,
+) {
+    assert!(rt; files.push((text_of(rt, alloc, name), bytes)).is_ok());
+}
+
+/// The number of the one call that fails.
+fn failing(rt: &impl Abort, alloc: Global, call: u64) -> Vec<u64> {
+    match [call].to_vec(alloc) {
+        Ok(calls) => calls,
+        Err(_) => panic!(rt; "no memory"),
+    }
+}
+
+/// The two files, and behind them an empty one under each word, which is found where the two have other names.
+fn files(rt: &impl Abort, alloc: Global, words: &[&str], outside: &Outside) -> MemFiles {
+    let mut files = Vec::new(alloc);
+    adds(
+        rt,
+        alloc,
+        &mut files,
+        "image",
+        bytes_of(rt, alloc, outside.image),
+    );
+    adds(
+        rt,
+        alloc,
+        &mut files,
+        "script",
+        script_of(rt, alloc, outside),
+    );
+    for word in words {
+        adds(rt, alloc, &mut files, word, Vec::new(alloc));
+    }
+    MemFiles::new(files, failing(rt, alloc, outside.read_fails))
 }
 
 /// Runs the words, where there are files of all of them.
@@ -94,6 +146,23 @@ fn are_held(files: &MemFiles, words: &[String]) -> bool
     words.iter().all(|word| files.holds(word))
 }
 
+/// The words as a run takes them.
+fn owned(rt: &impl Abort, alloc: Global, words: &[&str]) -> Vec<String> {
+    let mut owned = Vec::new(alloc);
+    for word in words {
+        assert!(rt; owned.push(text_of(rt, alloc, word)).is_ok());
+    }
+    owned
+}
+
+fn sink(rt: &impl Abort, alloc: Global, room: u32, fails: Vec<u64>) -> MemSink {
+    match MemSink::reserve(alloc, room, fails) {
+        Ok(sink) => sink,
+        Err(_) => panic!(rt; "no memory"),
+    }
+}
+
+/// Runs the words, and compares the status and what was written.
 fn ends(
     rt: &impl Abort,
     alloc: Global,
@@ -101,120 +170,105 @@ fn ends(
     outside: &Outside,
     status: Status,
     text: &str,
-) -> Result<(), Fail> {
-    wrote(rt, alloc, words, outside, status, text.as_bytes())
+) {
+    let mut sink = sink(
+        rt,
+        alloc,
+        outside.room,
+        failing(rt, alloc, outside.write_fails),
+    );
+    assert!(rt; ended(rt, alloc, words, outside, &mut sink) == status);
+    assert!(rt; sink.bytes() == text.as_bytes());
+    drop(sink);
 }
 
-/// The words as a run takes them.
-fn owned(alloc: Global, words: &[&str]) -> Result<Vec<String>, Fail> {
-    let mut owned = Vec::new(alloc);
-    for word in words {
-        owned.push(format!(in alloc; "{word}")?)?;
-    }
-    Ok(owned)
-}
-
-/// Runs the words, and compares the status and what was written.
-fn wrote(
+/// How a run of the words ends; there are files of all of them.
+fn ended(
     rt: &impl Abort,
     alloc: Global,
     words: &[&str],
     outside: &Outside,
-    status: Status,
-    text: &[u8],
-) -> Result<(), Fail> {
-    let fails = [outside.write_fails].to_vec(alloc)?;
-    let mut sink = MemSink::reserve(alloc, outside.room, fails)?;
-    let ended = ended(alloc, words, outside, &mut sink)?;
-    assert!(rt; ended == Some(status));
-    assert!(rt; sink.bytes() == text);
-    drop(sink);
-    Ok(())
-}
-
-/// How a run of the words ends, where there are files of all of them.
-fn ended(
-    alloc: Global,
-    words: &[&str],
-    outside: &Outside,
     sink: &mut MemSink,
-) -> Result<Option<Status>, Fail> {
-    let owned = owned(alloc, words)?;
-    let mut files = files(alloc, words, outside)?;
-    let status = run_held(alloc, &owned, &mut files, sink);
+) -> Status {
+    let owned = owned(rt, alloc, words);
+    let mut files = files(rt, alloc, words, outside);
+    let ended = run_held(alloc, &owned, &mut files, sink);
     drop(files);
     drop(owned);
-    Ok(status)
+    match ended {
+        Some(status) => status,
+        None => panic!(rt; "a file is not there"),
+    }
+}
+
+/// `IMAGE` with another last byte.
+fn changed() -> [u8; 52] {
+    let mut image = IMAGE;
+    image[51] = b'd';
+    image
+}
+
+/// The first 20 bytes of a report.
+const CUT: &str = "fuota report 1\nimage";
+
+#[test]
+fn a_run_ends_with_its_status_and_text(rt: HostRuntime) {
+    ends(&rt, rt.alloc(), &WORDS, &SOUND, Status::Done, REPORT);
+    ends(&rt, rt.alloc(), &WORDS[..1], &SOUND, Status::Usage, USAGE);
+    let cut = Outside { room: 20, ..SOUND };
+    ends(&rt, rt.alloc(), &WORDS, &cut, Status::WriteFault, CUT);
 }
 
 #[test]
-fn a_run_ends_with_its_status_and_text(rt: HostRuntime) -> Result<(), Fail> {
-    let mut changed = IMAGE;
-    changed[51] = b'd';
-    let image = Outside {
-        image: &changed,
-        ..SOUND
-    };
+fn a_run_ends_where_a_file_is_refused(rt: HostRuntime) {
     let unended = Outside {
         events: "",
         ..SOUND
     };
-    let cut = Outside { room: 20, ..SOUND };
-    ends(&rt, rt.alloc(), &WORDS, &SOUND, Status::Done, REPORT)?;
+    let text = "line 4 syntax\n";
     ends(
         &rt,
         rt.alloc(),
         &WORDS,
         &unended,
         Status::ScriptRefused,
-        "line 4 syntax\n",
-    )?;
-    ends(
-        &rt,
-        rt.alloc(),
-        &WORDS,
-        &image,
-        Status::ImageRefused,
-        "image refused\n",
-    )?;
-    ends(&rt, rt.alloc(), &WORDS[..1], &SOUND, Status::Usage, USAGE)?;
-    ends(
-        &rt,
-        rt.alloc(),
-        &WORDS,
-        &cut,
-        Status::WriteFault,
-        &REPORT[..20],
-    )
+        text,
+    );
+    let other = Outside {
+        image: &changed(),
+        ..SOUND
+    };
+    let text = "image refused\n";
+    ends(&rt, rt.alloc(), &WORDS, &other, Status::ImageRefused, text);
 }
 
 const FOUR_ROWS: &str =
     "fuota 1\nimage 13 4\ndevice 1 c 1 4 0 00000000000000000000000000000000\nat 1000\n";
 
+/// A run in which the call of each side with this number fails, 0 for none.
+fn fails(
+    rt: &impl Abort,
+    alloc: Global,
+    read_fails: u64,
+    write_fails: u64,
+    status: Status,
+    text: &str,
+) {
+    let outside = Outside {
+        read_fails,
+        write_fails,
+        ..SOUND
+    };
+    ends(rt, alloc, &WORDS, &outside, status, text);
+}
+
 #[test]
-fn each_call_outside_may_fail(rt: HostRuntime) -> Result<(), Fail> {
-    for call in 1..=6 {
-        let outside = Outside {
-            read_fails: call,
-            ..SOUND
-        };
-        ends(
-            &rt,
-            rt.alloc(),
-            &WORDS,
-            &outside,
-            Status::ReadFault,
-            "read fault\n",
-        )?;
+fn each_call_outside_may_fail(rt: HostRuntime) {
+    for call in 1..=6u64 {
+        fails(&rt, rt.alloc(), call, 0, Status::ReadFault, "read fault\n");
     }
-    for (call, text) in [(1, ""), (2, REPORT)] {
-        let outside = Outside {
-            write_fails: call,
-            ..SOUND
-        };
-        ends(&rt, rt.alloc(), &WORDS, &outside, Status::WriteFault, text)?;
-    }
-    Ok(())
+    fails(&rt, rt.alloc(), 0, 1, Status::WriteFault, "");
+    fails(&rt, rt.alloc(), 0, 2, Status::WriteFault, REPORT);
 }
 
 /// The update of a device to its end: the file is whole at line 22, and runs behind the reboot.
@@ -224,39 +278,38 @@ const UPDATE: &str =
 const UPDATED: &str =
     "fuota report 1\nimage 52 fragments 4 size 13 padding 0 parity 4\ndevice 1 updated clock 0 token 0 running 2 next none\ncounts deaf 0 refused 0 full 0 dropped 0\nsession 0 received 4 missing 0 complete at 22 same\nend\n";
 
+/// The numbers of the calls that fail, the room of the sink, and what comes of it.
+static UPDATES: [(u64, u64, u32, Status, &str); 24] = [
+    (0, 0, 4096, Status::Done, UPDATED),
+    (7, 3, 4096, Status::Done, UPDATED),
+    (1, 0, 4096, Status::ReadFault, "read fault\n"),
+    (2, 0, 4096, Status::ReadFault, "read fault\n"),
+    (3, 0, 4096, Status::ReadFault, "read fault\n"),
+    (4, 0, 4096, Status::ReadFault, "read fault\n"),
+    (5, 0, 4096, Status::ReadFault, "read fault\n"),
+    (6, 0, 4096, Status::ReadFault, "read fault\n"),
+    (0, 1, 4096, Status::WriteFault, ""),
+    (0, 2, 4096, Status::WriteFault, UPDATED),
+    (0, 0, 20, Status::WriteFault, CUT),
+    (1, 1, 4096, Status::WriteFault, ""),
+    (2, 1, 4096, Status::WriteFault, ""),
+    (3, 1, 4096, Status::WriteFault, ""),
+    (4, 1, 4096, Status::WriteFault, ""),
+    (5, 1, 4096, Status::WriteFault, ""),
+    (6, 1, 4096, Status::WriteFault, ""),
+    (1, 2, 4096, Status::WriteFault, "read fault\n"),
+    (2, 2, 4096, Status::WriteFault, "read fault\n"),
+    (3, 2, 4096, Status::WriteFault, "read fault\n"),
+    (4, 2, 4096, Status::WriteFault, "read fault\n"),
+    (5, 2, 4096, Status::WriteFault, "read fault\n"),
+    (6, 2, 4096, Status::WriteFault, "read fault\n"),
+    (6, 0, 5, Status::WriteFault, "read "),
+];
+
 /// An update in which the call of each side with this number fails; behind the last one that comes, none does.
 #[test]
-fn an_update_says_what_failed(rt: HostRuntime) -> Result<(), Fail> {
-    let done = Status::Done;
-    let unread = Status::ReadFault;
-    let unwritten = Status::WriteFault;
-    let rows = [
-        (0, 0, 4096, done, UPDATED),
-        (7, 3, 4096, done, UPDATED),
-        (1, 0, 4096, unread, "read fault\n"),
-        (2, 0, 4096, unread, "read fault\n"),
-        (3, 0, 4096, unread, "read fault\n"),
-        (4, 0, 4096, unread, "read fault\n"),
-        (5, 0, 4096, unread, "read fault\n"),
-        (6, 0, 4096, unread, "read fault\n"),
-        (0, 1, 4096, unwritten, ""),
-        (0, 2, 4096, unwritten, UPDATED),
-        (0, 0, 20, unwritten, &UPDATED[..20]),
-        (1, 1, 4096, unwritten, ""),
-        (2, 1, 4096, unwritten, ""),
-        (3, 1, 4096, unwritten, ""),
-        (4, 1, 4096, unwritten, ""),
-        (5, 1, 4096, unwritten, ""),
-        (6, 1, 4096, unwritten, ""),
-        (1, 2, 4096, unwritten, "read fault\n"),
-        (2, 2, 4096, unwritten, "read fault\n"),
-        (3, 2, 4096, unwritten, "read fault\n"),
-        (4, 2, 4096, unwritten, "read fault\n"),
-        (5, 2, 4096, unwritten, "read fault\n"),
-        (6, 2, 4096, unwritten, "read fault\n"),
-        (6, 0, 5, unwritten, "read "),
-    ];
-    for (read_fails, write_fails, room, status, text) in &rows {
+fn an_update_says_what_failed(rt: HostRuntime) {
+    for (read_fails, write_fails, room, status, text) in &UPDATES {
         let outside = Outside {
             start: FOUR_ROWS,
             events: UPDATE,
@@ -265,9 +318,8 @@ fn an_update_says_what_failed(rt: HostRuntime) -> Result<(), Fail> {
             room: *room,
             ..SOUND
         };
-        ends(&rt, rt.alloc(), &WORDS, &outside, *status, text)?;
+        ends(&rt, rt.alloc(), &WORDS, &outside, *status, text);
     }
-    Ok(())
 }
 
 const PAIR: &str =
@@ -277,27 +329,28 @@ const PAIR: &str =
 const OF_PAIR: &str =
     "ask 1\ndown a1 1\nup a1\nask 1\ndown a2 1\nup a2\nfrag a\ndown a3 2\ndown a3 1\nend\n";
 
+static CAMPAIGNS: [&str; 5] = ["fuota", "campaigns", "image", "image", "script"];
+
 /// Both campaigns have the same image.
 #[test]
-fn each_call_of_two_campaigns_may_fail(rt: HostRuntime) -> Result<(), Fail> {
-    let words = ["fuota", "campaigns", "image", "image", "script"];
-    for call in 1..=9 {
+fn each_call_of_two_campaigns_may_fail(rt: HostRuntime) {
+    for call in 1..=9u64 {
         let outside = Outside {
             read_fails: call,
             start: PAIR,
             events: OF_PAIR,
             ..SOUND
         };
+        let text = "read fault\n";
         ends(
             &rt,
             rt.alloc(),
-            &words,
+            &CAMPAIGNS,
             &outside,
             Status::ReadFault,
-            "read fault\n",
-        )?;
+            text,
+        );
     }
-    Ok(())
 }
 
 #[test]
@@ -353,111 +406,133 @@ fn says_in_pieces(
     most: usize,
     status: Status,
     text: &str,
-) -> Result<(), Fail> {
-    let owned = owned(alloc, words)?;
+) {
+    let owned = owned(rt, alloc, words);
     let mut files = InPieces {
         lines,
         most,
         rest: &[],
         chosen: false,
     };
-    let mut sink = MemSink::reserve(alloc, 4096, Vec::new(alloc))?;
+    let mut sink = sink(rt, alloc, 4096, Vec::new(alloc));
     assert!(rt; run(alloc, &owned, &mut files, &mut sink) == status);
     assert!(rt; sink.bytes() == text.as_bytes());
     drop(sink);
     drop(owned);
-    Ok(())
+}
+
+/// The same in pieces of 1 to 40 bytes.
+fn says_in_all_pieces(
+    rt: &impl Abort,
+    alloc: Global,
+    words: &[&str],
+    lines: &[u8],
+    status: Status,
+    text: &str,
+) {
+    for most in 1..41usize {
+        says_in_pieces(rt, alloc, words, lines, most, status, text);
+    }
 }
 
 /// What is written is the same, whatever pieces the files come in.
 #[test]
-fn pieces_make_the_report_of_the_whole(rt: HostRuntime) -> Result<(), Fail> {
-    let script = format!(in rt.alloc(); "{START}{EVENTS}")?;
-    let lines = script.as_bytes();
-    for most in 1..41 {
-        says_in_pieces(&rt, rt.alloc(), &WORDS, lines, most, Status::Done, REPORT)?;
-    }
-    Ok(())
+fn pieces_make_the_report_of_the_whole(rt: HostRuntime) {
+    let lines = script_of(&rt, rt.alloc(), &SOUND);
+    says_in_all_pieces(&rt, rt.alloc(), &WORDS, &lines, Status::Done, REPORT);
+    drop(lines);
+}
+
+static DECODE: [&str; 5] = ["fuota", "decode", "201", "down", "capture"];
+
+static REPLAY: [&str; 3] = ["fuota", "replay", "capture"];
+
+static CAPTURE: [&str; 3] = ["fuota", "capture", "capture"];
+
+#[test]
+fn pieces_make_the_texts_of_the_whole(rt: HostRuntime) {
+    says_in_all_pieces(
+        &rt,
+        rt.alloc(),
+        &DECODE,
+        b"00010A\n\n020004",
+        Status::Done,
+        "line 1\nPackageVersionReq\nFragSessionStatusReq index=1 all=0\nline 2\nline 3\nrefused 3 short\nend\n",
+    );
+    says_in_all_pieces(
+        &rt,
+        rt.alloc(),
+        &REPLAY,
+        b"replay 1 2\n0200040001000000000000\n08070066\n08080011\n08010011\n08030033\n",
+        Status::Done,
+        "fuota replay 1\ncounts deaf 0 refused 0 full 0 dropped 0\nsession 0 received 4 missing 0 complete at 6\nfile 11223344\nend\n",
+    );
+    says_in_all_pieces(
+        &rt,
+        rt.alloc(),
+        &CAPTURE,
+        b"capture 1 0\n{\"port\":201,\"dir\":\"down\",\"hex\":\"0200010001000000000000\"}\n{\"port\":201,\"dir\":\"down\",\"hex\":\"0801005a\"}",
+        Status::Done,
+        "fuota capture 1\nline 2 201 down\nFragSessionSetupReq index=0 mask=0 nbfrag=1 fragsize=1 algo=0 delay=0 padding=0 descriptor=00000000\nline 3 201 down\nDataFragment index=0 n=1 bytes=5a\ncounts deaf 0 refused 0 full 0 dropped 0\nsession 0 received 1 missing 0 complete at 3\nfile 5a\nend\n",
+    );
+}
+
+/// A line of 602 digits behind one of two, and a third one.
+fn long_lines() -> [u8; 609] {
+    let mut lines = [b'0'; 609];
+    lines[2] = b'\n';
+    lines[605..].copy_from_slice(b"\nzz\n");
+    lines
 }
 
 #[test]
-fn pieces_make_the_texts_of_the_whole(rt: HostRuntime) -> Result<(), Fail> {
-    let decode = ["fuota", "decode", "201", "down", "capture"];
-    let replay = ["fuota", "replay", "capture"];
-    let capture = ["fuota", "capture", "capture"];
-    let mut long = Vec::new(rt.alloc());
-    long.extend_from_slice(b"00\n")?;
-    long.resize(605, b'0')?;
-    long.extend_from_slice(b"\nzz\n")?;
-    let rows = [
-        (
-            &decode[..],
-            &b"00010A\n\n020004"[..],
-            Status::Done,
-            "line 1\nPackageVersionReq\nFragSessionStatusReq index=1 all=0\nline 2\nline 3\nrefused 3 short\nend\n",
-        ),
-        (
-            &decode[..],
-            long.as_slice(),
-            Status::ScriptRefused,
-            "line 2 limit\n",
-        ),
-        (
-            &replay[..],
-            &b"replay 1 2\n0200040001000000000000\n08070066\n08080011\n08010011\n08030033\n"[..],
-            Status::Done,
-            "fuota replay 1\ncounts deaf 0 refused 0 full 0 dropped 0\nsession 0 received 4 missing 0 complete at 6\nfile 11223344\nend\n",
-        ),
-        (
-            &capture[..],
-            &b"capture 1 0\n{\"port\":201,\"dir\":\"down\",\"hex\":\"0200010001000000000000\"}\n{\"port\":201,\"dir\":\"down\",\"hex\":\"0801005a\"}"[..],
-            Status::Done,
-            "fuota capture 1\nline 2 201 down\nFragSessionSetupReq index=0 mask=0 nbfrag=1 fragsize=1 algo=0 delay=0 padding=0 descriptor=00000000\nline 3 201 down\nDataFragment index=0 n=1 bytes=5a\ncounts deaf 0 refused 0 full 0 dropped 0\nsession 0 received 1 missing 0 complete at 3\nfile 5a\nend\n",
-        ),
-        (
-            &replay[..],
-            &b"replay 1 2\n0200040001000000000000\n0807006\n08080011\nzz"[..],
-            Status::ScriptRefused,
-            "line 3 syntax\n",
-        ),
-    ];
-    for (words, lines, status, text) in &rows {
-        for most in 1..41 {
-            says_in_pieces(&rt, rt.alloc(), words, lines, most, *status, text)?;
+fn pieces_make_the_refusals_of_the_whole(rt: HostRuntime) {
+    let refused = Status::ScriptRefused;
+    let text = "line 2 limit\n";
+    says_in_all_pieces(&rt, rt.alloc(), &DECODE, &long_lines(), refused, text);
+    let lines = b"replay 1 2\n0200040001000000000000\n0807006\n08080011\nzz";
+    let text = "line 3 syntax\n";
+    says_in_all_pieces(&rt, rt.alloc(), &REPLAY, lines, refused, text);
+}
+
+static REPLAY_SCRIPT: [&str; 3] = ["fuota", "replay", "script"];
+
+/// A replay of a line that is refused, in which this call fails, 0 for none.
+fn replays(rt: &impl Abort, alloc: Global, read_fails: u64, status: Status, text: &str) {
+    let outside = Outside {
+        start: "zz\n",
+        events: "",
+        read_fails,
+        ..SOUND
+    };
+    ends(rt, alloc, &REPLAY_SCRIPT, &outside, status, text);
+}
+
+/// A replay of so many zero bytes.
+fn replays_zeros(rt: &impl Abort, alloc: Global, count: usize, status: Status, text: &str) {
+    match vec![in alloc; 0u8; count] {
+        Ok(lines) => {
+            says_in_pieces(rt, alloc, &REPLAY_SCRIPT, &lines, 4096, status, text);
+            drop(lines);
         }
+        Err(_) => panic!(rt; "no memory"),
     }
-    Ok(())
 }
 
 /// A file is read to its end, or to one byte more than its limit, before a refused line of it is told.
 #[test]
-fn faults_come_before_a_refused_line(rt: HostRuntime) -> Result<(), Fail> {
-    let words = ["fuota", "replay", "script"];
-    let mut outside = Outside {
-        start: "zz\n",
-        events: "",
-        ..SOUND
-    };
-    let refused = Status::ScriptRefused;
-    ends(
+fn faults_come_before_a_refused_line(rt: HostRuntime) {
+    replays(&rt, rt.alloc(), 0, Status::ScriptRefused, "line 1 syntax\n");
+    for call in 1..=3u64 {
+        replays(&rt, rt.alloc(), call, Status::ReadFault, "read fault\n");
+    }
+    let long = Status::TooLong(1_048_577);
+    replays_zeros(&rt, rt.alloc(), 1_048_577, long, "too long 1048577\n");
+    replays_zeros(
         &rt,
         rt.alloc(),
-        &words,
-        &outside,
-        refused,
-        "line 1 syntax\n",
-    )?;
-    for call in 1..=3 {
-        outside.read_fails = call;
-        let fault = Status::ReadFault;
-        ends(&rt, rt.alloc(), &words, &outside, fault, "read fault\n")?;
-    }
-    let mut lines = Vec::new(rt.alloc());
-    lines.resize(1_048_577, 0)?;
-    let long = Status::TooLong(1_048_577);
-    let text = "too long 1048577\n";
-    says_in_pieces(&rt, rt.alloc(), &words, &lines, 4096, long, text)?;
-    lines.truncate(1_048_576);
-    let text = "line 1 limit\n";
-    says_in_pieces(&rt, rt.alloc(), &words, &lines, 4096, refused, text)
+        1_048_576,
+        Status::ScriptRefused,
+        "line 1 limit\n",
+    );
 }

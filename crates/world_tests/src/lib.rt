@@ -1,7 +1,0 @@
-//! Tests of `campaign_world` and `pair_run`, by scripts and their reports. There is no other code here.
-#![tactic(auto)]
-
-#[cfg(test)]
-mod pairs;
-#[cfg(test)]
-mod tests;
