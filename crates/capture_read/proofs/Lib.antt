@@ -1,3 +1,5 @@
 pub mod Json
+pub mod MembersRead
+pub mod NumbersRead
 pub mod Within
 pub mod WorkedEntries

@@ -4,7 +4,8 @@
 //! reads; and a refusal names the first cause that holds.
 //! Lines, their numbers, and what becomes of an entry are left to the crates above.
 //!
-//!     match entry(alloc, br#"{"port":201,"dir":"down","hex":"0801005a"}"#) {
+//!     let mut scratch = Scratch::new(alloc);
+//!     match entry(alloc, &mut scratch, br#"{"port":201,"dir":"down","hex":"0801005a"}"#) {
 //!         Ok(entry) => hear(entry.port, entry.dir, &entry.payload),
 //!         Err(EntryError::Refused(fault)) => refuse(fault),  // the first that holds
 //!         Err(EntryError::Memory) => give_up(),
@@ -14,8 +15,11 @@
 mod answers;
 mod laws;
 mod members;
+mod numbers;
+mod plain;
 mod reading;
 
 pub use answers::{Entry, EntryError, EntryFault};
+pub use json::Scratch;
 pub use laws::{entries_fit_frames, worked_entries};
 pub use reading::entry;

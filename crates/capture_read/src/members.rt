@@ -21,7 +21,8 @@ pub fn port_of(value: &Value) -> Option<i128>
     }
 }
 
-fn direction_of(word: &str) -> Option<Direction>
+/// The direction that a word names.
+pub fn direction_of(word: &str) -> Option<Direction>
     ensures { result ≡ direction_of word.now }
 {
     match word {

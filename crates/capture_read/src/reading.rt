@@ -6,14 +6,28 @@ ghost use Rattle.capture_read.specs.Entries.{ranged, entry_in, entry_of, IsRefus
 
 use crate::answers::{Entry, EntryError, EntryFault};
 use crate::members::{dir_of, port_of};
+use crate::plain::plain_entry;
 use hex::FromHexError;
+use json::Scratch;
 use serde_json::Value;
 use std::alloc::Global;
 use wire_base::{Direction, MAX_PAYLOAD, Payload};
 
-/// The entry of a line.
+/// The entry of a line. One `scratch` may be lent to line after line: it is room, and says nothing of what is answered.
+pub fn entry(alloc: Global, scratch: &mut Scratch, line: &[u8]) -> Result<Entry, EntryError>
+    ensures entry { IfOk result (λ e. entry_of line.now ≡ Ok e) }
+    ensures refused { IfErr result (IsRefusedBy (entry_of line.now)) }
+{
+    match plain_entry(alloc, scratch, line) {
+        Some(entry) => Ok(entry),
+        None => any_entry(alloc, line),
+    }
+}
+
+/// The same of any line, as `serde_json` reads it.
+#[inline(never)]
 #[tactic(auto, unfolding(crate::specs::Entries::entry_of, crate::specs::Entries::json_of))]
-pub fn entry(alloc: Global, line: &[u8]) -> Result<Entry, EntryError>
+fn any_entry(alloc: Global, line: &[u8]) -> Result<Entry, EntryError>
     ensures entry { IfOk result (λ e. entry_of line.now ≡ Ok e) }
     ensures refused { IfErr result (IsRefusedBy (entry_of line.now)) }
 {
@@ -58,7 +72,7 @@ fn entry_in(alloc: Global, value: &Value) -> Result<Entry, EntryError>
 }
 
 /// The entry, once its members are as they must be.
-fn ranged(port: i128, dir: Direction, payload: &[u8]) -> Result<Entry, EntryFault>
+pub fn ranged(port: i128, dir: Direction, payload: &[u8]) -> Result<Entry, EntryFault>
     ensures { result ≡ ranged port dir payload.now }
 {
     if port < 0 || port > 255 {

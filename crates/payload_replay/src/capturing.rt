@@ -14,7 +14,7 @@ ghost use Rattle.payload_replay.specs.HeldCapturing.{CaughtStands, CaughtBecomes
 use crate::decoding::show_payload;
 use crate::hearer::{begin, closing_text, hear};
 use crate::payload_lines::is_beyond;
-use capture_read::{Entry, EntryError, EntryFault, entry};
+use capture_read::{Entry, EntryError, EntryFault, Scratch, entry};
 use cast_wire::FRAGMENT_PORT;
 use device_core::Device;
 use flash_session::CellFlash;
@@ -43,11 +43,12 @@ pub struct Capturing {
     kept: Option<LineError>,
 }
 
-/// The text so far, its first line included, and the device.
+/// The text so far, its first line included, and the device; and the room that each line is read in.
 #[derive(Drop)]
 struct Catch {
     text: Vec<u8>,
     device: Device<CellFlash>,
+    scratch: Box<Scratch>,
 }
 
 impl Model for Catch {
@@ -175,12 +176,27 @@ fn catch_first(alloc: Global, header: &[u8]) -> Result<Catch, LineError>
         Ok(device) => device,
         Err(error) => return Err(error),
     };
-    match b"fuota capture 1\n".to_vec(alloc) {
-        Ok(text) => Ok(Catch { text, device }),
+    match first_text(alloc) {
+        Ok((text, scratch)) => Ok(Catch {
+            text,
+            device,
+            scratch,
+        }),
         Err(_) => {
             drop(device);
             Err(LineError::Memory)
         }
+    }
+}
+
+/// The text's first line, and the room to read in.
+fn first_text(alloc: Global) -> Result<(Vec<u8>, Box<Scratch>), AllocError>
+    ensures { IfOk result (λ r. r.0.items ≡ codes "fuota capture 1\n") }
+{
+    let text = b"fuota capture 1\n".to_vec(alloc)?;
+    match Box::new(alloc, Scratch::new(alloc)) {
+        Ok(scratch) => Ok((text, scratch)),
+        Err(_) => Err(AllocError),
     }
 }
 
@@ -192,7 +208,7 @@ fn catch_line(alloc: Global, caught: &mut Catch, lines: u32, line: &[u8]) -> Res
     ensures few { OnOk result (lines < 20000) }
     ensures refused { IfErr result (IsLineRefused line_entry lines line.now) }
 {
-    let item = match read_entry(alloc, lines, line) {
+    let item = match read_entry(alloc, &mut caught.scratch, lines, line) {
         Ok(item) => item,
         Err(error) => return Err(error),
     };
@@ -207,7 +223,12 @@ fn catch_line(alloc: Global, caught: &mut Catch, lines: u32, line: &[u8]) -> Res
 
 /// The entry of a line that comes after so many.
 #[tactic(auto, unfolding(crate::specs::Capture::line_entry))]
-fn read_entry(alloc: Global, lines: u32, line: &[u8]) -> Result<Entry, LineError>
+fn read_entry(
+    alloc: Global,
+    scratch: &mut Scratch,
+    lines: u32,
+    line: &[u8],
+) -> Result<Entry, LineError>
     requires { lines ≤ 20000 }
     ensures item { IfOk result (λ item. line_entry lines line.now ≡ Ok item) }
     ensures few { OnOk result (lines < 20000) }
@@ -216,7 +237,7 @@ fn read_entry(alloc: Global, lines: u32, line: &[u8]) -> Result<Entry, LineError
     if is_beyond(lines, line) {
         return Err(refused_behind(lines, LineWhy::Limit));
     }
-    match entry(alloc, line) {
+    match entry(alloc, scratch, line) {
         Ok(item) => Ok(item),
         Err(EntryError::Memory) => Err(LineError::Memory),
         Err(EntryError::Refused(fault)) => Err(refused_behind(lines, cause_of(fault))),
@@ -308,7 +329,12 @@ fn text_of(alloc: Global, caught: Catch) -> Result<Vec<u8>, AllocError>
     ensures { (all : Caught) → CaughtStands caught all
         → IfOk result (λ text. text.items ≡ capture_text all) }
 {
-    let Catch { mut text, device } = caught;
+    let Catch {
+        mut text,
+        device,
+        scratch,
+    } = caught;
+    drop(scratch);
     let closing = closing_text(alloc, &device);
     drop(device);
     let closing = closing?;

@@ -1,0 +1,23 @@
+-- Values all of whose numbers are in the range that `serde_json` reads.
+use Rattle.std.specs.Prelude.{◌≡◌, Some}
+use Rattle.json.specs.Json.{Json, null, boolean, number, string, array, object, Items, no_items, item, Members, no_members, member}
+use Rattle.serde_json.specs.Data.{Num}
+use Rattle.serde_json.specs.Read.{number_of}
+
+-- each number in a value is read
+abbrev mutual
+  pub AreRead : Json → Type 0
+  AreRead null = Unit {0}
+  AreRead (boolean b) = Unit {0}
+  AreRead (number s) = (n : Num) × (number_of s ≡ Some n)
+  AreRead (string s) = Unit {0}
+  AreRead (array js) = ItemsAreRead js
+  AreRead (object ms) = MembersAreRead ms
+
+  pub ItemsAreRead : Items → Type 0
+  ItemsAreRead no_items = Unit {0}
+  ItemsAreRead (item j js) = AreRead j × ItemsAreRead js
+
+  pub MembersAreRead : Members → Type 0
+  MembersAreRead no_members = Unit {0}
+  MembersAreRead (member k j ms) = AreRead j × MembersAreRead ms
