@@ -1,5 +1,6 @@
 pub mod Json
 pub mod MembersRead
 pub mod NumbersRead
+pub mod PlainLines
 pub mod Within
 pub mod WorkedEntries

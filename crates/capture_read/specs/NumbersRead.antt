@@ -1,8 +1,10 @@
 -- Values all of whose numbers are in the range that `serde_json` reads.
-use Rattle.std.specs.Prelude.{◌≡◌, Some}
+use Rattle.std.specs.Prelude.{◌≡◌, Some, Ok}
 use Rattle.json.specs.Json.{Json, null, boolean, number, string, array, object, Items, no_items, item, Members, no_members, member}
-use Rattle.serde_json.specs.Data.{Num}
-use Rattle.serde_json.specs.Read.{number_of}
+use Rattle.serde_json.specs.Data.{Num, Data}
+use Rattle.serde_json.specs.Read.{number_of, of_json}
+use Rattle.capture_read.specs.declared.answers.Entry.{Entry}
+use Rattle.capture_read.specs.Entries.{entry_in}
 
 -- each number in a value is read
 abbrev mutual
@@ -21,3 +23,7 @@ abbrev mutual
   pub MembersAreRead : Members → Type 0
   MembersAreRead no_members = Unit {0}
   MembersAreRead (member k j ms) = AreRead j × MembersAreRead ms
+
+-- what is read of a value is an entry
+abbrev pub IsEntry : Json → Entry → Type 0
+IsEntry j e = (d : Data) × (of_json j ≡ Some d) × (entry_in (Some d) ≡ Ok e)

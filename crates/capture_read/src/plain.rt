@@ -1,11 +1,12 @@
 //! Lines whose numbers are all whole: these are read without copying what they say.
 
-ghost use Rattle.std.specs.Prelude.{◌≡◌, pos, codes, Option, Some, Ok, IfSome, option_and_then};
+ghost use Rattle.std.specs.Prelude.{◌≡◌, [], pos, Some, Ok, IfSome, option_and_then};
 ghost use Rattle.json.specs.Value.{value_view};
 ghost use Rattle.serde_json.specs.Data.{Data};
 ghost use Rattle.serde_json.specs.Find.{get, as_str};
 ghost use Rattle.serde_json.specs.Read.{of_json};
-ghost use Rattle.capture_read.specs.Entries.{port_of, dir_of, hex_of, entry_in, entry_of};
+ghost use Rattle.capture_read.specs.Entries.{port_of, dir_of, entry_in, entry_of};
+ghost use Rattle.capture_read.specs.NumbersRead.{IsEntry};
 
 use crate::answers::Entry;
 use crate::members::direction_of;
@@ -31,13 +32,22 @@ pub fn plain_entry(alloc: Global, scratch: &mut Scratch, line: &[u8]) -> Option<
     let Ok(value) = Value::read(alloc, &mut reader, MAX_DEPTH) else {
         return None;
     };
-    let entry = if reader.next().is_some() || !are_whole(&value) {
-        None
-    } else {
-        entry_in(alloc, &value)
-    };
+    let entry = last_entry(alloc, &mut reader, &value);
     drop(value);
     entry
+}
+
+/// The entry that a value is behind which nothing stands.
+fn last_entry(alloc: Global, reader: &mut Reader<'_>, value: &Value<'_>) -> Option<Entry>
+    ensures { IfSome result (λ e. (reader.old ≡ []) × IsEntry (value_view value.now) e) }
+{
+    if reader.next().is_some() {
+        return None;
+    }
+    if !are_whole(value) {
+        return None;
+    }
+    entry_in(alloc, value)
 }
 
 /// The entry that a value is.

@@ -65,6 +65,10 @@ fn sets_up(slot: &mut SmallSlot, req: SetupReq, limits: Limits) -> u8 {
     slot.setup(req, limits)
 }
 
+fn takes(rt: &impl Abort, slot: &mut SmallSlot, req: SetupReq, limits: Limits) {
+    assert!(rt; sets_up(slot, req, limits) == 0);
+}
+
 fn hears(slot: &mut SmallSlot, via: Via, n: u16, part: &[u8], mark: u64) -> Heard {
     slot.fragment(via, n, part, mark)
 }
@@ -100,6 +104,10 @@ fn shows(slot: &SmallSlot, row: &Row) -> bool {
         }
         None => false,
     }
+}
+
+fn is_shown(rt: &impl Abort, slot: &SmallSlot, row: &Row) {
+    assert!(rt; shows(slot, row));
 }
 
 fn follows(rt: &impl Abort, alloc: Global, nb_frag: u16, row: &Row) {
@@ -372,20 +380,24 @@ fn is_deaf(rt: &impl Abort, slot: &mut SmallSlot, via: Via, n: u16, part: &[u8])
     assert!(rt; hears(slot, via, n, part, 9) == Heard::Dropped(Cause::NoSession));
 }
 
+fn are_heard(rt: &impl Abort, slot: &mut SmallSlot) {
+    for (via, n, part, answer) in &HEARD {
+        assert!(rt; hears(slot, *via, *n, part, 2) == *answer);
+    }
+}
+
 #[test]
 fn fragments_are_dropped_for_the_first_cause(rt: HostRuntime) {
     let mut slot = reserved(&rt, rt.alloc(), 4);
     is_deaf(&rt, &mut slot, Via::Group(0), 0, &[]);
-    assert!(rt; sets_up(&mut slot, SETUP, Limits { rows: 4, ..LIMITS }) == 0);
-    for (via, n, part, answer) in &HEARD {
-        assert!(rt; hears(&mut slot, *via, *n, part, 2) == *answer);
-    }
+    takes(&rt, &mut slot, SETUP, Limits { rows: 4, ..LIMITS });
+    are_heard(&rt, &mut slot);
     let heard = Row {
         received: 2,
         missing: 2,
         ..NOTHING
     };
-    assert!(rt; shows(&slot, &heard));
+    is_shown(&rt, &slot, &heard);
     drop(slot);
 }
 
@@ -393,21 +405,25 @@ fn fragments_are_dropped_for_the_first_cause(rt: HostRuntime) {
 fn an_equal_setup_keeps_the_session_and_another_begins_anew(rt: HostRuntime) {
     let mut slot = begun(&rt, rt.alloc(), 4, 0);
     feed(&rt, &mut slot, &[(1, 0x11), (2, 0x22)], 3);
-    assert!(rt; sets_up(&mut slot, SETUP, LIMITS) == 0);
+    takes(&rt, &mut slot, SETUP, LIMITS);
     feed(&rt, &mut slot, &[(3, 0x33)], 6);
     let kept = Row {
         received: 3,
         missing: 1,
         ..NOTHING
     };
-    assert!(rt; shows(&slot, &kept));
+    is_shown(&rt, &slot, &kept);
     let other = SetupReq {
         descriptor: 1,
         ..SETUP
     };
-    assert!(rt; sets_up(&mut slot, other, LIMITS) == 0);
-    assert!(rt; shows(&slot, &NOTHING));
+    takes(&rt, &mut slot, other, LIMITS);
+    is_shown(&rt, &slot, &NOTHING);
     drop(slot);
+}
+
+fn is_news(rt: &impl Abort, slot: &mut SmallSlot, n: u16, part: &[u8], mark: u64) {
+    assert!(rt; hears(slot, Via::Unicast, n, part, mark) == Heard::Fed(News::New));
 }
 
 #[test]
@@ -419,10 +435,9 @@ fn the_padding_is_no_part_of_the_file(rt: HostRuntime) {
         padding: 1,
         ..SETUP
     };
-    assert!(rt; sets_up(&mut slot, padded, LIMITS) == 0);
-    let new = Heard::Fed(News::New);
-    assert!(rt; hears(&mut slot, Via::Unicast, 2, &[0x33, 0], 1) == new);
-    assert!(rt; hears(&mut slot, Via::Unicast, 1, &[0x11, 0x22], 2) == new);
+    takes(&rt, &mut slot, padded, LIMITS);
+    is_news(&rt, &mut slot, 2, &[0x33, 0], 1);
+    is_news(&rt, &mut slot, 1, &[0x11, 0x22], 2);
     let whole = Row {
         rows: 0,
         fragments: &[],
@@ -431,7 +446,7 @@ fn the_padding_is_no_part_of_the_file(rt: HostRuntime) {
         verdict: Verdict::Complete(2),
         file: &[0x11, 0x22, 0x33],
     };
-    assert!(rt; shows(&slot, &whole));
+    is_shown(&rt, &slot, &whole);
     drop(slot);
 }
 
@@ -530,7 +545,7 @@ fn a_status_stays_at_255_pieces_missing(rt: HostRuntime) {
         nb_frag: 300,
         ..SETUP
     };
-    assert!(rt; sets_up(&mut slot, large, LIMITS) == 0);
+    takes(&rt, &mut slot, large, LIMITS);
     feed(&rt, &mut slot, &[(1, 0x11), (1, 0x11)], 3);
     let most = StatusAns {
         missing: 255,
@@ -542,7 +557,7 @@ fn a_status_stays_at_255_pieces_missing(rt: HostRuntime) {
         missing: 299,
         ..NOTHING
     };
-    assert!(rt; shows(&slot, &heard));
+    is_shown(&rt, &slot, &heard);
     drop(slot);
 }
 
