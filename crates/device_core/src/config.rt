@@ -51,7 +51,8 @@ pub struct DeviceConfig {
     pub area: u32,
     /// Whether its sessions are held in its flash, and so outlast a stop.
     pub held: bool,
-    /// Bytes of flash of a session that is held, from 24,640 on; that of index i lies from i * span.
+    /// Bytes of flash of a session that is held, 24,640 at least, and four times it within the flash; that of index i
+    /// lies from i * span.
     pub span: u32,
 }
 
