@@ -7,8 +7,8 @@ ghost use Rattle.campaign_server.specs.ServerInside.{GroupFits};
 use mc_keys::RootKind;
 use std::marker::Model;
 
-/// A multicast group of a campaign.
-#[derive(Clone, Copy, Debug)]
+/// A multicast group of a campaign. It has no text, so that its key comes into no log.
+#[derive(Clone, Copy)]
 pub struct PlanGroup {
     /// McGroupID, 0 to 3, the same on every device.
     pub id: u8,
@@ -46,8 +46,8 @@ pub struct PlanWindow {
     pub dr: u8,
 }
 
-/// A device of a campaign.
-#[derive(Clone, Copy, Debug)]
+/// A device of a campaign. It has no text, so that its key comes into no log.
+#[derive(Clone, Copy)]
 pub struct PlanDevice {
     /// GenAppKey, or AppKey where `root` is `V11`.
     pub key: [u8; 16],

@@ -25,8 +25,8 @@ pub const MAX_AREA: u32 = 262_382;
 /// The bytes of flash of a session before its records.
 const RECORDS_PLACE: u32 = 24_640;
 
-/// What a device is configured with.
-#[derive(Clone, Copy, Debug)]
+/// What a device is configured with. It has no text, so that its key comes into no log.
+#[derive(Clone, Copy)]
 pub struct DeviceConfig {
     pub class: Class,
     /// Hardware version.
