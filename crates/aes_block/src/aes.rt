@@ -9,7 +9,8 @@ use crate::undo::{undo_add_round_key, undo_last_round, undo_mix_columns};
 use crate::words::{add_round_key, from_block, to_block};
 use std::marker::Model;
 
-/// AES-128 under one key. Contracts see the key's 16 bytes.
+/// AES-128 under one key. Contracts see the key's 16 bytes. It looks bytes up in tables, so its time is not promised to
+/// be independent of key and block.
 #[derive(Drop)]
 pub struct Aes128 {
     key: [u8; 16],

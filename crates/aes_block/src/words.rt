@@ -53,8 +53,7 @@ pub fn to_block(s: [u32; 4]) -> [u8; 16]
 }
 
 /// AddRoundKey (FIPS 197, 5.1.4).
-/// The words of a round lie apart, so that the compiler keeps the state in four registers: joined
-/// in one wide register, as it likes to have them, they are slow to take apart for the tables.
+/// The words of a round lie apart, so that a state is four words and no wide register.
 #[inline(always)]
 pub fn add_round_key(s: [u32; 4], keys: &[[u32; 11]; 4], round: usize) -> [u32; 4]
     requires { round < 11 }

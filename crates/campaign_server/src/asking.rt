@@ -23,8 +23,8 @@ use mc_keys::{Key, kek, wrap_key};
 use package_grammar::{Command, Downlink};
 use sync_wire::FIRMWARE_PORT;
 
-/// Puts the request of a stage, to a device, into a downlink without bytes, and answers whether there is one: at
-/// updated and refused there is none.
+/// Puts the request of a stage, to a device, into a downlink without bytes, and answers whether there is one. There is
+/// none at updated and refused, and at a stage whose part the plan lacks, to which no answer leads.
 #[tactic(auto, unfolding(crate::specs::Asking::request_at))]
 pub fn request(
     plan: &Plan,

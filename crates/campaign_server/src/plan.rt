@@ -7,8 +7,8 @@ ghost use Rattle.campaign_server.specs.ServerInside.{GroupFits};
 use mc_keys::RootKind;
 use std::marker::Model;
 
-/// A multicast group of a campaign.
-#[derive(Clone, Copy, Debug)]
+/// A multicast group of a campaign. It has no text, so that its key comes into no log.
+#[derive(Clone, Copy)]
 pub struct PlanGroup {
     /// McGroupID, 0 to 3, the same on every device.
     pub id: u8,
@@ -16,7 +16,7 @@ pub struct PlanGroup {
     pub addr: u32,
     /// McKey.
     pub key: [u8; 16],
-    /// The first frame count that is used.
+    /// The first frame count that is used, below `max`.
     pub min: u32,
     /// The first frame count that isn't used any more.
     pub max: u32,
@@ -38,7 +38,7 @@ pub struct PlanWindow {
     pub kind: Kind,
     /// SessionTime, in seconds of the devices' clocks.
     pub start: u32,
-    /// TimeOut, 0 to 15.
+    /// TimeOut, 0 to 15: the session lasts 2^timeout s in class C, and 2^timeout beacon periods of 128 s in class B.
     pub timeout: u8,
     /// DLFrequ, in units of 100 Hz, below 2^24.
     pub freq: u32,
@@ -46,8 +46,8 @@ pub struct PlanWindow {
     pub dr: u8,
 }
 
-/// A device of a campaign.
-#[derive(Clone, Copy, Debug)]
+/// A device of a campaign. It has no text, so that its key comes into no log.
+#[derive(Clone, Copy)]
 pub struct PlanDevice {
     /// GenAppKey, or AppKey where `root` is `V11`.
     pub key: [u8; 16],
@@ -93,10 +93,16 @@ pub(crate) fn own_id(group: Option<PlanGroup>) -> u8
 /// A field of a plan that is wrong.
 #[derive(Clone, Copy, Debug, PartialEq, Eq)]
 pub enum Field {
+    /// The bytes a fragment are not 1 to 239, or cut the image into more than 4,096 fragments.
     FragSize,
+    /// There are more than 512 coded fragments.
     Parity,
+    /// The index of its session is above 3.
     Index,
+    /// The group's id is above 3, or its `min` isn't below its `max`.
     Group,
+    /// There is a window without a group or a group without one, or a field of the window doesn't fit its bits.
     Window,
+    /// There are no devices, or more than 64.
     Devices,
 }

@@ -36,6 +36,7 @@ use wire_base::{Direction, Refusal};
 /// Why there is no server.
 #[derive(Clone, Copy, Debug, PartialEq, Eq)]
 pub enum ServerError {
+    /// There was not enough memory.
     Memory,
     /// The first field of the plan that is wrong.
     BadPlan(Field),
@@ -112,7 +113,8 @@ impl Server {
         })
     }
 
-    /// What the server asks of device `dev` now, by unicast; None exactly at updated and refused.
+    /// What the server asks of device `dev` now, by unicast. None at updated and refused, and at a stage whose part the
+    /// plan lacks, to which no answer leads.
     pub fn ask(&self, dev: u8) -> Option<Downlink>
         requires first { 1 ≤ dev }
         requires last { dev ≤ length self.now.plan.devices }
@@ -207,7 +209,8 @@ impl Server {
         }
     }
 
-    /// As `status_all`, written into a downlink of the caller's that has no bytes; where none is sent it is as it was.
+    /// As `status_all`, written into a downlink of the caller's that has no bytes; true exactly where one is sent, and
+    /// else it is as it was.
     #[tactic(auto, unfolding(crate::specs::Fragments::status_to_all, crate::specs::Fragments::after_status_to_all))]
     pub fn status_all_into(&mut self, down: &mut Downlink) -> bool
         requires { down.old.payload ≡ [] }
@@ -245,8 +248,9 @@ impl Server {
         }
     }
 
-    /// An uplink of device `dev` comes on a port, at `t` ms of true time: its commands move the device's stage in order, and
-    /// the first AppTimeReq that needs an answer gets one. A payload that is no message is refused and changes nothing.
+    /// An uplink of device `dev` comes on a port, at `t` ms of GPS time: its commands move the device's stage in order,
+    /// and the first AppTimeReq that needs an answer gets one. A payload that is no message is refused and changes
+    /// nothing.
     pub fn uplink(
         &mut self,
         dev: u8,

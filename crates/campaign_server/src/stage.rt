@@ -28,6 +28,8 @@ pub enum Stage {
     At(Request),
     /// It runs the campaign's image.
     Updated,
-    /// An answer refused the campaign, with these bits.
+    /// An answer refused the campaign, with these bits: at `Version` 1, the image is not for the hardware; at `Group` 4,
+    /// IDerror; at `Fragments` those of FragSessionSetupAns; at `Window` 16 no such group, 8 the frequency, 4 the data
+    /// rate; at `Status` 1, too little memory for the matrix; at `Image` the status of DevUpgradeImageAns.
     Refused { request: Request, bits: u8 },
 }

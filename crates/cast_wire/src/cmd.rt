@@ -1,7 +1,7 @@
 use crate::fragment_bytes::FragmentBytes;
 use crate::group_list::GroupList;
 
-/// A command with its fields. `specs/Table.antt` says how each lies in its bytes.
+/// A command with its fields. `specs/Table.antt` says how each lies in its bytes, numbers with the lowest byte first.
 #[derive(Debug, PartialEq, Drop)]
 pub enum Cmd<'a> {
     /// From the server, on both ports: which package and version is there?
@@ -25,7 +25,7 @@ pub enum Cmd<'a> {
         index: u8,
         /// The fragments heard, below 2^14.
         received: u16,
-        /// The fragments missing, or 255.
+        /// The fragments missing; 255 where they are 255 or more.
         missing: u8,
         /// The device has too little memory for the matrix of coded fragments.
         norows: bool,
@@ -42,7 +42,7 @@ pub enum Cmd<'a> {
         frag_size: u8,
         /// The coding of the fragments, 0 to 7.
         algo: u8,
-        /// BlockAckDelay, 0 to 7.
+        /// BlockAckDelay, 0 to 7: what is asked by multicast is answered less than 2^(delay + 4) seconds later.
         delay: u8,
         /// The bytes that fill the last fragment up.
         padding: u8,
@@ -55,7 +55,7 @@ pub enum Cmd<'a> {
         index: u8,
         /// The descriptor isn't the one that the device is for.
         wrong_descriptor: bool,
-        /// The device has no session of that index.
+        /// The device has no place for a session of that index.
         index_unsupported: bool,
         /// The device has too little memory.
         no_memory: bool,
@@ -115,7 +115,7 @@ pub enum Cmd<'a> {
     McGroupSetupAns {
         /// The group, 0 to 3.
         id: u8,
-        /// The device has no group of that id.
+        /// IDerror: the device has no place for a group of that id.
         error: bool,
     },
     /// TS005-1.0.0, from the server.

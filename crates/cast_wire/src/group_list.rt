@@ -1,6 +1,6 @@
 //! Groups that exist, as a McGroupStatusAns lists them.
 
-ghost use Rattle.std.specs.Prelude.{◌≡◌, ◌<◌, ◌≤◌, ◌↔◌, [], ◌∷◌, ◌++◌, length, IsTrue};
+ghost use Rattle.std.specs.Prelude.{◌≡◌, ◌<◌, ◌≤◌, [], ◌∷◌, ◌++◌, length};
 ghost use Rattle.cast_wire.specs.Limits.{max_groups};
 
 use arrayvec::ArrayVec;
@@ -46,13 +46,6 @@ impl GroupList {
         GroupList {
             groups: ArrayVec::new(),
         }
-    }
-
-    /// Whether there are `MAX_GROUPS` groups, so that no more can be put.
-    pub fn is_full(&self) -> bool
-        ensures { IsTrue result ↔ (length self.now ≡ max_groups) }
-    {
-        self.groups.len() == MAX_GROUPS
     }
 
     /// Puts a group at the end.

@@ -41,4 +41,4 @@ pub use laws::{
 pub use reading::read_one;
 pub use setup_refusal::{refusal_bits, setup_answer};
 pub use validity::valid;
-pub use writing::{write_fragment, write_one};
+pub use writing::write_one;

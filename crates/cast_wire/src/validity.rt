@@ -6,8 +6,7 @@ use crate::cmd::Cmd;
 use crate::group_list::GroupAddress;
 
 /// Whether each field fits its bits, and the fields fit together.
-// Fields that fill their bytes are bound too, so that their ranges are known. Each test is cheaper than a branch, so
-// all are made.
+// Fields that fill their bytes are bound too, so that their ranges are known.
 pub fn valid(cmd: &Cmd) -> bool
     ensures { IsTrue result ↔ IsValid cmd.now }
 {
@@ -128,7 +127,7 @@ fn is_answer(error: bool, start: Option<u32>) -> bool
     }
 }
 
-/// A key that is an array has its 16 bytes.
+/// Whether a McGroupSetupReq is valid: its id fits; a key that is an array has its 16 bytes.
 fn is_valid_setup(id: u8, addr: u32, key: &[u8; 16], min: u32, max: u32) -> bool
     ensures { IsTrue result ↔ IsValid (Cmd.McGroupSetupReq id addr key.now min max) }
 {

@@ -2,7 +2,6 @@ ghost use Rattle.cast_wire.specs.Table.{IsValid, canonical};
 ghost use Rattle.wire_base.specs.Payload.{Appends};
 
 use crate::cmd::Cmd;
-use crate::fragment::Fragment;
 use crate::writing_fragments::{
     put_data_fragment, put_delete_answer, put_delete_request, put_setup_answer, put_setup_request,
     put_status_answer, put_status_request, put_version_answer, put_version_request,
@@ -112,14 +111,4 @@ pub fn write_one(cmd: &Cmd, out: &mut Payload) -> Result<(), Full>
             start,
         } => put_class_b_answer(id, undefined, freq_error, dr_error, start, out),
     }
-}
-
-/// Puts the canonical spelling of a DataFragment at the end, whole or not at all. Its bytes are taken from where they lie.
-pub fn write_fragment(fragment: &Fragment<'_>, out: &mut Payload) -> Result<(), Full>
-    requires { IsValid (Cmd.DataFragment fragment.now.index fragment.now.n fragment.now.bytes.now) }
-    ensures { Appends out.old out.new
-        (canonical (Cmd.DataFragment fragment.now.index fragment.now.n fragment.now.bytes.now))
-        result }
-{
-    put_data_fragment(fragment.index, fragment.n, fragment.bytes, out)
 }

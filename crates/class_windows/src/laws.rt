@@ -14,7 +14,7 @@ pub fn window_tests()
         ↔ IsInSlot offset period ms }
 {}
 
-/// So each class is open exactly in the intervals of the standard.
+/// So each class is open exactly in the intervals of `specs/Windows.antt`.
 pub fn classes_hear_in_their_intervals()
     ensures class_a { (due t : ℕ) → IsTrue (is_open_a (Some due) t) ↔ IsAfterUplink due t }
     ensures class_c { (time timeout ms : ℕ) → time < 2 ^ 32 → timeout < 16

@@ -70,7 +70,8 @@ impl DeviceClock {
         }
     }
 
-    /// Takes an AppTimeAns: its correction in seconds, where its token is the clock's.
+    /// Takes an AppTimeAns: where its token is the clock's its correction in seconds is added, and the token is raised
+    /// modulo 16; else nothing changes.
     pub fn take_answer(&mut self, correction: i32, token: u8) -> Taken
         ensures other_token { (result ≡ Taken.OtherToken) ↔ (token ≢ self.old.token) }
         ensures value { self.new ≡ after_answer correction token self.old }

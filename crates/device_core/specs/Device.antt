@@ -53,7 +53,7 @@ first_device config = record {
 abbrev pub outbox_size : ℕ
 outbox_size = 8
 
--- sessions, and rows for coded fragments of each
+-- sessions
 abbrev pub max_sessions : ℕ
 max_sessions = 4
 
@@ -61,6 +61,7 @@ max_sessions = 4
 abbrev pub max_formats : ℕ
 max_formats = 2
 
+-- rows for the coded fragments of a session
 abbrev pub max_rows : ℕ
 max_rows = 256
 

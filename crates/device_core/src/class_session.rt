@@ -18,6 +18,6 @@ pub struct ClassSession {
     pub kind: Kind,
     /// SessionTime, in seconds of the device's clock.
     pub time: u32,
-    /// TimeOut, 0 to 15.
+    /// TimeOut, 0 to 15: it lasts 2^timeout s in class C, and 2^timeout beacon periods of 128 s in class B.
     pub timeout: u8,
 }

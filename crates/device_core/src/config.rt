@@ -25,8 +25,8 @@ pub const MAX_AREA: u32 = 262_382;
 /// The bytes of flash of a session before its records.
 const RECORDS_PLACE: u32 = 24_640;
 
-/// What a device is configured with.
-#[derive(Clone, Copy, Debug)]
+/// What a device is configured with. It has no text, so that its key comes into no log.
+#[derive(Clone, Copy)]
 pub struct DeviceConfig {
     pub class: Class,
     /// Hardware version.
@@ -51,7 +51,8 @@ pub struct DeviceConfig {
     pub area: u32,
     /// Whether its sessions are held in its flash, and so outlast a stop.
     pub held: bool,
-    /// Bytes of flash of a session that is held, from 24,640 on; that of index i lies from i * span.
+    /// Bytes of flash of a session that is held, 24,640 at least, and four times it within the flash; that of index i
+    /// lies from i * span.
     pub span: u32,
 }
 

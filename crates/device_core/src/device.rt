@@ -113,7 +113,7 @@ impl<F: Flash + Drop> Device<F> {
 
     /// A device at its start, with all memory that it will ever need. BadConfig comes exactly where a number of the
     /// configuration is out of its bounds, or its sessions are to be held and the flash has no room for them. No flash is
-    /// called; a device whose sessions are held is down until `power`.
+    /// called; a device whose sessions are held is down until `power`. At an error the flash is dropped.
     pub fn reserve(alloc: Global, config: DeviceConfig, flash: F) -> Result<Self, ReserveError>
         ensures { IsReserved config (F.room flash) flash result }
     {
@@ -150,11 +150,11 @@ impl<F: Flash + Drop> Device<F> {
         })
     }
 
-    /// A payload comes at `t` ms of true time. If it is heard, can be read and the outbox has room, its commands act in
-    /// order. `word` is a random word, and `mark` the number at which a verdict on a file is reported. A reboot that is due
-    /// is carried out before and behind all this. While its sessions are down the answer is Down. FlashFault comes only
-    /// where the flash failed: the commands before acted, no other did, no reboot is carried out behind, and the sessions
-    /// are down.
+    /// A payload comes at `t` ms of true time, at most 4,294,967,295,999 (the last ms of second 2^32 - 1). If it is
+    /// heard, can be read and the outbox has room, its commands act in order. `word` is a random word, and `mark` the
+    /// number at which a verdict on a file is reported. A reboot that is due is carried out before and behind all this.
+    /// While its sessions are down the answer is Down. FlashFault comes only where the flash failed: the commands
+    /// before acted, no other did, no reboot is carried out behind, and the sessions are down.
     pub fn deliver(&mut self, t: u64, down: &Downlink, word: u32, mark: u64) -> Delivered
         requires { t ≤ max_moment }
         ensures makes { result ≢ Delivered.FlashFault
@@ -408,10 +408,10 @@ impl<F: Flash + Drop> Device<F> {
         }
     }
 
-    /// Bytes that the radio heard come at `t` ms of true time. Where they are a frame of the class session's group, with a
-    /// count from its minMcFCount to below its maxMcFCount, and one of the 65,536 from minMcFCount on, their payload comes
-    /// to that group as in `deliver`. Other bytes are foreign: they change nothing but a reboot that is due and the deaf
-    /// counter.
+    /// Bytes that the radio heard come at `t` ms of true time, at most 4,294,967,295,999. Where they are a frame of the
+    /// class session's group, with a count from its minMcFCount to below its maxMcFCount, and one of the 65,536 from
+    /// minMcFCount on, their payload comes to that group as in `deliver`. Other bytes are foreign: they change nothing
+    /// but a reboot that is due and the deaf counter.
     /// While its sessions are down the answer is Heard(Down), whatever they are.
     #[tactic(auto, unfolding(crate::specs::Radio::radio))]
     pub fn radio(&mut self, t: u64, bytes: &[u8], word: u32, mark: u64) -> Aired
@@ -450,8 +450,8 @@ impl<F: Flash + Drop> Device<F> {
         }
     }
 
-    /// The device wakes at `t` ms of true time: it asks for the time, and OutboxFull comes exactly where 8 uplinks are held.
-    /// A reboot that is due is carried out before and behind.
+    /// The device wakes at `t` ms of true time, at most 4,294,967,295,999: it asks for the time, and OutboxFull comes
+    /// exactly where 8 uplinks are held. A reboot that is due is carried out before and behind.
     #[tactic(auto, unfolding(crate::specs::Deliver::waking))]
     pub fn wake(&mut self, t: u64) -> Result<(), OutboxFull>
         requires { t ≤ max_moment }
@@ -609,7 +609,7 @@ impl<F: Flash + Drop> Device<F> {
         sessions.close()
     }
 
-    /// What the session of an index shows; None exactly where there is none, or its sessions are down.
+    /// What the session of an index, 0 to 3, shows; None exactly where there is none, or its sessions are down.
     pub fn session(&self, index: u8) -> Option<View<'_>>
         requires { index < 4 }
         ensures shows { (device : DeviceState) → DeviceStands self.now device

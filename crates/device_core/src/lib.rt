@@ -1,7 +1,8 @@
 //! A device end of firmware update over LoRaWAN: clock synchronization (TS003-1.0.0), fragmented data blocks (TS004-1.0.0),
 //! remote multicast setup (TS005-1.0.0) and firmware management (TS006-1.0.0).
-//! A device is seen as the record of `specs/Device.antt`, with the lists of all fragments that its sessions heard: each call
-//! leaves what one function of `specs/Deliver.antt` makes of that record, and answers what that function answers.
+//! A device is seen as the record of `specs/Device.antt`, with the lists of all fragments that its sessions heard: each
+//! call leaves what one function of `specs/Deliver.antt`, `Radio`, `Power` or `Firmware` makes of that record, and
+//! answers what that function answers.
 //! Only `Device::reserve` takes memory. Radio, clocks, random numbers, the flash and what runs the image are left to the caller.
 //! Its sessions are in memory alone, or held in the flash, and then outlast a stop: `power` opens them again.
 //!

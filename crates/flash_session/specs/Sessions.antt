@@ -61,10 +61,6 @@ pub record IsOpenable (h : HeldSession) (s : Session) : Type 0 where
   pub hearable : AreHearable s.setup s.heard
   pub ranged : AllInRange (news (shape_of s) s.heard)
 
-abbrev pub IsOpenableAs : HeldSession → Option Session → Type 0
-IsOpenableAs h None = Unit {0}
-IsOpenableAs h (Some s) = IsOpenable h s
-
 -- the session lies there, and can be opened: opening gives what stands for it
 pub record LiesFor (h : HeldSession) (s : Session) (c : List ℕ) : Type 0 where
   pub openable : IsOpenable h s

@@ -5,6 +5,6 @@
 pub enum OpenFault {
     /// A call of the flash failed.
     Flash,
-    /// What lies at this place, counted from the range's first byte, is no session's, and nothing before it.
+    /// What lies at this place, counted from the range's first byte, is no session's; it is the lowest such place.
     Foreign(u32),
 }

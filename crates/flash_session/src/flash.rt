@@ -30,10 +30,11 @@ pub trait Flash {
     /// What it tells of a call that takes so many steps, between what it was before and is behind it: whether it failed.
     ghost tells: { Self → Self → (steps : ℕ) → (failed : Bool) → Type 0 };
 
+    /// How many bytes it has; it never changes.
     fn size(&self) -> u32
         ensures { result ≡ room self.now };
 
-    /// The bytes from a place on.
+    /// Fills `buf` with the bytes from a place on.
     fn read(&mut self, at: u32, buf: &mut [u8]) -> Result<(), Failed>
         requires { at + length buf.old ≤ room self.old }
         ensures bytes { OnOk result (Gives (holds self.old) at buf.new) }
@@ -45,7 +46,7 @@ pub trait Flash {
         ensures cause { HasCause (faults self.old) (faults self.new) result }
         ensures told { tells self.old self.new 0 (is_err result) };
 
-    /// Writes the piece. Until a sync, and after a failure, any bytes may stand there.
+    /// Writes the piece from a place on. Until a sync, and after a failure, any bytes may stand there.
     fn write(&mut self, at: u32, piece: &[u8]) -> Result<(), Failed>
         requires { at + length piece.now ≤ room self.old }
         ensures written { OnOk result
@@ -58,7 +59,7 @@ pub trait Flash {
         ensures cause { HasCause (faults self.old) (faults self.new) result }
         ensures told { tells self.old self.new (length piece.now) (is_err result) };
 
-    /// Writes `n` zeros.
+    /// Writes `n` zeros from a place on. Until a sync, and after a failure, any bytes may stand there.
     fn fill(&mut self, at: u32, n: u32) -> Result<(), Failed>
         requires { at + n ≤ room self.old }
         ensures written { OnOk result

@@ -18,7 +18,7 @@ use std::marker::Model;
 const MAX_RECEIVED: u16 = 16383;
 
 /// A session held in the `span` bytes from `base` of a flash, or a place for one there. Contracts see what it holds in memory,
-/// for which sessions it stands, and what lies in the range.
+/// for which sessions it stands, and what lies in the range. `W` and `B` are those of its `Solver`.
 pub struct Held<const W: usize, const B: usize> {
     slot: Slot<W, B>,
     limits: Limits,

@@ -29,7 +29,7 @@ impl Model for StopFlash {
 }
 
 impl StopFlash {
-    /// Passes `k` calls.
+    /// A flash that passes the first `k` calls on, and fails each behind them.
     pub fn over(flash: MemFlash, k: u64) -> Self
         ensures { result ≡ record { flash = flash; left = k; failed = 0 } }
     {

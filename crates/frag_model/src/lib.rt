@@ -4,7 +4,7 @@
 //! without a body whose contracts are laws about them. How to recover a file in little memory and
 //! time is left to the crates above, which cite the same definitions.
 //!
-//!     // definitions and laws; code for tests alone: the line of coded fragment 1 of 4 pieces
+//!     // definitions and laws, and plain code: the line of coded fragment 1 of 4 pieces
 //!     let mut line = [false; 4];
 //!     let draws = plain_line(1, 4, &mut line);
 #![tactic(auto)]

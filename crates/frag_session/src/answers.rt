@@ -3,6 +3,7 @@
 /// How a payload came.
 #[derive(Clone, Copy, Debug, PartialEq, Eq)]
 pub enum Via {
+    /// To the device alone.
     Unicast,
     /// By the multicast group with this id.
     Group(u8),
@@ -25,20 +26,25 @@ pub enum Cause {
 /// pieces that came uncoded, or the verdict.
 #[derive(Clone, Copy, Debug, PartialEq, Eq)]
 pub enum News {
+    /// It told something.
     New,
+    /// It told nothing.
     Old,
 }
 
 /// What became of a fragment.
 #[derive(Clone, Copy, Debug, PartialEq, Eq)]
 pub enum Heard {
+    /// It was heard.
     Fed(News),
+    /// It was dropped, and changed nothing.
     Dropped(Cause),
 }
 
 /// What is known of the file, with the mark of the fragment that decided it.
 #[derive(Clone, Copy, Debug, PartialEq, Eq)]
 pub enum Verdict {
+    /// Nothing is decided yet.
     Receiving,
     /// One file alone fits the fragments heard.
     Complete(u64),
@@ -55,6 +61,7 @@ pub struct View<'a> {
     pub received: u16,
     /// Pieces still to be gained.
     pub missing: u16,
+    /// What is known of the file.
     pub verdict: Verdict,
     /// The file, and nothing unless it is complete.
     pub file: &'a [u8],

@@ -29,7 +29,8 @@ pub enum State<const W: usize, const B: usize> {
     Conflicted(Conflicted<W, B>),
 }
 
-/// A place for one session. It stands for the session's setup and all fragments that it heard.
+/// A place for one session. It stands for the session's setup and all fragments that it heard. `W` and `B` are those of
+/// its `Solver`.
 pub struct Slot<const W: usize, const B: usize> {
     state: Option<State<W, B>>,
 }

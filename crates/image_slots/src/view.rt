@@ -8,7 +8,7 @@ use crate::image::{firmware, is_for, is_image};
 /// What the bytes in a device's next slot are to it.
 #[derive(Clone, Copy, Debug, PartialEq, Eq)]
 pub enum ImageState {
-    /// Nothing was offered.
+    /// There is none: nothing was offered since the start, or since it ran or was deleted.
     None,
     /// No image file.
     Corrupt,

@@ -13,7 +13,7 @@ pub enum FrameFault {
     Address,
     /// The port is 0.
     Port,
-    /// The count isn't below the group's highest.
+    /// The count, that of the 65,536 from `min` on with such low two bytes, isn't below `max`.
     Count,
     /// The MIC is another.
     Mic,

@@ -16,7 +16,7 @@ pub const MAX_FRAME: usize = 255;
 /// The bytes of a frame. They lie in the value itself.
 pub type Frame = ArrayVec<u8, MAX_FRAME>;
 
-/// The most bytes that have a MIC, behind their first block.
+/// The most bytes that a MIC is made of: the first block of 16, and 251 of a frame.
 const MAX_AUTHENTICATED: usize = 267;
 
 /// The frame of a payload for an address, with FCtrl 00. The port is no MAC command's, which would be 0.

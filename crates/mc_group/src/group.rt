@@ -2,8 +2,8 @@
 
 use mc_keys::Key;
 
-/// A multicast group (TS005-1.0.0, McGroupSetupReq).
-#[derive(Clone, Copy, Debug, Default, PartialEq, Eq)]
+/// A multicast group (TS005-1.0.0, McGroupSetupReq). It has no text, so that its key comes into no log.
+#[derive(Clone, Copy, Default, PartialEq, Eq)]
 pub struct Group {
     /// McAddr.
     pub addr: u32,

@@ -28,8 +28,8 @@ pub enum GroupEnd {
     Undefined,
 }
 
-/// The groups of a device. Contracts see the list of places, one for each id that is configured.
-#[derive(Debug, Drop)]
+/// The groups of a device. Contracts see the list of places, one for each id that is configured. It has no text, as a group.
+#[derive(Drop)]
 pub struct GroupTable {
     places: ArrayVec<Option<Group>, MAX_GROUPS>,
 }

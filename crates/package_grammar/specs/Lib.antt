@@ -3,6 +3,5 @@ pub mod Reading
 pub mod Texts
 pub mod HeldMessage
 pub mod MessageInside
-pub mod Words
 pub mod WorkedTexts
 pub mod WorkedPayloads

@@ -1,4 +1,5 @@
--- The texts of commands: a word for the command and one for each of its fields. (This project's profile.)
+-- The texts of commands: a word for the command and one for each of its fields, several error flags together as one.
+-- (This project's profile.)
 use Rattle.std.specs.Prelude.{ℕ, ◌+◌, Bool, List, [], ◌∷◌, ◌++◌, codes, Option, Some, None}
 use Rattle.std.specs.Int.{to_be_bytes, w32}
 use Rattle.std.specs.Fmt.{decimal, signed_decimal}

@@ -36,4 +36,4 @@ pub use laws::{
 pub use message::Message;
 pub use reading::read_one;
 pub use showing::show;
-pub use writing::{spell, spelled, spelled_fragment, write_one};
+pub use writing::{spell, spelled, write_one};

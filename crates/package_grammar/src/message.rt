@@ -113,8 +113,7 @@ impl<'a> Message<'a> {
         }
     }
 
-    /// Makes `text` the text of the next command, and takes it; false exactly where none is left. Where memory is wanting
-    /// it is not taken.
+    /// Makes `text` the text of the next command, and takes it; false exactly where none is left.
     #[inline(always)]
     pub(crate) fn text_next(&mut self, text: &mut String) -> Result<bool, AllocError>
         ensures shown { IfOk result

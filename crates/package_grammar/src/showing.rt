@@ -10,12 +10,13 @@ use crate::showing_parts::put_fragment;
 use crate::showing_sync::put_sync;
 use std::alloc::AllocError;
 
-/// The room that a text has at first, without the bytes of a fragment: enough but for a list of groups.
+/// The room that a text has at first: enough for each command but a DataFragment, whose bytes' digits make it grow.
 const TEXT_ROOM: usize = 120;
 
-/// Puts the text of a command at the end: its name, and a word for each field. Numbers are decimal, addresses and
-/// descriptors 8 hex digits with the most significant first, truth values 0 or 1; no line feed. Where memory is wanting
-/// nothing is put.
+/// Puts the text of a command at the end: its name, and a word for each field, several error flags together as one
+/// `bits=`. Numbers are decimal, addresses and descriptors 8 hex digits with the most significant first, keys and
+/// fragments two hex digits a byte in their order, groups `id:address` parted by commas, truth values 0 or 1, and what
+/// is absent is `-`; no line feed. Where memory is wanting nothing is put.
 pub fn show(command: &Command, out: &mut Vec<u8>) -> Result<(), AllocError>
     ensures shown { OnOk result (out.new.items ≡ out.old.items ++ text_of command.now) }
     ensures same { OnErr result (out.new.items ≡ out.old.items) }

@@ -312,7 +312,7 @@ pub fn put_class_b(
     put_session(timeout, freq, dr, text)
 }
 
-/// When a session begins, how long it lasts at most, and how it is heard.
+/// How long a session lasts at most, and how it is heard.
 fn put_session(timeout: u8, freq: u32, dr: u8, text: &mut String) -> Result<(), AllocError>
     ensures { OnOk result (string_bytes text.new
         ≡ string_bytes text.old ++ (codes " timeout=" ++ decimal timeout

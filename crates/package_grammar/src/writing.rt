@@ -2,11 +2,9 @@
 ghost use Rattle.std.specs.Prelude.{◌≡◌, []};
 ghost use Rattle.wire_base.specs.Payload.{Appends};
 ghost use Rattle.wire_base.specs.Rows.{IsListed};
-ghost use Rattle.cast_wire.specs.declared.cmd.Cmd.TheVariants.{DataFragment};
 ghost use Rattle.package_grammar.specs.Grammar.{row, IsValid, canonical};
 
 use crate::command::Command;
-use cast_wire::{Fragment, write_fragment};
 use wire_base::{Direction, Full, Payload};
 
 /// Puts the canonical spelling of a command at the end, whole or not at all. Port and direction are those in which the
@@ -42,18 +40,5 @@ pub fn spelled(port: u8, direction: Direction, command: &Command) -> Payload
 {
     let mut payload = Payload::new();
     spell(port, direction, command, &mut payload);
-    payload
-}
-
-/// A payload of one DataFragment in its canonical spelling. Its bytes are taken from where they lie.
-#[tactic(auto, using(crate::proofs::Written::fits))]
-pub fn spelled_fragment(fragment: &Fragment<'_>) -> Payload
-    requires { IsValid (Command.Cast
-        (DataFragment fragment.now.index fragment.now.n fragment.now.bytes.now)) }
-    ensures { result ≡ canonical (Command.Cast
-        (DataFragment fragment.now.index fragment.now.n fragment.now.bytes.now)) }
-{
-    let mut payload = Payload::new();
-    let _fits = write_fragment(fragment, &mut payload);
     payload
 }

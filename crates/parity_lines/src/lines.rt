@@ -19,7 +19,8 @@ pub fn prbs23(x: u32) -> u32
 }
 
 /// Draws the line of coded fragment `n` over `cols` columns (TS004-1.0.0), one step for each state drawn. `n` is 1 to
-/// 8,380 and `cols` 1 to 4,096. Column c is bit c % 64 of word c / 64; every other bit of `out` becomes 0.
+/// 8,380 and `cols` 1 to 4,096. `out` has a bit for each column at least, (cols + 63) / 64 words. Column c is bit c %
+/// 64 of word c / 64; every other bit of `out` becomes 0.
 pub fn line<L: Ledger>(n: u16, cols: u16, out: &mut [u64], steps: &mut Steps<L>)
     requires first { 1 ≤ n }
     requires last { n ≤ MAX_PARITY_INDEX }

@@ -1,15 +1,12 @@
 //! Rows of one shape in storage that is taken once.
 
-ghost use Rattle.std.specs.Prelude.{◌≡◌, ◌≢◌, ℕ, ◌+◌, ◌*◌, ◌^◌, ◌<◌, ◌≤◌, ◌==◌, length, is_ok, IfOk, OnOk, OnErr, replicate, vec_capacity, MatchOption};
+ghost use Rattle.std.specs.Prelude.{◌≡◌, ◌^◌, ◌<◌, ◌≤◌, ◌==◌, length, is_ok, IfOk, OnOk, OnErr, replicate, vec_capacity};
 ghost use Rattle.std.specs.Int.{bit_at};
 ghost use Rattle.row_arena.specs.Limits.{max_bytes, max_width, max_words};
 ghost use Rattle.row_arena.specs.Rows.{Row, row_at, with_row, zero_row, row_sum, words_for, has_room, line_in};
 
-use crate::lines::{first_bit, has_bit};
-use crate::stretches::{
-    add_bytes, add_words, bytes_at, clear_bytes, clear_words, put_bytes, put_words, words_at,
-    xor_bytes_at, xor_words_at,
-};
+use crate::lines::has_bit;
+use crate::stretches::{add_bytes, add_words, bytes_at, put_bytes, put_words, words_at};
 use std::alloc::{AllocError, Global};
 use std::marker::Model;
 
@@ -94,20 +91,6 @@ impl<const WORDS: usize, const BYTES: usize> RowArena<WORDS, BYTES> {
         self.cols
     }
 
-    /// Adds row `from` to row `into`, bit by bit; they are two different rows. All others stay.
-    pub fn xor_row(&mut self, into: u16, from: u16)
-        requires into { into < length self.old.rows }
-        requires from { from < length self.old.rows }
-        requires apart { into ≢ from }
-        ensures { self.new
-            ≡ with_row self.old into (row_sum (row_at self.old into) (row_at self.old from)) }
-    {
-        let width = words_for(self.cols);
-        let cell = self.cell as usize;
-        xor_words_at(&mut self.words, into as usize, from as usize, width);
-        xor_bytes_at(&mut self.bytes, into as usize, from as usize, cell);
-    }
-
     /// Writes a line and bytes over row `r`. The line has as many words as a row, the lowest first, and no bit past the last
     /// column; there are as many bytes as a row has. All other rows stay.
     pub fn set_row(&mut self, r: u16, line: &[u64], part: &[u8])
@@ -135,17 +118,6 @@ impl<const WORDS: usize, const BYTES: usize> RowArena<WORDS, BYTES> {
         add_bytes(&mut self.bytes, r as usize, part);
     }
 
-    /// Makes the line and the bytes of row `r` zero. All other rows stay.
-    pub fn clear_row(&mut self, r: u16)
-        requires inside { r < length self.old.rows }
-        ensures { self.new ≡ with_row self.old r (zero_row self.old.cell) }
-    {
-        let width = words_for(self.cols);
-        let cell = self.cell as usize;
-        clear_words(&mut self.words, r as usize, width);
-        clear_bytes(&mut self.bytes, r as usize, cell);
-    }
-
     /// The words of row `r`, the lowest first.
     pub fn words(&self, r: u16) -> &[u64]
         requires { r < length self.now.rows }
@@ -166,19 +138,6 @@ impl<const WORDS: usize, const BYTES: usize> RowArena<WORDS, BYTES> {
     {
         let cell = self.cell as usize;
         bytes_at(&self.bytes, r as usize, cell)
-    }
-
-    /// The first column of row `r`: `None` exactly where its line is zero.
-    pub fn first_set(&self, r: u16) -> Option<u16>
-        requires { r < length self.now.rows }
-        ensures { MatchOption result ((row_at self.now r).line ≡ 0)
-            (λ p. (p < self.now.cols) × (bit_at (row_at self.now r).line p ≡ 1)
-            × ((c : ℕ) → c < p → bit_at (row_at self.now r).line c ≡ 0)) }
-    {
-        match first_bit(self.words(r)) {
-            Some(p) => Some(p as u16),
-            None => None,
-        }
     }
 
     /// Whether row `r` has column `c`, which is below the number of columns.

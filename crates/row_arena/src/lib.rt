@@ -6,8 +6,8 @@
 //!     let mut arena: RowArena<64, 768> = RowArena::reserve(alloc)?;
 //!     arena.shape(16, 256, 48)?;                // 16 rows of 256 columns and 48 bytes, all zero
 //!     arena.set_row(0, &line, part);
-//!     arena.xor_row(0, 1);                      // row 1 is added to row 0
-//!     let lead = arena.first_set(0);
+//!     arena.add_to_row(0, &other, rest);        // another line and its bytes are added to row 0
+//!     let lead = first_bit(arena.words(0));
 #![tactic(auto)]
 
 mod arena;

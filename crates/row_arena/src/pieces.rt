@@ -6,7 +6,8 @@ ghost use Rattle.row_arena.specs.Sums.{AreInside, IsSum, SumsFrom};
 use crate::lanes::xor_bytes;
 use std::simd::prelude::*;
 
-/// Writes over `rest`, which is as long, the sum of `part` and the picked pieces.
+/// Writes over `rest`, which is as long, the sum of `part` and the picked pieces. Piece k lies in `area` from k times
+/// the length of `part` on, and is as long.
 pub fn sum_pieces(area: &[u8], picks: &[u16], part: &[u8], rest: &mut [u8])
     requires sized { length rest.old ≡ length part.now }
     requires picks { AreInside picks.now (length part.now) area.now }

@@ -27,12 +27,13 @@ pub const MAX_FRAG_SIZE: usize = 239;
 #[derive(Clone, Copy, Debug, PartialEq, Eq)]
 pub struct Memory;
 
-/// The storage or the area is too small.
+/// The storage or the area is too small, or the file has more pieces than there is memory for.
 #[derive(Clone, Copy, Debug, PartialEq, Eq)]
 pub struct NoRoom;
 
-/// Recovers one file at a time from fragments, in storage that is taken once: `W` words of 64 coefficients and `B` bytes for
-/// rows, and an area for the pieces. A contract sees what it holds of each column.
+/// Recovers one file at a time from fragments, in storage that is taken once: `W` words of 64 coefficients (at most
+/// 16,384) and `B` bytes (at most 61,184) for rows, and an area for the pieces. A contract sees what it holds of each
+/// column.
 #[derive(Drop)]
 pub struct Solver<const W: usize, const B: usize> {
     /// In a box, so that a solver moves as one word.

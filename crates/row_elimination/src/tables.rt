@@ -122,13 +122,6 @@ impl<const W: usize, const B: usize> Table<W, B> {
         self.nb_frag
     }
 
-    /// How many bytes a piece has.
-    pub fn frag_size(&self) -> u8
-        ensures { result ≡ self.now.shape.frag_size }
-    {
-        self.frag_size
-    }
-
     /// How many pieces are still to be gained.
     pub fn missing(&self) -> u16
         ensures { result ≡ self.now.shape.nb_frag - gained_held self.now.places }

@@ -36,7 +36,7 @@ pub struct Idles {
 pub struct Layout {
     /// Bytes of the file area of a session in memory.
     pub area: u32,
-    /// Bytes of flash of a session, from 24,640 on.
+    /// Bytes of flash of a session that is held: 24,640 at least, and four times it within the flash.
     pub span: u32,
     pub limits: Limits,
 }
@@ -50,8 +50,8 @@ struct Others {
     layout: Layout,
 }
 
-/// A session, or a place for one, at each index. Contracts see what each holds in memory, for which sessions it stands, and what
-/// lies in the flash.
+/// A session, or a place for one, at each index, 0 to 3. Contracts see what each holds in memory, for which sessions it
+/// stands, and what lies in the flash.
 #[derive(Drop)]
 pub struct HeldSlots {
     first: Held<ROW_WORDS, ROW_BYTES>,

@@ -43,8 +43,8 @@ pub enum State {
     Down(Idles, Whole),
 }
 
-/// The four sessions of a device, and the flash that they lie in, if they do. Contracts see where they are, and for which
-/// sessions they stand; what is down stands for none.
+/// The four sessions of a device, by their index, 0 to 3, and the flash that they lie in, if they do. Contracts see
+/// where they are, and for which sessions they stand; what is down stands for none.
 #[derive(Drop)]
 pub struct SessionStore<F: Flash + Drop> {
     flash: F,
@@ -71,7 +71,8 @@ impl<F: Flash + Drop> Model for SessionStore<F> {
 }
 
 impl<F: Flash + Drop> SessionStore<F> {
-    /// In memory alone, and no flash is called; or down over a flash, in ranges that lie within it.
+    /// Where `held` is false in memory alone, and no flash is called; else down over the flash, in four ranges that lie
+    /// within it, until `power`. Memory comes where memory is wanting, and the flash is dropped then.
     pub fn reserve(alloc: Global, flash: F, layout: Layout, held: bool) -> Result<Self, Memory>
         requires { held ≡ true → HasRanges layout (F.room flash) }
         ensures memory { held ≡ false → IfOk result (λ s. StateStands s.state no_sessions) }

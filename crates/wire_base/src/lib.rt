@@ -14,7 +14,7 @@ mod numbers;
 mod payload;
 mod refusal;
 
-pub use laws::{number_put_is_number_read, worked_numbers};
+pub use laws::{number_put_is_number_read, row_lies_before_more, row_written_lies, worked_numbers};
 pub use numbers::{flag_value, u8_at, u16_at, u24_at, u32_at};
 pub use payload::{Full, MAX_PAYLOAD, Payload};
 pub use refusal::{Direction, Refusal, Why};

@@ -89,7 +89,7 @@ impl Payload {
         Payload::from_slice(self.as_slice())
     }
 
-    /// Puts the bytes behind those that are there.
+    /// Puts the bytes behind those that are there; where they don't fit in what is left of the 242 nothing changes.
     pub fn append(&mut self, bytes: &[u8]) -> Result<(), Full>
         ensures { Appends self.old self.new bytes.now result }
     {

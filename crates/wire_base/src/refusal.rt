@@ -30,6 +30,7 @@ pub enum Why {
 /// A payload is refused at a place, counted in bytes from 0.
 #[derive(Clone, Copy, Debug, PartialEq, Eq)]
 pub struct Refusal {
+    /// 0 at `Port`, 242 at `TooLong`, the identifier's place at `UnknownCommand`, and the payload's length at `Short`.
     pub at: u16,
     pub why: Why,
 }

@@ -17,8 +17,9 @@ use crate::storing::{store, tally};
 use frag_session::{Heard, Idle, News, Via};
 
 impl<const W: usize, const B: usize> Held<W, B> {
-    /// Hears the data of a fragment, or drops it, as a slot does. At Ok it is acknowledged: what is new lies in the flash as a
-    /// record, and what is not is counted there. At Err the memory is handed back: open the session again.
+    /// Hears the data of a fragment, or drops it, as a slot does. At Ok it is acknowledged: what is new lies in the
+    /// flash as a record, and what is not is counted there, up to the count's end (16,383). At Err the memory is handed
+    /// back: open the session again.
     pub fn hear<F: Flash>(
         self,
         flash: &mut F,

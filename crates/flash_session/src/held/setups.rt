@@ -19,10 +19,10 @@ use crate::flash::Flash;
 use frag_session::{Idle, SetupReq};
 
 impl<const W: usize, const B: usize> Held<W, B> {
-    /// Answers FragSessionSetupReq (TS004-1.0.0) with all refusal bits, as a slot does; bit 1 is set too where the range is
+    /// Answers FragSessionSetupReq (TS004-1.0.0) with all refusal bits, as a slot does; 2 is set too where the range is
     /// too short for the session's records. A refused setup and an equal one make no flash call; any other closes the
-    /// header's gate, clears all others and writes the setup, and opens the header's gate, each step synced. At Err the memory
-    /// is handed back: open the session again.
+    /// header's gate where a session lives, clears all other gates and writes the setup, and opens the header's gate,
+    /// each step synced. At Err the memory is handed back: open the session again.
     pub fn setup<F: Flash>(
         self,
         flash: &mut F,
