@@ -1,4 +1,5 @@
-// The words of the command line: what they ask for, as clap takes them.
+//! The words of the command line: what they ask for, as clap takes them.
+
 ghost use Rattle.std.specs.Prelude.{◌≡◌, ◌≢◌, ◌≤◌, List, [], ◌∷◌, ℕ, Option, None, Some, option_map, option_and_then, length, map, slice_get, string_bytes, IfOk, IfSome, codes};
 ghost use Rattle.clap.specs.declared.error.kind.ErrorKind.TheVariants as kind;
 ghost use Rattle.clap.specs.Words.{App, Row, Text, app_of, kind_of, first_of, first_value, found_of, new_app, rows_of, subcommand_rows_of, with_rule, with_subcommand};

@@ -1,3 +1,5 @@
+//! Scripts of two campaigns, by their reports.
+
 use image_slots::is_image;
 use pair_run::Pair;
 use report_lines::{LineError, LineFault, LineWhy};

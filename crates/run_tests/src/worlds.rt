@@ -1,3 +1,5 @@
+//! Scripts of one campaign, by their reports and what their worlds hold, and devices without one.
+
 use campaign_world::World;
 use device_core::{Class, Delivered, Device, DeviceConfig, MAX_AREA};
 use flash_session::CellFlash;
