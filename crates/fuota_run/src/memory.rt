@@ -13,7 +13,7 @@ use std::io::Read;
 use std::marker::Model;
 
 /// Calls counted from 1, and the numbers of those that fail.
-#[derive(Debug, Drop)]
+#[derive(Drop)]
 struct Schedule {
     fails: Vec<u64>,
     calls: u64,

@@ -10,7 +10,7 @@ use std::io::Read;
 use std::marker::Model;
 
 /// How many calls failed; stops at the type's end.
-#[derive(Debug, Drop)]
+#[derive(Drop)]
 struct FaultCount {
     faults: u64,
 }

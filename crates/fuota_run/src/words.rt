@@ -12,7 +12,7 @@ use std::alloc::{AllocError, Global};
 use wire_base::Direction;
 
 /// What the words ask for.
-#[derive(Clone, Copy, Debug)]
+#[derive(Clone, Copy)]
 pub enum Invocation<'a> {
     /// A form over a campaign: what is told of it.
     Script {
@@ -38,7 +38,7 @@ pub enum Invocation<'a> {
 }
 
 /// What is told of a campaign.
-#[derive(Clone, Copy, Debug)]
+#[derive(Clone, Copy)]
 pub enum ScriptForm {
     /// `campaign IMAGE SCRIPT`: its report.
     Campaign,
@@ -47,7 +47,7 @@ pub enum ScriptForm {
 }
 
 /// What is told of a file of payloads.
-#[derive(Clone, Copy, Debug)]
+#[derive(Clone, Copy)]
 pub enum FileForm {
     /// `replay FILE`: where a device stands that hears them.
     Replay,
