@@ -158,7 +158,13 @@ static int server_answers(const uint8_t *image, size_t length) {
     SO(fuota_server_new(&server, &plan, zeros, 47, image, length, &field) == FUOTA_RANGE);
     SO(field == FUOTA_FIELD_FRAG_SIZE);
     plan.frag_size = 13;
+    plan.parity = 513;
+    plan.index = 4;
     plan.has_group = true;
+    SO(fuota_server_new(&server, &plan, zeros, 47, image, length, &field) == FUOTA_RANGE && field == FUOTA_FIELD_PARITY);
+    plan.parity = 1;
+    SO(fuota_server_new(&server, &plan, zeros, 47, image, length, &field) == FUOTA_RANGE && field == FUOTA_FIELD_INDEX);
+    plan.index = 0;
     SO(fuota_server_new(&server, &plan, zeros, 47, image, length, &field) == FUOTA_RANGE && field == FUOTA_FIELD_GROUP);
     plan.max = 3;
     SO(fuota_server_new(&server, &plan, zeros, 47, image, length, &field) == FUOTA_RANGE);

@@ -35,7 +35,7 @@ enum fuota_answer {
     FUOTA_NOTHING = 1,   /* there is nothing to tell, to take or to send */
     FUOTA_NO_OBJECT = 2, /* the handle has no receiver, device or server */
     FUOTA_RANGE = 3,     /* an argument is out of its range; nothing changed */
-    FUOTA_NO_ROOM = 4,   /* the bytes have no room; nothing was written */
+    FUOTA_NO_ROOM = 4,   /* the text has no room; its length alone was written */
     FUOTA_NO_MEMORY = 5, /* there was not enough memory */
     FUOTA_REFUSED = 6,   /* the payload spells no commands, or the image is no image file; nothing acted */
     FUOTA_DEAF = 7,      /* the device did not hear the payload */
@@ -76,7 +76,8 @@ typedef struct fuota_receiver {
 typedef struct fuota_setup {
     uint32_t descriptor; /* any */
     uint16_t nb_frag;    /* pieces, 1 to 256 */
-    uint8_t frag_size;   /* bytes of a piece, 1 to 239; nb_frag pieces have at most 12,288 bytes */
+    uint8_t frag_size;   /* bytes of a piece, 1 to 48; where there are fewer than 16 pieces up to 239, as long as all of
+                          * them together have at most 768 */
     uint8_t index;       /* 0 */
     uint8_t mask;        /* multicast groups that feed the session: bit 0 to 3 */
     uint8_t algo;        /* 0 */
@@ -157,12 +158,15 @@ uint8_t fuota_device_new(fuota_device *handle, const fuota_config *config);
 void fuota_device_free(fuota_device *handle);
 
 /* A payload comes: FUOTA_DONE, where its commands acted; FUOTA_DEAF, FUOTA_REFUSED, FUOTA_FULL, where they did not,
- * which is counted; FUOTA_RANGE at more than 242 bytes, and at a `t` out of range; FUOTA_NO_OBJECT. */
+ * which is counted; FUOTA_RANGE at more than 242 bytes, and at a `t` out of range; FUOTA_NO_OBJECT. A reboot that is
+ * due at `t` is carried out before the payload and behind it, also where its commands do not act, but not at
+ * FUOTA_RANGE. */
 uint8_t fuota_device_deliver(fuota_device *handle, uint8_t port, const uint8_t *payload, size_t length,
                              const fuota_arrival *arrival);
 
 /* The device wakes at `t` ms of true time and asks for the time: FUOTA_DONE; FUOTA_FULL where it holds 8 uplinks;
- * FUOTA_RANGE at a `t` out of range; FUOTA_NO_OBJECT. */
+ * FUOTA_RANGE at a `t` out of range; FUOTA_NO_OBJECT. A reboot that is due at `t` is carried out before and behind, but
+ * not at FUOTA_RANGE. */
 uint8_t fuota_device_wake(fuota_device *handle, uint64_t t);
 
 /* Takes the oldest uplink that is held: FUOTA_DONE; FUOTA_NOTHING where none is; FUOTA_NO_OBJECT. */
@@ -176,7 +180,8 @@ uint8_t fuota_device_view(fuota_device *handle, uint8_t index, fuota_view *out);
  * their count, 0 also at another index and without a device. */
 size_t fuota_device_file(fuota_device *handle, uint8_t index, size_t offset, uint8_t *into, size_t room);
 
-/* The version of the firmware that runs, 0 at first: FUOTA_DONE; FUOTA_NO_OBJECT. */
+/* The version of the firmware that runs, 0 at first, and another behind a reboot (deliver, wake) into a received image:
+ * FUOTA_DONE; FUOTA_NO_OBJECT. */
 uint8_t fuota_device_running(fuota_device *handle, uint32_t *version);
 
 /* ---- The server of a campaign ---- */
@@ -190,7 +195,8 @@ typedef struct fuota_server {
 /* What a server is to do, but for its devices. */
 typedef struct fuota_plan {
     uint32_t addr;       /* McAddr, where has_group */
-    uint32_t min, max;   /* the first frame count that is used, and the first that isn't any more */
+    uint32_t min, max;   /* the first frame count that is used, and the first that isn't any more, above it; where
+                          * has_group */
     uint32_t start;      /* SessionTime, where has_window, which goes with a group */
     uint32_t freq;       /* DLFrequ, in units of 100 Hz, below 2^24 */
     uint16_t parity;     /* coded fragments, 0 to 512 */
@@ -205,7 +211,8 @@ typedef struct fuota_plan {
     uint8_t key[16];     /* McKey */
 } fuota_plan;
 
-/* A field of a plan that is wrong. */
+/* A field of a plan that is wrong. They are looked at in this order: frag_size, parity, index, the group, the window,
+ * the devices. */
 enum fuota_field {
     FUOTA_FIELD_FRAG_SIZE = 1,
     FUOTA_FIELD_PARITY = 2,
@@ -251,8 +258,8 @@ typedef struct fuota_stage {
 
 /* Frees what was there, and puts a server at the start of a campaign into the handle: FUOTA_DONE. There is no server
  * behind FUOTA_REFUSED, where the image is no image file; FUOTA_RANGE, where a field of the plan is wrong, with the
- * first of them in *field; and FUOTA_NO_MEMORY. `keys` has the GenAppKeys of the 1 to 64 devices in turn, 16 bytes
- * each; a rest of fewer is left out. */
+ * first of them, as enum fuota_field says, in *field; and FUOTA_NO_MEMORY. `keys` has the GenAppKeys of the 1 to 64
+ * devices in turn, 16 bytes each; a rest of fewer is left out. */
 uint8_t fuota_server_new(fuota_server *handle, const fuota_plan *plan, const uint8_t *keys, size_t keys_length,
                          const uint8_t *image, size_t image_length, uint8_t *field);
 

@@ -8,7 +8,7 @@ pub const NOTHING: u8 = 1;
 pub const NO_OBJECT: u8 = 2;
 /// An argument is out of its range; nothing changed.
 pub const RANGE: u8 = 3;
-/// The bytes have no room; nothing changed.
+/// The text has no room; its length alone was written.
 pub const NO_ROOM: u8 = 4;
 /// There was not enough memory.
 pub const NO_MEMORY: u8 = 5;

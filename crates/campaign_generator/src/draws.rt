@@ -4,7 +4,7 @@ ghost use Rattle.std.specs.Prelude.{◌≡◌, ◌<◌};
 ghost use Rattle.campaign_generator.specs.Draws.{stepped, drawn};
 
 /// The state that the next draw starts from.
-#[derive(Debug, Drop)]
+#[derive(Drop)]
 pub struct Draws {
     pub state: u32,
 }

@@ -9,7 +9,7 @@ use super::{image, script};
 use std::alloc::{AllocError, Global};
 
 /// An image file, and the script of a campaign that sends it.
-#[derive(Debug, Drop)]
+#[derive(Drop)]
 pub struct Generated {
     /// The image file: 4,145 to 8,240 bytes.
     pub image: Vec<u8>,

@@ -4,8 +4,8 @@ ghost use Rattle.campaign_laws.specs.OnceInWorld.{MovesOnceIn};
 
 use campaign_world::World;
 
-/// Each uplink of a campaign whose lines before it are honest moves a stage once: the one with this number, whichever it is, is of
-/// one command, and once it has moved a stage it moves none, whatever lines come between.
+/// Each uplink of a campaign whose lines before it are honest moves a stage once: the one with this number, which is of
+/// one command (`World::uplink`), moves none once it has moved one, whatever lines come between.
 pub fn each_uplink_moves_once(world: &World, number: u64)
     ensures { MovesOnceIn world.now number }
 {

@@ -180,7 +180,7 @@ abbrev pub is_answered : {E : Type 0} → Result Bool E → Bool
 is_answered (Ok answered) = answered
 is_answered (Err refusal) = false
 
--- what was tested of a form before it is carried out, but for whether it may come
+-- of what was tested of a form before it is carried out, what its call asks for
 pub record IsTested (held : HeldCampaign) (form : Form) : Type 0 where
   pub ranges : in_range form ≡ true
   pub fits : fits_script (length held.server.image) (length held.devices) form ≡ true

@@ -1,4 +1,5 @@
-//! What reaches a device, and the uplinks that are then taken of it.
+//! What reaches a device or wakes it, and the uplinks that are then taken of it; that it knows both image formats from
+//! then on; and its power, as it comes first and anew.
 
 ghost use Rattle.std.specs.Prelude.{◌≡◌, ℕ, ◌≤◌, ◌+◌, List, length, replicate};
 ghost use Rattle.device_core.specs.Device.{DeviceState, first_device, max_moment, outbox_size};

@@ -1,4 +1,5 @@
-//! Events at devices: a payload or bytes of the air that reach one, and one that wakes. Its uplinks are then taken.
+//! Events at devices: a payload or bytes of the air that reach one, and one that wakes, whose uplinks are then taken;
+//! one that knows both image formats from then on, and one whose power comes anew.
 
 ghost use Rattle.std.specs.Prelude.{◌≡◌, ◌≤◌, List, length, OnOk, OnErr};
 ghost use Rattle.device_core.specs.Device.{DeviceState, max_moment};

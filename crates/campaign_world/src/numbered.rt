@@ -9,6 +9,7 @@ use crate::lent::{LentDownlink, LentUplink};
 /// A payload that the server sent, to one device or to any.
 #[derive(Drop)]
 pub struct SentPayload<'a> {
+    /// The device that it is for, by its ID; None for any.
     pub receiver: Option<u8>,
     pub down: LentDownlink<'a>,
 }

@@ -13,7 +13,7 @@ use flash_session::CellFlash;
 use frag_session::{Verdict, View};
 
 /// Why a device has no file.
-#[derive(Clone, Copy, Debug, PartialEq, Eq)]
+#[derive(Clone, Copy)]
 pub enum NoFile {
     /// There is no such device, or it has no session.
     None,

@@ -1,7 +1,7 @@
 //! The sections of a script.
 
 /// What may come next in a script.
-#[derive(Clone, Copy, Debug, PartialEq, Eq)]
+#[derive(Clone, Copy)]
 pub enum Section {
     /// The header.
     Header,

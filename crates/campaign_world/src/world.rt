@@ -200,7 +200,8 @@ impl World {
         }
     }
 
-    /// The file that the session of a device recovered, or why there is none.
+    /// The file that session 0 of a device, numbered from 1, recovered so far, or why there is none; `ended` says
+    /// whether the script is whole.
     pub fn recovered(&self, device: u8) -> Result<&[u8], NoFile>
         ensures file { (world : WorldState) → WorldStands self.now world
             → IfOk result (λ file. recovery world device ≡ Ok file.now) }

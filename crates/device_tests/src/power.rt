@@ -2,6 +2,7 @@
 
 ghost use Rattle.std.specs.Prelude.{◌≤◌};
 
+use crate::common::IMAGE;
 use device_core::{Class, Delivered, Device, DeviceConfig};
 use flash_session::{MemFlash, StopFlash};
 use frag_session::Verdict;
@@ -12,14 +13,6 @@ use std::alloc::Global;
 use std::process::Abort;
 use std::test::*;
 use wire_base::Payload;
-
-/// An image file for hardware 1 with firmware 2, its body and digest those of the text abc, in two pieces of 26 bytes.
-static IMAGE: [u8; 52] = [
-    0x46, 0x55, 0x49, 0x4d, 0x01, 0x01, 0x00, 0x00, 0x00, 0x02, 0x00, 0x00, 0x00, 0x03, 0x00, 0x00,
-    0x00, 0xba, 0x78, 0x16, 0xbf, 0x8f, 0x01, 0xcf, 0xea, 0x41, 0x41, 0x40, 0xde, 0x5d, 0xae, 0x22,
-    0x23, 0xb0, 0x03, 0x61, 0xa3, 0x96, 0x17, 0x7a, 0x9c, 0xb4, 0x10, 0xff, 0x61, 0xf2, 0x00, 0x15,
-    0xad, 0x61, 0x62, 0x63,
-];
 
 /// Room for the records of five fragments.
 const SPAN: u32 = 24_640 + 5 * 36;
@@ -46,8 +39,9 @@ const CONFIG: DeviceConfig = DeviceConfig {
     span: SPAN,
 };
 
-/// The payloads of the update on port 201: a status request with a setup of session 0 behind it, piece 1 twice, a setup
-/// of session 3, piece 2, and the end of session 3 with a status request behind it.
+/// The payloads of the update on port 201, which has `IMAGE` in two pieces of 26 bytes: a status request with a setup of
+/// session 0 behind it, piece 1 twice, a setup of session 3, piece 2, and the end of session 3 with a status request behind
+/// it.
 static PAYLOADS: [&[u8]; 6] = [
     &[0x01, 0x01, 0x02, 0x00, 2, 0, 26, 0x00, 0, 0, 0, 0, 0],
     &[

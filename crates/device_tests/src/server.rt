@@ -2,11 +2,12 @@
 
 ghost use Rattle.std.specs.Prelude.{◌≡◌, length};
 
+use crate::common::{CONFIG, IMAGE, no_flash};
 use campaign_server::{
     Field, Kind, NothingLeft, Plan, PlanDevice, PlanGroup, PlanWindow, Request, Server,
     ServerError, Stage,
 };
-use device_core::{Aired, Class, Delivered, Device, DeviceConfig, MAX_AREA};
+use device_core::{Aired, Delivered, Device, DeviceConfig};
 use flash_session::CellFlash;
 use image_slots::is_image;
 use mc_keys::RootKind;
@@ -28,36 +29,12 @@ static FRAMES: [&[u8]; 2] = [
     ],
 ];
 
-/// An image file for hardware 1 with firmware 2, its body and digest those of the text abc.
-static IMAGE: [u8; 52] = [
-    0x46, 0x55, 0x49, 0x4d, 0x01, 0x01, 0x00, 0x00, 0x00, 0x02, 0x00, 0x00, 0x00, 0x03, 0x00, 0x00,
-    0x00, 0xba, 0x78, 0x16, 0xbf, 0x8f, 0x01, 0xcf, 0xea, 0x41, 0x41, 0x40, 0xde, 0x5d, 0xae, 0x22,
-    0x23, 0xb0, 0x03, 0x61, 0xa3, 0x96, 0x17, 0x7a, 0x9c, 0xb4, 0x10, 0xff, 0x61, 0xf2, 0x00, 0x15,
-    0xad, 0x61, 0x62, 0x63,
-];
-
 const GROUP: PlanGroup = PlanGroup {
     id: 0,
     addr: 0x1122_3344,
     key: [0; 16],
     min: 0,
     max: 10,
-};
-
-const CONFIG: DeviceConfig = DeviceConfig {
-    class: Class::C,
-    hw: 1,
-    formats: 2,
-    rows: 4,
-    offset: 0,
-    key: [0; 16],
-    root: RootKind::V10,
-    descriptor: None,
-    sessions: 4,
-    groups: 4,
-    area: MAX_AREA,
-    held: false,
-    span: 0,
 };
 
 const WINDOW: PlanWindow = PlanWindow {
@@ -117,36 +94,39 @@ const LOUD: PlanWindow = PlanWindow {
     ..WINDOW
 };
 
-/// Piece size, coded fragments, group, window, number of devices, and the first of these that is wrong.
+/// Piece size, coded fragments, index, group, window, number of devices, and the first of these that is wrong.
 type Planned = (
     u8,
     u16,
+    u8,
     Option<PlanGroup>,
     Option<PlanWindow>,
     usize,
     Option<Field>,
 );
 
-static PLANS: [Planned; 12] = [
-    (13, 4, None, None, 1, None),
-    (13, 512, Some(GROUP), Some(WINDOW), 64, None),
-    (0, 513, Some(LATE), None, 0, Some(Field::FragSize)),
-    (240, 4, None, None, 1, Some(Field::FragSize)),
-    (13, 513, Some(LATE), None, 0, Some(Field::Parity)),
-    (13, 4, Some(LATE), None, 0, Some(Field::Group)),
-    (13, 4, Some(GROUP), None, 0, Some(Field::Window)),
-    (13, 4, None, Some(WINDOW), 1, Some(Field::Window)),
-    (13, 4, Some(GROUP), Some(LOUD), 1, Some(Field::Window)),
-    (13, 4, None, None, 0, Some(Field::Devices)),
-    (13, 4, None, None, 65, Some(Field::Devices)),
-    (13, 4, Some(GROUP), Some(WINDOW), 1, None),
+static PLANS: [Planned; 14] = [
+    (13, 4, 0, None, None, 1, None),
+    (13, 512, 0, Some(GROUP), Some(WINDOW), 64, None),
+    (0, 513, 0, Some(LATE), None, 0, Some(Field::FragSize)),
+    (240, 4, 0, None, None, 1, Some(Field::FragSize)),
+    (13, 513, 4, Some(LATE), None, 0, Some(Field::Parity)),
+    (13, 4, 4, Some(LATE), None, 0, Some(Field::Index)),
+    (13, 4, 0, Some(LATE), None, 0, Some(Field::Group)),
+    (13, 4, 0, Some(GROUP), None, 0, Some(Field::Window)),
+    (13, 4, 0, None, Some(WINDOW), 1, Some(Field::Window)),
+    (13, 4, 0, Some(GROUP), Some(LOUD), 1, Some(Field::Window)),
+    (13, 4, 0, None, None, 0, Some(Field::Devices)),
+    (13, 4, 0, None, None, 65, Some(Field::Devices)),
+    (13, 4, 0, Some(GROUP), Some(WINDOW), 1, None),
+    (13, 4, 3, None, None, 1, None),
 ];
 
 /// Plans for the image of 52 bytes, and the first field of each that is wrong.
 #[test]
 fn the_first_wrong_field_is_named(rt: HostRuntime) {
-    for (frag_size, parity, group, window, count, wrong) in &PLANS {
-        let plan = plan(
+    for (frag_size, parity, index, group, window, count, wrong) in &PLANS {
+        let mut plan = plan(
             &rt,
             rt.alloc(),
             *frag_size,
@@ -155,6 +135,7 @@ fn the_first_wrong_field_is_named(rt: HostRuntime) {
             *window,
             *count,
         );
+        plan.index = *index;
         is_wrong(&rt, rt.alloc(), plan, *wrong);
     }
 }
@@ -610,16 +591,9 @@ fn counts_of_a_group_end_with_its_fragments(rt: HostRuntime) {
     drop(even);
 }
 
-/// A device whose sessions are in memory alone needs no flash.
-fn no_flash(rt: &impl Abort, alloc: Global) -> CellFlash {
-    match CellFlash::reserve(alloc, 0) {
-        Ok(flash) => flash,
-        Err(_) => panic!(rt; "no flash"),
-    }
-}
-
 fn device(rt: &impl Abort, alloc: Global) -> Device<CellFlash> {
-    match Device::reserve(alloc, CONFIG, no_flash(rt, alloc)) {
+    let config = DeviceConfig { rows: 4, ..CONFIG };
+    match Device::reserve(alloc, config, no_flash(rt, alloc)) {
         Ok(device) => device,
         Err(_) => panic!(rt; "no device"),
     }

@@ -24,7 +24,7 @@ HasRisen before now = min (before + 1) (2 ^ 64 - 1) ≤ now
 abbrev pub HasCause : {T E : Type 0} → ℕ → ℕ → Result T E → Type 0
 HasCause before now r = OnErr r (HasRisen before now) × (before ≤ now) × OnOk r (now ≡ before)
 
--- what a call of `read` does to the bytes that are left: it consumes those that it gives, and gives none exactly at the end
+-- a call of `read` gives at most as many bytes as the buffer has
 abbrev pub AtMost : {E : Type 0} → Result ℕ E → ℕ → Type 0
 AtMost r room = MatchResult r (λ n. n ≤ room) (λ _. ⊤)
 

@@ -1,4 +1,5 @@
-// Where files come from: a name is chosen, and its bytes are read piece by piece.
+//! Where files come from: a name is chosen, and its bytes are read piece by piece.
+
 ghost use Rattle.std.specs.Prelude.{◌≡◌, ◌≤◌, Bool, true, List, ℕ, Option, length, is_ok, OnOk};
 ghost use Rattle.std.specs.Io.KnownBytes.{ReadConsumes};
 ghost use Rattle.fuota_run.specs.Outside.{Held, HoldsName, IsWhole, HasCause, AtMost};

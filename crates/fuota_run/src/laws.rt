@@ -7,7 +7,7 @@ ghost use Rattle.fuota_run.specs.Headline.{IsCaptureAnswered, IsRecoveryAnswered
 ghost use Rattle.fuota_run.specs.PairHeadline.{AreTwoCampaigns, IsPairAnswered};
 
 /// Whatever image and accepted script are handed in, the answer is the report of that campaign, of which the headline of
-/// `campaign_world` speaks.
+/// `campaign_laws` speaks.
 pub fn report_is_answered()
     ensures { IsReportAnswered }
 {}

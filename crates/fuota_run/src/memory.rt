@@ -1,4 +1,5 @@
-// Files and a sink in memory, with a list of the calls that fail.
+//! Files and a sink in memory, with a list of the calls that fail.
+
 ghost use Rattle.std.specs.Prelude.{◌≡◌, ◌≢◌, ℕ, ◌+◌, ◌-◌, ◌^◌, ◌≤◌, ◌<◌, ◌↔◌, ◌⊎◌, min, Bool, true, false, List, [], ◌++◌, length, take, drop, map, Option, Some, None, is_some, is_ok, IsTrue, IsErr, IfOk, OnOk, OnErr, IfSome, IfNone, Contains, slice_get, string_bytes, vec_len, vec_capacity};
 ghost use Rattle.std.specs.Bool.{OnTrue, OnFalse};
 ghost use Rattle.std.specs.Io.KnownBytes.{Keeps, ReadConsumes, WriteAppends};
@@ -12,7 +13,7 @@ use std::io::Read;
 use std::marker::Model;
 
 /// Calls counted from 1, and the numbers of those that fail.
-#[derive(Debug, Drop)]
+#[derive(Drop)]
 struct Schedule {
     fails: Vec<u64>,
     calls: u64,

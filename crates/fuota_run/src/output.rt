@@ -1,4 +1,5 @@
-// Writing a whole text.
+//! Writing a whole text.
+
 ghost use Rattle.std.specs.Prelude.{◌≡◌, ◌≤◌, ◌++◌, true, List, ℕ, OnOk, OnErr, take};
 ghost use Rattle.std.specs.Io.KnownBytes.{Appends};
 ghost use Rattle.fuota_run.specs.Outside.{HasRisen, AppendsFront};

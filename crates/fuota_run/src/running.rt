@@ -1,4 +1,5 @@
-// The whole program: words and files in, one text and a status out.
+//! The whole program: words and files in, one text and a status out.
+
 ghost use Rattle.std.specs.Prelude.{◌≡◌, ℕ, true, false, List, [], None, Some, map, string_bytes, IfOk};
 ghost use Rattle.std.specs.Io.KnownBytes.{Appends};
 ghost use Rattle.fuota_run.specs.Outside.{HoldsName};

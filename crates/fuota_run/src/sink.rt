@@ -1,4 +1,5 @@
-// Where the text goes: pieces are written one after another, and a `finish` hands them on.
+//! Where the text goes: pieces are written one after another, and a `finish` hands them on.
+
 ghost use Rattle.std.specs.Prelude.{◌≡◌, Bool, false, List, ℕ, Option, length, is_ok};
 ghost use Rattle.std.specs.Io.KnownBytes.{Keeps, WriteAppends};
 ghost use Rattle.fuota_run.specs.Outside.{HasCause, TakesSome};

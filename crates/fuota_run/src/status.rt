@@ -1,4 +1,5 @@
-// How a run of the program ended.
+//! How a run of the program ended.
+
 ghost use Rattle.std.specs.Prelude.{◌≡◌};
 
 /// How a run ended, and with it what was written.
@@ -10,7 +11,7 @@ pub enum Status {
     Usage,
     /// The image's bytes are no image file.
     ImageRefused,
-    /// A line of the script was refused.
+    /// A line of the script, or of the file of payloads, was refused.
     ScriptRefused,
     /// A file could not be chosen or read.
     ReadFault,

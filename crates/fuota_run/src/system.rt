@@ -1,4 +1,5 @@
-// The files and the standard output of the system. What they hold is not told; each failed call is counted.
+//! The files and the standard output of the system. What they hold is not told; each failed call is counted.
+
 ghost use Rattle.std.specs.Prelude.{◌≡◌, ◌-◌, ◌^◌, ◌≤◌, Bool, false, None};
 ghost use Rattle.fuota_run.specs.Outside.{HasRisen};
 
@@ -9,7 +10,7 @@ use std::io::Read;
 use std::marker::Model;
 
 /// How many calls failed; stops at the type's end.
-#[derive(Debug, Drop)]
+#[derive(Drop)]
 struct FaultCount {
     faults: u64,
 }

@@ -1,4 +1,5 @@
-// The words of the command line: what they ask for, as clap takes them.
+//! The words of the command line: what they ask for, as clap takes them.
+
 ghost use Rattle.std.specs.Prelude.{◌≡◌, ◌≢◌, ◌≤◌, List, [], ◌∷◌, ℕ, Option, None, Some, option_map, option_and_then, length, map, slice_get, string_bytes, IfOk, IfSome, codes};
 ghost use Rattle.clap.specs.declared.error.kind.ErrorKind.TheVariants as kind;
 ghost use Rattle.clap.specs.Words.{App, Row, Text, app_of, kind_of, first_of, first_value, found_of, new_app, rows_of, subcommand_rows_of, with_rule, with_subcommand};
@@ -11,7 +12,7 @@ use std::alloc::{AllocError, Global};
 use wire_base::Direction;
 
 /// What the words ask for.
-#[derive(Clone, Copy, Debug)]
+#[derive(Clone, Copy)]
 pub enum Invocation<'a> {
     /// A form over a campaign: what is told of it.
     Script {
@@ -37,7 +38,7 @@ pub enum Invocation<'a> {
 }
 
 /// What is told of a campaign.
-#[derive(Clone, Copy, Debug)]
+#[derive(Clone, Copy)]
 pub enum ScriptForm {
     /// `campaign IMAGE SCRIPT`: its report.
     Campaign,
@@ -46,7 +47,7 @@ pub enum ScriptForm {
 }
 
 /// What is told of a file of payloads.
-#[derive(Clone, Copy, Debug)]
+#[derive(Clone, Copy)]
 pub enum FileForm {
     /// `replay FILE`: where a device stands that hears them.
     Replay,

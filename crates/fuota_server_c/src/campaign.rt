@@ -79,7 +79,7 @@ impl Campaign {
         self.server.status_all()
     }
 
-    /// An uplink of a device comes on a port, at `t` ms of true time.
+    /// An uplink of a device comes on a port, at `t` ms of GPS time.
     pub fn uplink(
         &mut self,
         dev: u8,

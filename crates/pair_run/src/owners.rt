@@ -7,7 +7,7 @@ ghost use Rattle.pair_run.specs.Pair.{is_same};
 use script_lines::Campaign;
 
 /// The campaign of a device, and the number that it has there, counted from 1.
-#[derive(Clone, Copy, Debug, PartialEq, Eq)]
+#[derive(Clone, Copy)]
 pub struct Owner {
     pub campaign: Campaign,
     pub number: u64,

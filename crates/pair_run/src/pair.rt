@@ -193,7 +193,8 @@ impl Pair {
 
     /// Whether the line may come here.
     fn comes(&self, pair_form: &PairForm) -> bool
-        ensures { result ≡ pair_may_come self.now.a.section self.now.b.section pair_form.now.campaign
+        ensures { result
+            ≡ pair_may_come self.now.a.section self.now.b.section pair_form.now.campaign
             pair_form.now.form }
     {
         pair_may_come(

@@ -7,7 +7,7 @@ use crate::owners::{Owner, is_same, owner_of};
 use script_lines::{Campaign, Form, PairForm};
 
 /// How a payload reaches a device.
-#[derive(Clone, Copy, Debug, PartialEq, Eq)]
+#[derive(Clone, Copy)]
 pub enum Way {
     /// As it is: `down`.
     Downlink,
@@ -16,7 +16,7 @@ pub enum Way {
 }
 
 /// What a line says to which of two campaigns.
-#[derive(Debug, Drop)]
+#[derive(Drop)]
 pub enum Target<'a> {
     /// Its first line, to both.
     Header,

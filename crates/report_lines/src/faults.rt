@@ -14,20 +14,22 @@ pub const MAX_LINES: u32 = 20_000;
 /// The most bytes of a line.
 pub const MAX_LINE: usize = 600;
 
-/// Why a line is refused; the causes are tried in this order, and whether something is left to send last of all.
+/// Why a line is refused; the causes are tried in this order, some of `Limit` last of all.
 #[derive(Clone, Copy, Debug, PartialEq, Eq)]
 pub enum LineWhy {
-    /// The line's number is above 20,000, it has more than 600 bytes, or nothing is left to send.
+    /// The line's number is above 20,000, or it has more than 600 bytes; and last of all: it has a device with a flash
+    /// behind four of them, a payload of more than 242 bytes, or nothing is left to send.
     Limit,
-    /// It spells no form, or the script ended without `end`.
+    /// It spells no form, entry or payload, or the script ended without `end`.
     Syntax,
     /// Its form is not allowed at this place.
     Order,
     /// A number is outside its range.
     Range,
-    /// The device is none.
+    /// There is no such device, or it has no flash for its power to come back to.
     Device,
-    /// The payload was not sent to that device, or the uplink was not made or is due later.
+    /// The payload was not sent, or not to that device, or goes out as no frame; or the uplink was not made or is due
+    /// later.
     Unsent,
     /// The time that it tells is over.
     Time,

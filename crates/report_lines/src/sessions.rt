@@ -17,7 +17,7 @@ use frag_session::{Verdict, View};
 use std::alloc::{AllocError, Global};
 
 /// What is told of a whole file.
-#[derive(Clone, Copy, Debug)]
+#[derive(Clone, Copy)]
 pub enum Tail<'a> {
     /// Whether it is this image: ` same` or ` other` behind the line that completed it.
     Same(&'a [u8]),

@@ -1,23 +1,13 @@
+//! Scripts of one campaign, by their reports.
+
+use crate::common::IMAGE;
 use campaign_world::World;
-use device_core::{Class, Delivered, Device, DeviceConfig, MAX_AREA};
-use flash_session::CellFlash;
-use image_slots::{ImageState, is_image};
-use mc_keys::RootKind;
-use package_grammar::{Downlink, To};
+use image_slots::is_image;
 use report_lines::{LineError, LineFault, LineWhy, MAX_LINES};
 use script_lines::form;
 use std::alloc::Global;
 use std::process::Abort;
 use std::test::*;
-use wire_base::{Payload, Refusal, Why};
-
-/// An image file for hardware 1 with firmware 2, its body and digest those of the text abc.
-static IMAGE: [u8; 52] = [
-    0x46, 0x55, 0x49, 0x4d, 0x01, 0x01, 0x00, 0x00, 0x00, 0x02, 0x00, 0x00, 0x00, 0x03, 0x00, 0x00,
-    0x00, 0xba, 0x78, 0x16, 0xbf, 0x8f, 0x01, 0xcf, 0xea, 0x41, 0x41, 0x40, 0xde, 0x5d, 0xae, 0x22,
-    0x23, 0xb0, 0x03, 0x61, 0xa3, 0x96, 0x17, 0x7a, 0x9c, 0xb4, 0x10, 0xff, 0x61, 0xf2, 0x00, 0x15,
-    0xad, 0x61, 0x62, 0x63,
-];
 
 const DEVICE: &str = "device 1 c 1 0 0 00000000000000000000000000000000";
 
@@ -129,119 +119,4 @@ fn a_refused_line_is_kept(rt: HostRuntime) {
     assert!(rt; refuses(&mut world, "ask 2", FAULT) && refuses(&mut world, "ask 1", FAULT));
     reports_none(&rt, rt.alloc(), &world, FAULT);
     drop(world);
-}
-
-/// Every command to a device with more than one byte, on its port; of a fragment as much as a cut leaves no fragment.
-static COMMANDS: [(u8, &[u8]); 16] = [
-    (200, &[0x01, 0x0f]),
-    (
-        200,
-        &[
-            0x02, 0x00, 0x44, 0x33, 0x22, 0x11, 0, 1, 2, 3, 4, 5, 6, 7, 8, 9, 10, 11, 12, 13, 14,
-            15, 0, 0, 0, 0, 10, 0, 0, 0,
-        ],
-    ),
-    (200, &[0x03, 0x00]),
-    (
-        200,
-        &[
-            0x04, 0x00, 0xe8, 0x03, 0x00, 0x00, 0x00, 0xd2, 0xad, 0x84, 0x00,
-        ],
-    ),
-    (
-        200,
-        &[
-            0x05, 0x00, 0xe8, 0x03, 0x00, 0x00, 0x00, 0xd2, 0xad, 0x84, 0x00,
-        ],
-    ),
-    (201, &[0x01, 0x01]),
-    (201, &[0x02, 0, 1, 0, 1, 0, 0, 0, 0, 0, 0]),
-    (201, &[0x03, 0x00]),
-    (201, &[0x08, 0x01, 0x00, 0x5a]),
-    (202, &[0x01, 5, 0, 0, 0, 0x00]),
-    (202, &[0x02, 0x01]),
-    (202, &[0x03, 0x01]),
-    (203, &[0x02, 0, 0, 0, 0]),
-    (203, &[0x03, 0, 0, 0]),
-    (203, &[0x05, 0, 0, 0, 0]),
-    (203, &[0x05, 2, 0, 0, 0]),
-];
-
-const CONFIG: DeviceConfig = DeviceConfig {
-    class: Class::C,
-    hw: 1,
-    rows: 0,
-    offset: 5,
-    key: [0; 16],
-    root: RootKind::V10,
-    descriptor: None,
-    sessions: 4,
-    groups: 4,
-    area: MAX_AREA,
-    held: false,
-    span: 0,
-    formats: 2,
-};
-
-/// A device whose sessions are in memory alone needs no flash.
-fn no_flash(rt: &impl Abort, alloc: Global) -> CellFlash {
-    match CellFlash::reserve(alloc, 0) {
-        Ok(flash) => flash,
-        Err(_) => panic!(rt; "no flash"),
-    }
-}
-
-fn device(rt: &impl Abort, alloc: Global) -> Device<CellFlash> {
-    match Device::reserve(alloc, CONFIG, no_flash(rt, alloc)) {
-        Ok(device) => device,
-        Err(_) => panic!(rt; "no device"),
-    }
-}
-
-/// The command is refused at each cut, alone and behind a whole one; how many payloads that were.
-fn is_cut(rt: &impl Abort, device: &mut Device<CellFlash>, port: u8, command: &[u8]) -> u64 {
-    let mut bytes = [0; 40];
-    assert!(rt; command.len() <= 39);
-    bytes[1..command.len() + 1].copy_from_slice(command);
-    let mut refused = 0u64;
-    for length in 2..command.len() + 1 {
-        is_short(rt, device, port, &bytes[1..length]);
-        is_short(rt, device, port, &bytes[..length]);
-        refused = refused.saturating_add(2);
-    }
-    refused
-}
-
-/// A command that is cut behind any of its bytes is refused there, also behind a whole command, and the device counts it and
-/// stays as it was: no uplink, no session, the same clock and slots.
-#[test]
-fn cut_commands_change_nothing(rt: HostRuntime) {
-    let mut device = device(&rt, rt.alloc());
-    let mut refused = 0u64;
-    for (port, command) in &COMMANDS {
-        refused = refused.saturating_add(is_cut(&rt, &mut device, *port, command));
-    }
-    assert!(rt; device.counts().refused == refused);
-    assert!(rt; device.clock() == (5, 0));
-    drop(device);
-}
-
-/// A payload is refused at its end, and the device has no uplink, no session and no file.
-fn is_short(rt: &impl Abort, device: &mut Device<CellFlash>, port: u8, bytes: &[u8]) {
-    assert!(rt; bytes.len() <= 242);
-    let refusal = Refusal {
-        at: bytes.len() as u16,
-        why: Why::Short,
-    };
-    let down = Downlink {
-        to: To::Unicast,
-        port,
-        payload: Payload::from_slice(bytes),
-    };
-    assert!(rt; device.deliver(0, &down, 0, 1) == Delivered::Refused(refusal));
-    assert!(rt; device.take_uplink().is_none());
-    for index in 0..4u8 {
-        assert!(rt; device.session(index).is_none());
-    }
-    assert!(rt; device.slots().next() == ImageState::None);
 }

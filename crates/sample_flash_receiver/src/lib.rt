@@ -49,7 +49,9 @@ pub fn arena(alloc: Global) -> Result<Arena, Memory>
     Ok(Idle::new(Solver::reserve_for(alloc, 256 * 48, 256)?))
 }
 
-/// At each start: with the session that lies in the part, or with none.
+/// At each start: with the session that lies in the part, or with none. At Err the memory comes back: Flash where the
+/// part failed, Foreign where the header's gate is open and something there is no session's, with the lowest such
+/// place.
 pub fn start<F: Flash>(part: &mut F, arena: Arena) -> Result<Receiver, (Arena, OpenFault)>
     requires arena { arena ≡ extent }
     requires room { span ≤ F.room part.old }

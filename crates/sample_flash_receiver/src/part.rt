@@ -10,6 +10,7 @@ use flash_session::{Failed, Flash};
 // sample
 /// What the maker's own code does with the part; false where it failed. Places are below `SPAN`.
 pub trait Driver {
+    /// Fills the buffer with the bytes from this place on.
     fn read(&mut self, at: u32, buf: &mut [u8]) -> bool;
     /// Makes these bytes stand there, however the part was before: what has to be erased for that is erased here.
     fn write(&mut self, at: u32, piece: &[u8]) -> bool;

@@ -46,17 +46,18 @@ with_decimal line form = if count_of line == 2 then decimal_at line 1 >>= (λ n.
 abbrev pub header_form : List ℕ → Option Form
 header_form line = if count_of line == 2 && is_word line 1 (codes "1") then Some Header else None
 
--- image FRAGSIZE PARITY, for a session of index 0
+-- FRAGSIZE and PARITY from a place on, for a session of this index
 abbrev pub image_words : List ℕ → (k index : ℕ) → Option Form
 image_words line k index = do
   frag_size ← decimal_at line k
   parity ← decimal_at line (k + 1)
   Some (Image frag_size parity index)
 
+-- image FRAGSIZE PARITY, for a session of index 0
 abbrev pub image_form : List ℕ → Option Form
 image_form line = if count_of line == 3 then image_words line 1 0 else None
 
--- group ADDR KEY MIN MAX, a group of id 0
+-- ADDR, KEY, MIN and MAX from a place on, of a group with this id
 abbrev pub group_words : List ℕ → (k id : ℕ) → Option Form
 group_words line k id = do
   addr ← hex_at line k
@@ -65,6 +66,7 @@ group_words line k id = do
   max ← decimal_at line (k + 3)
   Some (Group id addr key min max)
 
+-- group ADDR KEY MIN MAX, a group of id 0
 abbrev pub group_form : List ℕ → Option Form
 group_form line = if count_of line == 5 then group_words line 1 0 else None
 

@@ -137,7 +137,7 @@ pub enum Campaign {
 
 /// The form of a line of two campaigns' script: the campaign that it names, if it names one, and the form that the line has
 /// for it.
-#[derive(Debug, Drop)]
+#[derive(Drop)]
 pub struct PairForm<'a> {
     pub campaign: Option<Campaign>,
     pub form: Form<'a>,

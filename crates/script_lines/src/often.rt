@@ -1,5 +1,5 @@
-//! Lines of the kinds that come by the thousand, each read in one pass over its bytes. None says nothing: the line is then
-//! read word by word.
+//! Lines of the kinds that come by the thousand, each read without counting its words. None, or false, says nothing:
+//! the line is then read word by word.
 
 ghost use Rattle.std.specs.Prelude.{◌≡◌, ◌≤◌, ◌++◌, ◌^◌, Some, IfSome, IsTrue, codes, length, take};
 ghost use Rattle.script_lines.specs.Numbers.{decimal_of, hex_bytes_of};

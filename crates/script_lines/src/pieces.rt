@@ -12,7 +12,7 @@ use std::marker::Model;
 const HELD: usize = 601;
 
 /// What a piece brought.
-#[derive(Clone, Copy, Debug, PartialEq, Eq)]
+#[derive(Clone, Copy, PartialEq, Eq)]
 pub enum Cut {
     /// The piece is used up; the line is still open.
     More,

@@ -332,7 +332,7 @@ struct Torn<'a> {
 }
 
 static TORN: [Torn; 8] = [
-    // The record's number, its data, and its gate.
+    // The record's number, and its gate.
     Torn {
         before: &ONE,
         last: Call::Hear(3, 0x33),

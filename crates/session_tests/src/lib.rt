@@ -6,6 +6,8 @@
 #[cfg(test)]
 mod arena;
 #[cfg(test)]
+mod common;
+#[cfg(test)]
 mod encoder;
 #[cfg(test)]
 mod flash;
