@@ -21,7 +21,7 @@ use crate::replaying::replay;
 use frag_session::{Limits, SetupReq, Slot};
 
 /// How many records and tallies lie there.
-#[derive(Clone, Copy, Debug, PartialEq, Eq)]
+#[derive(Clone, Copy)]
 pub struct Counts {
     pub records: u16,
     pub tallies: u16,

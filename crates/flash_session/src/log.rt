@@ -7,7 +7,7 @@ ghost use Rattle.flash_session.specs.Moments.{Elapses};
 ghost use Rattle.flash_session.specs.Log.{LeftAt, LeftSince};
 
 /// One step: a byte was overwritten, at this place, and it was this; or all that was written was synced.
-#[derive(Clone, Copy, Debug, PartialEq, Eq)]
+#[derive(Clone, Copy)]
 pub enum Step {
     Was(u32, u8),
     Synced,

@@ -130,7 +130,7 @@ fn setup_in(body: [u8; 10]) -> SetupReq
 }
 
 /// What gates are like: the first so many are open and no other, or this one is open behind one that is closed.
-#[derive(Clone, Copy, Debug, PartialEq, Eq)]
+#[derive(Clone, Copy)]
 pub enum Front {
     Whole(u16),
     Stray(u16),

@@ -6,7 +6,7 @@ ghost use Rattle.row_elimination.specs.PackedColumns.{last_slot};
 use std::marker::Model;
 
 /// What is kept of a column.
-#[derive(Clone, Copy, Debug, PartialEq, Eq)]
+#[derive(Clone, Copy)]
 pub enum Column {
     /// Nothing.
     Free,
