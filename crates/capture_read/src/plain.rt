@@ -13,16 +13,21 @@ use crate::members::direction_of;
 use crate::numbers::{are_whole, whole};
 use crate::reading::ranged;
 use json::{Reader, Scratch, Value};
+use memchr::memchr2;
 use std::alloc::Global;
 use wire_base::Direction;
 
 /// How deep a line may nest.
 const MAX_DEPTH: usize = 127;
 
-/// The entry of a line whose numbers are all written by digits alone and below 2^64. None says nothing of a line.
+/// The entry of a line whose numbers are all written by digits alone and below 2^64. None says nothing of a line, and comes
+/// at once where a minus or a point stands in it, mostly in a number.
 pub fn plain_entry(alloc: Global, scratch: &mut Scratch, line: &[u8]) -> Option<Entry>
     ensures { IfSome result (λ e. entry_of line.now ≡ Ok e) }
 {
+    if memchr2(b'-', b'.', line).is_some() {
+        return None;
+    }
     let Ok(text) = str::from_utf8(line) else {
         return None;
     };
