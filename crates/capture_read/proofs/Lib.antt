@@ -1,3 +1,4 @@
+pub mod FloatsRead
 pub mod Json
 pub mod MembersRead
 pub mod NumbersRead

@@ -1,13 +1,17 @@
-//! The numbers in a value that are whole.
+//! The numbers in a value: which are whole, and whether all are short, and so in the range of floats.
 
-ghost use Rattle.std.specs.Prelude.{◌≡◌, Some, IsTrue, IfSome};
+ghost use Rattle.std.specs.Prelude.{◌≡◌, Bool, Some, IsTrue, IfSome};
+ghost use Rattle.fast_float.specs.Text.{scan};
 ghost use Rattle.json.specs.Value.{value_view, items_view, members_view};
 ghost use Rattle.serde_json.specs.Data.{unsigned};
 ghost use Rattle.serde_json.specs.Read.{number_of};
-ghost use Rattle.capture_read.specs.NumbersRead.{AreRead, ItemsAreRead, MembersAreRead};
+ghost use Rattle.capture_read.specs.NumbersRead.{IsRead, IsReadAs, AreRead, ItemsAreRead, MembersAreRead};
 
 use fast_float::Numeral;
 use json::Value;
+
+/// The most bytes of a number that is short, its sign left out.
+const SHORT: usize = 19;
 
 /// The number that a text writes by digits alone, below 2^64.
 #[inline(always)]
@@ -21,27 +25,51 @@ pub fn whole(text: &str) -> Option<u64>
     Numeral::scan(bytes).to_u64()
 }
 
-/// Whether each number in a value is written by digits alone, and below 2^64.
+/// Whether a number's text, behind its sign, has at most 19 bytes and no exponent.
+fn is_short(text: &str) -> bool
+    ensures { IsTrue result → IsRead text.now }
+{
+    let bytes = text.as_bytes();
+    if bytes.is_empty() {
+        return false;
+    }
+    if bytes[0] == b'-' {
+        return is_short_unsigned(&bytes[1..]);
+    }
+    is_short_unsigned(bytes)
+}
+
+fn is_short_unsigned(bytes: &[u8]) -> bool
+    ensures { IsTrue result → (negative : Bool) → IsReadAs negative (scan bytes.now) }
+{
+    let numeral = Numeral::scan(bytes);
+    if numeral.len() > SHORT {
+        return false;
+    }
+    numeral.exponent().is_empty()
+}
+
+/// Whether each number in a value is short.
 #[cycle(numbers)]
 #[inline(always)]
-pub fn are_whole(value: &Value<'_>) -> bool
+pub fn are_short(value: &Value<'_>) -> bool
     ensures { IsTrue result → AreRead (value_view value.now) }
 {
     match value {
-        Value::Number(text) => whole(text).is_some(),
-        Value::Array(items) => items_are_whole(items),
-        Value::Object(members) => members_are_whole(members),
+        Value::Number(text) => is_short(text),
+        Value::Array(items) => items_are_short(items),
+        Value::Object(members) => members_are_short(members),
         _ => true,
     }
 }
 
 #[cycle(numbers)]
 #[inline(never)]
-fn items_are_whole(items: &Vec<Value<'_>>) -> bool
+fn items_are_short(items: &Vec<Value<'_>>) -> bool
     ensures { IsTrue result → ItemsAreRead (items_view items.now.items) }
 {
     for item in items {
-        if !are_whole(item) {
+        if !are_short(item) {
             return false;
         }
     }
@@ -50,11 +78,11 @@ fn items_are_whole(items: &Vec<Value<'_>>) -> bool
 
 #[cycle(numbers)]
 #[inline(never)]
-fn members_are_whole(members: &Vec<(&str, Value<'_>)>) -> bool
+fn members_are_short(members: &Vec<(&str, Value<'_>)>) -> bool
     ensures { IsTrue result → MembersAreRead (members_view members.now.items) }
 {
     for member in members {
-        if !are_whole(&member.1) {
+        if !are_short(&member.1) {
             return false;
         }
     }

@@ -1,4 +1,4 @@
-//! Lines whose numbers are all whole: these are read without copying what they say.
+//! Lines whose numbers are all short: these are read without copying what they say.
 
 ghost use Rattle.std.specs.Prelude.{◌≡◌, [], pos, Some, Ok, IfSome, option_and_then};
 ghost use Rattle.json.specs.Value.{value_view};
@@ -10,24 +10,19 @@ ghost use Rattle.capture_read.specs.NumbersRead.{IsEntry};
 
 use crate::answers::Entry;
 use crate::members::direction_of;
-use crate::numbers::{are_whole, whole};
+use crate::numbers::{are_short, whole};
 use crate::reading::ranged;
 use json::{Reader, Scratch, Value};
-use memchr::memchr2;
 use std::alloc::Global;
 use wire_base::Direction;
 
 /// How deep a line may nest.
 const MAX_DEPTH: usize = 127;
 
-/// The entry of a line whose numbers are all written by digits alone and below 2^64. None says nothing of a line, and comes
-/// at once where a minus or a point stands in it, mostly in a number.
+/// The entry of a line whose numbers are all short, and its port written by digits alone. None says nothing of a line.
 pub fn plain_entry(alloc: Global, scratch: &mut Scratch, line: &[u8]) -> Option<Entry>
     ensures { IfSome result (λ e. entry_of line.now ≡ Ok e) }
 {
-    if memchr2(b'-', b'.', line).is_some() {
-        return None;
-    }
     let Ok(text) = str::from_utf8(line) else {
         return None;
     };
@@ -49,7 +44,7 @@ fn last_entry(alloc: Global, reader: &mut Reader<'_>, value: &Value<'_>) -> Opti
     if reader.next().is_some() {
         return None;
     }
-    if !are_whole(value) {
+    if !are_short(value) {
         return None;
     }
     entry_in(alloc, value)

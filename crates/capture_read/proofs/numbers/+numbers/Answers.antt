@@ -4,8 +4,8 @@ use Rattle.json.specs.Value.{value_view, items_view, members_view}
 use Rattle.json.proofs.Trees.{item_smaller, member_smaller}
 use Rattle.capture_read.proofs.numbers.+numbers.Goals as goal
 
-pub items_are_whole-are_whole-requires : goal.items_are_whole-are_whole-requires
-items_are_whole-are_whole-requires t c =
+pub items_are_short-are_short-requires : goal.items_are_short-are_short-requires
+items_are_short-are_short-requires t c =
     let xs = c.deref-item-items.result.now in
     let x = c.item-item.result in
     let smaller : length (json_tokens (value_view x)) < length (items_tokens (items_view c.args.items.now.items)) =
@@ -13,8 +13,8 @@ items_are_whole-are_whole-requires t c =
     (subst (λ y. length (json_tokens (value_view y)) < length (items_tokens (items_view xs))) (sym c.item-item.is) (item_smaller xs c.loop-item.item-index x (omega arith))) in
     search rules
 
-pub members_are_whole-are_whole-requires : goal.members_are_whole-are_whole-requires
-members_are_whole-are_whole-requires t c =
+pub members_are_short-are_short-requires : goal.members_are_short-are_short-requires
+members_are_short-are_short-requires t c =
     let xs = c.deref-member-items.result.now in
     let x = c.member-item.result in
     let smaller : length (json_tokens (value_view x.1)) < length (members_tokens (members_view c.args.members.now.items)) =
