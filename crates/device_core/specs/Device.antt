@@ -15,7 +15,7 @@ use Rattle.device_core.specs.declared.counts.Counts.{Counts}
 use Rattle.device_core.specs.declared.uplink.Uplink.{Uplink}
 use Rattle.device_core.specs.SessionTable.{SessionTable, no_sessions}
 -- what is kept for the rows of a session
-pub use Rattle.session_store.specs.Rows.{row_words, row_bytes}
+pub use Rattle.session_store.specs.Rows.{row_words, row_bytes, extent_for}
 
 -- clock: its offset and token; last_due: when the uplink that it made last is due, in ms of true time;
 -- groups: a place for each id; reboot: the moment that is set, in seconds of its clock;

@@ -6,7 +6,8 @@ use Rattle.device_core.specs.declared.class_session.Kind.{Kind}
 use Rattle.device_core.specs.declared.class_session.Kind.TheVariants.{ClassC, ClassB}
 use Rattle.device_core.specs.declared.config.DeviceConfig.{DeviceConfig}
 use Rattle.device_core.specs.Device.{layout_of}
-use Rattle.device_core.specs.HeldSessions.{HeldStore}
+use Rattle.frag_session.specs.declared.setups.SetupReq.{SetupReq}
+use Rattle.device_core.specs.HeldSessions.{HeldStore, HasMemory, HasFiles}
 
 -- the fields of a class session are within their bits
 abbrev pub KindFits : Kind → Type 0
@@ -22,6 +23,8 @@ pub record IsDevice {F : Type 0} (config : DeviceConfig) (sessions : HeldStore F
     (session : Option ClassSession) : Type 0 where
   pub layout : sessions.layout ≡ layout_of config
   pub held : sessions.held ≡ config.held
-  pub slots_area : slots.area ≡ config.area
+  -- there is memory for each setup, and in the slots for each file
+  pub all : (req : SetupReq) → HasMemory sessions req
+  pub files : HasFiles sessions slots.area
   pub hw : slots.hw ≡ config.hw
   pub session_fits : SessionFits session

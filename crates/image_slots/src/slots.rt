@@ -1,17 +1,17 @@
 //! The two image slots of a device.
 
-ghost use Rattle.std.specs.Prelude.{◌≡◌, ◌≤◌, ℕ, length, IfOk};
+ghost use Rattle.std.specs.Prelude.{◌≡◌, ◌≤◌, ℕ, length, max, IfOk, OnOk, OnErr, vec_capacity};
 ghost use Rattle.image_slots.specs.Slots.{first_slots, without_next, after_offer, after_swap, delete_bits, after_delete, after_raise};
 
 use crate::view::{ImageState, ImageView};
-use std::alloc::Global;
+use std::alloc::{AllocError, Global};
 use std::marker::Model;
 
 /// There was not enough memory.
 #[derive(Clone, Copy, Debug, PartialEq, Eq)]
 pub struct Memory;
 
-/// What a device runs, and the file that it received to run next. Its memory is taken once.
+/// What a device runs, and the file that it received to run next, in memory that is taken before.
 #[derive(Drop)]
 pub struct Slots {
     /// The device's hardware version.
@@ -66,6 +66,23 @@ impl Slots {
             next: ImageState::None,
             next_file,
         })
+    }
+
+    /// Takes memory for files of so many bytes, where there is less. What runs and what is next stay, also where memory is
+    /// wanting.
+    pub fn provide(&mut self, area: u32) -> Result<(), Memory>
+        ensures given { OnOk result (self.new
+            ≡ record self.old { area = max self.old.area area }) }
+        ensures refused { OnErr result (self.new ≡ self.old) }
+    {
+        let area = self.area.max(area);
+        if hold(&mut self.running, area as usize).is_err()
+            || hold(&mut self.next_file, area as usize).is_err()
+        {
+            return Err(Memory);
+        }
+        self.area = area;
+        Ok(())
     }
 
     /// A file of at most `area` bytes becomes next, whatever next was.
@@ -146,6 +163,15 @@ impl Slots {
         self.next = ImageState::None;
         self.next_file.clear();
     }
+}
+
+/// Has memory for so many bytes, those included that are there.
+fn hold(bytes: &mut Vec<u8>, n: usize) -> Result<(), AllocError>
+    ensures items { bytes.new.items ≡ bytes.old.items }
+    ensures room { OnOk result (n ≤ vec_capacity bytes.new) }
+    ensures capacity { vec_capacity bytes.old ≤ vec_capacity bytes.new }
+{
+    bytes.reserve_exact(n.saturating_sub(bytes.len()))
 }
 
 /// The answer to the wish to delete a version.

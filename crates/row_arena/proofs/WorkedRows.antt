@@ -21,7 +21,5 @@ rows = record {
   other_row = refl;
   pieces = refl;
   flips = refl;
-  most_words = refl;
-  most_bytes = refl;
   widest = refl;
 }

@@ -6,11 +6,13 @@ pub record Row : Type 0 where
   pub line : ℕ
   pub part : List ℕ
 
--- how many columns and bytes each row has, and the rows
+-- how many columns and bytes each row has, the rows, and for how many words and bytes there is memory
 pub record Arena : Type 0 where
   pub cols : ℕ
   pub cell : ℕ
   pub rows : List Row
+  pub words : ℕ
+  pub bytes : ℕ
 
 -- a row of no column, whose bytes are all zero
 abbrev pub zero_row : ℕ → Row

@@ -8,6 +8,7 @@ pub mod Blocks
 pub mod Counting
 pub mod Marking
 pub mod Settling
+pub mod Rooms
 pub mod Saying
 pub mod Standing
 pub mod Storing

@@ -1,6 +1,6 @@
 //! The sessions of a device, wherever they lie, with its flash: in memory alone, in flash, or down until power comes.
 
-ghost use Rattle.std.specs.Prelude.{◌≡◌, ◌≢◌, ◌⊎◌, ℕ, ◌*◌, ◌<◌, ◌≤◌, Bool, List, Option, Some, None, true, false, OnOk, OnErr, IfOk, IfErr, IfSome, MatchResult, is_ok, is_some, option_map, length};
+ghost use Rattle.std.specs.Prelude.{◌≡◌, ◌≢◌, ◌⊎◌, ℕ, ◌*◌, ◌<◌, ◌≤◌, Bool, List, Option, Some, None, true, false, OnOk, OnErr, IfOk, IfErr, IfSome, MatchResult, is_ok, is_some, option_map, length, min};
 ghost use Rattle.frag_session.specs.Setup.{setup_bits};
 ghost use Rattle.frag_session.specs.Session.{answer_of, drop_cause, news_in, status_of, view_of};
 ghost use Rattle.frag_session.specs.HeldView.{seen};
@@ -10,7 +10,7 @@ ghost use Rattle.flash_session.specs.Moments.{Elapses, LeavesOnly};
 ghost use Rattle.session_store.specs.SessionTable.{SessionTable, no_sessions, session_at, with_session, table_after_setup, table_after_fragment};
 ghost use Rattle.session_store.specs.HeldForeign.{NoneForeign, IsForeignIn};
 ghost use Rattle.session_store.specs.HeldPlaces.{AreIdle, PlacesStand, TableLies};
-ghost use Rattle.session_store.specs.HeldStore.{IsUp, IsDown, IsInFlash, StateFits, StateStands, StateIsStored, StateIsHeld, HasRanges, IsLaidOut, store_room};
+ghost use Rattle.session_store.specs.HeldStore.{IsUp, IsDown, IsInFlash, StateFits, StateStands, StateIsStored, StateIsHeld, HasRanges, IsLaidOut, StateMay, StateFiles, HasMemory, HasFiles, KeepsMemory, store_room};
 ghost use Rattle.session_store.specs.Whole.{is_complete, is_whole, whole_of, none_whole};
 ghost use Rattle.session_store.specs.declared.store.State.TheVariants.{Down};
 
@@ -80,6 +80,8 @@ impl<F: Flash + Drop> SessionStore<F> {
             → IfOk result (λ s. (idles : _) × (s.state ≡ Down idles none_whole)) }
         ensures laid { IfOk result (λ s. (s.layout ≡ layout) × (s.held ≡ held)) }
         ensures flash { IfOk result (λ s. s.flash ≡ flash) }
+        ensures all { IfOk result (λ s. (req : SetupReq) → HasMemory s req) }
+        ensures files { IfOk result (λ s. HasFiles s layout.area) }
     {
         match first_state(alloc, layout, held) {
             Ok(state) => Ok(SessionStore {
@@ -92,6 +94,49 @@ impl<F: Flash + Drop> SessionStore<F> {
                 drop(flash);
                 Err(error)
             }
+        }
+    }
+
+    /// In memory alone, and without memory for any session: each setup needs a `provide` before it. No flash is called.
+    /// Memory comes where memory is wanting, and the flash is dropped then.
+    pub fn late(alloc: Global, flash: F, layout: Layout) -> Result<Self, Memory>
+        ensures memory { IfOk result (λ s. StateStands s.state no_sessions) }
+        ensures laid { IfOk result (λ s. (s.layout ≡ layout) × (s.held ≡ false)) }
+        ensures flash { IfOk result (λ s. s.flash ≡ flash) }
+        ensures files { IfOk result (λ s. HasFiles s 0) }
+    {
+        match SessionSlots::late(alloc, layout.area) {
+            Ok(slots) => Ok(SessionStore {
+                flash,
+                layout,
+                held: false,
+                state: Some(State::Memory(slots)),
+            }),
+            Err(error) => {
+                drop(flash);
+                Err(error)
+            }
+        }
+    }
+
+    /// Takes the memory that a setup needs, where it is not refused and there is less. All sessions stay, also where memory
+    /// is wanting. Sessions that are held in flash have their memory, and no flash is called.
+    pub fn provide(&mut self, req: SetupReq) -> Result<(), Memory>
+        requires { req.index < 4 }
+        ensures given { OnOk result (HasMemory self.new req) }
+        ensures setups { (r : SetupReq) → HasMemory self.old r → HasMemory self.new r }
+        ensures files { (n : ℕ) → HasFiles self.old n
+            → min (req.nb_frag * req.frag_size) self.old.layout.area ≤ n → HasFiles self.new n }
+        ensures stands { (table : SessionTable) → StateStands self.old.state table
+            → StateStands self.new.state table }
+        ensures in_flash { IsInFlash self.old.state → self.new ≡ self.old }
+        ensures in_memory { IsInFlash self.new.state → IsInFlash self.old.state }
+        ensures laid { IsLaidOut self.old self.new }
+        ensures quiet { self.new.flash ≡ self.old.flash }
+    {
+        match &mut self.state {
+            Some(State::Memory(slots)) => slots.provide(req, self.layout.limits),
+            _ => Ok(()),
         }
     }
 
@@ -143,6 +188,7 @@ impl<F: Flash + Drop> SessionStore<F> {
     pub fn setup(&mut self, req: SetupReq) -> Result<u8, FlashFault>
         requires up { IsUp self.old.state }
         requires fields { FieldsFit req }
+        requires memory { HasMemory self.old req }
         ensures bits { IfOk result
             (λ bits. bits ≡ setup_bits self.old.layout.limits
             (store_room self.old.layout self.old.held) req) }
@@ -173,6 +219,7 @@ impl<F: Flash + Drop> SessionStore<F> {
         ensures in_flash { IsInFlash self.old.state → OnOk result (IsInFlash self.new.state) }
         ensures down { (table : SessionTable) → StateStands self.old.state table
             → OnErr result ((idles : _) × (self.new.state ≡ Down idles (whole_of table))) }
+        ensures memory { KeepsMemory self.old self.new }
         ensures laid { IsLaidOut self.old self.new }
         ensures quiet { self.old.held ≡ false
             → (is_ok result ≡ true) × (self.new.flash ≡ self.old.flash) }
@@ -243,6 +290,7 @@ impl<F: Flash + Drop> SessionStore<F> {
         ensures in_flash { IsInFlash self.old.state → OnOk result (IsInFlash self.new.state) }
         ensures down { (table : SessionTable) → StateStands self.old.state table
             → OnErr result ((idles : _) × (self.new.state ≡ Down idles (whole_of table))) }
+        ensures memory { KeepsMemory self.old self.new }
         ensures laid { IsLaidOut self.old self.new }
         ensures quiet { self.old.held ≡ false
             → (is_ok result ≡ true) × (self.new.flash ≡ self.old.flash) }
@@ -299,6 +347,7 @@ impl<F: Flash + Drop> SessionStore<F> {
         ensures in_flash { IsInFlash self.old.state → OnOk result (IsInFlash self.new.state) }
         ensures down { (table : SessionTable) → StateStands self.old.state table
             → OnErr result ((idles : _) × (self.new.state ≡ Down idles (whole_of table))) }
+        ensures memory { KeepsMemory self.old self.new }
         ensures laid { IsLaidOut self.old self.new }
         ensures quiet { self.old.held ≡ false
             → (is_ok result ≡ true) × (self.new.flash ≡ self.old.flash) }
@@ -349,7 +398,8 @@ impl<F: Flash + Drop> SessionStore<F> {
         ensures value { (table : SessionTable) → StateStands self.now.state table
             → option_map seen result ≡ view_of (session_at table index) }
         ensures down { IsDown self.now.state → result ≡ None }
-        ensures within { IfSome result (λ v. length v.file.now ≤ self.now.layout.area) }
+        ensures within { (n : ℕ) → HasFiles self.now n
+            → IfSome result (λ v. length v.file.now ≤ n) }
     {
         match &self.state {
             Some(State::Memory(slots)) => slots.view(index),
@@ -390,6 +440,7 @@ impl<F: Flash + Drop> SessionStore<F> {
         ensures up { OnOk result (IsUp self.new.state) }
         ensures in_flash { OnOk result (IsInFlash self.new.state) }
         ensures down { OnErr result (IsDown self.new.state) }
+        ensures memory { KeepsMemory self.old self.new }
         ensures laid { IsLaidOut self.old self.new }
         ensures size { F.room self.new.flash ≡ F.room self.old.flash }
         ensures later { F.faults self.old.flash ≤ F.faults self.new.flash }
@@ -419,6 +470,8 @@ impl<F: Flash + Drop> SessionStore<F> {
 fn first_state(alloc: Global, layout: Layout, held: bool) -> Result<State, Memory>
     ensures memory { held ≡ false → IfOk result
         (λ state. StateStands state no_sessions × StateFits layout false 0 state) }
+    ensures all { IfOk result (λ state. (req : SetupReq) → StateMay layout state req) }
+    ensures files { IfOk result (λ state. StateFiles layout state layout.area) }
     ensures down { held ≡ true
         → IfOk result (λ state. (idles : _) × (state ≡ Down idles none_whole)
         × AreIdle layout.area idles) }

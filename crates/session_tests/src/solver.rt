@@ -1,5 +1,6 @@
 //! Solvers over a few pieces of one byte, by worked rows and against plain sums of lines, and over pieces of many sizes.
 
+use crate::common::solver;
 use crate::plain::excess;
 use frag_model::gains::{plain_gain, plain_line_of};
 use frag_model::lines::MAX_PARITY_INDEX;
@@ -12,14 +13,14 @@ use std::test::*;
 
 /// A solver with a file, so many pieces of so many bytes, and where it stands after what it answered.
 #[derive(Drop)]
-struct Receiver<const W: usize, const B: usize> {
-    solver: Solver<W, B>,
+struct Receiver {
+    solver: Solver,
     nb_frag: u16,
     frag_size: u8,
     stage: Stage,
 }
 
-impl<const W: usize, const B: usize> Model for Receiver<W, B> {
+impl Model for Receiver {
     ghost use Rattle.std.specs.Prelude.{◌≡◌};
     ghost use Rattle.row_elimination.specs.HeldSolver.{Held};
 
@@ -31,15 +32,15 @@ impl<const W: usize, const B: usize> Model for Receiver<W, B> {
         × (r.frag_size ≡ r.solver.shape.frag_size) };
 }
 
-impl<const W: usize, const B: usize> Receiver<W, B> {
+impl Receiver {
     /// A solver with a new file.
     fn begin(
         rt: &impl Abort,
-        mut solver: Solver<W, B>,
+        mut solver: Solver,
         nb_frag: u16,
         frag_size: u8,
         rows: u16,
-    ) -> Receiver<W, B> {
+    ) -> Receiver {
         assert!(rt; 1 <= nb_frag && nb_frag <= 4096 && rows <= nb_frag);
         assert!(rt; 1 <= frag_size && frag_size <= 239);
         if solver.begin(nb_frag, frag_size, 0, rows).is_err() {
@@ -76,8 +77,6 @@ impl<const W: usize, const B: usize> Receiver<W, B> {
     }
 }
 
-type SmallReceiver = Receiver<16, 64>;
-
 /// What a solver answers after fragments, and shows.
 struct Row<'a> {
     rows: u16,
@@ -87,15 +86,12 @@ struct Row<'a> {
     block: &'a [u8],
 }
 
-fn begun(rt: &impl Abort, alloc: Global, pieces: u16, rows: u16) -> SmallReceiver {
-    match Solver::reserve(alloc, 64) {
-        Ok(solver) => Receiver::begin(rt, solver, pieces, 1, rows),
-        Err(_) => panic!(rt; "no memory"),
-    }
+fn begun(rt: &impl Abort, alloc: Global, pieces: u16, rows: u16) -> Receiver {
+    Receiver::begin(rt, solver(rt, alloc, 16, 64, 64), pieces, 1, rows)
 }
 
 /// The answer to the last of the fragments.
-fn fed(rt: &impl Abort, receiver: &mut SmallReceiver, fragments: &[(u16, u8)]) -> Fed {
+fn fed(rt: &impl Abort, receiver: &mut Receiver, fragments: &[(u16, u8)]) -> Fed {
     let mut answer = Fed::Receiving;
     for (n, byte) in fragments {
         answer = receiver.feed(rt, *n, &[*byte]);
@@ -279,7 +275,7 @@ fn by_sums(
 fn follows_sums(
     rt: &impl Abort,
     alloc: Global,
-    receiver: &mut SmallReceiver,
+    receiver: &mut Receiver,
     pieces: u16,
     rows: u16,
     numbers: &[u16],
@@ -326,15 +322,21 @@ fn answers_are_those_of_all_sums(rt: HostRuntime) {
 }
 
 /// Two words and ten bytes for rows, and an area of 20 bytes.
-fn little(rt: &impl Abort, alloc: Global, pieces: u16) -> Solver<2, 10> {
+fn little(rt: &impl Abort, alloc: Global, pieces: u16) -> Solver {
     assert!(rt; pieces <= 4096);
-    match Solver::reserve_for(alloc, 20, pieces) {
+    let extent = Extent {
+        area: 20,
+        pieces,
+        words: 2,
+        bytes: 10,
+    };
+    match Solver::reserve(alloc, extent) {
         Ok(solver) => solver,
         Err(_) => panic!(rt; "no memory"),
     }
 }
 
-fn fits(rt: &impl Abort, solver: &Solver<2, 10>, nb_frag: u16, frag_size: u8, rows: u16) -> bool {
+fn fits(rt: &impl Abort, solver: &Solver, nb_frag: u16, frag_size: u8, rows: u16) -> bool {
     assert!(rt; nb_frag <= 4096 && frag_size <= 239 && rows <= nb_frag);
     solver.fits(nb_frag, frag_size, rows)
 }
@@ -410,18 +412,13 @@ fn coded(rt: &impl Abort, pieces: u16, n: u16) -> [u8; 239] {
     part
 }
 
-type LargeReceiver = Receiver<16, 1912>;
-
 /// A solver of eight rows for so many pieces of so many bytes.
-fn made(rt: &impl Abort, alloc: Global, pieces: u16, size: u8) -> LargeReceiver {
-    match Solver::reserve(alloc, 16730) {
-        Ok(solver) => Receiver::begin(rt, solver, pieces, size, 8),
-        Err(_) => panic!(rt; "no memory"),
-    }
+fn made(rt: &impl Abort, alloc: Global, pieces: u16, size: u8) -> Receiver {
+    Receiver::begin(rt, solver(rt, alloc, 16, 1912, 16730), pieces, size, 8)
 }
 
 /// Each tenth piece is lost, and the others are fed.
-fn feeds_most(rt: &impl Abort, receiver: &mut LargeReceiver, pieces: u16, size: u8) {
+fn feeds_most(rt: &impl Abort, receiver: &mut Receiver, pieces: u16, size: u8) {
     assert!(rt; pieces <= 70 && size <= 239);
     for k in 0..pieces {
         if k % 10 != 3 {
@@ -432,7 +429,7 @@ fn feeds_most(rt: &impl Abort, receiver: &mut LargeReceiver, pieces: u16, size: 
 }
 
 /// Feeds coded fragments until all pieces are there.
-fn feeds_coded(rt: &impl Abort, receiver: &mut LargeReceiver, pieces: u16, size: u8) {
+fn feeds_coded(rt: &impl Abort, receiver: &mut Receiver, pieces: u16, size: u8) {
     assert!(rt; pieces <= 70 && size <= 239);
     for n in 1..40u16 {
         let part = coded(rt, pieces, n);

@@ -83,7 +83,7 @@ fn power(rt: &impl Abort, store: &mut Store) -> bool {
 }
 
 fn sets_up(rt: &impl Abort, store: &mut Store, index: u8) -> bool {
-    assert!(rt; index < 4 && !store.is_down());
+    assert!(rt; index < 4);
     let req = SetupReq {
         index,
         mask: 0,
@@ -94,6 +94,8 @@ fn sets_up(rt: &impl Abort, store: &mut Store, index: u8) -> bool {
         padding: 0,
         descriptor: 0,
     };
+    assert!(rt; store.provide(req).is_ok());
+    assert!(rt; !store.is_down());
     match store.setup(req) {
         Ok(bits) => {
             assert!(rt; bits == 0);

@@ -10,7 +10,7 @@ ghost use Rattle.flash_session.specs.Body.{FieldsFit};
 ghost use Rattle.device_core.specs.SessionTable.{SessionTable, session_at, with_session};
 ghost use Rattle.device_core.specs.Answers.{after_answers};
 ghost use Rattle.device_core.specs.Device.{max_moment};
-ghost use Rattle.device_core.specs.HeldSessions.{IsUp, StateStands};
+ghost use Rattle.device_core.specs.HeldSessions.{IsUp, StateStands, HasFiles};
 ghost use Rattle.device_core.specs.HeldCalls.{Fails, Keeps};
 ghost use Rattle.device_core.specs.Fragments.{setup_step, delete_step, answer_delay, status_step, is_complete, is_whole, whole_file, slots_after, fragment_step};
 ghost use Rattle.device_core.specs.Sendable.{IsSendable};
@@ -144,7 +144,7 @@ pub(super) fn offer<F: Flash + Drop>(
     was_whole: bool,
 )
     requires index { index < 4 }
-    requires area { sessions.now.layout.area ≤ slots.old.area }
+    requires files { HasFiles sessions.now slots.old.area }
     ensures hw { slots.new.hw ≡ slots.old.hw }
     ensures area { slots.new.area ≡ slots.old.area }
     ensures offers { (table : SessionTable) → StateStands sessions.now.state table
