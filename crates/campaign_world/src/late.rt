@@ -87,8 +87,7 @@ impl LateDevice {
     }
 }
 
-/// The device at its start, with all memory that it will ever need. It stands alone, so that no line sees to the room
-/// for a whole device.
+/// The device at its start. It stands alone, so that no line sees to the room for a whole device.
 #[inline(never)]
 fn reserved(alloc: Global, config: DeviceConfig) -> Result<Box<Device<CellFlash>>, AllocError>
     requires fine { is_config config ≡ true }
@@ -115,7 +114,8 @@ fn reserved(alloc: Global, config: DeviceConfig) -> Result<Box<Device<CellFlash>
     }
 }
 
-/// A payload reaches a device, whose uplinks are taken. Where there is no memory for the device nothing happened.
+/// A payload reaches a device, whose uplinks are taken. Where there is no memory for the device, or for its setups, nothing
+/// happened.
 #[inline(always)]
 pub fn reach(
     late: &mut LateDevice,
@@ -134,7 +134,8 @@ pub fn reach(
     ensures uplinks { OnOk result (AreNumbered DeviceRests
         (λ d. (delivery coming.t coming.word coming.mark down.now d).device) late.old id
         uplinks.old.items uplinks.new.items) }
-    ensures same { OnErr result (late.new ≡ late.old) }
+    ensures stays { OnErr result
+        ((d : DeviceState) → DeviceRests late.old d → DeviceRests late.new d) }
 {
     match late.come(alloc) {
         Ok(()) => {}
@@ -143,8 +144,7 @@ pub fn reach(
     let Some(device) = &mut late.came else {
         unreachable!()
     };
-    reach_device(device, uplinks, id, down, coming);
-    Ok(())
+    reach_device(device, uplinks, id, down, coming)
 }
 
 /// Bytes reach the radio of a device, whose uplinks are taken. Where there is no memory for the device nothing happened.

@@ -93,7 +93,7 @@ abbrev pub limits_of : DeviceConfig → Limits
 limits_of config = record { sessions = config.sessions; rows = config.rows; descriptor = config.descriptor }
 
 abbrev pub layout_of : DeviceConfig → Layout
-layout_of config = record { area = config.area; span = config.span; limits = limits_of config }
+layout_of config = record { area = config.area; span = config.span; late = config.late; limits = limits_of config }
 
 -- the room for a session: where it is held in flash, its range too
 abbrev pub room_of : DeviceConfig → Room

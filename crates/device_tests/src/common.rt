@@ -28,6 +28,7 @@ pub const CONFIG: DeviceConfig = DeviceConfig {
     sessions: 4,
     groups: 4,
     area: MAX_AREA,
+    late: false,
     held: false,
     span: 0,
 };

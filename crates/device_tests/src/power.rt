@@ -35,6 +35,7 @@ const CONFIG: DeviceConfig = DeviceConfig {
     sessions: 4,
     groups: 1,
     area: 64,
+    late: false,
     held: true,
     span: SPAN,
 };

@@ -1,4 +1,5 @@
 pub mod Image
 pub mod Slots
 pub mod HeldSlots
+pub mod HeldFiles
 pub mod WorkedImages

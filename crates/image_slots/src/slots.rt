@@ -1,17 +1,18 @@
 //! The two image slots of a device.
 
-ghost use Rattle.std.specs.Prelude.{◌≡◌, ◌≤◌, ℕ, length, max, IfOk, OnOk, OnErr, vec_capacity};
+ghost use Rattle.std.specs.Prelude.{◌≡◌, ◌≤◌, ℕ, length, max, IfOk, OnOk, OnErr};
 ghost use Rattle.image_slots.specs.Slots.{first_slots, without_next, after_offer, after_swap, delete_bits, after_delete, after_raise};
 
+use crate::two_files::TwoFiles;
 use crate::view::{ImageState, ImageView};
-use std::alloc::{AllocError, Global};
+use std::alloc::Global;
 use std::marker::Model;
 
 /// There was not enough memory.
 #[derive(Clone, Copy, Debug, PartialEq, Eq)]
 pub struct Memory;
 
-/// What a device runs, and the file that it received to run next, in memory that is taken before.
+/// What a device runs, and the file that it received to run next, in memory that is taken before they come.
 #[derive(Drop)]
 pub struct Slots {
     /// The device's hardware version.
@@ -22,26 +23,23 @@ pub struct Slots {
     area: u32,
     /// The version that runs.
     version: u32,
-    running: Vec<u8>,
     next: ImageState,
-    next_file: Vec<u8>,
+    /// What runs, and the file that is next.
+    files: TwoFiles,
 }
 
 impl Model for Slots {
-    ghost use Rattle.std.specs.Prelude.{◌≤◌, vec_capacity};
-    ghost use Rattle.image_slots.specs.HeldSlots.{HeldSlots};
-    ghost use Rattle.image_slots.specs.Slots.{IsRead};
+    ghost use Rattle.image_slots.specs.HeldSlots.{HeldSlots, IsSlots};
 
     ghost Value = { HeldSlots };
 
     ghost view = { λ s. record {
       hw = s.hw;
       area = s.area;
-      slots = record { formats = s.formats; version = s.version; running = s.running.items; next = s.next; next_file = s.next_file.items };
+      slots = record { formats = s.formats; version = s.version; running = s.files.first; next = s.next; next_file = s.files.second };
     } };
 
-    ghost invariant = { λ s. (s.area ≤ vec_capacity s.running) × (s.area ≤ vec_capacity s.next_file)
-        × IsRead s.hw (record { formats = s.formats; version = s.version; running = s.running.items; next = s.next; next_file = s.next_file.items }) };
+    ghost invariant = { λ s. IsSlots s.hw s.formats s.area s.version s.next s.files };
 }
 
 impl Slots {
@@ -51,10 +49,7 @@ impl Slots {
         ensures { IfOk result
             (λ s. s ≡ record { hw = hw; area = area; slots = first_slots formats }) }
     {
-        let Ok(running) = Vec::with_capacity(alloc, area as usize) else {
-            return Err(Memory);
-        };
-        let Ok(next_file) = Vec::with_capacity(alloc, area as usize) else {
+        let Ok(files) = TwoFiles::reserve(alloc, 2 * area as usize) else {
             return Err(Memory);
         };
         Ok(Slots {
@@ -62,9 +57,8 @@ impl Slots {
             formats,
             area,
             version: 0,
-            running,
             next: ImageState::None,
-            next_file,
+            files,
         })
     }
 
@@ -76,9 +70,7 @@ impl Slots {
         ensures refused { OnErr result (self.new ≡ self.old) }
     {
         let area = self.area.max(area);
-        if hold(&mut self.running, area as usize).is_err()
-            || hold(&mut self.next_file, area as usize).is_err()
-        {
+        if self.files.provide(2 * area as usize).is_err() {
             return Err(Memory);
         }
         self.area = area;
@@ -93,10 +85,7 @@ impl Slots {
             ≡ record self.old { slots = after_offer self.old.hw file.now self.old.slots } }
     {
         self.next = ImageView::read(file, self.hw, self.formats);
-        self.next_file.clear();
-        if self.next_file.extend_from_slice(file).is_err() {
-            unreachable!();
-        }
+        self.files.put(file);
     }
 
     /// A valid next becomes what runs, and next is none; any other next stays.
@@ -107,8 +96,7 @@ impl Slots {
         if let ImageState::Valid(version) = self.next {
             self.version = version;
             self.next = ImageState::None;
-            std::mem::swap(&mut self.running, &mut self.next_file);
-            self.next_file.clear();
+            self.files.promote();
         }
     }
 
@@ -136,7 +124,7 @@ impl Slots {
             → self.new.slots.next ≡ ImageState.Valid version }
     {
         if self.next != ImageState::None {
-            self.next = ImageView::read(&self.next_file, self.hw, 2);
+            self.next = ImageView::read(self.files.second(), self.hw, 2);
         }
         self.formats = 2;
     }
@@ -146,7 +134,7 @@ impl Slots {
         ensures version { result.0 ≡ self.now.slots.version }
         ensures file { result.1.now ≡ self.now.slots.running }
     {
-        (self.version, self.running.as_slice())
+        (self.version, self.files.first())
     }
 
     /// What next is to the device.
@@ -161,17 +149,8 @@ impl Slots {
         ensures { self.new ≡ record self.old { slots = without_next self.old.slots } }
     {
         self.next = ImageState::None;
-        self.next_file.clear();
+        self.files.clear();
     }
-}
-
-/// Has memory for so many bytes, those included that are there.
-fn hold(bytes: &mut Vec<u8>, n: usize) -> Result<(), AllocError>
-    ensures items { bytes.new.items ≡ bytes.old.items }
-    ensures room { OnOk result (n ≤ vec_capacity bytes.new) }
-    ensures capacity { vec_capacity bytes.old ≤ vec_capacity bytes.new }
-{
-    bytes.reserve_exact(n.saturating_sub(bytes.len()))
 }
 
 /// The answer to the wish to delete a version.

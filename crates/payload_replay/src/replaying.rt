@@ -137,7 +137,7 @@ impl Replaying {
     }
 }
 
-/// The device hears the payload of a line that comes after so many; or the line is refused.
+/// The device hears the payload of a line that comes after so many; or the line is refused, or memory was wanting.
 fn hear_line(
     device: &mut Device<CellFlash>,
     lines: u32,
@@ -151,10 +151,10 @@ fn hear_line(
     ensures refused { IfErr result (IsLineRefused payload_of lines line.now) }
 {
     match read_payload(lines, line, room) {
-        Ok(count) => {
-            hear(device, &room[..count], u64::from(lines + 1));
-            Ok(())
-        }
+        Ok(count) => match hear(device, &room[..count], u64::from(lines + 1)) {
+            Ok(()) => Ok(()),
+            Err(_) => Err(LineError::Memory),
+        },
         Err(error) => Err(error),
     }
 }

@@ -1,5 +1,5 @@
 -- What the sessions of a device are, wherever they lie, with its flash, and for which they stand.
-use Rattle.std.specs.Prelude.{◌≡◌, ℕ, ◌*◌, ◌≤◌, Bool, true, false, List, Option, Some, None}
+use Rattle.std.specs.Prelude.{◌≡◌, ℕ, ◌*◌, ◌≤◌, Bool, true, false, not, ◌&&◌, if◌then◌else◌, List, Option, Some, None}
 use Rattle.session_store.specs.Rows.{extent_for}
 use Rattle.flash_session.specs.Layout.{records_place}
 use Rattle.session_store.specs.declared.held_slots.Layout.{Layout}
@@ -86,6 +86,10 @@ StateFiles layout (Down idles whole) n = layout.area ≤ n
 
 abbrev pub HasFiles : {F : Type 0} → HeldStore F → ℕ → Type 0
 HasFiles store n = StateFiles store.layout store.state n
+
+-- the longest file that there is memory for at the start
+abbrev pub first_area : Layout → (held : Bool) → ℕ
+first_area layout held = if layout.late && not held then 0 else layout.area
 
 -- there is memory for what there was memory for, and no file may be longer
 pub record KeepsMemory {F : Type 0} (old new : HeldStore F) : Type 0 where

@@ -38,6 +38,8 @@ pub struct Layout {
     pub area: u32,
     /// Bytes of flash of a session that is held: 24,640 at least, and four times it within the flash.
     pub span: u32,
+    /// Whether sessions in memory alone take their memory by `provide`, and none at the start.
+    pub late: bool,
     pub limits: Limits,
 }
 

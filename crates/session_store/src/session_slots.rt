@@ -56,7 +56,8 @@ impl SessionSlots {
     pub fn reserve(alloc: Global, area: u32) -> Result<Self, Memory>
         ensures stands { IfOk result (λ s. SessionsStand s no_sessions) }
         ensures area { IfOk result (λ s. s.area ≡ area) }
-        ensures all { IfOk result (λ s. (limits : Limits) (req : SetupReq) → MaySetUp s limits req) }
+        ensures all { IfOk result
+            (λ s. (limits : Limits) (req : SetupReq) → MaySetUp s limits req) }
         ensures files { IfOk result (λ s. FilesFit s area) }
     {
         SessionSlots::made(alloc, area, extent_for(area))
@@ -99,7 +100,8 @@ impl SessionSlots {
     pub fn provide(&mut self, req: SetupReq, limits: Limits) -> Result<(), Memory>
         requires { req.index < 4 }
         ensures given { OnOk result (MaySetUp self.new limits req) }
-        ensures keeps { (l : Limits) (r : SetupReq) → MaySetUp self.old l r → MaySetUp self.new l r }
+        ensures keeps { (l : Limits) (r : SetupReq) → MaySetUp self.old l r
+            → MaySetUp self.new l r }
         ensures files { (n : ℕ) → FilesFit self.old n
             → min (req.nb_frag * req.frag_size) self.old.area ≤ n → FilesFit self.new n }
         ensures stands { TableBecomes self.old self.new (λ table. table) }

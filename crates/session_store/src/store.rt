@@ -10,7 +10,7 @@ ghost use Rattle.flash_session.specs.Moments.{Elapses, LeavesOnly};
 ghost use Rattle.session_store.specs.SessionTable.{SessionTable, no_sessions, session_at, with_session, table_after_setup, table_after_fragment};
 ghost use Rattle.session_store.specs.HeldForeign.{NoneForeign, IsForeignIn};
 ghost use Rattle.session_store.specs.HeldPlaces.{AreIdle, PlacesStand, TableLies};
-ghost use Rattle.session_store.specs.HeldStore.{IsUp, IsDown, IsInFlash, StateFits, StateStands, StateIsStored, StateIsHeld, HasRanges, IsLaidOut, StateMay, StateFiles, HasMemory, HasFiles, KeepsMemory, store_room};
+ghost use Rattle.session_store.specs.HeldStore.{IsUp, IsDown, IsInFlash, StateFits, StateStands, StateIsStored, StateIsHeld, HasRanges, IsLaidOut, StateMay, StateFiles, HasMemory, HasFiles, KeepsMemory, first_area, store_room};
 ghost use Rattle.session_store.specs.Whole.{is_complete, is_whole, whole_of, none_whole};
 ghost use Rattle.session_store.specs.declared.store.State.TheVariants.{Down};
 
@@ -72,7 +72,8 @@ impl<F: Flash + Drop> Model for SessionStore<F> {
 
 impl<F: Flash + Drop> SessionStore<F> {
     /// Where `held` is false in memory alone, and no flash is called; else down over the flash, in four ranges that lie
-    /// within it, until `power`. Memory comes where memory is wanting, and the flash is dropped then.
+    /// within it, until `power`. All memory is taken at once, but where the layout is late and they are in memory alone none:
+    /// then each setup needs a `provide` before it. Memory comes where memory is wanting, and the flash is dropped then.
     pub fn reserve(alloc: Global, flash: F, layout: Layout, held: bool) -> Result<Self, Memory>
         requires { held ≡ true → HasRanges layout (F.room flash) }
         ensures memory { held ≡ false → IfOk result (λ s. StateStands s.state no_sessions) }
@@ -80,8 +81,8 @@ impl<F: Flash + Drop> SessionStore<F> {
             → IfOk result (λ s. (idles : _) × (s.state ≡ Down idles none_whole)) }
         ensures laid { IfOk result (λ s. (s.layout ≡ layout) × (s.held ≡ held)) }
         ensures flash { IfOk result (λ s. s.flash ≡ flash) }
-        ensures all { IfOk result (λ s. (req : SetupReq) → HasMemory s req) }
-        ensures files { IfOk result (λ s. HasFiles s layout.area) }
+        ensures all { layout.late ≡ false → IfOk result (λ s. (req : SetupReq) → HasMemory s req) }
+        ensures files { IfOk result (λ s. HasFiles s (first_area layout held)) }
     {
         match first_state(alloc, layout, held) {
             Ok(state) => Ok(SessionStore {
@@ -89,28 +90,6 @@ impl<F: Flash + Drop> SessionStore<F> {
                 layout,
                 held,
                 state: Some(state),
-            }),
-            Err(error) => {
-                drop(flash);
-                Err(error)
-            }
-        }
-    }
-
-    /// In memory alone, and without memory for any session: each setup needs a `provide` before it. No flash is called.
-    /// Memory comes where memory is wanting, and the flash is dropped then.
-    pub fn late(alloc: Global, flash: F, layout: Layout) -> Result<Self, Memory>
-        ensures memory { IfOk result (λ s. StateStands s.state no_sessions) }
-        ensures laid { IfOk result (λ s. (s.layout ≡ layout) × (s.held ≡ false)) }
-        ensures flash { IfOk result (λ s. s.flash ≡ flash) }
-        ensures files { IfOk result (λ s. HasFiles s 0) }
-    {
-        match SessionSlots::late(alloc, layout.area) {
-            Ok(slots) => Ok(SessionStore {
-                flash,
-                layout,
-                held: false,
-                state: Some(State::Memory(slots)),
             }),
             Err(error) => {
                 drop(flash);
@@ -470,8 +449,9 @@ impl<F: Flash + Drop> SessionStore<F> {
 fn first_state(alloc: Global, layout: Layout, held: bool) -> Result<State, Memory>
     ensures memory { held ≡ false → IfOk result
         (λ state. StateStands state no_sessions × StateFits layout false 0 state) }
-    ensures all { IfOk result (λ state. (req : SetupReq) → StateMay layout state req) }
-    ensures files { IfOk result (λ state. StateFiles layout state layout.area) }
+    ensures all { layout.late ≡ false
+        → IfOk result (λ state. (req : SetupReq) → StateMay layout state req) }
+    ensures files { IfOk result (λ state. StateFiles layout state (first_area layout held)) }
     ensures down { held ≡ true
         → IfOk result (λ state. (idles : _) × (state ≡ Down idles none_whole)
         × AreIdle layout.area idles) }
@@ -487,6 +467,11 @@ fn first_state(alloc: Global, layout: Layout, held: bool) -> Result<State, Memor
                     fourth: false,
                 },
             )),
+            Err(error) => Err(error),
+        }
+    } else if layout.late {
+        match SessionSlots::late(alloc, layout.area) {
+            Ok(slots) => Ok(State::Memory(slots)),
             Err(error) => Err(error),
         }
     } else {

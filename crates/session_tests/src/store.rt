@@ -1,4 +1,4 @@
-//! A small update into sessions in flash, stopped at each call of the flash.
+//! A small update into sessions in flash, stopped at each call of the flash, and into sessions in memory alone.
 
 ghost use Rattle.std.specs.Prelude.{◌*◌, ◌≤◌};
 
@@ -15,6 +15,7 @@ const SPAN: u32 = 24_640 + 9 * 11;
 const LAYOUT: Layout = Layout {
     area: 8,
     span: SPAN,
+    late: false,
     limits: Limits {
         sessions: 4,
         rows: 4,
@@ -242,4 +243,25 @@ fn an_update_goes_on_after_a_stop_at_any_call(rt: HostRuntime) {
         }
     }
     panic!(&rt; "it never ends");
+}
+
+/// The update in memory alone, all of it taken at the start or by each setup.
+fn goes_in_memory(rt: &impl Abort, alloc: Global, late: bool) {
+    let flash = StopFlash::over(memory(rt, alloc), 0);
+    let layout = Layout { late, ..LAYOUT };
+    match SessionStore::reserve(alloc, flash, layout, false) {
+        Ok(mut store) => {
+            assert!(rt; updated(rt, &mut store, 0) == 8);
+            assert!(rt; is_done(&store));
+            drop(store);
+        }
+        Err(_) => panic!(rt; "no memory"),
+    }
+}
+
+#[test]
+fn an_update_in_memory_calls_no_flash(rt: HostRuntime) {
+    for late in [false, true] {
+        goes_in_memory(&rt, rt.alloc(), late);
+    }
 }
