@@ -6,9 +6,9 @@ ghost use Rattle.device_core.specs.Sendable.{IsSendable};
 
 use crate::uplink::{Uplink, UplinkCommand};
 use arrayvec::ArrayVec;
-use package_grammar::spelled;
+use package_grammar::spell;
 use std::marker::Model;
-use wire_base::Direction;
+use wire_base::{Direction, Payload};
 
 /// The bytes of the longest answer, McGroupStatusAns with four groups.
 const LONGEST: usize = 22;
@@ -36,7 +36,9 @@ impl HeldUplink {
         requires { IsSendable answer.port answer.command }
         ensures { result ≡ uplink_of answer.entry }
     {
-        let payload = spelled(answer.port, Direction::Up, &answer.command);
+        // (where it lies, so that no payload is moved)
+        let mut payload = Payload::new();
+        spell(answer.port, Direction::Up, &answer.command, &mut payload);
         let mut bytes = ArrayVec::new();
         if bytes.try_extend_from_slice(payload.as_slice()).is_err() {
             unreachable!();
