@@ -98,14 +98,14 @@ static int receiver_answers(void) {
     return 0;
 }
 
-static int device_answers(bool is_late) {
+static int device_answers(void) {
     static const uint8_t setup[11] = {0x02, 0x00, 0x03, 0x00, 0x02, 0x00, 0x01, 0x07, 0x00, 0x00, 0x00};
     static const uint8_t rows[3][5] = {
         {0x08, 0x01, 0x00, 0x11, 0x22}, {0x08, 0x03, 0x00, 0x55, 0x00}, {0x08, 0x04, 0x00, 0x33, 0x44}};
     static const uint8_t answer[2] = {0x02, 0x00};
     fuota_device device = FUOTA_DEVICE_NONE;
     fuota_config config = {.hw = 1, .area = 12288, .rows = 16, .formats = 2, .sessions = 1, .groups = 1,
-                           .is_class_c = true, .is_late = is_late};
+                           .is_class_c = true};
     fuota_arrival arrival = {.t = 1000, .mark = 5};
     fuota_uplink up = {.port = 1};
     fuota_view view = {0};
@@ -226,6 +226,6 @@ int main(int argc, char **argv) {
         fclose(file);
     if (length != 52)
         return 2;
-    return without_objects() || receiver_answers() || device_answers(false) || device_answers(true)
-        || server_answers(image, length) || decode_answers();
+    return without_objects() || receiver_answers() || device_answers() || server_answers(image, length)
+        || decode_answers();
 }

@@ -130,7 +130,6 @@ typedef struct fuota_config {
     uint8_t groups;      /* multicast groups, 1 to 4 */
     bool has_descriptor;
     bool is_class_c;     /* it always hears unicast payloads; else in the two windows behind its uplink */
-    bool is_late;        /* memory for sessions and images is taken when a setup needs it, and not at the start */
     uint8_t key[16];     /* GenAppKey of LoRaWAN 1.0, in the order of the standard's keys */
 } fuota_config;
 
@@ -151,9 +150,8 @@ typedef struct fuota_uplink {
     uint8_t payload[242]; /* in the order in which they are sent; the bytes behind `length` are as they were */
 } fuota_uplink;
 
-/* Frees what was there, and puts a new device into the handle, with all memory that it will ever need, but where it
- * takes that late: FUOTA_DONE; FUOTA_RANGE where a number of the configuration is out of range, or FUOTA_NO_MEMORY, and
- * then there is no device. */
+/* Frees what was there, and puts a new device into the handle, with all memory that it will ever need: FUOTA_DONE;
+ * FUOTA_RANGE where a number of the configuration is out of range, or FUOTA_NO_MEMORY, and then there is no device. */
 uint8_t fuota_device_new(fuota_device *handle, const fuota_config *config);
 
 /* Frees the device, if there is one; the handle has none afterwards, and may be freed again. */
@@ -162,8 +160,7 @@ void fuota_device_free(fuota_device *handle);
 /* A payload comes: FUOTA_DONE, where its commands acted; FUOTA_DEAF, FUOTA_REFUSED, FUOTA_FULL, where they did not,
  * which is counted; FUOTA_RANGE at more than 242 bytes, and at a `t` out of range; FUOTA_NO_OBJECT. A reboot that is
  * due at `t` is carried out before the payload and behind it, also where its commands do not act, but not at
- * FUOTA_RANGE. FUOTA_NO_MEMORY comes to a device that takes memory late alone, where there is not enough for a setup:
- * then nothing acted, was counted or carried out, and the payload may be delivered again. */
+ * FUOTA_RANGE. */
 uint8_t fuota_device_deliver(fuota_device *handle, uint8_t port, const uint8_t *payload, size_t length,
                              const fuota_arrival *arrival);
 

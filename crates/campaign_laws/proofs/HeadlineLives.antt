@@ -4,7 +4,7 @@ use Rattle.std.proofs.lemmas.Bool.{le-leb}
 use Rattle.std.proofs.lemmas.Bool.Decides.{nat_tests}
 use Rattle.std.proofs.lemmas.Grind.{div_ceil_times}
 use Rattle.frag_encoder.specs.Encoding.{nb_frag_of, padding_of}
-use Rattle.row_elimination.specs.Room.{words_for, has_room}
+use Rattle.row_elimination.specs.Room.{extent_for, words_for, has_room}
 use Rattle.frag_session.specs.declared.setups.SetupReq.{SetupReq}
 use Rattle.frag_session.specs.Setup.{flash_for, too_long, wrong_coding, too_large, other_descriptor, setup_bits}
 use Rattle.frag_session.specs.Session.{Session}
@@ -12,7 +12,7 @@ use Rattle.image_slots.specs.Image.{is_image, firmware_of}
 use Rattle.image_slots.proofs.ImageLemmas.{image_long, image_short}
 use Rattle.package_grammar.specs.declared.command.Command.{Command}
 use Rattle.device_core.specs.declared.config.DeviceConfig.{DeviceConfig}
-use Rattle.device_core.specs.Device.{limits_of, room_of, max_area, max_rows, row_words, row_bytes, extent_for}
+use Rattle.device_core.specs.Device.{limits_of, room_of, max_area, max_rows, row_words, row_bytes}
 use Rattle.frag_model.specs.Limits.{max_frag_size, max_pieces}
 use Rattle.row_elimination.specs.HeldTable.{max_line_words}
 use Rattle.campaign_world.specs.declared.section.Section.{Section}
@@ -53,7 +53,7 @@ min_first : (a b : ℕ) → min a b ≤ a
 min_first a b = grind (arith, nat_tests)
 
 room_there : (config : DeviceConfig) (pieces size : ℕ) → IsBounded config → pieces ≤ max_pieces → size ≤ max_frag_size
-    → pieces * size ≤ max_area → has_room (extent_for config.area) pieces size (min config.rows pieces) ≡ true
+    → pieces * size ≤ max_area → has_room row_words row_bytes (extent_for config.area) pieces size (min config.rows pieces) ≡ true
 unfolding has_room
 room_there config pieces size k few small fits =
     let rows : min config.rows pieces ≤ max_rows = omega (arith, min_first config.rows pieces, k.rows) in

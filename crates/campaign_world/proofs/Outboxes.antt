@@ -1,6 +1,4 @@
 -- Uplinks that are taken of a device, one after another.
-use Rattle.device_core.specs.HeldMemory.{Gives}
-use Rattle.device_core.proofs.Providing.{given_stands, given_stored}
 use Rattle.std.proofs.Common.{◌≡◌, ℕ, List, [], ◌∷◌, ◌++◌, map, Some, sym, ap, ◌∙◌, subst, append_assoc, append-nil}
 use Rattle.device_core.specs.declared.uplink.Uplink.{Uplink}
 use Rattle.device_core.specs.Device.{DeviceState}
@@ -62,11 +60,3 @@ rests_raised old new d becomes goes rests =
       stored = stored_aside old new after_migration d goes rests.stands rests.stored;
       empty = empty;
     }
-
--- a device that was given memory rests as it did
-pub rests_given : (old mid : HeldDevice Cells) (d : DeviceState) → Gives old mid → HeldRests old d → HeldRests mid d
-rests_given old mid d gives rests = record {
-  stands = given_stands old mid gives d rests.stands;
-  stored = given_stored (λ (f : Cells) (c : List ℕ). c ≡ f.bytes) (λ f m c. ⊥) (λ f. 0) old mid gives d.sessions rests.stored;
-  empty = ap (λ (h : HeldDevice Cells). h.outbox) gives.rest ∙ rests.empty;
-}

@@ -270,10 +270,9 @@ one_more_stands held world stands = record { devices = stands.devices; rest = ap
 
 -- ---- what stays where memory is wanting
 
--- the devices stand for what they did, and the server is as it was
-pub ends_alike : (old new : HeldWorld) → ((all : List DeviceState) → DevicesRest old.devices all → DevicesRest new.devices all)
-    → new.server ≡ old.server → KeepsEnds old new
+-- devices and server are as they were
+pub ends_alike : (old new : HeldWorld) → new.devices ≡ old.devices → new.server ≡ old.server → KeepsEnds old new
 ends_alike old new devices server world stands = record {
-  devices = devices world.devices stands.devices;
+  devices = rw (devices) stands.devices;
   server = ap (λ (w : WorldState). w.server) stands.rest ∙ sym server;
 }

@@ -198,7 +198,7 @@ Becomes lines here there old new result after =
 abbrev pub Plays : (lines : ℕ) → (old new : HeldCampaign) → {E : Type 0} → Result (Unit {0}) E → (WorldState → WorldState) → Type 0
 Plays lines old new result after = (here : Section) → Becomes lines here section.Events old new result after
 
--- the devices stand for what they did, and the server is as it was
+-- devices and server are as they were
 pub record SameEnds (old new : HeldCampaign) : Type 0 where
-  pub devices : (all : List DeviceState) → DevicesRest old.devices all → DevicesRest new.devices all
+  pub devices : new.devices ≡ old.devices
   pub server : new.server ≡ old.server

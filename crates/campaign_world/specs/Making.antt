@@ -79,7 +79,6 @@ config_of class hw rows offset key descriptor v1 k11 flash = record {
   sessions = 4;
   groups = 4;
   area = max_area;
-  late = true;
   held = flash;
   span = span_of flash;
 }

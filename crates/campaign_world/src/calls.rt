@@ -1,7 +1,7 @@
 //! What reaches a device or wakes it, and the uplinks that are then taken of it; that it knows both image formats from
 //! then on; and its power, as it comes first and anew.
 
-ghost use Rattle.std.specs.Prelude.{◌≡◌, ℕ, ◌≤◌, ◌+◌, List, length, replicate, OnOk, OnErr};
+ghost use Rattle.std.specs.Prelude.{◌≡◌, ℕ, ◌≤◌, ◌+◌, List, length, replicate};
 ghost use Rattle.device_core.specs.Device.{DeviceState, first_device, max_moment, outbox_size};
 ghost use Rattle.device_core.specs.Deliver.{delivery, waking};
 ghost use Rattle.device_core.specs.Radio.{radio};
@@ -14,41 +14,33 @@ ghost use Rattle.campaign_world.specs.HeldLog.{HasRoom};
 ghost use Rattle.campaign_world.specs.WorldInside.{StayMade};
 
 use crate::logs::UplinkLog;
-use device_core::{Delivered, Device, Incoming, Moment, Uplink};
+use device_core::{Device, Incoming, Moment, Uplink};
 use flash_session::CellFlash;
-use std::alloc::AllocError;
 use wire_base::Payload;
 
 /// Uplinks that a device holds at most, and so those that one event can make.
 pub const OUTBOX: usize = 8;
 
-/// A payload reaches a device, whose uplinks are taken. Where there is no memory for its setups it does not act.
+/// A payload reaches a device, whose uplinks are taken.
 pub fn reach_device(
     device: &mut Device<CellFlash>,
     uplinks: &mut UplinkLog,
     id: u8,
     down: &Incoming<'_>,
     coming: Moment,
-) -> Result<(), AllocError>
+)
     requires first { 1 ≤ id }
     requires moment { coming.t ≤ max_moment }
     requires room { HasRoom outbox_size uplinks.old }
     ensures made { StayMade id uplinks.old.items uplinks.new.items }
-    ensures rests { OnOk result (ComesToRest HeldRests
-        (λ d. (delivery coming.t coming.word coming.mark down.now d).device) device.old device.new) }
-    ensures uplinks { OnOk result (AreNumbered HeldRests
+    ensures rests { ComesToRest HeldRests
+        (λ d. (delivery coming.t coming.word coming.mark down.now d).device) device.old device.new }
+    ensures uplinks { AreNumbered HeldRests
         (λ d. (delivery coming.t coming.word coming.mark down.now d).device) device.old id
-        uplinks.old.items uplinks.new.items) }
-    ensures stays { OnErr result
-        ((d : DeviceState) → HeldRests device.old d → HeldRests device.new d) }
+        uplinks.old.items uplinks.new.items }
 {
-    match device.receive(coming.t, down, coming.word, coming.mark) {
-        Delivered::NoMemory => Err(AllocError),
-        _ => {
-            take_uplinks(id, device, uplinks);
-            Ok(())
-        }
-    }
+    let _delivered = device.receive(coming.t, down, coming.word, coming.mark);
+    take_uplinks(id, device, uplinks);
 }
 
 /// Bytes reach the radio of a device, whose uplinks are taken.

@@ -15,7 +15,7 @@ use device_core::{Incoming, Moment};
 use std::alloc::{AllocError, Global};
 
 /// A payload reaches the device with a number, whose uplinks are taken, oldest first. Where there is no memory for them
-/// the device is not called, and where there is none for its setups it does not act.
+/// the device is not called.
 #[inline(always)]
 pub fn deliver(
     devices: &mut Vec<LateDevice>,
@@ -36,8 +36,7 @@ pub fn deliver(
     ensures uplinks { OnOk result (OnesAreNumbered
         (λ d. (delivery coming.t coming.word coming.mark down.now d).device)
         devices.old.items id uplinks.old.items uplinks.new.items) }
-    ensures stays { OnErr result ((all : List DeviceState) → DevicesRest devices.old.items all
-        → DevicesRest devices.new.items all) }
+    ensures same { OnErr result (devices.new.items ≡ devices.old.items) }
 {
     match uplinks.reserve() {
         Ok(()) => {}

@@ -87,7 +87,8 @@ impl LateDevice {
     }
 }
 
-/// The device at its start. It stands alone, so that no line sees to the room for a whole device.
+/// The device at its start, with all memory that it will ever need. It stands alone, so that no line sees to the room
+/// for a whole device.
 #[inline(never)]
 fn reserved(alloc: Global, config: DeviceConfig) -> Result<Box<Device<CellFlash>>, AllocError>
     requires fine { is_config config ≡ true }
@@ -114,8 +115,7 @@ fn reserved(alloc: Global, config: DeviceConfig) -> Result<Box<Device<CellFlash>
     }
 }
 
-/// A payload reaches a device, whose uplinks are taken. Where there is no memory for the device, or for its setups, nothing
-/// happened.
+/// A payload reaches a device, whose uplinks are taken. Where there is no memory for the device nothing happened.
 #[inline(always)]
 pub fn reach(
     late: &mut LateDevice,
@@ -134,8 +134,7 @@ pub fn reach(
     ensures uplinks { OnOk result (AreNumbered DeviceRests
         (λ d. (delivery coming.t coming.word coming.mark down.now d).device) late.old id
         uplinks.old.items uplinks.new.items) }
-    ensures stays { OnErr result
-        ((d : DeviceState) → DeviceRests late.old d → DeviceRests late.new d) }
+    ensures same { OnErr result (late.new ≡ late.old) }
 {
     match late.come(alloc) {
         Ok(()) => {}
@@ -144,7 +143,8 @@ pub fn reach(
     let Some(device) = &mut late.came else {
         unreachable!()
     };
-    reach_device(device, uplinks, id, down, coming)
+    reach_device(device, uplinks, id, down, coming);
+    Ok(())
 }
 
 /// Bytes reach the radio of a device, whose uplinks are taken. Where there is no memory for the device nothing happened.

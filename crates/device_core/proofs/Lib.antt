@@ -1,5 +1,4 @@
 pub mod Outboxes
-pub mod Lengths
 pub mod Deliveries
 pub mod Radio
 pub mod WholeFiles
@@ -16,8 +15,6 @@ pub mod Running
 pub mod Keeping
 pub mod Quiet
 pub mod Stored
-pub mod Providing
-pub mod NoSetups
 pub mod Powered
 pub mod Downs
 pub mod Empties

@@ -15,7 +15,7 @@ use Rattle.device_core.specs.declared.counts.Counts.{Counts}
 use Rattle.device_core.specs.declared.uplink.Uplink.{Uplink}
 use Rattle.device_core.specs.SessionTable.{SessionTable, no_sessions}
 -- what is kept for the rows of a session
-pub use Rattle.session_store.specs.Rows.{row_words, row_bytes, extent_for}
+pub use Rattle.session_store.specs.Rows.{row_words, row_bytes}
 
 -- clock: its offset and token; last_due: when the uplink that it made last is due, in ms of true time;
 -- groups: a place for each id; reboot: the moment that is set, in seconds of its clock;
@@ -93,7 +93,7 @@ abbrev pub limits_of : DeviceConfig → Limits
 limits_of config = record { sessions = config.sessions; rows = config.rows; descriptor = config.descriptor }
 
 abbrev pub layout_of : DeviceConfig → Layout
-layout_of config = record { area = config.area; span = config.span; late = config.late; limits = limits_of config }
+layout_of config = record { area = config.area; span = config.span; limits = limits_of config }
 
 -- the room for a session: where it is held in flash, its range too
 abbrev pub room_of : DeviceConfig → Room

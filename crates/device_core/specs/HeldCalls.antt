@@ -117,7 +117,6 @@ pub record FailsOnAir {F : Type 0} (t word mark : ℕ) (bytes : List ℕ) (devic
 abbrev pub IsPlain : Delivered → Type 0
 IsPlain answer.FlashFault = ⊥
 IsPlain answer.Down = ⊥
-IsPlain answer.NoMemory = ⊥
 IsPlain delivered = Unit {0}
 
 -- ---- power

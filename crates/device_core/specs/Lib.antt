@@ -14,7 +14,6 @@ pub mod WorkedSteps
 pub mod Sendable
 pub mod HeldSessions
 pub mod HeldDevice
-pub mod HeldMemory
 pub mod OutboxInside
 pub mod DeviceInside
 pub mod Events

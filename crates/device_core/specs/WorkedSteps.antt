@@ -42,7 +42,6 @@ worked_config class offset = record {
   key = replicate 16 0;
   root = V10;
   formats = 2;
-  late = false;
   descriptor = None;
   sessions = 4;
   groups = 4;

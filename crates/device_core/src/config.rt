@@ -49,8 +49,6 @@ pub struct DeviceConfig {
     pub groups: u8,
     /// Bytes of the file area of a session, 1 to 262,382.
     pub area: u32,
-    /// Whether memory for sessions in memory alone, and for images, is taken when a payload needs it, and not at the start.
-    pub late: bool,
     /// Whether its sessions are held in its flash, and so outlast a stop.
     pub held: bool,
     /// Bytes of flash of a session that is held, 24,640 at least, and four times it within the flash; that of index i
@@ -107,7 +105,6 @@ pub(crate) fn layout_of(config: &DeviceConfig) -> Layout
     Layout {
         area: config.area,
         span: config.span,
-        late: config.late,
         limits: limits_of(config),
     }
 }

@@ -18,8 +18,6 @@ pub enum Delivered {
     FlashFault,
     /// Its sessions are down until power comes; nothing acted or was counted.
     Down,
-    /// There was not enough memory for a setup, of a device that takes it late; nothing acted or was counted.
-    NoMemory,
 }
 
 /// What became of bytes that the radio heard.

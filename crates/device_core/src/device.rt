@@ -5,7 +5,6 @@ ghost use Rattle.wire_base.specs.declared.refusal.Direction.{Direction};
 ghost use Rattle.wire_base.specs.Payload.{max_payload};
 ghost use Rattle.cast_wire.specs.declared.cmd.Cmd.TheVariants.{DataFragment};
 ghost use Rattle.package_grammar.specs.declared.command.Command.TheVariants.{Cast};
-ghost use Rattle.package_grammar.specs.declared.downlink.To.TheVariants.{Unicast};
 ghost use Rattle.frag_session.specs.Session.{view_of};
 ghost use Rattle.frag_session.specs.HeldView.{seen};
 ghost use Rattle.flash_session.specs.Contents.{Same, Follows, HasRisen};
@@ -21,8 +20,6 @@ ghost use Rattle.device_core.specs.Firmware.{after_due_reboot, after_migration};
 ghost use Rattle.device_core.specs.Deliver.{message_delivery, read_delivery, heard_delivery, arrival, delivery, time_asking, waking, taking, commands_read, commands_of};
 ghost use Rattle.device_core.specs.Radio.{radio};
 ghost use Rattle.device_core.specs.HeldSessions.{IsUp, IsDown, IsInFlash, StateIsStored, StateIsHeld, IsLaidOut};
-ghost use Rattle.package_grammar.specs.declared.command.Command.{Command};
-ghost use Rattle.device_core.specs.HeldMemory.{IsProvided, MayActAll, Gives};
 ghost use Rattle.device_core.specs.HeldCalls.{StaysStored, LeavesPassed, HadWhole, Keeps, FailsAt, FailsIn, FailsWithin, FailsOnAir, IsPlain};
 ghost use Rattle.device_core.specs.Passed.{tables_of, message_tables, read_tables, heard_tables, tables_passed, tables_aired};
 ghost use Rattle.device_core.specs.Power.{after_power};
@@ -33,7 +30,6 @@ mod clock;
 mod firmware;
 mod fragments;
 mod groups;
-mod late;
 mod radio;
 mod windows;
 
@@ -115,10 +111,9 @@ impl<F: Flash + Drop> Device<F> {
     ghost use Rattle.device_core.specs.HeldDevice.{DeviceStands, Becomes, Makes, GoesAside, IsReserved, TakesOldest, device_of, held_with_answers};
     ghost use Rattle.device_core.specs.Sendable.{IsSendable, IsUplink};
 
-    /// A device at its start, with all memory that it will ever need; one that takes memory late takes that of its sessions in
-    /// memory alone and of images before each setup. BadConfig comes exactly where a number of the configuration is out of its
-    /// bounds, or its sessions are to be held and the flash has no room for them. No flash is called; a device whose sessions
-    /// are held is down until `power`. At an error the flash is dropped.
+    /// A device at its start, with all memory that it will ever need. BadConfig comes exactly where a number of the
+    /// configuration is out of its bounds, or its sessions are to be held and the flash has no room for them. No flash is
+    /// called; a device whose sessions are held is down until `power`. At an error the flash is dropped.
     pub fn reserve(alloc: Global, config: DeviceConfig, flash: F) -> Result<Self, ReserveError>
         ensures { IsReserved config (F.room flash) flash result }
     {
@@ -126,12 +121,7 @@ impl<F: Flash + Drop> Device<F> {
             return Err(ReserveError::BadConfig);
         }
         let layout = layout_of(&config);
-        let area = if config.late && !config.held {
-            0
-        } else {
-            config.area
-        };
-        let Ok(slots) = Slots::reserve(alloc, area, config.hw, config.formats) else {
+        let Ok(slots) = Slots::reserve(alloc, config.area, config.hw, config.formats) else {
             return Err(ReserveError::Memory);
         };
         let Ok(outbox) = Outbox::reserve(alloc) else {
@@ -167,15 +157,12 @@ impl<F: Flash + Drop> Device<F> {
     /// before acted, no other did, no reboot is carried out behind, and the sessions are down.
     pub fn deliver(&mut self, t: u64, down: &Downlink, word: u32, mark: u64) -> Delivered
         requires { t ≤ max_moment }
-        ensures makes { result ≢ Delivered.FlashFault → result ≢ Delivered.NoMemory
+        ensures makes { result ≢ Delivered.FlashFault
             → Makes Delivered self.old self.new result (delivery t word mark down.now) }
         // Down comes exactly where the sessions are down, and changes nothing.
         ensures down { result ≡ Delivered.Down → IsDown self.old.sessions.state }
         ensures up { result ≢ Delivered.Down → IsUp self.old.sessions.state }
         ensures still { result ≡ Delivered.Down → self.new ≡ self.old }
-        // NoMemory comes to a device that takes memory late, and changes nothing else.
-        ensures memory { result ≡ Delivered.NoMemory
-            → (self.old.config.late ≡ true) × (down.now.to ≡ Unicast) × Gives self.old self.new }
         // The flash failed at a command: those before it acted, and neither it nor those behind it.
         ensures fails { result ≡ Delivered.FlashFault → (device : DeviceState)
             → DeviceStands self.old device
@@ -187,7 +174,7 @@ impl<F: Flash + Drop> Device<F> {
             → (result ≢ Delivered.FlashFault)
             × (self.new.sessions.flash ≡ self.old.sessions.flash) }
         // Those that are held are stored as the payload leaves them,
-        ensures stored { result ≢ Delivered.FlashFault → result ≢ Delivered.NoMemory
+        ensures stored { result ≢ Delivered.FlashFault
             → StaysStored F.holds F.left_since F.moment self.old self.new
             (λ device. (delivery t word mark down.now device).device) }
         // and a stop at any moment leaves them as they were, or as the payload's commands pass them.
@@ -202,15 +189,12 @@ impl<F: Flash + Drop> Device<F> {
     #[inline(always)]
     pub fn receive(&mut self, t: u64, down: &Incoming<'_>, word: u32, mark: u64) -> Delivered
         requires { t ≤ max_moment }
-        ensures makes { result ≢ Delivered.FlashFault → result ≢ Delivered.NoMemory
+        ensures makes { result ≢ Delivered.FlashFault
             → Makes Delivered self.old self.new result (delivery t word mark down.now) }
         // Down comes exactly where the sessions are down, and changes nothing.
         ensures down { result ≡ Delivered.Down → IsDown self.old.sessions.state }
         ensures up { result ≢ Delivered.Down → IsUp self.old.sessions.state }
         ensures still { result ≡ Delivered.Down → self.new ≡ self.old }
-        // NoMemory comes to a device that takes memory late, and changes nothing else.
-        ensures memory { result ≡ Delivered.NoMemory
-            → (self.old.config.late ≡ true) × (down.now.to ≡ Unicast) × Gives self.old self.new }
         // The flash failed at a command: those before it acted, and neither it nor those behind it.
         ensures fails { result ≡ Delivered.FlashFault → (device : DeviceState)
             → DeviceStands self.old device
@@ -222,7 +206,7 @@ impl<F: Flash + Drop> Device<F> {
             → (result ≢ Delivered.FlashFault)
             × (self.new.sessions.flash ≡ self.old.sessions.flash) }
         // Those that are held are stored as the payload leaves them,
-        ensures stored { result ≢ Delivered.FlashFault → result ≢ Delivered.NoMemory
+        ensures stored { result ≢ Delivered.FlashFault
             → StaysStored F.holds F.left_since F.moment self.old self.new
             (λ device. (delivery t word mark down.now device).device) }
         // and a stop at any moment leaves them as they were, or as the payload's commands pass them.
@@ -246,7 +230,7 @@ impl<F: Flash + Drop> Device<F> {
         ensures down { result ≡ Delivered.Down → IsDown self.old.sessions.state }
         ensures up { result ≢ Delivered.Down → IsUp self.old.sessions.state }
         ensures still { result ≡ Delivered.Down → self.new ≡ self.old }
-        ensures plain { (result ≢ Delivered.FlashFault) × (result ≢ Delivered.NoMemory) }
+        ensures plain { result ≢ Delivered.FlashFault }
         ensures untouched { self.new.sessions ≡ self.old.sessions }
         ensures stored { (word mark : ℕ)
             → StaysStored F.holds F.left_since F.moment self.old self.new
@@ -300,15 +284,12 @@ impl<F: Flash + Drop> Device<F> {
         requires parts { no_steps.parts ≡ L.parts }
         requires counted { 0 < no_steps.parts }
         requires moment { t ≤ max_moment }
-        ensures makes { result ≢ Delivered.FlashFault → result ≢ Delivered.NoMemory
+        ensures makes { result ≢ Delivered.FlashFault
             → Makes Delivered self.old self.new result (delivery t word mark down.now) }
         // Down comes exactly where the sessions are down, and changes nothing.
         ensures down { result ≡ Delivered.Down → IsDown self.old.sessions.state }
         ensures up { result ≢ Delivered.Down → IsUp self.old.sessions.state }
         ensures still { result ≡ Delivered.Down → self.new ≡ self.old }
-        // NoMemory comes to a device that takes memory late, and changes nothing else.
-        ensures memory { result ≡ Delivered.NoMemory
-            → (self.old.config.late ≡ true) × (down.now.to ≡ Unicast) × Gives self.old self.new }
         // The flash failed at a command: those before it acted, and neither it nor those behind it.
         ensures fails { result ≡ Delivered.FlashFault → (device : DeviceState)
             → DeviceStands self.old device
@@ -320,7 +301,7 @@ impl<F: Flash + Drop> Device<F> {
             → (result ≢ Delivered.FlashFault)
             × (self.new.sessions.flash ≡ self.old.sessions.flash) }
         // Those that are held are stored as the payload leaves them,
-        ensures stored { result ≢ Delivered.FlashFault → result ≢ Delivered.NoMemory
+        ensures stored { result ≢ Delivered.FlashFault
             → StaysStored F.holds F.left_since F.moment self.old self.new
             (λ device. (delivery t word mark down.now device).device) }
         // and a stop at any moment leaves them as they were, or as the payload's commands pass them.
@@ -344,15 +325,12 @@ impl<F: Flash + Drop> Device<F> {
         steps: &mut Steps<L>,
     ) -> Delivered
         requires { t ≤ max_moment }
-        ensures makes { result ≢ Delivered.FlashFault → result ≢ Delivered.NoMemory
+        ensures makes { result ≢ Delivered.FlashFault
             → Makes Delivered self.old self.new result (delivery t word mark down.now) }
         // Down comes exactly where the sessions are down, and changes nothing.
         ensures down { result ≡ Delivered.Down → IsDown self.old.sessions.state }
         ensures up { result ≢ Delivered.Down → IsUp self.old.sessions.state }
         ensures still { result ≡ Delivered.Down → self.new ≡ self.old }
-        // NoMemory comes to a device that takes memory late, and changes nothing else.
-        ensures memory { result ≡ Delivered.NoMemory
-            → (self.old.config.late ≡ true) × (down.now.to ≡ Unicast) × Gives self.old self.new }
         // The flash failed at a command: those before it acted, and neither it nor those behind it.
         ensures fails { result ≡ Delivered.FlashFault → (device : DeviceState)
             → DeviceStands self.old device
@@ -364,7 +342,7 @@ impl<F: Flash + Drop> Device<F> {
             → (result ≢ Delivered.FlashFault)
             × (self.new.sessions.flash ≡ self.old.sessions.flash) }
         // Those that are held are stored as the payload leaves them,
-        ensures stored { result ≢ Delivered.FlashFault → result ≢ Delivered.NoMemory
+        ensures stored { result ≢ Delivered.FlashFault
             → StaysStored F.holds F.left_since F.moment self.old self.new
             (λ device. (delivery t word mark down.now device).device) }
         // and a stop at any moment leaves them as they were, or as the payload's commands pass them.
@@ -388,15 +366,12 @@ impl<F: Flash + Drop> Device<F> {
         steps: &mut Steps<L>,
     ) -> Delivered
         requires { t ≤ max_moment }
-        ensures makes { result ≢ Delivered.FlashFault → result ≢ Delivered.NoMemory
+        ensures makes { result ≢ Delivered.FlashFault
             → Makes Delivered self.old self.new result (delivery t word mark down.now) }
         // Down comes exactly where the sessions are down, and changes nothing.
         ensures down { result ≡ Delivered.Down → IsDown self.old.sessions.state }
         ensures up { result ≢ Delivered.Down → IsUp self.old.sessions.state }
         ensures still { result ≡ Delivered.Down → self.new ≡ self.old }
-        // NoMemory comes to a device that takes memory late, and changes nothing else.
-        ensures memory { result ≡ Delivered.NoMemory
-            → (self.old.config.late ≡ true) × (down.now.to ≡ Unicast) × Gives self.old self.new }
         // The flash failed at a command: those before it acted, and neither it nor those behind it.
         ensures fails { result ≡ Delivered.FlashFault → (device : DeviceState)
             → DeviceStands self.old device
@@ -408,7 +383,7 @@ impl<F: Flash + Drop> Device<F> {
             → (result ≢ Delivered.FlashFault)
             × (self.new.sessions.flash ≡ self.old.sessions.flash) }
         // Those that are held are stored as the payload leaves them,
-        ensures stored { result ≢ Delivered.FlashFault → result ≢ Delivered.NoMemory
+        ensures stored { result ≢ Delivered.FlashFault
             → StaysStored F.holds F.left_since F.moment self.old self.new
             (λ device. (delivery t word mark down.now device).device) }
         // and a stop at any moment leaves them as they were, or as the payload's commands pass them.
@@ -422,9 +397,6 @@ impl<F: Flash + Drop> Device<F> {
     {
         if self.sessions.is_down() {
             return Delivered::Down;
-        }
-        if self.provide(down).is_err() {
-            return Delivered::NoMemory;
         }
         self.reboot_where_due(t);
         match self.hear(t, down, word, mark, steps) {
@@ -449,8 +421,6 @@ impl<F: Flash + Drop> Device<F> {
         ensures down { result ≡ Aired.Heard Delivered.Down → IsDown self.old.sessions.state }
         ensures up { result ≢ Aired.Heard Delivered.Down → IsUp self.old.sessions.state }
         ensures still { result ≡ Aired.Heard Delivered.Down → self.new ≡ self.old }
-        // What comes by multicast needs no memory.
-        ensures memory { result ≢ Aired.Heard Delivered.NoMemory }
         // The flash failed at a command of the payload that they brought.
         ensures fails { result ≡ Aired.Heard Delivered.FlashFault → (device : DeviceState)
             → DeviceStands self.old device
@@ -693,7 +663,6 @@ impl<F: Flash + Drop> Device<F> {
     ) -> Result<Delivered, FlashFault>
         requires moment { t ≤ max_moment }
         requires up { IsUp self.old.sessions.state }
-        requires memory { IsProvided self.old.sessions down.now }
         ensures makes { IfOk result
             (λ delivered. Makes Delivered self.old self.new delivered
             (heard_delivery t word mark down.now)) }
@@ -735,9 +704,6 @@ impl<F: Flash + Drop> Device<F> {
     ) -> Result<Delivered, FlashFault>
         requires moment { here.moment.t ≤ max_moment }
         requires up { IsUp self.old.sessions.state }
-        requires memory { (cs : List Command)
-            → reading_of here.port Direction.Down payload.now ≡ Ok cs
-            → MayActAll self.old.sessions here.via cs }
         ensures makes { let reading = reading_of here.port Direction.Down payload.now in
             IfOk result
             (λ delivered. Makes Delivered self.old self.new delivered
@@ -777,7 +743,6 @@ impl<F: Flash + Drop> Device<F> {
     ) -> Result<Delivered, FlashFault>
         requires moment { here.moment.t ≤ max_moment }
         requires up { IsUp self.old.sessions.state }
-        requires memory { MayActAll self.old.sessions here.via message.commands }
         requires port { message.port ≡ here.port }
         requires direction { message.direction ≡ Direction.Down }
         requires few { length message.commands ≤ 242 }
@@ -850,7 +815,6 @@ impl<F: Flash + Drop> Device<F> {
     ) -> Result<(), FlashFault>
         requires moment { here.moment.t ≤ max_moment }
         requires up { IsUp self.old.sessions.state }
-        requires memory { MayActAll self.old.sessions here.via message.commands }
         requires port { message.port ≡ here.port }
         requires direction { message.direction ≡ Direction.Down }
         requires room { length self.old.outbox + weights message.commands ≤ 8 }

@@ -3,13 +3,12 @@
 //! A device is seen as the record of `specs/Device.antt`, with the lists of all fragments that its sessions heard: each
 //! call leaves what one function of `specs/Deliver.antt`, `Radio`, `Power` or `Firmware` makes of that record, and
 //! answers what that function answers.
-//! `Device::reserve` takes all memory, and no other call does; or a device takes that of its sessions and images late, before
-//! a payload that sets up a session. Radio, clocks, random numbers, the flash and what runs the image are left to the caller.
+//! Only `Device::reserve` takes memory. Radio, clocks, random numbers, the flash and what runs the image are left to the caller.
 //! Its sessions are in memory alone, or held in the flash, and then outlast a stop: `power` opens them again.
 //!
-//!     let mut device = Device::reserve(alloc, config, flash)?; // all memory, unless `config.late`
+//!     let mut device = Device::reserve(alloc, config, flash)?; // all memory
 //!     device.power()?;                                         // where its sessions are held: they are up
-//!     device.deliver(t, &downlink, random_word, mark);         // done, deaf, refused, full, down, flash fault, no memory
+//!     device.deliver(t, &downlink, random_word, mark);         // deaf, refused, outbox full, done, flash fault, or down
 //!     device.radio(t, &bytes, random_word, mark);              // a multicast frame: foreign, or heard
 //!     while let Some(uplink) = device.take_uplink() { .. }     // uplink.due, uplink.port, uplink.payload
 //!     let file = device.session(0).map(|view| view.file);
@@ -21,7 +20,6 @@ mod config;
 mod counts;
 mod delivered;
 mod device;
-mod held_uplink;
 mod incoming;
 mod laws;
 mod moment;

@@ -6,11 +6,11 @@ ghost use Rattle.device_core.specs.Device.{outbox_size};
 ghost use Rattle.device_core.specs.HeldDevice.{TakesOldest};
 ghost use Rattle.device_core.specs.Sendable.{IsSendable, IsUplink};
 
-use crate::held_uplink::HeldUplink;
 use crate::uplink::{Uplink, UplinkCommand};
+use package_grammar::spell;
 use std::alloc::{AllocError, Global};
 use std::marker::Model;
-use wire_base::Payload;
+use wire_base::{Direction, Payload};
 
 /// How many uplinks a device holds before they are taken.
 pub const OUTBOX: usize = 8;
@@ -18,7 +18,7 @@ pub const OUTBOX: usize = 8;
 /// At most 8 uplinks, oldest first, in memory that is taken once. Contracts see their list.
 #[derive(Drop)]
 pub struct Outbox {
-    uplinks: Vec<HeldUplink>,
+    uplinks: Vec<Uplink>,
 }
 
 impl Model for Outbox {
@@ -65,7 +65,14 @@ impl Outbox {
         requires room { length self.old < outbox_size }
         ensures { self.new ≡ self.old ++ uplink_of answer.entry ∷ [] }
     {
-        self.uplinks.push_reserved(HeldUplink::of(answer));
+        let mut uplink = Uplink {
+            due: answer.due,
+            port: answer.port,
+            payload: Payload::new(),
+        };
+        let payload = &mut uplink.payload;
+        spell(answer.port, Direction::Up, &answer.command, payload);
+        self.uplinks.push_reserved(uplink);
     }
 
     /// Lets go of all.
@@ -83,13 +90,7 @@ impl Outbox {
         if self.uplinks.is_empty() {
             return None;
         }
-        let mut uplink = Uplink {
-            due: 0,
-            port: 0,
-            payload: Payload::new(),
-        };
-        self.uplinks.remove(0).write(&mut uplink);
-        Some(uplink)
+        Some(self.uplinks.remove(0))
     }
 
     /// As `take`, of one that is there, written into an uplink without bytes.
@@ -99,7 +100,10 @@ impl Outbox {
         ensures takes { TakesOldest self.old self.new (Some uplink.new) }
         ensures uplink { IsUplink uplink.new }
     {
-        self.uplinks[0].write(uplink);
+        let oldest = &self.uplinks[0];
+        uplink.due = oldest.due;
+        uplink.port = oldest.port;
+        let _fits = uplink.payload.append(oldest.payload.as_slice());
         if self.uplinks.len() == 1 {
             self.uplinks.clear();
         } else {

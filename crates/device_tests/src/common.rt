@@ -28,7 +28,6 @@ pub const CONFIG: DeviceConfig = DeviceConfig {
     sessions: 4,
     groups: 4,
     area: MAX_AREA,
-    late: false,
     held: false,
     span: 0,
 };

@@ -507,44 +507,24 @@ fn shows_the_image(device: &Device<CellFlash>) -> bool {
     }
 }
 
-/// A received image runs, or is deleted, of a device that takes its memory late or at the start.
-fn runs_or_deletes(rt: &impl Abort, alloc: Global, late: bool) {
-    let config = DeviceConfig { late, ..CONFIG };
-    let mut device = with_image(rt, alloc, config);
+#[test]
+fn a_received_image_runs_after_a_reboot(rt: HostRuntime) {
+    let mut device = with_image(&rt, rt.alloc(), CONFIG);
     assert!(rt; shows_the_image(&device));
-    exchanges(rt, &mut device, 0, &FIRMWARE);
+    exchanges(&rt, &mut device, 0, &FIRMWARE);
     assert!(rt; runs_the_image(&device));
-    let mut other = with_image(rt, alloc, config);
-    exchanges(rt, &mut other, 0, &DELETIONS);
+    let mut other = with_image(&rt, rt.alloc(), CONFIG);
+    exchanges(&rt, &mut other, 0, &DELETIONS);
     drop(device);
     drop(other);
 }
 
 #[test]
-fn a_received_image_runs_after_a_reboot(rt: HostRuntime) {
-    for late in [false, true] {
-        runs_or_deletes(&rt, rt.alloc(), late);
-    }
-}
-
-/// A campaign with coded fragments.
-fn campaign_runs(rt: &impl Abort, alloc: Global, late: bool) {
-    let config = DeviceConfig {
-        rows: 4,
-        late,
-        ..CONFIG
-    };
-    let mut device = reserved(rt, alloc, config);
-    exchanges(rt, &mut device, 1000, &CAMPAIGN);
+fn a_campaign_is_answered_in_bytes(rt: HostRuntime) {
+    let mut device = reserved(&rt, rt.alloc(), DeviceConfig { rows: 4, ..CONFIG });
+    exchanges(&rt, &mut device, 1000, &CAMPAIGN);
     assert!(rt; runs_the_image(&device));
     drop(device);
-}
-
-#[test]
-fn a_campaign_is_answered_in_bytes(rt: HostRuntime) {
-    for late in [false, true] {
-        campaign_runs(&rt, rt.alloc(), late);
-    }
 }
 
 /// A device whose clock is 5 s ahead.

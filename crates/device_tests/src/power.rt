@@ -35,7 +35,6 @@ const CONFIG: DeviceConfig = DeviceConfig {
     sessions: 4,
     groups: 1,
     area: 64,
-    late: false,
     held: true,
     span: SPAN,
 };

@@ -228,7 +228,7 @@ module _ (way : Via) (n : ℕ) (part : List ℕ) (mark : ℕ) where
         subst (HeldStandsAs (record h { slot = slot; records = h.records + 1 })) (sym (after_heard s k.cause))
         (record {
           slot = stands_more h.slot slot s k.cause held.slot stands;
-          openable = openable_same h (record h { slot = slot; records = h.records + 1 }) (followed s n part mark) refl area refl
+          openable = openable_same h (record h { slot = slot; records = h.records + 1 }) (followed s n part mark) refl area refl refl refl
               (openable_more h s k.cause (ranged_new s fits_n fits_mark new held.openable.ranged) held.openable);
           records = omega (arith, held.records, ap length (news_more s ∙ news_new s new));
           few = held.few;
@@ -241,7 +241,7 @@ module _ (way : Via) (n : ℕ) (part : List ℕ) (mark : ℕ) where
         let old = is_old_told (is_new (shape_of s) (fragment n part mark) s.heard) k.answered in
         record {
           slot = stands_more h.slot slot s k.cause held.slot stands;
-          openable = openable_same h (record h { slot = slot; tallies = u }) (followed s n part mark) refl area refl
+          openable = openable_same h (record h { slot = slot; tallies = u }) (followed s n part mark) refl area refl refl refl
               (openable_more h s k.cause (ranged_old s old held.openable.ranged) held.openable);
           records = omega (arith, held.records, ap length (news_more s ∙ news_old s old));
           few = most;

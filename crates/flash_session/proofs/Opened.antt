@@ -4,7 +4,7 @@ use Rattle.std.specs.Prelude.{if◌then◌else◌}
 use Rattle.frag_model.specs.Fragments.{Fragment, Shape}
 use Rattle.frag_model.specs.News.{is_new, news, MeanTheSame}
 use Rattle.frag_model.proofs.News.{again, same}
-use Rattle.row_elimination.specs.declared.extent.Extent.{Extent}
+use Rattle.row_elimination.specs.Room.{Extent}
 use Rattle.frag_session.specs.declared.answers.Via.TheVariants as via
 use Rattle.frag_session.specs.declared.answers.Cause.{Cause}
 use Rattle.frag_session.specs.declared.answers.News.TheVariants as told
@@ -259,7 +259,7 @@ module _ (h : HeldSession) (x : HeldSlot) (r t : ℕ) (area : extent_of x ≡ ex
   there = record h { slot = x; records = r; tallies = t }
 
   bits_there : (setup : SetupReq) → setup_bits h.limits (room_in there) setup ≡ setup_bits h.limits (room_in h) setup
-  bits_there setup = ap (λ (z : Extent). setup_bits h.limits (record { extent = z; span = Some h.span }) setup) area
+  bits_there setup = ap (λ (z : Extent). setup_bits h.limits (record { words = h.words; bytes = h.bytes; extent = z; span = Some h.span }) setup) area
 
   pub opened_there : (holds : List ℕ → Type 0) → IsOpened h x holds (record { records = r; tallies = t }) → IsOpened there x holds (record { records = r; tallies = t })
   opened_there holds o = record {
@@ -278,7 +278,7 @@ module _ (h : HeldSession) (x : HeldSlot) (r t : ℕ) (area : extent_of x ≡ ex
   pub lies_there : (o : Option Session) (b : List ℕ) → LiesForAs h o b → LiesForAs there o b
   lies_there None b lies = lies
   lies_there (Some s) b lies = record {
-    openable = openable_same h there s refl area refl lies.openable;
+    openable = openable_same h there s refl area refl refl refl lies.openable;
     body = lies.body;
     tallies = lies.tallies;
     its_body = lies.its_body;

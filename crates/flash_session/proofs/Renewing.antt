@@ -7,7 +7,7 @@ use Rattle.std.proofs.lemmas.Bool.{ne_eqb}
 use Rattle.frag_model.specs.Fragments.{Fragment, Shape}
 use Rattle.frag_model.specs.News.{news, MeanTheSame}
 use Rattle.frag_model.proofs.News.{means_itself}
-use Rattle.row_elimination.specs.declared.extent.Extent.{Extent}
+use Rattle.row_elimination.specs.Room.{Extent}
 use Rattle.frag_session.specs.declared.answers.Via.{Via}
 use Rattle.frag_session.specs.declared.answers.StatusAns.{StatusAns}
 use Rattle.frag_session.specs.declared.setups.Limits.{Limits}
@@ -78,11 +78,11 @@ new_setup limits room None req none e = fine_setup limits room None req none
 new_setup limits room (Some s) req none e = fine_setup limits room (Some s) req none ∙ ap (λ (t : Bool). Some (if t then s else new_session limits req)) e
 
 -- what is accepted with so much flash is accepted without
-pub in_memory : (limits : Limits) (room : Room) (req : SetupReq) → setup_bits limits room req ≡ 0 → setup_bits limits (memory_room room.extent) req ≡ 0
+pub in_memory : (limits : Limits) (room : Room) (req : SetupReq) → setup_bits limits room req ≡ 0 → setup_bits limits (memory_room room.words room.bytes room.extent) req ≡ 0
 unfolding setup_bits too_large
 in_memory limits room req e =
     let fine = accepted limits room req e in
-    let rest : too_large (memory_room room.extent) limits.rows req ≡ false = or_front (too_long room.span req) (nat_lt max_pieces req.nb_frag) (nat_lt max_frag_size req.frag_size) (not (has_room room.extent req.nb_frag req.frag_size (rows_of limits.rows req))) fine.1 in
+    let rest : too_large (memory_room room.words room.bytes room.extent) limits.rows req ≡ false = or_front (too_long room.span req) (nat_lt max_pieces req.nb_frag) (nat_lt max_frag_size req.frag_size) (not (has_room room.words room.bytes room.extent req.nb_frag req.frag_size (rows_of limits.rows req))) fine.1 in
     let others : bit_where (wrong_coding req) 1 + 0 + bit_where (nat_le limits.sessions req.index) 4 + bit_where (other_descriptor limits.descriptor req.descriptor) 8 ≡ 0 = omega (arith, e) in
     ap (λ (t : Bool). bit_where (wrong_coding req) 1 + bit_where t 2 + bit_where (nat_le limits.sessions req.index) 4 + bit_where (other_descriptor limits.descriptor req.descriptor) 8) rest ∙ others
   where
@@ -134,7 +134,7 @@ module _ (h : HeldSession) (req : SetupReq) (fine : setup_bits h.limits (room_in
   unfolding new_session news shape_of hearing
   new_stands slot stands area = record {
     slot = record { fed = []; stands = stands; means = means_itself (shape_of (new_session h.limits req)) [] };
-    openable = record { taken = ap (λ (z : Extent). setup_bits h.limits (record { extent = z; span = Some h.span }) req) area ∙ fine; rows = refl; hearable = tt; ranged = tt };
+    openable = record { taken = ap (λ (z : Extent). setup_bits h.limits (record { words = h.words; bytes = h.bytes; extent = z; span = Some h.span }) req) area ∙ fine; rows = refl; hearable = tt; ranged = tt };
     records = refl;
     few = omega arith;
   }

@@ -5,7 +5,7 @@ use Rattle.frag_session.specs.Held.{HeldSlot}
 use Rattle.frag_session.specs.Setup.{Room}
 use Rattle.frag_session.specs.HeldSteps.{extent_of}
 
--- what its slot keeps, the limits, its range, and how many records and tallies lie there
+-- what its slot keeps, the limits, its range, how many records and tallies lie there, and what there is for rows
 pub record HeldSession : Type 0 where
   pub slot : HeldSlot
   pub limits : Limits
@@ -13,7 +13,9 @@ pub record HeldSession : Type 0 where
   pub span : ℕ
   pub records : ℕ
   pub tallies : ℕ
+  pub words : ℕ
+  pub bytes : ℕ
 
 -- the room for a session
 abbrev pub room_in : HeldSession → Room
-room_in h = record { extent = extent_of h.slot; span = Some h.span }
+room_in h = record { words = h.words; bytes = h.bytes; extent = extent_of h.slot; span = Some h.span }

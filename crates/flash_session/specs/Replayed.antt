@@ -7,7 +7,7 @@ use Rattle.frag_session.specs.Held.{HeldSlot, idle}
 use Rattle.frag_session.specs.Session.{Session, new_session}
 use Rattle.frag_session.specs.Setup.{setup_bits}
 use Rattle.frag_session.specs.HeldHistory.{Stands}
-use Rattle.row_elimination.specs.declared.extent.Extent.{Extent}
+use Rattle.row_elimination.specs.Room.{Extent}
 use Rattle.frag_session.specs.HeldSteps.{extent_of}
 use Rattle.flash_session.specs.Body.{IsBody}
 use Rattle.flash_session.specs.Contents.{byte_at}
@@ -47,14 +47,16 @@ pub record StopsAt (s : Session) (holds : List ℕ → Type 0) (base size k : �
   pub foreign : IsFed s records next → ⊥
 
 -- a place for a session, of which nothing is known yet
-abbrev pub place_in : (base span : ℕ) → Limits → Extent → HeldSession
-place_in base span limits extent = record {
+abbrev pub place_in : (words bytes base span : ℕ) → Limits → Extent → HeldSession
+place_in words bytes base span limits extent = record {
   slot = idle extent;
   limits = limits;
   base = base;
   span = span;
   records = 0;
   tallies = 0;
+  words = words;
+  bytes = bytes;
 }
 
 -- the header of a session with this setup lies there, and the setup is accepted
@@ -86,7 +88,9 @@ pub record IsEmpty (h : HeldSession) (x : HeldSlot) (holds : List ℕ → Type 0
   pub stands : Stands x None
 
 -- what is held is this place
-pub record IsPlaceOf (h : HeldSession) (base span : ℕ) (limits : Limits) (extent : Extent) : Type 0 where
+pub record IsPlaceOf (h : HeldSession) (words bytes base span : ℕ) (limits : Limits) (extent : Extent) : Type 0 where
+  pub words_are : h.words ≡ words
+  pub bytes_are : h.bytes ≡ bytes
   pub base_is : h.base ≡ base
   pub span_is : h.span ≡ span
   pub limits_are : h.limits ≡ limits

@@ -28,25 +28,25 @@ pub struct Counts {
 }
 
 /// What lies in the `span` bytes from `base`, once it is synced: None without a session, and else the slot hears its records.
-pub fn find<F: Flash>(
+pub fn find<F: Flash, const W: usize, const B: usize>(
     flash: &mut F,
     base: u32,
     span: u32,
     limits: Limits,
-    slot: &mut Slot,
+    slot: &mut Slot<W, B>,
 ) -> Result<Option<Counts>, OpenFault>
     requires range { base + span ≤ F.room flash.old }
     requires long { records_place ≤ span }
     requires none { Stands slot.old None }
     ensures found { IfOk result
         (λ o. MatchOption o
-        (IsEmpty (place_in base span limits (extent_of slot.old)) slot.new
+        (IsEmpty (place_in W B base span limits (extent_of slot.old)) slot.new
         (F.holds flash.new))
-        (λ c. IsOpened (place_in base span limits (extent_of slot.old)) slot.new
+        (λ c. IsOpened (place_in W B base span limits (extent_of slot.old)) slot.new
         (F.holds flash.new) c)) }
     ensures foreign { IfErr result
         (λ e. (p : ℕ) → e ≡ OpenFault.Foreign p → (b : List ℕ) → F.holds flash.new b
-        → IsFirstForeign (place_in base span limits (extent_of slot.old)) b p) }
+        → IsFirstForeign (place_in W B base span limits (extent_of slot.old)) b p) }
     ensures kept { OnOk result
         (IsKept (F.holds flash.new) (F.left_since flash.new (F.moment flash.new))) }
     ensures held { Follows Same (F.holds flash.old) (F.holds flash.new) }
@@ -65,25 +65,25 @@ pub fn find<F: Flash>(
 }
 
 /// What lies there, where it is synced.
-fn find_synced<F: Flash>(
+fn find_synced<F: Flash, const W: usize, const B: usize>(
     flash: &mut F,
     base: u32,
     span: u32,
     limits: Limits,
-    slot: &mut Slot,
+    slot: &mut Slot<W, B>,
 ) -> Result<Option<Counts>, OpenFault>
     requires range { base + span ≤ F.room flash.old }
     requires long { records_place ≤ span }
     requires none { Stands slot.old None }
     ensures found { IfOk result
         (λ o. MatchOption o
-        (IsEmpty (place_in base span limits (extent_of slot.old)) slot.new
+        (IsEmpty (place_in W B base span limits (extent_of slot.old)) slot.new
         (F.holds flash.new))
-        (λ c. IsOpened (place_in base span limits (extent_of slot.old)) slot.new
+        (λ c. IsOpened (place_in W B base span limits (extent_of slot.old)) slot.new
         (F.holds flash.new) c)) }
     ensures foreign { IfErr result
         (λ e. (p : ℕ) → e ≡ OpenFault.Foreign p → (b : List ℕ) → F.holds flash.new b
-        → IsFirstForeign (place_in base span limits (extent_of slot.old)) b p) }
+        → IsFirstForeign (place_in W B base span limits (extent_of slot.old)) b p) }
     ensures held { StillHolds (F.holds flash.old) (F.holds flash.new) }
     ensures stops { Elapses Same (F.moment flash.old) (F.moment flash.new) (F.left_since flash.old)
         (F.left_since flash.new) }
@@ -108,23 +108,23 @@ fn find_synced<F: Flash>(
 }
 
 /// The session that lies behind an open header's gate.
-fn find_behind<F: Flash>(
+fn find_behind<F: Flash, const W: usize, const B: usize>(
     flash: &mut F,
     base: u32,
     span: u32,
     limits: Limits,
-    slot: &mut Slot,
+    slot: &mut Slot<W, B>,
 ) -> Result<Counts, OpenFault>
     requires range { base + span ≤ F.room flash.old }
     requires long { records_place ≤ span }
     ensures found { ((b : List ℕ) → F.holds flash.new b → byte_at b base ≡ open_gate)
         → IfOk result
-        (λ c. IsOpened (place_in base span limits (extent_of slot.old)) slot.new
+        (λ c. IsOpened (place_in W B base span limits (extent_of slot.old)) slot.new
         (F.holds flash.new) c) }
     ensures foreign { IfErr result
         (λ e. (p : ℕ) → e ≡ OpenFault.Foreign p → (b : List ℕ) → F.holds flash.new b
         → byte_at b base ≡ open_gate
-        → IsFirstForeign (place_in base span limits (extent_of slot.old)) b p) }
+        → IsFirstForeign (place_in W B base span limits (extent_of slot.old)) b p) }
     ensures held { StillHolds (F.holds flash.old) (F.holds flash.new) }
     ensures stops { Elapses Same (F.moment flash.old) (F.moment flash.new) (F.left_since flash.old)
         (F.left_since flash.new) }
@@ -146,23 +146,23 @@ fn find_behind<F: Flash>(
 }
 
 /// The session of this setup: its gates are counted, and its records heard.
-fn find_session<F: Flash>(
+fn find_session<F: Flash, const W: usize, const B: usize>(
     flash: &mut F,
     base: u32,
     span: u32,
     setup: SetupReq,
     limits: Limits,
-    slot: &mut Slot,
+    slot: &mut Slot<W, B>,
 ) -> Result<Counts, OpenFault>
     requires room { base + records_place + (10 + setup.frag_size) * (2 * setup.nb_frag + 1) ≤ F.room
         flash.old }
     requires most { 2 * setup.nb_frag + 1 ≤ most_records }
-    requires fine { setup_bits limits (memory_room (extent_of slot.old)) setup ≡ 0 }
+    requires fine { setup_bits limits (memory_room W B (extent_of slot.old)) setup ≡ 0 }
     ensures found { IfOk result (λ c. IsFound limits setup slot.new (F.holds flash.new) base c) }
     ensures foreign { IfErr result (λ e. (p : ℕ) → e ≡ OpenFault.Foreign p
         → (b : List ℕ) → F.holds flash.new b
-        → HasHeader (place_in base span limits (extent_of slot.old)) setup b
-        → IsFirstForeign (place_in base span limits (extent_of slot.old)) b p) }
+        → HasHeader (place_in W B base span limits (extent_of slot.old)) setup b
+        → IsFirstForeign (place_in W B base span limits (extent_of slot.old)) b p) }
     ensures held { StillHolds (F.holds flash.old) (F.holds flash.new) }
     ensures stops { Elapses Same (F.moment flash.old) (F.moment flash.new) (F.left_since flash.old)
         (F.left_since flash.new) }
@@ -180,28 +180,28 @@ fn find_session<F: Flash>(
 }
 
 /// The same, where the gates of records are counted.
-fn find_tallies<F: Flash>(
+fn find_tallies<F: Flash, const W: usize, const B: usize>(
     flash: &mut F,
     base: u32,
     span: u32,
     setup: SetupReq,
     limits: Limits,
     records: u16,
-    slot: &mut Slot,
+    slot: &mut Slot<W, B>,
 ) -> Result<Counts, OpenFault>
     requires room { base + records_place + (10 + setup.frag_size) * (2 * setup.nb_frag + 1) ≤ F.room
         flash.old }
     requires most { 2 * setup.nb_frag + 1 ≤ most_records }
     requires few { records ≤ 2 * setup.nb_frag + 1 }
-    requires fine { setup_bits limits (memory_room (extent_of slot.old)) setup ≡ 0 }
+    requires fine { setup_bits limits (memory_room W B (extent_of slot.old)) setup ≡ 0 }
     ensures found { ((b : List ℕ) → F.holds flash.new b
         → GatesOpen b (gates_at base) records (2 * setup.nb_frag + 1))
         → IfOk result (λ c. IsFound limits setup slot.new (F.holds flash.new) base c) }
     ensures foreign { IfErr result (λ e. (p : ℕ) → e ≡ OpenFault.Foreign p
         → (b : List ℕ) → F.holds flash.new b
-        → HasHeader (place_in base span limits (extent_of slot.old)) setup b
+        → HasHeader (place_in W B base span limits (extent_of slot.old)) setup b
         → GatesOpen b (gates_at base) records (2 * setup.nb_frag + 1)
-        → IsFirstForeign (place_in base span limits (extent_of slot.old)) b p) }
+        → IsFirstForeign (place_in W B base span limits (extent_of slot.old)) b p) }
     ensures held { StillHolds (F.holds flash.old) (F.holds flash.new) }
     ensures stops { Elapses Same (F.moment flash.old) (F.moment flash.new) (F.left_since flash.old)
         (F.left_since flash.new) }
@@ -224,29 +224,29 @@ fn find_tallies<F: Flash>(
 }
 
 /// The same, where all gates are counted.
-fn find_records<F: Flash>(
+fn find_records<F: Flash, const W: usize, const B: usize>(
     flash: &mut F,
     base: u32,
     span: u32,
     setup: SetupReq,
     limits: Limits,
     records: u16,
-    slot: &mut Slot,
+    slot: &mut Slot<W, B>,
 ) -> Result<(), OpenFault>
     requires room { base + records_place + (10 + setup.frag_size) * (2 * setup.nb_frag + 1) ≤ F.room
         flash.old }
     requires most { 2 * setup.nb_frag + 1 ≤ most_records }
     requires few { records ≤ 2 * setup.nb_frag + 1 }
-    requires fine { setup_bits limits (memory_room (extent_of slot.old)) setup ≡ 0 }
+    requires fine { setup_bits limits (memory_room W B (extent_of slot.old)) setup ≡ 0 }
     ensures found { OnOk result
         (Replayed (new_session limits setup) slot.new (F.holds flash.new) base setup.frag_size
         records) }
     ensures foreign { IfErr result (λ e. (p : ℕ) → e ≡ OpenFault.Foreign p
         → (b : List ℕ) → F.holds flash.new b
-        → HasHeader (place_in base span limits (extent_of slot.old)) setup b
+        → HasHeader (place_in W B base span limits (extent_of slot.old)) setup b
         → GatesOpen b (gates_at base) records (2 * setup.nb_frag + 1)
         → (t : ℕ) → GatesOpen b (tallies_at base) t most_tallies
-        → IsFirstForeign (place_in base span limits (extent_of slot.old)) b p) }
+        → IsFirstForeign (place_in W B base span limits (extent_of slot.old)) b p) }
     ensures held { StillHolds (F.holds flash.old) (F.holds flash.new) }
     ensures stops { Elapses Same (F.moment flash.old) (F.moment flash.new) (F.left_since flash.old)
         (F.left_since flash.new) }

@@ -18,9 +18,9 @@ use std::marker::Model;
 const MAX_RECEIVED: u16 = 16383;
 
 /// A session held in the `span` bytes from `base` of a flash, or a place for one there. Contracts see what it holds in memory,
-/// for which sessions it stands, and what lies in the range.
-pub struct Held {
-    slot: Slot,
+/// for which sessions it stands, and what lies in the range. `W` and `B` are those of its `Solver`.
+pub struct Held<const W: usize, const B: usize> {
+    slot: Slot<W, B>,
     limits: Limits,
     base: u32,
     span: u32,
@@ -28,7 +28,7 @@ pub struct Held {
     tallies: u16,
 }
 
-impl Model for Held {
+impl<const W: usize, const B: usize> Model for Held<W, B> {
     ghost use Rattle.flash_session.specs.HeldSession.{HeldSession};
     ghost use Rattle.flash_session.specs.HeldInside.{IsHeldSession};
 
@@ -41,6 +41,8 @@ impl Model for Held {
       span = h.span;
       records = h.records;
       tallies = h.tallies;
+      words = W;
+      bytes = B;
     } };
 
     ghost invariant = { λ h. IsHeldSession (record {
@@ -50,10 +52,12 @@ impl Model for Held {
       span = h.span;
       records = h.records;
       tallies = h.tallies;
+      words = W;
+      bytes = B;
     }) };
 }
 
-impl Drop for Held {
+impl<const W: usize, const B: usize> Drop for Held<W, B> {
     fn drop(self) {
         let Held {
             slot: _,
@@ -66,10 +70,10 @@ impl Drop for Held {
     }
 }
 
-impl Held {
+impl<const W: usize, const B: usize> Held<W, B> {
     /// Gives the memory back, for another opening. No flash is called.
-    pub fn close(self) -> Idle
-        ensures { result ≡ extent_of self.slot }
+    pub fn close(self) -> Idle<W, B>
+        ensures { result ≡ extent_of self.entry.slot }
     {
         let Held {
             slot,

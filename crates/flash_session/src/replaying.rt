@@ -16,12 +16,12 @@ use crate::reading::read_record;
 use frag_session::{Heard, News, Slot, Via};
 
 /// Hears the first `records` records of a session again. Answers the first of them that is dropped or tells nothing new.
-pub fn replay<F: Flash>(
+pub fn replay<F: Flash, const W: usize, const B: usize>(
     flash: &mut F,
     base: u32,
     size: u8,
     records: u16,
-    slot: &mut Slot,
+    slot: &mut Slot<W, B>,
 ) -> Result<Option<u16>, Failed>
     requires { base + records_place + (10 + size) * records ≤ F.room flash.old }
     ensures replayed { (s : Session) → s.heard ≡ [] → Stands slot.old (Some s)
@@ -44,12 +44,12 @@ pub fn replay<F: Flash>(
 }
 
 /// Hears record `k` again, and says whether it told something new.
-fn replay_one<F: Flash>(
+fn replay_one<F: Flash, const W: usize, const B: usize>(
     flash: &mut F,
     base: u32,
     size: u8,
     k: u16,
-    slot: &mut Slot,
+    slot: &mut Slot<W, B>,
 ) -> Result<bool, Failed>
     requires { base + records_place + (10 + size) * (k + 1) ≤ F.room flash.old }
     ensures replayed { (s : Session) → Replayed s slot.old (F.holds flash.old) base size k

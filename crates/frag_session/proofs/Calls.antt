@@ -59,12 +59,12 @@ pub record HasRoom (room : Room) (rows : ℕ) (req : SetupReq) : Type 0 where
   pub long : too_long room.span req ≡ false
   pub most : req.nb_frag ≤ max_pieces
   pub small : req.frag_size ≤ max_frag_size
-  pub room_is : has_room room.extent req.nb_frag req.frag_size (rows_of rows req) ≡ true
+  pub room_is : has_room room.words room.bytes room.extent req.nb_frag req.frag_size (rows_of rows req) ≡ true
 
 pub room_for : (room : Room) (rows : ℕ) (req : SetupReq) → too_large room rows req ≡ false → HasRoom room rows req
 unfolding too_large
 room_for room rows req e =
-    let r = or_parts (too_long room.span req || nat_lt max_pieces req.nb_frag || nat_lt max_frag_size req.frag_size) (not (has_room room.extent req.nb_frag req.frag_size (rows_of rows req))) e in
+    let r = or_parts (too_long room.span req || nat_lt max_pieces req.nb_frag || nat_lt max_frag_size req.frag_size) (not (has_room room.words room.bytes room.extent req.nb_frag req.frag_size (rows_of rows req))) e in
     let q = or_parts (too_long room.span req || nat_lt max_pieces req.nb_frag) (nat_lt max_frag_size req.frag_size) r.0 in
     let p = or_parts (too_long room.span req) (nat_lt max_pieces req.nb_frag) q.0 in
     record { long = p.0; most = ltb-false max_pieces req.nb_frag p.1; small = ltb-false max_frag_size req.frag_size q.1; room_is = not-false _ r.1 }

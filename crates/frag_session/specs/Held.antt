@@ -1,7 +1,7 @@
 -- What the states of a session hold, as contracts see them.
 use Rattle.std.specs.Prelude.{ℕ, ◌+◌, min}
 use Rattle.row_elimination.specs.HeldSolver.{Held as Solved}
-use Rattle.row_elimination.specs.declared.extent.Extent.{Extent}
+use Rattle.row_elimination.specs.Room.{Extent}
 use Rattle.frag_session.specs.declared.setups.SetupReq.{SetupReq}
 use Rattle.frag_session.specs.Limits.{max_received}
 

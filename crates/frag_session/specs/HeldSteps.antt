@@ -1,9 +1,8 @@
 -- What one call makes of what is held.
 use Rattle.std.specs.Prelude.{◌≡◌, ℕ, ◌+◌, ◌≤◌, ◌&&◌, ◌==◌, List, length, Option, Some, None, if◌then◌else◌}
 use Rattle.row_elimination.specs.HeldPlaces.{pieces_held}
-use Rattle.row_elimination.specs.HeldSolver.{missing_of, provided}
-use Rattle.row_elimination.specs.Room.{joined}
-use Rattle.row_elimination.specs.declared.extent.Extent.{Extent}
+use Rattle.row_elimination.specs.HeldSolver.{missing_of}
+use Rattle.row_elimination.specs.Room.{Extent, extent_for}
 use Rattle.frag_session.specs.declared.answers.News.{News}
 use Rattle.frag_session.specs.declared.answers.News.TheVariants as news
 use Rattle.frag_session.specs.declared.setups.SetupReq.{SetupReq}
@@ -20,19 +19,19 @@ use Rattle.frag_session.specs.HeldView.{receiving_seen, done_seen, failed_seen, 
 use Rattle.frag_model.specs.Limits.{max_parity_index}
 
 -- a state as it is kept
-abbrev pub kept : State → HeldSlot
+abbrev pub kept : {W B : ℕ} → State W B → HeldSlot
 kept (state.Idle extent) = idle extent
 kept (state.Receiving h) = receiving h
 kept (state.Complete d) = complete d
 kept (state.Overflowed f) = overflowed f
 kept (state.Conflicted f) = conflicted f
 
-abbrev pub kept_by : Option State → HeldSlot
-kept_by None = idle (record { area = 0; pieces = 0; words = 0; bytes = 0 })
+abbrev pub kept_by : {W B : ℕ} → Option (State W B) → HeldSlot
+kept_by None = idle (extent_for 0)
 kept_by (Some s) = kept s
 
 -- what a session has become
-abbrev pub become : Next → HeldSlot
+abbrev pub become : {W B : ℕ} → Next W B → HeldSlot
 become (next.Receiving h) = receiving h
 become (next.Complete d) = complete d
 become (next.Overflowed f) = overflowed f
@@ -45,14 +44,6 @@ extent_of (receiving h) = h.solver.extent
 extent_of (complete d) = d.solver.extent
 extent_of (overflowed f) = f.solver.extent
 extent_of (conflicted f) = f.solver.extent
-
--- the same, with memory for so much, where there was memory for less
-unfoldable pub slot_provided : Extent → HeldSlot → HeldSlot
-slot_provided extent (idle had) = idle (joined had extent)
-slot_provided extent (receiving h) = receiving (record h { solver = provided extent h.solver })
-slot_provided extent (complete d) = complete (record d { solver = provided extent d.solver })
-slot_provided extent (overflowed f) = overflowed (record f { solver = provided extent f.solver })
-slot_provided extent (conflicted f) = conflicted (record f { solver = provided extent f.solver })
 
 -- the setup of its session
 unfoldable pub session_setup : HeldSlot → Option SetupReq

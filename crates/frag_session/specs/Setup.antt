@@ -2,22 +2,23 @@
 use Rattle.std.specs.Prelude.{ℕ, ◌+◌, ◌*◌, min, Bool, false, ◌&&◌, ◌||◌, not, ◌==◌, nat_lt, nat_le, Option, Some, None, if◌then◌else◌}
 use Rattle.frag_session.specs.declared.setups.SetupReq.{SetupReq}
 use Rattle.frag_session.specs.declared.setups.Limits.{Limits}
-use Rattle.row_elimination.specs.declared.extent.Extent.{Extent}
-use Rattle.row_elimination.specs.Room.{has_room}
+use Rattle.row_elimination.specs.Room.{Extent, has_room}
 use Rattle.frag_model.specs.Limits.{max_frag_size, max_pieces}
 
 -- a coding that is not TS004's, or numbers that make no file
 unfoldable pub wrong_coding : SetupReq → Bool
 wrong_coding req = not (req.algo == 0) || req.nb_frag == 0 || req.frag_size == 0 || nat_le req.frag_size req.padding
 
--- what there is for a session: memory, and bytes of flash, where it is kept there
+-- what there is for a session: words and bytes for rows, memory for the file, and bytes of flash, where it is kept there
 pub record Room : Type 0 where
+  pub words : ℕ
+  pub bytes : ℕ
   pub extent : Extent
   pub span : Option ℕ
 
 -- that of a session which is kept in memory alone
-abbrev pub memory_room : Extent → Room
-memory_room extent = record { extent = extent; span = None }
+abbrev pub memory_room : (words bytes : ℕ) → Extent → Room
+memory_room words bytes extent = record { words = words; bytes = bytes; extent = extent; span = None }
 
 -- the bytes of flash that a session takes: its setup and gates, and for each fragment that can tell something new a record
 -- of its number, mark and data (this project's profile)
@@ -37,7 +38,7 @@ rows_of rows req = min rows req.nb_frag
 unfoldable pub too_large : Room → ℕ → SetupReq → Bool
 too_large room rows req =
     too_long room.span req || nat_lt max_pieces req.nb_frag || nat_lt max_frag_size req.frag_size
-    || not (has_room room.extent req.nb_frag req.frag_size (rows_of rows req))
+    || not (has_room room.words room.bytes room.extent req.nb_frag req.frag_size (rows_of rows req))
 
 -- one descriptor alone is taken, and it is another
 unfoldable pub other_descriptor : Option ℕ → ℕ → Bool

@@ -10,6 +10,7 @@ use Rattle.frag_session.specs.declared.answers.Verdict.{Verdict}
 use Rattle.frag_session.specs.declared.answers.News.TheVariants.{Old, New}
 use Rattle.frag_session.specs.declared.answers.Heard.TheVariants.{Fed, Dropped}
 use Rattle.frag_session.specs.declared.answers.Verdict.TheVariants.{Receiving, Complete, NoRows, Conflict}
+use Rattle.row_elimination.specs.Room.{Extent, extent_for}
 use Rattle.frag_session.specs.Setup.{Room, memory_room, setup_bits, lives}
 use Rattle.frag_session.specs.Session.{Session, Seen, after_setup, drop_cause, fragment, shape_of, news_in, answer_of, after_fragment, received_count, seen_of, status_in, status_of}
 
@@ -24,11 +25,11 @@ abbrev pub worked_limits : Limits
 worked_limits = record { sessions = 4; rows = 256; descriptor = None }
 
 abbrev pub worked_room : Room
-worked_room = memory_room (record { area = 262382; pieces = 4096; words = 16384; bytes = 61184 })
+worked_room = memory_room 16384 61184 (extent_for 262382)
 
--- so many words and bytes for rows, and an area of so many bytes, for so many pieces
-abbrev pub small : (words bytes area pieces : ℕ) → Room
-small words bytes area pieces = memory_room (record { area = area; pieces = pieces; words = words; bytes = bytes })
+-- an area of so many bytes, for so many pieces
+abbrev pub small : (area pieces : ℕ) → Extent
+small area pieces = record { area = area; pieces = pieces }
 
 abbrev pub bits : SetupReq → ℕ
 bits req = setup_bits worked_limits worked_room req
@@ -46,11 +47,11 @@ pub record WorkedSetups : Type 0 where
   pub too_many : bits (record worked_setup { nb_frag = 4097 }) ≡ 2
   pub most_bytes : bits (record worked_setup { frag_size = 239 }) ≡ 0
   pub too_long : bits (record worked_setup { frag_size = 240 }) ≡ 2
-  pub room : setup_bits worked_limits (small 4 52 52 4) worked_setup ≡ 0
-  pub words : setup_bits worked_limits (small 3 52 52 4) worked_setup ≡ 2
-  pub bytes : setup_bits worked_limits (small 4 51 52 4) worked_setup ≡ 2
-  pub area : setup_bits worked_limits (small 4 52 51 4) worked_setup ≡ 2
-  pub pieces : setup_bits worked_limits (small 4 52 52 3) worked_setup ≡ 2
+  pub room : setup_bits worked_limits (memory_room 4 52 (small 52 4)) worked_setup ≡ 0
+  pub words : setup_bits worked_limits (memory_room 3 52 (small 52 4)) worked_setup ≡ 2
+  pub bytes : setup_bits worked_limits (memory_room 4 51 (small 52 4)) worked_setup ≡ 2
+  pub area : setup_bits worked_limits (memory_room 4 52 (small 51 4)) worked_setup ≡ 2
+  pub pieces : setup_bits worked_limits (memory_room 4 52 (small 52 3)) worked_setup ≡ 2
   -- or for this flash: 24,640 bytes, and 23 for each of 2 * 4 + 1 fragments
   pub flash : setup_bits worked_limits (record worked_room { span = Some 24847 }) worked_setup ≡ 0
   pub less_flash : setup_bits worked_limits (record worked_room { span = Some 24846 }) worked_setup ≡ 2

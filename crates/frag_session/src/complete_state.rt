@@ -1,29 +1,27 @@
 //! A session whose file is whole.
 
-ghost use Rattle.std.specs.Prelude.{◌≡◌, ◌*◌, ◌<◌, ◌≤◌, length, OnOk, OnErr};
+ghost use Rattle.std.specs.Prelude.{◌≡◌, ◌*◌, ◌<◌, ◌≤◌, length};
 ghost use Rattle.frag_session.specs.Held.{one_more};
 ghost use Rattle.frag_session.specs.HeldView.{done_seen, seen};
 ghost use Rattle.frag_session.specs.Limits.{max_received};
-ghost use Rattle.frag_model.specs.Limits.{max_pieces};
-ghost use Rattle.row_elimination.specs.HeldSolver.{provided};
 
 use crate::answers::{Verdict, View};
 use crate::idle_state::Idle;
 use crate::receiving_state::one_more;
 use crate::setups::SetupReq;
-use row_elimination::{Extent, Memory, Solver, Stage};
+use row_elimination::{Solver, Stage};
 use std::marker::Model;
 
 /// A session whose fragments fit one file alone.
 #[derive(Drop)]
-pub struct Complete {
-    solver: Solver,
+pub struct Complete<const W: usize, const B: usize> {
+    solver: Solver<W, B>,
     setup: SetupReq,
     received: u16,
     mark: u64,
 }
 
-impl Model for Complete {
+impl<const W: usize, const B: usize> Model for Complete<W, B> {
     ghost use Rattle.frag_session.specs.Held.{Done};
     ghost use Rattle.frag_session.specs.Inside.{IsComplete};
 
@@ -34,9 +32,14 @@ impl Model for Complete {
     ghost invariant = { λ c. IsComplete c.solver c.setup c.received };
 }
 
-impl Complete {
+impl<const W: usize, const B: usize> Complete<W, B> {
     /// A session that was decided at the mark.
-    pub(crate) fn decided(solver: Solver, setup: SetupReq, received: u16, mark: u64) -> Complete
+    pub(crate) fn decided(
+        solver: Solver<W, B>,
+        setup: SetupReq,
+        received: u16,
+        mark: u64,
+    ) -> Complete<W, B>
         requires some { 1 ≤ setup.nb_frag }
         requires nb_frag { solver.shape.nb_frag ≡ setup.nb_frag }
         requires frag_size { solver.shape.frag_size ≡ setup.frag_size }
@@ -45,7 +48,7 @@ impl Complete {
         requires stage { solver.stage ≡ Stage.Complete }
         requires sized { length solver.content ≡ setup.nb_frag * setup.frag_size }
         ensures { result
-            ≡ record { setup = setup; received = received; mark = mark; solver = solver } }
+            ≡ record { setup = setup; received = received; mark = mark; solver = solver.entry } }
     {
         Complete {
             solver,
@@ -56,21 +59,11 @@ impl Complete {
     }
 
     /// Ends the session.
-    pub fn delete(self) -> Idle
-        ensures { result ≡ self.solver.extent }
+    pub fn delete(self) -> Idle<W, B>
+        ensures { result ≡ self.entry.solver.extent }
     {
         let Complete { solver, .. } = self;
         Idle { solver }
-    }
-
-    /// Takes memory for so much, where there is memory for less.
-    pub(crate) fn provide(&mut self, extent: Extent) -> Result<(), Memory>
-        requires { extent.pieces ≤ max_pieces }
-        ensures given { OnOk result (self.new
-            ≡ record self.old { solver = provided extent self.old.solver }) }
-        ensures refused { OnErr result (self.new ≡ self.old) }
-    {
-        self.solver.provide(extent)
     }
 
     pub(crate) fn setup(&self) -> SetupReq
@@ -80,7 +73,7 @@ impl Complete {
     }
 
     /// The solver that is kept.
-    pub(crate) fn solver(&self) -> &Solver
+    pub(crate) fn solver(&self) -> &Solver<W, B>
         ensures { result.now ≡ self.now.solver }
     {
         &self.solver

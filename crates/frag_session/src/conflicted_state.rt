@@ -1,30 +1,29 @@
 //! A session whose fragments contradict one another.
 
-ghost use Rattle.std.specs.Prelude.{◌≡◌, ◌≤◌, length, OnOk, OnErr};
-ghost use Rattle.row_elimination.specs.HeldSolver.{missing_of, provided};
+ghost use Rattle.std.specs.Prelude.{◌≡◌, ◌≤◌, length};
+ghost use Rattle.row_elimination.specs.HeldSolver.{missing_of};
 ghost use Rattle.frag_session.specs.Held.{one_more};
 ghost use Rattle.frag_session.specs.HeldView.{failed_seen, seen};
 ghost use Rattle.frag_session.specs.Limits.{max_received};
-ghost use Rattle.frag_model.specs.Limits.{max_pieces};
 
 use crate::answers::{Verdict, View};
 use crate::idle_state::Idle;
 use crate::receiving_state::one_more;
 use crate::setups::SetupReq;
-use row_elimination::{Extent, Memory, Solver};
+use row_elimination::Solver;
 use std::marker::Model;
 
 /// A session whose fragments fit no file.
 #[derive(Drop)]
-pub struct Conflicted {
-    solver: Solver,
+pub struct Conflicted<const W: usize, const B: usize> {
+    solver: Solver<W, B>,
     setup: SetupReq,
     received: u16,
     missing: u16,
     mark: u64,
 }
 
-impl Model for Conflicted {
+impl<const W: usize, const B: usize> Model for Conflicted<W, B> {
     ghost use Rattle.std.specs.Prelude.{◌≤◌};
     ghost use Rattle.frag_session.specs.Limits.{max_received};
     ghost use Rattle.frag_session.specs.Held.{Failed};
@@ -36,16 +35,21 @@ impl Model for Conflicted {
     ghost invariant = { λ c. c.received ≤ max_received };
 }
 
-impl Conflicted {
+impl<const W: usize, const B: usize> Conflicted<W, B> {
     /// A session that was decided at the mark; what is missing is what the solver lacks.
-    pub(crate) fn decided(solver: Solver, setup: SetupReq, received: u16, mark: u64) -> Conflicted
+    pub(crate) fn decided(
+        solver: Solver<W, B>,
+        setup: SetupReq,
+        received: u16,
+        mark: u64,
+    ) -> Conflicted<W, B>
         requires { received ≤ max_received }
         ensures { result ≡ record {
           setup = setup;
           received = received;
-          missing = missing_of solver;
+          missing = missing_of solver.entry;
           mark = mark;
-          solver = solver;
+          solver = solver.entry;
         } }
     {
         let missing = solver.missing();
@@ -59,21 +63,11 @@ impl Conflicted {
     }
 
     /// Ends the session.
-    pub fn delete(self) -> Idle
-        ensures { result ≡ self.solver.extent }
+    pub fn delete(self) -> Idle<W, B>
+        ensures { result ≡ self.entry.solver.extent }
     {
         let Conflicted { solver, .. } = self;
         Idle { solver }
-    }
-
-    /// Takes memory for so much, where there is memory for less.
-    pub(crate) fn provide(&mut self, extent: Extent) -> Result<(), Memory>
-        requires { extent.pieces ≤ max_pieces }
-        ensures given { OnOk result (self.new
-            ≡ record self.old { solver = provided extent self.old.solver }) }
-        ensures refused { OnErr result (self.new ≡ self.old) }
-    {
-        self.solver.provide(extent)
     }
 
     pub(crate) fn setup(&self) -> SetupReq
@@ -83,7 +77,7 @@ impl Conflicted {
     }
 
     /// The solver that is kept.
-    pub(crate) fn solver(&self) -> &Solver
+    pub(crate) fn solver(&self) -> &Solver<W, B>
         ensures { result.now ≡ self.now.solver }
     {
         &self.solver

@@ -1,48 +1,46 @@
 //! A slot's memory while no session lives.
 
-ghost use Rattle.std.specs.Prelude.{◌≡◌, ◌<◌, ◌≤◌, MatchResult, IfOk, OnOk, OnErr};
+ghost use Rattle.std.specs.Prelude.{◌≡◌, ◌<◌, MatchResult, IfOk};
 ghost use Rattle.row_elimination.specs.HeldSolver.{TwoFit};
 ghost use Rattle.frag_session.specs.Setup.{memory_room, setup_bits};
 ghost use Rattle.frag_session.specs.Session.{new_session};
 ghost use Rattle.frag_session.specs.HeldHistory.{Holds};
-ghost use Rattle.frag_model.specs.Limits.{max_pieces};
-ghost use Rattle.row_elimination.specs.Room.{joined};
 
 use crate::receiving_state::Receiving;
 use crate::setups::{Limits, SetupReq, refusal, rows_of};
-use row_elimination::{Extent, Memory, NoRoom, Solver};
+use row_elimination::{NoRoom, Solver};
 use std::marker::Model;
 
 /// No session: the solver for one. A contract sees what it has memory for.
 #[derive(Drop)]
-pub struct Idle {
-    pub(crate) solver: Solver,
+pub struct Idle<const W: usize, const B: usize> {
+    pub(crate) solver: Solver<W, B>,
 }
 
-impl Model for Idle {
-    ghost use Rattle.row_elimination.specs.declared.extent.Extent.{Extent};
+impl<const W: usize, const B: usize> Model for Idle<W, B> {
+    ghost use Rattle.row_elimination.specs.Room.{Extent};
 
     ghost Value = { Extent };
 
     ghost view = { λ i. i.solver.extent };
 }
 
-impl Idle {
+impl<const W: usize, const B: usize> Idle<W, B> {
     /// A place for sessions in the memory of a solver.
-    pub fn new(solver: Solver) -> Idle
-        ensures { result ≡ solver.extent }
+    pub fn new(solver: Solver<W, B>) -> Idle<W, B>
+        ensures { result ≡ solver.entry.extent }
     {
         Idle { solver }
     }
 
     /// Begins a session with nothing heard, or gives the memory back with all refusal bits (see `Slot::setup`).
-    pub fn setup(self, req: SetupReq, limits: Limits) -> Result<Receiving, (Idle, u8)>
+    pub fn setup(self, req: SetupReq, limits: Limits) -> Result<Receiving<W, B>, (Idle<W, B>, u8)>
         ensures bits { MatchResult result
-            (λ session. setup_bits limits (memory_room self) req ≡ 0)
-            (λ refused. (refused.1 ≡ setup_bits limits (memory_room self) req)
+            (λ session. setup_bits limits (memory_room W B self.entry) req ≡ 0)
+            (λ refused. (refused.1 ≡ setup_bits limits (memory_room W B self.entry) req)
             × (0 < refused.1)) }
-        ensures extent { MatchResult result (λ session. session.solver.extent ≡ self)
-            (λ refused. refused.0 ≡ self) }
+        ensures extent { MatchResult result (λ session. session.solver.extent ≡ self.entry)
+            (λ refused. refused.0 ≡ self.entry) }
         ensures stands { IfOk result (λ session. Holds session (new_session limits req)) }
         ensures two { IfOk result (λ session. TwoFit session.solver) }
     {
@@ -62,17 +60,8 @@ impl Idle {
         }
     }
 
-    /// Takes memory for so much, where there is memory for less.
-    pub(crate) fn provide(&mut self, extent: Extent) -> Result<(), Memory>
-        requires { extent.pieces ≤ max_pieces }
-        ensures given { OnOk result (self.new ≡ joined self.old extent) }
-        ensures refused { OnErr result (self.new ≡ self.old) }
-    {
-        self.solver.provide(extent)
-    }
-
     /// The solver that is kept.
-    pub(crate) fn solver(&self) -> &Solver
+    pub(crate) fn solver(&self) -> &Solver<W, B>
         ensures { result.now.extent ≡ self.now }
     {
         &self.solver

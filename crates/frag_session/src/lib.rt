@@ -3,8 +3,8 @@
 //! its contracts say each answer of that list, though it keeps no list. Where payloads come from, and
 //! what becomes of a whole file, is left to the device above.
 //!
-//!     let solver = Solver::reserve(alloc, extent)?;            // all memory
-//!     let mut slot = Slot::new(Idle::new(solver));
+//!     let solver = Solver::reserve(alloc, 256 * 48)?;          // all memory
+//!     let mut slot: Slot<64, 768> = Slot::new(Idle::new(solver));
 //!     let bits = slot.setup(req, limits);                      // FragSessionSetupAns
 //!     slot.fragment(Via::Unicast, n, part, mark);              // fed, or dropped and why
 //!     let answer = slot.status(Via::Unicast, true);            // FragSessionStatusAns

@@ -1,13 +1,13 @@
 //! A session whose file is not decided.
 
-ghost use Rattle.std.specs.Prelude.{◌≡◌, ◌+◌, ◌<◌, ◌≤◌, Some, length, OnOk, OnErr};
-ghost use Rattle.row_elimination.specs.HeldSolver.{IsBegun, provided};
+ghost use Rattle.std.specs.Prelude.{◌≡◌, ◌+◌, ◌<◌, ◌≤◌, Some, length};
+ghost use Rattle.row_elimination.specs.HeldSolver.{IsBegun};
 ghost use Rattle.frag_session.specs.Held.{one_more, receiving};
 ghost use Rattle.frag_session.specs.Session.{Session, followed};
 ghost use Rattle.frag_session.specs.HeldHistory.{Holds, IsOpen, Stands};
 ghost use Rattle.frag_session.specs.HeldSteps.{extent_of, become, told_of};
 ghost use Rattle.frag_session.specs.HeldView.{receiving_seen, seen};
-ghost use Rattle.frag_model.specs.Limits.{max_parity_index, max_pieces};
+ghost use Rattle.frag_model.specs.Limits.{max_parity_index};
 ghost use Rattle.frag_session.specs.Limits.{max_received};
 
 use crate::answers::{Verdict, View};
@@ -16,7 +16,7 @@ use crate::conflicted_state::Conflicted;
 use crate::idle_state::Idle;
 use crate::overflowed_state::Overflowed;
 use crate::setups::SetupReq;
-use row_elimination::{Extent, Fed, Memory, Solver};
+use row_elimination::{Fed, Solver};
 use std::marker::Model;
 
 /// NbFragReceived has 14 bits, and stays at their end.
@@ -24,13 +24,13 @@ pub const MAX_RECEIVED: u16 = 16383;
 
 /// A session that hears fragments. A contract sees its setup and what its solver holds.
 #[derive(Drop)]
-pub struct Receiving {
-    solver: Solver,
+pub struct Receiving<const W: usize, const B: usize> {
+    solver: Solver<W, B>,
     setup: SetupReq,
     received: u16,
 }
 
-impl Model for Receiving {
+impl<const W: usize, const B: usize> Model for Receiving<W, B> {
     ghost use Rattle.frag_session.specs.Held.{Held};
     ghost use Rattle.frag_session.specs.Inside.{IsReceiving};
 
@@ -43,21 +43,21 @@ impl Model for Receiving {
 
 /// What a session is after one more fragment.
 #[derive(Drop)]
-pub enum Next {
-    Receiving(Receiving),
-    Complete(Complete),
-    Overflowed(Overflowed),
-    Conflicted(Conflicted),
+pub enum Next<const W: usize, const B: usize> {
+    Receiving(Receiving<W, B>),
+    Complete(Complete<W, B>),
+    Overflowed(Overflowed<W, B>),
+    Conflicted(Conflicted<W, B>),
 }
 
-impl Receiving {
+impl<const W: usize, const B: usize> Receiving<W, B> {
     /// A session that heard nothing, over a solver that has just begun.
-    pub(crate) fn begin(solver: Solver, setup: SetupReq) -> Receiving
+    pub(crate) fn begin(solver: Solver<W, B>, setup: SetupReq) -> Receiving<W, B>
         requires begun { IsBegun solver }
         requires nb_frag { solver.shape.nb_frag ≡ setup.nb_frag }
         requires frag_size { solver.shape.frag_size ≡ setup.frag_size }
         requires short { setup.padding < setup.frag_size }
-        ensures { result ≡ record { setup = setup; received = 0; solver = solver } }
+        ensures { result ≡ record { setup = setup; received = 0; solver = solver.entry } }
     {
         Receiving {
             solver,
@@ -68,14 +68,14 @@ impl Receiving {
 
     /// Hears fragment `n` (1 to NbFrag + 8,380) of FragSize bytes, at the mark: it stands for what it stood for, followed by
     /// the fragment. A session that this decides takes no more of them.
-    pub fn feed(self, n: u16, part: &[u8], mark: u64) -> Next
+    pub fn feed(self, n: u16, part: &[u8], mark: u64) -> Next<W, B>
         requires first { 1 ≤ n }
         requires last { n ≤ self.setup.nb_frag + max_parity_index }
         requires sized { length part.now ≡ self.setup.frag_size }
-        ensures stands { (s : Session) → Holds self s
+        ensures stands { (s : Session) → Holds self.entry s
             → Stands (become result) (Some (followed s n part.now mark)) }
         ensures two { IsOpen (become result) }
-        ensures extent { extent_of (become result) ≡ self.solver.extent }
+        ensures extent { extent_of (become result) ≡ self.entry.solver.extent }
     {
         let Receiving {
             mut solver,
@@ -96,21 +96,11 @@ impl Receiving {
     }
 
     /// Ends the session.
-    pub fn delete(self) -> Idle
-        ensures { result ≡ self.solver.extent }
+    pub fn delete(self) -> Idle<W, B>
+        ensures { result ≡ self.entry.solver.extent }
     {
         let Receiving { solver, .. } = self;
         Idle { solver }
-    }
-
-    /// Takes memory for so much, where there is memory for less.
-    pub(crate) fn provide(&mut self, extent: Extent) -> Result<(), Memory>
-        requires { extent.pieces ≤ max_pieces }
-        ensures given { OnOk result (self.new
-            ≡ record self.old { solver = provided extent self.old.solver }) }
-        ensures refused { OnErr result (self.new ≡ self.old) }
-    {
-        self.solver.provide(extent)
     }
 
     pub(crate) fn setup(&self) -> SetupReq
@@ -128,7 +118,7 @@ impl Receiving {
     }
 
     /// The solver that is kept.
-    pub(crate) fn solver(&self) -> &Solver
+    pub(crate) fn solver(&self) -> &Solver<W, B>
         ensures { result.now ≡ self.now.solver }
     {
         &self.solver

@@ -44,9 +44,14 @@ pub struct Limits {
 /// All refusal bits of a setup over the room that a solver has, with so many bytes of flash where it is kept there; 0 where
 /// it is accepted.
 #[tactic(auto, unfolding(crate::specs::Setup::setup_bits))]
-pub fn refusal(solver: &Solver, req: SetupReq, limits: Limits, span: Option<u32>) -> u8
+pub fn refusal<const W: usize, const B: usize>(
+    solver: &Solver<W, B>,
+    req: SetupReq,
+    limits: Limits,
+    span: Option<u32>,
+) -> u8
     ensures { result ≡ setup_bits limits
-        (record { extent = solver.now.extent; span = span }) req }
+        (record { words = W; bytes = B; extent = solver.now.extent; span = span }) req }
 {
     let coding = bit(has_wrong_coding(req), 1);
     let size = bit(is_too_large(solver, req, limits.rows, span), 2);
@@ -82,9 +87,14 @@ fn has_wrong_coding(req: SetupReq) -> bool
 }
 
 #[tactic(auto, unfolding(crate::specs::Setup::too_large))]
-fn is_too_large(solver: &Solver, req: SetupReq, rows: u16, span: Option<u32>) -> bool
+fn is_too_large<const W: usize, const B: usize>(
+    solver: &Solver<W, B>,
+    req: SetupReq,
+    rows: u16,
+    span: Option<u32>,
+) -> bool
     ensures { result ≡ too_large
-        (record { extent = solver.now.extent; span = span }) rows req }
+        (record { words = W; bytes = B; extent = solver.now.extent; span = span }) rows req }
 {
     is_too_long(span, req)
         || req.nb_frag > MAX_PIECES

@@ -1,15 +1,13 @@
 //! A place for one session, in whatever state it is.
 
-ghost use Rattle.std.specs.Prelude.{◌≡◌, ◌<◌, ◌≢◌, ◌≤◌, Option, None, Some, IfSome, is_some, length, option_map, OnOk, OnErr};
+ghost use Rattle.std.specs.Prelude.{◌≡◌, ◌<◌, ◌≢◌, ◌≤◌, Option, None, Some, IfSome, is_some, length, option_map};
 ghost use Rattle.frag_session.specs.Setup.{memory_room, setup_bits, lives};
 ghost use Rattle.frag_session.specs.Session.{Session, new_session, followed, excludes, cause_of, drop_cause, answer_of, news_in, after_setup, after_fragment, view_of, status_by, status_in, status_of, is_overflow};
 ghost use Rattle.frag_session.specs.Held.{idle};
-ghost use Rattle.frag_session.specs.HeldSteps.{extent_of, slot_provided, session_setup, slot_cause, kept, become, CanHear, slot_seen, told_of, news_between};
+ghost use Rattle.frag_session.specs.HeldSteps.{extent_of, session_setup, slot_cause, kept, become, CanHear, slot_seen, told_of, news_between};
 ghost use Rattle.frag_session.specs.HeldView.{seen};
 ghost use Rattle.frag_session.specs.HeldHistory.{Stands};
 ghost use Rattle.frag_session.specs.Limits.{max_received};
-ghost use Rattle.frag_model.specs.Limits.{max_pieces};
-ghost use Rattle.row_elimination.specs.Room.{joined};
 
 use crate::answers::{Cause, Heard, News, StatusAns, Verdict, Via, View};
 use crate::complete_state::Complete;
@@ -19,25 +17,25 @@ use crate::overflowed_state::Overflowed;
 use crate::receiving_state::{Next, Receiving};
 use crate::setups::{Limits, SetupReq, lives, refusal};
 use frag_model::lines::MAX_PARITY_INDEX;
-use row_elimination::{Extent, Memory};
 use std::marker::Model;
 
 /// What a slot holds.
 #[derive(Drop)]
-pub enum State {
-    Idle(Idle),
-    Receiving(Receiving),
-    Complete(Complete),
-    Overflowed(Overflowed),
-    Conflicted(Conflicted),
+pub enum State<const W: usize, const B: usize> {
+    Idle(Idle<W, B>),
+    Receiving(Receiving<W, B>),
+    Complete(Complete<W, B>),
+    Overflowed(Overflowed<W, B>),
+    Conflicted(Conflicted<W, B>),
 }
 
-/// A place for one session. It stands for the session's setup and all fragments that it heard.
-pub struct Slot {
-    state: Option<State>,
+/// A place for one session. It stands for the session's setup and all fragments that it heard. `W` and `B` are those of
+/// its `Solver`.
+pub struct Slot<const W: usize, const B: usize> {
+    state: Option<State<W, B>>,
 }
 
-impl Model for Slot {
+impl<const W: usize, const B: usize> Model for Slot<W, B> {
     ghost use Rattle.std.specs.Prelude.{◌≡◌, true, is_some};
     ghost use Rattle.frag_session.specs.Held.{HeldSlot};
     ghost use Rattle.frag_session.specs.HeldSteps.{kept_by};
@@ -49,7 +47,7 @@ impl Model for Slot {
     ghost invariant = { λ s. is_some s.state ≡ true };
 }
 
-impl Drop for Slot {
+impl<const W: usize, const B: usize> Drop for Slot<W, B> {
     /// Gives the memory of its solver back, in whichever state it is.
     fn drop(self) {
         let Slot { state } = self;
@@ -57,42 +55,15 @@ impl Drop for Slot {
     }
 }
 
-impl Slot {
+impl<const W: usize, const B: usize> Slot<W, B> {
     /// A slot without a session.
     #[tactic(auto, unfolding(crate::specs::HeldHistory::Stands, crate::specs::HeldSteps::extent_of))]
-    pub fn new(idle: Idle) -> Slot
+    pub fn new(idle: Idle<W, B>) -> Slot<W, B>
         ensures stands { Stands result None }
-        ensures extent { extent_of result ≡ idle }
+        ensures extent { extent_of result ≡ idle.entry }
     {
         Slot {
             state: Some(State::Idle(idle)),
-        }
-    }
-
-    /// Takes memory for so much, where there is memory for less. A session stays as it is, also where memory is wanting.
-    pub fn provide(&mut self, extent: Extent) -> Result<(), Memory>
-        requires { extent.pieces ≤ max_pieces }
-        ensures stands { (s : Option Session) → Stands self.old s → Stands self.new s }
-        ensures given { OnOk result (extent_of self.new ≡ joined (extent_of self.old) extent) }
-        ensures refused { OnErr result (self.new ≡ self.old) }
-    {
-        self.give(extent)
-    }
-
-    /// The same, by what it holds.
-    #[tactic(auto, unfolding(crate::specs::HeldSteps::slot_provided))]
-    fn give(&mut self, extent: Extent) -> Result<(), Memory>
-        requires { extent.pieces ≤ max_pieces }
-        ensures given { OnOk result (self.new ≡ slot_provided extent self.old) }
-        ensures refused { OnErr result (self.new ≡ self.old) }
-    {
-        match &mut self.state {
-            Some(State::Idle(idle)) => idle.provide(extent),
-            Some(State::Receiving(receiving)) => receiving.provide(extent),
-            Some(State::Complete(complete)) => complete.provide(extent),
-            Some(State::Overflowed(overflowed)) => overflowed.provide(extent),
-            Some(State::Conflicted(conflicted)) => conflicted.provide(extent),
-            None => unreachable!(),
         }
     }
 
@@ -100,9 +71,9 @@ impl Slot {
     /// that make no file, 2 for more than there is room for, 4 for an index that is not there, 8 for another descriptor.
     /// Where there is none, a session that was made of an equal request stays, and any other gives way to a new one.
     pub fn setup(&mut self, req: SetupReq, limits: Limits) -> u8
-        ensures bits { result ≡ setup_bits limits (memory_room (extent_of self.old)) req }
+        ensures bits { result ≡ setup_bits limits (memory_room W B (extent_of self.old)) req }
         ensures stands { (s : Option Session) → Stands self.old s
-            → Stands self.new (after_setup limits (memory_room (extent_of self.old)) s req) }
+            → Stands self.new (after_setup limits (memory_room W B (extent_of self.old)) s req) }
         ensures refused { result ≢ 0 → self.new ≡ self.old }
         ensures extent { extent_of self.new ≡ extent_of self.old }
     {
@@ -138,7 +109,7 @@ impl Slot {
     #[tactic(auto, unfolding(crate::specs::HeldSteps::extent_of))]
     pub fn refusal(&self, req: SetupReq, limits: Limits, span: Option<u32>) -> u8
         ensures { result ≡ setup_bits limits
-            (record { extent = extent_of self.now; span = span }) req }
+            (record { words = W; bytes = B; extent = extent_of self.now; span = span }) req }
     {
         match &self.state {
             Some(State::Idle(idle)) => refusal(idle.solver(), req, limits, span),
@@ -202,8 +173,8 @@ impl Slot {
     }
 
     /// Ends the session, and gives the memory back.
-    pub fn end(self) -> Idle
-        ensures { result ≡ extent_of self }
+    pub fn end(self) -> Idle<W, B>
+        ensures { result ≡ extent_of self.entry }
     {
         let Slot { state } = self;
         cleared(state.unwrap())
@@ -220,7 +191,7 @@ impl Slot {
 
     /// Puts a new session in the place of whatever lived. The request must have no refusal bit.
     pub fn renew(&mut self, req: SetupReq, limits: Limits)
-        requires { setup_bits limits (memory_room (extent_of self.old)) req ≡ 0 }
+        requires { setup_bits limits (memory_room W B (extent_of self.old)) req ≡ 0 }
         ensures stands { Stands self.new (Some (new_session limits req)) }
         ensures extent { extent_of self.new ≡ extent_of self.old }
     {
@@ -285,8 +256,8 @@ impl Slot {
 
 /// Puts a state into the place that was left empty for it.
 #[inline(always)]
-fn put(place: &mut Option<State>, state: State)
-    ensures { place.new ≡ Some state }
+fn put<const W: usize, const B: usize>(place: &mut Option<State<W, B>>, state: State<W, B>)
+    ensures { place.new ≡ Some state.entry }
 {
     *place = Some(state);
 }
@@ -311,8 +282,8 @@ fn news_between(before: Option<(u16, u16)>, after: Option<(u16, u16)>) -> News
 
 /// The memory of whatever lived.
 #[tactic(auto, unfolding(crate::specs::HeldSteps::extent_of))]
-fn cleared(state: State) -> Idle
-    ensures { result ≡ extent_of (kept state) }
+fn cleared<const W: usize, const B: usize>(state: State<W, B>) -> Idle<W, B>
+    ensures { result ≡ extent_of (kept state.entry) }
 {
     match state {
         State::Idle(idle) => idle,
@@ -325,17 +296,21 @@ fn cleared(state: State) -> Idle
 
 /// The state without a session.
 #[tactic(auto, unfolding(crate::specs::HeldSteps::extent_of))]
-fn ended(state: State) -> State
-    ensures { kept result ≡ idle (extent_of (kept state)) }
+fn ended<const W: usize, const B: usize>(state: State<W, B>) -> State<W, B>
+    ensures { kept result ≡ idle (extent_of (kept state.entry)) }
 {
     State::Idle(cleared(state))
 }
 
 /// The state with a new session in the place of whatever lived.
-fn renewed(state: State, req: SetupReq, limits: Limits) -> State
-    requires { setup_bits limits (memory_room (extent_of (kept state))) req ≡ 0 }
+fn renewed<const W: usize, const B: usize>(
+    state: State<W, B>,
+    req: SetupReq,
+    limits: Limits,
+) -> State<W, B>
+    requires { setup_bits limits (memory_room W B (extent_of (kept state))) req ≡ 0 }
     ensures stands { Stands (kept result) (Some (new_session limits req)) }
-    ensures extent { extent_of (kept result) ≡ extent_of (kept state) }
+    ensures extent { extent_of (kept result) ≡ extent_of (kept state.entry) }
 {
     match cleared(state).setup(req, limits) {
         Ok(receiving) => State::Receiving(receiving),
@@ -382,11 +357,16 @@ fn excludes(mask: u8, via: Via) -> bool
 }
 
 /// The state after a fragment that is heard.
-fn fed(state: State, n: u16, part: &[u8], mark: u64) -> State
+fn fed<const W: usize, const B: usize>(
+    state: State<W, B>,
+    n: u16,
+    part: &[u8],
+    mark: u64,
+) -> State<W, B>
     requires { CanHear (kept state) n part.now }
-    ensures stands { (s : Session) → Stands (kept state) (Some s)
+    ensures stands { (s : Session) → Stands (kept state.entry) (Some s)
         → Stands (kept result) (Some (followed s n part.now mark)) }
-    ensures extent { extent_of (kept result) ≡ extent_of (kept state) }
+    ensures extent { extent_of (kept result) ≡ extent_of (kept state.entry) }
 {
     match state {
         State::Idle(idle) => State::Idle(idle),
@@ -407,8 +387,8 @@ fn fed(state: State, n: u16, part: &[u8], mark: u64) -> State
 }
 
 /// The state that a session has become.
-fn state_of(next: Next) -> State
-    ensures { kept result ≡ become next }
+fn state_of<const W: usize, const B: usize>(next: Next<W, B>) -> State<W, B>
+    ensures { kept result ≡ become next.entry }
 {
     match next {
         Next::Receiving(receiving) => State::Receiving(receiving),

@@ -1,5 +1,5 @@
 -- What the calls of a device do for C.
-use Rattle.std.specs.Prelude.{◌≡◌, ◌≢◌, ◌⊎◌, ◌≤◌, ◌<◌, ℕ, Bool, true, false, not, IsTrue, List, [], ◌∷◌, length, Option, Some, None, Result, Ok, Err}
+use Rattle.std.specs.Prelude.{◌≡◌, ◌⊎◌, ◌≤◌, ◌<◌, ℕ, Bool, true, false, not, IsTrue, List, [], ◌∷◌, length, Option, Some, None, Result, Ok, Err}
 use Rattle.wire_base.specs.Payload.{max_payload}
 use Rattle.package_grammar.specs.declared.downlink.To.{To}
 use Rattle.package_grammar.specs.declared.downlink.To.TheVariants.{Unicast, Group}
@@ -18,7 +18,6 @@ use Rattle.device_core.specs.Device.{DeviceState, first_device, is_config, max_m
 use Rattle.device_core.specs.Deliver.{Outcome, delivery, waking, taking}
 use Rattle.flash_session.specs.Flashes.{Cells}
 use Rattle.device_core.specs.HeldDevice.{HeldDevice, DeviceStands, Becomes, Makes}
-use Rattle.device_core.specs.HeldMemory.{Gives}
 use Rattle.c_base.specs.Answer.{done, nothing, range, no_memory, no_object, refused, deaf, full}
 use Rattle.c_base.specs.Bytes.{IsPut, Copied}
 use Rattle.fuota_c.specs.declared.device.ConfigFields.{ConfigFields}
@@ -50,7 +49,6 @@ config_of fields = record {
   sessions = fields.sessions;
   groups = fields.groups;
   area = fields.area;
-  late = fields.is_late;
   held = false;
   span = 0;
 }
@@ -79,7 +77,6 @@ delivered_number delivered.Done = done
 delivered_number delivered.Deaf = deaf
 delivered_number (delivered.Refused refusal) = refused
 delivered_number (delivered.OutboxFull n) = full
-delivered_number delivered.NoMemory = no_memory
 -- sessions that are in memory alone give neither
 delivered_number delivered.FlashFault = no_object
 delivered_number delivered.Down = no_object
@@ -92,14 +89,12 @@ woken_number (Err e) = full
 abbrev pub as_number : {A : Type 0} → (A → ℕ) → Outcome A → Outcome ℕ
 as_number number outcome = record { device = outcome.device; answer = number outcome.answer }
 
--- a payload that a radio can bring, at a moment that a device knows, is delivered, or memory was wanting, to a device that
--- takes it late; any other changes nothing
+-- a payload that a radio can bring, at a moment that a device knows, is delivered; any other changes nothing
 pub record DeliversOrNot (x y : HeldDevice Cells) (port : ℕ) (payload : List ℕ) (arrival : ArrivalFields) (answer : ℕ)
     : Type 0 where
-  pub delivers : length payload ≤ max_payload → arrival.t ≤ max_moment → answer ≢ no_memory → Makes ℕ x y answer (λ device.
+  pub delivers : length payload ≤ max_payload → arrival.t ≤ max_moment → Makes ℕ x y answer (λ device.
       as_number delivered_number
       (delivery arrival.t arrival.word arrival.mark (downlink_of port payload arrival) device))
-  pub wanting : answer ≡ no_memory → (x.config.late ≡ true) × Gives x y
   pub long : max_payload < length payload → (answer ≡ range) × (y ≡ x)
   pub late : max_moment < arrival.t → (answer ≡ range) × (y ≡ x)
 

@@ -12,11 +12,12 @@ use Rattle.flash_session.specs.contracts.cells.CellFlashFlash.TheImpl as cells_f
 use Rattle.device_core.specs.contracts.device.Device as device
 use base.Fml.{Fml, feq}
 use denote.RattleType.{RattleType}
+use denote.Param.{number}
 use denote.RawPtr.{Ptr, null_ptr}
 
--- a receiver's slot
+-- a receiver's slot: 16 rows of 4 words and 48 bytes
 abbrev pub receiver_row : RattleType
-receiver_row = slot.the_row
+receiver_row = slot.the_row (number 64) (number 768)
 
 abbrev pub receiver_at : Global → Ptr → Option HeldSlot → Fml
 receiver_at a p None = feq Ptr p null_ptr

@@ -44,8 +44,6 @@ pub struct ConfigFields {
     pub has_descriptor: bool,
     /// It always hears unicast payloads; else in the two windows behind its uplink.
     pub is_class_c: bool,
-    /// Memory for sessions and images is taken when a setup needs it, and not at the start.
-    pub is_late: bool,
     /// GenAppKey of LoRaWAN 1.0.
     pub key: [u8; 16],
 }
@@ -73,8 +71,8 @@ pub struct UplinkFields {
     pub payload: [u8; 242],
 }
 
-/// Frees what was there, and puts a new device into the handle, with all memory that it will ever need, but where it takes
-/// that late: done; out of range where a number of the configuration is, or no memory, and then there is no device.
+/// Frees what was there, and puts a new device into the handle, with all memory that it will ever need: done; out of
+/// range where a number of the configuration is, or no memory, and then there is no device.
 #[unsafe(no_mangle)]
 pub extern "C" fn fuota_device_new(
     handle: &mut DeviceHandle,
@@ -141,7 +139,6 @@ fn config_of(fields: &ConfigFields) -> DeviceConfig
         sessions: fields.sessions,
         groups: fields.groups,
         area: fields.area,
-        late: fields.is_late,
         held: false,
         span: 0,
     }
@@ -156,8 +153,7 @@ pub extern "C" fn fuota_device_free(handle: &mut DeviceHandle, alloc: Global)
 }
 
 /// A payload comes: done, where its commands acted; deaf, refused or full, where they did not; out of range at more
-/// than 242 bytes and at a `t` of more than 4,294,967,295,999, where nothing changes. No memory comes to a device that
-/// takes it late, where there is not enough for a setup, and then nothing acted or was counted.
+/// than 242 bytes and at a `t` of more than 4,294,967,295,999, where nothing changes.
 #[unsafe(no_mangle)]
 pub extern "C" fn fuota_device_deliver(
     handle: &mut DeviceHandle,
@@ -221,7 +217,6 @@ fn delivered_number(delivered: Delivered) -> u8
         Delivered::Deaf => DEAF,
         Delivered::Refused(_) => REFUSED,
         Delivered::OutboxFull(_) => FULL,
-        Delivered::NoMemory => NO_MEMORY,
         // Sessions that are in memory alone give neither.
         Delivered::FlashFault | Delivered::Down => NO_OBJECT,
     }

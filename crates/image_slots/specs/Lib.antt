@@ -1,5 +1,4 @@
 pub mod Image
 pub mod Slots
 pub mod HeldSlots
-pub mod HeldFiles
 pub mod WorkedImages

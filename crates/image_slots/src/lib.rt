@@ -2,8 +2,7 @@
 //! it is to a device: the states of a next slot that firmware management reports (TS006-1.0.0), and the two slots.
 //! Whatever bytes are handed in, they are an image file exactly where the definition says so, and the state is the one
 //! that the definition gives them for a hardware version: corrupt, incompatible, or valid with the firmware's version.
-//! Slots take their memory when they are made, or before a file comes (`provide`), and each call on them is a function of what
-//! they hold.
+//! Slots take their memory once, and each call on them is a function of what they hold.
 //! Who made a file, and when a device starts it, is left to the crates above.
 //!
 //!     match ImageView::read(file, hardware, 2) {
@@ -18,7 +17,6 @@
 mod image;
 mod laws;
 mod slots;
-mod two_files;
 mod view;
 
 pub use image::{MAX_IMAGE, firmware, highest, is_for, is_image, lowest};

@@ -1,9 +1,8 @@
 //! The two image slots of a device.
 
-ghost use Rattle.std.specs.Prelude.{◌≡◌, ◌≤◌, ℕ, length, max, IfOk, OnOk, OnErr};
+ghost use Rattle.std.specs.Prelude.{◌≡◌, ◌≤◌, ℕ, length, IfOk};
 ghost use Rattle.image_slots.specs.Slots.{first_slots, without_next, after_offer, after_swap, delete_bits, after_delete, after_raise};
 
-use crate::two_files::TwoFiles;
 use crate::view::{ImageState, ImageView};
 use std::alloc::Global;
 use std::marker::Model;
@@ -12,7 +11,7 @@ use std::marker::Model;
 #[derive(Clone, Copy, Debug, PartialEq, Eq)]
 pub struct Memory;
 
-/// What a device runs, and the file that it received to run next, in memory that is taken before they come.
+/// What a device runs, and the file that it received to run next. Its memory is taken once.
 #[derive(Drop)]
 pub struct Slots {
     /// The device's hardware version.
@@ -23,23 +22,26 @@ pub struct Slots {
     area: u32,
     /// The version that runs.
     version: u32,
+    running: Vec<u8>,
     next: ImageState,
-    /// What runs, and the file that is next.
-    files: TwoFiles,
+    next_file: Vec<u8>,
 }
 
 impl Model for Slots {
-    ghost use Rattle.image_slots.specs.HeldSlots.{HeldSlots, IsSlots};
+    ghost use Rattle.std.specs.Prelude.{◌≤◌, vec_capacity};
+    ghost use Rattle.image_slots.specs.HeldSlots.{HeldSlots};
+    ghost use Rattle.image_slots.specs.Slots.{IsRead};
 
     ghost Value = { HeldSlots };
 
     ghost view = { λ s. record {
       hw = s.hw;
       area = s.area;
-      slots = record { formats = s.formats; version = s.version; running = s.files.first; next = s.next; next_file = s.files.second };
+      slots = record { formats = s.formats; version = s.version; running = s.running.items; next = s.next; next_file = s.next_file.items };
     } };
 
-    ghost invariant = { λ s. IsSlots s.hw s.formats s.area s.version s.next s.files };
+    ghost invariant = { λ s. (s.area ≤ vec_capacity s.running) × (s.area ≤ vec_capacity s.next_file)
+        × IsRead s.hw (record { formats = s.formats; version = s.version; running = s.running.items; next = s.next; next_file = s.next_file.items }) };
 }
 
 impl Slots {
@@ -49,7 +51,10 @@ impl Slots {
         ensures { IfOk result
             (λ s. s ≡ record { hw = hw; area = area; slots = first_slots formats }) }
     {
-        let Ok(files) = TwoFiles::reserve(alloc, 2 * area as usize) else {
+        let Ok(running) = Vec::with_capacity(alloc, area as usize) else {
+            return Err(Memory);
+        };
+        let Ok(next_file) = Vec::with_capacity(alloc, area as usize) else {
             return Err(Memory);
         };
         Ok(Slots {
@@ -57,24 +62,10 @@ impl Slots {
             formats,
             area,
             version: 0,
+            running,
             next: ImageState::None,
-            files,
+            next_file,
         })
-    }
-
-    /// Takes memory for files of so many bytes, where there is less. What runs and what is next stay, also where memory is
-    /// wanting.
-    pub fn provide(&mut self, area: u32) -> Result<(), Memory>
-        ensures given { OnOk result (self.new
-            ≡ record self.old { area = max self.old.area area }) }
-        ensures refused { OnErr result (self.new ≡ self.old) }
-    {
-        let area = self.area.max(area);
-        if self.files.provide(2 * area as usize).is_err() {
-            return Err(Memory);
-        }
-        self.area = area;
-        Ok(())
     }
 
     /// A file of at most `area` bytes becomes next, whatever next was.
@@ -85,7 +76,10 @@ impl Slots {
             ≡ record self.old { slots = after_offer self.old.hw file.now self.old.slots } }
     {
         self.next = ImageView::read(file, self.hw, self.formats);
-        self.files.put(file);
+        self.next_file.clear();
+        if self.next_file.extend_from_slice(file).is_err() {
+            unreachable!();
+        }
     }
 
     /// A valid next becomes what runs, and next is none; any other next stays.
@@ -96,7 +90,8 @@ impl Slots {
         if let ImageState::Valid(version) = self.next {
             self.version = version;
             self.next = ImageState::None;
-            self.files.promote();
+            std::mem::swap(&mut self.running, &mut self.next_file);
+            self.next_file.clear();
         }
     }
 
@@ -124,7 +119,7 @@ impl Slots {
             → self.new.slots.next ≡ ImageState.Valid version }
     {
         if self.next != ImageState::None {
-            self.next = ImageView::read(self.files.second(), self.hw, 2);
+            self.next = ImageView::read(&self.next_file, self.hw, 2);
         }
         self.formats = 2;
     }
@@ -134,7 +129,7 @@ impl Slots {
         ensures version { result.0 ≡ self.now.slots.version }
         ensures file { result.1.now ≡ self.now.slots.running }
     {
-        (self.version, self.files.first())
+        (self.version, self.running.as_slice())
     }
 
     /// What next is to the device.
@@ -149,7 +144,7 @@ impl Slots {
         ensures { self.new ≡ record self.old { slots = without_next self.old.slots } }
     {
         self.next = ImageState::None;
-        self.files.clear();
+        self.next_file.clear();
     }
 }
 

@@ -1,6 +1,6 @@
 -- What `replay` tells of a file of captured payloads: a device hears them, and then says where its sessions stand.
 -- (TS004-1.0.0 on port 201, down, by unicast; the rest is this project's profile.)
-use Rattle.std.specs.Prelude.{true, false, ◌≡◌, ℕ, List, [], ◌++◌, replicate, codes, None, Result}
+use Rattle.std.specs.Prelude.{false, ◌≡◌, ℕ, List, [], ◌++◌, replicate, codes, None, Result}
 use Rattle.cast_wire.specs.Limits.{max_groups}
 use Rattle.package_grammar.specs.declared.downlink.Downlink.{Downlink}
 use Rattle.package_grammar.specs.declared.downlink.To.TheVariants.{Unicast}
@@ -39,7 +39,6 @@ replay_device rows = first_device (record {
   sessions = max_sessions;
   groups = max_groups;
   area = max_area;
-  late = true;
   held = false;
   span = 0;
 })

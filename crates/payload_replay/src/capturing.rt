@@ -200,8 +200,7 @@ fn first_text(alloc: Global) -> Result<(Vec<u8>, Box<Scratch>), AllocError>
     }
 }
 
-/// What the entry of a line that comes after so many makes of the text and the device; or the line is refused, or memory was
-/// wanting.
+/// What the entry of a line that comes after so many makes of the text and the device; or the line is refused.
 fn catch_line(alloc: Global, caught: &mut Catch, lines: u32, line: &[u8]) -> Result<(), LineError>
     requires { lines ≤ 20000 }
     ensures caught { OnOk result ((item : Entry) × (line_entry lines line.now ≡ Ok item)
@@ -214,10 +213,10 @@ fn catch_line(alloc: Global, caught: &mut Catch, lines: u32, line: &[u8]) -> Res
         Err(error) => return Err(error),
     };
     match show_entry(alloc, lines + 1, &item, &mut caught.text) {
-        Ok(()) => match hear_entry(&mut caught.device, &item, u64::from(lines + 1)) {
-            Ok(()) => Ok(()),
-            Err(_) => Err(LineError::Memory),
-        },
+        Ok(()) => {
+            hear_entry(&mut caught.device, &item, u64::from(lines + 1));
+            Ok(())
+        }
         Err(_) => Err(LineError::Memory),
     }
 }
@@ -294,16 +293,13 @@ fn direction_word(dir: Direction) -> &'static str
     }
 }
 
-/// The device hears an entry that is for it, or memory was wanting; at another it stays as it is.
+/// The device hears an entry that is for it, and stays as it is at another.
 #[tactic(auto, unfolding(crate::specs::Capture::after_entry))]
-fn hear_entry(device: &mut Device<CellFlash>, item: &Entry, mark: u64) -> Result<(), AllocError>
-    ensures { OnOk result
-        (Becomes device.old device.new (λ before. after_entry mark item.now before)) }
+fn hear_entry(device: &mut Device<CellFlash>, item: &Entry, mark: u64)
+    ensures { Becomes device.old device.new (λ before. after_entry mark item.now before) }
 {
     if is_heard(item) {
-        hear(device, item.payload.as_slice(), mark)
-    } else {
-        Ok(())
+        hear(device, item.payload.as_slice(), mark);
     }
 }
 

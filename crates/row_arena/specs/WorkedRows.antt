@@ -1,6 +1,6 @@
 -- Rows, their sums and their room, worked out.
 use Rattle.std.specs.Prelude.{◌≡◌, ℕ, ◌+◌, ◌^◌, true, false, [], ◌∷◌}
-use Rattle.row_arena.specs.Limits.{max_width}
+use Rattle.row_arena.specs.Limits.{max_words, max_bytes, max_width}
 use Rattle.row_arena.specs.Rows.{Row, Arena, zero_row, row_at, with_row, row_sum, words_for, has_room, line_in}
 use Rattle.row_arena.specs.Sums.{after_pieces, after_flips}
 
@@ -9,7 +9,7 @@ abbrev pub row : (line a b : ℕ) → Row
 row line a b = record { line = line; part = a ∷ b ∷ [] }
 
 abbrev pub two_rows : Arena
-two_rows = record { cols = 3; cell = 2; rows = row 5 1 2 ∷ row 6 3 8 ∷ []; words = 2; bytes = 4 }
+two_rows = record { cols = 3; cell = 2; rows = row 5 1 2 ∷ row 6 3 8 ∷ [] }
 
 pub record WorkedRows : Type 0 where
   -- 64 columns a word
@@ -31,4 +31,6 @@ pub record WorkedRows : Type 0 where
   pub pieces : after_pieces 2 (1 ∷ 2 ∷ 4 ∷ 8 ∷ 16 ∷ 32 ∷ []) 1 64 (0 ∷ 2 ∷ []) ≡ 64 + 2 + 32
   -- columns 0 and 1 of a line of the columns 0 and 2
   pub flips : after_flips 5 (0 ∷ 1 ∷ []) ≡ 6
+  pub most_words : max_words ≡ 16384
+  pub most_bytes : max_bytes ≡ 61184
   pub widest : max_width ≡ 1024

@@ -1,8 +1,8 @@
 //! Rows of one shape in storage that is taken once.
 
-ghost use Rattle.std.specs.Prelude.{◌≡◌, ◌^◌, ◌<◌, ◌≤◌, ◌==◌, length, max, is_ok, IfOk, OnOk, OnErr, replicate, vec_capacity};
+ghost use Rattle.std.specs.Prelude.{◌≡◌, ◌^◌, ◌<◌, ◌≤◌, ◌==◌, length, is_ok, IfOk, OnOk, OnErr, replicate, vec_capacity};
 ghost use Rattle.std.specs.Int.{bit_at};
-ghost use Rattle.row_arena.specs.Limits.{max_width};
+ghost use Rattle.row_arena.specs.Limits.{max_bytes, max_width, max_words};
 ghost use Rattle.row_arena.specs.Rows.{Row, row_at, with_row, zero_row, row_sum, words_for, has_room, line_in};
 
 use crate::lines::has_bit;
@@ -14,112 +14,67 @@ use std::marker::Model;
 #[derive(Clone, Copy, Debug, PartialEq, Eq)]
 pub struct NoRoom;
 
-/// Rows of one shape: each has a line, a bit for each of its columns, and bytes beside it. All lie in words of 64 bits and
-/// in bytes, whose memory is taken before, and of which a shape clears what it takes. A contract sees the rows as a list.
+/// Rows of one shape: each has a line, a bit for each of its columns, and bytes beside it. All lie in `WORDS` words of 64
+/// bits (at most 16,384) and `BYTES` bytes (at most 61,184), whose memory is taken once, and of which a shape clears what
+/// it takes. A contract sees the rows as a list.
 #[derive(Drop)]
-pub struct RowArena {
+pub struct RowArena<const WORDS: usize, const BYTES: usize> {
     words: Vec<u64>,
     bytes: Vec<u8>,
-    /// The words and bytes for which there is memory.
-    word_room: u16,
-    byte_room: u16,
     rows: u16,
     cols: u16,
     cell: u8,
 }
 
-impl Model for RowArena {
+impl<const WORDS: usize, const BYTES: usize> Model for RowArena<WORDS, BYTES> {
     ghost use Rattle.std.specs.Prelude.{vec_capacity};
     ghost use Rattle.row_arena.specs.Rows.{Arena, words_for};
     ghost use Rattle.row_arena.specs.ArenaInside.{rows_in, IsKept};
 
     ghost Value = { Arena };
 
-    ghost view = { λ a. record {
-      cols = a.cols;
-      cell = a.cell;
-      rows = rows_in a.rows (words_for a.cols) a.cell a.words.items a.bytes.items;
-      words = a.word_room;
-      bytes = a.byte_room;
-    } };
+    ghost view = { λ a. record { cols = a.cols; cell = a.cell; rows = rows_in a.rows (words_for a.cols) a.cell a.words.items a.bytes.items } };
 
-    ghost invariant = { λ a. IsKept a.word_room a.byte_room (vec_capacity a.words) (vec_capacity a.bytes)
+    ghost invariant = { λ a. IsKept WORDS BYTES (vec_capacity a.words) (vec_capacity a.bytes)
         a.rows a.cols a.cell a.words.items a.bytes.items };
 }
 
-impl RowArena {
-    /// An arena of no rows, columns or bytes, with memory for so many words of 64 bits and bytes in all its rows.
-    pub fn reserve(alloc: Global, words: u16, bytes: u16) -> Result<Self, AllocError>
-        ensures { IfOk result (λ arena. arena ≡ record {
-          cols = 0;
-          cell = 0;
-          rows = replicate 0 (zero_row 0);
-          words = words;
-          bytes = bytes;
-        }) }
+impl<const WORDS: usize, const BYTES: usize> RowArena<WORDS, BYTES> {
+    /// An arena of no rows, columns or bytes, with memory for all that it ever holds.
+    pub fn reserve(alloc: Global) -> Result<Self, AllocError>
+        requires words { WORDS ≤ max_words }
+        requires bytes { BYTES ≤ max_bytes }
+        ensures { IfOk result
+            (λ arena. arena ≡ record { cols = 0; cell = 0; rows = replicate 0 (zero_row 0) }) }
     {
         Ok(RowArena {
-            words: Vec::with_capacity(alloc, words as usize)?,
-            bytes: Vec::with_capacity(alloc, bytes as usize)?,
-            word_room: words,
-            byte_room: bytes,
+            words: Vec::with_capacity(alloc, WORDS)?,
+            bytes: Vec::with_capacity(alloc, BYTES)?,
             rows: 0,
             cols: 0,
             cell: 0,
         })
     }
 
-    /// Takes memory for so many words and bytes, where there is memory for fewer. All rows stay.
-    pub fn provide(&mut self, words: u16, bytes: u16) -> Result<(), AllocError>
-        ensures given { OnOk result (self.new ≡ record self.old {
-          words = max self.old.words words;
-          bytes = max self.old.bytes bytes;
-        }) }
-        ensures refused { OnErr result (self.new ≡ self.old) }
-    {
-        let words = self.word_room.max(words);
-        let bytes = self.byte_room.max(bytes);
-        hold(&mut self.words, words as usize)?;
-        hold(&mut self.bytes, bytes as usize)?;
-        self.word_room = words;
-        self.byte_room = bytes;
-        Ok(())
-    }
-
     /// Has so many rows from now on, of `cols` columns and `cell` bytes each (any numbers of 16 and 8 bits), which are all
     /// zero. Where their words, (`cols` + 63) / 64 a row, or their bytes do not fit, the arena stays as it was.
     pub fn shape(&mut self, rows: u16, cols: u16, cell: u8) -> Result<(), NoRoom>
-        ensures room { is_ok result ≡ has_room self.old.words self.old.bytes rows cols cell }
-        ensures shaped { OnOk result (self.new ≡ record self.old {
-          cols = cols;
-          cell = cell;
-          rows = replicate rows (zero_row cell);
-        }) }
+        ensures room { is_ok result ≡ has_room WORDS BYTES rows cols cell }
+        ensures shaped { OnOk result (self.new
+            ≡ record { cols = cols; cell = cell; rows = replicate rows (zero_row cell) }) }
         ensures refused { OnErr result (self.new ≡ self.old) }
     {
-        if !has_room(self.word_room, self.byte_room, rows, cols, cell) {
+        let words = rows as usize * words_for(cols);
+        let bytes = rows as usize * cell as usize;
+        if words > WORDS || bytes > BYTES {
             return Err(NoRoom);
         }
-        zero_words(&mut self.words, rows as usize * words_for(cols));
-        zero_bytes(&mut self.bytes, rows as usize * cell as usize);
+        zero_words(&mut self.words, words);
+        zero_bytes(&mut self.bytes, bytes);
         self.rows = rows;
         self.cols = cols;
         self.cell = cell;
         Ok(())
-    }
-
-    /// The words for which there is memory in all rows.
-    pub fn word_room(&self) -> u16
-        ensures { result ≡ self.now.words }
-    {
-        self.word_room
-    }
-
-    /// The bytes for which there is memory in all rows.
-    pub fn byte_room(&self) -> u16
-        ensures { result ≡ self.now.bytes }
-    {
-        self.byte_room
     }
 
     /// How many rows there are.
@@ -202,24 +157,6 @@ pub fn words_for(cols: u16) -> usize
     ensures few { result ≤ max_width }
 {
     (cols as usize + 63) / 64
-}
-
-/// Whether rows of this shape fit in so many words and bytes.
-#[tactic(auto, unfolding(crate::specs::Rows::has_room))]
-fn has_room(words: u16, bytes: u16, rows: u16, cols: u16, cell: u8) -> bool
-    ensures { result ≡ has_room words bytes rows cols cell }
-{
-    rows as usize * words_for(cols) <= words as usize
-        && rows as usize * cell as usize <= bytes as usize
-}
-
-/// Has memory for so many items, those included that are there.
-pub fn hold<T: Drop>(items: &mut Vec<T>, n: usize) -> Result<(), AllocError>
-    ensures items { items.new.items ≡ items.old.items }
-    ensures room { OnOk result (n ≤ vec_capacity items.new) }
-    ensures capacity { vec_capacity items.old ≤ vec_capacity items.new }
-{
-    items.reserve_exact(n.saturating_sub(items.len()))
 }
 
 /// Holds so many words, all zero; there is memory for them.

@@ -3,7 +3,7 @@
 //! says exactly which rows there are afterwards, and `pick` and `sum_pieces` what they take out of a line and add to a part.
 //! Which rows are worth keeping, and what they mean, is left to the elimination above.
 //!
-//!     let mut arena = RowArena::reserve(alloc, 64, 768)?;
+//!     let mut arena: RowArena<64, 768> = RowArena::reserve(alloc)?;
 //!     arena.shape(16, 256, 48)?;                // 16 rows of 256 columns and 48 bytes, all zero
 //!     arena.set_row(0, &line, part);
 //!     arena.add_to_row(0, &other, rest);        // another line and its bytes are added to row 0
@@ -18,7 +18,7 @@ mod picks;
 mod pieces;
 mod stretches;
 
-pub use arena::{NoRoom, RowArena, hold, words_for};
+pub use arena::{NoRoom, RowArena, words_for};
 pub use lanes::{xor_bytes, xor_words};
 pub use laws::worked_rows;
 pub use lines::{clear_bits, first_bit, flip_bit};

@@ -1,5 +1,5 @@
 -- What the fields of a table keep true when it takes something in.
-use Rattle.std.proofs.Common.{◌≡◌, ◌≢◌, ◌⊎◌, ℕ, suc, ◌+◌, ◌*◌, ◌<◌, ◌≤◌, ◌^◌, max, false, List, length, get_or, set, take, drop, replicate, ◌++◌, [], zero, Option, Some, None, Result, Ok, Err, is_ok, OnOk, true, true≢false, bit_xor, refl, sym, ap, ◌∙◌, subst, inl, inr, arith, length-take-le, length-set}
+use Rattle.std.proofs.Common.{◌≡◌, ◌≢◌, ◌⊎◌, ℕ, suc, ◌+◌, ◌*◌, ◌<◌, ◌≤◌, ◌^◌, false, List, length, get_or, set, take, drop, replicate, ◌++◌, [], zero, Option, Some, None, Result, Ok, Err, is_ok, OnOk, true, true≢false, bit_xor, refl, sym, ap, ◌∙◌, subst, inl, inr, arith, length-take-le, length-set}
 use Rattle.std.proofs.Math.Pow.{pow-lt}
 use Rattle.std.proofs.lemmas.Nat.Bits.{bit_at-pow_same, bit_at-pow_other}
 use Rattle.std.proofs.lemmas.Bool.{cases_eq, cases_lt}
@@ -10,8 +10,7 @@ use Rattle.row_elimination.specs.declared.columns.Column.{Column}
 use Rattle.row_elimination.specs.declared.columns.Column.TheVariants.{Free, Piece, Row}
 use Rattle.row_elimination.specs.HeldPlaces.{Place, free, piece, row, told, is_piece, is_row, pieces_held, rows_held, gained_held, grown, cleared}
 use Rattle.row_elimination.specs.Inside.{IsReduced, Marks}
-use Rattle.row_elimination.specs.declared.extent.Extent.{Extent}
-use Rattle.row_elimination.specs.Room.{joined}
+use Rattle.row_elimination.specs.Room.{Extent}
 use Rattle.row_elimination.specs.HeldStorage.{chunk, place_in, places_in, part_in, IsStored, IsRowOf, SameShape, Slots}
 use Rattle.row_elimination.specs.HeldSteps.{IsNew, Knows, Tells}
 use Rattle.row_elimination.specs.HeldTable.{Grid, IsGrid, max_line_words}
@@ -457,7 +456,7 @@ begun_places nb size columns area arena is =
     none_placed nb size area arena (take nb columns) (length-take-le nb columns le) (none_there nb columns le (all_free nb columns is))
 
 pub begun : (nb size rows : ℕ) (columns : List Column) (spare known area : List ℕ) (arena : Arena) → nb ≤ max_pieces → rows ≤ nb → columns ≡ replicate nb Free → rows ≤ length spare → words_for nb ≤ length known
-    → {v w : ℕ} → arena ≡ record { cols = nb; cell = size; rows = replicate rows (zero_row size); words = v; bytes = w }
+    → arena ≡ record { cols = nb; cell = size; rows = replicate rows (zero_row size) }
     → ((i : ℕ) → i < rows → get_or spare i 0 ≡ i) → line_in known ≡ 0
     → IsGrid nb size rows 0 0 columns spare known area arena
 begun nb size rows columns spare known area arena most few c s k shaped each unmarked =
@@ -484,7 +483,7 @@ begun nb size rows columns spare known area arena most few c s k shaped each unm
 
 -- a table for no file
 pub no_file : (columns : List Column) (spare known area : List ℕ) (arena : Arena)
-    → {v w : ℕ} → arena ≡ record { cols = 0; cell = 0; rows = []; words = v; bytes = w } → IsGrid 0 0 0 0 0 columns spare known area arena
+    → arena ≡ record { cols = 0; cell = 0; rows = [] } → IsGrid 0 0 0 0 0 columns spare known area arena
 unfolding words_for line_in
 no_file columns spare known area arena shaped =
     let none : (i : ℕ) → get_or {A = Column} [] i Free ≡ Free = λ i. get_or_past [] i Free (omega arith) in
@@ -516,68 +515,3 @@ wrote_parts nb size cell columns columns' area now area' arena e f h put =
 pub ok_holds : {T E P : Type 0} (r : Result T E) → is_ok r ≡ true → OnOk r P → P
 ok_holds (Ok x) e h = h
 ok_holds (Err x) e h = absurd (true≢false (sym e))
-
--- ---- memory for more
-
-roomier_places : (size v w : ℕ) (area : List ℕ) (arena : Arena) (os : List Column) → places_in size area (record arena { words = v; bytes = w }) os ≡ places_in size area arena os
-unfolding place_in row_at
-roomier_places size v w area arena os =
-    let more : Arena = record arena { words = v; bytes = w } in
-    ext_get_or free (places_in size area more os) (places_in size area arena os)
-    (length-places size area more os ∙ sym (length-places size area arena os)) (λ c lt.
-    at_places size area more c os ∙ by_column c (get_or os c Free) ∙ sym (at_places size area arena c os))
-  where
-    by_column : (c : ℕ) (o : Column) → place_in size area (record arena { words = v; bytes = w }) c o ≡ place_in size area arena c o
-    by_column c Free = refl
-    by_column c Piece = refl
-    by_column c (Row slot) = refl
-
-pub roomier : (nb size rows count gained v w : ℕ) (columns : List Column) (spare known area : List ℕ) (arena arena' : Arena) → arena' ≡ record arena { words = v; bytes = w }
-    → IsGrid nb size rows count gained columns spare known area arena → IsGrid nb size rows count gained columns spare known area arena'
-roomier nb size rows count gained v w columns spare known area arena arena' more h =
-    let os : List Column = take nb columns in
-    let is : places_in size area arena' os ≡ places_in size area arena os = ap (λ (a : Arena). places_in size area a os) more ∙ roomier_places size v w area arena os in
-    record {
-      most = h.most;
-      few = h.few;
-      columns_sized = h.columns_sized;
-      spare_sized = h.spare_sized;
-      known_sized = h.known_sized;
-      arena_cols = ap (λ (a : Arena). a.cols) more ∙ h.arena_cols;
-      arena_cell = ap (λ (a : Arena). a.cell) more ∙ h.arena_cell;
-      arena_rows = ap (λ (a : Arena). length a.rows) more ∙ h.arena_rows;
-      slots = h.slots;
-      reduced = subst (λ (ps : List Place). IsReduced nb size ps) (sym is) h.reduced;
-      marks = subst (λ (ps : List Place). Marks (line_in (take (words_for nb) known)) ps) (sym is) h.marks;
-      counted = h.counted ∙ sym (ap rows_held is);
-      gained_all = h.gained_all ∙ sym (ap gained_held is);
-    }
-
--- the table as a value
-pub roomier_seen : (shape : Shape) (room most : ℕ) (area : List ℕ) (os : List Column) (arena arena' : Arena) (extent : Extent)
-    → arena' ≡ record arena { words = max arena.words extent.words; bytes = max arena.bytes extent.bytes }
-    → (let new : Grid = record {
-      shape = shape;
-      places = places_in shape.frag_size area arena' os;
-      area = area;
-      room = record { area = max room extent.area; pieces = max most extent.pieces; words = arena'.words; bytes = arena'.bytes };
-    } in new) ≡ record {
-      shape = shape;
-      places = places_in shape.frag_size area arena os;
-      area = area;
-      room = joined (record { area = room; pieces = most; words = arena.words; bytes = arena.bytes }) extent;
-    }
-roomier_seen shape room most area os arena arena' extent more =
-    let at : Arena → Grid = λ a. record {
-      shape = shape;
-      places = places_in shape.frag_size area a os;
-      area = area;
-      room = record { area = max room extent.area; pieces = max most extent.pieces; words = a.words; bytes = a.bytes };
-    } in
-    ap at more
-    ∙ ap (λ (ps : List Place). let g : Grid = record {
-      shape = shape;
-      places = ps;
-      area = area;
-      room = joined (record { area = room; pieces = most; words = arena.words; bytes = arena.bytes }) extent;
-    } in g) (roomier_places shape.frag_size (max arena.words extent.words) (max arena.bytes extent.bytes) area arena os)

@@ -8,7 +8,6 @@ pub mod Blocks
 pub mod Counting
 pub mod Marking
 pub mod Settling
-pub mod Rooms
 pub mod Saying
 pub mod Standing
 pub mod Storing

@@ -1,7 +1,6 @@
 -- What a solver keeps true, and what its calls are given.
-use Rattle.std.proofs.Common.{◌≡◌, ℕ, ◌+◌, ◌*◌, ◌<◌, ◌≤◌, min, List, length, get_or, replicate, refl, sym, ap, ◌∙◌, subst, inl, inr, arith}
-use Rattle.std.proofs.Math.Nat.{le-min}
-use Rattle.std.proofs.lemmas.Bool.{cases_lt}
+use Rattle.std.proofs.Common.{◌≡◌, ℕ, ◌*◌, ◌<◌, ◌≤◌, true, ◌&&◌, nat_le, List, length, get_or, replicate, refl, sym, ap, ◌∙◌, subst, inl, inr, arith}
+use Rattle.std.proofs.lemmas.Bool.{and_parts, leb-true, cases_lt}
 use Rattle.frag_model.specs.Fragments.{Shape}
 use Rattle.row_elimination.specs.declared.stages.Stage.{Stage}
 use Rattle.row_elimination.specs.declared.stages.Stage.TheVariants as stage
@@ -12,22 +11,26 @@ use Rattle.row_elimination.specs.Inside.{IsReduced}
 use Rattle.row_elimination.specs.HeldTable.{Grid, SameRoom}
 use Rattle.row_elimination.specs.HeldSolver.{Held, TwoFit, Receives, Completes, Contradicts, Overflows}
 use Rattle.row_elimination.specs.HeldTaking.{held_of, stage_after, FedAs}
-use Rattle.frag_model.specs.Limits.{max_frag_size}
-use Rattle.row_arena.specs.Rows.{words_for}
-use Rattle.row_elimination.specs.declared.extent.Extent.{Extent}
+use Rattle.row_arena.specs.Rows.{words_for, has_room as has_arena_room}
+use Rattle.row_elimination.specs.Room.{Extent, has_room}
 use Rattle.row_elimination.specs.SolverInside.{IsSolver}
-use Rattle.row_elimination.proofs.Chunks.{before}
 use Rattle.row_elimination.proofs.Telling.{fits_from_agrees}
 use Rattle.row_elimination.proofs.Blocks.{two_fitting, one_alone}
 use Rattle.row_elimination.proofs.Gridding.{none_reduced, free_everywhere, gained_none}
 
 -- ---- room
 
--- a piece is no longer than the area
-pub one_piece : (nb size area : ℕ) → 1 ≤ nb → size ≤ max_frag_size → nb * size ≤ area → size ≤ min area max_frag_size
-one_piece nb size area some small fits =
-    let one : 0 * size + size ≤ nb * size = before 0 nb size some in
-    le-min (omega (arith, one, fits)) small
+pub record Roomy (words bytes : ℕ) (extent : Extent) (nb size rows : ℕ) : Type 0 where
+  pub arena : has_arena_room words bytes rows nb size ≡ true
+  pub pieces : nb * size ≤ extent.area
+  pub few : nb ≤ extent.pieces
+
+pub roomy : (words bytes : ℕ) (extent : Extent) (nb size rows : ℕ) → has_room words bytes extent nb size rows ≡ true → Roomy words bytes extent nb size rows
+unfolding has_room has_arena_room
+roomy words bytes extent nb size rows h =
+    let a = and_parts (nat_le (rows * words_for nb) words && nat_le (rows * size) bytes && nat_le (nb * size) extent.area) (nat_le nb extent.pieces) h in
+    let b = and_parts (nat_le (rows * words_for nb) words && nat_le (rows * size) bytes) (nat_le (nb * size) extent.area) a.0 in
+    record { arena = b.0; pieces = leb-true (nb * size) extent.area b.1; few = leb-true nb extent.pieces a.1 }
 
 -- ---- a solver that has just begun
 
@@ -66,11 +69,11 @@ unfolding FedAs
 fed_contradicts answer old new n part h e = subst (λ a. FedAs a old new n part) e h
 
 -- the fields afterwards
-pub still_solver : (g new : Grid) (answer : Fed) (line_cap picks_cap part_cap : ℕ) (line line' picks picks' part part' : List ℕ)
-    → IsSolver g stage.Receiving line_cap picks_cap part_cap line picks part → SameRoom g new
+pub still_solver : (g new : Grid) (answer : Fed) (line_cap picks_cap : ℕ) (line line' picks picks' part part' : List ℕ)
+    → IsSolver g stage.Receiving line_cap picks_cap line picks part → SameRoom g new
     → length line' ≡ length line → length picks' ≡ length picks → length part' ≡ length part → (answer ≡ fed.Receiving → gained_held new.places < new.shape.nb_frag)
-    → IsSolver new (stage_after answer) line_cap picks_cap part_cap line' picks' part'
-still_solver g new answer line_cap picks_cap part_cap line line' picks picks' part part' h room l k p more =
+    → IsSolver new (stage_after answer) line_cap picks_cap line' picks' part'
+still_solver g new answer line_cap picks_cap line line' picks picks' part part' h room l k p more =
     let held : words_for new.room.pieces ≡ words_for g.room.pieces = ap (λ (e : Extent). words_for e.pieces) room.room in
     let width : words_for new.shape.nb_frag ≡ words_for g.shape.nb_frag = ap (λ (s : Shape). words_for s.nb_frag) room.shape in
     let nb : new.shape.nb_frag ≡ g.shape.nb_frag = ap (λ (s : Shape). s.nb_frag) room.shape in
@@ -80,8 +83,7 @@ still_solver g new answer line_cap picks_cap part_cap line line' picks picks' pa
       picks_held = omega (arith, held, h.picks_held);
       line_sized = omega (arith, width, l, h.line_sized);
       picks_sized = omega (arith, width, k, h.picks_sized);
-      part_held = subst (λ (e : Extent). min e.area max_frag_size ≤ part_cap) (sym room.room) h.part_held;
-      part_sized = omega (arith, size, p, h.part_sized);
+      part_sized = p ∙ h.part_sized;
       most = omega (arith, nb, h.most);
       small = omega (arith, size, h.small);
       some = λ e. omega (arith, size, h.some refl);

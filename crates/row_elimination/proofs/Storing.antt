@@ -210,18 +210,16 @@ rows_all size area arena os l q ks l' q' y part none h t k =
 -- ---- a new row's column cleared
 
 pub same_shape : (arena : Arena) → SameShape arena arena
-same_shape arena = record { cols = refl; cell = refl; rows = refl; words = refl; bytes = refl }
+same_shape arena = record { cols = refl; cell = refl; rows = refl }
 
 pub shape_then : (a b c : Arena) → SameShape a b → SameShape b c → SameShape a c
-shape_then a b c h k = record { cols = k.cols ∙ h.cols; cell = k.cell ∙ h.cell; rows = k.rows ∙ h.rows; words = k.words ∙ h.words; bytes = k.bytes ∙ h.bytes }
+shape_then a b c h k = record { cols = k.cols ∙ h.cols; cell = k.cell ∙ h.cell; rows = k.rows ∙ h.rows }
 
 pub with_shape : (arena now : Arena) (slot : ℕ) (r : Line) → now ≡ with_row arena slot r → SameShape arena now
 with_shape arena now slot r is = record {
   cols = ap (λ (a : Arena). a.cols) is;
   cell = ap (λ (a : Arena). a.cell) is;
   rows = ap (λ (a : Arena). length a.rows) is ∙ length-set arena.rows slot r;
-  words = ap (λ (a : Arena). a.words) is;
-  bytes = ap (λ (a : Arena). a.bytes) is;
 }
 
 pub with_here : (arena now : Arena) (slot : ℕ) (r : Line) → slot < length arena.rows → now ≡ with_row arena slot r → row_at now slot ≡ r

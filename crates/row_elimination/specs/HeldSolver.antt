@@ -8,8 +8,7 @@ use Rattle.row_elimination.specs.declared.stages.Stage.{Stage}
 use Rattle.row_elimination.specs.declared.stages.Stage.TheVariants as stage
 use Rattle.row_elimination.specs.declared.stages.Fed.{Fed}
 use Rattle.row_elimination.specs.declared.stages.Fed.TheVariants as fed
-use Rattle.row_elimination.specs.declared.extent.Extent.{Extent}
-use Rattle.row_elimination.specs.Room.{joined}
+use Rattle.row_elimination.specs.Room.{Extent}
 use Rattle.row_elimination.specs.HeldPlaces.{Place, free, is_piece, pieces_held, rows_held, gained_held, lines_held, FitsHeld}
 
 -- what a solver holds: the shape of its file, what is held of each column, and the bytes that lie in its area
@@ -21,10 +20,6 @@ pub record Held : Type 0 where
   pub content : List ℕ
   -- what there is memory for
   pub extent : Extent
-
--- the same, with memory for so much, where it had less
-abbrev pub provided : Extent → Held → Held
-provided extent h = record h { extent = joined h.extent extent }
 
 -- the piece at the column came uncoded
 abbrev pub IsMarked : Held → ℕ → Type 0

@@ -38,13 +38,11 @@ pub record IsRowOf (arena : Arena) (line part : List ℕ) : Type 0 where
   pub within : line_in line < 2 ^ arena.cols
   pub sized : length part ≡ arena.cell
 
--- as many rows as before, of the same shape, in the same memory
+-- as many rows as before, of the same shape
 pub record SameShape (old new : Arena) : Type 0 where
   pub cols : new.cols ≡ old.cols
   pub cell : new.cell ≡ old.cell
   pub rows : length new.rows ≡ length old.rows
-  pub words : new.words ≡ old.words
-  pub bytes : new.bytes ≡ old.bytes
 
 -- a row without the column of a new row
 unfoldable pub line_cleared : ℕ → ℕ → List ℕ → Line → Line

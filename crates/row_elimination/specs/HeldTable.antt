@@ -2,12 +2,13 @@
 use Rattle.std.specs.Prelude.{◌≡◌, ℕ, ◌*◌, ◌/◌, ◌≤◌, List, length, take}
 use Rattle.frag_model.specs.Fragments.{Shape}
 use Rattle.frag_model.specs.Limits.{max_pieces}
+use Rattle.row_arena.specs.Limits.{max_bytes, max_words}
 use Rattle.row_arena.specs.Rows.{Arena, line_in, words_for}
 use Rattle.row_elimination.specs.declared.columns.Column.{Column}
 use Rattle.row_elimination.specs.HeldPlaces.{Place, rows_held, gained_held}
 use Rattle.row_elimination.specs.Inside.{IsReduced, Marks}
 use Rattle.row_elimination.specs.HeldStorage.{places_in, Slots}
-use Rattle.row_elimination.specs.declared.extent.Extent.{Extent}
+use Rattle.row_elimination.specs.Room.{Extent}
 
 -- how many words of 64 columns the line of the largest file takes
 abbrev pub max_line_words : ℕ
@@ -44,9 +45,11 @@ pub record HaveMemory (most room columns spare known area : ℕ) : Type 0 where
   pub known_held : words_for most ≤ known
   pub area_held : room ≤ area
 
--- the same, of a table with the capacities of its four vectors
-pub record IsTable (nb_frag size rows count gained most room columns_cap spare_cap known_cap area_cap : ℕ)
+-- the same, of a table whose rows have so many words and bytes in all, with the capacities of its four vectors
+pub record IsTable (words bytes nb_frag size rows count gained most room columns_cap spare_cap known_cap area_cap : ℕ)
     (columns : List Column) (spare known area : List ℕ) (arena : Arena) : Type 0 where
+  pub words_few : words ≤ max_words
+  pub bytes_few : bytes ≤ max_bytes
   pub memory : HaveMemory most room columns_cap spare_cap known_cap area_cap
   pub within : nb_frag ≤ most
   pub area_fits : length area ≤ room

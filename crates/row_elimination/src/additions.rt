@@ -15,9 +15,9 @@ use row_arena::RowArena;
 use std::sync::ledger::Ledger;
 
 /// Adds a row, which its column `p` leads, in a slot that no column uses, and counts the rows that it is added to.
-pub fn add_row<M: Ledger>(
+pub fn add_row<const W: usize, const B: usize, M: Ledger>(
     columns: &mut [PackedColumn],
-    arena: &mut RowArena,
+    arena: &mut RowArena<W, B>,
     slot: u16,
     p: u16,
     line: &[u64],
@@ -55,10 +55,10 @@ pub fn add_piece(columns: &mut [PackedColumn], cols: usize, area: &mut [u8], k: 
 
 /// Puts the piece of column `k` into the area, and a row, which its column `p` leads, where the row was that `k` led. Where
 /// `k` led none the row is the piece itself. Counts the rows that it is added to.
-pub fn add_piece_and_row<M: Ledger>(
+pub fn add_piece_and_row<const W: usize, const B: usize, M: Ledger>(
     columns: &mut [PackedColumn],
     area: &mut [u8],
-    arena: &mut RowArena,
+    arena: &mut RowArena<W, B>,
     k: usize,
     piece: &[u8],
     p: u16,
@@ -86,10 +86,10 @@ pub fn add_piece_and_row<M: Ledger>(
 }
 
 /// Puts a row into the slot that was kept, if one was.
-fn take_over(
+fn take_over<const W: usize, const B: usize>(
     kept: Column,
     columns: &mut [PackedColumn],
-    arena: &mut RowArena,
+    arena: &mut RowArena<W, B>,
     p: u16,
     line: &[u64],
     part: &[u8],

@@ -23,9 +23,9 @@ pub fn put_piece(columns: &mut [PackedColumn], area: &mut [u8], k: usize, part: 
 }
 
 /// Puts the row that column `p` leads into a slot that no other column uses.
-pub fn put_row(
+pub fn put_row<const W: usize, const B: usize>(
     columns: &mut [PackedColumn],
-    arena: &mut RowArena,
+    arena: &mut RowArena<W, B>,
     slot: u16,
     p: u16,
     line: &[u64],
@@ -46,7 +46,11 @@ pub fn put_row(
 }
 
 /// Puts the part of each row into the area, as the piece of the column that leads it.
-pub fn put_parts(columns: &[PackedColumn], area: &mut [u8], arena: &RowArena)
+pub fn put_parts<const W: usize, const B: usize>(
+    columns: &[PackedColumn],
+    area: &mut [u8],
+    arena: &RowArena<W, B>,
+)
     requires room { length columns.now * arena.now.cell ≤ length area.old }
     requires rows { (c slot : ℕ) → get_or columns.now c Column.Free ≡ Column.Row slot
         → slot < length arena.now.rows }
@@ -59,7 +63,12 @@ pub fn put_parts(columns: &[PackedColumn], area: &mut [u8], arena: &RowArena)
 }
 
 /// Puts the part of the row that column `c` leads into the area, if there is one.
-fn put_part(column: Column, c: usize, area: &mut [u8], arena: &RowArena)
+fn put_part<const W: usize, const B: usize>(
+    column: Column,
+    c: usize,
+    area: &mut [u8],
+    arena: &RowArena<W, B>,
+)
     requires room { c * arena.now.cell + arena.now.cell ≤ length area.old }
     requires rows { (slot : ℕ) → column ≡ Column.Row slot → slot < length arena.now.rows }
     ensures here { chunk c arena.now.cell area.new

@@ -4,9 +4,7 @@
 //! exactly when one block alone does. Which fragments are heard, and what becomes of a whole file, is left to the sessions
 //! above.
 //!
-//!     // all memory: of a file of 256 pieces of 48 bytes, and of 16 rows
-//!     let extent = Extent { area: 256 * 48, pieces: 256, words: 16 * 4, bytes: 16 * 48 };
-//!     let mut solver = Solver::reserve(alloc, extent)?;
+//!     let mut solver: Solver<64, 768> = Solver::reserve(alloc, 256 * 48)?;   // all memory
 //!     solver.begin(nb_frag, frag_size, padding, 16)?;
 //!     match solver.feed(n, part) {
 //!         Fed::Receiving => ..,                 // solver.missing() pieces are still to be gained
@@ -20,7 +18,6 @@ mod bytes;
 mod columns;
 mod drawing;
 mod entries;
-mod extent;
 pub mod laws;
 mod passes;
 mod solver;
@@ -29,6 +26,5 @@ mod tables;
 mod taking;
 mod uncounted;
 
-pub use extent::Extent;
 pub use solver::{MAX_FRAG_SIZE, Memory, NoRoom, Solver};
 pub use stages::{Fed, Stage};

@@ -20,11 +20,11 @@ use std::sync::ledger::Ledger;
 /// Takes out of a line, and out of the bytes `part`, all columns of which a piece or a row is kept, and writes what is left
 /// of the bytes over `rest`. `known` has the columns of which a piece is kept, and `picks` room for the columns of a line.
 /// Counts each piece and each row that is added.
-pub fn reduce<M: Ledger>(
+pub fn reduce<const W: usize, const B: usize, M: Ledger>(
     columns: &[PackedColumn],
     area: &[u8],
     known: &[u64],
-    arena: &RowArena,
+    arena: &RowArena<W, B>,
     line: &mut [u64],
     picks: &mut [u16],
     part: &[u8],
@@ -59,9 +59,9 @@ fn sum_counted<M: Ledger>(
 }
 
 /// Takes out of an equation, which has no column of which a piece is kept, all columns that lead rows, and counts these.
-fn take_rows<M: Ledger>(
+fn take_rows<const W: usize, const B: usize, M: Ledger>(
     columns: &[PackedColumn],
-    arena: &RowArena,
+    arena: &RowArena<W, B>,
     line: &mut [u64],
     picks: &mut [u16],
     rest: &mut [u8],
@@ -79,9 +79,9 @@ fn take_rows<M: Ledger>(
 }
 
 /// Takes the row of a column, if it leads one, out of an equation, and counts it.
-fn take_row<M: Ledger>(
+fn take_row<const W: usize, const B: usize, M: Ledger>(
     column: Column,
-    arena: &RowArena,
+    arena: &RowArena<W, B>,
     line: &mut [u64],
     rest: &mut [u8],
     sums: &mut Steps<M>,
@@ -132,8 +132,8 @@ fn list_bits(line: &[u64], picks: &mut [u16]) -> usize
 }
 
 /// Adds a new row to each row that has its column `p`, and counts these.
-pub fn clear<M: Ledger>(
-    arena: &mut RowArena,
+pub fn clear<const W: usize, const B: usize, M: Ledger>(
+    arena: &mut RowArena<W, B>,
     p: u16,
     line: &[u64],
     part: &[u8],
@@ -150,8 +150,8 @@ pub fn clear<M: Ledger>(
 }
 
 /// Adds a new row to the row in a slot, where that has the column `p`, and then counts it.
-fn clear_row<M: Ledger>(
-    arena: &mut RowArena,
+fn clear_row<const W: usize, const B: usize, M: Ledger>(
+    arena: &mut RowArena<W, B>,
     slot: u16,
     p: u16,
     line: &[u64],

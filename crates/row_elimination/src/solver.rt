@@ -1,20 +1,21 @@
 //! A file that is recovered from whatever fragments of it come.
 
-ghost use Rattle.std.specs.Prelude.{◌≡◌, ◌*◌, ◌+◌, ◌/◌, ◌<◌, ◌≤◌, length, max, min, is_ok, IfOk, OnOk, OnErr};
+ghost use Rattle.std.specs.Prelude.{◌≡◌, ◌*◌, ◌+◌, ◌/◌, ◌<◌, ◌≤◌, length, max, is_ok, IfOk, OnOk, OnErr};
 ghost use Rattle.frag_model.specs.Fragments.{columns_in, draws_of, line_of};
-ghost use Rattle.row_elimination.specs.HeldSolver.{missing_of, provided, TwoFit, IsBegun, Receives, Completes, Contradicts, Overflows};
+ghost use Rattle.row_elimination.specs.HeldSolver.{missing_of, TwoFit, IsBegun, Receives, Completes, Contradicts, Overflows};
 ghost use Rattle.row_elimination.specs.HeldPlaces.{pieces_held};
-ghost use Rattle.row_elimination.specs.Room.{has_room};
+ghost use Rattle.row_elimination.specs.Room.{extent_for, has_room};
 ghost use Rattle.row_elimination.specs.HeldTaking.{stage_after};
+ghost use Rattle.row_arena.specs.Limits.{max_bytes, max_words};
 ghost use Rattle.frag_model.specs.Limits.{max_frag_size, max_parity_index, max_pieces};
 
-use crate::extent::Extent;
 use crate::stages::{Fed, Stage};
 use crate::tables::{Table, widen};
 use crate::taking::take;
 use crate::uncounted::{Counts, take_uncounted};
+use frag_model::lines::MAX_PIECES;
 use parity_lines::Steps;
-use row_arena::{hold, words_for};
+use row_arena::words_for;
 use std::alloc::Global;
 use std::marker::{Brand, Model};
 use std::sync::ledger::{Blank, Ledger};
@@ -30,25 +31,26 @@ pub struct Memory;
 #[derive(Clone, Copy, Debug, PartialEq, Eq)]
 pub struct NoRoom;
 
-/// Recovers one file at a time from fragments, in memory that is taken before: for rows, for columns and for the pieces. A
-/// contract sees what it holds of each column.
+/// Recovers one file at a time from fragments, in storage that is taken once: `W` words of 64 coefficients (at most
+/// 16,384) and `B` bytes (at most 61,184) for rows, and an area for the pieces. A contract sees what it holds of each
+/// column.
 #[derive(Drop)]
-pub struct Solver {
+pub struct Solver<const W: usize, const B: usize> {
     /// In a box, so that a solver moves as one word.
-    kept: Box<Kept>,
+    kept: Box<Kept<W, B>>,
 }
 
 /// What is held, room for one line and its bytes, and where the solver stands.
 #[derive(Drop)]
-struct Kept {
-    table: Table,
+struct Kept<const W: usize, const B: usize> {
+    table: Table<W, B>,
     line: Vec<u64>,
     picks: Vec<u16>,
     part: Vec<u8>,
     stage: Stage,
 }
 
-impl Model for Solver {
+impl<const W: usize, const B: usize> Model for Solver<W, B> {
     ghost use Rattle.std.specs.Prelude.{vec_capacity};
     ghost use Rattle.row_elimination.specs.HeldSolver.{Held};
     ghost use Rattle.row_elimination.specs.HeldTaking.{held_of};
@@ -59,27 +61,41 @@ impl Model for Solver {
     ghost view = { λ s. held_of s.kept.value.stage s.kept.value.table };
 
     ghost invariant = { λ s. IsSolver s.kept.value.table s.kept.value.stage
-        (vec_capacity s.kept.value.line) (vec_capacity s.kept.value.picks) (vec_capacity s.kept.value.part)
+        (vec_capacity s.kept.value.line) (vec_capacity s.kept.value.picks)
         s.kept.value.line.items s.kept.value.picks.items s.kept.value.part.items };
 }
 
-impl Solver {
-    /// A solver with so much memory, and room for one line, its columns and its bytes.
-    pub fn reserve(alloc: Global, extent: Extent) -> Result<Solver, Memory>
-        requires most { extent.pieces ≤ max_pieces }
+impl<const W: usize, const B: usize> Solver<W, B> {
+    /// Takes all memory that the solver ever uses: an area of `area` bytes for the pieces, and the storage for rows. Files may
+    /// have up to 4,096 pieces.
+    pub fn reserve(alloc: Global, area: u32) -> Result<Solver<W, B>, Memory>
+        requires words { W ≤ max_words }
+        requires bytes { B ≤ max_bytes }
         ensures stage { IfOk result (λ solver. solver.stage ≡ Stage.Idle) }
-        ensures extent { IfOk result (λ solver. solver.extent ≡ extent) }
+        ensures extent { IfOk result (λ solver. solver.extent ≡ extent_for area) }
     {
-        let Ok(line) = Vec::with_capacity(alloc, words_for(extent.pieces)) else {
+        Solver::reserve_for(alloc, area, MAX_PIECES)
+    }
+
+    /// The same for files of up to `pieces` pieces (at most 4,096), which takes as much less memory: some 6 bytes a piece.
+    pub fn reserve_for(alloc: Global, area: u32, pieces: u16) -> Result<Solver<W, B>, Memory>
+        requires words { W ≤ max_words }
+        requires bytes { B ≤ max_bytes }
+        requires most { pieces ≤ max_pieces }
+        ensures stage { IfOk result (λ solver. solver.stage ≡ Stage.Idle) }
+        ensures extent { IfOk result (λ solver.
+            solver.extent ≡ record { area = area; pieces = pieces }) }
+    {
+        let Ok(line) = Vec::with_capacity(alloc, words_for(pieces)) else {
             return Err(Memory);
         };
-        let Ok(picks) = Vec::with_capacity(alloc, 64 * words_for(extent.pieces)) else {
+        let Ok(picks) = Vec::with_capacity(alloc, 64 * words_for(pieces)) else {
             return Err(Memory);
         };
-        let Ok(part) = Vec::with_capacity(alloc, longest_part(extent.area)) else {
+        let Ok(part) = vec![in alloc; 0u8; MAX_FRAG_SIZE] else {
             return Err(Memory);
         };
-        let Ok(table) = Table::new(alloc, extent) else {
+        let Ok(table) = Table::new(alloc, area, pieces) else {
             return Err(Memory);
         };
         let kept = Kept {
@@ -95,40 +111,17 @@ impl Solver {
         }
     }
 
-    /// Takes memory for so much, where there is memory for less. All that is held stays, also where memory is wanting.
-    pub fn provide(&mut self, extent: Extent) -> Result<(), Memory>
-        requires most { extent.pieces ≤ max_pieces }
-        ensures given { OnOk result (self.new ≡ provided extent self.old) }
-        ensures refused { OnErr result (self.new ≡ self.old) }
-    {
-        let kept = &mut *self.kept;
-        let most = kept.table.extent().joined(extent);
-        if hold(&mut kept.line, words_for(most.pieces)).is_err()
-            || hold(&mut kept.picks, 64 * words_for(most.pieces)).is_err()
-            || hold(&mut kept.part, longest_part(most.area)).is_err()
-            || kept.table.provide(extent).is_err()
-        {
-            return Err(Memory);
-        }
-        Ok(())
-    }
-
-    /// What there is memory for.
-    pub fn extent(&self) -> Extent
-        ensures { result ≡ self.now.extent }
-    {
-        self.kept.table.extent()
-    }
-
     /// Whether there is room for a file of `nb_frag` pieces (at most 4,096) of `frag_size` bytes (at most 239) and for `rows`
     /// rows (at most `nb_frag`), and memory for so many pieces.
     pub fn fits(&self, nb_frag: u16, frag_size: u8, rows: u16) -> bool
         requires most { nb_frag ≤ max_pieces }
         requires small { frag_size ≤ max_frag_size }
         requires few { rows ≤ nb_frag }
-        ensures { result ≡ has_room self.now.extent nb_frag frag_size rows }
+        ensures { result ≡ has_room W B self.now.extent nb_frag frag_size rows }
     {
-        self.extent().has_room(nb_frag, frag_size, rows)
+        let area = self.kept.table.room();
+        let most = self.kept.table.most();
+        has_room(W, B, area, most, nb_frag, frag_size, rows)
     }
 
     /// Begins a file of `nb_frag` pieces (1 to 4,096) of `frag_size` bytes (1 to 239), whose last `padding` bytes (fewer than
@@ -146,7 +139,7 @@ impl Solver {
         requires small { frag_size ≤ max_frag_size }
         requires short { padding < frag_size }
         requires few { rows ≤ nb_frag }
-        ensures room { is_ok result ≡ has_room self.old.extent nb_frag frag_size rows }
+        ensures room { is_ok result ≡ has_room W B self.old.extent nb_frag frag_size rows }
         ensures begun { OnOk result (IsBegun self.new) }
         ensures shape { OnOk result
             (self.new.shape ≡ record { nb_frag = nb_frag; frag_size = frag_size; rows = rows }) }
@@ -161,7 +154,6 @@ impl Solver {
         let kept = &mut *self.kept;
         widen(&mut kept.line, words_for(nb_frag), 0);
         widen(&mut kept.picks, 64 * words_for(nb_frag), 0);
-        widen(&mut kept.part, frag_size as usize, 0);
         kept.table.begin(nb_frag, frag_size, rows);
         kept.stage = Stage::Receiving;
         Ok(())
@@ -180,7 +172,7 @@ impl Solver {
         ensures conflict { result ≡ Fed.Conflict → Contradicts self.old self.new n part.now }
         ensures extent { self.new.extent ≡ self.old.extent }
     {
-        take_uncounted::<Solver, Brand, Brand>(self, n, part, Blank::new(1), Blank::new(1))
+        take_uncounted::<Solver<W, B>, Brand, Brand>(self, n, part, Blank::new(1), Blank::new(1))
     }
 
     /// As `feed`, and counts its work: the states of the register that are drawn for the fragment's line, and the sums that
@@ -248,7 +240,7 @@ impl Solver {
     }
 }
 
-impl Counts for Solver {
+impl<const W: usize, const B: usize> Counts for Solver<W, B> {
     ghost use Rattle.row_elimination.specs.HeldSolver.{MayFeed, Feeds};
 
     ghost may_take = { MayFeed };
@@ -266,11 +258,24 @@ impl Counts for Solver {
     }
 }
 
-/// The most bytes of a piece that fits in an area.
-fn longest_part(area: u32) -> usize
-    ensures { result ≡ min area max_frag_size }
+/// Whether so many rows of a file fit in so many words and bytes, its pieces in the area, and they are no more than `most`.
+#[tactic(auto, unfolding(crate::specs::Room::has_room))]
+fn has_room(
+    words: usize,
+    bytes: usize,
+    area: usize,
+    most: u16,
+    nb_frag: u16,
+    frag_size: u8,
+    rows: u16,
+) -> bool
+    ensures { result
+        ≡ has_room words bytes (record { area = area; pieces = most }) nb_frag frag_size rows }
 {
-    (area as usize).min(MAX_FRAG_SIZE)
+    let lines = rows as usize * words_for(nb_frag);
+    let parts = rows as usize * frag_size as usize;
+    let pieces = nb_frag as usize * frag_size as usize;
+    lines <= words && parts <= bytes && pieces <= area && nb_frag <= most
 }
 
 /// Where the solver stands after an answer.

@@ -1,14 +1,14 @@
 //! The table of all that is held: pieces in their area, and the rows in slots.
 
-ghost use Rattle.std.specs.Prelude.{◌≡◌, ℕ, ◌+◌, ◌-◌, ◌*◌, ◌<◌, ◌≤◌, ◌==◌, ◌++◌, length, get_or, set, replicate, take, true, false, IfOk, OnOk, OnErr, bit_xor, ◌^◌, MatchOption, vec_capacity};
+ghost use Rattle.std.specs.Prelude.{◌≡◌, ℕ, ◌+◌, ◌-◌, ◌*◌, ◌<◌, ◌≤◌, ◌==◌, ◌++◌, length, get_or, set, replicate, take, true, false, IfOk, bit_xor, ◌^◌, MatchOption, vec_capacity};
 ghost use Rattle.frag_model.specs.Fragments.{Equation, IsPiece, columns_in};
+ghost use Rattle.row_arena.specs.Limits.{max_bytes, max_words};
 ghost use Rattle.row_arena.specs.Rows.{has_room, line_in, words_for};
 ghost use Rattle.row_elimination.specs.HeldPlaces.{free, piece as known, is_piece, grown, pieces_held, rows_held, gained_held};
 ghost use Rattle.row_elimination.specs.Inside.{IsReduced};
 ghost use Rattle.row_elimination.specs.HeldStorage.{chunk};
 ghost use Rattle.row_elimination.specs.HeldSteps.{Reduced, Knows, Tells};
 ghost use Rattle.row_elimination.specs.HeldTable.{Grid, SameRoom, max_line_words};
-ghost use Rattle.row_elimination.specs.Room.{joined};
 ghost use Rattle.frag_model.specs.Limits.{max_pieces};
 ghost use Rattle.row_elimination.specs.Asked.{MayReduce, MayPush, MayLearn};
 
@@ -16,11 +16,10 @@ use crate::additions::{add_piece, add_piece_and_row, add_row};
 use crate::bytes::chunk;
 use crate::columns::{Column, PackedColumn};
 use crate::entries::put_parts;
-use crate::extent::Extent;
 use crate::passes::reduce;
 use frag_model::lines::MAX_PIECES;
 use parity_lines::Steps;
-use row_arena::{RowArena, clear_bits, flip_bit, hold, words_for};
+use row_arena::{RowArena, clear_bits, flip_bit, words_for};
 use std::alloc::{AllocError, Global};
 use std::marker::Model;
 use std::sync::ledger::Ledger;
@@ -31,9 +30,9 @@ pub const LINE_WORDS: usize = MAX_PIECES as usize / 64;
 /// How many bytes behind a piece the area grows at once.
 const AHEAD: usize = 1792;
 
-/// All that is held of a file: a piece, a row or nothing for each of its columns.
+/// All that is held of a file: a piece, a row or nothing for each of its columns. Rows have `W` words and `B` bytes in all.
 #[derive(Drop)]
-pub struct Table {
+pub struct Table<const W: usize, const B: usize> {
     nb_frag: u16,
     frag_size: u8,
     rows: u16,
@@ -49,10 +48,10 @@ pub struct Table {
     area: Vec<u8>,
     room: u32,
     most: u16,
-    arena: RowArena,
+    arena: RowArena<W, B>,
 }
 
-impl Model for Table {
+impl<const W: usize, const B: usize> Model for Table<W, B> {
     ghost use Rattle.std.specs.Prelude.{take, vec_capacity};
     ghost use Rattle.row_elimination.specs.HeldTable.{Grid, IsTable};
     ghost use Rattle.row_elimination.specs.HeldStorage.{places_in};
@@ -63,27 +62,29 @@ impl Model for Table {
       shape = record { nb_frag = t.nb_frag; frag_size = t.frag_size; rows = t.rows };
       places = places_in t.frag_size t.area.items t.arena (take t.nb_frag t.columns.items);
       area = t.area.items;
-      room = record { area = t.room; pieces = t.most; words = t.arena.words; bytes = t.arena.bytes };
+      room = record { area = t.room; pieces = t.most };
     } };
 
-    ghost invariant = { λ t. IsTable t.nb_frag t.frag_size t.rows t.count t.gained t.most t.room
+    ghost invariant = { λ t. IsTable W B t.nb_frag t.frag_size t.rows t.count t.gained t.most t.room
         (vec_capacity t.columns) (vec_capacity t.spare) (vec_capacity t.known) (vec_capacity t.area)
         t.columns.items t.spare.items t.known.items t.area.items t.arena };
 }
 
-impl Table {
-    /// The table of no file yet, with so much memory.
-    pub fn new(alloc: Global, extent: Extent) -> Result<Table, AllocError>
-        requires few { extent.pieces ≤ max_pieces }
-        ensures room { IfOk result (λ table. table.room ≡ extent) }
+impl<const W: usize, const B: usize> Table<W, B> {
+    /// The table of no file yet, with memory for an area of so many bytes and for so many pieces.
+    pub fn new(alloc: Global, area: u32, most: u16) -> Result<Table<W, B>, AllocError>
+        requires words { W ≤ max_words }
+        requires bytes { B ≤ max_bytes }
+        requires few { most ≤ max_pieces }
+        ensures room { IfOk result (λ table. table.room ≡ record { area = area; pieces = most }) }
         ensures shape { IfOk result
             (λ table. table.shape ≡ record { nb_frag = 0; frag_size = 0; rows = 0 }) }
     {
-        let columns = Vec::with_capacity(alloc, extent.pieces as usize)?;
-        let spare = Vec::with_capacity(alloc, extent.pieces as usize)?;
-        let known = Vec::with_capacity(alloc, words_for(extent.pieces))?;
-        let bytes = Vec::with_capacity(alloc, extent.area as usize)?;
-        let arena = RowArena::reserve(alloc, extent.words, extent.bytes)?;
+        let columns = Vec::with_capacity(alloc, most as usize)?;
+        let spare = Vec::with_capacity(alloc, most as usize)?;
+        let known = Vec::with_capacity(alloc, words_for(most))?;
+        let bytes = Vec::with_capacity(alloc, area as usize)?;
+        let arena = RowArena::reserve(alloc)?;
         Ok(Table {
             nb_frag: 0,
             frag_size: 0,
@@ -94,41 +95,24 @@ impl Table {
             spare,
             known,
             area: bytes,
-            room: extent.area,
-            most: extent.pieces,
+            room: area,
+            most,
             arena,
         })
     }
 
-    /// Takes memory for so much, where there is memory for less. All that is held stays.
-    pub fn provide(&mut self, extent: Extent) -> Result<(), AllocError>
-        requires few { extent.pieces ≤ max_pieces }
-        ensures given { OnOk result
-            (self.new ≡ record self.old { room = joined self.old.room extent }) }
-        ensures refused { OnErr result (self.new ≡ self.old) }
+    /// How many bytes the area has room for.
+    pub fn room(&self) -> usize
+        ensures { result ≡ self.now.room.area }
     {
-        let most = self.most.max(extent.pieces);
-        let room = self.room.max(extent.area);
-        hold(&mut self.columns, most as usize)?;
-        hold(&mut self.spare, most as usize)?;
-        hold(&mut self.known, words_for(most))?;
-        hold(&mut self.area, room as usize)?;
-        self.arena.provide(extent.words, extent.bytes)?;
-        self.most = most;
-        self.room = room;
-        Ok(())
+        self.room as usize
     }
 
-    /// What there is memory for.
-    pub fn extent(&self) -> Extent
-        ensures { result ≡ self.now.room }
+    /// The most pieces that a file may have.
+    pub fn most(&self) -> u16
+        ensures { result ≡ self.now.room.pieces }
     {
-        Extent {
-            area: self.room,
-            pieces: self.most,
-            words: self.arena.word_room(),
-            bytes: self.arena.byte_room(),
-        }
+        self.most
     }
 
     /// How many pieces the file has.
@@ -428,8 +412,7 @@ impl Table {
         requires most { nb_frag ≤ self.old.room.pieces }
         requires few { rows ≤ nb_frag }
         requires area { nb_frag * frag_size ≤ self.old.room.area }
-        requires room { has_room self.old.room.words self.old.room.bytes rows nb_frag frag_size
-            ≡ true }
+        requires room { has_room W B rows nb_frag frag_size ≡ true }
         ensures shape { self.new.shape
             ≡ record { nb_frag = nb_frag; frag_size = frag_size; rows = rows } }
         ensures places { self.new.places ≡ replicate nb_frag free }

@@ -23,8 +23,8 @@ use std::sync::ledger::Ledger;
 /// Takes fragment `n` in, or answers why not. A piece that came before is only compared, and where no row is held one that
 /// did not needs no line. `line`, `picks` and `rest` are room for a line, for its columns and for the bytes of a piece.
 /// Counts the states that are drawn for the line, and each piece and row that is added to another part.
-pub fn take<L: Ledger, M: Ledger>(
-    table: &mut Table,
+pub fn take<const W: usize, const B: usize, L: Ledger, M: Ledger>(
+    table: &mut Table<W, B>,
     n: u16,
     part: &[u8],
     line: &mut [u64],
@@ -67,7 +67,12 @@ pub fn take<L: Ledger, M: Ledger>(
 }
 
 /// Takes in a piece that came before: it has to be the same.
-fn take_again(table: &Table, n: u16, part: &[u8], piece: &[u8]) -> Fed
+fn take_again<const W: usize, const B: usize>(
+    table: &Table<W, B>,
+    n: u16,
+    part: &[u8],
+    piece: &[u8],
+) -> Fed
     requires { MayTakeAgain table.now n part.now piece.now }
     ensures { FedAs result (held_of stage.Receiving table.now)
         (held_of (stage_after result) table.now) n part.now }
@@ -80,7 +85,7 @@ fn take_again(table: &Table, n: u16, part: &[u8], piece: &[u8]) -> Fed
 }
 
 /// Takes in a piece that did not come before, where no row is held.
-fn take_first(table: &mut Table, n: u16, part: &[u8]) -> Fed
+fn take_first<const W: usize, const B: usize>(table: &mut Table<W, B>, n: u16, part: &[u8]) -> Fed
     requires { MayTakeFirst table.old n part.now }
     ensures fed { FedAs result (held_of stage.Receiving table.old)
         (held_of (stage_after result) table.new) n part.now }
@@ -92,8 +97,8 @@ fn take_first(table: &mut Table, n: u16, part: &[u8]) -> Fed
 }
 
 /// Takes fragment `n` in, or answers why not. `line` is its line and is used up, `picks` and `rest` are room.
-fn take_in<M: Ledger>(
-    table: &mut Table,
+fn take_in<const W: usize, const B: usize, M: Ledger>(
+    table: &mut Table<W, B>,
     n: u16,
     part: &[u8],
     line: &mut [u64],
@@ -116,7 +121,13 @@ fn take_in<M: Ledger>(
 }
 
 /// Takes in a fragment whose line is a sum of the lines held.
-fn take_old(table: &mut Table, n: u16, part: &[u8], line: &[u64], rest: &[u8]) -> Fed
+fn take_old<const W: usize, const B: usize>(
+    table: &mut Table<W, B>,
+    n: u16,
+    part: &[u8],
+    line: &[u64],
+    rest: &[u8],
+) -> Fed
     requires ready { IsReady table.old n part.now (line_in line.now) rest.now }
     requires none { line_in line.now ≡ 0 }
     ensures fed { FedAs result (held_of stage.Receiving table.old)
@@ -134,8 +145,8 @@ fn take_old(table: &mut Table, n: u16, part: &[u8], line: &[u64], rest: &[u8]) -
 }
 
 /// Takes in a fragment whose line is no sum of the lines held.
-fn take_new<M: Ledger>(
-    table: &mut Table,
+fn take_new<const W: usize, const B: usize, M: Ledger>(
+    table: &mut Table<W, B>,
     n: u16,
     part: &[u8],
     p: u16,
@@ -160,8 +171,8 @@ fn take_new<M: Ledger>(
 }
 
 /// Takes in a piece whose line is no sum of the lines held.
-fn take_piece<M: Ledger>(
-    table: &mut Table,
+fn take_piece<const W: usize, const B: usize, M: Ledger>(
+    table: &mut Table<W, B>,
     n: u16,
     part: &[u8],
     p: u16,
@@ -183,8 +194,8 @@ fn take_piece<M: Ledger>(
 
 /// Takes in a coded fragment whose line is no sum of the lines held, where a slot is spare. Its own bytes are told by the
 /// row that is left of it.
-fn take_row<M: Ledger>(
-    table: &mut Table,
+fn take_row<const W: usize, const B: usize, M: Ledger>(
+    table: &mut Table<W, B>,
     n: u16,
     part: &[u8],
     p: u16,
@@ -206,7 +217,7 @@ fn take_row<M: Ledger>(
 }
 
 /// Whether one block alone fits, and then puts it into the area.
-fn decide(table: &mut Table) -> Fed
+fn decide<const W: usize, const B: usize>(table: &mut Table<W, B>) -> Fed
     requires held { IsReduced table.old.shape.nb_frag table.old.shape.frag_size table.old.places }
     ensures { DecidedAs result table.old table.new }
 {

@@ -12,14 +12,14 @@ abbrev pub span : ℕ
 span = 54394
 
 abbrev pub room : Room
-room = record { extent = extent; span = Some span }
+room = record { words = 64; bytes = 768; extent = extent; span = Some span }
 
 -- its place, of which nothing is known
 abbrev pub place : HeldSession
-place = place_in 0 span limits extent
+place = place_in 64 768 0 span limits extent
 
 abbrev pub IsReceiver : HeldSession → Type 0
-IsReceiver h = IsPlaceOf h 0 span limits extent
+IsReceiver h = IsPlaceOf h 64 768 0 span limits extent
 
 -- what it holds in memory stands for the session, its count too
 pub record ReceiverStands (h : HeldSession) (s : Option Session) : Type 0 where

@@ -11,7 +11,6 @@ ghost use Rattle.flash_session.specs.Body.{FieldsFit};
 ghost use Rattle.flash_session.specs.Contents.{HasCause, HasRisen};
 ghost use Rattle.flash_session.specs.Lies.{NoSession};
 ghost use Rattle.flash_session.specs.Moments.{LeavesOnly};
-ghost use Rattle.flash_session.specs.Opening.{IsFirstForeign, NothingForeign};
 ghost use Rattle.flash_session.specs.Sessions.{HeldStandsAs, IsHeldAs, LiesForAs};
 ghost use Rattle.sample_receiver.specs.HeldReceiver.{extent, limits, IsFragment, whole_file};
 ghost use Rattle.sample_flash_receiver.specs.HeldReceiver.{span, room, place, IsReceiver, ReceiverStands};
@@ -19,7 +18,7 @@ ghost use Rattle.sample_flash_receiver.specs.HeldReceiver.{span, room, place, Is
 use cast_wire::fragment_at;
 use flash_session::{Failed, Flash, Held, OpenFault};
 use frag_session::{Idle, Limits, SetupReq, Verdict, Via};
-use row_elimination::{Extent, Memory, Solver};
+use row_elimination::{Memory, Solver};
 use std::alloc::Global;
 
 mod part;
@@ -27,20 +26,11 @@ mod part;
 pub use part::{Driver, Part};
 
 // sample
-/// A session in the part, or a place for one.
-pub type Receiver = Held;
+/// A row takes a word for 64 pieces, so 4 of 256, and the bytes of a piece: 16 rows are 64 words and 768 bytes.
+pub type Receiver = Held<64, 768>;
 
 /// Its memory, while no part is open.
-pub type Arena = Idle;
-
-/// All memory that a receiver ever uses: for the 256 pieces of 48 bytes, and for the rows. A row takes a word for 64 pieces,
-/// so 4 of 256, and the bytes of a piece.
-const EXTENT: Extent = Extent {
-    area: 256 * 48,
-    pieces: 256,
-    words: 16 * 4,
-    bytes: 16 * 48,
-};
+pub type Arena = Idle<64, 768>;
 
 /// Bytes of flash: 24,640, and 58 for each of the 513 fragments of 48 bytes that can tell something new of 256 pieces.
 pub const SPAN: u32 = 24_640 + 513 * 58;
@@ -52,11 +42,11 @@ const LIMITS: Limits = Limits {
     descriptor: None,
 };
 
-/// The memory, 12,288 bytes of it for the file.
+/// All memory that the receiver ever uses; 12,288 bytes of it are for the file.
 pub fn arena(alloc: Global) -> Result<Arena, Memory>
     ensures { IfOk result (λ arena. arena ≡ extent) }
 {
-    Ok(Idle::new(Solver::reserve(alloc, EXTENT)?))
+    Ok(Idle::new(Solver::reserve_for(alloc, 256 * 48, 256)?))
 }
 
 /// At each start: with the session that lies in the part, or with none. At Err the memory comes back: Flash where the
@@ -78,12 +68,6 @@ pub fn start<F: Flash>(part: &mut F, arena: Arena) -> Result<Receiver, (Arena, O
     ensures size { F.room part.new ≡ F.room part.old }
     ensures fault { IfErr result
         (λ e. e.1 ≡ OpenFault.Flash → HasRisen (F.faults part.old) (F.faults part.new)) }
-    // Foreign comes exactly where the header's gate is open and something there is no session's.
-    ensures nothing_foreign { IfOk result
-        (λ receiver. (b : List ℕ) → F.holds part.new b → NothingForeign place b) }
-    ensures foreign { IfErr result
-        (λ e. (p : ℕ) → e.1 ≡ OpenFault.Foreign p → (b : List ℕ) → F.holds part.new b
-        → IsFirstForeign place b p) }
 {
     Held::open(part, 0, SPAN, arena, LIMITS)
 }

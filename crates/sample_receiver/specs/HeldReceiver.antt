@@ -9,18 +9,19 @@ use Rattle.frag_session.specs.declared.answers.Via.TheVariants.{Unicast}
 use Rattle.frag_session.specs.declared.answers.Verdict.{Verdict}
 use Rattle.frag_session.specs.declared.answers.Verdict.TheVariants as verdict
 use Rattle.frag_session.specs.Held.{HeldSlot}
-use Rattle.row_elimination.specs.declared.extent.Extent.{Extent}
+use Rattle.row_elimination.specs.Room.{Extent}
 use Rattle.frag_session.specs.HeldSteps.{extent_of}
 use Rattle.frag_session.specs.HeldHistory.{Stands}
 use Rattle.frag_session.specs.Setup.{Room, memory_room, setup_bits}
 use Rattle.frag_session.specs.Session.{Session, Seen, after_setup, after_fragment}
 
--- 256 pieces of 48 bytes, and 16 rows of 4 words and 48 bytes
+-- 256 pieces of 48 bytes
 abbrev pub extent : Extent
-extent = record { area = 12288; pieces = 256; words = 64; bytes = 768 }
+extent = record { area = 12288; pieces = 256 }
 
+-- and 16 rows of 4 words and 48 bytes
 abbrev pub room : Room
-room = memory_room extent
+room = memory_room 64 768 extent
 
 abbrev pub limits : Limits
 limits = record { sessions = 1; rows = 16; descriptor = None }

@@ -9,21 +9,12 @@ ghost use Rattle.sample_receiver.specs.HeldReceiver.{ReceiverStands, SetsUp, Hea
 
 use cast_wire::fragment_at;
 use frag_session::{Idle, Limits, SetupReq, Slot, Verdict, Via};
-use row_elimination::{Extent, Memory, Solver};
+use row_elimination::{Memory, Solver};
 use std::alloc::Global;
 
 // sample
-/// A place for one session.
-pub type Receiver = Slot;
-
-/// All memory that a receiver ever uses: for the 256 pieces of 48 bytes, and for the rows. A row takes a word for 64 pieces,
-/// so 4 of 256, and the bytes of a piece.
-const EXTENT: Extent = Extent {
-    area: 256 * 48,
-    pieces: 256,
-    words: 16 * 4,
-    bytes: 16 * 48,
-};
+/// A row takes a word for 64 pieces, so 4 of 256, and the bytes of a piece: 16 rows are 64 words and 768 bytes.
+pub type Receiver = Slot<64, 768>;
 
 /// Session 0 alone, with any descriptor.
 const LIMITS: Limits = Limits {
@@ -32,11 +23,12 @@ const LIMITS: Limits = Limits {
     descriptor: None,
 };
 
-/// A receiver with all memory that it ever uses.
+/// All memory that the receiver ever uses; 12,288 bytes of it are for the file.
 pub fn receiver(alloc: Global) -> Result<Receiver, Memory>
     ensures { IfOk result (λ receiver. ReceiverStands receiver None) }
 {
-    Ok(Slot::new(Idle::new(Solver::reserve(alloc, EXTENT)?)))
+    let solver = Solver::reserve_for(alloc, 256 * 48, 256)?;
+    Ok(Slot::new(Idle::new(solver)))
 }
 
 /// FragSessionSetupReq: all refusal bits of its answer; with 0 its session lives.

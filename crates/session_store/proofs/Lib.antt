@@ -1,4 +1,3 @@
 pub mod PlaceSteps
 pub mod ForeignSteps
 pub mod StoreSteps
-mod Memories

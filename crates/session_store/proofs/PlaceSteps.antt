@@ -6,8 +6,7 @@ use Rattle.frag_session.specs.declared.setups.Limits.{Limits}
 use Rattle.frag_session.specs.declared.setups.SetupReq.{SetupReq}
 use Rattle.frag_session.specs.Session.{Session, after_setup}
 use Rattle.frag_session.specs.Setup.{Room, setup_bits}
-use Rattle.row_elimination.specs.declared.extent.Extent.{Extent}
-use Rattle.session_store.specs.Rows.{extent_for}
+use Rattle.row_elimination.specs.Room.{Extent, extent_for}
 use Rattle.flash_session.specs.Apart.{AreApart}
 use Rattle.flash_session.specs.Contents.{Same, SameOutside, SameWithin, Follows, IsKept}
 use Rattle.flash_session.specs.HeldSession.{HeldSession, room_in}
@@ -21,6 +20,7 @@ use Rattle.flash_session.proofs.Openable.{openable_same, lies_for}
 use Rattle.flash_session.proofs.StillHeld.{same_back, lies_for_same, still_held}
 use Rattle.session_store.specs.declared.held_slots.Layout.{Layout}
 use Rattle.session_store.specs.declared.held_slots.Others.{Others}
+use Rattle.session_store.specs.Rows.{row_words, row_bytes}
 use Rattle.session_store.specs.SessionTable.{SessionTable, session_at, with_session}
 use Rattle.session_store.specs.HeldPlaces.{HeldPlaces, IsPlace, ArePlaces, place_at, room_at, Each, PlaceStands, AreHeld, TableLies, AreOthers, filled}
 
@@ -78,8 +78,10 @@ again_by P false false false others held t mine rest = record { first = rest.one
 -- ---- where they lie
 
 -- what is held at a place is there still
-place_again : (h k : HeldSession) (l : Layout) (base : ℕ) → IsPlace h l base → IsPlaceOf k h.base h.span h.limits (extent_of h.slot) → IsPlace k l base
+place_again : (h k : HeldSession) (l : Layout) (base : ℕ) → IsPlace h l base → IsPlaceOf k row_words row_bytes h.base h.span h.limits (extent_of h.slot) → IsPlace k l base
 place_again h k l base was is = record {
+  words_are = is.words_are;
+  bytes_are = is.bytes_are;
   base_is = is.base_is ∙ was.base_is;
   span_is = is.span_is ∙ was.span_is;
   limits_are = is.limits_are ∙ was.limits_are;
@@ -87,14 +89,14 @@ place_again h k l base was is = record {
 }
 
 places_by : (a b c : Bool) (others : Others) (held new : HeldSession) → ArePlaces (filled_by a b c others held)
-    → IsPlaceOf new held.base held.span held.limits (extent_of held.slot) → ArePlaces (filled_by a b c others new)
+    → IsPlaceOf new row_words row_bytes held.base held.span held.limits (extent_of held.slot) → ArePlaces (filled_by a b c others new)
 places_by true b c others held new are is = record { first = place_again held new others.layout 0 are.first is; second = are.second; third = are.third; fourth = are.fourth; long = are.long }
 places_by false true c others held new are is = record { first = are.first; second = place_again held new others.layout others.layout.span are.second is; third = are.third; fourth = are.fourth; long = are.long }
 places_by false false true others held new are is = record { first = are.first; second = are.second; third = place_again held new others.layout (2 * others.layout.span) are.third is; fourth = are.fourth; long = are.long }
 places_by false false false others held new are is = record { first = are.first; second = are.second; third = are.third; fourth = place_again held new others.layout (3 * others.layout.span) are.fourth is; long = are.long }
 
 pub places_on : (index : ℕ) (others : Others) (held new : HeldSession) → ArePlaces (filled index others held)
-    → IsPlaceOf new held.base held.span held.limits (extent_of held.slot) → ArePlaces (filled index others new)
+    → IsPlaceOf new row_words row_bytes held.base held.span held.limits (extent_of held.slot) → ArePlaces (filled index others new)
 places_on index = places_by (index == 0) (index == 1) (index == 2)
 
 -- its range lies within four of them, and its room is that of the layout
@@ -117,7 +119,7 @@ range_in index room others held are all =
 pub room_is : (index : ℕ) (others : Others) (held : HeldSession) → ArePlaces (filled index others held) → room_in held ≡ room_at others.layout
 room_is index others held are =
     let w = within_by (index == 0) (index == 1) (index == 2) others held are in
-    λ i. record { extent = w.is.extent_is i; span = Some (w.is.span_is i) }
+    λ i. record { words = w.is.words_are i; bytes = w.is.bytes_are i; extent = w.is.extent_is i; span = Some (w.is.span_is i) }
 
 pub limits_is : (index : ℕ) (others : Others) (held : HeldSession) → ArePlaces (filled index others held) → held.limits ≡ others.layout.limits
 limits_is index others held are = (within_by (index == 0) (index == 1) (index == 2) others held are).is.limits_are
@@ -202,7 +204,7 @@ lies_placed : (h : HeldSession) (l : Layout) (base : ℕ) (o : Option Session) (
 unfolding extent_of
 lies_placed h l base None c is none = subst (λ (b : ℕ). NoSession b c) is.base_is none
 lies_placed h l base (Some s) c is lies = record {
-  openable = openable_same h (place_at l base) s is.limits_are (sym is.extent_is) is.span_is lies.openable;
+  openable = openable_same h (place_at l base) s is.limits_are (sym is.extent_is) is.span_is is.words_are is.bytes_are lies.openable;
   body = lies.body;
   tallies = lies.tallies;
   its_body = lies.its_body;
@@ -305,20 +307,20 @@ opened_still h l base o holds0 left0 holds left opens is long follows kept b now
 
 -- the same where the memory was of this extent
 pub opened_place : (h : HeldSession) (l : Layout) (base : ℕ) (z : Extent) (o : Option Session) (holds0 left0 holds left : List ℕ → Type 0) → z ≡ extent_for l.area
-    → ((p : Option Session) (b : List ℕ) → holds0 b → LiesForAs (place_in base l.span l.limits z) p b → IsHeldAs h p holds0 left0)
-    → IsPlaceOf h base l.span l.limits z → 24640 ≤ l.span
+    → ((p : Option Session) (b : List ℕ) → holds0 b → LiesForAs (place_in row_words row_bytes base l.span l.limits z) p b → IsHeldAs h p holds0 left0)
+    → IsPlaceOf h row_words row_bytes base l.span l.limits z → 24640 ≤ l.span
     → Follows Same holds0 holds → IsKept holds left → (b : List ℕ) → holds b → LiesForAs (place_at l base) o b → IsHeldAs h o holds left
 opened_place h l base z o holds0 left0 holds left is opens place long follows kept b now lies =
     opened_still h l base o holds0 left0 holds left
-    (λ d at its. opens o d at (subst (λ (y : Extent). LiesForAs (place_in base l.span l.limits y) o d) (sym is) its))
-    (subst (λ (y : Extent). IsPlaceOf h base l.span l.limits y) is place) long follows kept b now lies
+    (λ d at its. opens o d at (subst (λ (y : Extent). LiesForAs (place_in row_words row_bytes base l.span l.limits y) o d) (sym is) its))
+    (subst (λ (y : Extent). IsPlaceOf h row_words row_bytes base l.span l.limits y) is place) long follows kept b now lies
 
 -- the last that was opened
 pub opened_for_last : (h : HeldSession) (l : Layout) (base : ℕ) (z : Extent) (o : Option Session) (holds left : List ℕ → Type 0) → z ≡ extent_for l.area
-    → ((p : Option Session) (b : List ℕ) → holds b → LiesForAs (place_in base l.span l.limits z) p b → IsHeldAs h p holds left)
+    → ((p : Option Session) (b : List ℕ) → holds b → LiesForAs (place_in row_words row_bytes base l.span l.limits z) p b → IsHeldAs h p holds left)
     → (b : List ℕ) → holds b → LiesForAs (place_at l base) o b → IsHeldAs h o holds left
 opened_for_last h l base z o holds left is opens b now lies =
-    opens o b now (subst (λ (y : Extent). LiesForAs (place_in base l.span l.limits y) o b) (sym is) lies)
+    opens o b now (subst (λ (y : Extent). LiesForAs (place_in row_words row_bytes base l.span l.limits y) o b) (sym is) lies)
 
 -- what is held is held in memory too
 pub held_stands : (h : HeldPlaces) (t : SessionTable) (holds left : List ℕ → Type 0) → AreHeld h t holds left → Each PlaceStands h t

@@ -3,7 +3,7 @@ use Rattle.std.specs.Prelude.{◌≡◌, ℕ, ◌*◌, ◌≤◌, ◌==◌, if�
 use Rattle.frag_session.specs.Session.{Session}
 use Rattle.frag_session.specs.HeldSteps.{extent_of}
 use Rattle.frag_session.specs.Setup.{Room}
-use Rattle.session_store.specs.Rows.{extent_for}
+use Rattle.row_elimination.specs.Room.{extent_for}
 use Rattle.flash_session.specs.HeldSession.{HeldSession}
 use Rattle.flash_session.specs.Layout.{records_place}
 use Rattle.flash_session.specs.Replayed.{place_in, IsPlaceOf}
@@ -11,6 +11,7 @@ use Rattle.flash_session.specs.Sessions.{LiesForAs, HeldStandsAs, CountsAs, IsHe
 use Rattle.session_store.specs.declared.held_slots.Idles.{Idles}
 use Rattle.session_store.specs.declared.held_slots.Layout.{Layout}
 use Rattle.session_store.specs.declared.held_slots.Others.{Others}
+use Rattle.session_store.specs.Rows.{row_words, row_bytes}
 use Rattle.session_store.specs.SessionTable.{SessionTable}
 
 -- ---- where they lie
@@ -25,7 +26,7 @@ pub record HeldPlaces : Type 0 where
 
 -- a session begins there
 abbrev pub IsPlace : HeldSession → Layout → (base : ℕ) → Type 0
-IsPlace h l base = IsPlaceOf h base l.span l.limits (extent_for l.area)
+IsPlace h l base = IsPlaceOf h row_words row_bytes base l.span l.limits (extent_for l.area)
 
 -- that of index i begins at i times the bytes of one
 pub record ArePlaces (h : HeldPlaces) : Type 0 where
@@ -37,7 +38,7 @@ pub record ArePlaces (h : HeldPlaces) : Type 0 where
 
 -- a place of which nothing is known
 abbrev pub place_at : Layout → (base : ℕ) → HeldSession
-place_at l base = place_in base l.span l.limits (extent_for l.area)
+place_at l base = place_in row_words row_bytes base l.span l.limits (extent_for l.area)
 
 abbrev pub places_at : Layout → HeldPlaces
 places_at l = record {
@@ -50,7 +51,7 @@ places_at l = record {
 
 -- the room that each has
 abbrev pub room_at : Layout → Room
-room_at l = record { extent = extent_for l.area; span = Some l.span }
+room_at l = record { words = row_words; bytes = row_bytes; extent = extent_for l.area; span = Some l.span }
 
 -- ---- what they stand for
 

@@ -1,14 +1,13 @@
 -- What the sessions of a device are, wherever they lie, with its flash, and for which they stand.
-use Rattle.std.specs.Prelude.{◌≡◌, ℕ, ◌*◌, ◌≤◌, Bool, true, false, not, ◌&&◌, if◌then◌else◌, List, Option, Some, None}
-use Rattle.session_store.specs.Rows.{extent_for}
+use Rattle.std.specs.Prelude.{◌≡◌, ℕ, ◌*◌, ◌≤◌, Bool, true, false, List, Option, Some, None}
+use Rattle.row_elimination.specs.Room.{extent_for}
 use Rattle.flash_session.specs.Layout.{records_place}
 use Rattle.session_store.specs.declared.held_slots.Layout.{Layout}
 use Rattle.session_store.specs.declared.store.State.{State}
 use Rattle.session_store.specs.declared.store.State.TheVariants.{Memory, Flash, Down}
 pub use Rattle.session_store.specs.Rows.{store_room}
 use Rattle.session_store.specs.HeldPlaces.{PlacesStand, AreHeld, AreIdle}
-use Rattle.frag_session.specs.declared.setups.SetupReq.{SetupReq}
-use Rattle.session_store.specs.HeldSessions.{SessionsStand, MaySetUp, FilesFit}
+use Rattle.session_store.specs.HeldSessions.{SessionsStand}
 use Rattle.session_store.specs.Whole.{none_whole}
 use Rattle.session_store.specs.SessionTable.{SessionTable}
 
@@ -68,33 +67,6 @@ abbrev pub StateFits : Layout → (held : Bool) → (room : ℕ) → State → T
 StateFits layout held room (Memory slots) = (held ≡ false) × (slots.area ≡ layout.area)
 StateFits layout held room (Flash slots) = (held ≡ true) × (slots.layout ≡ layout) × HasRanges layout room
 StateFits layout held room (Down idles whole) = (held ≡ true) × AreIdle layout.area idles × HasRanges layout room
-
--- there is memory for a setup, where there ever is; those in flash have it
-abbrev pub StateMay : Layout → State → SetupReq → Type 0
-StateMay layout (Memory slots) req = MaySetUp slots layout.limits req
-StateMay layout (Flash slots) req = Unit {0}
-StateMay layout (Down idles whole) req = Unit {0}
-
-abbrev pub HasMemory : {F : Type 0} → HeldStore F → SetupReq → Type 0
-HasMemory store req = StateMay store.layout store.state req
-
--- no session's file has more than so many bytes
-abbrev pub StateFiles : Layout → State → ℕ → Type 0
-StateFiles layout (Memory slots) n = FilesFit slots n
-StateFiles layout (Flash slots) n = layout.area ≤ n
-StateFiles layout (Down idles whole) n = layout.area ≤ n
-
-abbrev pub HasFiles : {F : Type 0} → HeldStore F → ℕ → Type 0
-HasFiles store n = StateFiles store.layout store.state n
-
--- the longest file that there is memory for at the start
-abbrev pub first_area : Layout → (held : Bool) → ℕ
-first_area layout held = if layout.late && not held then 0 else layout.area
-
--- there is memory for what there was memory for, and no file may be longer
-pub record KeepsMemory {F : Type 0} (old new : HeldStore F) : Type 0 where
-  pub setups : (req : SetupReq) → HasMemory old req → HasMemory new req
-  pub files : (n : ℕ) → HasFiles old n → HasFiles new n
 
 -- it is laid out as it was
 pub record IsLaidOut {F : Type 0} (old new : HeldStore F) : Type 0 where

@@ -1,7 +1,6 @@
 -- The room for a session, and what of it is kept for its rows (this project's profile).
 use Rattle.std.specs.Prelude.{ℕ, Bool, if◌then◌else◌, Some, None}
-use Rattle.frag_model.specs.Limits.{max_pieces}
-use Rattle.row_elimination.specs.declared.extent.Extent.{Extent}
+use Rattle.row_elimination.specs.Room.{extent_for}
 use Rattle.frag_session.specs.Setup.{Room}
 use Rattle.session_store.specs.declared.held_slots.Layout.{Layout}
 
@@ -12,13 +11,11 @@ row_words = 16384
 abbrev pub row_bytes : ℕ
 row_bytes = 61184
 
--- the memory for a session, with a file area of so many bytes
-abbrev pub extent_for : ℕ → Extent
-extent_for area = record { area = area; pieces = max_pieces; words = row_words; bytes = row_bytes }
-
 -- the room for a session: where it is held in flash, its range too
 abbrev pub store_room : Layout → (held : Bool) → Room
 store_room layout held = record {
+  words = row_words;
+  bytes = row_bytes;
   extent = extent_for layout.area;
   span = if held then Some layout.span else None;
 }

@@ -5,7 +5,7 @@ ghost use Rattle.std.specs.Prelude.{◌≡◌, ◌≢◌, ◌⊎◌, ℕ, ◌*�
 ghost use Rattle.frag_session.specs.Setup.{setup_bits};
 ghost use Rattle.frag_session.specs.Session.{answer_of, drop_cause, news_in, status_of, view_of};
 ghost use Rattle.frag_session.specs.HeldView.{seen};
-ghost use Rattle.session_store.specs.Rows.{extent_for};
+ghost use Rattle.row_elimination.specs.Room.{extent_for};
 ghost use Rattle.flash_session.specs.Body.{FieldsFit};
 ghost use Rattle.flash_session.specs.Contents.{Same, Follows, IsKept, HasRisen, HasCause};
 ghost use Rattle.flash_session.specs.HeldSession.{HeldSession};
@@ -15,7 +15,7 @@ ghost use Rattle.session_store.specs.SessionTable.{SessionTable, session_at, wit
 ghost use Rattle.session_store.specs.HeldForeign.{NoneForeign, IsForeignIn};
 ghost use Rattle.session_store.specs.HeldPlaces.{ArePlaces, AreIdle, AreOthers, PlacesStand, AreHeld, TableLies, room_at, filled};
 
-use crate::session_slots::extent_for;
+use crate::session_slots::{ROW_BYTES, ROW_WORDS};
 use flash_session::{Flash, Held, OpenFault};
 use frag_session::{Heard, Idle, Limits, SetupReq, StatusAns, Via, View};
 use row_elimination::{Memory, Solver};
@@ -25,10 +25,10 @@ use std::marker::Model;
 /// The memory of four sessions of which none lives.
 #[derive(Drop)]
 pub struct Idles {
-    first: Idle,
-    second: Idle,
-    third: Idle,
-    fourth: Idle,
+    first: Idle<ROW_WORDS, ROW_BYTES>,
+    second: Idle<ROW_WORDS, ROW_BYTES>,
+    third: Idle<ROW_WORDS, ROW_BYTES>,
+    fourth: Idle<ROW_WORDS, ROW_BYTES>,
 }
 
 /// How the sessions of a device lie in its flash, and what each is limited to.
@@ -38,17 +38,15 @@ pub struct Layout {
     pub area: u32,
     /// Bytes of flash of a session that is held: 24,640 at least, and four times it within the flash.
     pub span: u32,
-    /// Whether sessions in memory alone take their memory by `provide`, and none at the start.
-    pub late: bool,
     pub limits: Limits,
 }
 
 /// The sessions but one, by rising index.
 #[derive(Drop)]
 struct Others {
-    one: Held,
-    two: Held,
-    three: Held,
+    one: Held<ROW_WORDS, ROW_BYTES>,
+    two: Held<ROW_WORDS, ROW_BYTES>,
+    three: Held<ROW_WORDS, ROW_BYTES>,
     layout: Layout,
 }
 
@@ -56,10 +54,10 @@ struct Others {
 /// stands, and what lies in the flash.
 #[derive(Drop)]
 pub struct HeldSlots {
-    first: Held,
-    second: Held,
-    third: Held,
-    fourth: Held,
+    first: Held<ROW_WORDS, ROW_BYTES>,
+    second: Held<ROW_WORDS, ROW_BYTES>,
+    third: Held<ROW_WORDS, ROW_BYTES>,
+    fourth: Held<ROW_WORDS, ROW_BYTES>,
     layout: Layout,
 }
 
@@ -110,12 +108,15 @@ impl Idles {
 }
 
 /// The memory of two sessions. Where it is wanting what was taken is given up by name.
-fn two_idle(alloc: Global, area: u32) -> Result<(Idle, Idle), Memory>
+fn two_idle(
+    alloc: Global,
+    area: u32,
+) -> Result<(Idle<ROW_WORDS, ROW_BYTES>, Idle<ROW_WORDS, ROW_BYTES>), Memory>
     ensures first { IfOk result (λ r. r.0 ≡ extent_for area) }
     ensures second { IfOk result (λ r. r.1 ≡ extent_for area) }
 {
-    match Solver::reserve(alloc, extent_for(area)) {
-        Ok(first) => match Solver::reserve(alloc, extent_for(area)) {
+    match Solver::reserve(alloc, area) {
+        Ok(first) => match Solver::reserve(alloc, area) {
             Ok(second) => Ok((Idle::new(first), Idle::new(second))),
             Err(error) => {
                 drop(first);
@@ -421,7 +422,7 @@ impl HeldSlots {
     }
 
     /// The session of an index, and the others.
-    fn parted(self, index: u8) -> (Held, Others)
+    fn parted(self, index: u8) -> (Held<ROW_WORDS, ROW_BYTES>, Others)
         requires { index < 4 }
         ensures whole { filled index result.1 result.0 ≡ self }
         ensures places { ArePlaces (filled index result.1 result.0) }
@@ -476,7 +477,7 @@ impl HeldSlots {
 
 impl Others {
     /// All four, with this one at an index.
-    fn filled(self, index: u8, held: Held) -> HeldSlots
+    fn filled(self, index: u8, held: Held<ROW_WORDS, ROW_BYTES>) -> HeldSlots
         requires index { index < 4 }
         requires places { ArePlaces (filled index self held) }
         ensures { result ≡ filled index self held }
@@ -520,7 +521,7 @@ impl Others {
     }
 
     /// The memory of all four, with that of the one at an index.
-    fn ended(self, idle: Idle) -> Idles
+    fn ended(self, idle: Idle<ROW_WORDS, ROW_BYTES>) -> Idles
         requires idle { idle ≡ extent_for self.layout.area }
         requires others { AreOthers self }
         ensures { AreIdle self.layout.area result }

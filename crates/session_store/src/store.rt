@@ -1,6 +1,6 @@
 //! The sessions of a device, wherever they lie, with its flash: in memory alone, in flash, or down until power comes.
 
-ghost use Rattle.std.specs.Prelude.{◌≡◌, ◌≢◌, ◌⊎◌, ℕ, ◌*◌, ◌<◌, ◌≤◌, Bool, List, Option, Some, None, true, false, OnOk, OnErr, IfOk, IfErr, IfSome, MatchResult, is_ok, is_some, option_map, length, min};
+ghost use Rattle.std.specs.Prelude.{◌≡◌, ◌≢◌, ◌⊎◌, ℕ, ◌*◌, ◌<◌, ◌≤◌, Bool, List, Option, Some, None, true, false, OnOk, OnErr, IfOk, IfErr, IfSome, MatchResult, is_ok, is_some, option_map, length};
 ghost use Rattle.frag_session.specs.Setup.{setup_bits};
 ghost use Rattle.frag_session.specs.Session.{answer_of, drop_cause, news_in, status_of, view_of};
 ghost use Rattle.frag_session.specs.HeldView.{seen};
@@ -10,7 +10,7 @@ ghost use Rattle.flash_session.specs.Moments.{Elapses, LeavesOnly};
 ghost use Rattle.session_store.specs.SessionTable.{SessionTable, no_sessions, session_at, with_session, table_after_setup, table_after_fragment};
 ghost use Rattle.session_store.specs.HeldForeign.{NoneForeign, IsForeignIn};
 ghost use Rattle.session_store.specs.HeldPlaces.{AreIdle, PlacesStand, TableLies};
-ghost use Rattle.session_store.specs.HeldStore.{IsUp, IsDown, IsInFlash, StateFits, StateStands, StateIsStored, StateIsHeld, HasRanges, IsLaidOut, StateMay, StateFiles, HasMemory, HasFiles, KeepsMemory, first_area, store_room};
+ghost use Rattle.session_store.specs.HeldStore.{IsUp, IsDown, IsInFlash, StateFits, StateStands, StateIsStored, StateIsHeld, HasRanges, IsLaidOut, store_room};
 ghost use Rattle.session_store.specs.Whole.{is_complete, is_whole, whole_of, none_whole};
 ghost use Rattle.session_store.specs.declared.store.State.TheVariants.{Down};
 
@@ -72,8 +72,7 @@ impl<F: Flash + Drop> Model for SessionStore<F> {
 
 impl<F: Flash + Drop> SessionStore<F> {
     /// Where `held` is false in memory alone, and no flash is called; else down over the flash, in four ranges that lie
-    /// within it, until `power`. All memory is taken at once, but where the layout is late and they are in memory alone none:
-    /// then each setup needs a `provide` before it. Memory comes where memory is wanting, and the flash is dropped then.
+    /// within it, until `power`. Memory comes where memory is wanting, and the flash is dropped then.
     pub fn reserve(alloc: Global, flash: F, layout: Layout, held: bool) -> Result<Self, Memory>
         requires { held ≡ true → HasRanges layout (F.room flash) }
         ensures memory { held ≡ false → IfOk result (λ s. StateStands s.state no_sessions) }
@@ -81,8 +80,6 @@ impl<F: Flash + Drop> SessionStore<F> {
             → IfOk result (λ s. (idles : _) × (s.state ≡ Down idles none_whole)) }
         ensures laid { IfOk result (λ s. (s.layout ≡ layout) × (s.held ≡ held)) }
         ensures flash { IfOk result (λ s. s.flash ≡ flash) }
-        ensures all { layout.late ≡ false → IfOk result (λ s. (req : SetupReq) → HasMemory s req) }
-        ensures files { IfOk result (λ s. HasFiles s (first_area layout held)) }
     {
         match first_state(alloc, layout, held) {
             Ok(state) => Ok(SessionStore {
@@ -95,27 +92,6 @@ impl<F: Flash + Drop> SessionStore<F> {
                 drop(flash);
                 Err(error)
             }
-        }
-    }
-
-    /// Takes the memory that a setup needs, where it is not refused and there is less. All sessions stay, also where memory
-    /// is wanting. Sessions that are held in flash have their memory, and no flash is called.
-    pub fn provide(&mut self, req: SetupReq) -> Result<(), Memory>
-        requires { req.index < 4 }
-        ensures given { OnOk result (HasMemory self.new req) }
-        ensures setups { (r : SetupReq) → HasMemory self.old r → HasMemory self.new r }
-        ensures files { (n : ℕ) → HasFiles self.old n
-            → min (req.nb_frag * req.frag_size) self.old.layout.area ≤ n → HasFiles self.new n }
-        ensures stands { (table : SessionTable) → StateStands self.old.state table
-            → StateStands self.new.state table }
-        ensures in_flash { IsInFlash self.old.state → self.new ≡ self.old }
-        ensures in_memory { IsInFlash self.new.state → IsInFlash self.old.state }
-        ensures laid { IsLaidOut self.old self.new }
-        ensures quiet { self.new.flash ≡ self.old.flash }
-    {
-        match &mut self.state {
-            Some(State::Memory(slots)) => slots.provide(req, self.layout.limits),
-            _ => Ok(()),
         }
     }
 
@@ -167,7 +143,6 @@ impl<F: Flash + Drop> SessionStore<F> {
     pub fn setup(&mut self, req: SetupReq) -> Result<u8, FlashFault>
         requires up { IsUp self.old.state }
         requires fields { FieldsFit req }
-        requires memory { HasMemory self.old req }
         ensures bits { IfOk result
             (λ bits. bits ≡ setup_bits self.old.layout.limits
             (store_room self.old.layout self.old.held) req) }
@@ -198,7 +173,6 @@ impl<F: Flash + Drop> SessionStore<F> {
         ensures in_flash { IsInFlash self.old.state → OnOk result (IsInFlash self.new.state) }
         ensures down { (table : SessionTable) → StateStands self.old.state table
             → OnErr result ((idles : _) × (self.new.state ≡ Down idles (whole_of table))) }
-        ensures memory { KeepsMemory self.old self.new }
         ensures laid { IsLaidOut self.old self.new }
         ensures quiet { self.old.held ≡ false
             → (is_ok result ≡ true) × (self.new.flash ≡ self.old.flash) }
@@ -269,7 +243,6 @@ impl<F: Flash + Drop> SessionStore<F> {
         ensures in_flash { IsInFlash self.old.state → OnOk result (IsInFlash self.new.state) }
         ensures down { (table : SessionTable) → StateStands self.old.state table
             → OnErr result ((idles : _) × (self.new.state ≡ Down idles (whole_of table))) }
-        ensures memory { KeepsMemory self.old self.new }
         ensures laid { IsLaidOut self.old self.new }
         ensures quiet { self.old.held ≡ false
             → (is_ok result ≡ true) × (self.new.flash ≡ self.old.flash) }
@@ -326,7 +299,6 @@ impl<F: Flash + Drop> SessionStore<F> {
         ensures in_flash { IsInFlash self.old.state → OnOk result (IsInFlash self.new.state) }
         ensures down { (table : SessionTable) → StateStands self.old.state table
             → OnErr result ((idles : _) × (self.new.state ≡ Down idles (whole_of table))) }
-        ensures memory { KeepsMemory self.old self.new }
         ensures laid { IsLaidOut self.old self.new }
         ensures quiet { self.old.held ≡ false
             → (is_ok result ≡ true) × (self.new.flash ≡ self.old.flash) }
@@ -377,8 +349,7 @@ impl<F: Flash + Drop> SessionStore<F> {
         ensures value { (table : SessionTable) → StateStands self.now.state table
             → option_map seen result ≡ view_of (session_at table index) }
         ensures down { IsDown self.now.state → result ≡ None }
-        ensures within { (n : ℕ) → HasFiles self.now n
-            → IfSome result (λ v. length v.file.now ≤ n) }
+        ensures within { IfSome result (λ v. length v.file.now ≤ self.now.layout.area) }
     {
         match &self.state {
             Some(State::Memory(slots)) => slots.view(index),
@@ -419,7 +390,6 @@ impl<F: Flash + Drop> SessionStore<F> {
         ensures up { OnOk result (IsUp self.new.state) }
         ensures in_flash { OnOk result (IsInFlash self.new.state) }
         ensures down { OnErr result (IsDown self.new.state) }
-        ensures memory { KeepsMemory self.old self.new }
         ensures laid { IsLaidOut self.old self.new }
         ensures size { F.room self.new.flash ≡ F.room self.old.flash }
         ensures later { F.faults self.old.flash ≤ F.faults self.new.flash }
@@ -449,9 +419,6 @@ impl<F: Flash + Drop> SessionStore<F> {
 fn first_state(alloc: Global, layout: Layout, held: bool) -> Result<State, Memory>
     ensures memory { held ≡ false → IfOk result
         (λ state. StateStands state no_sessions × StateFits layout false 0 state) }
-    ensures all { layout.late ≡ false
-        → IfOk result (λ state. (req : SetupReq) → StateMay layout state req) }
-    ensures files { IfOk result (λ state. StateFiles layout state (first_area layout held)) }
     ensures down { held ≡ true
         → IfOk result (λ state. (idles : _) × (state ≡ Down idles none_whole)
         × AreIdle layout.area idles) }
@@ -467,11 +434,6 @@ fn first_state(alloc: Global, layout: Layout, held: bool) -> Result<State, Memor
                     fourth: false,
                 },
             )),
-            Err(error) => Err(error),
-        }
-    } else if layout.late {
-        match SessionSlots::late(alloc, layout.area) {
-            Ok(slots) => Ok(State::Memory(slots)),
             Err(error) => Err(error),
         }
     } else {

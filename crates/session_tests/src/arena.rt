@@ -20,7 +20,7 @@ static SHAPES: [(u16, u16, u8, bool); 11] = [
 
 #[test]
 fn shapes_that_fit_and_that_do_not(rt: HostRuntime) -> Result<(), Fail> {
-    let mut arena = RowArena::reserve(rt.alloc(), 4, 8)?;
+    let mut arena = RowArena::<4, 8>::reserve(rt.alloc())?;
     for (rows, cols, cell, fits) in &SHAPES {
         assert!(rt; arena.shape(*rows, *cols, *cell).is_ok() == *fits);
     }

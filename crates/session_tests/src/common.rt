@@ -1,23 +1,5 @@
 //! What several tests take.
 
-use row_elimination::{Extent, Solver};
-use std::alloc::Global;
-use std::process::Abort;
-
-/// A solver for files of up to 4,096 pieces, with so many words and bytes for rows, and an area of so many bytes.
-pub fn solver(rt: &impl Abort, alloc: Global, words: u16, bytes: u16, area: u32) -> Solver {
-    let extent = Extent {
-        area,
-        pieces: 4096,
-        words,
-        bytes,
-    };
-    match Solver::reserve(alloc, extent) {
-        Ok(solver) => solver,
-        Err(_) => panic!(rt; "no memory"),
-    }
-}
-
 /// An image file for hardware 1 with firmware 2, its body and digest those of the text abc.
 pub static IMAGE: [u8; 52] = [
     0x46, 0x55, 0x49, 0x4d, 0x01, 0x01, 0x00, 0x00, 0x00, 0x02, 0x00, 0x00, 0x00, 0x03, 0x00, 0x00,

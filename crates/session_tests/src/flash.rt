@@ -3,12 +3,17 @@
 ghost use Rattle.std.specs.Prelude.{◌≡◌, ◌+◌, ◌≤◌, IfOk};
 ghost use Rattle.std.specs.Bool.{OnTrue};
 
-use crate::common::solver;
 use flash_session::{CellFlash, Flash, Held, MemFlash, OpenFault, StopFlash};
 use frag_session::{Cause, Heard, Idle, Limits, News, SetupReq, Verdict, Via};
+use row_elimination::Solver;
 use std::alloc::Global;
 use std::process::Abort;
 use std::test::*;
+
+/// Storage for four rows of eight pieces of a byte.
+type SmallHeld = Held<4, 4>;
+
+type SmallIdle = Idle<4, 4>;
 
 /// Room for the records of four fragments of a byte.
 const SPAN: u32 = 24_640 + 9 * 11;
@@ -55,9 +60,11 @@ const NEW: Shown = Some((0, 4));
 
 const NEW_OF_THREE: Shown = Some((0, 3));
 
-/// Memory for four rows of eight pieces of a byte.
-fn idle(rt: &impl Abort, alloc: Global) -> Idle {
-    Idle::new(solver(rt, alloc, 4, 4, 8))
+fn solver(rt: &impl Abort, alloc: Global) -> SmallIdle {
+    match Solver::reserve(alloc, 8) {
+        Ok(solver) => Idle::new(solver),
+        Err(_) => panic!(rt; "no memory"),
+    }
 }
 
 /// Whether a session from there has room.
@@ -67,7 +74,7 @@ fn fits<F: Flash>(flash: &F, base: u32) -> bool
     base as u64 + SPAN as u64 <= flash.size() as u64
 }
 
-fn open_at<F: Flash>(rt: &impl Abort, flash: &mut F, base: u32, idle: Idle) -> Held
+fn open_at<F: Flash>(rt: &impl Abort, flash: &mut F, base: u32, idle: SmallIdle) -> SmallHeld
     ensures base { result.base ≡ base }
     ensures span { result.span ≡ SPAN }
 {
@@ -78,7 +85,7 @@ fn open_at<F: Flash>(rt: &impl Abort, flash: &mut F, base: u32, idle: Idle) -> H
     }
 }
 
-fn open<F: Flash>(rt: &impl Abort, flash: &mut F, idle: Idle) -> Held
+fn open<F: Flash>(rt: &impl Abort, flash: &mut F, idle: SmallIdle) -> SmallHeld
     ensures base { result.base ≡ 0 }
     ensures span { result.span ≡ SPAN }
 {
@@ -88,11 +95,11 @@ fn open<F: Flash>(rt: &impl Abort, flash: &mut F, idle: Idle) -> Held
 /// A call of the session from `base` on.
 fn make<F: Flash>(
     rt: &impl Abort,
-    held: Held,
+    held: SmallHeld,
     base: u32,
     flash: &mut F,
     call: Call,
-) -> Result<Held, Idle>
+) -> Result<SmallHeld, SmallIdle>
     requires base { held.base ≡ base }
     requires span { held.span ≡ SPAN }
     ensures base { IfOk result (λ h. h.base ≡ base) }
@@ -116,7 +123,7 @@ fn make<F: Flash>(
 }
 
 /// Calls one after another, none of which fails.
-fn make_each<F: Flash>(rt: &impl Abort, held: Held, flash: &mut F, calls: &[Call]) -> Held
+fn make_each<F: Flash>(rt: &impl Abort, held: SmallHeld, flash: &mut F, calls: &[Call]) -> SmallHeld
     requires base { held.base ≡ 0 }
     requires span { held.span ≡ SPAN }
     ensures base { result.base ≡ 0 }
@@ -131,7 +138,7 @@ fn make_each<F: Flash>(rt: &impl Abort, held: Held, flash: &mut F, calls: &[Call
     }
 }
 
-fn make_all<F: Flash>(rt: &impl Abort, flash: &mut F, idle: Idle, calls: &[Call]) -> Held
+fn make_all<F: Flash>(rt: &impl Abort, flash: &mut F, idle: SmallIdle, calls: &[Call]) -> SmallHeld
     ensures base { result.base ≡ 0 }
     ensures span { result.span ≡ SPAN }
 {
@@ -139,7 +146,7 @@ fn make_all<F: Flash>(rt: &impl Abort, flash: &mut F, idle: Idle, calls: &[Call]
     make_each(rt, held, flash, calls)
 }
 
-fn shows(held: &Held) -> Shown {
+fn shows(held: &SmallHeld) -> Shown {
     match held.view() {
         Some(view) => Some((view.received, view.missing)),
         None => None,
@@ -166,19 +173,26 @@ fn cells(rt: &impl Abort, alloc: Global) -> CellFlash {
 #[derive(Drop)]
 struct Left {
     flash: MemFlash,
-    idle: Idle,
+    idle: SmallIdle,
     done: bool,
 }
 
 /// The last call after others, stopped after `k` calls of the flash.
 fn stop(rt: &impl Abort, alloc: Global, before: &[Call], last: Call, k: u64) -> Left {
     let mut flash = memory(rt, alloc, SPAN, ROOM);
-    let held = make_all(rt, &mut flash, idle(rt, alloc), before);
+    let held = make_all(rt, &mut flash, solver(rt, alloc), before);
     make_stopped(rt, held, 0, flash, last, k)
 }
 
 /// A call of the session from `base` on that is stopped after `k` calls of the flash.
-fn make_stopped(rt: &impl Abort, held: Held, base: u32, flash: MemFlash, last: Call, k: u64) -> Left
+fn make_stopped(
+    rt: &impl Abort,
+    held: SmallHeld,
+    base: u32,
+    flash: MemFlash,
+    last: Call,
+    k: u64,
+) -> Left
     requires base { held.base ≡ base }
     requires span { held.span ≡ SPAN }
 {
@@ -267,7 +281,13 @@ static STOPPED: [Stopped; 9] = [
 ];
 
 /// Whether a session opens there that shows this.
-fn opens<F: Flash>(rt: &impl Abort, flash: &mut F, base: u32, idle: Idle, found: Shown) -> bool {
+fn opens<F: Flash>(
+    rt: &impl Abort,
+    flash: &mut F,
+    base: u32,
+    idle: SmallIdle,
+    found: Shown,
+) -> bool {
     let held = open_at(rt, flash, base, idle);
     let shown = shows(&held);
     drop(held);
@@ -409,7 +429,7 @@ fn opens_with_each_byte(rt: &impl Abort, alloc: Global, flash: &mut MemFlash, ro
     for byte in 0..=255u8 {
         poke(rt, flash, row.place, byte);
         let found = if byte == 0xa5 { row.open } else { row.shut };
-        assert!(rt; opens(rt, flash, 0, idle(rt, alloc), found));
+        assert!(rt; opens(rt, flash, 0, solver(rt, alloc), found));
     }
 }
 
@@ -508,7 +528,7 @@ static FOREIGN: [Foreign; 13] = [
 ];
 
 /// The place that is foreign to a session from 0 on.
-fn foreign_place(rt: &impl Abort, flash: &mut CellFlash, idle: Idle) -> Option<u32> {
+fn foreign_place(rt: &impl Abort, flash: &mut CellFlash, idle: SmallIdle) -> Option<u32> {
     assert!(rt; fits(flash, 0));
     match Held::open(flash, 0, SPAN, idle, LIMITS) {
         Ok(held) => {
@@ -532,8 +552,8 @@ fn place_of(rt: &impl Abort, fault: OpenFault) -> Option<u32> {
 static WRITTEN: [Call; 3] = [Call::Setup(4), Call::Hear(1, 0x11), Call::Hear(3, 0x33)];
 
 /// Writes bytes over what a session with records 1 and 3 wrote.
-fn writes_over(rt: &impl Abort, alloc: Global, flash: &mut CellFlash, row: &Foreign) -> Idle {
-    let idle = make_all(rt, flash, idle(rt, alloc), &WRITTEN).close();
+fn writes_over(rt: &impl Abort, alloc: Global, flash: &mut CellFlash, row: &Foreign) -> SmallIdle {
+    let idle = make_all(rt, flash, solver(rt, alloc), &WRITTEN).close();
     for (place, byte) in row.bytes {
         poke(rt, flash, *place, *byte);
     }
@@ -555,7 +575,7 @@ fn the_lowest_foreign_place_is_named(rt: HostRuntime) {
 }
 
 /// A setup of another algorithm is refused.
-fn refuses(rt: &impl Abort, flash: &mut CellFlash, held: Held) -> Held
+fn refuses(rt: &impl Abort, flash: &mut CellFlash, held: SmallHeld) -> SmallHeld
     requires base { held.base ≡ 0 }
     requires span { held.span ≡ SPAN }
     ensures base { result.base ≡ 0 }
@@ -572,7 +592,7 @@ fn refuses(rt: &impl Abort, flash: &mut CellFlash, held: Held) -> Held
 }
 
 /// There is no session that hears.
-fn is_deaf(rt: &impl Abort, flash: &mut CellFlash, held: Held) -> Idle
+fn is_deaf(rt: &impl Abort, flash: &mut CellFlash, held: SmallHeld) -> SmallIdle
     requires base { held.base ≡ 0 }
     requires span { held.span ≡ SPAN }
 {
@@ -587,7 +607,13 @@ fn is_deaf(rt: &impl Abort, flash: &mut CellFlash, held: Held) -> Idle
 }
 
 /// The last piece comes, and this is what it tells.
-fn hears_last(rt: &impl Abort, flash: &mut CellFlash, held: Held, mark: u64, news: News) -> Held
+fn hears_last(
+    rt: &impl Abort,
+    flash: &mut CellFlash,
+    held: SmallHeld,
+    mark: u64,
+    news: News,
+) -> SmallHeld
     requires base { held.base ≡ 0 }
     requires span { held.span ≡ SPAN }
     ensures base { result.base ≡ 0 }
@@ -604,7 +630,7 @@ fn hears_last(rt: &impl Abort, flash: &mut CellFlash, held: Held, mark: u64, new
 }
 
 /// Whether four pieces are whole by six fragments, at mark 9.
-fn is_whole(held: &Held) -> bool {
+fn is_whole(held: &SmallHeld) -> bool {
     match (held.view(), held.status(Via::Unicast, true)) {
         (Some(view), Some(status)) => {
             view.received == 6
@@ -617,7 +643,7 @@ fn is_whole(held: &Held) -> bool {
     }
 }
 
-fn is_deleted(rt: &impl Abort, flash: &mut CellFlash, held: Held) -> Idle
+fn is_deleted(rt: &impl Abort, flash: &mut CellFlash, held: SmallHeld) -> SmallIdle
     requires base { held.base ≡ 0 }
     requires span { held.span ≡ SPAN }
 {
@@ -638,7 +664,7 @@ static ALL_BUT_ONE: [Call; 5] = [
 ];
 
 /// The memory of a session that is whole.
-fn is_whole_again(rt: &impl Abort, flash: &mut CellFlash, idle: Idle) -> Idle {
+fn is_whole_again(rt: &impl Abort, flash: &mut CellFlash, idle: SmallIdle) -> SmallIdle {
     let held = open(rt, flash, idle);
     assert!(rt; is_whole(&held));
     is_deleted(rt, flash, held)
@@ -647,7 +673,7 @@ fn is_whole_again(rt: &impl Abort, flash: &mut CellFlash, idle: Idle) -> Idle {
 #[test]
 fn a_session_is_whole_is_deleted_and_begins_again(rt: HostRuntime) {
     let mut flash = cells(&rt, rt.alloc());
-    let held = open(&rt, &mut flash, idle(&rt, rt.alloc()));
+    let held = open(&rt, &mut flash, solver(&rt, rt.alloc()));
     let held = refuses(&rt, &mut flash, held);
     let idle = is_deaf(&rt, &mut flash, held);
     let held = make_all(&rt, &mut flash, idle, &ALL_BUT_ONE);
@@ -668,7 +694,7 @@ fn count_all<F: Flash>(rt: &impl Abort, flash: &mut F) {
 }
 
 /// One more fragment is heard without a call of the flash, and not counted.
-fn counts_no_more(rt: &impl Abort, held: Held, flash: MemFlash)
+fn counts_no_more(rt: &impl Abort, held: SmallHeld, flash: MemFlash)
     requires base { held.base ≡ 0 }
     requires span { held.span ≡ SPAN }
 {
@@ -687,7 +713,7 @@ fn counts_no_more(rt: &impl Abort, held: Held, flash: MemFlash)
 #[test]
 fn the_count_ends(rt: HostRuntime) {
     let mut flash = memory(&rt, rt.alloc(), SPAN, ROOM);
-    let idle = make_all(&rt, &mut flash, idle(&rt, rt.alloc()), &ONE).close();
+    let idle = make_all(&rt, &mut flash, solver(&rt, rt.alloc()), &ONE).close();
     count_all(&rt, &mut flash);
     let held = open(&rt, &mut flash, idle);
     assert!(rt; shows(&held) == COUNTED_ALL);
@@ -698,14 +724,14 @@ fn the_count_ends(rt: HostRuntime) {
 #[test]
 fn a_stop_leaves_the_session_beside(rt: HostRuntime) {
     let mut flash = memory(&rt, rt.alloc(), 2 * SPAN, 2 * ROOM);
-    let first = make_all(&rt, &mut flash, idle(&rt, rt.alloc()), &ONE).close();
-    let second = open_at(&rt, &mut flash, SPAN, idle(&rt, rt.alloc()));
+    let first = make_all(&rt, &mut flash, solver(&rt, rt.alloc()), &ONE).close();
+    let second = open_at(&rt, &mut flash, SPAN, solver(&rt, rt.alloc()));
     let left = make_stopped(&rt, second, SPAN, flash, Call::Setup(3), 3);
     goes_on_beside(&rt, left, first);
 }
 
 /// The second session was stopped as it began, and goes on; the first one opens as it was.
-fn goes_on_beside(rt: &impl Abort, left: Left, first: Idle) {
+fn goes_on_beside(rt: &impl Abort, left: Left, first: SmallIdle) {
     let Left {
         mut flash,
         idle,
@@ -726,7 +752,7 @@ fn goes_on_beside(rt: &impl Abort, left: Left, first: Idle) {
 }
 
 /// The first session was stopped as it ends.
-fn ends_beside(rt: &impl Abort, left: Left, second: Idle) {
+fn ends_beside(rt: &impl Abort, left: Left, second: SmallIdle) {
     let Left {
         mut flash,
         idle,

@@ -1,6 +1,6 @@
 //! What a file is to a device, and when it runs.
 
-ghost use Rattle.std.specs.Prelude.{◌≡◌, ◌<◌, ◌≤◌, length};
+ghost use Rattle.std.specs.Prelude.{◌≡◌, ◌<◌};
 
 use crate::common::IMAGE;
 use image_slots::*;
@@ -99,16 +99,6 @@ fn deletes(rt: &impl Abort, slots: &mut Slots, firmware: u32, errors: u8)
     assert!(rt; slots.delete(firmware) == errors);
 }
 
-/// A file of firmware 2 comes and runs.
-fn takes_the_place(rt: &impl Abort, slots: &mut Slots, file: &[u8])
-    requires { length file.now ≤ slots.old.area }
-    ensures { slots.new.area ≡ slots.old.area }
-{
-    slots.offer(file);
-    slots.swap();
-    runs(rt, slots, file);
-}
-
 #[test]
 fn a_file_runs_once_it_is_swapped_in(rt: HostRuntime) {
     let mut slots = reserved(&rt, rt.alloc(), 52, 1, 2);
@@ -127,10 +117,6 @@ fn a_file_runs_once_it_is_swapped_in(rt: HostRuntime) {
     slots.offer(&IMAGE[..48]);
     slots.swap();
     has_next(&rt, &slots, ImageState::Corrupt);
-    runs(&rt, &slots, &IMAGE);
-    // a shorter one takes the place of what runs, and a longer one that of the shorter
-    takes_the_place(&rt, &mut slots, &EMPTY);
-    takes_the_place(&rt, &mut slots, &IMAGE);
     drop(slots);
 }
 

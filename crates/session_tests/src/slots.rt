@@ -2,12 +2,14 @@
 
 ghost use Rattle.std.specs.Prelude.{◌≡◌};
 
-use crate::common::solver;
 use frag_session::*;
-use row_elimination::Extent;
+use row_elimination::Solver;
 use std::alloc::Global;
 use std::process::Abort;
 use std::test::*;
+
+/// Storage for four rows of four pieces of one byte.
+type SmallSlot = Slot<4, 4>;
 
 const SETUP: SetupReq = SetupReq {
     index: 0,
@@ -47,36 +49,43 @@ const NOTHING: Row = Row {
     file: &[],
 };
 
-/// A slot with memory for four rows of four pieces of one byte, and an area of so many bytes.
-fn reserved(rt: &impl Abort, alloc: Global, area: u32) -> Slot {
-    Slot::new(Idle::new(solver(rt, alloc, 4, 4, area)))
+fn reserved<const W: usize, const B: usize>(
+    rt: &impl Abort,
+    alloc: Global,
+    area: u32,
+) -> Slot<W, B> {
+    assert!(rt; W <= 16384 && B <= 61184);
+    match Solver::<W, B>::reserve(alloc, area) {
+        Ok(solver) => Slot::new(Idle::new(solver)),
+        Err(_) => panic!(rt; "no memory"),
+    }
 }
 
-fn sets_up(slot: &mut Slot, req: SetupReq, limits: Limits) -> u8 {
+fn sets_up(slot: &mut SmallSlot, req: SetupReq, limits: Limits) -> u8 {
     slot.setup(req, limits)
 }
 
-fn takes(rt: &impl Abort, slot: &mut Slot, req: SetupReq, limits: Limits) {
+fn takes(rt: &impl Abort, slot: &mut SmallSlot, req: SetupReq, limits: Limits) {
     assert!(rt; sets_up(slot, req, limits) == 0);
 }
 
-fn hears(slot: &mut Slot, via: Via, n: u16, part: &[u8], mark: u64) -> Heard {
+fn hears(slot: &mut SmallSlot, via: Via, n: u16, part: &[u8], mark: u64) -> Heard {
     slot.fragment(via, n, part, mark)
 }
 
-fn lives(slot: &Slot) -> bool {
+fn lives(slot: &SmallSlot) -> bool {
     slot.view().is_some()
 }
 
 /// A slot with a new session of so many pieces and rows.
-fn begun(rt: &impl Abort, alloc: Global, nb_frag: u16, rows: u16) -> Slot {
+fn begun(rt: &impl Abort, alloc: Global, nb_frag: u16, rows: u16) -> SmallSlot {
     let mut slot = reserved(rt, alloc, 4);
     let req = SetupReq { nb_frag, ..SETUP };
     assert!(rt; sets_up(&mut slot, req, Limits { rows, ..LIMITS }) == 0);
     slot
 }
 
-fn feed(rt: &impl Abort, slot: &mut Slot, fragments: &[(u16, u8)], first_mark: u64) {
+fn feed(rt: &impl Abort, slot: &mut SmallSlot, fragments: &[(u16, u8)], first_mark: u64) {
     for (i, (n, byte)) in fragments.iter().enumerate() {
         let mark = first_mark.wrapping_add(i as u64);
         let heard = hears(slot, Via::Unicast, *n, &[*byte], mark);
@@ -85,7 +94,7 @@ fn feed(rt: &impl Abort, slot: &mut Slot, fragments: &[(u16, u8)], first_mark: u
 }
 
 /// Whether this is shown.
-fn shows(slot: &Slot, row: &Row) -> bool {
+fn shows(slot: &SmallSlot, row: &Row) -> bool {
     match slot.view() {
         Some(view) => {
             view.received == row.received
@@ -97,15 +106,13 @@ fn shows(slot: &Slot, row: &Row) -> bool {
     }
 }
 
-fn is_shown(rt: &impl Abort, slot: &Slot, row: &Row) {
+fn is_shown(rt: &impl Abort, slot: &SmallSlot, row: &Row) {
     assert!(rt; shows(slot, row));
 }
 
 fn follows(rt: &impl Abort, alloc: Global, nb_frag: u16, row: &Row) {
     let mut slot = begun(rt, alloc, nb_frag, row.rows);
     feed(rt, &mut slot, row.fragments, 3);
-    assert!(rt; shows(&slot, row));
-    provided(rt, &mut slot, MORE);
     assert!(rt; shows(&slot, row));
     drop(slot);
 }
@@ -339,8 +346,8 @@ fn refusals_are_told_together(rt: HostRuntime) {
 }
 
 /// The bits of a setup of four pieces of one byte, over two rows.
-fn bits_of(rt: &impl Abort, alloc: Global, words: u16, bytes: u16, area: u32) -> u8 {
-    let mut slot = Slot::new(Idle::new(solver(rt, alloc, words, bytes, area)));
+fn bits_of<const W: usize, const B: usize>(rt: &impl Abort, alloc: Global, area: u32) -> u8 {
+    let mut slot: Slot<W, B> = reserved(rt, alloc, area);
     let bits = slot.setup(SETUP, Limits { rows: 2, ..LIMITS });
     drop(slot);
     bits
@@ -349,41 +356,10 @@ fn bits_of(rt: &impl Abort, alloc: Global, words: u16, bytes: u16, area: u32) ->
 #[test]
 fn two_rows_of_four_pieces_need_storage(rt: HostRuntime) {
     let alloc = rt.alloc();
-    assert!(rt; bits_of(&rt, alloc, 2, 2, 4) == 0);
-    assert!(rt; bits_of(&rt, alloc, 1, 2, 4) == 2);
-    assert!(rt; bits_of(&rt, alloc, 2, 1, 4) == 2);
-    assert!(rt; bits_of(&rt, alloc, 2, 2, 3) == 2);
-}
-
-/// Memory for two rows of four pieces of one byte.
-const ENOUGH: Extent = Extent {
-    area: 4,
-    pieces: 4,
-    words: 2,
-    bytes: 2,
-};
-
-/// More than any slot here has.
-const MORE: Extent = Extent {
-    area: 1000,
-    pieces: 100,
-    words: 500,
-    bytes: 600,
-};
-
-/// There is memory for so much from now on.
-fn provided(rt: &impl Abort, slot: &mut Slot, extent: Extent) {
-    assert!(rt; extent.pieces <= 4096);
-    assert!(rt; slot.provide(extent).is_ok());
-}
-
-#[test]
-fn memory_that_comes_later_changes_no_session(rt: HostRuntime) {
-    let mut slot = Slot::new(Idle::new(solver(&rt, rt.alloc(), 0, 0, 0)));
-    assert!(rt; sets_up(&mut slot, SETUP, Limits { rows: 2, ..LIMITS }) == 2);
-    provided(&rt, &mut slot, ENOUGH);
-    takes(&rt, &mut slot, SETUP, Limits { rows: 2, ..LIMITS });
-    drop(slot);
+    assert!(rt; bits_of::<2, 2>(&rt, alloc, 4) == 0);
+    assert!(rt; bits_of::<1, 2>(&rt, alloc, 4) == 2);
+    assert!(rt; bits_of::<2, 1>(&rt, alloc, 4) == 2);
+    assert!(rt; bits_of::<2, 2>(&rt, alloc, 3) == 2);
 }
 
 /// How a fragment comes, its number and its bytes, and what is answered.
@@ -400,11 +376,11 @@ static HEARD: [(Via, u16, &[u8], Heard); 9] = [
 ];
 
 /// Without a session it hears nothing.
-fn is_deaf(rt: &impl Abort, slot: &mut Slot, via: Via, n: u16, part: &[u8]) {
+fn is_deaf(rt: &impl Abort, slot: &mut SmallSlot, via: Via, n: u16, part: &[u8]) {
     assert!(rt; hears(slot, via, n, part, 9) == Heard::Dropped(Cause::NoSession));
 }
 
-fn are_heard(rt: &impl Abort, slot: &mut Slot) {
+fn are_heard(rt: &impl Abort, slot: &mut SmallSlot) {
     for (via, n, part, answer) in &HEARD {
         assert!(rt; hears(slot, *via, *n, part, 2) == *answer);
     }
@@ -446,7 +422,7 @@ fn an_equal_setup_keeps_the_session_and_another_begins_anew(rt: HostRuntime) {
     drop(slot);
 }
 
-fn is_news(rt: &impl Abort, slot: &mut Slot, n: u16, part: &[u8], mark: u64) {
+fn is_news(rt: &impl Abort, slot: &mut SmallSlot, n: u16, part: &[u8], mark: u64) {
     assert!(rt; hears(slot, Via::Unicast, n, part, mark) == Heard::Fed(News::New));
 }
 
@@ -490,14 +466,14 @@ const STATUS: StatusAns = StatusAns {
 };
 
 /// Whether the request is answered with this.
-fn is_answered(slot: &Slot, via: Via, all: bool, wanted: StatusAns) -> bool {
+fn is_answered(slot: &SmallSlot, via: Via, all: bool, wanted: StatusAns) -> bool {
     match slot.status(via, all) {
         Some(status) => status == wanted,
         None => false,
     }
 }
 
-fn answers(rt: &impl Abort, slot: &Slot, via: Via, status: StatusAns, lacks: bool) {
+fn answers(rt: &impl Abort, slot: &SmallSlot, via: Via, status: StatusAns, lacks: bool) {
     assert!(rt; is_answered(slot, via, true, status));
     if lacks {
         assert!(rt; is_answered(slot, via, false, status));
@@ -506,7 +482,7 @@ fn answers(rt: &impl Abort, slot: &Slot, via: Via, status: StatusAns, lacks: boo
     }
 }
 
-fn is_silent(rt: &impl Abort, slot: &Slot, via: Via) {
+fn is_silent(rt: &impl Abort, slot: &SmallSlot, via: Via) {
     assert!(rt; slot.status(via, true).is_none() && slot.status(via, false).is_none());
 }
 
@@ -586,7 +562,7 @@ fn a_status_stays_at_255_pieces_missing(rt: HostRuntime) {
 }
 
 /// Ends a session.
-fn ends(rt: &impl Abort, slot: &mut Slot) {
+fn ends(rt: &impl Abort, slot: &mut SmallSlot) {
     assert!(rt; slot.delete());
     assert!(rt; !lives(slot));
     is_silent(rt, slot, Via::Unicast);
@@ -622,7 +598,7 @@ fn a_session_is_deleted_in_every_state(rt: HostRuntime) {
 
 /// A session of a setup that is not refused.
 #[tactic(auto, unfolding(frag_session::specs::Session::new_session))]
-fn accepted(rt: &impl Abort, idle: Idle, req: SetupReq) -> Receiving
+fn accepted(rt: &impl Abort, idle: Idle<4, 4>, req: SetupReq) -> Receiving<4, 4>
     ensures { result.setup ≡ req }
 {
     match idle.setup(req, LIMITS) {
@@ -632,7 +608,7 @@ fn accepted(rt: &impl Abort, idle: Idle, req: SetupReq) -> Receiving
 }
 
 /// The memory of a setup that is refused for its algorithm.
-fn given_back(rt: &impl Abort, idle: Idle) -> Idle {
+fn given_back(rt: &impl Abort, idle: Idle<4, 4>) -> Idle<4, 4> {
     match idle.setup(SetupReq { algo: 1, ..SETUP }, LIMITS) {
         Ok(_) => panic!(rt; "accepted"),
         Err((idle, bits)) => {
@@ -648,7 +624,7 @@ const ONE: SetupReq = SetupReq {
 };
 
 /// The memory of a session of one piece that is whole.
-fn whole_and_deleted(rt: &impl Abort, idle: Idle) -> Idle {
+fn whole_and_deleted(rt: &impl Abort, idle: Idle<4, 4>) -> Idle<4, 4> {
     match accepted(rt, idle, ONE).feed(1, &[0x5a], 3) {
         Next::Complete(complete) => complete.delete(),
         _ => panic!(rt; "not complete"),
@@ -657,8 +633,10 @@ fn whole_and_deleted(rt: &impl Abort, idle: Idle) -> Idle {
 
 #[test]
 fn states_hand_their_memory_on(rt: HostRuntime) {
-    let idle = Idle::new(solver(&rt, rt.alloc(), 4, 4, 4));
-    let idle = whole_and_deleted(&rt, given_back(&rt, idle));
+    let Ok(solver) = Solver::<4, 4>::reserve(rt.alloc(), 4) else {
+        panic!(rt; "no memory");
+    };
+    let idle = whole_and_deleted(&rt, given_back(&rt, Idle::new(solver)));
     let mut slot = Slot::new(accepted(&rt, idle, SETUP).delete());
     assert!(rt; sets_up(&mut slot, ONE, LIMITS) == 0);
     feed(&rt, &mut slot, &[(1, 0x5a)], 3);

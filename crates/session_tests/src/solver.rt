@@ -1,6 +1,5 @@
 //! Solvers over a few pieces of one byte, by worked rows and against plain sums of lines, and over pieces of many sizes.
 
-use crate::common::solver;
 use crate::plain::excess;
 use frag_model::gains::{plain_gain, plain_line_of};
 use frag_model::lines::MAX_PARITY_INDEX;
@@ -13,14 +12,14 @@ use std::test::*;
 
 /// A solver with a file, so many pieces of so many bytes, and where it stands after what it answered.
 #[derive(Drop)]
-struct Receiver {
-    solver: Solver,
+struct Receiver<const W: usize, const B: usize> {
+    solver: Solver<W, B>,
     nb_frag: u16,
     frag_size: u8,
     stage: Stage,
 }
 
-impl Model for Receiver {
+impl<const W: usize, const B: usize> Model for Receiver<W, B> {
     ghost use Rattle.std.specs.Prelude.{◌≡◌};
     ghost use Rattle.row_elimination.specs.HeldSolver.{Held};
 
@@ -32,15 +31,15 @@ impl Model for Receiver {
         × (r.frag_size ≡ r.solver.shape.frag_size) };
 }
 
-impl Receiver {
+impl<const W: usize, const B: usize> Receiver<W, B> {
     /// A solver with a new file.
     fn begin(
         rt: &impl Abort,
-        mut solver: Solver,
+        mut solver: Solver<W, B>,
         nb_frag: u16,
         frag_size: u8,
         rows: u16,
-    ) -> Receiver {
+    ) -> Receiver<W, B> {
         assert!(rt; 1 <= nb_frag && nb_frag <= 4096 && rows <= nb_frag);
         assert!(rt; 1 <= frag_size && frag_size <= 239);
         if solver.begin(nb_frag, frag_size, 0, rows).is_err() {
@@ -77,6 +76,8 @@ impl Receiver {
     }
 }
 
+type SmallReceiver = Receiver<16, 64>;
+
 /// What a solver answers after fragments, and shows.
 struct Row<'a> {
     rows: u16,
@@ -86,12 +87,15 @@ struct Row<'a> {
     block: &'a [u8],
 }
 
-fn begun(rt: &impl Abort, alloc: Global, pieces: u16, rows: u16) -> Receiver {
-    Receiver::begin(rt, solver(rt, alloc, 16, 64, 64), pieces, 1, rows)
+fn begun(rt: &impl Abort, alloc: Global, pieces: u16, rows: u16) -> SmallReceiver {
+    match Solver::reserve(alloc, 64) {
+        Ok(solver) => Receiver::begin(rt, solver, pieces, 1, rows),
+        Err(_) => panic!(rt; "no memory"),
+    }
 }
 
 /// The answer to the last of the fragments.
-fn fed(rt: &impl Abort, receiver: &mut Receiver, fragments: &[(u16, u8)]) -> Fed {
+fn fed(rt: &impl Abort, receiver: &mut SmallReceiver, fragments: &[(u16, u8)]) -> Fed {
     let mut answer = Fed::Receiving;
     for (n, byte) in fragments {
         answer = receiver.feed(rt, *n, &[*byte]);
@@ -275,7 +279,7 @@ fn by_sums(
 fn follows_sums(
     rt: &impl Abort,
     alloc: Global,
-    receiver: &mut Receiver,
+    receiver: &mut SmallReceiver,
     pieces: u16,
     rows: u16,
     numbers: &[u16],
@@ -322,21 +326,15 @@ fn answers_are_those_of_all_sums(rt: HostRuntime) {
 }
 
 /// Two words and ten bytes for rows, and an area of 20 bytes.
-fn little(rt: &impl Abort, alloc: Global, pieces: u16) -> Solver {
+fn little(rt: &impl Abort, alloc: Global, pieces: u16) -> Solver<2, 10> {
     assert!(rt; pieces <= 4096);
-    let extent = Extent {
-        area: 20,
-        pieces,
-        words: 2,
-        bytes: 10,
-    };
-    match Solver::reserve(alloc, extent) {
+    match Solver::reserve_for(alloc, 20, pieces) {
         Ok(solver) => solver,
         Err(_) => panic!(rt; "no memory"),
     }
 }
 
-fn fits(rt: &impl Abort, solver: &Solver, nb_frag: u16, frag_size: u8, rows: u16) -> bool {
+fn fits(rt: &impl Abort, solver: &Solver<2, 10>, nb_frag: u16, frag_size: u8, rows: u16) -> bool {
     assert!(rt; nb_frag <= 4096 && frag_size <= 239 && rows <= nb_frag);
     solver.fits(nb_frag, frag_size, rows)
 }
@@ -412,13 +410,18 @@ fn coded(rt: &impl Abort, pieces: u16, n: u16) -> [u8; 239] {
     part
 }
 
+type LargeReceiver = Receiver<16, 1912>;
+
 /// A solver of eight rows for so many pieces of so many bytes.
-fn made(rt: &impl Abort, alloc: Global, pieces: u16, size: u8) -> Receiver {
-    Receiver::begin(rt, solver(rt, alloc, 16, 1912, 16730), pieces, size, 8)
+fn made(rt: &impl Abort, alloc: Global, pieces: u16, size: u8) -> LargeReceiver {
+    match Solver::reserve(alloc, 16730) {
+        Ok(solver) => Receiver::begin(rt, solver, pieces, size, 8),
+        Err(_) => panic!(rt; "no memory"),
+    }
 }
 
 /// Each tenth piece is lost, and the others are fed.
-fn feeds_most(rt: &impl Abort, receiver: &mut Receiver, pieces: u16, size: u8) {
+fn feeds_most(rt: &impl Abort, receiver: &mut LargeReceiver, pieces: u16, size: u8) {
     assert!(rt; pieces <= 70 && size <= 239);
     for k in 0..pieces {
         if k % 10 != 3 {
@@ -429,7 +432,7 @@ fn feeds_most(rt: &impl Abort, receiver: &mut Receiver, pieces: u16, size: u8) {
 }
 
 /// Feeds coded fragments until all pieces are there.
-fn feeds_coded(rt: &impl Abort, receiver: &mut Receiver, pieces: u16, size: u8) {
+fn feeds_coded(rt: &impl Abort, receiver: &mut LargeReceiver, pieces: u16, size: u8) {
     assert!(rt; pieces <= 70 && size <= 239);
     for n in 1..40u16 {
         let part = coded(rt, pieces, n);

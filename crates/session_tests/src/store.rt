@@ -1,4 +1,4 @@
-//! A small update into sessions in flash, stopped at each call of the flash, and into sessions in memory alone.
+//! A small update into sessions in flash, stopped at each call of the flash.
 
 ghost use Rattle.std.specs.Prelude.{◌*◌, ◌≤◌};
 
@@ -15,7 +15,6 @@ const SPAN: u32 = 24_640 + 9 * 11;
 const LAYOUT: Layout = Layout {
     area: 8,
     span: SPAN,
-    late: false,
     limits: Limits {
         sessions: 4,
         rows: 4,
@@ -84,7 +83,7 @@ fn power(rt: &impl Abort, store: &mut Store) -> bool {
 }
 
 fn sets_up(rt: &impl Abort, store: &mut Store, index: u8) -> bool {
-    assert!(rt; index < 4);
+    assert!(rt; index < 4 && !store.is_down());
     let req = SetupReq {
         index,
         mask: 0,
@@ -95,8 +94,6 @@ fn sets_up(rt: &impl Abort, store: &mut Store, index: u8) -> bool {
         padding: 0,
         descriptor: 0,
     };
-    assert!(rt; store.provide(req).is_ok());
-    assert!(rt; !store.is_down());
     match store.setup(req) {
         Ok(bits) => {
             assert!(rt; bits == 0);
@@ -243,25 +240,4 @@ fn an_update_goes_on_after_a_stop_at_any_call(rt: HostRuntime) {
         }
     }
     panic!(&rt; "it never ends");
-}
-
-/// The update in memory alone, all of it taken at the start or by each setup.
-fn goes_in_memory(rt: &impl Abort, alloc: Global, late: bool) {
-    let flash = StopFlash::over(memory(rt, alloc), 0);
-    let layout = Layout { late, ..LAYOUT };
-    match SessionStore::reserve(alloc, flash, layout, false) {
-        Ok(mut store) => {
-            assert!(rt; updated(rt, &mut store, 0) == 8);
-            assert!(rt; is_done(&store));
-            drop(store);
-        }
-        Err(_) => panic!(rt; "no memory"),
-    }
-}
-
-#[test]
-fn an_update_in_memory_calls_no_flash(rt: HostRuntime) {
-    for late in [false, true] {
-        goes_in_memory(&rt, rt.alloc(), late);
-    }
 }

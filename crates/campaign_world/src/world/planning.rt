@@ -171,7 +171,6 @@ impl Planning {
                         sessions: SESSIONS,
                         groups: GROUPS,
                         area: MAX_AREA,
-                        late: true,
                         held: *flash,
                         span: span_of(*flash),
                     },

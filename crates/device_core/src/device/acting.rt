@@ -9,9 +9,7 @@ ghost use Rattle.device_core.specs.Answers.{one_answer, after_answers};
 ghost use Rattle.device_core.specs.Device.{max_moment};
 ghost use Rattle.device_core.specs.Step.{identifier_of, command_step, acts, step, weight, weights};
 ghost use Rattle.device_core.specs.Passed.{command_tables, step_tables};
-ghost use Rattle.frag_session.specs.declared.setups.SetupReq.{SetupReq};
-ghost use Rattle.device_core.specs.HeldMemory.{setup_command, MayAct};
-ghost use Rattle.device_core.specs.HeldSessions.{IsUp, HasMemory, KeepsMemory};
+ghost use Rattle.device_core.specs.HeldSessions.{IsUp};
 ghost use Rattle.device_core.specs.HeldCalls.{Fails, Keeps};
 ghost use Rattle.device_core.specs.Sendable.{IsSendable, IsReceivable};
 ghost use Rattle.device_core.specs.Aside.{IsAside};
@@ -33,7 +31,6 @@ impl<F: Flash + Drop> Device<F> {
     #[tactic(auto, unfolding(crate::specs::Step::step, crate::specs::Answers::after_answers, crate::specs::Passed::step_tables))]
     pub(super) fn act(&mut self, here: Arrival, command: &Command) -> Result<(), FlashFault>
         requires up { IsUp self.old.sessions.state }
-        requires memory { MayAct self.old.sessions here.via command.now }
         requires moment { here.moment.t ≤ max_moment }
         requires command { IsReceivable here.port command.now }
         requires room { length self.old.outbox + weight command.now ≤ 8 }
@@ -41,7 +38,6 @@ impl<F: Flash + Drop> Device<F> {
             (Steps self.old self.new (weight command.now)
             (λ device. step here device command.now)) }
         ensures fails { OnErr result (Fails self.old self.new) }
-        ensures memory { KeepsMemory self.old.sessions self.new.sessions }
         ensures keeps { Keeps F.holds F.left_since F.moment F.faults self.old self.new.sessions
             result
             (λ device. after_answers (step here device command.now))
@@ -57,8 +53,6 @@ impl<F: Flash + Drop> Device<F> {
     /// Acts on one command that came by unicast, or acts by multicast too.
     fn act_on_one(&mut self, here: Arrival, command: &Command) -> Result<(), FlashFault>
         requires up { IsUp self.old.sessions.state }
-        requires memory { (req : SetupReq) → command.now ≡ setup_command req
-            → HasMemory self.old.sessions req }
         requires moment { here.moment.t ≤ max_moment }
         requires command { IsReceivable here.port command.now }
         requires room { length self.old.outbox + weight command.now ≤ 8 }
@@ -66,7 +60,6 @@ impl<F: Flash + Drop> Device<F> {
             (Steps self.old self.new (weight command.now)
             (λ device. command_step here device command.now)) }
         ensures fails { OnErr result (Fails self.old self.new) }
-        ensures memory { KeepsMemory self.old.sessions self.new.sessions }
         ensures keeps { Keeps F.holds F.left_since F.moment F.faults self.old self.new.sessions
             result
             (λ device. after_answers (command_step here device command.now))
@@ -108,8 +101,6 @@ impl<F: Flash + Drop> Device<F> {
     #[tactic(auto, unfolding(crate::specs::Step::command_step, crate::specs::Answers::after_answers, crate::specs::Passed::command_tables))]
     fn act_on_cast(&mut self, here: Arrival, cmd: &cast_wire::Cmd) -> Result<(), FlashFault>
         requires up { IsUp self.old.sessions.state }
-        requires memory { (req : SetupReq) → Command.Cast cmd.now ≡ setup_command req
-            → HasMemory self.old.sessions req }
         requires moment { here.moment.t ≤ max_moment }
         requires command { IsReceivable here.port (Command.Cast cmd.now) }
         requires room { length self.old.outbox + weight (Command.Cast cmd.now) ≤ 8 }
@@ -117,7 +108,6 @@ impl<F: Flash + Drop> Device<F> {
             (Steps self.old self.new (weight (Command.Cast cmd.now))
             (λ device. command_step here device (Command.Cast cmd.now))) }
         ensures fails { OnErr result (Fails self.old self.new) }
-        ensures memory { KeepsMemory self.old.sessions self.new.sessions }
         ensures keeps { Keeps F.holds F.left_since F.moment F.faults self.old self.new.sessions
             result
             (λ device. after_answers (command_step here device (Command.Cast cmd.now)))

@@ -10,7 +10,7 @@ ghost use Rattle.flash_session.specs.Body.{FieldsFit};
 ghost use Rattle.device_core.specs.SessionTable.{SessionTable, session_at, with_session};
 ghost use Rattle.device_core.specs.Answers.{after_answers};
 ghost use Rattle.device_core.specs.Device.{max_moment};
-ghost use Rattle.device_core.specs.HeldSessions.{IsUp, StateStands, HasMemory, HasFiles, KeepsMemory};
+ghost use Rattle.device_core.specs.HeldSessions.{IsUp, StateStands};
 ghost use Rattle.device_core.specs.HeldCalls.{Fails, Keeps};
 ghost use Rattle.device_core.specs.Fragments.{setup_step, delete_step, answer_delay, status_step, is_complete, is_whole, whole_file, slots_after, fragment_step};
 ghost use Rattle.device_core.specs.Sendable.{IsSendable};
@@ -32,12 +32,10 @@ impl<F: Flash + Drop> Device<F> {
         requires up { IsUp self.old.sessions.state }
         requires port { here.port ≡ 201 }
         requires fields { FieldsFit req }
-        requires memory { HasMemory self.old.sessions req }
         requires room { length self.old.outbox < 8 }
         ensures steps { OnOk result
             (Steps self.old self.new 1 (λ device. setup_step here device req)) }
         ensures fails { OnErr result (Fails self.old self.new) }
-        ensures memory { KeepsMemory self.old.sessions self.new.sessions }
         ensures keeps { Keeps F.holds F.left_since F.moment F.faults self.old self.new.sessions
             result
             (λ device. after_answers (setup_step here device req))
@@ -62,7 +60,6 @@ impl<F: Flash + Drop> Device<F> {
         ensures steps { OnOk result
             (Steps self.old self.new 1 (λ device. delete_step here device index)) }
         ensures fails { OnErr result (Fails self.old self.new) }
-        ensures memory { KeepsMemory self.old.sessions self.new.sessions }
         ensures keeps { Keeps F.holds F.left_since F.moment F.faults self.old self.new.sessions
             result
             (λ device. after_answers (delete_step here device index))
@@ -107,7 +104,6 @@ impl<F: Flash + Drop> Device<F> {
         ensures steps { OnOk result
             (Steps self.old self.new 0 (λ device. fragment_step here device index n part.now)) }
         ensures fails { OnErr result (Fails self.old self.new) }
-        ensures memory { KeepsMemory self.old.sessions self.new.sessions }
         ensures keeps { Keeps F.holds F.left_since F.moment F.faults self.old self.new.sessions
             result
             (λ device. after_answers (fragment_step here device index n part.now))
@@ -148,7 +144,7 @@ pub(super) fn offer<F: Flash + Drop>(
     was_whole: bool,
 )
     requires index { index < 4 }
-    requires files { HasFiles sessions.now slots.old.area }
+    requires area { sessions.now.layout.area ≤ slots.old.area }
     ensures hw { slots.new.hw ≡ slots.old.hw }
     ensures area { slots.new.area ≡ slots.old.area }
     ensures offers { (table : SessionTable) → StateStands sessions.now.state table

@@ -16,7 +16,7 @@ use crate::flash::{Failed, Flash};
 use crate::storing::{store, tally};
 use frag_session::{Heard, Idle, News, Via};
 
-impl Held {
+impl<const W: usize, const B: usize> Held<W, B> {
     /// Hears the data of a fragment, or drops it, as a slot does. At Ok it is acknowledged: what is new lies in the
     /// flash as a record, and what is not is counted there, up to the count's end (16,383). At Err the memory is handed
     /// back: open the session again.
@@ -27,36 +27,36 @@ impl Held {
         n: u16,
         part: &[u8],
         mark: u64,
-    ) -> Result<(Held, Heard), Idle>
+    ) -> Result<(Held<W, B>, Heard), Idle<W, B>>
         requires range { self.base + self.span ≤ F.room flash.old }
-        ensures answer { (o : Option Session) → HeldStandsAs self o
+        ensures answer { (o : Option Session) → HeldStandsAs self.entry o
             → IfOk result
             (λ r. r.1 ≡ answer_of (drop_cause o via n part.now) (news_in o n part.now mark)) }
-        ensures stands { (o : Option Session) → HeldStandsAs self o
+        ensures stands { (o : Option Session) → HeldStandsAs self.entry o
             → IfOk result (λ r. HeldStandsAs r.0 (after_fragment o via n part.now mark)) }
-        ensures counted { (o : Option Session) → HeldStandsAs self o → CountsAs self o
+        ensures counted { (o : Option Session) → HeldStandsAs self.entry o → CountsAs self.entry o
             → IfOk result (λ r. CountsAs r.0 (after_fragment o via n part.now mark)) }
         ensures acknowledged { (o : Option Session)
-            → IsHeldAs self o (F.holds flash.old)
+            → IsHeldAs self.entry o (F.holds flash.old)
             (F.left_since flash.old (F.moment flash.old))
             → IfOk result
             (λ r. IsHeldAs r.0 (after_fragment o via n part.now mark) (F.holds flash.new)
             (F.left_since flash.new (F.moment flash.new))) }
         // A stop at any moment leaves the session as it was, or followed by the fragment.
         ensures any_moment { (o : Option Session)
-            → IsHeldAs self o (F.holds flash.old)
+            → IsHeldAs self.entry o (F.holds flash.old)
             (F.left_since flash.old (F.moment flash.old))
             → LeavesOnly
-            (λ c. LiesForAs self o c
-            ⊎ LiesForAs self (after_fragment o via n part.now mark) c)
+            (λ c. LiesForAs self.entry o c
+            ⊎ LiesForAs self.entry (after_fragment o via n part.now mark) c)
             (F.moment flash.old) (F.moment flash.new) (F.left_since flash.old)
             (F.left_since flash.new) }
         // Nothing is written of what is dropped, nor of what tells nothing new once the count has come to its end.
         ensures dropped { IfOk result
             (λ r. (c : _) → r.1 ≡ Heard.Dropped c → flash.new ≡ flash.old) }
         ensures same { IfOk result
-            (λ r. (c : _) → r.1 ≡ Heard.Dropped c → r.0 ≡ self) }
-        ensures full { max_received ≤ self.records + self.tallies
+            (λ r. (c : _) → r.1 ≡ Heard.Dropped c → r.0 ≡ self.entry) }
+        ensures full { max_received ≤ self.entry.records + self.entry.tallies
             → IfOk result (λ r. r.1 ≡ Heard.Fed News.Old → flash.new ≡ flash.old) }
         // What a stop leaves as a read gives it in another range is left so.
         ensures others { (at n : ℕ)
@@ -66,12 +66,12 @@ impl Held {
             (Follows (SameWithin at n) (F.holds flash.new)
             (F.left_since flash.new (F.moment flash.new))) }
         ensures place { IfOk result
-            (λ r. IsPlaceOf r.0 self.base self.span self.limits
-            (extent_of self.slot)) }
-        ensures extent { IfErr result (λ idle. idle ≡ extent_of self.slot) }
-        ensures held { Follows (SameOutside self.base self.span) (F.holds flash.old)
+            (λ r. IsPlaceOf r.0 W B self.entry.base self.entry.span self.entry.limits
+            (extent_of self.entry.slot)) }
+        ensures extent { IfErr result (λ idle. idle ≡ extent_of self.entry.slot) }
+        ensures held { Follows (SameOutside self.entry.base self.entry.span) (F.holds flash.old)
             (F.holds flash.new) }
-        ensures stops { Elapses (SameOutside self.base self.span) (F.moment flash.old)
+        ensures stops { Elapses (SameOutside self.entry.base self.entry.span) (F.moment flash.old)
             (F.moment flash.new) (F.left_since flash.old) (F.left_since flash.new) }
         ensures size { F.room flash.new ≡ F.room flash.old }
         ensures cause { HasCause (F.faults flash.old) (F.faults flash.new) result }

@@ -15,22 +15,22 @@ use crate::finding::find;
 use crate::flash::Flash;
 use frag_session::{Idle, Limits, Slot};
 
-impl Held {
+impl<const W: usize, const B: usize> Held<W, B> {
     /// Opens the `span` bytes from `base`: with the session that lies there, or with none. Foreign comes exactly where the
     /// header's gate is open and something there is no session's, and names the lowest such place.
     pub fn open<F: Flash>(
         flash: &mut F,
         base: u32,
         span: u32,
-        idle: Idle,
+        idle: Idle<W, B>,
         limits: Limits,
-    ) -> Result<Held, (Idle, OpenFault)>
+    ) -> Result<Held<W, B>, (Idle<W, B>, OpenFault)>
         requires range { base + span ≤ F.room flash.old }
         requires long { records_place ≤ span }
 
         // What lies for a session, as each call leaves it at any moment, opens for that session.
         ensures opened { (o : Option Session) (b : List ℕ) → F.holds flash.new b
-            → LiesForAs (place_in base span limits idle) o b
+            → LiesForAs (place_in W B base span limits idle.entry) o b
             → MatchResult result
             (λ h. IsHeldAs h o (F.holds flash.new)
             (F.left_since flash.new (F.moment flash.new)))
@@ -41,12 +41,12 @@ impl Held {
             × IsHeldBut h o (F.holds flash.new) (F.left_since flash.new (F.moment flash.new))) }
         ensures nothing_foreign { IfOk result
             (λ h. (b : List ℕ) → F.holds flash.new b
-            → NothingForeign (place_in base span limits idle) b) }
+            → NothingForeign (place_in W B base span limits idle.entry) b) }
         ensures foreign { IfErr result
             (λ e. (p : ℕ) → e.1 ≡ OpenFault.Foreign p → (b : List ℕ) → F.holds flash.new b
-            → IsFirstForeign (place_in base span limits idle) b p) }
-        ensures place { IfOk result (λ h. IsPlaceOf h base span limits idle) }
-        ensures area { IfErr result (λ e. e.0 ≡ idle) }
+            → IsFirstForeign (place_in W B base span limits idle.entry) b p) }
+        ensures place { IfOk result (λ h. IsPlaceOf h W B base span limits idle.entry) }
+        ensures area { IfErr result (λ e. e.0 ≡ idle.entry) }
         // A stop behind it leaves all that a read gives, outside the range too.
         ensures kept { OnOk result
             (IsKept (F.holds flash.new) (F.left_since flash.new (F.moment flash.new))) }

@@ -18,42 +18,46 @@ use crate::beginning::{begin, end};
 use crate::flash::Flash;
 use frag_session::{Idle, SetupReq};
 
-impl Held {
+impl<const W: usize, const B: usize> Held<W, B> {
     /// Answers FragSessionSetupReq (TS004-1.0.0) with all refusal bits, as a slot does; 2 is set too where the range is
     /// too short for the session's records. A refused setup and an equal one make no flash call; any other closes the
     /// header's gate where a session lives, clears all other gates and writes the setup, and opens the header's gate,
     /// each step synced. At Err the memory is handed back: open the session again.
-    pub fn setup<F: Flash>(self, flash: &mut F, req: SetupReq) -> Result<(Held, u8), Idle>
+    pub fn setup<F: Flash>(
+        self,
+        flash: &mut F,
+        req: SetupReq,
+    ) -> Result<(Held<W, B>, u8), Idle<W, B>>
         requires range { self.base + self.span ≤ F.room flash.old }
         requires fields { FieldsFit req }
 
         ensures bits { IfOk result
-            (λ r. r.1 ≡ setup_bits self.limits (room_in self) req) }
-        ensures stands { (o : Option Session) → HeldStandsAs self o
+            (λ r. r.1 ≡ setup_bits self.entry.limits (room_in self.entry) req) }
+        ensures stands { (o : Option Session) → HeldStandsAs self.entry o
             → IfOk result
-            (λ r. HeldStandsAs r.0 (after_setup self.limits (room_in self) o req)) }
-        ensures counted { (o : Option Session) → HeldStandsAs self o → CountsAs self o
+            (λ r. HeldStandsAs r.0 (after_setup self.entry.limits (room_in self.entry) o req)) }
+        ensures counted { (o : Option Session) → HeldStandsAs self.entry o → CountsAs self.entry o
             → IfOk result
-            (λ r. CountsAs r.0 (after_setup self.limits (room_in self) o req)) }
+            (λ r. CountsAs r.0 (after_setup self.entry.limits (room_in self.entry) o req)) }
         ensures acknowledged { (o : Option Session)
-            → IsHeldAs self o (F.holds flash.old)
+            → IsHeldAs self.entry o (F.holds flash.old)
             (F.left_since flash.old (F.moment flash.old))
             → IfOk result
-            (λ r. IsHeldAs r.0 (after_setup self.limits (room_in self) o req)
+            (λ r. IsHeldAs r.0 (after_setup self.entry.limits (room_in self.entry) o req)
             (F.holds flash.new) (F.left_since flash.new (F.moment flash.new))) }
         // A stop at any moment leaves the session as it was, none, or the new one.
         ensures any_moment { (o : Option Session)
-            → IsHeldAs self o (F.holds flash.old)
+            → IsHeldAs self.entry o (F.holds flash.old)
             (F.left_since flash.old (F.moment flash.old))
             → LeavesOnly
-            (λ c. LiesForAs self o c ⊎ NoSession self.base c
-            ⊎ LiesForAs self (after_setup self.limits (room_in self) o req) c)
+            (λ c. LiesForAs self.entry o c ⊎ NoSession self.entry.base c
+            ⊎ LiesForAs self.entry (after_setup self.entry.limits (room_in self.entry) o req) c)
             (F.moment flash.old) (F.moment flash.new) (F.left_since flash.old)
             (F.left_since flash.new) }
         // Without a new session no flash is called.
-        ensures refused { setup_bits self.limits (room_in self) req ≢ 0
+        ensures refused { setup_bits self.entry.limits (room_in self.entry) req ≢ 0
             → flash.new ≡ flash.old }
-        ensures equal { (o : Option Session) → HeldStandsAs self o
+        ensures equal { (o : Option Session) → HeldStandsAs self.entry o
             → lives (option_map (λ (s : Session). s.setup) o) req ≡ true → flash.new ≡ flash.old }
         ensures others { (at n : ℕ)
             → Follows (SameWithin at n) (F.holds flash.old)
@@ -62,12 +66,12 @@ impl Held {
             (Follows (SameWithin at n) (F.holds flash.new)
             (F.left_since flash.new (F.moment flash.new))) }
         ensures place { IfOk result
-            (λ r. IsPlaceOf r.0 self.base self.span self.limits
-            (extent_of self.slot)) }
-        ensures extent { IfErr result (λ idle. idle ≡ extent_of self.slot) }
-        ensures held { Follows (SameOutside self.base self.span) (F.holds flash.old)
+            (λ r. IsPlaceOf r.0 W B self.entry.base self.entry.span self.entry.limits
+            (extent_of self.entry.slot)) }
+        ensures extent { IfErr result (λ idle. idle ≡ extent_of self.entry.slot) }
+        ensures held { Follows (SameOutside self.entry.base self.entry.span) (F.holds flash.old)
             (F.holds flash.new) }
-        ensures stops { Elapses (SameOutside self.base self.span) (F.moment flash.old)
+        ensures stops { Elapses (SameOutside self.entry.base self.entry.span) (F.moment flash.old)
             (F.moment flash.new) (F.left_since flash.old) (F.left_since flash.new) }
         ensures size { F.room flash.new ≡ F.room flash.old }
         ensures cause { HasCause (F.faults flash.old) (F.faults flash.new) result }
@@ -86,25 +90,25 @@ impl Held {
     }
 
     /// Begins a session in the place of whatever lived.
-    fn renew<F: Flash>(self, flash: &mut F, req: SetupReq) -> Result<Held, Idle>
+    fn renew<F: Flash>(self, flash: &mut F, req: SetupReq) -> Result<Held<W, B>, Idle<W, B>>
         requires range { self.base + self.span ≤ F.room flash.old }
         requires fields { FieldsFit req }
         requires fine { setup_bits self.limits (room_in self) req ≡ 0 }
-        ensures counted { IfOk result (λ h. CountsAs h (Some (new_session self.limits req))) }
+        ensures counted { IfOk result (λ h. CountsAs h (Some (new_session self.entry.limits req))) }
         ensures stands { IfOk result
-            (λ h. HeldStandsAs h (Some (new_session self.limits req))) }
+            (λ h. HeldStandsAs h (Some (new_session self.entry.limits req))) }
         ensures acknowledged { (o : Option Session)
-            → IsHeldAs self o (F.holds flash.old)
+            → IsHeldAs self.entry o (F.holds flash.old)
             (F.left_since flash.old (F.moment flash.old))
             → IfOk result
-            (λ h. IsHeldAs h (Some (new_session self.limits req)) (F.holds flash.new)
+            (λ h. IsHeldAs h (Some (new_session self.entry.limits req)) (F.holds flash.new)
             (F.left_since flash.new (F.moment flash.new))) }
         ensures any_moment { (o : Option Session)
-            → IsHeldAs self o (F.holds flash.old)
+            → IsHeldAs self.entry o (F.holds flash.old)
             (F.left_since flash.old (F.moment flash.old))
             → LeavesOnly
-            (λ c. LiesForAs self o c ⊎ NoSession self.base c
-            ⊎ LiesForAs self (Some (new_session self.limits req)) c)
+            (λ c. LiesForAs self.entry o c ⊎ NoSession self.entry.base c
+            ⊎ LiesForAs self.entry (Some (new_session self.entry.limits req)) c)
             (F.moment flash.old) (F.moment flash.new) (F.left_since flash.old)
             (F.left_since flash.new) }
         ensures others { (at n : ℕ)
@@ -114,12 +118,12 @@ impl Held {
             (Follows (SameWithin at n) (F.holds flash.new)
             (F.left_since flash.new (F.moment flash.new))) }
         ensures place { IfOk result
-            (λ h. IsPlaceOf h self.base self.span self.limits
-            (extent_of self.slot)) }
-        ensures extent { IfErr result (λ idle. idle ≡ extent_of self.slot) }
-        ensures held { Follows (SameOutside self.base self.span) (F.holds flash.old)
+            (λ h. IsPlaceOf h W B self.entry.base self.entry.span self.entry.limits
+            (extent_of self.entry.slot)) }
+        ensures extent { IfErr result (λ idle. idle ≡ extent_of self.entry.slot) }
+        ensures held { Follows (SameOutside self.entry.base self.entry.span) (F.holds flash.old)
             (F.holds flash.new) }
-        ensures stops { Elapses (SameOutside self.base self.span) (F.moment flash.old)
+        ensures stops { Elapses (SameOutside self.entry.base self.entry.span) (F.moment flash.old)
             (F.moment flash.new) (F.left_since flash.old) (F.left_since flash.new) }
         ensures size { F.room flash.new ≡ F.room flash.old }
         ensures cause { HasCause (F.faults flash.old) (F.faults flash.new) result }
@@ -151,26 +155,26 @@ impl Held {
 
     /// Ends the session, as FragSessionDeleteReq asks (TS004-1.0.0); false exactly where there is none, and then no flash is
     /// called. At Err the memory is handed back: open the session again.
-    pub fn delete<F: Flash>(self, flash: &mut F) -> Result<(Held, bool), Idle>
+    pub fn delete<F: Flash>(self, flash: &mut F) -> Result<(Held<W, B>, bool), Idle<W, B>>
         requires range { self.base + self.span ≤ F.room flash.old }
 
-        ensures answer { (o : Option Session) → HeldStandsAs self o
+        ensures answer { (o : Option Session) → HeldStandsAs self.entry o
             → IfOk result (λ r. r.1 ≡ is_some o) }
         ensures stands { IfOk result (λ r. HeldStandsAs r.0 None) }
         ensures acknowledged { (o : Option Session)
-            → IsHeldAs self o (F.holds flash.old)
+            → IsHeldAs self.entry o (F.holds flash.old)
             (F.left_since flash.old (F.moment flash.old))
             → IfOk result
             (λ r. IsHeldAs r.0 None (F.holds flash.new)
             (F.left_since flash.new (F.moment flash.new))) }
         // A stop at any moment leaves the session as it was, or none.
         ensures any_moment { (o : Option Session)
-            → IsHeldAs self o (F.holds flash.old)
+            → IsHeldAs self.entry o (F.holds flash.old)
             (F.left_since flash.old (F.moment flash.old))
-            → LeavesOnly (λ c. LiesForAs self o c ⊎ NoSession self.base c)
+            → LeavesOnly (λ c. LiesForAs self.entry o c ⊎ NoSession self.entry.base c)
             (F.moment flash.old) (F.moment flash.new) (F.left_since flash.old)
             (F.left_since flash.new) }
-        ensures quiet { HeldStandsAs self None → flash.new ≡ flash.old }
+        ensures quiet { HeldStandsAs self.entry None → flash.new ≡ flash.old }
         ensures others { (at n : ℕ)
             → Follows (SameWithin at n) (F.holds flash.old)
             (F.left_since flash.old (F.moment flash.old))
@@ -178,12 +182,12 @@ impl Held {
             (Follows (SameWithin at n) (F.holds flash.new)
             (F.left_since flash.new (F.moment flash.new))) }
         ensures place { IfOk result
-            (λ r. IsPlaceOf r.0 self.base self.span self.limits
-            (extent_of self.slot)) }
-        ensures extent { IfErr result (λ idle. idle ≡ extent_of self.slot) }
-        ensures held { Follows (SameOutside self.base self.span) (F.holds flash.old)
+            (λ r. IsPlaceOf r.0 W B self.entry.base self.entry.span self.entry.limits
+            (extent_of self.entry.slot)) }
+        ensures extent { IfErr result (λ idle. idle ≡ extent_of self.entry.slot) }
+        ensures held { Follows (SameOutside self.entry.base self.entry.span) (F.holds flash.old)
             (F.holds flash.new) }
-        ensures stops { Elapses (SameOutside self.base self.span) (F.moment flash.old)
+        ensures stops { Elapses (SameOutside self.entry.base self.entry.span) (F.moment flash.old)
             (F.moment flash.new) (F.left_since flash.old) (F.left_since flash.new) }
         ensures size { F.room flash.new ≡ F.room flash.old }
         ensures cause { HasCause (F.faults flash.old) (F.faults flash.new) result }

@@ -1,4 +1,4 @@
-use Rattle.std.proofs.Common.{◌≡◌, ℕ, List, sym, ap, subst, ◌∙◌, arith}
+use Rattle.std.proofs.Common.{◌≡◌, ℕ, List, sym, ap, subst, ◌∙◌, arith, lit≤}
 use Rattle.frag_session.specs.Setup.{setup_bits}
 use Rattle.frag_session.specs.HeldSteps.{extent_of}
 use Rattle.frag_session.specs.declared.setups.SetupReq.{SetupReq}
@@ -18,7 +18,7 @@ use Rattle.flash_session.proofs.finding.find_behind.Goals as goal
 pub returns-then-refusal-ne0-clause-foreign : goal.returns-then-refusal-ne0-clause-foreign
 unfolding extent_of setup_bits
 returns-then-refusal-ne0-clause-foreign g c = λ p is b now header.
-    let h : HeldSession = place_in c.args.base c.args.span c.args.limits (extent_of c.args.slot.now) in
+    let h : HeldSession = place_in g.row.W g.row.B c.args.base c.args.span c.args.limits (extent_of c.args.slot.now) in
     let reads = c.in-Ok.ensures.reads in
     let place : 1 ≡ p = cc in
     let there = setup_read b (body_at c.args.base) reads.0 reads.1.sized (reads.2 b now) ∙ reads.1.reads in
@@ -28,12 +28,8 @@ returns-then-refusal-ne0-clause-foreign g c = λ p is b now header.
 pub find_session-requires : goal.find_session-requires
 unfolding extent_of
 find_session-requires g c =
-    let places = setup_places (place_in c.args.base c.args.span c.args.limits (extent_of c.args.slot.now)) c.in-Ok.setup (sym c.refusal.ensures ∙ c.if-refusal-ne0.false) in
-    record {
-      room = omega (arith, places.room, c.requires.range, c.read_setup.ensures.size);
-      most = places.most;
-      fine = in_memory c.args.limits (room_in (place_in c.args.base c.args.span c.args.limits (extent_of c.args.slot.now))) c.in-Ok.setup (sym c.refusal.ensures ∙ c.if-refusal-ne0.false);
-    }
+    let places = setup_places (place_in g.row.W g.row.B c.args.base c.args.span c.args.limits (extent_of c.args.slot.now)) c.in-Ok.setup (sym c.refusal.ensures ∙ c.if-refusal-ne0.false) in
+    (lit≤ tt, (omega (arith, places.room, c.requires.range, c.read_setup.ensures.size), (places.most, in_memory c.args.limits (room_in (place_in g.row.W g.row.B c.args.base c.args.span c.args.limits (extent_of c.args.slot.now))) c.in-Ok.setup (sym c.refusal.ensures ∙ c.if-refusal-ne0.false))))
 
 pub returns-else-refusal-ne0-clause-found : goal.returns-else-refusal-ne0-clause-found
 unfolding extent_of

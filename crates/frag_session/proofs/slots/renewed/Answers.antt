@@ -5,8 +5,8 @@ use Rattle.frag_session.proofs.slots.renewed.Goals as goal
 
 pub returns-in-Ok-clause-stands : goal.returns-in-Ok-clause-stands
 unfolding Stands
-returns-in-Ok-clause-stands c = c.in-Ok.ensures.stands
+returns-in-Ok-clause-stands g c = c.in-Ok.ensures.stands
 
 pub returns-in-Ok-clause-extent : goal.returns-in-Ok-clause-extent
 unfolding extent_of
-returns-in-Ok-clause-extent c = c.in-Ok.ensures.extent ∙ c.cleared.ensures
+returns-in-Ok-clause-extent g c = c.in-Ok.ensures.extent ∙ c.cleared.ensures

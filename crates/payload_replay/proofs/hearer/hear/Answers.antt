@@ -6,9 +6,9 @@ use Rattle.device_core.proofs.Keeping.{no_rise}
 use Rattle.payload_replay.specs.Replay.{after_payload}
 use Rattle.payload_replay.proofs.hearer.hear.Goals as goal
 
-pub returns-in_default : goal.returns-in_default
+pub returns : goal.returns
 unfolding after_payload
-returns-in_default c = λ before stands.
-    let heard = (c.receive.ensures.makes (λ is. no_rise (c.receive.ensures.fault is)) c.in_default.not-NoMemory).stands before stands in
+returns c = λ before stands.
+    let heard = (c.receive-delivered.ensures.makes (λ is. no_rise (c.receive-delivered.ensures.fault is))).stands before stands in
     subst (λ (down : Downlink). DeviceStands c.drop_uplinks.new.self (record (delivery 0 0 c.args.mark down before).device { outbox = [] })) c.new-down.ensures
     (c.drop_uplinks.ensures.becomes _ heard)

@@ -4,10 +4,10 @@ use Rattle.row_elimination.proofs.Storing.{with_shape}
 use Rattle.row_elimination.proofs.entries.put_row.Goals as goal
 
 pub returns-clause-places : goal.returns-clause-places
-returns-clause-places c = λ size area.
+returns-clause-places g c = λ size area.
     rw c.new.ensures (row_put size area c.args.arena.now c.set_row.new.self c.args.columns.now c.args.slot c.args.p (record { line = line_in c.args.line.now; part = c.args.part.now }) c.requires.inside c.requires.slot
     c.set_row.ensures c.requires.alone)
 
 pub returns-clause-shape : goal.returns-clause-shape
-returns-clause-shape c =
+returns-clause-shape g c =
     with_shape c.args.arena.now c.set_row.new.self c.args.slot (record { line = line_in c.args.line.now; part = c.args.part.now }) c.set_row.ensures

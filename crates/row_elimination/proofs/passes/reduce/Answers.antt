@@ -18,15 +18,17 @@ take_rows-requires g c =
     let sized : length c.sum_counted.new.rest ≡ size = c.sum_counted.auto.rest ∙ c.requires.sized in
     let taken : Taken (length os) size (places_in size c.args.area.now c.args.arena.now os) (line_in c.args.line.now) c.args.part.now (line_in c.pick-count.new.line) c.sum_counted.new.rest =
     pieces_taken size c.args.area.now c.args.arena.now os (line_in c.args.known.now) (line_in c.args.line.now) c.pick-count.result c.pick-count.new.picks (line_in c.pick-count.new.line)
-    c.args.part.now c.sum_counted.new.rest c.requires.reduced c.requires.marks c.requires.piece c.requires.within c.pick-count.ensures.known c.pick-count.ensures.line sized c.sum_counted.ensures.sum in
-    record {
-      stored = subst (λ (n : ℕ). IsStored n c.args.arena.now os) (sym sized) c.requires.stored;
-      words = c.pick-count.auto.line ∙ c.requires.words;
-      few = omega (arith, c.pick-count.auto.line, c.requires.few);
-      within = taken.within;
-      none = λ k is. c.pick-count.ensures.none k (c.requires.marks.all k (column_piece size c.args.area.now c.args.arena.now k os is));
-      picks = omega (arith, c.pick-count.auto.line, c.pick-count.auto.picks, c.requires.picks);
-    }
+    c.args.part.now c.sum_counted.new.rest c.requires.reduced c.requires.marks c.requires.piece c.requires.within c.pick-count.ensures.known c.pick-count.ensures.line sized c.sum_counted.ensures.sum in (
+      search,
+      record {
+        stored = subst (λ (n : ℕ). IsStored n c.args.arena.now os) (sym sized) c.requires.stored;
+        words = c.pick-count.auto.line ∙ c.requires.words;
+        few = omega (arith, c.pick-count.auto.line, c.requires.few);
+        within = taken.within;
+        none = λ k is. c.pick-count.ensures.none k (c.requires.marks.all k (column_piece size c.args.area.now c.args.arena.now k os is));
+        picks = omega (arith, c.pick-count.auto.line, c.pick-count.auto.picks, c.requires.picks);
+      },
+    )
 
 pub returns-clause-left : goal.returns-clause-left
 returns-clause-left g c =

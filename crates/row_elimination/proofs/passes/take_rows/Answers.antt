@@ -65,9 +65,13 @@ take_row-requires g c =
     let os = c.args.columns.now in
     let k = get_or c.list_bits-count.new.picks c.loop-n.n 0 in
     let inside : k < length os = column_inside (length os) (line_in c.args.line.now) k c.requires.within (c.list_bits-count.ensures.columns c.loop-n.n c.loop-n-test.true) in
-    let there = c.column.ensures.same ∙ read_there os k c.index-columns-picks.result inside c.index-columns-picks.is in
-    record {
-      rows = λ slot e. c.requires.stored.rows k slot (sym there ∙ e);
-      words = c.loop-n.invariant.line_sized ∙ c.requires.words ∙ ap words_for (sym c.requires.stored.cols);
-      part = c.loop-n.invariant.rest_sized ∙ sym c.requires.stored.cell;
-    }
+    let there = c.column.ensures.same ∙ read_there os k c.index-columns-picks.result inside c.index-columns-picks.is in (
+      omega arith,
+      (
+        λ slot e. c.requires.stored.rows k slot (sym there ∙ e),
+        (
+          c.loop-n.invariant.line_sized ∙ c.requires.words ∙ ap words_for (sym c.requires.stored.cols),
+          c.loop-n.invariant.rest_sized ∙ sym c.requires.stored.cell,
+        ),
+      ),
+    )

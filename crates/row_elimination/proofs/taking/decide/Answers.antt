@@ -5,7 +5,7 @@ use Rattle.row_elimination.proofs.taking.decide.Goals as goal
 
 pub returns-then-missing-eq0 : goal.returns-then-missing-eq0
 unfolding DecidedAs
-returns-then-missing-eq0 c = (
+returns-then-missing-eq0 g c = (
   c.finish.ensures.places,
   c.finish.ensures.room,
   omega (arith, gained-le c.args.table.now.places, c.requires.held.sized),
@@ -14,4 +14,4 @@ returns-then-missing-eq0 c = (
 
 pub returns-else-missing-eq0 : goal.returns-else-missing-eq0
 unfolding DecidedAs
-returns-else-missing-eq0 c = (refl, omega (arith, gained-le c.args.table.now.places, c.requires.held.sized))
+returns-else-missing-eq0 g c = (refl, omega (arith, gained-le c.args.table.now.places, c.requires.held.sized))

@@ -11,26 +11,30 @@ use Rattle.row_elimination.proofs.taking.take.Goals as goal
 
 pub take_again-requires : goal.take_again-requires
 take_again-requires g c =
-    let t = c.args.table.now in
-    record {
-      ready = ready_again t c.args.n (c.args.n - 1) c.args.part.now c.in-Some.piece.now c.piece.ensures.held c.piece.ensures.room c.requires.more c.requires.some (omega (arith, c.requires.first)) (omega arith)
-          (record { sized = c.requires.sized; bytes = All-from_get_or (λ b. b < 2 ^ 8) c.args.part.now 0 (λ i lt. omega (arith, c.type_inv.part i)) }) c.in-Some.ensures.value;
-      uncoded = omega arith;
-      held = c.in-Some.ensures.value;
-    }
+    let t = c.args.table.now in (
+      omega arith,
+      record {
+        ready = ready_again t c.args.n (c.args.n - 1) c.args.part.now c.in-Some.piece.now c.piece.ensures.held c.piece.ensures.room c.requires.more c.requires.some (omega (arith, c.requires.first)) (omega arith)
+            (record { sized = c.requires.sized; bytes = All-from_get_or (λ b. b < 2 ^ 8) c.args.part.now 0 (λ i lt. omega (arith, c.type_inv.part i)) }) c.in-Some.ensures.value;
+        uncoded = omega arith;
+        held = c.in-Some.ensures.value;
+      },
+    )
 
 pub take_first-requires : goal.take_first-requires
 take_first-requires g c =
     let t = c.args.table.now in
     let none : rows_held t.places ≡ 0 = eqb-true (rows_held t.places) 0 (sym c.has_no_rows.ensures ∙ c.if-has_no_rows.true) in
-    let fresh : get_or t.places (c.args.n - 1) free ≡ free = no_rows_free t.places (c.args.n - 1) none c.in_default.ensures.value in
-    record {
-      ready = ready_free t c.args.n (c.args.n - 1) c.args.part.now c.piece.ensures.held c.piece.ensures.room c.requires.more c.requires.some (omega (arith, c.requires.first)) (omega arith)
-          (record { sized = c.requires.sized; bytes = All-from_get_or (λ b. b < 2 ^ 8) c.args.part.now 0 (λ i lt. omega (arith, c.type_inv.part i)) }) fresh;
-      uncoded = omega arith;
-      fresh = fresh;
-      none = none;
-    }
+    let fresh : get_or t.places (c.args.n - 1) free ≡ free = no_rows_free t.places (c.args.n - 1) none c.in_default.ensures.value in (
+      omega arith,
+      record {
+        ready = ready_free t c.args.n (c.args.n - 1) c.args.part.now c.piece.ensures.held c.piece.ensures.room c.requires.more c.requires.some (omega (arith, c.requires.first)) (omega arith)
+            (record { sized = c.requires.sized; bytes = All-from_get_or (λ b. b < 2 ^ 8) c.args.part.now 0 (λ i lt. omega (arith, c.type_inv.part i)) }) fresh;
+        uncoded = omega arith;
+        fresh = fresh;
+        none = none;
+      },
+    )
 
 pub draw-requires-clause-room : goal.draw-requires-clause-room
 draw-requires-clause-room g c =
@@ -42,18 +46,20 @@ pub take_in-requires : goal.take_in-requires
 take_in-requires g c =
     let t = c.args.table.now in
     let long : length (take c.width.result c.args.line.now) ≡ c.width.result = length-take-le c.width.result c.args.line.now (omega (arith, c.width.ensures.value, c.requires.words)) in
-    let words : length c.draw.new.line ≡ words_for t.shape.nb_frag = c.draw.auto.line ∙ long ∙ c.width.ensures.value in
-    record {
-      words = words;
-      few = omega (arith, c.draw.auto.line, long, c.width.ensures.few);
-      drawn = c.draw.ensures.line ∙ ap (λ (m : ℕ). line_of m c.args.n) c.nb_frag-2.ensures;
-      picks = omega (arith, words, c.requires.picks);
-      sized = length-take-le (length c.args.part.now) c.args.rest.now c.requires.bytes;
-      piece = record { sized = c.requires.sized; bytes = All-from_get_or (λ b. b < 2 ^ 8) c.args.part.now 0 (λ i lt. omega (arith, c.type_inv.part i)) };
-      some = c.requires.some;
-      first = c.requires.first;
-      more = c.requires.more;
-    }
+    let words : length c.draw.new.line ≡ words_for t.shape.nb_frag = c.draw.auto.line ∙ long ∙ c.width.ensures.value in (
+      omega arith,
+      record {
+        words = words;
+        few = omega (arith, c.draw.auto.line, long, c.width.ensures.few);
+        drawn = c.draw.ensures.line ∙ ap (λ (m : ℕ). line_of m c.args.n) c.nb_frag-2.ensures;
+        picks = omega (arith, words, c.requires.picks);
+        sized = length-take-le (length c.args.part.now) c.args.rest.now c.requires.bytes;
+        piece = record { sized = c.requires.sized; bytes = All-from_get_or (λ b. b < 2 ^ 8) c.args.part.now 0 (λ i lt. omega (arith, c.type_inv.part i)) };
+        some = c.requires.some;
+        first = c.requires.first;
+        more = c.requires.more;
+      },
+    )
 
 pub returns-in-Some-clause-draws : goal.returns-in-Some-clause-draws
 returns-in-Some-clause-draws g c = omega (arith, draws_of_piece c.args.table.now.shape.nb_frag c.args.n (omega arith))

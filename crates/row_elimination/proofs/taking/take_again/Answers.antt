@@ -5,11 +5,11 @@ use Rattle.row_elimination.proofs.Repeating.{again_is, other_is}
 use Rattle.row_elimination.proofs.taking.take_again.Goals as goal
 
 pub returns-then-eq : goal.returns-then-eq
-returns-then-eq c =
+returns-then-eq g c =
     again_is c.args.table.now c.args.n c.args.part.now c.args.piece.now c.requires.ready c.requires.uncoded c.requires.held
     ((slice_eq-Decides unsigned_Decides c.args.piece.now c.args.part.now c.eq.result c.eq.ensures).0 c.if-eq.true)
 
 pub returns-else-eq : goal.returns-else-eq
-returns-else-eq c =
+returns-else-eq g c =
     other_is c.args.table.now c.args.n c.args.part.now c.args.piece.now c.requires.ready c.requires.held
     (not_from_Decides c.eq.result (slice_eq-Decides unsigned_Decides c.args.piece.now c.args.part.now c.eq.result c.eq.ensures) c.if-eq.false)

@@ -1,23 +1,25 @@
+use Rattle.std.proofs.Common.{arith}
 use Rattle.row_elimination.proofs.Answering.{decided_room, decided_held}
 use Rattle.row_elimination.proofs.Repeating.{first_held, first_is}
 use Rattle.row_elimination.proofs.taking.take_first.Goals as goal
 
 pub decide-requires : goal.decide-requires
-decide-requires c = record {
-  held = first_held c.args.table.now c.put.new.self c.args.n c.args.part.now c.requires.ready c.requires.uncoded c.requires.fresh c.requires.none c.put.ensures.room c.put.ensures.places;
-}
+decide-requires g c = (
+  omega arith,
+  first_held c.args.table.now c.put.new.self c.args.n c.args.part.now c.requires.ready c.requires.uncoded c.requires.fresh c.requires.none c.put.ensures.room c.put.ensures.places,
+)
 
 pub returns-clause-fed : goal.returns-clause-fed
-returns-clause-fed c =
+returns-clause-fed g c =
     first_is c.decide.result c.args.table.now c.put.new.self c.decide.new.table c.args.n c.args.part.now c.requires.ready c.requires.uncoded c.requires.none c.put.ensures.room c.put.ensures.places
     (first_held c.args.table.now c.put.new.self c.args.n c.args.part.now c.requires.ready c.requires.uncoded c.requires.fresh c.requires.none c.put.ensures.room c.put.ensures.places)
     c.decide.ensures
 
 pub returns-clause-room : goal.returns-clause-room
-returns-clause-room c = decided_room c.decide.result c.args.table.now c.put.new.self c.decide.new.table c.put.ensures.room c.decide.ensures
+returns-clause-room g c = decided_room c.decide.result c.args.table.now c.put.new.self c.decide.new.table c.put.ensures.room c.decide.ensures
 
 pub returns-clause-held : goal.returns-clause-held
-returns-clause-held c =
+returns-clause-held g c =
     decided_held c.decide.result c.put.new.self c.decide.new.table
     (first_held c.args.table.now c.put.new.self c.args.n c.args.part.now c.requires.ready c.requires.uncoded c.requires.fresh c.requires.none c.put.ensures.room c.put.ensures.places)
     c.decide.ensures

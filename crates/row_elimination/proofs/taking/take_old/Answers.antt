@@ -5,28 +5,29 @@ use Rattle.row_elimination.proofs.Answering.{conflict_is, sum_is, known_piece_is
 use Rattle.row_elimination.proofs.taking.take_old.Goals as goal
 
 pub returns-then-not-is_zero-clause-fed : goal.returns-then-not-is_zero-clause-fed
-returns-then-not-is_zero-clause-fed c =
+returns-then-not-is_zero-clause-fed g c =
     let some = c.is_zero.ensures.no c.if-not-is_zero.true in
     conflict_is c.args.table.now c.args.n some.0 c.args.part.now c.args.rest.now (line_in c.args.line.now) c.requires.none c.requires.ready some.1
 
 pub settle-requires : goal.settle-requires
-settle-requires c = record {
-  known = knows_sum c.args.table.now c.args.n (c.args.n - 1) c.args.part.now c.args.rest.now
+settle-requires g c = (
+  omega arith,
+  knows_sum c.args.table.now c.args.n (c.args.n - 1) c.args.part.now c.args.rest.now
       (subst (λ x. IsReady c.args.table.now c.args.n c.args.part.now x c.args.rest.now) c.requires.none c.requires.ready)
-      (c.is_zero.ensures.yes c.if-not-is_zero.false) (omega (arith, c.requires.ready.first)) (omega arith);
-}
+      (c.is_zero.ensures.yes c.if-not-is_zero.false) (omega (arith, c.requires.ready.first)) (omega arith),
+)
 
 pub returns-then-n-nb_frag-clause-fed : goal.returns-then-n-nb_frag-clause-fed
-returns-then-n-nb_frag-clause-fed c =
+returns-then-n-nb_frag-clause-fed g c =
     (known_piece_is c.args.table.now c.settle.new.self c.args.n c.args.part.now c.args.rest.now (line_in c.args.line.now) c.requires.none c.requires.ready
     (c.is_zero.ensures.yes c.if-not-is_zero.false) (omega arith) c.settle.ensures.room c.settle.ensures.places).0
 
 pub returns-then-n-nb_frag-clause-held : goal.returns-then-n-nb_frag-clause-held
-returns-then-n-nb_frag-clause-held c =
+returns-then-n-nb_frag-clause-held g c =
     (known_piece_is c.args.table.now c.settle.new.self c.args.n c.args.part.now c.args.rest.now (line_in c.args.line.now) c.requires.none c.requires.ready
     (c.is_zero.ensures.yes c.if-not-is_zero.false) (omega arith) c.settle.ensures.room c.settle.ensures.places).1
 
 pub returns-else-n-nb_frag-clause-fed : goal.returns-else-n-nb_frag-clause-fed
-returns-else-n-nb_frag-clause-fed c =
+returns-else-n-nb_frag-clause-fed g c =
     sum_is c.args.table.now c.args.n c.args.part.now c.args.rest.now (line_in c.args.line.now) c.requires.none c.requires.ready
     (c.is_zero.ensures.yes c.if-not-is_zero.false) (omega arith)

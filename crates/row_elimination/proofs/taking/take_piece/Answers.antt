@@ -10,24 +10,26 @@ pub learn-requires : goal.learn-requires
 learn-requires g c =
     let t = c.args.table.now in
     let l : ℕ = line_in c.args.line.now in
-    let is : c.args.n ≡ suc (c.args.n - 1) = omega (arith, c.requires.new.ready.first) in
-    record {
-      words = c.requires.new.words;
-      sized = c.requires.new.ready.left.piece.sized;
-      new = is_new_row t.shape.nb_frag t.shape.frag_size t.places _ c.args.part.now c.args.p l c.args.rest.now c.requires.new.ready.held c.requires.new.ready.left c.requires.new.inside c.requires.new.has;
-      known = knows_grown t c.args.n (c.args.n - 1) c.args.p l c.args.part.now c.args.rest.now c.requires.new.ready is c.requires.uncoded c.requires.new.inside c.requires.new.has;
-      fresh = is_fresh t c.args.n (c.args.n - 1) c.args.p l c.args.part.now c.args.rest.now c.requires.new.ready is c.requires.uncoded c.requires.new.has;
-    }
+    let is : c.args.n ≡ suc (c.args.n - 1) = omega (arith, c.requires.new.ready.first) in (
+      omega arith,
+      record {
+        words = c.requires.new.words;
+        sized = c.requires.new.ready.left.piece.sized;
+        new = is_new_row t.shape.nb_frag t.shape.frag_size t.places _ c.args.part.now c.args.p l c.args.rest.now c.requires.new.ready.held c.requires.new.ready.left c.requires.new.inside c.requires.new.has;
+        known = knows_grown t c.args.n (c.args.n - 1) c.args.p l c.args.part.now c.args.rest.now c.requires.new.ready is c.requires.uncoded c.requires.new.inside c.requires.new.has;
+        fresh = is_fresh t c.args.n (c.args.n - 1) c.args.p l c.args.part.now c.args.rest.now c.requires.new.ready is c.requires.uncoded c.requires.new.has;
+      },
+    )
 
 pub decide-requires : goal.decide-requires
 decide-requires g c =
     let t = c.args.table.now in
     let l : ℕ = line_in c.args.line.now in
-    let known = knows_grown t c.args.n (c.args.n - 1) c.args.p l c.args.part.now c.args.rest.now c.requires.new.ready (omega (arith, c.requires.new.ready.first)) c.requires.uncoded c.requires.new.inside c.requires.new.has in
-    record {
-      held = reduced_in t c.learn.new.self (set (grown c.args.p l c.args.rest.now t.places) (c.args.n - 1) (piece c.args.part.now)) c.learn.ensures.room c.learn.ensures.places
-          (settled_reduced t.shape (grown c.args.p l c.args.rest.now t.places) (c.args.n - 1) c.args.part.now known);
-    }
+    let known = knows_grown t c.args.n (c.args.n - 1) c.args.p l c.args.part.now c.args.rest.now c.requires.new.ready (omega (arith, c.requires.new.ready.first)) c.requires.uncoded c.requires.new.inside c.requires.new.has in (
+      omega arith,
+      reduced_in t c.learn.new.self (set (grown c.args.p l c.args.rest.now t.places) (c.args.n - 1) (piece c.args.part.now)) c.learn.ensures.room c.learn.ensures.places
+          (settled_reduced t.shape (grown c.args.p l c.args.rest.now t.places) (c.args.n - 1) c.args.part.now known),
+    )
 
 pub returns-clause-fed : goal.returns-clause-fed
 returns-clause-fed g c =

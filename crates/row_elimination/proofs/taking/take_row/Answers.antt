@@ -9,24 +9,26 @@ use Rattle.row_elimination.proofs.taking.take_row.Goals as goal
 
 pub push-requires : goal.push-requires
 push-requires g c =
-    let t = c.args.table.now in
-    record {
-      words = c.requires.new.words;
-      sized = c.requires.new.ready.left.piece.sized;
-      new = is_new_row t.shape.nb_frag t.shape.frag_size t.places _ c.args.part.now c.args.p (line_in c.args.line.now) c.args.rest.now c.requires.new.ready.held c.requires.new.ready.left c.requires.new.inside c.requires.new.has;
-      room = c.requires.spare;
-    }
+    let t = c.args.table.now in (
+      omega arith,
+      record {
+        words = c.requires.new.words;
+        sized = c.requires.new.ready.left.piece.sized;
+        new = is_new_row t.shape.nb_frag t.shape.frag_size t.places _ c.args.part.now c.args.p (line_in c.args.line.now) c.args.rest.now c.requires.new.ready.held c.requires.new.ready.left c.requires.new.inside c.requires.new.has;
+        room = c.requires.spare;
+      },
+    )
 
 pub decide-requires : goal.decide-requires
 decide-requires g c =
     let t = c.args.table.now in
     let l : ℕ = line_in c.args.line.now in
     let q = c.args.rest.now in
-    let new = is_new_row t.shape.nb_frag t.shape.frag_size t.places _ c.args.part.now c.args.p l q c.requires.new.ready.held c.requires.new.ready.left c.requires.new.inside c.requires.new.has in
-    record {
-      held = reduced_in t c.push.new.self (grown c.args.p l q t.places) (room_grown t c.push.new.self (grown c.args.p l q t.places) c.push.ensures.grown) (ap (λ (x : Grid). x.places) c.push.ensures.grown)
-          (grown_reduced t.shape.nb_frag t.shape.frag_size t.places c.args.p l q new);
-    }
+    let new = is_new_row t.shape.nb_frag t.shape.frag_size t.places _ c.args.part.now c.args.p l q c.requires.new.ready.held c.requires.new.ready.left c.requires.new.inside c.requires.new.has in (
+      omega arith,
+      reduced_in t c.push.new.self (grown c.args.p l q t.places) (room_grown t c.push.new.self (grown c.args.p l q t.places) c.push.ensures.grown) (ap (λ (x : Grid). x.places) c.push.ensures.grown)
+          (grown_reduced t.shape.nb_frag t.shape.frag_size t.places c.args.p l q new),
+    )
 
 pub returns-clause-fed : goal.returns-clause-fed
 returns-clause-fed g c =

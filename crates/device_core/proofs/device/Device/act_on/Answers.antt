@@ -3,8 +3,6 @@ use Rattle.package_grammar.specs.declared.command.Command.{Command}
 use Rattle.package_grammar.specs.HeldMessage.{HeldMessage}
 use Rattle.device_core.specs.Step.{weights}
 use Rattle.device_core.proofs.Acting.{HasActed, acted_none, acted_more, acted_all, keeps_all, failed_at, keeps_until}
-use Rattle.device_core.specs.HeldMemory.{MayActAll}
-use Rattle.device_core.proofs.Providing.{all_still}
 use Rattle.device_core.proofs.Keeping.{on_err, keeps_erring}
 use Rattle.device_core.proofs.device.Device.act_on.Goals as goal
 
@@ -15,7 +13,6 @@ loop-command-init g c = record {
   room = c.requires.room;
   counted = omega arith;
   up = c.requires.up;
-  memory = c.requires.memory;
   in_flash = λ flash. flash;
   laid = record { layout = refl; held = refl };
   quiet = λ memory. refl;
@@ -35,8 +32,6 @@ loop-command-preserved g c =
       room = omega (arith, steps.few, ap (λ (m : HeldMessage). weights m.commands) takes, was.room);
       counted = omega (arith, was.counted, ap (λ (m : HeldMessage). length m.commands) takes);
       up = keeps.up;
-      memory = all_still c.loop-command.self.sessions c.act.new.self.sessions c.args.here.via c.next.new.self.commands c.in_ok-act.ensures.memory.setups
-          (subst (λ (m : HeldMessage). MayActAll c.loop-command.self.sessions c.args.here.via m.commands) takes was.memory).1;
       in_flash = λ flash. keeps.in_flash (was.in_flash flash);
       laid = record { layout = keeps.laid.layout ∙ was.laid.layout; held = keeps.laid.held ∙ was.laid.held };
       quiet = λ memory. (keeps.quiet (was.laid.held ∙ memory)).1 ∙ was.quiet memory;
@@ -48,10 +43,6 @@ loop-command-preserved g c =
           acted_more g.F.Flash.holds g.F.Flash.left_since g.F.Flash.moment g.F.Flash.faults c.args.here c.args.self.now c.loop-command.self c.act.new.self _ device all c.in-Some.command c.next.new.self.commands
           was.in_flash was.laid so_far steps.stands keeps;
     }
-
-pub act-requires-clause-memory : goal.act-requires-clause-memory
-act-requires-clause-memory g c =
-    (subst (λ (m : HeldMessage). MayActAll c.loop-command.self.sessions c.args.here.via m.commands) c.in-Some.ensures.takes c.loop-command.invariant.memory).0
 
 pub returns-in_err-act-clause-fails : goal.returns-in_err-act-clause-fails
 returns-in_err-act-clause-fails g c = on_err c.from_residual.result (λ device stands.

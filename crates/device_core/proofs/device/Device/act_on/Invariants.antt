@@ -3,7 +3,6 @@ use Rattle.wire_base.specs.declared.refusal.Direction.TheVariants.{Down}
 use Rattle.device_core.specs.Device.{DeviceState}
 use Rattle.device_core.specs.Step.{weights}
 use Rattle.device_core.specs.HeldDevice.{DeviceStands}
-use Rattle.device_core.specs.HeldMemory.{MayActAll}
 use Rattle.device_core.specs.HeldSessions.{IsUp, IsInFlash, IsLaidOut}
 use Rattle.device_core.proofs.Acting.{HasActed}
 use Rattle.device_core.proofs.device.Device.act_on.Given as goal
@@ -15,7 +14,6 @@ invariant-loop-command g l = record {
   room : length l.self.outbox + weights l.message.commands ≤ 8;
   counted : l.steps + length l.message.commands ≡ l.initial.steps + length l.fn.message.commands;
   up : IsUp l.self.sessions.state;
-  memory : MayActAll l.self.sessions l.here.via l.message.commands;
   in_flash : IsInFlash l.fn.self.sessions.state → IsInFlash l.self.sessions.state;
   laid : IsLaidOut l.fn.self.sessions l.self.sessions;
   quiet : l.fn.self.sessions.held ≡ false → l.self.sessions.flash ≡ l.fn.self.sessions.flash;

@@ -1,12 +1,9 @@
-use Rattle.std.proofs.Common.{false, sym, ap, ◌∙◌}
-use Rattle.package_grammar.specs.declared.downlink.To.{To}
+use Rattle.std.proofs.Common.{false, ap}
 use Rattle.device_core.specs.declared.delivered.Delivered.{Delivered}
-use Rattle.device_core.specs.Deliver.{Outcome, via_of}
+use Rattle.device_core.specs.Deliver.{Outcome}
 use Rattle.device_core.specs.HeldDevice.{HeldDevice}
 use Rattle.device_core.proofs.Empties.{heard_deaf, hears_as, made_deaf}
 use Rattle.device_core.proofs.Keeping.{keeps_untouched}
-use Rattle.device_core.specs.SessionTable.{no_sessions}
-use Rattle.device_core.proofs.Providing.{heard_may}
 use Rattle.device_core.proofs.device.Device.hear.Goals as goal
 
 pub returns-then-not-hears-clause-makes : goal.returns-then-not-hears-clause-makes
@@ -23,10 +20,3 @@ returns-then-not-hears-clause-keeps g c =
     (ap (λ (h : HeldDevice _). h.sessions) c.count_deaf.ensures) c.requires.up
     (λ device stands. ap (λ (o : Outcome Delivered). o.device.sessions) (heard_deaf c.args.t c.args.word c.args.mark c.args.down.now device
     (hears_as c.args.self.now c.args.t c.to.result c.args.down.now c.hears.result false c.to.ensures c.hears.ensures c.if-not-hears.true device stands)))
-
-pub read-requires-clause-memory : goal.read-requires-clause-memory
-read-requires-clause-memory g c = λ cs read.
-    heard_may c.args.self.now c.args.t _ _ c.to.result _ c.args.down.now c.hears.result cs c.to.ensures
-    (c.via_of.ensures ∙ ap (λ (h : HeldDevice _). via_of h.class_session c.to-2.result) c.self.view_is
-    ∙ ap (λ (x : To). via_of c.args.self.now.class_session x) (c.to-2.ensures ∙ sym c.to.ensures)) c.port.ensures c.bytes.ensures.value
-    (c.hears.ensures no_sessions) c.if-not-hears.false c.requires.memory read

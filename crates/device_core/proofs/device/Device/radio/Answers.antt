@@ -4,9 +4,6 @@ use Rattle.device_core.specs.declared.delivered.Delivered.TheVariants.{Down}
 use Rattle.device_core.specs.declared.delivered.Aired.TheVariants.{Heard}
 use Rattle.device_core.specs.Radio.{radio}
 use Rattle.device_core.proofs.Downs.{makes_down, down_at, down_stored, down_moments, same_heard, aired_makes, aired_fails, aired_stored, aired_moments, foreign_makes, foreign_stored}
-use Rattle.device_core.specs.SessionTable.{no_sessions}
-use Rattle.device_core.specs.declared.delivered.Delivered.TheVariants.{NoMemory}
-use Rattle.device_core.proofs.Providing.{never_unicast}
 use Rattle.device_core.proofs.device.Device.radio.Goals as goal
 
 pub returns-then-is_down-clause-makes : goal.returns-then-is_down-clause-makes
@@ -26,8 +23,7 @@ returns-then-is_down-clause-any_moment g c =
 
 pub returns-in-Ok-clause-makes : goal.returns-in-Ok-clause-makes
 returns-in-Ok-clause-makes g c =
-    aired_makes c.args.self.now c.deliver.new.self c.deliver.result c.args.t c.args.word c.args.mark c.args.bytes.now c.in-Ok.down c.in-Ok.ensures
-    (λ plain. c.deliver.ensures.makes plain (λ none. never_unicast _ c.args.bytes.now c.in-Ok.down (c.in-Ok.ensures no_sessions) (c.deliver.ensures.memory none).1))
+    aired_makes c.args.self.now c.deliver.new.self c.deliver.result c.args.t c.args.word c.args.mark c.args.bytes.now c.in-Ok.down c.in-Ok.ensures c.deliver.ensures.makes
 
 pub returns-in-Ok-clause-down : goal.returns-in-Ok-clause-down
 returns-in-Ok-clause-down g c = λ is. c.deliver.ensures.down (same_heard c.deliver.result Down is)
@@ -38,8 +34,7 @@ returns-in-Ok-clause-fails g c =
 
 pub returns-in-Ok-clause-stored : goal.returns-in-Ok-clause-stored
 returns-in-Ok-clause-stored g c =
-    aired_stored g.F.Flash.holds g.F.Flash.left_since g.F.Flash.moment c.args.self.now c.deliver.new.self c.deliver.result c.args.t c.args.word c.args.mark c.args.bytes.now c.in-Ok.down c.in-Ok.ensures
-    (λ plain. c.deliver.ensures.stored plain (λ none. never_unicast _ c.args.bytes.now c.in-Ok.down (c.in-Ok.ensures no_sessions) (c.deliver.ensures.memory none).1))
+    aired_stored g.F.Flash.holds g.F.Flash.left_since g.F.Flash.moment c.args.self.now c.deliver.new.self c.deliver.result c.args.t c.args.word c.args.mark c.args.bytes.now c.in-Ok.down c.in-Ok.ensures c.deliver.ensures.stored
 
 pub returns-in-Ok-clause-any_moment : goal.returns-in-Ok-clause-any_moment
 returns-in-Ok-clause-any_moment g c =
@@ -52,7 +47,3 @@ returns-in-Err-clause-makes g c = λ plain.
 pub returns-in-Err-clause-stored : goal.returns-in-Err-clause-stored
 returns-in-Err-clause-stored g c = λ plain. foreign_stored g.F.Flash.holds g.F.Flash.left_since g.F.Flash.moment c.args.self.now c.pass_over.new.self c.args.t c.args.word c.args.mark c.args.bytes.now c.in-Err.fault
     c.pass_over.ensures.untouched c.in-Err.ensures
-
-pub returns-in-Ok-clause-memory : goal.returns-in-Ok-clause-memory
-returns-in-Ok-clause-memory g c = λ is.
-    never_unicast _ c.args.bytes.now c.in-Ok.down (c.in-Ok.ensures no_sessions) (c.deliver.ensures.memory (same_heard c.deliver.result NoMemory is)).1

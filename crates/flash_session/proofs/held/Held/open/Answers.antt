@@ -1,5 +1,5 @@
 use Rattle.std.proofs.Common.{◌≡◌, Some, None, subst, ◌∙◌, arith, rules}
-use Rattle.row_elimination.specs.declared.extent.Extent.{Extent}
+use Rattle.row_elimination.specs.Room.{Extent}
 use Rattle.frag_session.specs.HeldSteps.{extent_of}
 use Rattle.flash_session.specs.Opening.{IsFirstForeign}
 use Rattle.flash_session.specs.Replayed.{place_in, IsOpened, IsEmpty}
@@ -9,37 +9,37 @@ use Rattle.flash_session.proofs.held.Held.open.Goals as goal
 
 pub returns-in-Err-clause-foreign : goal.returns-in-Err-clause-foreign
 returns-in-Err-clause-foreign g c = λ p is b now.
-    subst (λ (z : Extent). IsFirstForeign (place_in c.args.base c.args.span c.args.limits z) b p) c.new-slot.ensures.extent (c.in-Err.ensures.foreign p is b now)
+    subst (λ (z : Extent). IsFirstForeign (place_in g.row.W g.row.B c.args.base c.args.span c.args.limits z) b p) c.new-slot.ensures.extent (c.in-Err.ensures.foreign p is b now)
 
 pub returns-in-Err-clause-opened : goal.returns-in-Err-clause-opened
-returns-in-Err-clause-opened g c = λ o b now lies. not_foreign (place_in c.args.base c.args.span c.args.limits c.args.idle) c.in-Err.fault o b lies (λ p is.
-    subst (λ (z : Extent). IsFirstForeign (place_in c.args.base c.args.span c.args.limits z) b p) c.new-slot.ensures.extent (c.in-Err.ensures.foreign p is b now))
+returns-in-Err-clause-opened g c = λ o b now lies. not_foreign (place_in g.row.W g.row.B c.args.base c.args.span c.args.limits c.args.idle) c.in-Err.fault o b lies (λ p is.
+    subst (λ (z : Extent). IsFirstForeign (place_in g.row.W g.row.B c.args.base c.args.span c.args.limits z) b p) c.new-slot.ensures.extent (c.in-Err.ensures.foreign p is b now))
 
 pub returns-in-Ok-None-clause-opened : goal.returns-in-Ok-None-clause-opened
 unfolding extent_of
 returns-in-Ok-None-clause-opened g c = λ o b now lies.
     let none : c.in-Ok-None.field-0 ≡ None = first_of (search rules, cc, grind arith) in
-    let found = subst (λ (z : Extent). IsEmpty (place_in c.args.base c.args.span c.args.limits z) c.find.new.slot (g.F.Flash.holds c.find.new.flash)) c.new-slot.ensures.extent
+    let found = subst (λ (z : Extent). IsEmpty (place_in g.row.W g.row.B c.args.base c.args.span c.args.limits z) c.find.new.slot (g.F.Flash.holds c.find.new.flash)) c.new-slot.ensures.extent
     (found_none _ _ c.in-Ok-None.field-0 none c.in-Ok-None.ensures.found) in
-    let there = empty_there (place_in c.args.base c.args.span c.args.limits c.args.idle) c.find.new.slot 0 0 (c.find.ensures.extent ∙ c.new-slot.ensures.extent) (g.F.Flash.holds c.find.new.flash) found in
-    empty_opened _ _ _ c.in-Ok-None.ensures.kept there o b now (lies_there (place_in c.args.base c.args.span c.args.limits c.args.idle) c.find.new.slot 0 0 (c.find.ensures.extent ∙ c.new-slot.ensures.extent) o b lies)
+    let there = empty_there (place_in g.row.W g.row.B c.args.base c.args.span c.args.limits c.args.idle) c.find.new.slot 0 0 (c.find.ensures.extent ∙ c.new-slot.ensures.extent) (g.F.Flash.holds c.find.new.flash) found in
+    empty_opened _ _ _ c.in-Ok-None.ensures.kept there o b now (lies_there (place_in g.row.W g.row.B c.args.base c.args.span c.args.limits c.args.idle) c.find.new.slot 0 0 (c.find.ensures.extent ∙ c.new-slot.ensures.extent) o b lies)
 
 pub returns-in-Ok-None-clause-held_but : goal.returns-in-Ok-None-clause-held_but
 unfolding extent_of
 returns-in-Ok-None-clause-held_but g c =
     let none : c.in-Ok-None.field-0 ≡ None = first_of (search rules, cc, grind arith) in
-    let found = subst (λ (z : Extent). IsEmpty (place_in c.args.base c.args.span c.args.limits z) c.find.new.slot (g.F.Flash.holds c.find.new.flash)) c.new-slot.ensures.extent
+    let found = subst (λ (z : Extent). IsEmpty (place_in g.row.W g.row.B c.args.base c.args.span c.args.limits z) c.find.new.slot (g.F.Flash.holds c.find.new.flash)) c.new-slot.ensures.extent
     (found_none _ _ c.in-Ok-None.field-0 none c.in-Ok-None.ensures.found) in
-    let there = empty_there (place_in c.args.base c.args.span c.args.limits c.args.idle) c.find.new.slot 0 0 (c.find.ensures.extent ∙ c.new-slot.ensures.extent) (g.F.Flash.holds c.find.new.flash) found in
+    let there = empty_there (place_in g.row.W g.row.B c.args.base c.args.span c.args.limits c.args.idle) c.find.new.slot 0 0 (c.find.ensures.extent ∙ c.new-slot.ensures.extent) (g.F.Flash.holds c.find.new.flash) found in
     empty_but _ _ _ c.in-Ok-None.ensures.kept there
 
 pub invariant_of-result-in-Ok-Some : goal.invariant_of-result-in-Ok-Some
 unfolding extent_of
 invariant_of-result-in-Ok-Some g c =
     let some : c.in-Ok-Some.field-0 ≡ Some c.in-Ok-Some.counts = first_of (search rules, cc, grind arith) in
-    let found = subst (λ (z : Extent). IsOpened (place_in c.args.base c.args.span c.args.limits z) c.find.new.slot (g.F.Flash.holds c.find.new.flash) c.in-Ok-Some.counts) c.new-slot.ensures.extent
+    let found = subst (λ (z : Extent). IsOpened (place_in g.row.W g.row.B c.args.base c.args.span c.args.limits z) c.find.new.slot (g.F.Flash.holds c.find.new.flash) c.in-Ok-Some.counts) c.new-slot.ensures.extent
     (found_some _ _ c.in-Ok-Some.field-0 c.in-Ok-Some.counts some c.in-Ok-Some.ensures.found) in
-    let there = opened_there (place_in c.args.base c.args.span c.args.limits c.args.idle) c.find.new.slot c.in-Ok-Some.counts.records c.in-Ok-Some.counts.tallies (c.find.ensures.extent ∙ c.new-slot.ensures.extent) (g.F.Flash.holds c.find.new.flash) found in
+    let there = opened_there (place_in g.row.W g.row.B c.args.base c.args.span c.args.limits c.args.idle) c.find.new.slot c.in-Ok-Some.counts.records c.in-Ok-Some.counts.tallies (c.find.ensures.extent ∙ c.new-slot.ensures.extent) (g.F.Flash.holds c.find.new.flash) found in
     let but = opened_but _ _ _ c.in-Ok-Some.ensures.kept there in
     record { long = c.requires.long; session = but.0; stands = but.1.stands }
 
@@ -47,25 +47,25 @@ pub returns-in-Ok-Some-clause-opened : goal.returns-in-Ok-Some-clause-opened
 unfolding extent_of
 returns-in-Ok-Some-clause-opened g c = λ o b now lies.
     let some : c.in-Ok-Some.field-0 ≡ Some c.in-Ok-Some.counts = first_of (search rules, cc, grind arith) in
-    let found = subst (λ (z : Extent). IsOpened (place_in c.args.base c.args.span c.args.limits z) c.find.new.slot (g.F.Flash.holds c.find.new.flash) c.in-Ok-Some.counts) c.new-slot.ensures.extent
+    let found = subst (λ (z : Extent). IsOpened (place_in g.row.W g.row.B c.args.base c.args.span c.args.limits z) c.find.new.slot (g.F.Flash.holds c.find.new.flash) c.in-Ok-Some.counts) c.new-slot.ensures.extent
     (found_some _ _ c.in-Ok-Some.field-0 c.in-Ok-Some.counts some c.in-Ok-Some.ensures.found) in
-    let there = opened_there (place_in c.args.base c.args.span c.args.limits c.args.idle) c.find.new.slot c.in-Ok-Some.counts.records c.in-Ok-Some.counts.tallies (c.find.ensures.extent ∙ c.new-slot.ensures.extent) (g.F.Flash.holds c.find.new.flash) found in
-    opened_for _ _ _ c.in-Ok-Some.ensures.kept there o b now (lies_there (place_in c.args.base c.args.span c.args.limits c.args.idle) c.find.new.slot c.in-Ok-Some.counts.records c.in-Ok-Some.counts.tallies (c.find.ensures.extent ∙ c.new-slot.ensures.extent) o b lies)
+    let there = opened_there (place_in g.row.W g.row.B c.args.base c.args.span c.args.limits c.args.idle) c.find.new.slot c.in-Ok-Some.counts.records c.in-Ok-Some.counts.tallies (c.find.ensures.extent ∙ c.new-slot.ensures.extent) (g.F.Flash.holds c.find.new.flash) found in
+    opened_for _ _ _ c.in-Ok-Some.ensures.kept there o b now (lies_there (place_in g.row.W g.row.B c.args.base c.args.span c.args.limits c.args.idle) c.find.new.slot c.in-Ok-Some.counts.records c.in-Ok-Some.counts.tallies (c.find.ensures.extent ∙ c.new-slot.ensures.extent) o b lies)
 
 pub returns-in-Ok-Some-clause-held_but : goal.returns-in-Ok-Some-clause-held_but
 unfolding extent_of
 returns-in-Ok-Some-clause-held_but g c =
     let some : c.in-Ok-Some.field-0 ≡ Some c.in-Ok-Some.counts = first_of (search rules, cc, grind arith) in
-    let found = subst (λ (z : Extent). IsOpened (place_in c.args.base c.args.span c.args.limits z) c.find.new.slot (g.F.Flash.holds c.find.new.flash) c.in-Ok-Some.counts) c.new-slot.ensures.extent
+    let found = subst (λ (z : Extent). IsOpened (place_in g.row.W g.row.B c.args.base c.args.span c.args.limits z) c.find.new.slot (g.F.Flash.holds c.find.new.flash) c.in-Ok-Some.counts) c.new-slot.ensures.extent
     (found_some _ _ c.in-Ok-Some.field-0 c.in-Ok-Some.counts some c.in-Ok-Some.ensures.found) in
-    let there = opened_there (place_in c.args.base c.args.span c.args.limits c.args.idle) c.find.new.slot c.in-Ok-Some.counts.records c.in-Ok-Some.counts.tallies (c.find.ensures.extent ∙ c.new-slot.ensures.extent) (g.F.Flash.holds c.find.new.flash) found in
+    let there = opened_there (place_in g.row.W g.row.B c.args.base c.args.span c.args.limits c.args.idle) c.find.new.slot c.in-Ok-Some.counts.records c.in-Ok-Some.counts.tallies (c.find.ensures.extent ∙ c.new-slot.ensures.extent) (g.F.Flash.holds c.find.new.flash) found in
     opened_but _ _ _ c.in-Ok-Some.ensures.kept there
 
 pub returns-in-Ok-Some-clause-nothing_foreign : goal.returns-in-Ok-Some-clause-nothing_foreign
 unfolding extent_of
 returns-in-Ok-Some-clause-nothing_foreign g c = λ b now header place foreign.
     let some : c.in-Ok-Some.field-0 ≡ Some c.in-Ok-Some.counts = first_of (search rules, cc, grind arith) in
-    let found = subst (λ (z : Extent). IsOpened (place_in c.args.base c.args.span c.args.limits z) c.find.new.slot (g.F.Flash.holds c.find.new.flash) c.in-Ok-Some.counts) c.new-slot.ensures.extent
+    let found = subst (λ (z : Extent). IsOpened (place_in g.row.W g.row.B c.args.base c.args.span c.args.limits z) c.find.new.slot (g.F.Flash.holds c.find.new.flash) c.in-Ok-Some.counts) c.new-slot.ensures.extent
     (found_some _ _ c.in-Ok-Some.field-0 c.in-Ok-Some.counts some c.in-Ok-Some.ensures.found) in
-    let there = opened_there (place_in c.args.base c.args.span c.args.limits c.args.idle) c.find.new.slot c.in-Ok-Some.counts.records c.in-Ok-Some.counts.tallies (c.find.ensures.extent ∙ c.new-slot.ensures.extent) (g.F.Flash.holds c.find.new.flash) found in
-    opened_fine _ _ _ c.in-Ok-Some.ensures.kept there b now header place (foreign_there (place_in c.args.base c.args.span c.args.limits c.args.idle) c.find.new.slot c.in-Ok-Some.counts.records c.in-Ok-Some.counts.tallies (c.find.ensures.extent ∙ c.new-slot.ensures.extent) b place foreign)
+    let there = opened_there (place_in g.row.W g.row.B c.args.base c.args.span c.args.limits c.args.idle) c.find.new.slot c.in-Ok-Some.counts.records c.in-Ok-Some.counts.tallies (c.find.ensures.extent ∙ c.new-slot.ensures.extent) (g.F.Flash.holds c.find.new.flash) found in
+    opened_fine _ _ _ c.in-Ok-Some.ensures.kept there b now header place (foreign_there (place_in g.row.W g.row.B c.args.base c.args.span c.args.limits c.args.idle) c.find.new.slot c.in-Ok-Some.counts.records c.in-Ok-Some.counts.tallies (c.find.ensures.extent ∙ c.new-slot.ensures.extent) b place foreign)

@@ -5,12 +5,12 @@ use Rattle.frag_session.proofs.Calls.{lived}
 use Rattle.frag_session.proofs.slots.Slot.delete.Goals as goal
 
 pub returns-clause-answer : goal.returns-clause-answer
-returns-clause-answer c = λ s k. c.is_some-lived.ensures ∙ ap is_some c.session.ensures ∙ lived c.args.self.now s k
+returns-clause-answer g c = λ s k. c.is_some-lived.ensures ∙ ap is_some c.session.ensures ∙ lived c.args.self.now s k
 
 pub returns-clause-stands : goal.returns-clause-stands
 unfolding Stands
-returns-clause-stands c = rw c.clear.ensures tt
+returns-clause-stands g c = rw c.clear.ensures tt
 
 pub returns-clause-extent : goal.returns-clause-extent
 unfolding extent_of
-returns-clause-extent c = rw c.clear.ensures refl
+returns-clause-extent g c = rw c.clear.ensures refl

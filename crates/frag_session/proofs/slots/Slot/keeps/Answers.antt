@@ -5,4 +5,4 @@ use Rattle.frag_session.proofs.Standing.{request_kept}
 use Rattle.frag_session.proofs.slots.Slot.keeps.Goals as goal
 
 pub returns : goal.returns
-returns c = λ s k. c.lives.ensures ∙ ap (λ (o : Option SetupReq). lives o c.args.req) (c.session.ensures ∙ request_kept c.args.self.now s k)
+returns g c = λ s k. c.lives.ensures ∙ ap (λ (o : Option SetupReq). lives o c.args.req) (c.session.ensures ∙ request_kept c.args.self.now s k)

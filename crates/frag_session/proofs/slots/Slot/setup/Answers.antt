@@ -6,13 +6,13 @@ use Rattle.frag_session.proofs.slots.Slot.setup.Goals as goal
 use Rattle.frag_session.proofs.slots.Slot.setup.Goals.{else-bits-eq0-via-then-bits-eq0+else-not-lives, else-bits-eq0-via-else-bits-eq0}
 
 pub returns-then-not-lives-clause-stands : goal.returns-then-not-lives-clause-stands
-returns-then-not-lives-clause-stands c = λ s k.
+returns-then-not-lives-clause-stands g c = λ s k.
     let accepted = sym c.refusal-bits.ensures ∙ c.if-bits-eq0.true in
     let other = ap (λ (o : Option SetupReq). lives o c.args.req) (sym c.session.ensures) ∙ sym c.lives.ensures ∙ c.if-not-lives.true in
     renews c.args.limits c.args.self.now c.renew.new.self s _ c.args.req accepted other k c.renew.ensures.stands
 
 pub returns-else-bits-eq0-clause-stands : goal.returns-else-bits-eq0-clause-stands
-returns-else-bits-eq0-clause-stands c = λ s k.
+returns-else-bits-eq0-clause-stands g c = λ s k.
     let bits = sym c.refusal-bits.ensures in
     elim c.else-bits-eq0.branch [
       | else-bits-eq0-via-then-bits-eq0+else-not-lives w ↦

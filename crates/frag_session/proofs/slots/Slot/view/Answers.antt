@@ -3,4 +3,4 @@ use Rattle.frag_session.proofs.Calls.{shows}
 use Rattle.frag_session.proofs.slots.Slot.view.Goals as goal
 
 pub returns-clause-value : goal.returns-clause-value
-returns-clause-value c = λ s k. c.shown.ensures.value ∙ shows c.args.self.now s k
+returns-clause-value g c = λ s k. c.shown.ensures.value ∙ shows c.args.self.now s k

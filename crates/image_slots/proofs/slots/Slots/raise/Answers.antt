@@ -10,6 +10,6 @@ returns-clause-valid c = λ version was.
     let s = c.self.inside in
     let held : s.next ≡ Valid version = ap (λ (x : HeldSlots). x.slots.next) c.self.view_is ∙ was in
     elim c.if-ne.branch [
-      | then-ne w ↦ rw (w.self-inside-is, w.read-self-inside.ensures.state, w.second.ensures) (valid_again s.next s.files.second s.hw s.formats version c.self.invariant.read held)
+      | then-ne w ↦ rw (w.self-inside-is, w.read-self-inside.ensures.state, w.deref.ensures.value) (valid_again s.next s.next_file.items s.hw s.formats version c.self.invariant.2 held)
       | else-ne w ↦ cc
     ]

@@ -5,7 +5,7 @@ use Rattle.row_arena.proofs.Arenas.{row_seen, rows_counted, in_room}
 use Rattle.row_arena.proofs.arena.RowArena.words.Goals as goal
 
 pub words_at-requires : goal.words_at-requires
-words_at-requires c =
+words_at-requires g c =
     let s = c.self.inside in
     let lt : c.args.r < s.rows = omega (arith, rows_counted c.args.self.now s.rows s.cols s.cell s.words.items s.bytes.items c.self.view_is) in
     let room : c.args.r * words_for s.cols + words_for s.cols ≤ length s.words.items = in_room s.rows c.args.r (words_for s.cols) s.words.items c.self.invariant.arena.words_sized lt in
@@ -13,17 +13,17 @@ words_at-requires c =
 
 pub returns-clause-line : goal.returns-clause-line
 unfolding row_in
-returns-clause-line c =
+returns-clause-line g c =
     let s = c.self.inside in
     let lt : c.args.r < s.rows = omega (arith, rows_counted c.args.self.now s.rows s.cols s.cell s.words.items s.bytes.items c.self.view_is) in
     ap line_in (c.words_at.ensures.value ∙ ap₂ (λ w l. stretch c.args.r w l) c.words_for-width.ensures.value c.deref.ensures.value)
     ∙ sym (ap (λ row. row.line) (row_seen c.args.self.now s.rows s.cols s.cell s.words.items s.bytes.items c.args.r c.self.view_is lt))
 
 pub returns-clause-len : goal.returns-clause-len
-returns-clause-len c = c.words_at.ensures.len ∙ c.words_for-width.ensures.value ∙ ap (λ a. words_for a.cols) c.self.view_is
+returns-clause-len g c = c.words_at.ensures.len ∙ c.words_for-width.ensures.value ∙ ap (λ a. words_for a.cols) c.self.view_is
 
 pub returns-clause-within : goal.returns-clause-within
-returns-clause-within c =
+returns-clause-within g c =
     let s = c.self.inside in
     let lt : c.args.r < s.rows = omega (arith, rows_counted c.args.self.now s.rows s.cols s.cell s.words.items s.bytes.items c.self.view_is) in
     rw (c.words_at.ensures.value, c.words_for-width.ensures.value, c.deref.ensures.value, ← c.self.view_is) (c.self.invariant.arena.within c.args.r lt)

@@ -12,67 +12,67 @@ use Rattle.row_elimination.proofs.solver.Solver.feed_counted.Goals as goal
 
 pub invariant_of-self : goal.invariant_of-self
 invariant_of-self g c =
-    let k : Kept = c.deref_mut-kept.result.now in
+    let k : Kept g.row.W g.row.B = c.deref_mut-kept.result.now in
     let same : k ≡ c.self.inside.kept.value = c.deref_mut-kept.ensures.value in
-    let inv : IsSolver k.table k.stage (vec_capacity k.line) (vec_capacity k.picks) (vec_capacity k.part) k.line.items k.picks.items k.part.items =
-    subst (λ (x : Kept). IsSolver x.table x.stage (vec_capacity x.line) (vec_capacity x.picks) (vec_capacity x.part) x.line.items x.picks.items x.part.items) (sym same) c.self.invariant in
-    let view : held_of k.stage k.table ≡ c.args.self.now = ap (λ (x : Kept). held_of x.stage x.table) same ∙ c.self.view_is in
+    let inv : IsSolver k.table k.stage (vec_capacity k.line) (vec_capacity k.picks) k.line.items k.picks.items k.part.items =
+    subst (λ (x : Kept g.row.W g.row.B). IsSolver x.table x.stage (vec_capacity x.line) (vec_capacity x.picks) x.line.items x.picks.items x.part.items) (sym same) c.self.invariant in
+    let view : held_of k.stage k.table ≡ c.args.self.now = ap (λ (x : Kept g.row.W g.row.B). held_of x.stage x.table) same ∙ c.self.view_is in
     let line : List ℕ = k.line.items in
     let picks : List ℕ = k.picks.items in
     let part : List ℕ = k.part.items in
     let at : k.stage ≡ stage.Receiving = ap (λ (h : Held). h.stage) view ∙ c.requires.receiving in
-    let was : IsSolver k.table stage.Receiving (vec_capacity k.line) (vec_capacity k.picks) (vec_capacity k.part) line picks part =
-    subst (λ s. IsSolver k.table s (vec_capacity k.line) (vec_capacity k.picks) (vec_capacity k.part) line picks part) at inv in
+    let was : IsSolver k.table stage.Receiving (vec_capacity k.line) (vec_capacity k.picks) line picks part =
+    subst (λ s. IsSolver k.table s (vec_capacity k.line) (vec_capacity k.picks) line picks part) at inv in
     rw (
       c.stage_after-kept.ensures,
       written k.line.len c.take-fed.new.line line (c.take-fed.auto.line ∙ c.deref_mut.ensures.len),
       written k.picks.len c.take-fed.new.picks picks (c.take-fed.auto.picks ∙ c.deref_mut-2.ensures.len),
       written k.part.len c.take-fed.new.rest part (c.take-fed.auto.rest ∙ c.deref_mut-3.ensures.len),
     )
-    (still_solver k.table c.take-fed.new.table c.take-fed.result (vec_capacity k.line) (vec_capacity k.picks) (vec_capacity k.part) line c.take-fed.new.line picks c.take-fed.new.picks part c.take-fed.new.rest was c.take-fed.ensures.room
+    (still_solver k.table c.take-fed.new.table c.take-fed.result (vec_capacity k.line) (vec_capacity k.picks) line c.take-fed.new.line picks c.take-fed.new.picks part c.take-fed.new.rest was c.take-fed.ensures.room
     (c.take-fed.auto.line ∙ ap length c.deref_mut.ensures.value) (c.take-fed.auto.picks ∙ ap length c.deref_mut-2.ensures.value) (c.take-fed.auto.rest ∙ ap length c.deref_mut-3.ensures.value)
     (left_to_gain c.take-fed.result k.table c.take-fed.new.table c.args.n c.args.part.now c.take-fed.ensures.fed c.take-fed.ensures.held))
 
 pub returns-clause-receiving : goal.returns-clause-receiving
 returns-clause-receiving g c =
-    let k : Kept = c.deref_mut-kept.result.now in
+    let k : Kept g.row.W g.row.B = c.deref_mut-kept.result.now in
     let same : k ≡ c.self.inside.kept.value = c.deref_mut-kept.ensures.value in
-    let view : held_of k.stage k.table ≡ c.args.self.now = ap (λ (x : Kept). held_of x.stage x.table) same ∙ c.self.view_is in
+    let view : held_of k.stage k.table ≡ c.args.self.now = ap (λ (x : Kept g.row.W g.row.B). held_of x.stage x.table) same ∙ c.self.view_is in
     fed_receives c.take-fed.result c.args.self.now _ c.args.n c.args.part.now
     (fed_is c.take-fed.result k.table c.take-fed.new.table k.stage c.stage_after-kept.result c.args.self.now c.args.n c.args.part.now view c.requires.receiving
     c.stage_after-kept.ensures c.take-fed.ensures.fed)
 
 pub returns-clause-complete : goal.returns-clause-complete
 returns-clause-complete g c =
-    let k : Kept = c.deref_mut-kept.result.now in
+    let k : Kept g.row.W g.row.B = c.deref_mut-kept.result.now in
     let same : k ≡ c.self.inside.kept.value = c.deref_mut-kept.ensures.value in
-    let view : held_of k.stage k.table ≡ c.args.self.now = ap (λ (x : Kept). held_of x.stage x.table) same ∙ c.self.view_is in
+    let view : held_of k.stage k.table ≡ c.args.self.now = ap (λ (x : Kept g.row.W g.row.B). held_of x.stage x.table) same ∙ c.self.view_is in
     fed_completes c.take-fed.result c.args.self.now _ c.args.n c.args.part.now
     (fed_is c.take-fed.result k.table c.take-fed.new.table k.stage c.stage_after-kept.result c.args.self.now c.args.n c.args.part.now view c.requires.receiving
     c.stage_after-kept.ensures c.take-fed.ensures.fed)
 
 pub returns-clause-no_rows : goal.returns-clause-no_rows
 returns-clause-no_rows g c =
-    let k : Kept = c.deref_mut-kept.result.now in
+    let k : Kept g.row.W g.row.B = c.deref_mut-kept.result.now in
     let same : k ≡ c.self.inside.kept.value = c.deref_mut-kept.ensures.value in
-    let view : held_of k.stage k.table ≡ c.args.self.now = ap (λ (x : Kept). held_of x.stage x.table) same ∙ c.self.view_is in
+    let view : held_of k.stage k.table ≡ c.args.self.now = ap (λ (x : Kept g.row.W g.row.B). held_of x.stage x.table) same ∙ c.self.view_is in
     fed_overflows c.take-fed.result c.args.self.now _ c.args.n c.args.part.now
     (fed_is c.take-fed.result k.table c.take-fed.new.table k.stage c.stage_after-kept.result c.args.self.now c.args.n c.args.part.now view c.requires.receiving
     c.stage_after-kept.ensures c.take-fed.ensures.fed)
 
 pub returns-clause-conflict : goal.returns-clause-conflict
 returns-clause-conflict g c =
-    let k : Kept = c.deref_mut-kept.result.now in
+    let k : Kept g.row.W g.row.B = c.deref_mut-kept.result.now in
     let same : k ≡ c.self.inside.kept.value = c.deref_mut-kept.ensures.value in
-    let view : held_of k.stage k.table ≡ c.args.self.now = ap (λ (x : Kept). held_of x.stage x.table) same ∙ c.self.view_is in
+    let view : held_of k.stage k.table ≡ c.args.self.now = ap (λ (x : Kept g.row.W g.row.B). held_of x.stage x.table) same ∙ c.self.view_is in
     fed_contradicts c.take-fed.result c.args.self.now _ c.args.n c.args.part.now
     (fed_is c.take-fed.result k.table c.take-fed.new.table k.stage c.stage_after-kept.result c.args.self.now c.args.n c.args.part.now view c.requires.receiving
     c.stage_after-kept.ensures c.take-fed.ensures.fed)
 
 pub returns-clause-few_sums : goal.returns-clause-few_sums
 returns-clause-few_sums g c =
-    let k : Kept = c.deref_mut-kept.result.now in
+    let k : Kept g.row.W g.row.B = c.deref_mut-kept.result.now in
     let same : k ≡ c.self.inside.kept.value = c.deref_mut-kept.ensures.value in
-    let view : held_of k.stage k.table ≡ c.args.self.now = ap (λ (x : Kept). held_of x.stage x.table) same ∙ c.self.view_is in
+    let view : held_of k.stage k.table ≡ c.args.self.now = ap (λ (x : Kept g.row.W g.row.B). held_of x.stage x.table) same ∙ c.self.view_is in
     subst (λ (h : Held). c.take-fed.new.sums ≤ c.args.sums.now + max 1 (h.shape.nb_frag / 2) + h.shape.rows) view
     (omega (arith, c.take-fed.ensures.sums, few_in_line k.table.shape.nb_frag c.args.n))

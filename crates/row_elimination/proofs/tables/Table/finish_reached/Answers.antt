@@ -7,10 +7,12 @@ use Rattle.row_elimination.proofs.Gridding.{written, wrote_parts, finished, fini
 use Rattle.row_elimination.proofs.tables.Table.finish_reached.Goals as goal
 
 pub invariant_of-self : goal.invariant_of-self
-invariant_of-self c =
+invariant_of-self g c =
     let s = c.self.inside in
     rw (written s.area.len c.put_parts.new.area s.area.items (c.put_parts.auto.area ∙ c.deref_mut.ensures.len))
     (record {
+      words_few = c.self.invariant.words_few;
+      bytes_few = c.self.invariant.bytes_few;
       memory = c.self.invariant.memory;
       within = c.self.invariant.within;
       area_fits = omega (arith, c.put_parts.auto.area, ap length c.deref_mut.ensures.value, c.self.invariant.area_fits);
@@ -22,7 +24,7 @@ invariant_of-self c =
     })
 
 pub returns-clause-places : goal.returns-clause-places
-returns-clause-places c =
+returns-clause-places g c =
     let s = c.self.inside in
     rw (written s.area.len c.put_parts.new.area s.area.items (c.put_parts.auto.area ∙ c.deref_mut.ensures.len))
     (finished_places s.frag_size s.area.items c.put_parts.new.area s.arena (take s.nb_frag s.columns.items)
@@ -31,7 +33,7 @@ returns-clause-places c =
     ∙ ap (λ (g : Grid). g.places) c.self.view_is)
 
 pub returns-clause-parts : goal.returns-clause-parts
-returns-clause-parts c =
+returns-clause-parts g c =
     let s = c.self.inside in
     rw (written s.area.len c.put_parts.new.area s.area.items (c.put_parts.auto.area ∙ c.deref_mut.ensures.len))
     (subst (λ (g : Grid). (d : ℕ) (e : Equation) → Tells g.places d e → chunk d g.shape.frag_size c.put_parts.new.area ≡ e.part) c.self.view_is

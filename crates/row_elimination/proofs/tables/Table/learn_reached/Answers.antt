@@ -26,21 +26,23 @@ add_piece_and_row-requires g c =
     let known_is : Knows shape (grown c.args.p l part ps) c.args.k c.args.piece.now =
     subst (λ (x : Grid). Knows x.shape (grown c.args.p l part x.places) c.args.k c.args.piece.now) (sym c.self.view_is) c.requires.new.known in
     let fresh : is_piece (get_or ps c.args.k free) ≡ false = subst (λ (x : Grid). is_piece (get_or x.places c.args.k free) ≡ false) (sym c.self.view_is) c.requires.new.fresh in
-    let cols = i.arena_cols in
-    record {
-      columns = omega (arith, cols, ap length c.deref_mut.ensures.value, i.most, i.columns_sized);
-      inside = omega (arith, new.inside, cols);
-      piece_inside = omega (arith, known_is.inside, cols);
-      sized = known_is.piece.sized ∙ sym sz;
-      room = rw (sz, c.deref_mut-2.ensures.value)
-          (subst (λ (x : Grid). c.args.k * x.shape.frag_size + x.shape.frag_size ≤ length x.area) (sym c.self.view_is) c.requires.reached);
-      stored = rw (c.deref_mut.ensures.value)
-          (stored_at s.nb_frag s.frag_size s.arena.cols (length part) s.rows s.count s.gained s.columns.items s.spare.items s.known.items s.area.items s.arena i i.arena_cols sz);
-      new = file_row s.nb_frag s.frag_size s.rows s.count s.gained s.columns.items s.spare.items s.known.items s.area.items s.arena line part i ln new.within sz;
-      kind = rw (c.deref_mut.ensures.value, i.arena_cols)
-          (learned_kind shape s.area.items s.arena os c.args.k c.args.p l part c.args.piece.now new known_is fresh);
-      lead = rw (c.deref_mut.ensures.value, i.arena_cols) (lead_free s.nb_frag s.frag_size s.area.items s.arena os c.args.p l part new);
-    }
+    let cols = i.arena_cols in (
+      omega (arith, c.self.invariant.words_few, c.self.invariant.bytes_few),
+      record {
+        columns = omega (arith, cols, ap length c.deref_mut.ensures.value, i.most, i.columns_sized);
+        inside = omega (arith, new.inside, cols);
+        piece_inside = omega (arith, known_is.inside, cols);
+        sized = known_is.piece.sized ∙ sym sz;
+        room = rw (sz, c.deref_mut-2.ensures.value)
+            (subst (λ (x : Grid). c.args.k * x.shape.frag_size + x.shape.frag_size ≤ length x.area) (sym c.self.view_is) c.requires.reached);
+        stored = rw (c.deref_mut.ensures.value)
+            (stored_at s.nb_frag s.frag_size s.arena.cols (length part) s.rows s.count s.gained s.columns.items s.spare.items s.known.items s.area.items s.arena i i.arena_cols sz);
+        new = file_row s.nb_frag s.frag_size s.rows s.count s.gained s.columns.items s.spare.items s.known.items s.area.items s.arena line part i ln new.within sz;
+        kind = rw (c.deref_mut.ensures.value, i.arena_cols)
+            (learned_kind shape s.area.items s.arena os c.args.k c.args.p l part c.args.piece.now new known_is fresh);
+        lead = rw (c.deref_mut.ensures.value, i.arena_cols) (lead_free s.nb_frag s.frag_size s.area.items s.arena os c.args.p l part new);
+      },
+    )
 
 pub mark-requires-clause-words : goal.mark-requires-clause-words
 mark-requires-clause-words g c =
@@ -94,6 +96,8 @@ invariant_of-self g c =
       written s.known.len c.mark.new.known s.known.items (c.mark.auto.known ∙ c.deref_mut-3.ensures.len),
     )
     (record {
+      words_few = c.self.invariant.words_few;
+      bytes_few = c.self.invariant.bytes_few;
       memory = c.self.invariant.memory;
       within = c.self.invariant.within;
       area_fits = omega (arith, c.add_piece_and_row.auto.area, ap length c.deref_mut-2.ensures.value, c.self.invariant.area_fits);

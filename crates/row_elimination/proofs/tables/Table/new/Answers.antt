@@ -3,7 +3,9 @@ use Rattle.row_elimination.proofs.Gridding.{no_file}
 use Rattle.row_elimination.proofs.tables.Table.new.Goals as goal
 
 pub invariant_of-result : goal.invariant_of-result
-invariant_of-result c = record {
+invariant_of-result g c = record {
+  words_few = c.requires.words;
+  bytes_few = c.requires.bytes;
   memory = record {
     few = c.requires.few;
     columns_held = omega (arith, c.in_ok-columns.ensures.capacity);

@@ -28,17 +28,19 @@ add_row-requires g c =
     let more : s.count < s.rows = omega (arith, i.counted, room) in
     let new = subst (λ (g : Grid). IsNew g.shape.nb_frag g.shape.frag_size g.places c.args.p (line_in line) part) (sym c.self.view_is) c.requires.new in
     let slot : c.index-slot.result.now ≡ get_or s.spare.items s.count 0 =
-    c.index-slot.ensures ∙ get_or_default_zero s.spare.items s.count c.index-slot.result.now (omega (arith, more, i.spare_sized)) in
-    record {
-      columns = omega (arith, i.arena_cols, ap length c.deref_mut.ensures.value, i.most, i.columns_sized);
-      inside = omega (arith, new.inside, i.arena_cols);
-      stored = rw (c.deref_mut.ensures.value)
-          (stored_at s.nb_frag s.frag_size s.arena.cols (length part) s.rows s.count s.gained s.columns.items s.spare.items s.known.items s.area.items s.arena i i.arena_cols sz);
-      new = file_row s.nb_frag s.frag_size s.rows s.count s.gained s.columns.items s.spare.items s.known.items s.area.items s.arena line part i ln new.within sz;
-      slot = rw (i.arena_rows, slot) (i.slots.spare_within s.count (omega arith) more);
-      fits = omega (arith, slot, i.slots.spare_within s.count (omega arith) more, i.few, i.most);
-      alone = rw (c.deref_mut.ensures.value, i.arena_cols, slot) (λ d e. i.slots.spare_free s.count d (omega arith) more e);
-    }
+    c.index-slot.ensures ∙ get_or_default_zero s.spare.items s.count c.index-slot.result.now (omega (arith, more, i.spare_sized)) in (
+      omega (arith, c.self.invariant.words_few, c.self.invariant.bytes_few),
+      record {
+        columns = omega (arith, i.arena_cols, ap length c.deref_mut.ensures.value, i.most, i.columns_sized);
+        inside = omega (arith, new.inside, i.arena_cols);
+        stored = rw (c.deref_mut.ensures.value)
+            (stored_at s.nb_frag s.frag_size s.arena.cols (length part) s.rows s.count s.gained s.columns.items s.spare.items s.known.items s.area.items s.arena i i.arena_cols sz);
+        new = file_row s.nb_frag s.frag_size s.rows s.count s.gained s.columns.items s.spare.items s.known.items s.area.items s.arena line part i ln new.within sz;
+        slot = rw (i.arena_rows, slot) (i.slots.spare_within s.count (omega arith) more);
+        fits = omega (arith, slot, i.slots.spare_within s.count (omega arith) more, i.few, i.most);
+        alone = rw (c.deref_mut.ensures.value, i.arena_cols, slot) (λ d e. i.slots.spare_free s.count d (omega arith) more e);
+      },
+    )
 
 pub overflow_add-self : goal.overflow_add-self
 overflow_add-self g c =
@@ -83,6 +85,8 @@ invariant_of-self g c =
     c.deref_mut.ensures.value (c.add_row.ensures.places area) in
     rw (written s.columns.len c.add_row.new.columns columns (c.add_row.auto.columns ∙ c.deref_mut.ensures.len))
     (record {
+      words_few = c.self.invariant.words_few;
+      bytes_few = c.self.invariant.bytes_few;
       memory = c.self.invariant.memory;
       within = c.self.invariant.within;
       area_fits = c.self.invariant.area_fits;

@@ -11,11 +11,11 @@ use Rattle.row_elimination.proofs.Gridding.{written, put_in}
 use Rattle.row_elimination.proofs.tables.Table.put_reached.Goals as goal
 
 pub mark-requires-clause-words : goal.mark-requires-clause-words
-mark-requires-clause-words c =
+mark-requires-clause-words g c =
     omega (arith, ap length c.deref_mut-3.ensures.value, c.self.invariant.grid.known_sized)
 
 pub overflow_add-self : goal.overflow_add-self
-overflow_add-self c =
+overflow_add-self g c =
     let i = c.self.invariant.grid in
     omega (
       arith,
@@ -26,7 +26,7 @@ overflow_add-self c =
     )
 
 pub invariant_of-self : goal.invariant_of-self
-invariant_of-self c =
+invariant_of-self g c =
     let nb : ℕ = c.self.inside.nb_frag in
     let size : ℕ = c.self.inside.frag_size in
     let columns : List Column = c.self.inside.columns.items in
@@ -54,6 +54,8 @@ invariant_of-self c =
       written c.self.inside.known.len c.mark.new.known known (c.mark.auto.known ∙ c.deref_mut-3.ensures.len),
     )
     (record {
+      words_few = c.self.invariant.words_few;
+      bytes_few = c.self.invariant.bytes_few;
       memory = c.self.invariant.memory;
       within = c.self.invariant.within;
       area_fits = omega (arith, c.add_piece.auto.area, ap length c.deref_mut-2.ensures.value, c.self.invariant.area_fits);

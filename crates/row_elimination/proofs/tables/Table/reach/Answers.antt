@@ -6,19 +6,21 @@ use Rattle.row_elimination.proofs.Gridding.{longer, longer_places}
 use Rattle.row_elimination.proofs.tables.Table.reach.Goals as goal
 
 pub widen-requires : goal.widen-requires
-widen-requires c =
+widen-requires g c =
     let s = c.self.inside in
     let few : c.args.n ≤ s.nb_frag * s.frag_size = subst (λ (x : Grid). c.args.n ≤ x.shape.nb_frag * x.shape.frag_size) (sym c.self.view_is) c.requires.inside in
     omega (arith, few, c.self.invariant.pieces_fit, c.self.invariant.memory.area_held)
 
 pub invariant_of-self : goal.invariant_of-self
-invariant_of-self c =
+invariant_of-self g c =
     let s = c.self.inside in
     let m = c.self.invariant.memory in
     let more : List ℕ = replicate (c.args.n - length s.area.items) 0 in
     let few : c.args.n ≤ s.nb_frag * s.frag_size = subst (λ (x : Grid). c.args.n ≤ x.shape.nb_frag * x.shape.frag_size) (sym c.self.view_is) c.requires.inside in
     rw c.widen.ensures.value
     (record {
+      words_few = c.self.invariant.words_few;
+      bytes_few = c.self.invariant.bytes_few;
       memory = record {
         few = m.few;
         columns_held = m.columns_held;
@@ -33,7 +35,7 @@ invariant_of-self c =
     })
 
 pub returns-clause-places : goal.returns-clause-places
-returns-clause-places c =
+returns-clause-places g c =
     let s = c.self.inside in
     let more : List ℕ = replicate (c.args.n - length s.area.items) 0 in
     ap (λ l. places_in s.frag_size l s.arena (take s.nb_frag s.columns.items)) c.widen.ensures.value

@@ -22,19 +22,21 @@ reduce-requires g c =
     let sz : length c.args.part.now ≡ s.frag_size = c.requires.piece.sized ∙ ap (λ (x : Grid). x.shape.frag_size) (sym c.self.view_is) in
     let long : length (take s.nb_frag s.columns.items) ≡ s.nb_frag = length-take-le s.nb_frag s.columns.items (omega (arith, i.most, i.columns_sized)) in
     let within : line_in c.args.line.now < 2 ^ s.nb_frag = subst (λ (x : Grid). line_in c.args.line.now < 2 ^ x.shape.nb_frag) (sym c.self.view_is) c.requires.within in
-    let few = width_few s.nb_frag i.most in
-    record {
-      stored = rw (c.deref.ensures.value, sz) (stored s.nb_frag s.frag_size s.rows s.count s.gained s.columns.items s.spare.items s.known.items s.area.items s.arena i);
-      marks = rw (c.deref.ensures.value, c.deref-2.ensures.value, c.deref-3.ensures.value, sz, ln) i.marks;
-      reduced = rw (c.deref.ensures.value, c.deref-3.ensures.value, sz, long) i.reduced;
-      piece = record { sized = refl; bytes = c.requires.piece.bytes };
-      words = rw (c.deref.ensures.value, long) ln;
-      same = rw (c.deref-2.ensures.value) (sym (length-take-le (length c.args.line.now) s.known.items (omega (arith, ln, i.known_sized))));
-      few = omega (arith, ln, few);
-      within = rw (c.deref.ensures.value, long) within;
-      picks = c.requires.picks;
-      sized = c.requires.sized;
-    }
+    let few = width_few s.nb_frag i.most in (
+      omega (arith, c.self.invariant.words_few, c.self.invariant.bytes_few),
+      record {
+        stored = rw (c.deref.ensures.value, sz) (stored s.nb_frag s.frag_size s.rows s.count s.gained s.columns.items s.spare.items s.known.items s.area.items s.arena i);
+        marks = rw (c.deref.ensures.value, c.deref-2.ensures.value, c.deref-3.ensures.value, sz, ln) i.marks;
+        reduced = rw (c.deref.ensures.value, c.deref-3.ensures.value, sz, long) i.reduced;
+        piece = record { sized = refl; bytes = c.requires.piece.bytes };
+        words = rw (c.deref.ensures.value, long) ln;
+        same = rw (c.deref-2.ensures.value) (sym (length-take-le (length c.args.line.now) s.known.items (omega (arith, ln, i.known_sized))));
+        few = omega (arith, ln, few);
+        within = rw (c.deref.ensures.value, long) within;
+        picks = c.requires.picks;
+        sized = c.requires.sized;
+      },
+    )
 
 pub returns-clause-left : goal.returns-clause-left
 returns-clause-left g c =

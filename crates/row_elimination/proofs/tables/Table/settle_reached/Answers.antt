@@ -11,7 +11,7 @@ use Rattle.row_elimination.proofs.Gridding.{written, column_read, settled_count,
 use Rattle.row_elimination.proofs.tables.Table.settle_reached.Goals as goal
 
 pub overflow_sub-self : goal.overflow_sub-self
-overflow_sub-self c =
+overflow_sub-self g c =
     let shape : Shape = record { nb_frag = c.self.inside.nb_frag; frag_size = c.self.inside.frag_size; rows = c.self.inside.rows } in
     let columns : List Column = c.self.inside.columns.items in
     let os : List Column = take c.self.inside.nb_frag columns in
@@ -26,7 +26,7 @@ overflow_sub-self c =
     )
 
 pub invariant_of-self : goal.invariant_of-self
-invariant_of-self c =
+invariant_of-self g c =
     let nb : ℕ = c.self.inside.nb_frag in
     let size : ℕ = c.self.inside.frag_size in
     let rows : ℕ = c.self.inside.rows in
@@ -59,6 +59,8 @@ invariant_of-self c =
       written c.self.inside.known.len c.mark.new.known marks (c.mark.auto.known ∙ c.deref_mut-in-Row-2.ensures.len),
     )
     (record {
+      words_few = c.self.invariant.words_few;
+      bytes_few = c.self.invariant.bytes_few;
       memory = c.self.invariant.memory;
       within = c.self.invariant.within;
       area_fits = omega (arith, c.add_piece.auto.area, ap length c.deref_mut-in-Row.ensures.value, c.self.invariant.area_fits);
@@ -70,11 +72,11 @@ invariant_of-self c =
     })
 
 pub mark-requires-clause-words : goal.mark-requires-clause-words
-mark-requires-clause-words c =
+mark-requires-clause-words g c =
     omega (arith, ap length c.deref_mut-in-Row-2.ensures.value, c.self.invariant.grid.known_sized)
 
 pub returns-in_default-clause-places : goal.returns-in_default-clause-places
-returns-in_default-clause-places c =
+returns-in_default-clause-places g c =
     let nb : ℕ = c.self.inside.nb_frag in
     let shape : Shape = record { nb_frag = nb; frag_size = c.self.inside.frag_size; rows = c.self.inside.rows } in
     let columns : List Column = c.self.inside.columns.items in
@@ -87,7 +89,7 @@ returns-in_default-clause-places c =
     (settled_already shape c.self.inside.area.items c.self.inside.arena os c.args.k c.args.piece.now known (λ slot e. c.in_default.not-Row slot (c.column.ensures.same ∙ sym at ∙ e)))
 
 pub index_mut-requires : goal.index_mut-requires
-index_mut-requires c =
+index_mut-requires g c =
     let shape : Shape = record { nb_frag = c.self.inside.nb_frag; frag_size = c.self.inside.frag_size; rows = c.self.inside.rows } in
     let columns : List Column = c.self.inside.columns.items in
     let os : List Column = take c.self.inside.nb_frag columns in

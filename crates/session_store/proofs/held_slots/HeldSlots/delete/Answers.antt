@@ -1,4 +1,4 @@
-use Rattle.std.proofs.Common.{◌⊎◌, None, inl, inr, ap, subst, ◌∙◌}
+use Rattle.std.proofs.Common.{◌⊎◌, None, inl, inr, ap, subst, ◌∙◌, lit≤}
 use Rattle.flash_session.specs.Sessions.{LiesForAs}
 use Rattle.session_store.specs.declared.held_slots.Layout.{Layout}
 use Rattle.session_store.specs.SessionTable.{session_at, with_session}
@@ -7,10 +7,14 @@ use Rattle.session_store.proofs.PlaceSteps.{range_in, places_on, extent_is, othe
 use Rattle.session_store.proofs.held_slots.HeldSlots.delete.Goals as goal
 
 pub delete-requires : goal.delete-requires
-delete-requires g c = record {
-  range = range_in c.args.index (g.F.Flash.room c.args.flash.now) c.parted-held.result.1 c.parted-held.result.0 c.parted-held.ensures.places
-      (rw (layout_in c.args.index c.parted-held.result.1 c.parted-held.result.0 _ c.parted-held.ensures.whole) c.requires.range);
-}
+delete-requires g c = (
+  lit≤ tt,
+  (
+    lit≤ tt,
+    range_in c.args.index (g.F.Flash.room c.args.flash.now) c.parted-held.result.1 c.parted-held.result.0 c.parted-held.ensures.places
+        (rw (layout_in c.args.index c.parted-held.result.1 c.parted-held.result.0 _ c.parted-held.ensures.whole) c.requires.range),
+  ),
+)
 
 pub filled-requires-clause-places : goal.filled-requires-clause-places
 filled-requires-clause-places g c =

@@ -1,4 +1,4 @@
-use Rattle.std.proofs.Common.{◌⊎◌, inl, inr, ap, subst, ◌∙◌}
+use Rattle.std.proofs.Common.{◌⊎◌, inl, inr, ap, subst, ◌∙◌, lit≤}
 use Rattle.frag_session.specs.Session.{after_fragment}
 use Rattle.flash_session.specs.HeldSession.{HeldSession}
 use Rattle.flash_session.specs.Sessions.{LiesForAs}
@@ -9,10 +9,14 @@ use Rattle.session_store.proofs.PlaceSteps.{range_in, places_on, extent_is, othe
 use Rattle.session_store.proofs.held_slots.HeldSlots.fragment.Goals as goal
 
 pub hear-requires : goal.hear-requires
-hear-requires g c = record {
-  range = range_in c.args.index (g.F.Flash.room c.args.flash.now) c.parted-held.result.1 c.parted-held.result.0 c.parted-held.ensures.places
-      (rw (layout_in c.args.index c.parted-held.result.1 c.parted-held.result.0 _ c.parted-held.ensures.whole) c.requires.range);
-}
+hear-requires g c = (
+  lit≤ tt,
+  (
+    lit≤ tt,
+    range_in c.args.index (g.F.Flash.room c.args.flash.now) c.parted-held.result.1 c.parted-held.result.0 c.parted-held.ensures.places
+        (rw (layout_in c.args.index c.parted-held.result.1 c.parted-held.result.0 _ c.parted-held.ensures.whole) c.requires.range),
+  ),
+)
 
 pub filled-requires-clause-places : goal.filled-requires-clause-places
 filled-requires-clause-places g c =

@@ -1,4 +1,4 @@
-use Rattle.std.proofs.Common.{◌⊎◌, Option, None, inl, inr, ap, subst, ◌∙◌}
+use Rattle.std.proofs.Common.{◌⊎◌, Option, None, inl, inr, ap, subst, ◌∙◌, lit≤}
 use Rattle.frag_session.specs.Session.{Session, after_setup}
 use Rattle.flash_session.specs.HeldSession.{room_in}
 use Rattle.flash_session.specs.Sessions.{LiesForAs, IsHeldAs}
@@ -9,11 +9,17 @@ use Rattle.session_store.proofs.PlaceSteps.{range_in, after_is, bits_are, places
 use Rattle.session_store.proofs.held_slots.HeldSlots.setup.Goals as goal
 
 pub setup-requires : goal.setup-requires
-setup-requires g c = record {
-  range = range_in c.args.req.index (g.F.Flash.room c.args.flash.now) c.parted-held.result.1 c.parted-held.result.0 c.parted-held.ensures.places
-      (rw (layout_in c.args.req.index c.parted-held.result.1 c.parted-held.result.0 _ c.parted-held.ensures.whole) c.requires.range);
-  fields = c.requires.fields;
-}
+setup-requires g c = (
+  lit≤ tt,
+  (
+    lit≤ tt,
+    (
+      range_in c.args.req.index (g.F.Flash.room c.args.flash.now) c.parted-held.result.1 c.parted-held.result.0 c.parted-held.ensures.places
+          (rw (layout_in c.args.req.index c.parted-held.result.1 c.parted-held.result.0 _ c.parted-held.ensures.whole) c.requires.range),
+      c.requires.fields,
+    ),
+  ),
+)
 
 pub filled-requires-clause-places : goal.filled-requires-clause-places
 filled-requires-clause-places g c =

@@ -1,13 +1,12 @@
-use Rattle.std.proofs.Common.{min, ap, arith}
+use Rattle.std.proofs.Common.{ap, arith}
 use Rattle.frag_model.specs.Fragments.{Shape}
-use Rattle.frag_model.specs.Limits.{max_frag_size}
 use Rattle.row_arena.specs.Rows.{words_for}
-use Rattle.row_elimination.specs.declared.extent.Extent.{Extent}
+use Rattle.row_elimination.specs.Room.{Extent}
 use Rattle.row_elimination.proofs.Gridding.{no_words}
-use Rattle.row_elimination.proofs.solver.Solver.reserve.Goals as goal
+use Rattle.row_elimination.proofs.solver.Solver.reserve_for.Goals as goal
 
 pub invariant_of-result : goal.invariant_of-result
-invariant_of-result c = rw c.in-Ok-new-2.ensures.ok
+invariant_of-result g c = rw c.in-Ok-new-2.ensures.ok
     (
     let none = ap (λ (s : Shape). s.nb_frag) c.in-Ok-new.ensures.shape in
     let most = ap (λ (e : Extent). e.pieces) c.in-Ok-new.ensures.room in
@@ -16,8 +15,7 @@ invariant_of-result c = rw c.in-Ok-new-2.ensures.ok
       picks_held = omega (arith, ap words_for most, c.words_for-2.ensures.value, c.in-Ok-with_capacity.ensures.capacity);
       line_sized = omega (arith, ap words_for none, no_words);
       picks_sized = omega (arith, ap words_for none, no_words);
-      part_held = omega (arith, ap (λ (e : Extent). min e.area max_frag_size) c.in-Ok-new.ensures.room, c.longest_part.ensures, c.in-Ok-with_capacity-2.ensures.capacity);
-      part_sized = omega (arith, ap (λ (s : Shape). s.frag_size) c.in-Ok-new.ensures.shape);
+      part_sized = omega (arith, c.in-Ok-vec.part.ok.0, c.in-Ok-vec.ensures.len);
       most = omega (arith, none);
       small = omega (arith, ap (λ (s : Shape). s.frag_size) c.in-Ok-new.ensures.shape);
       some = λ e. cc;
