@@ -464,7 +464,7 @@ fn pieces_make_the_texts_of_the_whole(rt: HostRuntime) {
         &rt,
         rt.alloc(),
         &CAPTURE,
-        b"capture 1 0\n{\"port\":201,\"dir\":\"down\",\"hex\":\"0200010001000000000000\"}\n{\"port\":201,\"dir\":\"down\",\"hex\":\"0801005a\",\"snr\":-7.5}",
+        b"capture 1 0\n{\"port\":201,\"dir\":\"down\",\"hex\":\"0200010001000000000000\"}\n{\"port\":201,\"dir\":\"down\",\"hex\":\"0801005a\",\"snr\":-75e-1}",
         Status::Done,
         "fuota capture 1\nline 2 201 down\nFragSessionSetupReq index=0 mask=0 nbfrag=1 fragsize=1 algo=0 delay=0 padding=0 descriptor=00000000\nline 3 201 down\nDataFragment index=0 n=1 bytes=5a\ncounts deaf 0 refused 0 full 0 dropped 0\nsession 0 received 1 missing 0 complete at 3\nfile 5a\nend\n",
     );

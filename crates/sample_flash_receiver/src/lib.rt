@@ -11,6 +11,7 @@ ghost use Rattle.flash_session.specs.Body.{FieldsFit};
 ghost use Rattle.flash_session.specs.Contents.{HasCause, HasRisen};
 ghost use Rattle.flash_session.specs.Lies.{NoSession};
 ghost use Rattle.flash_session.specs.Moments.{LeavesOnly};
+ghost use Rattle.flash_session.specs.Opening.{IsFirstForeign, NothingForeign};
 ghost use Rattle.flash_session.specs.Sessions.{HeldStandsAs, IsHeldAs, LiesForAs};
 ghost use Rattle.sample_receiver.specs.HeldReceiver.{extent, limits, IsFragment, whole_file};
 ghost use Rattle.sample_flash_receiver.specs.HeldReceiver.{span, room, place, IsReceiver, ReceiverStands};
@@ -68,6 +69,12 @@ pub fn start<F: Flash>(part: &mut F, arena: Arena) -> Result<Receiver, (Arena, O
     ensures size { F.room part.new ≡ F.room part.old }
     ensures fault { IfErr result
         (λ e. e.1 ≡ OpenFault.Flash → HasRisen (F.faults part.old) (F.faults part.new)) }
+    // Foreign comes exactly where the header's gate is open and something there is no session's.
+    ensures nothing_foreign { IfOk result
+        (λ receiver. (b : List ℕ) → F.holds part.new b → NothingForeign place b) }
+    ensures foreign { IfErr result
+        (λ e. (p : ℕ) → e.1 ≡ OpenFault.Foreign p → (b : List ℕ) → F.holds part.new b
+        → IsFirstForeign place b p) }
 {
     Held::open(part, 0, SPAN, arena, LIMITS)
 }
