@@ -9,11 +9,11 @@ use Rattle.std.proofs.lemmas.Bool.Decides.{nat_tests}
 use lib.Lanes.{zip2}
 use Rattle.row_arena.specs.Rows.{Row, Arena, zero_row, row_at, with_row, row_sum, words_for, line_in, has_room}
 use Rattle.row_arena.specs.ArenaInside.{stretch, row_in, rows_in, IsArena}
-use Rattle.row_arena.proofs.Written.{before, length-stretch, get_or-stretch}
+use Rattle.row_arena.proofs.Written.{before, length-stretch, get_or-stretch, Sums}
 use Rattle.row_arena.proofs.Bits.{none_set}
 
-pub refilled : (n : ℕ) (xs ys : List ℕ) → length ys ≡ n → refill n xs ys ≡ ys
-refilled n xs ys e = take_at ys (drop (length ys) xs) n e
+pub refilled : (xs ys : List ℕ) → length ys ≡ length xs → refill (length xs) xs ys ≡ ys
+refilled xs ys e = take_at ys (drop (length ys) xs) (length xs) e
 
 pub length-rows_in : (rows width cell : ℕ) (words bytes : List ℕ) → length (rows_in rows width cell words bytes) ≡ rows
 unfolding rows_in
@@ -67,6 +67,38 @@ same_row : (width cell : ℕ) (words bytes words' bytes' : List ℕ) (r : ℕ) �
 unfolding row_in
 same_row width cell words bytes words' bytes' r e f =
     ap₂ (λ (l p : List ℕ). let row : Row = record { line = line_in l; part = p } in row) e f
+
+-- ---- a row was added to another
+
+pub record LineSums (into from size : ℕ) (old new : List ℕ) : Type 0 where
+  pub line : line_in (stretch into size new) ≡ bit_xor (line_in (stretch into size old)) (line_in (stretch from size old))
+  pub others : (j : ℕ) → j ≢ into → stretch j size new ≡ stretch j size old
+
+pub sum_kept : (rows cols cell into from : ℕ) (words bytes words' bytes' : List ℕ) → into < rows → from < rows → IsArena rows cols cell words bytes
+    → length words' ≡ length words → length bytes' ≡ length bytes → LineSums into from (words_for cols) words words'
+    → IsArena rows cols cell words' bytes'
+sum_kept rows cols cell into from words bytes words' bytes' a b h e f s = record {
+  words_sized = e ∙ h.words_sized;
+  bytes_sized = f ∙ h.bytes_sized;
+  within = λ r lt. elim (cases_eq r into) [
+    | inl same ↦
+        subst (λ n. line_in (stretch n (words_for cols) words') < 2 ^ cols) (sym same)
+        (subst (λ n. n < 2 ^ cols) (sym s.line) (xor_lt cols _ _ (h.within into a) (h.within from b)))
+    | inr other ↦ subst (λ l. line_in l < 2 ^ cols) (sym (s.others r other)) (h.within r lt)
+  ];
+}
+
+pub sum_seen : (rows cols cell into from : ℕ) (words bytes words' bytes' : List ℕ) → into < rows
+    → LineSums into from (words_for cols) words words' → Sums into from cell bytes bytes'
+    → seen rows cols cell words' bytes'
+    ≡ with_row (seen rows cols cell words bytes) into (row_sum (row_in (words_for cols) cell words bytes into) (row_in (words_for cols) cell words bytes from))
+unfolding row_sum row_in
+sum_seen rows cols cell into from words bytes words' bytes' a s t =
+    let w : ℕ = words_for cols in
+    ap (λ (l : List Row). let v : Arena = record { cols = cols; cell = cell; rows = l } in v)
+    (rows_written rows w cell into words bytes words' bytes' (row_sum (row_in w cell words bytes into) (row_in w cell words bytes from)) a
+    (row_is w cell words' bytes' into _ _ s.line t.there)
+    (λ j ne. same_row w cell words bytes words' bytes' j (s.others j ne) (t.others j ne)))
 
 -- ---- a row was written
 
@@ -146,6 +178,9 @@ zero_line size = none_set (replicate size 0) (λ i lt.
     let many : List ℕ = replicate size 0 in
     let long : length many ≡ size = length-replicate size 0 in
     get_or-replicate size i 0 0 (omega arith))
+
+pub zero_small : (size cols : ℕ) → line_in (replicate size 0) < 2 ^ cols
+zero_small size cols = omega (arith, zero_line size, pow_pos cols)
 
 zero_in : (rows cols cell r : ℕ) → r < rows
     → row_in (words_for cols) cell (replicate (rows * words_for cols) 0) (replicate (rows * cell) 0) r ≡ zero_row cell

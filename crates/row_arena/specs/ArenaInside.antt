@@ -1,5 +1,5 @@
 -- What an arena keeps true, and where its rows lie.
-use Rattle.std.specs.Prelude.{◌≡◌, ℕ, ◌*◌, ◌^◌, ◌<◌, ◌≤◌, List, map, length}
+use Rattle.std.specs.Prelude.{◌≡◌, ℕ, ◌*◌, ◌^◌, ◌<◌, List, map, length}
 use Rattle.std.specs.List.{range_with_len}
 use Rattle.std.specs.Simd.Lanes.{chunk}
 use Rattle.row_arena.specs.Rows.{Row, words_for, line_in}
@@ -21,9 +21,3 @@ pub record IsArena (rows cols cell : ℕ) (words bytes : List ℕ) : Type 0 wher
   pub words_sized : length words ≡ rows * words_for cols
   pub bytes_sized : length bytes ≡ rows * cell
   pub within : (r : ℕ) → r < rows → line_in (stretch r (words_for cols) words) < 2 ^ cols
-
--- the same, with memory for so many words and bytes in all
-pub record IsKept (most_words most_bytes held_words held_bytes rows cols cell : ℕ) (words bytes : List ℕ) : Type 0 where
-  pub words_fit : most_words ≤ held_words
-  pub bytes_fit : most_bytes ≤ held_bytes
-  pub arena : IsArena rows cols cell words bytes

@@ -1,64 +1,64 @@
-//! Rows of one shape in storage that is taken once.
+//! Rows of one shape in storage of fixed size.
 
-ghost use Rattle.std.specs.Prelude.{◌≡◌, ◌^◌, ◌<◌, ◌≤◌, ◌==◌, length, is_ok, IfOk, OnOk, OnErr, replicate, vec_capacity};
+ghost use Rattle.std.specs.Prelude.{◌≡◌, ◌≢◌, ℕ, ◌+◌, ◌*◌, ◌^◌, ◌<◌, ◌≤◌, ◌==◌, length, is_ok, OnOk, OnErr, replicate, MatchOption};
 ghost use Rattle.std.specs.Int.{bit_at};
 ghost use Rattle.row_arena.specs.Limits.{max_bytes, max_width, max_words};
 ghost use Rattle.row_arena.specs.Rows.{Row, row_at, with_row, zero_row, row_sum, words_for, has_room, line_in};
 
-use crate::lines::has_bit;
-use crate::stretches::{add_bytes, add_words, bytes_at, put_bytes, put_words, words_at};
-use std::alloc::{AllocError, Global};
+use crate::lines::{first_bit, has_bit};
+use crate::stretches::{
+    add_bytes, add_words, bytes_at, clear_bytes, clear_words, put_bytes, put_words, words_at,
+    xor_bytes_at, xor_words_at,
+};
+use arrayvec::ArrayVec;
 use std::marker::Model;
 
 /// The rows do not fit in the storage.
 #[derive(Clone, Copy, Debug, PartialEq, Eq)]
 pub struct NoRoom;
 
-/// Rows of one shape: each has a line, a bit for each of its columns, and bytes beside it. All lie in `WORDS` words of 64
-/// bits (at most 16,384) and `BYTES` bytes (at most 61,184), whose memory is taken once, and of which a shape clears what
-/// it takes. A contract sees the rows as a list.
+/// Rows of one shape: each has a line, a bit for each of its columns, and bytes beside it. All lie in the value itself, in
+/// `WORDS` words of 64 bits (at most 16,384) and `BYTES` bytes (at most 61,184). A contract sees the rows as a list.
 #[derive(Drop)]
 pub struct RowArena<const WORDS: usize, const BYTES: usize> {
-    words: Vec<u64>,
-    bytes: Vec<u8>,
+    words: ArrayVec<u64, WORDS>,
+    bytes: ArrayVec<u8, BYTES>,
     rows: u16,
     cols: u16,
-    cell: u8,
+    cell: u16,
 }
 
 impl<const WORDS: usize, const BYTES: usize> Model for RowArena<WORDS, BYTES> {
-    ghost use Rattle.std.specs.Prelude.{vec_capacity};
     ghost use Rattle.row_arena.specs.Rows.{Arena, words_for};
-    ghost use Rattle.row_arena.specs.ArenaInside.{rows_in, IsKept};
+    ghost use Rattle.row_arena.specs.ArenaInside.{rows_in, IsArena};
 
     ghost Value = { Arena };
 
     ghost view = { λ a. record { cols = a.cols; cell = a.cell; rows = rows_in a.rows (words_for a.cols) a.cell a.words.items a.bytes.items } };
 
-    ghost invariant = { λ a. IsKept WORDS BYTES (vec_capacity a.words) (vec_capacity a.bytes)
-        a.rows a.cols a.cell a.words.items a.bytes.items };
+    ghost invariant = { λ a. IsArena a.rows a.cols a.cell a.words.items a.bytes.items };
 }
 
 impl<const WORDS: usize, const BYTES: usize> RowArena<WORDS, BYTES> {
-    /// An arena of no rows, columns or bytes, with memory for all that it ever holds.
-    pub fn reserve(alloc: Global) -> Result<Self, AllocError>
+    /// An arena of no rows, columns or bytes.
+    #[inline(always)]
+    pub fn new() -> Self
         requires words { WORDS ≤ max_words }
         requires bytes { BYTES ≤ max_bytes }
-        ensures { IfOk result
-            (λ arena. arena ≡ record { cols = 0; cell = 0; rows = replicate 0 (zero_row 0) }) }
+        ensures { result ≡ record { cols = 0; cell = 0; rows = replicate 0 (zero_row 0) } }
     {
-        Ok(RowArena {
-            words: Vec::with_capacity(alloc, WORDS)?,
-            bytes: Vec::with_capacity(alloc, BYTES)?,
+        RowArena {
+            words: ArrayVec::new(),
+            bytes: ArrayVec::new(),
             rows: 0,
             cols: 0,
             cell: 0,
-        })
+        }
     }
 
-    /// Has so many rows from now on, of `cols` columns and `cell` bytes each (any numbers of 16 and 8 bits), which are all
+    /// Has so many rows from now on, of `cols` columns and `cell` bytes each (any numbers of 16 bits), which are all
     /// zero. Where their words, (`cols` + 63) / 64 a row, or their bytes do not fit, the arena stays as it was.
-    pub fn shape(&mut self, rows: u16, cols: u16, cell: u8) -> Result<(), NoRoom>
+    pub fn shape(&mut self, rows: u16, cols: u16, cell: u16) -> Result<(), NoRoom>
         ensures room { is_ok result ≡ has_room WORDS BYTES rows cols cell }
         ensures shaped { OnOk result (self.new
             ≡ record { cols = cols; cell = cell; rows = replicate rows (zero_row cell) }) }
@@ -91,6 +91,20 @@ impl<const WORDS: usize, const BYTES: usize> RowArena<WORDS, BYTES> {
         self.cols
     }
 
+    /// Adds row `from` to row `into`, bit by bit; they are two different rows. All others stay.
+    pub fn xor_row(&mut self, into: u16, from: u16)
+        requires into { into < length self.old.rows }
+        requires from { from < length self.old.rows }
+        requires apart { into ≢ from }
+        ensures { self.new
+            ≡ with_row self.old into (row_sum (row_at self.old into) (row_at self.old from)) }
+    {
+        let width = words_for(self.cols);
+        let cell = self.cell as usize;
+        xor_words_at(&mut self.words, into as usize, from as usize, width);
+        xor_bytes_at(&mut self.bytes, into as usize, from as usize, cell);
+    }
+
     /// Writes a line and bytes over row `r`. The line has as many words as a row, the lowest first, and no bit past the last
     /// column; there are as many bytes as a row has. All other rows stay.
     pub fn set_row(&mut self, r: u16, line: &[u64], part: &[u8])
@@ -118,6 +132,17 @@ impl<const WORDS: usize, const BYTES: usize> RowArena<WORDS, BYTES> {
         add_bytes(&mut self.bytes, r as usize, part);
     }
 
+    /// Makes the line and the bytes of row `r` zero. All other rows stay.
+    pub fn clear_row(&mut self, r: u16)
+        requires inside { r < length self.old.rows }
+        ensures { self.new ≡ with_row self.old r (zero_row self.old.cell) }
+    {
+        let width = words_for(self.cols);
+        let cell = self.cell as usize;
+        clear_words(&mut self.words, r as usize, width);
+        clear_bytes(&mut self.bytes, r as usize, cell);
+    }
+
     /// The words of row `r`, the lowest first.
     pub fn words(&self, r: u16) -> &[u64]
         requires { r < length self.now.rows }
@@ -140,6 +165,19 @@ impl<const WORDS: usize, const BYTES: usize> RowArena<WORDS, BYTES> {
         bytes_at(&self.bytes, r as usize, cell)
     }
 
+    /// The first column of row `r`: `None` exactly where its line is zero.
+    pub fn first_set(&self, r: u16) -> Option<u16>
+        requires { r < length self.now.rows }
+        ensures { MatchOption result ((row_at self.now r).line ≡ 0)
+            (λ p. (p < self.now.cols) × (bit_at (row_at self.now r).line p ≡ 1)
+            × ((c : ℕ) → c < p → bit_at (row_at self.now r).line c ≡ 0)) }
+    {
+        match first_bit(self.words(r)) {
+            Some(p) => Some(p as u16),
+            None => None,
+        }
+    }
+
     /// Whether row `r` has column `c`, which is below the number of columns.
     pub fn bit(&self, r: u16, c: u16) -> bool
         requires inside { r < length self.now.rows }
@@ -159,26 +197,24 @@ pub fn words_for(cols: u16) -> usize
     (cols as usize + 63) / 64
 }
 
-/// Holds so many words, all zero; there is memory for them.
-fn zero_words(words: &mut Vec<u64>, n: usize)
-    requires { n ≤ vec_capacity words.old }
-    ensures zero { words.new.items ≡ replicate n 0 }
-    ensures capacity { vec_capacity words.old ≤ vec_capacity words.new }
+/// Holds so many words, all zero.
+fn zero_words<const N: usize>(words: &mut ArrayVec<u64, N>, n: usize)
+    requires { n ≤ N }
+    ensures { words.new.items ≡ replicate n 0 }
 {
     words.clear();
-    if words.resize(n, 0).is_err() {
-        unreachable!();
+    for done in 0..n {
+        words.push(0);
     }
 }
 
-/// Holds so many bytes, all zero; there is memory for them.
-fn zero_bytes(bytes: &mut Vec<u8>, n: usize)
-    requires { n ≤ vec_capacity bytes.old }
-    ensures zero { bytes.new.items ≡ replicate n 0 }
-    ensures capacity { vec_capacity bytes.old ≤ vec_capacity bytes.new }
+/// Holds so many bytes, all zero.
+fn zero_bytes<const N: usize>(bytes: &mut ArrayVec<u8, N>, n: usize)
+    requires { n ≤ N }
+    ensures { bytes.new.items ≡ replicate n 0 }
 {
     bytes.clear();
-    if bytes.resize(n, 0).is_err() {
-        unreachable!();
+    for done in 0..n {
+        bytes.push(0);
     }
 }

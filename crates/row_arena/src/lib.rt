@@ -1,13 +1,13 @@
-//! Rows of bits and bytes in storage that is taken once, and their sums by XOR. (How a device recovers a file that TS004-1.0.0
+//! Rows of bits and bytes in storage of fixed size, and their sums by XOR. (How a device recovers a file that TS004-1.0.0
 //! sends in fragments is this project's profile; this layer is its storage and its arithmetic.) Each call of a `RowArena`
 //! says exactly which rows there are afterwards, and `pick` and `sum_pieces` what they take out of a line and add to a part.
 //! Which rows are worth keeping, and what they mean, is left to the elimination above.
 //!
-//!     let mut arena: RowArena<64, 768> = RowArena::reserve(alloc)?;
+//!     let mut arena: RowArena<64, 768> = RowArena::new();
 //!     arena.shape(16, 256, 48)?;                // 16 rows of 256 columns and 48 bytes, all zero
 //!     arena.set_row(0, &line, part);
-//!     arena.add_to_row(0, &other, rest);        // another line and its bytes are added to row 0
-//!     let lead = first_bit(arena.words(0));
+//!     arena.xor_row(0, 1);                      // row 1 is added to row 0
+//!     let lead = arena.first_set(0);
 #![tactic(auto)]
 
 mod arena;

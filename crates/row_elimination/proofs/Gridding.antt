@@ -505,11 +505,11 @@ no_file columns spare known area arena shaped =
     }
 
 -- what the pass wrote, by the fields of the table
-pub wrote_parts : (nb size cell : ℕ) (columns columns' : List Column) (area now area' : List ℕ) (arena : Arena) → columns' ≡ columns → now ≡ area → cell ≡ size
-    → ((c : ℕ) → chunk c cell area' ≡ part_in cell now arena c (get_or (take nb columns') c Free)) → (c : ℕ) → chunk c size area' ≡ part_in size area arena c (get_or (take nb columns) c Free)
-wrote_parts nb size cell columns columns' area now area' arena e f h put =
-    let P : ℕ → List ℕ → List Column → Type 0 = λ n l os. (c : ℕ) → chunk c n area' ≡ part_in n l arena c (get_or (take nb os) c Free) in
-    subst (λ os. P size area os) e (subst (λ l. P size l columns') f (subst (λ n. P n now columns') h put))
+pub wrote_parts : (nb size cell : ℕ) (columns columns' : List Column) (area now area' : List ℕ) (arena arena' : Arena) → columns' ≡ columns → now ≡ area → arena' ≡ arena → cell ≡ size
+    → ((c : ℕ) → chunk c cell area' ≡ part_in cell now arena' c (get_or (take nb columns') c Free)) → (c : ℕ) → chunk c size area' ≡ part_in size area arena c (get_or (take nb columns) c Free)
+wrote_parts nb size cell columns columns' area now area' arena arena' e f g h put =
+    let P : ℕ → List ℕ → Arena → List Column → Type 0 = λ n l a os. (c : ℕ) → chunk c n area' ≡ part_in n l a c (get_or (take nb os) c Free) in
+    subst (λ os. P size area arena os) e (subst (λ a. P size area a columns') g (subst (λ l. P size l arena' columns') f (subst (λ n. P n now arena' columns') h put)))
 
 -- what holds of a call that went well
 pub ok_holds : {T E P : Type 0} (r : Result T E) → is_ok r ≡ true → OnOk r P → P

@@ -3,7 +3,8 @@ use Rattle.std.proofs.Common.{◌≡◌, ◌≢◌, ◌⊎◌, ℕ, ◌+◌, ◌
 use Rattle.std.proofs.lemmas.Bool.{cases_eq}
 use Rattle.row_elimination.specs.declared.columns.Column.{Column}
 use Rattle.row_elimination.specs.declared.columns.Column.TheVariants.{Free, Piece, Row}
-use Rattle.row_elimination.specs.HeldStorage.{Slots}
+use Rattle.row_arena.specs.Rows.{Arena}
+use Rattle.row_elimination.specs.HeldStorage.{Slots, IsStored}
 
 row_same : (s t : ℕ) → Row s ≡ Row t → s ≡ t
 row_same s t e = cc
@@ -63,6 +64,13 @@ slots_piece os spare rows count k lt h = record {
 -- after it the slot of the row that was there is used by no column
 pub no_longer_used : (os : List Column) (spare : List ℕ) (rows count k slot c : ℕ) → k < length os → get_or os k Free ≡ Row slot → Slots os spare rows count → get_or (set os k Piece) c Free ≢ Row slot
 no_longer_used os spare rows count k slot c lt is h e = elim (set_cases os k c Piece (Row slot) lt e) [
+  | inl x ↦ piece_no_row slot x.1
+  | inr x ↦ x.0 (h.alone c k slot x.1 is)
+]
+
+-- the same, of columns whose rows an arena has
+pub no_longer_stored : (size : ℕ) (arena : Arena) (os : List Column) (k slot c : ℕ) → k < length os → get_or os k Free ≡ Row slot → IsStored size arena os → get_or (set os k Piece) c Free ≢ Row slot
+no_longer_stored size arena os k slot c lt is h e = elim (set_cases os k c Piece (Row slot) lt e) [
   | inl x ↦ piece_no_row slot x.1
   | inr x ↦ x.0 (h.alone c k slot x.1 is)
 ]

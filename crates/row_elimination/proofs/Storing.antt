@@ -6,14 +6,14 @@ use Rattle.std.proofs.lemmas.List.{ext_get_or, get_or_past, get_or-take}
 use Rattle.std.proofs.lemmas.Bool.{cases_eq, cases_lt}
 use Rattle.std.proofs.lemmas.Nat.Bits.{bit_at-lt, bit_at_xor, bit_at-pow_same, bit_at-pow_other}
 use Rattle.frag_model.specs.Fragments.{Equation, IsPiece, xor_bytes}
-use Rattle.row_arena.specs.Rows.{Arena, Row as Line, zero_row, row_at, with_row, row_sum}
+use Rattle.row_arena.specs.Rows.{Arena, Row as Line, zero_row, row_at, with_row, row_sum, words_for, line_in}
 use Rattle.row_arena.specs.Sums.{after_flips, after_pieces}
 use Rattle.row_arena.proofs.Flips.{after_flips-more}
 use Rattle.row_elimination.specs.declared.columns.Column.{Column}
 use Rattle.row_elimination.specs.declared.columns.Column.TheVariants.{Free, Piece, Row}
 use Rattle.row_elimination.specs.HeldPlaces.{Place, free, row, told, is_piece, cleared, all_cleared}
 use Rattle.row_elimination.specs.Inside.{IsReduced, Marks}
-use Rattle.row_elimination.specs.HeldStorage.{place_in, places_from, places_in, line_cleared, IsStored, SameShape, Clears, ClearsAll}
+use Rattle.row_elimination.specs.HeldStorage.{place_in, places_from, places_in, line_cleared, IsStored, IsRowOf, SameShape, Clears, ClearsAll}
 use Rattle.row_elimination.specs.HeldSteps.{Tells, Taken, Reduced, TakesRow}
 use Rattle.row_elimination.proofs.Lines.{sum_is}
 use Rattle.row_elimination.proofs.Growing.{at_all_cleared, length-all_cleared}
@@ -214,6 +214,13 @@ same_shape arena = record { cols = refl; cell = refl; rows = refl }
 
 pub shape_then : (a b c : Arena) → SameShape a b → SameShape b c → SameShape a c
 shape_then a b c h k = record { cols = k.cols ∙ h.cols; cell = k.cell ∙ h.cell; rows = k.rows ∙ h.rows }
+
+pub row_then : (a b : Arena) (line part : List ℕ) → SameShape a b → IsRowOf a line part → IsRowOf b line part
+row_then a b line part h is = record {
+  words = is.words ∙ ap words_for (sym h.cols);
+  within = subst (λ (n : ℕ). line_in line < 2 ^ n) (sym h.cols) is.within;
+  sized = is.sized ∙ sym h.cell;
+}
 
 pub with_shape : (arena now : Arena) (slot : ℕ) (r : Line) → now ≡ with_row arena slot r → SameShape arena now
 with_shape arena now slot r is = record {

@@ -48,7 +48,7 @@ pub struct Table<const W: usize, const B: usize> {
     area: Vec<u8>,
     room: u32,
     most: u16,
-    arena: RowArena<W, B>,
+    arena: Box<RowArena<W, B>>,
 }
 
 impl<const W: usize, const B: usize> Model for Table<W, B> {
@@ -60,14 +60,14 @@ impl<const W: usize, const B: usize> Model for Table<W, B> {
 
     ghost view = { λ t. record {
       shape = record { nb_frag = t.nb_frag; frag_size = t.frag_size; rows = t.rows };
-      places = places_in t.frag_size t.area.items t.arena (take t.nb_frag t.columns.items);
+      places = places_in t.frag_size t.area.items t.arena.value (take t.nb_frag t.columns.items);
       area = t.area.items;
       room = record { area = t.room; pieces = t.most };
     } };
 
     ghost invariant = { λ t. IsTable W B t.nb_frag t.frag_size t.rows t.count t.gained t.most t.room
         (vec_capacity t.columns) (vec_capacity t.spare) (vec_capacity t.known) (vec_capacity t.area)
-        t.columns.items t.spare.items t.known.items t.area.items t.arena };
+        t.columns.items t.spare.items t.known.items t.area.items t.arena.value };
 }
 
 impl<const W: usize, const B: usize> Table<W, B> {
@@ -84,7 +84,7 @@ impl<const W: usize, const B: usize> Table<W, B> {
         let spare = Vec::with_capacity(alloc, most as usize)?;
         let known = Vec::with_capacity(alloc, words_for(most))?;
         let bytes = Vec::with_capacity(alloc, area as usize)?;
-        let arena = RowArena::reserve(alloc)?;
+        let arena = Box::new(alloc, RowArena::new())?;
         Ok(Table {
             nb_frag: 0,
             frag_size: 0,
@@ -207,7 +207,7 @@ impl<const W: usize, const B: usize> Table<W, B> {
             columns,
             &self.area,
             known,
-            &self.arena,
+            &*self.arena,
             line,
             picks,
             part,
@@ -226,7 +226,7 @@ impl<const W: usize, const B: usize> Table<W, B> {
         let slot = self.spare[self.count as usize];
         add_row(
             &mut self.columns,
-            &mut self.arena,
+            &mut *self.arena,
             slot,
             p,
             line,
@@ -314,7 +314,7 @@ impl<const W: usize, const B: usize> Table<W, B> {
         add_piece_and_row(
             &mut self.columns,
             &mut self.area,
-            &mut self.arena,
+            &mut *self.arena,
             k,
             piece,
             p,
@@ -379,7 +379,7 @@ impl<const W: usize, const B: usize> Table<W, B> {
         ensures room { SameRoom self.old self.new }
     {
         let columns = &self.columns[..self.nb_frag as usize];
-        put_parts(columns, &mut self.area, &self.arena);
+        put_parts(columns, &mut self.area, &*self.arena);
     }
 
     /// The area reaches to the end of piece `k` from now on.
@@ -421,7 +421,7 @@ impl<const W: usize, const B: usize> Table<W, B> {
         free_all(&mut self.columns, nb_frag as usize);
         spare_all(&mut self.spare, rows);
         forget(&mut self.known, words_for(nb_frag));
-        let _ = self.arena.shape(rows, nb_frag, frag_size);
+        let _ = self.arena.shape(rows, nb_frag, frag_size as u16);
         self.nb_frag = nb_frag;
         self.frag_size = frag_size;
         self.rows = rows;

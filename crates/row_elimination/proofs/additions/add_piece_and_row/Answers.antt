@@ -1,13 +1,41 @@
-use Rattle.std.proofs.Common.{◌≡◌, ◌<◌, ℕ, List, length, take, set, refl, sym, ap, ◌∙◌, subst, arith, length-take-le}
+use Rattle.std.proofs.Common.{◌≡◌, ◌≢◌, ◌<◌, ℕ, get_or, List, length, take, set, refl, sym, ap, ◌∙◌, subst, arith, length-take-le}
 use Rattle.row_arena.specs.Rows.{line_in}
 use Rattle.row_elimination.specs.declared.columns.Column.{Column}
-use Rattle.row_elimination.specs.declared.columns.Column.TheVariants.{Free, Piece}
+use Rattle.row_elimination.specs.declared.columns.Column.TheVariants.{Free, Piece, Row}
 use Rattle.row_elimination.specs.HeldPlaces.{piece}
-use Rattle.row_elimination.specs.HeldStorage.{places_in, Slots}
-use Rattle.row_elimination.proofs.Storing.{cleared_places, shape_then}
+use Rattle.row_elimination.specs.HeldStorage.{places_in, Slots, IsStored}
+use Rattle.row_elimination.proofs.Storing.{cleared_places, shape_then, row_then}
 use Rattle.row_elimination.proofs.Packing.{any_default}
+use Rattle.row_elimination.proofs.Slotting.{no_longer_stored}
 use Rattle.row_elimination.proofs.Adding.{swapped_slots, swapped_places, over_at, written_first}
 use Rattle.row_elimination.proofs.additions.add_piece_and_row.Goals as goal
+
+pub take_over-requires : goal.take_over-requires
+take_over-requires g c =
+    let n : ℕ = c.cols.result in
+    let size : ℕ = length c.args.part.now in
+    let os : List Column = take n c.args.columns.now in
+    let same = c.clear.ensures.cleared.shape in
+    let long : length os ≡ n = length-take-le n c.args.columns.now (omega (arith, c.cols.ensures, c.requires.columns)) in
+    let inside : c.args.k < length os = omega (arith, long, c.cols.ensures, c.requires.piece_inside) in
+    let kept : c.column-kept.result ≡ get_or os c.args.k Free = c.column-kept.ensures.same ∙ any_default os c.args.k c.index-columns-k.result Free inside in
+    let stored : IsStored size c.args.arena.now os = subst (λ (m : ℕ). IsStored size c.args.arena.now (take m c.args.columns.now)) (sym c.cols.ensures) c.requires.stored in (
+      search,
+      (
+        omega (arith, c.put_piece.auto.columns, long, c.cols.ensures, c.requires.inside),
+        (
+          λ slot is. subst (λ (m : ℕ). slot < m) (sym same.rows) (stored.rows c.args.k slot (sym kept ∙ is)),
+          (
+            search,
+            (
+              row_then c.args.arena.now c.clear.new.arena c.args.line.now c.args.part.now same c.requires.new,
+              λ column slot is other. subst (λ (l : List Column). get_or l column Free ≢ Row slot) (sym c.put_piece.ensures.columns)
+                  (no_longer_stored size c.args.arena.now os c.args.k slot column inside (sym kept ∙ is) stored),
+            ),
+          ),
+        ),
+      ),
+    )
 
 pub returns-clause-slots : goal.returns-clause-slots
 returns-clause-slots g c = λ spare rows count h.

@@ -1,4 +1,4 @@
-use Rattle.std.proofs.Common.{length, ap, arith}
+use Rattle.std.proofs.Common.{length, ap, ◌∙◌, arith}
 use Rattle.row_elimination.proofs.Gridding.{no_file}
 use Rattle.row_elimination.proofs.tables.Table.new.Goals as goal
 
@@ -17,5 +17,5 @@ invariant_of-result g c = record {
   area_fits = omega (arith, ap length c.in_ok-bytes.ensures.items);
   pieces_fit = omega arith;
   grid = no_file c.in_ok-columns.columns.items c.in_ok-spare.spare.items c.in_ok-known.known.items
-      c.in_ok-bytes.bytes.items c.in_ok-arena.arena c.in_ok-arena.ensures;
+      c.in_ok-bytes.bytes.items c.in_ok-arena.arena.value (c.in_ok-arena.ensures.ok ∙ c.new.ensures);
 }

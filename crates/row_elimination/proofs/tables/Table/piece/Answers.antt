@@ -10,20 +10,20 @@ pub returns-in-Free-clause-value : goal.returns-in-Free-clause-value
 unfolding place_in is_piece
 returns-in-Free-clause-value g c = ap is_piece (
     place_read c.self.inside.nb_frag c.self.inside.frag_size c.self.inside.rows c.self.inside.count c.self.inside.gained (record { area = c.self.inside.room; pieces = c.self.inside.most }) c.args.k c.self.inside.columns.items c.self.inside.spare.items
-    c.self.inside.known.items c.self.inside.area.items c.self.inside.arena c.args.self.now c.index.result.now Free c.self.invariant.grid c.self.view_is c.requires.inside c.index.ensures (sym c.in-Free.ensures.same))
+    c.self.inside.known.items c.self.inside.area.items c.self.inside.arena.value c.args.self.now c.index.result.now Free c.self.invariant.grid c.self.view_is c.requires.inside c.index.ensures (sym c.in-Free.ensures.same))
 
 pub returns-in-Piece-clause-value : goal.returns-in-Piece-clause-value
 unfolding place_in
 returns-in-Piece-clause-value g c =
     place_read c.self.inside.nb_frag c.self.inside.frag_size c.self.inside.rows c.self.inside.count c.self.inside.gained (record { area = c.self.inside.room; pieces = c.self.inside.most }) c.args.k c.self.inside.columns.items c.self.inside.spare.items
-    c.self.inside.known.items c.self.inside.area.items c.self.inside.arena c.args.self.now c.index.result.now Piece c.self.invariant.grid c.self.view_is c.requires.inside c.index.ensures (sym c.in-Piece.ensures.same)
+    c.self.inside.known.items c.self.inside.area.items c.self.inside.arena.value c.args.self.now c.index.result.now Piece c.self.invariant.grid c.self.view_is c.requires.inside c.index.ensures (sym c.in-Piece.ensures.same)
     ∙ sym (ap piece (c.chunk.ensures.value ∙ ap (chunk c.args.k c.self.inside.frag_size) c.deref.ensures.value))
 
 pub returns-in-Row-clause-value : goal.returns-in-Row-clause-value
 unfolding place_in is_piece
 returns-in-Row-clause-value g c = ap is_piece (
     place_read c.self.inside.nb_frag c.self.inside.frag_size c.self.inside.rows c.self.inside.count c.self.inside.gained (record { area = c.self.inside.room; pieces = c.self.inside.most }) c.args.k c.self.inside.columns.items c.self.inside.spare.items
-    c.self.inside.known.items c.self.inside.area.items c.self.inside.arena c.args.self.now c.index.result.now (Row c.in-Row.field-0) c.self.invariant.grid c.self.view_is c.requires.inside c.index.ensures (sym c.in-Row.ensures.same))
+    c.self.inside.known.items c.self.inside.area.items c.self.inside.arena.value c.args.self.now c.index.result.now (Row c.in-Row.field-0) c.self.invariant.grid c.self.view_is c.requires.inside c.index.ensures (sym c.in-Row.ensures.same))
 
 pub chunk-requires : goal.chunk-requires
 chunk-requires g c =
@@ -35,5 +35,5 @@ chunk-requires g c =
     omega (
       arith,
       ap length c.deref.ensures.value,
-      piece_room s.nb_frag s.frag_size s.rows s.count s.gained c.args.k s.columns.items s.spare.items s.known.items s.area.items s.arena i is,
+      piece_room s.nb_frag s.frag_size s.rows s.count s.gained c.args.k s.columns.items s.spare.items s.known.items s.area.items s.arena.value i is,
     )

@@ -22,7 +22,7 @@ overflow_add-self g c =
       i.gained_all,
       i.most,
       i.reduced.sized,
-      gained-le (places_in c.self.inside.frag_size c.self.inside.area.items c.self.inside.arena (take c.self.inside.nb_frag c.self.inside.columns.items)),
+      gained-le (places_in c.self.inside.frag_size c.self.inside.area.items c.self.inside.arena.value (take c.self.inside.nb_frag c.self.inside.columns.items)),
     )
 
 pub invariant_of-self : goal.invariant_of-self
@@ -32,7 +32,7 @@ invariant_of-self g c =
     let columns : List Column = c.self.inside.columns.items in
     let known : List ℕ = c.self.inside.known.items in
     let area : List ℕ = c.self.inside.area.items in
-    let arena = c.self.inside.arena in
+    let arena = c.self.inside.arena.value in
     let os : List Column = take nb columns in
     let ps : List Place = places_in size area arena os in
     let part = c.args.piece.now in

@@ -31,13 +31,13 @@ invariant_of-self g c =
       within = c.self.invariant.within;
       area_fits = omega (arith, length-append s.area.items more, length-replicate {A = ℕ} (c.args.n - length s.area.items) 0, c.self.invariant.area_fits, few, c.self.invariant.pieces_fit);
       pieces_fit = c.self.invariant.pieces_fit;
-      grid = longer s.nb_frag s.frag_size s.rows s.count s.gained s.columns.items s.spare.items s.known.items s.area.items more s.arena c.self.invariant.grid;
+      grid = longer s.nb_frag s.frag_size s.rows s.count s.gained s.columns.items s.spare.items s.known.items s.area.items more s.arena.value c.self.invariant.grid;
     })
 
 pub returns-clause-places : goal.returns-clause-places
 returns-clause-places g c =
     let s = c.self.inside in
     let more : List ℕ = replicate (c.args.n - length s.area.items) 0 in
-    ap (λ l. places_in s.frag_size l s.arena (take s.nb_frag s.columns.items)) c.widen.ensures.value
-    ∙ longer_places s.nb_frag s.frag_size s.area.items more s.arena (take s.nb_frag s.columns.items) c.self.invariant.grid.reduced
+    ap (λ l. places_in s.frag_size l s.arena.value (take s.nb_frag s.columns.items)) c.widen.ensures.value
+    ∙ longer_places s.nb_frag s.frag_size s.area.items more s.arena.value (take s.nb_frag s.columns.items) c.self.invariant.grid.reduced
     ∙ ap (λ (x : Grid). x.places) c.self.view_is

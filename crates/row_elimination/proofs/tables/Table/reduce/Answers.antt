@@ -25,9 +25,9 @@ reduce-requires g c =
     let few = width_few s.nb_frag i.most in (
       omega (arith, c.self.invariant.words_few, c.self.invariant.bytes_few),
       record {
-        stored = rw (c.deref.ensures.value, sz) (stored s.nb_frag s.frag_size s.rows s.count s.gained s.columns.items s.spare.items s.known.items s.area.items s.arena i);
-        marks = rw (c.deref.ensures.value, c.deref-2.ensures.value, c.deref-3.ensures.value, sz, ln) i.marks;
-        reduced = rw (c.deref.ensures.value, c.deref-3.ensures.value, sz, long) i.reduced;
+        stored = rw (c.deref.ensures.value, c.deref-4.ensures, sz) (stored s.nb_frag s.frag_size s.rows s.count s.gained s.columns.items s.spare.items s.known.items s.area.items s.arena.value i);
+        marks = rw (c.deref.ensures.value, c.deref-2.ensures.value, c.deref-3.ensures.value, c.deref-4.ensures, sz, ln) i.marks;
+        reduced = rw (c.deref.ensures.value, c.deref-3.ensures.value, c.deref-4.ensures, sz, long) i.reduced;
         piece = record { sized = refl; bytes = c.requires.piece.bytes };
         words = rw (c.deref.ensures.value, long) ln;
         same = rw (c.deref-2.ensures.value) (sym (length-take-le (length c.args.line.now) s.known.items (omega (arith, ln, i.known_sized))));
@@ -48,9 +48,9 @@ returns-clause-left g c =
     let q' = c.reduce.new.rest in
     let sz : length part ≡ s.frag_size = c.requires.piece.sized ∙ ap (λ (x : Grid). x.shape.frag_size) (sym c.self.view_is) in
     let long : length (take s.nb_frag c.deref.result.now) ≡ s.nb_frag = length-take-le s.nb_frag c.deref.result.now (omega (arith, i.most, i.columns_sized, ap length c.deref.ensures.value)) in
-    let ps : List Place = places_in s.frag_size s.area.items s.arena (take s.nb_frag s.columns.items) in
-    let same : places_in (length part) c.deref-3.result.now s.arena (take s.nb_frag c.deref.result.now) ≡ ps =
-    rw (c.deref.ensures.value, c.deref-3.ensures.value, sz) refl in
+    let ps : List Place = places_in s.frag_size s.area.items s.arena.value (take s.nb_frag s.columns.items) in
+    let same : places_in (length part) c.deref-3.result.now c.deref-4.result.now (take s.nb_frag c.deref.result.now) ≡ ps =
+    rw (c.deref.ensures.value, c.deref-3.ensures.value, c.deref-4.ensures, sz) refl in
     let all : Reduced s.nb_frag s.frag_size ps l part l' q' =
     subst (λ (n : ℕ). Reduced n s.frag_size ps l part l' q') long
     (subst (λ (n : ℕ). Reduced (length (take s.nb_frag c.deref.result.now)) n ps l part l' q') sz

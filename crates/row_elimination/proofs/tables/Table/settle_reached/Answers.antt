@@ -15,14 +15,14 @@ overflow_sub-self g c =
     let shape : Shape = record { nb_frag = c.self.inside.nb_frag; frag_size = c.self.inside.frag_size; rows = c.self.inside.rows } in
     let columns : List Column = c.self.inside.columns.items in
     let os : List Column = take c.self.inside.nb_frag columns in
-    let known : Knows shape (places_in c.self.inside.frag_size c.self.inside.area.items c.self.inside.arena os) c.args.k c.args.piece.now =
+    let known : Knows shape (places_in c.self.inside.frag_size c.self.inside.area.items c.self.inside.arena.value os) c.args.k c.args.piece.now =
     subst (λ (g : Grid). Knows g.shape g.places c.args.k c.args.piece.now) (sym c.self.view_is) c.requires.known in
     let at : get_or os c.args.k Free ≡ c.index.result.now =
     column_read columns c.self.inside.nb_frag c.args.k c.index.result.now known.inside (omega (arith, c.self.invariant.grid.most, c.self.invariant.grid.columns_sized)) c.index.ensures in
     omega (
       arith,
       c.self.invariant.grid.counted,
-      settled_count shape c.self.inside.area.items c.self.inside.arena os c.args.k c.in-Row.slot c.args.piece.now known (at ∙ sym c.in-Row.ensures.same),
+      settled_count shape c.self.inside.area.items c.self.inside.arena.value os c.args.k c.in-Row.slot c.args.piece.now known (at ∙ sym c.in-Row.ensures.same),
     )
 
 pub invariant_of-self : goal.invariant_of-self
@@ -34,7 +34,7 @@ invariant_of-self g c =
     let columns : List Column = c.self.inside.columns.items in
     let spare : List ℕ = c.self.inside.spare.items in
     let area : List ℕ = c.self.inside.area.items in
-    let arena = c.self.inside.arena in
+    let arena = c.self.inside.arena.value in
     let marks : List ℕ = c.self.inside.known.items in
     let os : List Column = take nb columns in
     let ps : List Place = places_in size area arena os in
@@ -81,19 +81,19 @@ returns-in_default-clause-places g c =
     let shape : Shape = record { nb_frag = nb; frag_size = c.self.inside.frag_size; rows = c.self.inside.rows } in
     let columns : List Column = c.self.inside.columns.items in
     let os : List Column = take nb columns in
-    let ps : List Place = places_in c.self.inside.frag_size c.self.inside.area.items c.self.inside.arena os in
+    let ps : List Place = places_in c.self.inside.frag_size c.self.inside.area.items c.self.inside.arena.value os in
     let known : Knows shape ps c.args.k c.args.piece.now = subst (λ (g : Grid). Knows g.shape g.places c.args.k c.args.piece.now) (sym c.self.view_is) c.requires.known in
     let at : get_or os c.args.k Free ≡ c.index.result.now =
     column_read columns nb c.args.k c.index.result.now known.inside (omega (arith, c.self.invariant.grid.most, c.self.invariant.grid.columns_sized)) c.index.ensures in
     subst (λ (g : Grid). g.places ≡ set g.places c.args.k (piece c.args.piece.now)) c.self.view_is
-    (settled_already shape c.self.inside.area.items c.self.inside.arena os c.args.k c.args.piece.now known (λ slot e. c.in_default.not-Row slot (c.column.ensures.same ∙ sym at ∙ e)))
+    (settled_already shape c.self.inside.area.items c.self.inside.arena.value os c.args.k c.args.piece.now known (λ slot e. c.in_default.not-Row slot (c.column.ensures.same ∙ sym at ∙ e)))
 
 pub index_mut-requires : goal.index_mut-requires
 index_mut-requires g c =
     let shape : Shape = record { nb_frag = c.self.inside.nb_frag; frag_size = c.self.inside.frag_size; rows = c.self.inside.rows } in
     let columns : List Column = c.self.inside.columns.items in
     let os : List Column = take c.self.inside.nb_frag columns in
-    let known : Knows shape (places_in c.self.inside.frag_size c.self.inside.area.items c.self.inside.arena os) c.args.k c.args.piece.now =
+    let known : Knows shape (places_in c.self.inside.frag_size c.self.inside.area.items c.self.inside.arena.value os) c.args.k c.args.piece.now =
     subst (λ (g : Grid). Knows g.shape g.places c.args.k c.args.piece.now) (sym c.self.view_is) c.requires.known in
     let at : get_or os c.args.k Free ≡ c.index.result.now =
     column_read columns c.self.inside.nb_frag c.args.k c.index.result.now known.inside (omega (arith, c.self.invariant.grid.most, c.self.invariant.grid.columns_sized)) c.index.ensures in
@@ -102,5 +102,5 @@ index_mut-requires g c =
       c.self.invariant.grid.counted,
       c.self.invariant.grid.slots.few,
       c.self.invariant.grid.spare_sized,
-      settled_count shape c.self.inside.area.items c.self.inside.arena os c.args.k c.in-Row.slot c.args.piece.now known (at ∙ sym c.in-Row.ensures.same),
+      settled_count shape c.self.inside.area.items c.self.inside.arena.value os c.args.k c.in-Row.slot c.args.piece.now known (at ∙ sym c.in-Row.ensures.same),
     )
