@@ -1,4 +1,5 @@
 pub mod Outboxes
+pub mod Lengths
 pub mod Deliveries
 pub mod Radio
 pub mod WholeFiles

@@ -124,9 +124,6 @@ impl<F: Flash + Drop> Device<F> {
         let Ok(slots) = Slots::reserve(alloc, config.area, config.hw, config.formats) else {
             return Err(ReserveError::Memory);
         };
-        let Ok(outbox) = Outbox::reserve(alloc) else {
-            return Err(ReserveError::Memory);
-        };
         // last, so that no error has to give sessions back
         let Ok(sessions) = SessionStore::reserve(alloc, flash, layout, config.held) else {
             return Err(ReserveError::Memory);
@@ -140,7 +137,7 @@ impl<F: Flash + Drop> Device<F> {
             sessions,
             slots,
             reboot: None,
-            outbox,
+            outbox: Outbox::new(),
             counts: Counts {
                 deaf: 0,
                 refused: 0,

@@ -20,6 +20,7 @@ mod config;
 mod counts;
 mod delivered;
 mod device;
+mod held_uplink;
 mod incoming;
 mod laws;
 mod moment;

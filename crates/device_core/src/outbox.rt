@@ -1,29 +1,28 @@
 //! The uplinks that are not yet taken.
 
-ghost use Rattle.std.specs.Prelude.{◌≡◌, ◌<◌, ◌≤◌, ◌++◌, ◌∷◌, [], length, IfOk, IfSome, Some, true, false};
+ghost use Rattle.std.specs.Prelude.{◌≡◌, ◌<◌, ◌≤◌, ◌++◌, ◌∷◌, [], length, IfSome, Some, true, false};
 ghost use Rattle.device_core.specs.Answers.{uplink_of};
 ghost use Rattle.device_core.specs.Device.{outbox_size};
 ghost use Rattle.device_core.specs.HeldDevice.{TakesOldest};
 ghost use Rattle.device_core.specs.Sendable.{IsSendable, IsUplink};
 
+use crate::held_uplink::HeldUplink;
 use crate::uplink::{Uplink, UplinkCommand};
-use package_grammar::spell;
-use std::alloc::{AllocError, Global};
+use arrayvec::ArrayVec;
 use std::marker::Model;
-use wire_base::{Direction, Payload};
+use wire_base::Payload;
 
 /// How many uplinks a device holds before they are taken.
 pub const OUTBOX: usize = 8;
 
-/// At most 8 uplinks, oldest first, in memory that is taken once. Contracts see their list.
+/// At most 8 uplinks, oldest first, which lie in the value itself. Contracts see their list.
 #[derive(Drop)]
 pub struct Outbox {
-    uplinks: Vec<Uplink>,
+    uplinks: ArrayVec<HeldUplink, OUTBOX>,
 }
 
 impl Model for Outbox {
-    ghost use Rattle.std.specs.Prelude.{◌≤◌, List, vec_capacity};
-    ghost use Rattle.device_core.specs.Device.{outbox_size};
+    ghost use Rattle.std.specs.Prelude.{List};
     ghost use Rattle.device_core.specs.declared.uplink.Uplink.{Uplink};
     ghost use Rattle.device_core.specs.OutboxInside.{IsOutbox};
 
@@ -31,17 +30,17 @@ impl Model for Outbox {
 
     ghost view = { λ o. o.uplinks.items };
 
-    ghost invariant = { λ o. IsOutbox o.uplinks.items × (outbox_size ≤ vec_capacity o.uplinks) };
+    ghost invariant = { λ o. IsOutbox o.uplinks.items };
 }
 
 impl Outbox {
-    /// Takes the memory for 8.
-    pub fn reserve(alloc: Global) -> Result<Self, AllocError>
-        ensures { IfOk result (λ outbox. outbox ≡ []) }
+    /// Holds none.
+    pub fn new() -> Self
+        ensures { result ≡ [] }
     {
-        Ok(Outbox {
-            uplinks: Vec::with_capacity(alloc, OUTBOX)?,
-        })
+        Outbox {
+            uplinks: ArrayVec::new(),
+        }
     }
 
     pub fn len(&self) -> usize
@@ -65,14 +64,7 @@ impl Outbox {
         requires room { length self.old < outbox_size }
         ensures { self.new ≡ self.old ++ uplink_of answer.entry ∷ [] }
     {
-        let mut uplink = Uplink {
-            due: answer.due,
-            port: answer.port,
-            payload: Payload::new(),
-        };
-        let payload = &mut uplink.payload;
-        spell(answer.port, Direction::Up, &answer.command, payload);
-        self.uplinks.push_reserved(uplink);
+        self.uplinks.push(HeldUplink::of(answer));
     }
 
     /// Lets go of all.
@@ -90,7 +82,13 @@ impl Outbox {
         if self.uplinks.is_empty() {
             return None;
         }
-        Some(self.uplinks.remove(0))
+        let mut uplink = Uplink {
+            due: 0,
+            port: 0,
+            payload: Payload::new(),
+        };
+        self.uplinks.remove(0).write(&mut uplink);
+        Some(uplink)
     }
 
     /// As `take`, of one that is there, written into an uplink without bytes.
@@ -100,10 +98,7 @@ impl Outbox {
         ensures takes { TakesOldest self.old self.new (Some uplink.new) }
         ensures uplink { IsUplink uplink.new }
     {
-        let oldest = &self.uplinks[0];
-        uplink.due = oldest.due;
-        uplink.port = oldest.port;
-        let _fits = uplink.payload.append(oldest.payload.as_slice());
+        self.uplinks[0].write(uplink);
         if self.uplinks.len() == 1 {
             self.uplinks.clear();
         } else {

@@ -1,0 +1,73 @@
+//! An uplink while it waits: it has only as many bytes as a device's longest answer.
+
+ghost use Rattle.std.specs.Prelude.{◌≡◌, []};
+ghost use Rattle.device_core.specs.Answers.{uplink_of};
+ghost use Rattle.device_core.specs.Sendable.{IsSendable};
+
+use crate::uplink::{Uplink, UplinkCommand};
+use arrayvec::ArrayVec;
+use package_grammar::spell;
+use std::marker::Model;
+use wire_base::{Direction, Payload};
+
+/// The bytes of the longest answer, McGroupStatusAns with four groups.
+const LONGEST: usize = 22;
+
+/// An uplink that is held. Contracts see the uplink.
+#[derive(Drop)]
+pub struct HeldUplink {
+    due: u64,
+    port: u8,
+    bytes: ArrayVec<u8, LONGEST>,
+}
+
+impl Model for HeldUplink {
+    ghost use Rattle.device_core.specs.declared.uplink.Uplink.{Uplink};
+
+    ghost Value = { Uplink };
+
+    ghost view = { λ h. record { due = h.due; port = h.port; payload = h.bytes.items } };
+}
+
+/// A place in which none waits.
+impl Default for HeldUplink {
+    fn default() -> Self {
+        HeldUplink {
+            due: 0,
+            port: 0,
+            bytes: ArrayVec::new(),
+        }
+    }
+}
+
+impl HeldUplink {
+    /// An answer, spelled.
+    #[tactic(auto, using(crate::proofs::Lengths::short))]
+    pub fn of(answer: UplinkCommand<'_>) -> Self
+        requires { IsSendable answer.port answer.command }
+        ensures { result ≡ uplink_of answer.entry }
+    {
+        // (where it lies, so that no payload is moved)
+        let mut payload = Payload::new();
+        spell(answer.port, Direction::Up, &answer.command, &mut payload);
+        let mut bytes = ArrayVec::new();
+        if bytes.try_extend_from_slice(payload.as_slice()).is_err() {
+            unreachable!();
+        }
+        HeldUplink {
+            due: answer.due,
+            port: answer.port,
+            bytes,
+        }
+    }
+
+    /// Written into an uplink without bytes.
+    pub fn write(&self, uplink: &mut Uplink)
+        requires { uplink.old.payload ≡ [] }
+        ensures { uplink.new ≡ self.now }
+    {
+        uplink.due = self.due;
+        uplink.port = self.port;
+        let _fits = uplink.payload.append(self.bytes.as_slice());
+    }
+}
