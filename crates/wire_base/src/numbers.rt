@@ -1,7 +1,10 @@
-//! Numbers of several bytes at places of a payload.
+//! Numbers of several bytes at places of a payload, and at its end.
 
 ghost use Rattle.std.specs.Prelude.{◌≡◌, ◌+◌, ◌^◌, ◌<◌, ◌≤◌, length};
-ghost use Rattle.wire_base.specs.Numbers.{number_at, flag_value};
+ghost use Rattle.wire_base.specs.Payload.{Appends};
+ghost use Rattle.wire_base.specs.Numbers.{number_at, number_bytes, flag_value};
+
+use crate::payload::{Full, Payload};
 
 /// The byte at a place.
 #[tactic(auto, unfolding(crate::specs::Numbers::number_at))]
@@ -41,6 +44,36 @@ pub fn u32_at(bytes: &[u8], at: u16) -> u32
 {
     let at = at as usize;
     u32::from_le_bytes([bytes[at], bytes[at + 1], bytes[at + 2], bytes[at + 3]])
+}
+
+/// Puts one byte at the end.
+pub fn put_u8(out: &mut Payload, v: u8) -> Result<(), Full>
+    ensures { Appends out.old out.new (number_bytes 1 v) result }
+{
+    out.append(&[v])
+}
+
+/// Puts two bytes at the end, the lower first.
+pub fn put_u16(out: &mut Payload, v: u16) -> Result<(), Full>
+    ensures { Appends out.old out.new (number_bytes 2 v) result }
+{
+    out.append(&v.to_le_bytes())
+}
+
+/// Puts three bytes at the end, the lowest first.
+pub fn put_u24(out: &mut Payload, v: u32) -> Result<(), Full>
+    requires { v < 2 ^ 24 }
+    ensures { Appends out.old out.new (number_bytes 3 v) result }
+{
+    let [low, middle, high, _] = v.to_le_bytes();
+    out.append(&[low, middle, high])
+}
+
+/// Puts four bytes at the end, the lowest first.
+pub fn put_u32(out: &mut Payload, v: u32) -> Result<(), Full>
+    ensures { Appends out.old out.new (number_bytes 4 v) result }
+{
+    out.append(&v.to_le_bytes())
 }
 
 /// The value of a flag: that of its bit where it is set, else 0.
