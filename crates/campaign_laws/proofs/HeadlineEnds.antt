@@ -25,8 +25,8 @@ use Rattle.campaign_server.specs.declared.plan.PlanDevice.{PlanDevice}
 use Rattle.campaign_server.specs.declared.stage.Stage.{Stage}
 use Rattle.campaign_server.specs.declared.stage.Stage.TheVariants.{At, Updated, Refused}
 use Rattle.campaign_server.specs.declared.stage.Request.TheVariants as request
-use Rattle.campaign_server.specs.declared.fragments.NothingLeft.{NothingLeft}
-use Rattle.campaign_server.specs.declared.fragments.NothingLeft.TheVariants.{Fragments, Counts}
+use Rattle.campaign_server.specs.declared.fragments.Spent.{Spent}
+use Rattle.campaign_server.specs.declared.fragments.Spent.TheVariants.{Fragments, Counts}
 use Rattle.campaign_server.specs.Plan.{Plan, own_id}
 use Rattle.campaign_server.specs.Server.{ServerState, DownlinkCommand, port_of, ledger}
 use Rattle.wire_base.specs.Numbered.{numbered}
@@ -223,14 +223,14 @@ ask_sent image s dev k =
     (down_of s.image (cut_of s.plan) _ (command_sent s.plan s.image (numbered s.plan.devices dev) (ledger s dev)))
 
 counted_by : (image : List ℕ) (cut : Cut) (b : Bool) (down : DownlinkCommand) → IsDown image cut down
-    → IfSome (result_ok (cond {A = Result DownlinkCommand NothingLeft} b (Err Counts) (Ok down))) (IsDown image cut)
+    → IfSome (result_ok (cond {A = Result DownlinkCommand Spent} b (Err Counts) (Ok down))) (IsDown image cut)
 counted_by image cut true down k = tt
 counted_by image cut false down k = k
 
 next_by : (image : List ℕ) (cut : Cut) (parity next count : ℕ) (group : Option PlanGroup) (b : Bool)
     → nat_lt (nb_frag_of (length image) cut.size + parity) next ≡ b → 1 ≤ next → parity ≤ 512
-    → IfSome (result_ok (cond {A = Result DownlinkCommand NothingLeft} b (Err Fragments)
-    (cond {A = Result DownlinkCommand NothingLeft} (has_no_count group count) (Err Counts)
+    → IfSome (result_ok (cond {A = Result DownlinkCommand Spent} b (Err Fragments)
+    (cond {A = Result DownlinkCommand Spent} (has_no_count group count) (Err Counts)
     (Ok (record { to = receivers group count; command = fragment_command image cut next })))))
     (IsDown image cut)
 next_by image cut parity next count group true is from few = tt

@@ -33,8 +33,8 @@ use Rattle.campaign_server.specs.declared.plan.PlanDevice.{PlanDevice}
 use Rattle.campaign_server.specs.declared.stage.Stage.{Stage}
 use Rattle.campaign_server.specs.declared.stage.Stage.TheVariants.{At, Updated, Refused}
 use Rattle.campaign_server.specs.declared.stage.Request.TheVariants as request
-use Rattle.campaign_server.specs.declared.fragments.NothingLeft.{NothingLeft}
-use Rattle.campaign_server.specs.declared.fragments.NothingLeft.TheVariants.{Fragments, Counts}
+use Rattle.campaign_server.specs.declared.fragments.Spent.{Spent}
+use Rattle.campaign_server.specs.declared.fragments.Spent.TheVariants.{Fragments, Counts}
 use Rattle.campaign_server.specs.Plan.{Plan, fits_bits, own_id}
 use Rattle.campaign_server.specs.Server.{ServerState, DownlinkCommand, first_count, port_of, downlink_of, ledger}
 use Rattle.campaign_server.specs.Wrapping.{wrapped_key}
@@ -122,7 +122,7 @@ ServerNext server lines = IsNext server.plan.group server.count lines
 
 fragment_by : (server : ServerState) (lines : ℕ) (x : DownlinkCommand) (a b : Bool) → has_no_count server.plan.group server.count ≡ b
     → ServerNext server lines
-    → ServerNext (cond (is_ok (cond {A = Result DownlinkCommand NothingLeft} a (Err Fragments) (cond b (Err Counts) (Ok x))))
+    → ServerNext (cond (is_ok (cond {A = Result DownlinkCommand Spent} a (Err Fragments) (cond b (Err Counts) (Ok x))))
     (after_count (record server { next = server.next + 1 })) server) (lines + 1)
 fragment_by server lines x true b is k = next_later server.plan.group server.count lines k
 fragment_by server lines x false true is k = next_later server.plan.group server.count lines k
@@ -330,7 +330,7 @@ all_kept server lines x port k more few = record {
 
 fragment_sends : (server : ServerState) (lines : ℕ) (x : Command) (a b : Bool) → port_of x ≡ 201
     → has_no_count server.plan.group server.count ≡ b → ServerNext server lines → lines < 20000
-    → IfSome (result_ok (cond {A = Result DownlinkCommand NothingLeft} a (Err Fragments) (cond b (Err Counts)
+    → IfSome (result_ok (cond {A = Result DownlinkCommand Spent} a (Err Fragments) (cond b (Err Counts)
     (Ok (record { to = receivers server.plan.group server.count; command = x }))))) (λ y. IsKept server.plan (sent_to None y))
 fragment_sends server lines x true b port is k few = tt
 fragment_sends server lines x false true port is k few = tt

@@ -33,8 +33,8 @@ use Rattle.cast_wire.specs.SetupRefusal.{refusal_bits}
 use Rattle.wire_base.specs.Numbered.{numbered}
 use Rattle.clock_sync.specs.Clock.{correction_of, is_answer_needed}
 use Rattle.package_grammar.specs.declared.downlink.To.{To}
-use Rattle.campaign_server.specs.declared.fragments.NothingLeft.{NothingLeft}
-use Rattle.campaign_server.specs.declared.fragments.NothingLeft.TheVariants.{Fragments, Counts}
+use Rattle.campaign_server.specs.declared.fragments.Spent.{Spent}
+use Rattle.campaign_server.specs.declared.fragments.Spent.TheVariants.{Fragments, Counts}
 use Rattle.campaign_server.specs.Asking.{group_request, window_request_of, window_request, cast_of, request_at, command_for, by_unicast, request_of}
 use Rattle.campaign_server.specs.Fragments.{receivers, has_no_count, next_fragment, status_to_all}
 use Rattle.campaign_server.specs.Time.{time_answer_to, first_answer, time_answer}
@@ -225,13 +225,13 @@ unfolding request_of
 ask_own server dev = command_own server.plan server.image (numbered server.plan.devices dev) (ledger server dev)
 
 counted_own : (b : Bool) (down : DownlinkCommand) → IsOwn down
-    → IfSome (result_ok (cond {A = Result DownlinkCommand NothingLeft} b (Err Counts) (Ok down))) IsOwn
+    → IfSome (result_ok (cond {A = Result DownlinkCommand Spent} b (Err Counts) (Ok down))) IsOwn
 counted_own true down k = tt
 counted_own false down k = k
 
 next_own : (server : ServerState) (b : Bool)
-    → IfSome (result_ok (cond {A = Result DownlinkCommand NothingLeft} b (Err Fragments)
-    (cond {A = Result DownlinkCommand NothingLeft} (has_no_count server.plan.group server.count) (Err Counts)
+    → IfSome (result_ok (cond {A = Result DownlinkCommand Spent} b (Err Fragments)
+    (cond {A = Result DownlinkCommand Spent} (has_no_count server.plan.group server.count) (Err Counts)
     (Ok (record {
       to = receivers server.plan.group server.count;
       command = Cast

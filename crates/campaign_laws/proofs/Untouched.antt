@@ -22,8 +22,8 @@ use Rattle.campaign_server.specs.Server.{ServerState, DownlinkCommand, port_of, 
 use Rattle.wire_base.specs.Numbered.{numbered}
 use Rattle.campaign_server.specs.Asking.{request_at, command_for, by_unicast, request_of}
 use Rattle.campaign_server.specs.Answers.{stage_after_all}
-use Rattle.campaign_server.specs.declared.fragments.NothingLeft.{NothingLeft}
-use Rattle.campaign_server.specs.declared.fragments.NothingLeft.TheVariants.{Fragments, Counts}
+use Rattle.campaign_server.specs.declared.fragments.Spent.{Spent}
+use Rattle.campaign_server.specs.declared.fragments.Spent.TheVariants.{Fragments, Counts}
 use Rattle.campaign_server.specs.Fragments.{next_fragment, after_fragment, status_to_all, after_status_to_all}
 use Rattle.campaign_server.specs.Time.{time_answer_to, first_answer, time_answer}
 use Rattle.campaign_server.specs.Uplinks.{with_answers, read_uplink, uplink_step}
@@ -143,7 +143,7 @@ other_port : (stages : List Stage) (to : Option ℕ) (x : DownlinkCommand) → (
 other_port stages to x far = λ id may at. inl far
 
 fragment_by : (stages : List Stage) (a b : Bool) (x : DownlinkCommand) → (port_of x.command ≡ 203 → ⊥)
-    → IfSome (result_ok (cond {A = Result DownlinkCommand NothingLeft} a (Err Fragments) (cond b (Err Counts) (Ok x)))) (λ y. IsFor stages (record { receiver = None; down = downlink_of y }))
+    → IfSome (result_ok (cond {A = Result DownlinkCommand Spent} a (Err Fragments) (cond b (Err Counts) (Ok x)))) (λ y. IsFor stages (record { receiver = None; down = downlink_of y }))
 fragment_by stages true b x far = tt
 fragment_by stages false true x far = tt
 fragment_by stages false false x far = other_port stages None x far

@@ -4,7 +4,7 @@ use Rattle.std.specs.List.{range_with_len, AllPairs}
 use Rattle.package_grammar.specs.declared.downlink.To.{To}
 use Rattle.package_grammar.specs.declared.downlink.To.TheVariants as to
 use Rattle.campaign_server.specs.declared.plan.PlanGroup.{PlanGroup}
-use Rattle.campaign_server.specs.declared.fragments.NothingLeft.{NothingLeft}
+use Rattle.campaign_server.specs.declared.fragments.Spent.{Spent}
 use Rattle.campaign_server.specs.Plan.{Plan}
 use Rattle.campaign_server.specs.Server.{ServerState, DownlinkCommand, first_server, first_count}
 use Rattle.campaign_server.specs.Fragments.{next_fragment, after_fragment, status_to_all, after_status_to_all}
@@ -28,7 +28,7 @@ abbrev pub counts_to : To → List ℕ
 counts_to to.Unicast = []
 counts_to (to.Group addr count) = count ∷ []
 
-abbrev pub counts_of_sent : Result DownlinkCommand NothingLeft → List ℕ
+abbrev pub counts_of_sent : Result DownlinkCommand Spent → List ℕ
 counts_of_sent (Ok down) = counts_to down.to
 counts_of_sent (Err spent) = []
 

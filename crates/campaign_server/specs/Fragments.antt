@@ -6,8 +6,8 @@ use Rattle.package_grammar.specs.declared.command.Command.TheVariants.{Cast}
 use Rattle.package_grammar.specs.declared.downlink.To.{To}
 use Rattle.package_grammar.specs.declared.downlink.To.TheVariants as to
 use Rattle.campaign_server.specs.declared.plan.PlanGroup.{PlanGroup}
-use Rattle.campaign_server.specs.declared.fragments.NothingLeft.{NothingLeft}
-use Rattle.campaign_server.specs.declared.fragments.NothingLeft.TheVariants.{Fragments, Counts}
+use Rattle.campaign_server.specs.declared.fragments.Spent.{Spent}
+use Rattle.campaign_server.specs.declared.fragments.Spent.TheVariants.{Fragments, Counts}
 use Rattle.campaign_server.specs.Server.{ServerState, DownlinkCommand}
 
 -- ---- to whom
@@ -36,7 +36,7 @@ after_count server = record server { count = next_count server.plan.group server
 abbrev pub last_fragment : ServerState → ℕ
 last_fragment server = nb_frag_of (length server.image) server.plan.frag_size + server.plan.parity
 
-unfoldable pub next_fragment : ServerState → Result DownlinkCommand NothingLeft
+unfoldable pub next_fragment : ServerState → Result DownlinkCommand Spent
 next_fragment server =
     if nat_lt (last_fragment server) server.next then Err Fragments
     else if has_no_count server.plan.group server.count then Err Counts

@@ -18,7 +18,7 @@ use package_grammar::{Command, Downlink, To};
 
 /// Why no fragment is sent.
 #[derive(Clone, Copy, Debug, PartialEq, Eq)]
-pub enum NothingLeft {
+pub enum Spent {
     /// All were sent.
     Fragments,
     /// The group's frame counts are used up.

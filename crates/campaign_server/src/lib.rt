@@ -23,7 +23,7 @@ mod spelling;
 mod stage;
 mod time;
 
-pub use fragments::NothingLeft;
+pub use fragments::Spent;
 pub use laws::{
     a_count_is_sent_once, a_device_unwraps_the_key, a_frame_is_opened,
     a_refused_uplink_changes_nothing, an_answer_moves_once, an_end_is_final, worked_steps,

@@ -20,7 +20,7 @@ use crate::answers::stage_after_all;
 use crate::asking::request;
 use crate::checks::bad_field;
 use crate::fragments::{
-    NothingLeft, has_no_count, next_count, put_fragment, put_status_of_all, receivers,
+    Spent, has_no_count, next_count, put_fragment, put_status_of_all, receivers,
 };
 use crate::framing::{is_to_group, keys_of};
 use crate::plan::{Field, Plan, PlanDevice, PlanGroup};
@@ -154,7 +154,7 @@ impl Server {
     /// The next fragment to all devices: by the group with its next frame count, else as unicast.
     /// `Fragments` comes exactly where all were sent, and else `Counts` exactly where the next count is the group's MAX;
     /// nothing changes then.
-    pub fn next_fragment(&mut self) -> Result<Downlink, NothingLeft>
+    pub fn next_fragment(&mut self) -> Result<Downlink, Spent>
         ensures sent { result ≡ result_of (next_fragment self.old) }
         ensures moved { self.new ≡ after_fragment self.old }
     {
@@ -167,18 +167,18 @@ impl Server {
 
     /// As `next_fragment`, written into a downlink of the caller's that has no bytes; at an error it is as it was.
     #[tactic(auto, unfolding(crate::specs::Fragments::next_fragment, crate::specs::Fragments::after_fragment))]
-    pub fn next_fragment_into(&mut self, down: &mut Downlink) -> Result<(), NothingLeft>
+    pub fn next_fragment_into(&mut self, down: &mut Downlink) -> Result<(), Spent>
         requires { down.old.payload ≡ [] }
         ensures sent { written_where_ok result down.new ≡ result_of (next_fragment self.old) }
         ensures none { OnErr result (down.new ≡ down.old) }
         ensures moved { self.new ≡ after_fragment self.old }
     {
         if self.next > self.encoder.nb_frag() + self.plan.parity {
-            return Err(NothingLeft::Fragments);
+            return Err(Spent::Fragments);
         }
         let group = self.plan.group;
         if has_no_count(group, self.count) {
-            return Err(NothingLeft::Counts);
+            return Err(Spent::Counts);
         }
         let to = receivers(group, self.count);
         put_fragment(&self.plan, &self.encoder, to, self.next, down);

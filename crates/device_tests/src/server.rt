@@ -4,8 +4,8 @@ ghost use Rattle.std.specs.Prelude.{◌≡◌, length};
 
 use crate::common::{CONFIG, IMAGE, no_flash};
 use campaign_server::{
-    Field, Kind, NothingLeft, Plan, PlanDevice, PlanGroup, PlanWindow, Request, Server,
-    ServerError, Stage,
+    Field, Kind, Plan, PlanDevice, PlanGroup, PlanWindow, Request, Server, ServerError, Spent,
+    Stage,
 };
 use device_core::{Aired, Delivered, Device, DeviceConfig};
 use flash_session::CellFlash;
@@ -478,7 +478,7 @@ impl OneDevice {
     }
 
     #[tactic(auto, unfolding(campaign_server::specs::Fragments::after_fragment))]
-    fn fragment(&mut self) -> Result<Downlink, NothingLeft> {
+    fn fragment(&mut self) -> Result<Downlink, Spent> {
         self.server.next_fragment()
     }
 
@@ -521,7 +521,7 @@ fn a_campaign_is_sent_in_bytes(rt: HostRuntime) {
     for fragment in &FRAGMENTS {
         sends(&rt, &mut campaign, fragment);
     }
-    assert!(rt; matches!(campaign.fragment(), Err(NothingLeft::Fragments)));
+    assert!(rt; matches!(campaign.fragment(), Err(Spent::Fragments)));
     asked(&rt, &mut campaign, &CAMPAIGN);
     campaign.asks(&rt, 0, &[]);
     drop(campaign);
@@ -578,7 +578,7 @@ fn counts_of_a_group_end_before_its_fragments(rt: HostRuntime) {
     let mut short = with_group(&rt, rt.alloc(), 26, 1, FEW);
     assert!(rt; short.fragment().is_ok());
     asks_all(&rt, &mut short);
-    assert!(rt; matches!(short.fragment(), Err(NothingLeft::Counts)));
+    assert!(rt; matches!(short.fragment(), Err(Spent::Counts)));
     assert!(rt; short.status_all().is_none());
     drop(short);
 }
@@ -587,7 +587,7 @@ fn counts_of_a_group_end_before_its_fragments(rt: HostRuntime) {
 fn counts_of_a_group_end_with_its_fragments(rt: HostRuntime) {
     let mut even = with_group(&rt, rt.alloc(), 26, 0, FEW);
     assert!(rt; even.fragment().is_ok() && even.fragment().is_ok());
-    assert!(rt; matches!(even.fragment(), Err(NothingLeft::Fragments)));
+    assert!(rt; matches!(even.fragment(), Err(Spent::Fragments)));
     drop(even);
 }
 

@@ -4,8 +4,8 @@ use Rattle.wire_base.specs.declared.refusal.Refusal.{Refusal}
 use Rattle.package_grammar.specs.declared.downlink.To.{To}
 use Rattle.package_grammar.specs.declared.downlink.To.TheVariants.{Unicast, Group}
 use Rattle.package_grammar.specs.declared.downlink.Downlink.{Downlink}
-use Rattle.campaign_server.specs.declared.fragments.NothingLeft.{NothingLeft}
-use Rattle.campaign_server.specs.declared.fragments.NothingLeft.TheVariants.{Fragments, Counts}
+use Rattle.campaign_server.specs.declared.fragments.Spent.{Spent}
+use Rattle.campaign_server.specs.declared.fragments.Spent.TheVariants.{Fragments, Counts}
 use Rattle.campaign_server.specs.declared.stage.Request.{Request}
 use Rattle.campaign_server.specs.declared.stage.Request.TheVariants as request
 use Rattle.campaign_server.specs.declared.stage.Stage.{Stage}
@@ -49,11 +49,11 @@ IsOut (Some down) none old new answer = (answer ≡ done) × IsDownOut down old 
 
 -- ---- to all devices
 
-abbrev pub spent_number : NothingLeft → ℕ
+abbrev pub spent_number : Spent → ℕ
 spent_number Fragments = nothing
 spent_number Counts = spent
 
-abbrev pub IsFragmentOut : Result Downlink NothingLeft → (old new : DownFields) → (answer : ℕ) → Type 0
+abbrev pub IsFragmentOut : Result Downlink Spent → (old new : DownFields) → (answer : ℕ) → Type 0
 IsFragmentOut (Ok down) old new answer = (answer ≡ done) × IsDownOut down old new
 IsFragmentOut (Err why) old new answer = (answer ≡ spent_number why) × (new ≡ old)
 

@@ -1,6 +1,6 @@
 //! A server that knows how many devices its plan has.
 
-use campaign_server::{NothingLeft, Plan, Server, ServerError, Stage};
+use campaign_server::{Plan, Server, ServerError, Spent, Stage};
 use package_grammar::Downlink;
 use std::alloc::Global;
 use std::marker::Model;
@@ -64,7 +64,7 @@ impl Campaign {
     }
 
     /// The next fragment to all devices.
-    pub fn next_fragment(&mut self) -> Result<Downlink, NothingLeft>
+    pub fn next_fragment(&mut self) -> Result<Downlink, Spent>
         ensures sent { result ≡ result_of (next_fragment self.old) }
         ensures moved { self.new ≡ after_fragment self.old }
     {

@@ -14,7 +14,7 @@ use crate::plan::{PlanFields, field_number, plan_of};
 use crate::sent::{DownFields, put_down};
 use crate::server_handle::ServerHandle;
 use c_base::answer::{DONE, NO_MEMORY, NO_OBJECT, NOTHING, RANGE, REFUSED, SPENT};
-use campaign_server::{NothingLeft, Request, ServerError, Stage};
+use campaign_server::{Request, ServerError, Spent, Stage};
 use image_slots::is_image;
 use package_grammar::Downlink;
 use std::alloc::{AllocError, Global};
@@ -121,8 +121,8 @@ fn next_fragment(server: &mut Campaign, out: &mut DownFields) -> u8
             put_down(&down, out);
             DONE
         }
-        Err(NothingLeft::Fragments) => NOTHING,
-        Err(NothingLeft::Counts) => SPENT,
+        Err(Spent::Fragments) => NOTHING,
+        Err(Spent::Counts) => SPENT,
     }
 }
 
