@@ -4,12 +4,13 @@
 //! reads; and a refusal names the first cause that holds.
 //! Lines, their numbers, and what becomes of an entry are left to the crates above.
 //!
-//!     let mut scratch = Scratch::new(alloc);
-//!     match entry(alloc, &mut scratch, br#"{"port":201,"dir":"down","hex":"0801005a"}"#) {
+//!     match entry(alloc, br#"{"port":201,"dir":"down","hex":"0801005a"}"#) {
 //!         Ok(entry) => hear(entry.port, entry.dir, &entry.payload),
 //!         Err(EntryError::Refused(fault)) => refuse(fault),  // the first that holds
 //!         Err(EntryError::Memory) => give_up(),
 //!     }
+//!
+//! For line after line, `entry_with` takes a `Scratch` that is lent to each.
 #![tactic(auto)]
 
 mod answers;
@@ -22,4 +23,4 @@ mod reading;
 pub use answers::{Entry, EntryError, EntryFault};
 pub use json::Scratch;
 pub use laws::{entries_fit_frames, worked_entries};
-pub use reading::entry;
+pub use reading::{entry, entry_with};

@@ -13,8 +13,17 @@ use serde_json::Value;
 use std::alloc::Global;
 use wire_base::{Direction, MAX_PAYLOAD, Payload};
 
-/// The entry of a line. One `scratch` may be lent to line after line: it is room, and says nothing of what is answered.
-pub fn entry(alloc: Global, scratch: &mut Scratch, line: &[u8]) -> Result<Entry, EntryError>
+/// The entry of a line.
+pub fn entry(alloc: Global, line: &[u8]) -> Result<Entry, EntryError>
+    ensures entry { IfOk result (λ e. entry_of line.now ≡ Ok e) }
+    ensures refused { IfErr result (IsRefusedBy (entry_of line.now)) }
+{
+    let mut scratch = Scratch::new(alloc);
+    entry_with(alloc, &mut scratch, line)
+}
+
+/// The same, where one `scratch` may be lent to line after line: it is room, and says nothing of what is answered.
+pub fn entry_with(alloc: Global, scratch: &mut Scratch, line: &[u8]) -> Result<Entry, EntryError>
     ensures entry { IfOk result (λ e. entry_of line.now ≡ Ok e) }
     ensures refused { IfErr result (IsRefusedBy (entry_of line.now)) }
 {

@@ -14,7 +14,7 @@ ghost use Rattle.payload_replay.specs.HeldCapturing.{CaughtStands, CaughtBecomes
 use crate::decoding::show_payload;
 use crate::hearer::{begin, closing_text, hear};
 use crate::payload_lines::is_beyond;
-use capture_read::{Entry, EntryError, EntryFault, Scratch, entry};
+use capture_read::{Entry, EntryError, EntryFault, Scratch, entry_with};
 use cast_wire::FRAGMENT_PORT;
 use device_core::Device;
 use flash_session::CellFlash;
@@ -237,7 +237,7 @@ fn read_entry(
     if is_beyond(lines, line) {
         return Err(refused_behind(lines, LineWhy::Limit));
     }
-    match entry(alloc, scratch, line) {
+    match entry_with(alloc, scratch, line) {
         Ok(item) => Ok(item),
         Err(EntryError::Memory) => Err(LineError::Memory),
         Err(EntryError::Refused(fault)) => Err(refused_behind(lines, cause_of(fault))),
