@@ -24,6 +24,7 @@ mod sure;
 mod system;
 mod words;
 
+pub use campaign_world::World;
 pub use files::{Failed, Files};
 pub use laws::{
     capture_is_answered, names_are_words, other_counts_are_no_forms, pair_is_answered,
@@ -31,6 +32,7 @@ pub use laws::{
     seeds_are_summed_up, words_are_forms, worked_answers,
 };
 pub use memory::{MemFiles, MemSink};
+pub use report_lines::{LineError, LineFault, LineWhy};
 pub use running::run;
 pub use sink::Sink;
 pub use status::Status;
