@@ -1,11 +1,11 @@
 -- Taking known columns out of a line, word by word.
-use Rattle.std.proofs.Common.{◌≡◌, ◌≢◌, ℕ, ◌+◌, ◌*◌, ◌/◌, ◌%◌, ◌^◌, ◌<◌, ◌≤◌, List, [], ◌∷◌, ◌++◌, length, take, get_or, set, min, bit_xor, bit_and, refl, sym, ap, ap₂, ◌∙◌, subst, inl, inr, arith, w64, length-set, get_or-set_same, get_or-set_other}
+use Rattle.std.proofs.Common.{◌≡◌, ◌≢◌, ℕ, zero, suc, ◌+◌, ◌-◌, ◌*◌, ◌/◌, ◌%◌, ◌^◌, ◌<◌, ◌≤◌, List, [], ◌∷◌, ◌++◌, length, take, get_or, set, min, bit_xor, bit_and, refl, sym, ap, ap₂, ◌∙◌, subst, inl, inr, arith, w64, lit<, pow-suc, length-set, get_or-set_same, get_or-set_other}
 use Rattle.std.specs.Int.{bit_at, trailing_zeros}
-use Rattle.std.specs.Int.Bits.{xor_add_and, xor_assoc, xor_self, xor_zero_r}
+use Rattle.std.specs.Int.Bits.{and_self, xor_assoc, xor_self, xor_zero_r}
 use Rattle.std.specs.Int.Count.{ones}
 use Rattle.std.proofs.lemmas.Bool.{cases_lt, cases_eq}
-use Rattle.std.proofs.lemmas.Nat.{xor_lt, pow_pos, pow_below}
-use Rattle.std.proofs.lemmas.Nat.Bits.{bit_at-lt, bit_at-zero, bit_at_and, bit_at_xor, bit_at-pow_same, bit_at-pow_other, bit_at-trailing_zeros, same_from_bits, and_pow}
+use Rattle.std.proofs.lemmas.Nat.{xor_lt, pow_pos, pow_below, and_block, xor_block}
+use Rattle.std.proofs.lemmas.Nat.Bits.{bit_at_lowest, bit_at-suc, bit_at-lt, bit_at-zero, bit_at_and, bit_at_xor, bit_at-pow_same, bit_at-pow_other, bit_at-trailing_zeros, same_from_bits}
 use Rattle.std.proofs.lemmas.List.{take_more_set, get_or_past, set-set, set-get_or}
 use Rattle.row_arena.specs.Rows.{line_in}
 use Rattle.row_arena.specs.Sums.{after_flips}
@@ -64,11 +64,27 @@ line_flipped words i t c is lt inside small =
           ∙ sym (right ∙ (omega (arith, none, bit_at-lt (get_or words (k / 64) 0) (k % 64))))
     ])
 
--- where a bit is set, flipping it takes its power away
-pub flip_less : (left t : ℕ) → bit_at left t ≡ 1 → bit_xor left (2 ^ t) < left
-flip_less left t on =
-    let power : bit_and left (2 ^ t) ≡ 2 ^ t = and_pow left t ∙ (omega (arith, ap (λ b. b * 2 ^ t) on)) in
-    omega (arith, xor_add_and left (2 ^ t), power, pow_pos t)
+-- a number and the one before it share all its bits but the lowest
+lowest_out : (t left : ℕ) → bit_at left t ≡ 1 → ((i : ℕ) → i < t → bit_at left i ≡ 0) → bit_and left (left - 1) ≡ bit_xor left (2 ^ t)
+lowest_out zero left on before =
+    let m : ℕ = left / 2 in
+    let odd : left % 2 ≡ 1 = sym (bit_at_lowest left) ∙ on in
+    let here : left ≡ m * 2 ^ 1 + 1 = omega arith in
+    let less : left - 1 ≡ m * 2 ^ 1 + 0 = omega arith in
+    ap₂ bit_and here less ∙ and_block 1 m m 1 0 (lit< tt) (lit< tt)
+    ∙ ap (λ a. a * 2 ^ 1 + 0) (and_self m ∙ sym (xor_zero_r m))
+    ∙ sym (ap (λ n. bit_xor n 1) here ∙ xor_block 1 m 0 1 1 (lit< tt) (lit< tt))
+lowest_out (suc t) left on before =
+    let m : ℕ = left / 2 in
+    let even : left % 2 ≡ 0 = sym (bit_at_lowest left) ∙ before 0 (omega arith) in
+    let later : bit_at m t ≡ 1 = sym (bit_at-suc left t) ∙ on in
+    let some : m ≢ 0 = λ none. absurd (omega (arith, later, ap (λ n. bit_at n t) none, bit_at-zero t)) in
+    let here : left ≡ m * 2 ^ 1 + 0 = omega arith in
+    let less : left - 1 ≡ (m - 1) * 2 ^ 1 + 1 = omega arith in
+    let power : 2 ^ suc t ≡ 2 ^ t * 2 ^ 1 + 0 = omega (arith, pow-suc 2 t) in
+    ap₂ bit_and here less ∙ and_block 1 m (m - 1) 0 1 (lit< tt) (lit< tt)
+    ∙ ap (λ a. a * 2 ^ 1 + 0) (lowest_out t m later (λ i lt. sym (bit_at-suc left i) ∙ before (suc i) (omega arith)))
+    ∙ sym (ap₂ bit_xor here power ∙ xor_block 1 m (2 ^ t) 0 0 (lit< tt) (lit< tt))
 
 -- how far picking has come: words below i have no known column, and left has the columns of word i that are still there
 pub record Picking (i left count : ℕ) (old line known picks : List ℕ) : Type 0 where
@@ -245,13 +261,17 @@ word_begin i count left old line known picks is lt h =
     subst (λ l. Picking i left count old l known picks) (sym (left_taken line i left lt))
     (subst (λ x. Picking i x count old line known picks) (sym is) (pick_word i count old line known picks h))
 
-pub word_step : (i left t c b count m : ℕ) (old line known picks : List ℕ) → t ≡ trailing_zeros w64 left → c ≡ 64 * i + t → b ≡ 2 ^ t → m ≡ count + 1
+pub word_step : (i left t c next count m : ℕ) (old line known picks : List ℕ) → t ≡ trailing_zeros w64 left → c ≡ 64 * i + t → next ≡ bit_and left (left - 1) → m ≡ count + 1
     → left ≢ 0 → left < 2 ^ 64 → i < length old → AreWords known → Picking i left count old (with_left line i left) known picks
-    → Picking i (bit_xor left b) m old (with_left line i (bit_xor left b)) known (set picks count c)
-word_step i left t c b count m old line known picks is_t is_c is_b is_m some below inside words h =
+    → Picking i next m old (with_left line i next) known (set picks count c)
+word_step i left t c next count m old line known picks is_t is_c is_next is_m some below inside words h =
     let lt : i < length line = omega (arith, h.sized, length-set line i (bit_xor (get_or line i 0) left)) in
-    subst (λ l. Picking i (bit_xor left b) m old l known (set picks count c)) (left_less line i left b lt)
-    (pick_step i left t c b count m old (with_left line i left) known picks is_t is_c is_b is_m some below inside words h)
+    let lowest = bit_at-trailing_zeros w64 left (omega arith) below in
+    let flipped : bit_xor left (2 ^ t) ≡ next =
+    ap (λ k. bit_xor left (2 ^ k)) is_t ∙ sym (lowest_out (trailing_zeros w64 left) left lowest.1 lowest.2) ∙ sym is_next in
+    subst (λ n. Picking i n m old (with_left line i n) known (set picks count c)) flipped
+    (subst (λ l. Picking i (bit_xor left (2 ^ t)) m old l known (set picks count c)) (left_less line i left (2 ^ t) lt)
+    (pick_step i left t c (2 ^ t) count m old (with_left line i left) known picks is_t is_c refl is_m some below inside words h))
 
 pub word_next : (i m left count : ℕ) (old line known picks : List ℕ) → m ≡ i + 1 → left ≡ 0 → Picking i left count old (with_left line i left) known picks → PickedTo m count old line known picks
 word_next i m left count old line known picks next none h =

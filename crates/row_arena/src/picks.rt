@@ -29,7 +29,7 @@ pub fn pick(line: &mut [u64], known: &[u64], picks: &mut [u16]) -> usize
             let t = left.trailing_zeros();
             picks[count] = (i * 64) as u16 + t as u16;
             count += 1;
-            left ^= 1 << t;
+            left &= left - 1;
         }
     }
     count
