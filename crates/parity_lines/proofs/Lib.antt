@@ -1,3 +1,4 @@
 pub mod Reciprocal
 pub mod Columns
 pub mod Drawn
+pub mod Ahead
