@@ -1,4 +1,5 @@
 pub mod Pieces
+pub mod Listing
 pub mod Summing
 pub mod Counting
 pub mod Filling

@@ -207,6 +207,7 @@ fn write_data<L: Ledger, M: Ledger>(
     requires first { 1 ≤ n }
     requires last { n ≤ nb_frag + MAX_PARITY_INDEX }
     requires size { length part.old ≡ size }
+    requires fits { size ≤ MAX_FRAGMENT }
     requires bytes { length bytes.now ≡ nb_frag * size }
     ensures whole { part.new
         ≡ xor_all size (pieces_at (line_of nb_frag n) (pieces_of nb_frag size bytes.now)) }

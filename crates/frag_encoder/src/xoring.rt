@@ -5,7 +5,9 @@ ghost use Rattle.frag_model.specs.Fragments.{columns_in, xor_bytes, xor_all, pie
 ghost use Rattle.parity_lines.specs.Words.{words_number};
 ghost use Rattle.frag_encoder.specs.Encoding.{pieces_of};
 
+use crate::encoder::MAX_FRAGMENT;
 use parity_lines::Steps;
+use row_arena::sum_pieces;
 use std::sync::ledger::Ledger;
 
 /// XORs the pieces at a line's columns into `sum`, and counts them. The line's words are just those that its columns need.
@@ -19,6 +21,7 @@ pub fn xor_line<M: Ledger>(
     requires words { 64 * length line.now < columns + 64 }
     requires line { words_number line.now < 2 ^ columns }
     requires bytes { length bytes.now ≡ columns * length sum.old }
+    requires size { length sum.old ≤ MAX_FRAGMENT }
     ensures sum { sum.new ≡ xor_bytes sum.old (xor_all (length sum.old)
         (pieces_at (words_number line.now) (pieces_of columns (length sum.old) bytes.now))) }
     ensures count { sums.new ≡ sums.old + columns_in (words_number line.now) }
@@ -40,20 +43,24 @@ pub fn xor_line<M: Ledger>(
 fn xor_word<M: Ledger>(word: u64, columns: usize, bytes: &[u8], sum: &mut [u8], sums: &mut Steps<M>)
     requires word { word < 2 ^ columns }
     requires bytes { length bytes.now ≡ columns * length sum.old }
+    requires size { length sum.old ≤ MAX_FRAGMENT }
     ensures sum { sum.new ≡ xor_bytes sum.old
         (xor_all (length sum.old) (pieces_at word (pieces_of columns (length sum.old) bytes.now))) }
     ensures count { sums.new ≡ sums.old + columns_in word }
 {
-    let size = sum.len();
+    let mut picks = [0; 64];
+    let mut count = 0;
     let mut left = word;
-    let mut column = 0;
     while left != 0 {
-        let skip = left.trailing_zeros();
-        column += skip as usize;
-        xor_piece(piece_at(bytes, size, column), sum, sums);
-        column += 1;
-        left = left >> skip >> 1;
+        picks[count] = left.trailing_zeros() as u16;
+        count += 1;
+        left &= left - 1;
     }
+    let mut part = [0; MAX_FRAGMENT];
+    let part = &mut part[..sum.len()];
+    part.copy_from_slice(sum);
+    sum_pieces(bytes, &picks[..count], part, sum);
+    sums.add(count);
 }
 
 /// The pieces from a column on.
@@ -72,16 +79,4 @@ pub fn piece_at(bytes: &[u8], size: usize, column: usize) -> &[u8]
 {
     let at = column * size;
     &bytes[at..at + size]
-}
-
-/// XORs a piece into `sum`, and counts it.
-fn xor_piece<M: Ledger>(piece: &[u8], sum: &mut [u8], sums: &mut Steps<M>)
-    requires { length piece.now ≡ length sum.old }
-    ensures sum { sum.new ≡ xor_bytes sum.old piece.now }
-    ensures one { sums.new ≡ sums.old + 1 }
-{
-    for i in 0..sum.len() {
-        sum[i] ^= piece[i];
-    }
-    sums.tick();
 }
