@@ -28,21 +28,31 @@ pub enum GroupEnd {
     Undefined,
 }
 
+/// The session keys of a group: McAppSKey and McNetSKey.
+#[derive(Clone, Copy)]
+struct SessionKeys {
+    app_s: Key,
+    net_s: Key,
+}
+
 /// The groups of a device. Contracts see the list of places, one for each id that is configured. It has no text, as a group.
 #[derive(Drop)]
 pub struct GroupTable {
     places: ArrayVec<Option<Group>, MAX_GROUPS>,
+    /// Those of the group at each place, derived when it is set up and not for each of its frames.
+    keys: [SessionKeys; MAX_GROUPS],
 }
 
 impl Model for GroupTable {
-    ghost use Rattle.std.specs.Prelude.{List, Option, ◌≤◌, length};
+    ghost use Rattle.std.specs.Prelude.{List, Option};
     ghost use Rattle.mc_group.specs.declared.group.Group.{Group};
+    ghost use Rattle.mc_group.specs.TableInside.{IsTable};
 
     ghost Value = { List (Option Group) };
 
     ghost view = { λ t. t.places.items };
 
-    ghost invariant = { λ t. length t.places.items ≤ 4 };
+    ghost invariant = { λ t. IsTable t.places.items t.keys };
 }
 
 impl GroupTable {
@@ -55,7 +65,14 @@ impl GroupTable {
         for _ in 0..number {
             places.push(None);
         }
-        GroupTable { places }
+        let none = SessionKeys {
+            app_s: [0; 16],
+            net_s: [0; 16],
+        };
+        GroupTable {
+            places,
+            keys: [none; MAX_GROUPS],
+        }
     }
 
     /// Answers McGroupSetupReq: a group of frame counts from `min` to below `max` takes the place of what the id had.
@@ -86,6 +103,10 @@ impl GroupTable {
             min,
             max,
         });
+        self.keys[id] = SessionKeys {
+            app_s: app_s_key(&key, addr),
+            net_s: net_s_key(&key, addr),
+        };
         GroupAnswer::Ok
     }
 
@@ -118,13 +139,8 @@ impl GroupTable {
         ensures app_s { Some result.0 ≡ option_map group_app_s_key (group_at self.now id) }
         ensures net_s { Some result.1 ≡ option_map group_net_s_key (group_at self.now id) }
     {
-        match self.get(id) {
-            Some(group) => (
-                app_s_key(&group.key, group.addr),
-                net_s_key(&group.key, group.addr),
-            ),
-            None => unreachable!(),
-        }
+        let keys = &self.keys[id as usize];
+        (keys.app_s, keys.net_s)
     }
 
     /// Whether a frame is for the group of an id: it is there with that McAddr, and the frame count is within its range.
