@@ -1,9 +1,9 @@
 -- Gates as they are read, from the first on.
-use Rattle.std.proofs.Common.{◌≡◌, ◌≢◌, ℕ, ◌+◌, ◌<◌, ◌≤◌, List, sym, ◌∙◌, inl, inr, arith, subst}
+use Rattle.std.proofs.Common.{◌≡◌, ◌≢◌, ℕ, ◌+◌, ◌-◌, ◌<◌, ◌≤◌, List, length, get_or, sym, ap, ◌∙◌, inl, inr, arith}
 use Rattle.std.proofs.lemmas.Bool.{cases_lt, cases_eq}
-use Rattle.flash_session.specs.Contents.{byte_at, Same, Follows}
+use Rattle.flash_session.specs.Contents.{byte_at, Same, Follows, Gives}
 use Rattle.flash_session.specs.Fronts.{IsFirstStray}
-use Rattle.flash_session.specs.Gates.{AreOpen, AreShut, IsFirstShut}
+use Rattle.flash_session.specs.Gates.{AreOpen, AreShut}
 use Rattle.flash_session.specs.Layout.{open_gate}
 use Rattle.flash_session.specs.Lies.{GatesOpen}
 use Rattle.flash_session.specs.Opening.{IsStray}
@@ -20,36 +20,70 @@ gates_same at n most d b same gates = record {
   shut = λ k le lt is. gates.shut k le lt (sym (same.all (at + k)) ∙ is);
 }
 
--- all are open
-pub all_open : (holds : List ℕ → Type 0) (at n most : ℕ) → n ≡ most → IsFirstShut holds at n most → (b : List ℕ) → holds b → GatesOpen b at n most
-all_open holds at n most is front b now = record {
-  few = front.few;
-  opened = λ k lt. front.opened.opened b now k (omega arith) lt;
-  shut = λ k le lt. absurd (omega (arith, le, lt, is));
+-- those before are open, and those behind are not
+pub front_of : (holds : List ℕ → Type 0) (at n most : ℕ) → AreOpen holds at 0 n → AreShut holds at n most → n ≤ most → (b : List ℕ) → holds b → GatesOpen b at n most
+front_of holds at n most opened shut few b now = record {
+  few = few;
+  opened = λ k lt. opened.opened b now k (omega arith) lt;
+  shut = λ k le lt. shut.shut b now k le lt;
 }
 
-module _ (holds0 holds : List ℕ → Type 0) (at n most : ℕ) (differ : n ≡ most → ⊥) (front : IsFirstShut holds0 at n most) (follows : Follows Same holds0 holds) where
-  opened_still : (b : List ℕ) → holds b → (k : ℕ) → k < n → byte_at b (at + k) ≡ open_gate
-  opened_still b now k lt = let from = follows.from b now in from.2.all (at + k) ∙ front.opened.opened from.0 from.1 k (omega arith) lt
+-- what was read is there still
+pub gives_kept : (holds0 holds : List ℕ → Type 0) (at : ℕ) (gates : List ℕ) → Gives holds0 at gates → Follows Same holds0 holds → Gives holds at gates
+gives_kept holds0 holds at gates gives follows = record {
+  bytes = λ b now i lt. let from = follows.from b now in gives.bytes from.0 from.1 i lt ∙ sym (from.2.all (at + i));
+}
 
-  shut_still : (b : List ℕ) → holds b → byte_at b (at + n) ≢ open_gate
-  shut_still b now is = let from = follows.from b now in (front.next (omega (arith, differ, front.few))).shut from.0 from.1 n (omega arith) (omega arith) (sym (from.2.all (at + n)) ∙ is)
+-- one stretch more: of its gates the first `more` are open, and none where a gate before the stretch is not
+module _ (holds : List ℕ → Type 0) (at n k more : ℕ) (gates : List ℕ) (gives : Gives holds (at + k) gates) (le : n ≤ k) (none : n < k → more ≡ 0) where
+  gate_at : (b : List ℕ) → holds b → (j : ℕ) → k ≤ j → j < k + length gates → byte_at b (at + j) ≡ get_or gates (j - k) 0
+  gate_at b now j past lt =
+      let place : at + j ≡ at + k + (j - k) = omega (arith, past) in
+      ap (byte_at b) place ∙ sym (gives.bytes b now (j - k) (omega (arith, past, lt)))
 
-  shut_to : (to : ℕ) → AreShut holds at (n + 1) to → (b : List ℕ) → holds b → (k : ℕ) → n ≤ k → k < to → byte_at b (at + k) ≢ open_gate
-  shut_to to shut b now k le lt = elim (cases_eq k n) [
-    | inl here ↦ subst (λ (j : ℕ). byte_at b (at + j) ≢ open_gate) (sym here) (shut_still b now)
-    | inr other ↦ shut.shut b now k (omega (arith, le, other)) lt
+  at_start : (j : ℕ) → n ≤ j → j < n + more → k ≤ j
+  at_start j from lt = elim (cases_lt n k) [
+    | inl less ↦ absurd (omega (arith, none less, from, lt))
+    | inr same ↦ omega (arith, same, from)
   ]
 
-  pub front_whole : AreShut holds at (n + 1) most → (b : List ℕ) → holds b → GatesOpen b at n most
-  front_whole shut b now = record { few = front.few; opened = opened_still b now; shut = shut_to most shut b now }
+  behind_all : (j : ℕ) → n + more ≤ j → k ≤ j → more ≤ j - k
+  behind_all j from past = elim (cases_lt n k) [
+    | inl less ↦ omega (arith, none less)
+    | inr same ↦ omega (arith, same, from, past)
+  ]
 
-  pub front_stray : (k : ℕ) → n + 1 ≤ k → k < most → AreShut holds at (n + 1) k → AreOpen holds at k (k + 1) → (b : List ℕ) → holds b → IsFirstStray b at most n k
-  front_stray k behind within shut opened b now = record {
-    behind = omega (arith, behind);
-    within = within;
-    front = record { few = omega (arith, behind); opened = opened_still b now; shut = shut_to k shut b now };
-    opened = opened.opened b now k (omega arith) (omega arith);
+  pub opened_on : more ≤ length gates → ((j : ℕ) → j < more → get_or gates j 0 ≡ open_gate) → AreOpen holds at 0 n → AreOpen holds at 0 (n + more)
+  opened_on few opened was = record {
+    opened = λ b now j from lt. elim (cases_lt j n) [
+      | inl before ↦ was.opened b now j from before
+      | inr past ↦ gate_at b now j (at_start j past lt) (omega (arith, le, lt, few)) ∙ opened (j - k) (omega (arith, le, lt, at_start j past lt))
+    ];
+  }
+
+  pub shut_on : (to : ℕ) → to ≤ length gates → ((j : ℕ) → more ≤ j → j < to → get_or gates j 0 ≢ open_gate) → AreShut holds at n k → AreShut holds at (n + more) (k + to)
+  shut_on to few shut was = record {
+    shut = λ b now j from lt is. elim (cases_lt j k) [
+      | inl before ↦ was.shut b now j (omega (arith, from)) before is
+      | inr past ↦ shut (j - k) (behind_all j from past) (omega (arith, past, lt)) (sym (gate_at b now j past (omega (arith, lt, few))) ∙ is)
+    ];
+  }
+
+  pub stray_on : (j most : ℕ) → more ≤ j → j < length gates → k + j < most → (n ≡ k → j ≢ more) → get_or gates j 0 ≡ open_gate
+      → AreOpen holds at 0 (n + more) → AreShut holds at (n + more) (k + j) → (b : List ℕ) → holds b → IsFirstStray b at most (n + more) (k + j)
+  stray_on j most behind within lt differ is opened shut b now = record {
+    behind = elim (cases_lt n k) [
+      | inl less ↦ omega (arith, less, none less, behind)
+      | inr same ↦ elim (cases_eq j more) [
+        | inl here ↦ absurd (differ (omega (arith, le, same)) here)
+        | inr other ↦ omega (arith, le, behind, other)
+      ]
+    ];
+    within = lt;
+    front = front_of holds at (n + more) (k + j) opened shut (omega (arith, le, behind)) b now;
+    opened =
+        let place : j ≡ k + j - k = omega arith in
+        gate_at b now (k + j) (omega arith) (omega (arith, within)) ∙ ap (λ (i : ℕ). get_or gates i 0) (sym place) ∙ is;
   }
 
 -- ---- gates of one content

@@ -1,9 +1,7 @@
 -- Runs of reads.
-use Rattle.std.proofs.Common.{◌≡◌, ◌≢◌, ℕ, ◌+◌, ◌≤◌, List, Option, Some, None, MatchOption, IfOk, IfErr, OnOk, OnErr, Result, Ok, Err, refl, sym, subst, ◌∙◌, inl, inr, arith}
-use Rattle.std.proofs.lemmas.Bool.{cases_eq}
-use Rattle.flash_session.specs.Contents.{byte_at, Same, Follows, StillHolds, IsKept, HasRisen, HasCause}
+use Rattle.std.proofs.Common.{◌≡◌, ℕ, ◌+◌, ◌≤◌, List, Option, Some, None, MatchOption, IfOk, IfErr, OnOk, OnErr, Result, Ok, Err, refl, sym, subst, ◌∙◌, arith}
+use Rattle.flash_session.specs.Contents.{Same, Follows, StillHolds, IsKept, HasRisen, HasCause}
 use Rattle.flash_session.specs.Gates.{AreOpen, AreShut}
-use Rattle.flash_session.specs.Layout.{open_gate}
 use Rattle.flash_session.specs.Moments.{Elapses}
 use Rattle.flash_session.proofs.Runs.{one_more}
 
@@ -32,23 +30,6 @@ pub elapsed : {m n o : ℕ} {past mid since : ℕ → List ℕ → Type 0} → E
 elapsed {m} {n} {o} {past} {mid} {since} one two =
     one_more Same Same Same m n o past mid since (λ c d s. s) (λ c d e s t. record { all = λ i. t.all i ∙ s.all i }) one two
 
--- one gate more
-pub open_more : (holds0 holds : List ℕ → Type 0) (at k : ℕ) → AreOpen holds0 at 0 k → Follows Same holds0 holds → ((b : List ℕ) → holds b → byte_at b (at + k) ≡ open_gate) → AreOpen holds at 0 (k + 1)
-open_more holds0 holds at k opened follows now = record {
-  opened = λ b held j le lt. elim (cases_eq j k) [
-    | inl here ↦ subst (λ (i : ℕ). byte_at b (at + i) ≡ open_gate) (sym here) (now b held)
-    | inr other ↦ let from = follows.from b held in from.2.all (at + j) ∙ opened.opened from.0 from.1 j le (omega (arith, lt, other))
-  ];
-}
-
-pub shut_more : (holds0 holds : List ℕ → Type 0) (at from k : ℕ) → AreShut holds0 at from k → Follows Same holds0 holds → ((b : List ℕ) → holds b → byte_at b (at + k) ≢ open_gate) → AreShut holds at from (k + 1)
-shut_more holds0 holds at from k shut follows now = record {
-  shut = λ b held j le lt. elim (cases_eq j k) [
-    | inl here ↦ subst (λ (i : ℕ). byte_at b (at + i) ≢ open_gate) (sym here) (now b held)
-    | inr other ↦ λ is. let before = follows.from b held in shut.shut before.0 before.1 j le (omega (arith, lt, other)) (sym (before.2.all (at + j)) ∙ is)
-  ];
-}
-
 -- gates that are shut still are
 pub shut_kept : (holds0 holds : List ℕ → Type 0) (at from k : ℕ) → AreShut holds0 at from k → Follows Same holds0 holds → AreShut holds at from k
 shut_kept holds0 holds at from k shut follows = record {
@@ -59,17 +40,6 @@ shut_kept holds0 holds at from k shut follows = record {
 pub open_kept : (holds0 holds : List ℕ → Type 0) (at from k : ℕ) → AreOpen holds0 at from k → Follows Same holds0 holds → AreOpen holds at from k
 open_kept holds0 holds at from k opened follows = record {
   opened = λ b held j le lt. let before = follows.from b held in before.2.all (at + j) ∙ opened.opened before.0 before.1 j le lt;
-}
-
--- one gate alone
-pub open_here : (holds : List ℕ → Type 0) (at k : ℕ) → ((b : List ℕ) → holds b → byte_at b (at + k) ≡ open_gate) → AreOpen holds at k (k + 1)
-open_here holds at k now = record {
-  opened = λ b held j le lt. let here : j ≡ k = omega (arith, le, lt) in subst (λ (i : ℕ). byte_at b (at + i) ≡ open_gate) (sym here) (now b held);
-}
-
-pub shut_here : (holds : List ℕ → Type 0) (at k : ℕ) → ((b : List ℕ) → holds b → byte_at b (at + k) ≢ open_gate) → AreShut holds at k (k + 1)
-shut_here holds at k now = record {
-  shut = λ b held j le lt. let here : j ≡ k = omega (arith, le, lt) in subst (λ (i : ℕ). byte_at b (at + i) ≢ open_gate) (sym here) (now b held);
 }
 
 -- a count that rose in the last call rose

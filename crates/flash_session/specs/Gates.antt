@@ -10,9 +10,3 @@ pub record AreOpen (holds : List ℕ → Type 0) (at from to : ℕ) : Type 0 whe
 -- or none of them is
 pub record AreShut (holds : List ℕ → Type 0) (at from to : ℕ) : Type 0 where
   pub shut : (b : List ℕ) → holds b → (k : ℕ) → from ≤ k → k < to → byte_at b (at + k) ≢ open_gate
-
--- the first n of so many are open, and the next one is not, if there is one
-pub record IsFirstShut (holds : List ℕ → Type 0) (at n most : ℕ) : Type 0 where
-  pub few : n ≤ most
-  pub opened : AreOpen holds at 0 n
-  pub next : n < most → AreShut holds at n (n + 1)

@@ -1,18 +1,20 @@
 //! What is read of a session when it is opened.
 
-ghost use Rattle.std.specs.Prelude.{◌≡◌, ℕ, ◌+◌, ◌<◌, ◌≤◌, List, ◌++◌, length, IfOk, MatchOption};
+ghost use Rattle.std.specs.Prelude.{◌≡◌, ◌≢◌, ℕ, ◌+◌, ◌<◌, ◌≤◌, List, ◌++◌, length, slice_index, true, false, IfOk, MatchOption};
 ghost use Rattle.flash_session.specs.Contents.{byte_at, Same, StillHolds, HasCause};
 ghost use Rattle.flash_session.specs.Moments.{Elapses};
-ghost use Rattle.flash_session.specs.Layout.{spelled};
+ghost use Rattle.flash_session.specs.Layout.{open_gate, spelled};
 ghost use Rattle.std.specs.Int.{to_le_bytes, w16, w64};
 ghost use Rattle.flash_session.specs.Lies.{SpelledAt};
 ghost use Rattle.flash_session.specs.Body.{IsBody, setup_in};
-ghost use Rattle.flash_session.specs.Gates.{AreOpen, AreShut, IsFirstShut};
 ghost use Rattle.flash_session.specs.Fronts.{IsFront};
 
 use crate::flash::{Failed, Flash};
 use crate::layout::OPEN;
 use frag_session::SetupReq;
+
+/// How many gates are read at a time: a call of a part that lies behind a bus costs far more than a byte of its answer.
+const STRETCH: usize = 64;
 
 /// The byte at a place.
 pub fn read_byte<F: Flash>(flash: &mut F, at: u32) -> Result<u8, Failed>
@@ -27,50 +29,6 @@ pub fn read_byte<F: Flash>(flash: &mut F, at: u32) -> Result<u8, Failed>
     let mut buf = [0];
     flash.read(at, &mut buf)?;
     Ok(buf[0])
-}
-
-/// How many gates are open before the first one that is not, of so many from a place on.
-pub fn count_open<F: Flash>(flash: &mut F, at: u32, most: u16) -> Result<u16, Failed>
-    requires { at + most ≤ F.room flash.old }
-    ensures counted { IfOk result (λ n. IsFirstShut (F.holds flash.new) at n most) }
-    ensures held { StillHolds (F.holds flash.old) (F.holds flash.new) }
-    ensures stops { Elapses Same (F.moment flash.old) (F.moment flash.new) (F.left_since flash.old)
-        (F.left_since flash.new) }
-    ensures size { F.room flash.new ≡ F.room flash.old }
-    ensures cause { HasCause (F.faults flash.old) (F.faults flash.new) result }
-{
-    for k in 0..most {
-        if read_byte(flash, at + k as u32)? != OPEN {
-            return Ok(k);
-        }
-    }
-    Ok(most)
-}
-
-/// The first open gate behind the first `from`, of so many from a place on.
-pub fn next_open<F: Flash>(
-    flash: &mut F,
-    at: u32,
-    from: u16,
-    most: u16,
-) -> Result<Option<u16>, Failed>
-    requires room { at + most ≤ F.room flash.old }
-    requires within { from ≤ most }
-    ensures found { IfOk result (λ o. MatchOption o (AreShut (F.holds flash.new) at from most)
-        (λ k. (from ≤ k) × (k < most) × AreShut (F.holds flash.new) at from k
-        × AreOpen (F.holds flash.new) at k (k + 1))) }
-    ensures held { StillHolds (F.holds flash.old) (F.holds flash.new) }
-    ensures stops { Elapses Same (F.moment flash.old) (F.moment flash.new) (F.left_since flash.old)
-        (F.left_since flash.new) }
-    ensures size { F.room flash.new ≡ F.room flash.old }
-    ensures cause { HasCause (F.faults flash.old) (F.faults flash.new) result }
-{
-    for k in from..most {
-        if read_byte(flash, at + k as u32)? == OPEN {
-            return Ok(Some(k));
-        }
-    }
-    Ok(None)
 }
 
 /// A record that lies at a place: its number and its mark. `part` takes its data.
@@ -146,14 +104,57 @@ pub fn read_front<F: Flash>(flash: &mut F, at: u32, most: u16) -> Result<Front, 
     ensures size { F.room flash.new ≡ F.room flash.old }
     ensures cause { HasCause (F.faults flash.old) (F.faults flash.new) result }
 {
-    let n = count_open(flash, at, most)?;
-    if n == most {
-        return Ok(Front::Whole(n));
+    let most = usize::from(most);
+    let mut stretch = [0; STRETCH];
+    let mut opened = 0;
+    let mut k = 0;
+    while k < most {
+        let n = STRETCH.min(most - k);
+        let gates = &mut stretch[..n];
+        flash.read(at + k as u32, gates)?;
+        let more = leading_open(gates, opened == k);
+        if let Some(j) = next_open(gates, more) {
+            return Ok(Front::Stray((k + j) as u16));
+        }
+        opened += more;
+        k += n;
     }
-    match next_open(flash, at, n + 1, most)? {
-        None => Ok(Front::Whole(n)),
-        Some(k) => Ok(Front::Stray(k)),
+    Ok(Front::Whole(opened as u16))
+}
+
+/// How many gates are open before the first one that is not: none, where one before these is closed.
+fn leading_open(gates: &[u8], unbroken: bool) -> usize
+    ensures few { result ≤ length gates.now }
+    ensures opened { (k : ℕ) → k < result → slice_index gates.now k ≡ open_gate }
+    ensures shut { unbroken ≡ true → result < length gates.now
+        → slice_index gates.now result ≢ open_gate }
+    ensures none { unbroken ≡ false → result ≡ 0 }
+{
+    if !unbroken {
+        return 0;
     }
+    for (k, gate) in gates.iter().enumerate() {
+        if *gate != OPEN {
+            return k;
+        }
+    }
+    gates.len()
+}
+
+/// The first open gate behind the first `from`.
+fn next_open(gates: &[u8], from: usize) -> Option<usize>
+    requires { from ≤ length gates.now }
+    ensures { MatchOption result
+        ((k : ℕ) → from ≤ k → k < length gates.now → slice_index gates.now k ≢ open_gate)
+        (λ n. (from ≤ n) × (n < length gates.now) × (slice_index gates.now n ≡ open_gate)
+        × ((k : ℕ) → from ≤ k → k < n → slice_index gates.now k ≢ open_gate)) }
+{
+    for k in from..gates.len() {
+        if gates[k] == OPEN {
+            return Some(k);
+        }
+    }
+    None
 }
 
 /// The number and the mark that a record begins with.

@@ -1,16 +1,6 @@
-use Rattle.std.proofs.Common.{◌≡◌, ◌≤◌}
-use Rattle.flash_session.specs.Contents.{Same, StillHolds}
-use Rattle.flash_session.specs.Moments.{Elapses}
-use Rattle.flash_session.specs.Gates.{AreShut}
+use Rattle.std.proofs.Common.{◌≢◌, ℕ, ◌<◌, ◌≤◌, slice_index}
+use Rattle.flash_session.specs.Layout.{open_gate}
 use Rattle.flash_session.proofs.reading.next_open.Given as goal
 
 abbrev pub invariant-loop-k : goal.invariant-loop-k
-invariant-loop-k g l =
-    let F = g.F.Flash in
-    record {
-      shut : AreShut (F.holds l.flash) l.at l.from l.k;
-      held : StillHolds (F.holds l.initial.flash) (F.holds l.flash);
-      stops : Elapses Same (F.moment l.initial.flash) (F.moment l.flash) (F.left_since l.initial.flash) (F.left_since l.flash);
-      size : F.room l.flash ≡ F.room l.initial.flash;
-      later : F.faults l.initial.flash ≤ F.faults l.flash;
-    }
+invariant-loop-k l = (j : ℕ) → l.from ≤ j → j < l.k → slice_index l.gates j ≢ open_gate

@@ -1,77 +1,67 @@
-use Rattle.std.proofs.Common.{◌∙◌, arith}
-use Rattle.flash_session.proofs.Still.{still_joined, elapsed, found_some, found_none, risen_behind, on_err_any}
-use Rattle.flash_session.proofs.Fronts.{all_open, front_whole, front_stray}
+use Rattle.std.proofs.Common.{◌≡◌, ℕ, ◌+◌, ◌<◌, ◌==◌, true, false, length, get_or, subst, ◌∙◌, arith, length-take}
+use Rattle.std.proofs.lemmas.Bool.Decides.{nat_tests}
+use Rattle.flash_session.specs.Gates.{AreShut}
+use Rattle.flash_session.specs.Layout.{open_gate}
+use Rattle.flash_session.proofs.Still.{still_joined, elapsed, open_kept, shut_kept}
+use Rattle.flash_session.proofs.Fronts.{gives_kept, opened_on, shut_on, stray_on}
 use Rattle.flash_session.proofs.reading.read_front.Goals as goal
 
-pub returns-in_err-next_open-clause-held : goal.returns-in_err-next_open-clause-held
-returns-in_err-next_open-clause-held g c = still_joined c.count_open.ensures.held c.next_open.ensures.held
+-- gates that were read one behind the other
+broken : (n k more : ℕ) → ((n == k) ≡ false → more ≡ 0) → n < k → more ≡ 0
+broken n k more none lt = none (grind (arith, nat_tests))
 
-pub returns-in-None-clause-held : goal.returns-in-None-clause-held
-returns-in-None-clause-held g c = still_joined c.count_open.ensures.held c.next_open.ensures.held
+unbroken : (n k : ℕ) → n ≡ k → (n == k) ≡ true
+unbroken n k same = grind (arith, nat_tests)
+
+pub returns-in_err-read-clause-held : goal.returns-in_err-read-clause-held
+returns-in_err-read-clause-held g c = still_joined c.loop-k.invariant.held (record { held = c.read.ensures.held; stays = c.read.ensures.stays })
 
 pub returns-in-Some-clause-held : goal.returns-in-Some-clause-held
-returns-in-Some-clause-held g c = still_joined c.count_open.ensures.held c.next_open.ensures.held
+returns-in-Some-clause-held g c = still_joined c.loop-k.invariant.held (record { held = c.read.ensures.held; stays = c.read.ensures.stays })
 
 pub returns-in-Some-clause-found : goal.returns-in-Some-clause-found
 returns-in-Some-clause-found g c =
-    let found = found_some _ _ c.in_ok-next_open.field-0 c.in-Some.k c.in-Some.is c.in_ok-next_open.ensures.found in
-    (found.1, c.in_ok-n.n, front_stray _ _ c.args.at c.in_ok-n.n c.args.most c.if-n-most.false c.in_ok-n.ensures.counted c.next_open.ensures.held.held c.in-Some.k found.0 found.1 found.2 found.3)
+    let n = c.loop-k.opened in
+    let k = c.loop-k.k in
+    let more = c.leading_open-more.result in
+    let gates = c.read.new.buf in
+    let holds0 = g.F.Flash.holds c.loop-k.flash in
+    let holds = g.F.Flash.holds c.read.new.self in
+    let lead = c.leading_open-more.ensures in
+    let next = c.in-Some.ensures in
+    let gives = gives_kept holds0 holds (c.args.at + k) gates c.in_ok-read.ensures.bytes c.read.ensures.held in
+    let none : n < k → more ≡ 0 = broken n k more lead.none in
+    let le = c.loop-k.invariant.behind in
+    let opened = opened_on holds c.args.at n k more gates gives le none lead.few lead.opened (open_kept holds0 holds c.args.at 0 n c.loop-k.invariant.opened c.read.ensures.held) in
+    let shut = shut_on holds c.args.at n k more gates gives le none c.in-Some.j (omega (arith, next.1)) next.3 (shut_kept holds0 holds c.args.at n k c.loop-k.invariant.shut c.read.ensures.held) in
+    let within : k + c.in-Some.j < c.args.most = omega (arith, next.1, length-take {A = ℕ}) in (
+      within,
+      n + more,
+      stray_on holds c.args.at n k more gates gives le none c.in-Some.j c.args.most next.0 next.1 within
+          (λ same here. lead.shut (unbroken n k same) (omega (arith, next.1, here)) (subst (λ (i : ℕ). get_or gates i 0 ≡ open_gate) here next.2)) next.2 opened shut,
+    )
 
-pub returns-in_err-next_open-clause-stops : goal.returns-in_err-next_open-clause-stops
-returns-in_err-next_open-clause-stops g c = elapsed c.count_open.ensures.stops c.next_open.ensures.stops
-
-pub returns-in-None-clause-stops : goal.returns-in-None-clause-stops
-returns-in-None-clause-stops g c = elapsed c.count_open.ensures.stops c.next_open.ensures.stops
-
-pub returns-in-Some-clause-stops : goal.returns-in-Some-clause-stops
-returns-in-Some-clause-stops g c = elapsed c.count_open.ensures.stops c.next_open.ensures.stops
-
-pub returns-then-n-most-clause-found : goal.returns-then-n-most-clause-found
-returns-then-n-most-clause-found g c =
-    (c.in_ok-n.ensures.counted.few, all_open _ c.args.at c.in_ok-n.n c.args.most c.if-n-most.true c.in_ok-n.ensures.counted)
-
-pub returns-then-n-most-clause-held : goal.returns-then-n-most-clause-held
-returns-then-n-most-clause-held g c = c.count_open.ensures.held
-
-pub returns-then-n-most-clause-stops : goal.returns-then-n-most-clause-stops
-returns-then-n-most-clause-stops g c = c.count_open.ensures.stops
-
-pub returns-then-n-most-clause-size : goal.returns-then-n-most-clause-size
-returns-then-n-most-clause-size g c = c.count_open.ensures.size
-
-pub returns-then-n-most-clause-cause : goal.returns-then-n-most-clause-cause
-returns-then-n-most-clause-cause g c = record { later = c.count_open.ensures.cause.later; failed = tt }
-
-pub returns-in_err-next_open-clause-size : goal.returns-in_err-next_open-clause-size
-returns-in_err-next_open-clause-size g c = c.next_open.ensures.size ∙ c.count_open.ensures.size
-
-pub returns-in_err-next_open-clause-cause : goal.returns-in_err-next_open-clause-cause
-returns-in_err-next_open-clause-cause g c = record {
-  later = omega (arith, c.count_open.ensures.cause.later, c.next_open.ensures.cause.later);
-  failed = on_err_any (risen_behind _ _ _ c.count_open.ensures.cause.later c.in_err-next_open.ensures.cause.failed) c.from_residual-in_err-next_open.result;
-}
-
-pub returns-in-None-clause-found : goal.returns-in-None-clause-found
-returns-in-None-clause-found g c = (
-  c.in_ok-n.ensures.counted.few,
-  front_whole _ _ c.args.at c.in_ok-n.n c.args.most c.if-n-most.false c.in_ok-n.ensures.counted c.next_open.ensures.held.held
-      (found_none _ _ c.in_ok-next_open.field-0 c.in-None.is c.in_ok-next_open.ensures.found),
-)
-
-pub returns-in-None-clause-size : goal.returns-in-None-clause-size
-returns-in-None-clause-size g c = c.next_open.ensures.size ∙ c.count_open.ensures.size
-
-pub returns-in-None-clause-cause : goal.returns-in-None-clause-cause
-returns-in-None-clause-cause g c = record {
-  later = omega (arith, c.count_open.ensures.cause.later, c.next_open.ensures.cause.later);
-  failed = tt;
-}
-
-pub returns-in-Some-clause-size : goal.returns-in-Some-clause-size
-returns-in-Some-clause-size g c = c.next_open.ensures.size ∙ c.count_open.ensures.size
-
-pub returns-in-Some-clause-cause : goal.returns-in-Some-clause-cause
-returns-in-Some-clause-cause g c = record {
-  later = omega (arith, c.count_open.ensures.cause.later, c.next_open.ensures.cause.later);
-  failed = tt;
-}
+pub loop-k-preserved : goal.loop-k-preserved
+loop-k-preserved g c =
+    let n = c.loop-k.opened in
+    let k = c.loop-k.k in
+    let more = c.leading_open-more.result in
+    let gates = c.read.new.buf in
+    let holds0 = g.F.Flash.holds c.loop-k.flash in
+    let holds = g.F.Flash.holds c.read.new.self in
+    let lead = c.leading_open-more.ensures in
+    let gives = gives_kept holds0 holds (c.args.at + k) gates c.in_ok-read.ensures.bytes c.read.ensures.held in
+    let none : n < k → more ≡ 0 = broken n k more lead.none in
+    let le = c.loop-k.invariant.behind in
+    let long : length gates ≡ c.min-n.result = omega (arith, length-take {A = ℕ}) in
+    record {
+      few = omega arith;
+      behind = omega (arith, lead.few);
+      opened = opened_on holds c.args.at n k more gates gives le none lead.few lead.opened (open_kept holds0 holds c.args.at 0 n c.loop-k.invariant.opened c.read.ensures.held);
+      shut = subst (λ (m : ℕ). AreShut holds c.args.at (n + more) (k + m)) long
+          (shut_on holds c.args.at n k more gates gives le none (length gates) (omega arith) c.in_default.ensures (shut_kept holds0 holds c.args.at n k c.loop-k.invariant.shut c.read.ensures.held));
+      held = still_joined c.loop-k.invariant.held (record { held = c.read.ensures.held; stays = c.read.ensures.stays });
+      stops = elapsed c.loop-k.invariant.stops c.read.ensures.stops;
+      size = c.read.ensures.size ∙ c.loop-k.invariant.size;
+      later = omega (arith, c.loop-k.invariant.later, c.read.ensures.cause.later);
+    }
