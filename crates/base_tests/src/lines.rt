@@ -1,6 +1,8 @@
 //! Lines of a script, and a stream of them in pieces.
 
-use script_lines::{Class, Cut, Form, HexBytes, Lines, MAX_HEX_BYTES, form, in_range};
+use script_lines::{
+    Campaign, Class, Cut, Form, HexBytes, Lines, MAX_HEX_BYTES, form, in_range, pair_form,
+};
 use std::alloc::Global;
 use std::process::Abort;
 use std::test::*;
@@ -130,7 +132,7 @@ fn hex_words_are_read(rt: HostRuntime) {
 }
 
 /// Lines that spell no form.
-static NONE: [&str; 51] = [
+static NONE: [&str; 58] = [
     "fuota 2",
     "fuota 01",
     "end ",
@@ -141,6 +143,13 @@ static NONE: [&str; 51] = [
     "at +1",
     "at 007",
     "power",
+    "power 1 1",
+    "power -1",
+    "migrate 01",
+    "migrate 1 ",
+    "migrate1",
+    "frag ",
+    "status ",
     "",
     "device 1 b 2 64 5 00000000000000000000000000000000",
     "device 1 c 2 64 5 0000000000000000000000000000000",
@@ -191,6 +200,77 @@ static NONE: [&str; 51] = [
 fn other_lines_spell_no_form(rt: HostRuntime) {
     for line in &NONE {
         assert!(rt; form(line.as_bytes()).is_none());
+    }
+}
+
+/// Lines of two campaigns' script, the campaign that each names, and the line of one campaign that has its form.
+static PAIRS: [(&str, Option<Campaign>, &str); 12] = [
+    ("at 5", None, "at 5"),
+    ("wake 7", None, "wake 7"),
+    ("ask 7", None, "ask 7"),
+    ("migrate 7", None, "migrate 7"),
+    ("power 7", None, "power 7"),
+    ("frag a", Some(Campaign::A), "frag"),
+    ("status b", Some(Campaign::B), "status"),
+    ("down a3 7", Some(Campaign::A), "down 3 7"),
+    ("down b3 7 12", Some(Campaign::B), "down 3 7 12"),
+    ("air b3 7", Some(Campaign::B), "air 3 7"),
+    ("up a12", Some(Campaign::A), "up 12"),
+    ("end", None, "end"),
+];
+
+#[test]
+fn lines_of_two_campaigns_spell_those_of_one(rt: HostRuntime) {
+    for (line, campaign, alone) in &PAIRS {
+        match pair_form(line.as_bytes()) {
+            Some(found) => {
+                assert!(rt; found.campaign == *campaign);
+                let spelled = Some(found.form);
+                match format!(in rt.alloc(); "{spelled:?}") {
+                    Ok(words) => {
+                        spells(&rt, rt.alloc(), alone, words.as_str());
+                        drop(words);
+                    }
+                    Err(_) => panic!(rt; "no memory"),
+                }
+            }
+            None => panic!(rt; "no form"),
+        }
+    }
+}
+
+/// Lines that spell no form in two campaigns' script.
+static NO_PAIRS: [&str; 24] = [
+    "migrate 01",
+    "migrate 1 ",
+    "migrate a 1",
+    "power a1",
+    "at a1",
+    "frag",
+    "frag ",
+    "frag a ",
+    "frag c",
+    "frag ab",
+    "frag a b",
+    "status b x",
+    "status",
+    "down 1 2",
+    "down a1 2 ",
+    "down a 2",
+    "down a 1 2",
+    "down c1 2",
+    "down a01 2",
+    "down A1 2",
+    "air c1 2",
+    "up a01",
+    "up a",
+    "up a 1",
+];
+
+#[test]
+fn other_lines_of_two_campaigns_spell_no_form(rt: HostRuntime) {
+    for line in &NO_PAIRS {
+        assert!(rt; pair_form(line.as_bytes()).is_none());
     }
 }
 

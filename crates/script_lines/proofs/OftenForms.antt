@@ -1,30 +1,16 @@
 -- The forms of lines that come often.
-use Rattle.std.proofs.Common.{◌≡◌, ℕ, List, [], ◌∷◌, ◌++◌, length, codes, Some, refl, ap, ◌∙◌, arith}
-use Rattle.script_lines.specs.declared.forms.Form.TheVariants.{At, Wake, Ask, Frag, Status, Down, Raw, Air, RawAir, Up}
+use Rattle.std.proofs.Common.{◌≡◌, ℕ, List, [], ◌∷◌, ◌++◌, ◌≤◌, length, take, codes, Some, refl, ap, ◌∙◌, arith}
+use Rattle.script_lines.specs.declared.forms.Form.{Form}
+use Rattle.script_lines.specs.declared.forms.Form.TheVariants.{At, Wake, Migrate, Power, Ask, Frag, Status, Down, Raw, Air, RawAir, Up}
 use Rattle.script_lines.specs.Lines.{words_of, word}
 use Rattle.script_lines.specs.Numbers.{decimal_of, hex_bytes_of}
-use Rattle.script_lines.specs.Forms.{form_of}
-use Rattle.script_lines.specs.HeldWords.{DecimalFirst, WordLast, random_of}
-use Rattle.script_lines.proofs.CutWords.{last_word}
+use Rattle.script_lines.specs.Forms.{form_of, with_decimal}
+use Rattle.script_lines.specs.PairForms.{pair_form_of, of_none}
+use Rattle.script_lines.specs.HeldWords.{DecimalFirst, WordLast, random_of, IsForm, DecimalLast}
+use Rattle.script_lines.proofs.CutWords.{last_word, whole_decimal}
 use Rattle.script_lines.proofs.HeldWords.{two_words}
 
 -- ---- the words behind a keyword
-
-behind_at : (rest : List ℕ) → words_of (codes "at " ++ rest) ≡ codes "at" ∷ words_of rest
-unfolding words_of
-behind_at rest = refl
-
-behind_wake : (rest : List ℕ) → words_of (codes "wake " ++ rest) ≡ codes "wake" ∷ words_of rest
-unfolding words_of
-behind_wake rest = refl
-
-behind_ask : (rest : List ℕ) → words_of (codes "ask " ++ rest) ≡ codes "ask" ∷ words_of rest
-unfolding words_of
-behind_ask rest = refl
-
-behind_up : (rest : List ℕ) → words_of (codes "up " ++ rest) ≡ codes "up" ∷ words_of rest
-unfolding words_of
-behind_up rest = refl
 
 behind_down : (rest : List ℕ) → words_of (codes "down " ++ rest) ≡ codes "down" ∷ words_of rest
 unfolding words_of
@@ -56,33 +42,27 @@ status_line (b ∷ bs) none = absurd (omega arith)
 
 -- ---- forms with one decimal
 
-pub at_line : (rest : List ℕ) (n : ℕ) → decimal_of rest ≡ Some n → form_of (codes "at " ++ rest) ≡ Some (At n)
-unfolding form_of word
-at_line rest n is = by_words (codes "at " ++ rest) (behind_at rest ∙ ap (λ (ws : List (List ℕ)). codes "at" ∷ ws) (last_word rest n is))
-  where
-    by_words : (line : List ℕ) → words_of line ≡ codes "at" ∷ rest ∷ [] → form_of line ≡ Some (At n)
-    by_words line words = rw (words, is) refl
+one_decimal : (line keyword rest : List ℕ) (n : ℕ) (form : ℕ → Form) → words_of line ≡ keyword ∷ words_of rest
+    → decimal_of rest ≡ Some n → with_decimal line form ≡ Some (form n)
+unfolding word
+one_decimal line keyword rest n form words is =
+    let all : words_of line ≡ keyword ∷ rest ∷ [] = words ∙ ap (λ (ws : List (List ℕ)). keyword ∷ ws) (last_word rest n is) in
+    rw (all, is) refl
 
-pub wake_line : (rest : List ℕ) (n : ℕ) → decimal_of rest ≡ Some n → form_of (codes "wake " ++ rest) ≡ Some (Wake n)
-unfolding form_of word
-wake_line rest n is = by_words (codes "wake " ++ rest) (behind_wake rest ∙ ap (λ (ws : List (List ℕ)). codes "wake" ∷ ws) (last_word rest n is))
-  where
-    by_words : (line : List ℕ) → words_of line ≡ codes "wake" ∷ rest ∷ [] → form_of line ≡ Some (Wake n)
-    by_words line words = rw (words, is) refl
+by_form : {line : List ℕ} {form : Form} → form_of line ≡ Some form → pair_form_of line ≡ of_none (form_of line) → IsForm line form
+by_form one same = record { one = one; two = same ∙ ap of_none one }
 
-pub ask_line : (rest : List ℕ) (n : ℕ) → decimal_of rest ≡ Some n → form_of (codes "ask " ++ rest) ≡ Some (Ask n)
-unfolding form_of word
-ask_line rest n is = by_words (codes "ask " ++ rest) (behind_ask rest ∙ ap (λ (ws : List (List ℕ)). codes "ask" ∷ ws) (last_word rest n is))
-  where
-    by_words : (line : List ℕ) → words_of line ≡ codes "ask" ∷ rest ∷ [] → form_of line ≡ Some (Ask n)
-    by_words line words = rw (words, is) refl
-
-pub up_line : (rest : List ℕ) (n : ℕ) → decimal_of rest ≡ Some n → form_of (codes "up " ++ rest) ≡ Some (Up n)
-unfolding form_of word
-up_line rest n is = by_words (codes "up " ++ rest) (behind_up rest ∙ ap (λ (ws : List (List ℕ)). codes "up" ∷ ws) (last_word rest n is))
-  where
-    by_words : (line : List ℕ) → words_of line ≡ codes "up" ∷ rest ∷ [] → form_of line ≡ Some (Up n)
-    by_words line words = rw (words, is) refl
+pub decimal_last : (rest : List ℕ) (end n : ℕ) → length rest ≤ end → decimal_of (take end rest) ≡ Some n → DecimalLast rest n
+unfolding form_of pair_form_of words_of word
+decimal_last rest end n all front = let is = whole_decimal rest end n all front in record {
+  decimal = is;
+  up = one_decimal (codes "up " ++ rest) (codes "up") rest n (λ n. Up n) refl is;
+  ask = by_form (one_decimal (codes "ask " ++ rest) (codes "ask") rest n (λ n. Ask n) refl is) refl;
+  at = by_form (one_decimal (codes "at " ++ rest) (codes "at") rest n (λ n. At n) refl is) refl;
+  wake = by_form (one_decimal (codes "wake " ++ rest) (codes "wake") rest n (λ n. Wake n) refl is) refl;
+  migrate = by_form (one_decimal (codes "migrate " ++ rest) (codes "migrate") rest n (λ n. Migrate n) refl is) refl;
+  power = by_form (one_decimal (codes "power " ++ rest) (codes "power") rest n (λ n. Power n) refl is) refl;
+}
 
 -- ---- forms with [WORD] at the end
 

@@ -1,7 +1,11 @@
 -- What is known of the words of a line of which a part is read.
-use Rattle.std.specs.Prelude.{◌≡◌, ℕ, List, [], ◌∷◌, Option, Some, None}
+use Rattle.std.specs.Prelude.{◌≡◌, ℕ, List, [], ◌∷◌, ◌++◌, codes, Option, Some, None}
 use Rattle.script_lines.specs.Lines.{words_of}
 use Rattle.script_lines.specs.Numbers.{decimal_of}
+use Rattle.script_lines.specs.declared.forms.Form.{Form}
+use Rattle.script_lines.specs.declared.forms.Form.TheVariants.{At, Wake, Migrate, Power, Ask, Up}
+use Rattle.script_lines.specs.Forms.{form_of}
+use Rattle.script_lines.specs.PairForms.{pair_form_of, of_none}
 
 -- the first word is this decimal, and the others are the words of the rest
 pub record DecimalFirst (bytes : List ℕ) (number : ℕ) (rest : List ℕ) : Type 0 where
@@ -22,3 +26,18 @@ pub record WordLast {A : Type 0} (spelled_by : List ℕ → Option A) (bytes : L
   pub words : words_of bytes ≡ first ∷ more
   pub spelled : spelled_by first ≡ Some value
   pub word : random_of more ≡ Some random
+
+-- a line has this form, and in two campaigns' script the same, of no campaign
+pub record IsForm (line : List ℕ) (form : Form) : Type 0 where
+  pub one : form_of line ≡ Some form
+  pub two : pair_form_of line ≡ of_none (Some form)
+
+-- what comes of a decimal that is the last word of its line, by the keyword before it
+pub record DecimalLast (rest : List ℕ) (n : ℕ) : Type 0 where
+  pub decimal : decimal_of rest ≡ Some n
+  pub up : form_of (codes "up " ++ rest) ≡ Some (Up n)
+  pub ask : IsForm (codes "ask " ++ rest) (Ask n)
+  pub at : IsForm (codes "at " ++ rest) (At n)
+  pub wake : IsForm (codes "wake " ++ rest) (Wake n)
+  pub migrate : IsForm (codes "migrate " ++ rest) (Migrate n)
+  pub power : IsForm (codes "power " ++ rest) (Power n)

@@ -4,8 +4,9 @@
 ghost use Rattle.std.specs.Prelude.{◌≡◌, ◌≤◌, ◌++◌, ◌^◌, Some, IfSome, IsTrue, codes, length, take};
 ghost use Rattle.script_lines.specs.Numbers.{decimal_of, hex_bytes_of};
 ghost use Rattle.script_lines.specs.Forms.{form_of};
-ghost use Rattle.script_lines.specs.declared.forms.Form.TheVariants.{Air, Ask, At, Down, Frag, Raw, RawAir, Status, Up, Wake};
-ghost use Rattle.script_lines.specs.HeldWords.{DecimalFirst, WordLast};
+ghost use Rattle.script_lines.specs.declared.forms.Form.TheVariants.{Air, Ask, At, Down, Frag, Migrate, Power, Raw, RawAir, Status, Up, Wake};
+ghost use Rattle.script_lines.specs.PairForms.{pair_form_of, of_none};
+ghost use Rattle.script_lines.specs.HeldWords.{DecimalFirst, DecimalLast, WordLast};
 
 use crate::hex_bytes::HexBytes;
 use crate::words::first_space;
@@ -148,7 +149,7 @@ pub fn up_number(line: &[u8]) -> Option<u64>
     ensures { IfSome result (λ n. form_of line.now ≡ Some (Up n)) }
 {
     match line {
-        [b'u', b'p', b' ', rest @ ..] => lone_decimal(rest),
+        [b'u', b'p', b' ', rest @ ..] => Some(lone_decimal(rest)?),
         _ => None,
     }
 }
@@ -156,10 +157,11 @@ pub fn up_number(line: &[u8]) -> Option<u64>
 /// D of a line `ask D`.
 #[inline(always)]
 pub fn asked_device(line: &[u8]) -> Option<u64>
-    ensures { IfSome result (λ n. form_of line.now ≡ Some (Ask n)) }
+    ensures one { IfSome result (λ n. form_of line.now ≡ Some (Ask n)) }
+    ensures two { IfSome result (λ n. pair_form_of line.now ≡ of_none (Some (Ask n))) }
 {
     match line {
-        [b'a', b's', b'k', b' ', rest @ ..] => lone_decimal(rest),
+        [b'a', b's', b'k', b' ', rest @ ..] => Some(lone_decimal(rest)?),
         _ => None,
     }
 }
@@ -167,10 +169,35 @@ pub fn asked_device(line: &[u8]) -> Option<u64>
 /// D of a line `wake D`.
 #[inline(always)]
 pub fn woken_device(line: &[u8]) -> Option<u64>
-    ensures { IfSome result (λ n. form_of line.now ≡ Some (Wake n)) }
+    ensures one { IfSome result (λ n. form_of line.now ≡ Some (Wake n)) }
+    ensures two { IfSome result (λ n. pair_form_of line.now ≡ of_none (Some (Wake n))) }
 {
     match line {
-        [b'w', b'a', b'k', b'e', b' ', rest @ ..] => lone_decimal(rest),
+        [b'w', b'a', b'k', b'e', b' ', rest @ ..] => Some(lone_decimal(rest)?),
+        _ => None,
+    }
+}
+
+/// D of a line `migrate D`.
+#[inline(always)]
+pub fn migrated_device(line: &[u8]) -> Option<u64>
+    ensures one { IfSome result (λ n. form_of line.now ≡ Some (Migrate n)) }
+    ensures two { IfSome result (λ n. pair_form_of line.now ≡ of_none (Some (Migrate n))) }
+{
+    match line {
+        [b'm', b'i', b'g', b'r', b'a', b't', b'e', b' ', rest @ ..] => Some(lone_decimal(rest)?),
+        _ => None,
+    }
+}
+
+/// D of a line `power D`.
+#[inline(always)]
+pub fn powered_device(line: &[u8]) -> Option<u64>
+    ensures one { IfSome result (λ n. form_of line.now ≡ Some (Power n)) }
+    ensures two { IfSome result (λ n. pair_form_of line.now ≡ of_none (Some (Power n))) }
+{
+    match line {
+        [b'p', b'o', b'w', b'e', b'r', b' ', rest @ ..] => Some(lone_decimal(rest)?),
         _ => None,
     }
 }
@@ -178,10 +205,11 @@ pub fn woken_device(line: &[u8]) -> Option<u64>
 /// MS of a line `at MS`.
 #[inline(always)]
 pub fn time_at(line: &[u8]) -> Option<u64>
-    ensures { IfSome result (λ n. form_of line.now ≡ Some (At n)) }
+    ensures one { IfSome result (λ n. form_of line.now ≡ Some (At n)) }
+    ensures two { IfSome result (λ n. pair_form_of line.now ≡ of_none (Some (At n))) }
 {
     match line {
-        [b'a', b't', b' ', rest @ ..] => lone_decimal(rest),
+        [b'a', b't', b' ', rest @ ..] => Some(lone_decimal(rest)?),
         _ => None,
     }
 }
@@ -307,13 +335,11 @@ fn is_no_more(rest: &[u8]) -> bool
     rest.is_empty()
 }
 
-/// The decimal that stands behind a keyword, the last word of its line.
+/// The decimal that stands behind a keyword, the last word of its line. Callers take it by `?`, since a proof knows what it
+/// makes of the line only where the number is at hand.
+#[tactic(auto, using(crate::proofs::OftenForms::decimal_last))]
 fn lone_decimal(rest: &[u8]) -> Option<u64>
-    ensures decimal { IfSome result (λ n. decimal_of rest.now ≡ Some n) }
-    ensures up { IfSome result (λ n. form_of (codes "up " ++ rest.now) ≡ Some (Up n)) }
-    ensures ask { IfSome result (λ n. form_of (codes "ask " ++ rest.now) ≡ Some (Ask n)) }
-    ensures wake { IfSome result (λ n. form_of (codes "wake " ++ rest.now) ≡ Some (Wake n)) }
-    ensures at { IfSome result (λ n. form_of (codes "at " ++ rest.now) ≡ Some (At n)) }
+    ensures { IfSome result (λ n. DecimalLast rest.now n) }
 {
     let found = leading_decimal(rest)?;
     if found.end < rest.len() {

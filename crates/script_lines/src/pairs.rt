@@ -6,6 +6,7 @@ ghost use Rattle.script_lines.specs.PairForms.{pair_form_of, pair_event_form, pa
 
 use crate::forms::{Campaign, Form, PairForm};
 use crate::numbers::decimal;
+use crate::often::{asked_device, migrated_device, powered_device, time_at, woken_device};
 use crate::reading::{
     alone, ask_form, at_form, device_from, down_of, group_words, image_words, in_the_air,
     is_keyword, migrate_form, power_form, wake_form, window_from,
@@ -13,8 +14,28 @@ use crate::reading::{
 use crate::words::{count_words, is_word, word};
 
 /// The form that a line of two campaigns' script spells, None exactly where it spells none.
-#[tactic(auto, unfolding(crate::specs::PairForms::pair_form_of))]
 pub fn pair_form(line: &[u8]) -> Option<PairForm<'_>>
+    ensures { result ≡ pair_form_of line.now }
+{
+    if let Some(time) = time_at(line) {
+        of_none(Some(Form::At { time }))
+    } else if let Some(device) = asked_device(line) {
+        of_none(Some(Form::Ask { device }))
+    } else if let Some(device) = woken_device(line) {
+        of_none(Some(Form::Wake { device }))
+    } else if let Some(device) = migrated_device(line) {
+        of_none(Some(Form::Migrate { device }))
+    } else if let Some(device) = powered_device(line) {
+        of_none(Some(Form::Power { device }))
+    } else {
+        any_pair_form(line)
+    }
+}
+
+/// The form of any line, word by word.
+#[inline(never)]
+#[tactic(auto, unfolding(crate::specs::PairForms::pair_form_of))]
+fn any_pair_form(line: &[u8]) -> Option<PairForm<'_>>
     ensures { result ≡ pair_form_of line.now }
 {
     let keyword = word(line, 0);

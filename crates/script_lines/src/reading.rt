@@ -9,8 +9,8 @@ use crate::forms::{Class, Form};
 use crate::hex_bytes::HexBytes;
 use crate::numbers::{decimal, hex_number, key};
 use crate::often::{
-    air_numbers, asked_device, down_numbers, is_frag, is_status, raw_air_parts, raw_parts, time_at,
-    up_number, woken_device,
+    air_numbers, asked_device, down_numbers, is_frag, is_status, migrated_device, powered_device,
+    raw_air_parts, raw_parts, time_at, up_number, woken_device,
 };
 use crate::words::{count_words, is_word, word};
 
@@ -41,6 +41,10 @@ pub fn form(line: &[u8]) -> Option<Form<'_>>
         Some(Form::At { time })
     } else if let Some(device) = woken_device(line) {
         Some(Form::Wake { device })
+    } else if let Some(device) = migrated_device(line) {
+        Some(Form::Migrate { device })
+    } else if let Some(device) = powered_device(line) {
+        Some(Form::Power { device })
     } else if is_status(line) {
         Some(Form::Status)
     } else if let Some(numbers) = air_numbers(line) {
