@@ -1,3 +1,3 @@
+pub mod ByIndex
 pub mod PlaceSteps
 pub mod ForeignSteps
-pub mod StoreSteps

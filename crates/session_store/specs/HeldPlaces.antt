@@ -1,7 +1,6 @@
 -- The sessions of a device in one flash, by their index, each in a range of its own (this project's profile).
-use Rattle.std.specs.Prelude.{◌≡◌, ℕ, ◌*◌, ◌≤◌, ◌==◌, if◌then◌else◌, List, Option, Some}
+use Rattle.std.specs.Prelude.{◌≡◌, ℕ, ◌*◌, ◌<◌, ◌≤◌, ◌==◌, if◌then◌else◌, List, length, get_or, Option, Some, None}
 use Rattle.frag_session.specs.Session.{Session}
-use Rattle.frag_session.specs.HeldSteps.{extent_of}
 use Rattle.frag_session.specs.Setup.{Room}
 use Rattle.row_elimination.specs.Room.{extent_for}
 use Rattle.flash_session.specs.HeldSession.{HeldSession}
@@ -10,18 +9,14 @@ use Rattle.flash_session.specs.Replayed.{place_in, IsPlaceOf}
 use Rattle.flash_session.specs.Sessions.{LiesForAs, HeldStandsAs, CountsAs, IsHeldAs}
 use Rattle.session_store.specs.declared.held_slots.Idles.{Idles}
 use Rattle.session_store.specs.declared.held_slots.Layout.{Layout}
-use Rattle.session_store.specs.declared.held_slots.Others.{Others}
 use Rattle.session_store.specs.Rows.{row_words, row_bytes}
-use Rattle.session_store.specs.SessionTable.{SessionTable}
+use Rattle.session_store.specs.SessionTable.{SessionTable, session_at}
 
 -- ---- where they lie
 
--- what is held at index 0 to 3, and how it lies
+-- what is held, by index, and how it lies; within a call the place of one is empty
 pub record HeldPlaces : Type 0 where
-  pub first : HeldSession
-  pub second : HeldSession
-  pub third : HeldSession
-  pub fourth : HeldSession
+  pub sessions : List (Option HeldSession)
   pub layout : Layout
 
 -- a session begins there
@@ -29,25 +24,27 @@ abbrev pub IsPlace : HeldSession → Layout → (base : ℕ) → Type 0
 IsPlace h l base = IsPlaceOf h row_words row_bytes base l.span l.limits (extent_for l.area)
 
 -- that of index i begins at i times the bytes of one
+abbrev pub base_at : Layout → (index : ℕ) → ℕ
+base_at l index =
+    if index == 0 then 0
+    else if index == 1 then l.span
+    else if index == 2 then 2 * l.span
+    else 3 * l.span
+
+-- one is held there, and this holds of it
+abbrev pub Holding : (HeldSession → Type 0) → Option HeldSession → Type 0
+Holding P None = ⊥
+Holding P (Some h) = P h
+
+-- there are four, each at its place
 pub record ArePlaces (h : HeldPlaces) : Type 0 where
-  pub first : IsPlace h.first h.layout 0
-  pub second : IsPlace h.second h.layout h.layout.span
-  pub third : IsPlace h.third h.layout (2 * h.layout.span)
-  pub fourth : IsPlace h.fourth h.layout (3 * h.layout.span)
+  pub four : length h.sessions ≡ 4
+  pub each : (index : ℕ) → index < 4 → Holding (λ k. IsPlace k h.layout (base_at h.layout index)) (get_or h.sessions index None)
   pub long : records_place ≤ h.layout.span
 
 -- a place of which nothing is known
 abbrev pub place_at : Layout → (base : ℕ) → HeldSession
 place_at l base = place_in row_words row_bytes base l.span l.limits (extent_for l.area)
-
-abbrev pub places_at : Layout → HeldPlaces
-places_at l = record {
-  first = place_at l 0;
-  second = place_at l l.span;
-  third = place_at l (2 * l.span);
-  fourth = place_at l (3 * l.span);
-  layout = l;
-}
 
 -- the room that each has
 abbrev pub room_at : Layout → Room
@@ -55,12 +52,9 @@ room_at l = record { words = row_words; bytes = row_bytes; extent = extent_for l
 
 -- ---- what they stand for
 
--- each place has this to its session
+-- each is held, and has this to its session
 pub record Each (P : HeldSession → Option Session → Type 0) (h : HeldPlaces) (table : SessionTable) : Type 0 where
-  pub first : P h.first table.first
-  pub second : P h.second table.second
-  pub third : P h.third table.third
-  pub fourth : P h.fourth table.fourth
+  pub each : (index : ℕ) → index < 4 → Holding (λ k. P k (session_at table index)) (get_or h.sessions index None)
 
 -- what is held in memory stands for the session, and its count too
 pub record PlaceStands (h : HeldSession) (o : Option Session) : Type 0 where
@@ -75,8 +69,11 @@ abbrev pub AreHeld : HeldPlaces → SessionTable → (holds left : List ℕ → 
 AreHeld h table holds left = Each (λ k o. IsHeldAs k o holds left) h table
 
 -- the four lie there, so that opening gives them
-abbrev pub TableLies : Layout → SessionTable → List ℕ → Type 0
-TableLies l table c = Each (λ k o. LiesForAs k o c) (places_at l) table
+pub record TableLies (l : Layout) (table : SessionTable) (c : List ℕ) : Type 0 where
+  pub first : LiesForAs (place_at l 0) table.first c
+  pub second : LiesForAs (place_at l l.span) table.second c
+  pub third : LiesForAs (place_at l (2 * l.span)) table.third c
+  pub fourth : LiesForAs (place_at l (3 * l.span)) table.fourth c
 
 -- ---- the memory of four
 
@@ -85,43 +82,3 @@ pub record AreIdle (area : ℕ) (idles : Idles) : Type 0 where
   pub second : idles.second ≡ extent_for area
   pub third : idles.third ≡ extent_for area
   pub fourth : idles.fourth ≡ extent_for area
-
--- ---- one and the three others
-
--- all four, with this one at an index
-abbrev pub filled : (index : ℕ) → Others → HeldSession → HeldPlaces
-filled index others held =
-    if index == 0 then record {
-      first = held;
-      second = others.one;
-      third = others.two;
-      fourth = others.three;
-      layout = others.layout;
-    }
-    else if index == 1 then record {
-      first = others.one;
-      second = held;
-      third = others.two;
-      fourth = others.three;
-      layout = others.layout;
-    }
-    else if index == 2 then record {
-      first = others.one;
-      second = others.two;
-      third = held;
-      fourth = others.three;
-      layout = others.layout;
-    }
-    else record {
-      first = others.one;
-      second = others.two;
-      third = others.three;
-      fourth = held;
-      layout = others.layout;
-    }
-
--- the memory of each of the others has the layout's area
-pub record AreOthers (others : Others) : Type 0 where
-  pub one : extent_of others.one.slot ≡ extent_for others.layout.area
-  pub two : extent_of others.two.slot ≡ extent_for others.layout.area
-  pub three : extent_of others.three.slot ≡ extent_for others.layout.area

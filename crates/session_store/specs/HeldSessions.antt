@@ -1,27 +1,29 @@
 -- What the four slots of sessions hold, and when they stand for sessions.
-use Rattle.std.specs.Prelude.{◌≡◌, ℕ}
-use Rattle.frag_session.specs.Held.{HeldSlot}
+use Rattle.std.specs.Prelude.{◌≡◌, ℕ, ◌<◌, List, length, get_or}
+use Rattle.frag_session.specs.Held.{HeldSlot, idle}
 use Rattle.frag_session.specs.HeldHistory.{Stands}
 use Rattle.frag_session.specs.Setup.{Room, memory_room}
 use Rattle.row_elimination.specs.Room.{extent_for}
 use Rattle.frag_session.specs.HeldSteps.{extent_of}
 use Rattle.session_store.specs.Rows.{row_words, row_bytes}
-use Rattle.session_store.specs.SessionTable.{SessionTable}
+use Rattle.session_store.specs.SessionTable.{SessionTable, session_at}
 
--- the slots of index 0 to 3, and the bytes of the file area of each
+-- the slots, by index, and the bytes of the file area of each
 pub record HeldSessions : Type 0 where
-  pub first : HeldSlot
-  pub second : HeldSlot
-  pub third : HeldSlot
-  pub fourth : HeldSlot
+  pub slots : List HeldSlot
   pub area : ℕ
+
+-- the slot of an index; beyond them there is none
+abbrev pub slot_in : List HeldSlot → ℕ → HeldSlot
+slot_in slots index = get_or slots index (idle (extent_for 0))
+
+-- each has the file area of the first
+abbrev pub held_in : List HeldSlot → HeldSessions
+held_in slots = record { slots = slots; area = (extent_of (slot_in slots 0)).area }
 
 -- each slot stands for its session
 pub record SessionsStand (held : HeldSessions) (table : SessionTable) : Type 0 where
-  pub first : Stands held.first table.first
-  pub second : Stands held.second table.second
-  pub third : Stands held.third table.third
-  pub fourth : Stands held.fourth table.fourth
+  pub each : (index : ℕ) → index < 4 → Stands (slot_in held.slots index) (session_at table index)
 
 -- the room that each slot has
 abbrev pub room_in : HeldSessions → Room
@@ -31,9 +33,7 @@ room_in held = memory_room row_words row_bytes (extent_for held.area)
 abbrev pub TableBecomes : (old new : HeldSessions) → (SessionTable → SessionTable) → Type 0
 TableBecomes old new after = (table : SessionTable) → SessionsStand old table → SessionsStand new (after table)
 
--- each slot has this file area
-pub record HaveArea (area : ℕ) (first second third fourth : HeldSlot) : Type 0 where
-  pub first_area : extent_of first ≡ extent_for area
-  pub second_area : extent_of second ≡ extent_for area
-  pub third_area : extent_of third ≡ extent_for area
-  pub fourth_area : extent_of fourth ≡ extent_for area
+-- there are four slots, each with this file area
+pub record HaveArea (held : HeldSessions) : Type 0 where
+  pub four : length held.slots ≡ 4
+  pub each : (index : ℕ) → index < 4 → extent_of (slot_in held.slots index) ≡ extent_for held.area

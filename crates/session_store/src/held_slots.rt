@@ -1,7 +1,7 @@
 //! The four sessions of a device in one flash (TS004-1.0.0), by their index: that of index i in the `span` bytes from i * span.
 //! A call is for one of them, and leaves the three others as they were.
 
-ghost use Rattle.std.specs.Prelude.{◌≡◌, ◌≢◌, ◌⊎◌, ℕ, ◌*◌, ◌<◌, ◌≤◌, List, Option, None, OnOk, IfOk, IfErr, IfSome, MatchResult, is_some, option_map, length};
+ghost use Rattle.std.specs.Prelude.{◌≡◌, ◌≢◌, ◌⊎◌, ℕ, ◌*◌, ◌^◌, ◌<◌, ◌≤◌, List, Option, None, OnOk, IfOk, IfErr, IfSome, MatchResult, is_some, option_map, length};
 ghost use Rattle.frag_session.specs.Setup.{setup_bits};
 ghost use Rattle.frag_session.specs.Session.{answer_of, drop_cause, news_in, status_of, view_of};
 ghost use Rattle.frag_session.specs.HeldView.{seen};
@@ -13,10 +13,10 @@ ghost use Rattle.flash_session.specs.Layout.{records_place};
 ghost use Rattle.flash_session.specs.Moments.{Elapses, LeavesOnly};
 ghost use Rattle.session_store.specs.SessionTable.{SessionTable, session_at, with_session, table_after_setup, table_after_fragment};
 ghost use Rattle.session_store.specs.HeldForeign.{NoneForeign, IsForeignIn};
-ghost use Rattle.session_store.specs.HeldPlaces.{ArePlaces, AreIdle, AreOthers, PlacesStand, AreHeld, TableLies, room_at, filled};
+ghost use Rattle.session_store.specs.HeldPlaces.{AreIdle, IsPlace, PlacesStand, AreHeld, TableLies, base_at, room_at};
 
 use crate::session_slots::{ROW_BYTES, ROW_WORDS};
-use flash_session::{Flash, Held, OpenFault};
+use flash_session::{Failed, Flash, Held, OpenFault};
 use frag_session::{Heard, Idle, Limits, SetupReq, StatusAns, Via, View};
 use row_elimination::{Memory, Solver};
 use std::alloc::Global;
@@ -41,23 +41,11 @@ pub struct Layout {
     pub limits: Limits,
 }
 
-/// The sessions but one, by rising index.
-#[derive(Drop)]
-struct Others {
-    one: Held<ROW_WORDS, ROW_BYTES>,
-    two: Held<ROW_WORDS, ROW_BYTES>,
-    three: Held<ROW_WORDS, ROW_BYTES>,
-    layout: Layout,
-}
-
 /// A session, or a place for one, at each index, 0 to 3. Contracts see what each holds in memory, for which sessions it
 /// stands, and what lies in the flash.
 #[derive(Drop)]
 pub struct HeldSlots {
-    first: Held<ROW_WORDS, ROW_BYTES>,
-    second: Held<ROW_WORDS, ROW_BYTES>,
-    third: Held<ROW_WORDS, ROW_BYTES>,
-    fourth: Held<ROW_WORDS, ROW_BYTES>,
+    sessions: [Option<Held<ROW_WORDS, ROW_BYTES>>; 4],
     layout: Layout,
 }
 
@@ -66,21 +54,9 @@ impl Model for HeldSlots {
 
     ghost Value = { HeldPlaces };
 
-    ghost view = { λ s. record {
-      first = s.first;
-      second = s.second;
-      third = s.third;
-      fourth = s.fourth;
-      layout = s.layout;
-    } };
+    ghost view = { λ s. record { sessions = s.sessions; layout = s.layout } };
 
-    ghost invariant = { λ s. ArePlaces (record {
-      first = s.first;
-      second = s.second;
-      third = s.third;
-      fourth = s.fourth;
-      layout = s.layout;
-    }) };
+    ghost invariant = { λ s. ArePlaces (record { sessions = s.sessions; layout = s.layout }) };
 }
 
 impl Idles {
@@ -88,43 +64,20 @@ impl Idles {
     pub fn reserve(alloc: Global, area: u32) -> Result<Self, Memory>
         ensures { IfOk result (AreIdle area) }
     {
-        match two_idle(alloc, area) {
-            Ok((first, second)) => match two_idle(alloc, area) {
-                Ok((third, fourth)) => Ok(Idles {
-                    first,
-                    second,
-                    third,
-                    fourth,
-                }),
-                Err(error) => {
-                    drop(first);
-                    drop(second);
-                    Err(error)
-                }
-            },
-            Err(error) => Err(error),
-        }
+        Ok(Idles {
+            first: idle(alloc, area)?,
+            second: idle(alloc, area)?,
+            third: idle(alloc, area)?,
+            fourth: idle(alloc, area)?,
+        })
     }
 }
 
-/// The memory of two sessions. Where it is wanting what was taken is given up by name.
-fn two_idle(
-    alloc: Global,
-    area: u32,
-) -> Result<(Idle<ROW_WORDS, ROW_BYTES>, Idle<ROW_WORDS, ROW_BYTES>), Memory>
-    ensures first { IfOk result (λ r. r.0 ≡ extent_for area) }
-    ensures second { IfOk result (λ r. r.1 ≡ extent_for area) }
+/// The memory of a session.
+fn idle(alloc: Global, area: u32) -> Result<Idle<ROW_WORDS, ROW_BYTES>, Memory>
+    ensures { IfOk result (λ idle. idle ≡ extent_for area) }
 {
-    match Solver::reserve(alloc, area) {
-        Ok(first) => match Solver::reserve(alloc, area) {
-            Ok(second) => Ok((Idle::new(first), Idle::new(second))),
-            Err(error) => {
-                drop(first);
-                Err(error)
-            }
-        },
-        Err(error) => Err(error),
-    }
+    Ok(Idle::new(Solver::reserve(alloc, area)?))
 }
 
 impl HeldSlots {
@@ -212,10 +165,7 @@ impl HeldSlots {
         };
         match Held::open(flash, 3 * span, span, fourth, limits) {
             Ok(fourth) => Ok(HeldSlots {
-                first,
-                second,
-                third,
-                fourth,
+                sessions: [Some(first), Some(second), Some(third), Some(fourth)],
                 layout,
             }),
             Err((fourth, fault)) => Err((
@@ -231,128 +181,143 @@ impl HeldSlots {
     }
 
     /// Answers FragSessionSetupReq with all refusal bits: without one the session there stays, or gives way to a new one. At Err
-    /// the memory is handed back: open the sessions again.
-    pub fn setup<F: Flash>(self, flash: &mut F, req: SetupReq) -> Result<(HeldSlots, u8), Idles>
+    /// nothing is known of that session: open the sessions again.
+    pub fn setup<F: Flash>(&mut self, flash: &mut F, req: SetupReq) -> Result<u8, Failed>
         requires fields { FieldsFit req }
-        requires range { 4 * self.layout.span ≤ F.room flash.old }
+        requires range { 4 * self.old.layout.span ≤ F.room flash.old }
         ensures bits { IfOk result
-            (λ r. r.1 ≡ setup_bits self.layout.limits (room_at self.layout) req) }
-        ensures stands { (table : SessionTable) → PlacesStand self table
-            → IfOk result
-            (λ r. PlacesStand r.0
-            (table_after_setup self.layout.limits (room_at self.layout) req table)) }
+            (λ bits. bits ≡ setup_bits self.old.layout.limits (room_at self.old.layout) req) }
+        ensures stands { (table : SessionTable) → PlacesStand self.old table
+            → OnOk result (PlacesStand self.new
+            (table_after_setup self.old.layout.limits (room_at self.old.layout) req table)) }
         ensures stored { (table : SessionTable)
-            → AreHeld self table (F.holds flash.old)
+            → AreHeld self.old table (F.holds flash.old)
             (F.left_since flash.old (F.moment flash.old))
-            → IfOk result
-            (λ r. AreHeld r.0
-            (table_after_setup self.layout.limits (room_at self.layout) req table)
+            → OnOk result (AreHeld self.new
+            (table_after_setup self.old.layout.limits (room_at self.old.layout) req table)
             (F.holds flash.new) (F.left_since flash.new (F.moment flash.new))) }
         // A stop at any moment leaves the sessions as they were, none at that index, or the new one there.
         ensures any_moment { (table : SessionTable)
-            → AreHeld self table (F.holds flash.old)
+            → AreHeld self.old table (F.holds flash.old)
             (F.left_since flash.old (F.moment flash.old))
             → LeavesOnly
-            (λ c. TableLies self.layout table c
-            ⊎ TableLies self.layout (with_session table req.index None) c
-            ⊎ TableLies self.layout
-            (table_after_setup self.layout.limits (room_at self.layout) req table) c)
+            (λ c. TableLies self.old.layout table c
+            ⊎ TableLies self.old.layout (with_session table req.index None) c
+            ⊎ TableLies self.old.layout
+            (table_after_setup self.old.layout.limits (room_at self.old.layout) req table) c)
             (F.moment flash.old) (F.moment flash.new) (F.left_since flash.old)
             (F.left_since flash.new) }
-        ensures layout { IfOk result (λ r. r.0.layout ≡ self.layout) }
-        ensures area { IfErr result (AreIdle self.layout.area) }
+        ensures layout { self.new.layout ≡ self.old.layout }
         ensures size { F.room flash.new ≡ F.room flash.old }
         ensures cause { HasCause (F.faults flash.old) (F.faults flash.new) result }
     {
-        let (held, others) = self.parted(req.index);
-        match held.setup(flash, req) {
-            Ok((held, bits)) => Ok((others.filled(req.index, held), bits)),
-            Err(idle) => Err(others.ended(idle)),
+        let at = usize::from(req.index);
+        match self.sessions[at].take().unwrap().setup(flash, req) {
+            Ok((held, bits)) => {
+                self.sessions[at] = Some(held);
+                Ok(bits)
+            }
+            Err(idle) => {
+                self.sessions[at] = Some(unopened(self.layout, req.index, idle));
+                Err(Failed)
+            }
         }
     }
 
-    /// A session hears a fragment, or drops it. At Err the memory is handed back: open the sessions again.
+    /// A session hears a fragment, or drops it. At Err nothing is known of it: open the sessions again.
     pub fn fragment<F: Flash>(
-        self,
+        &mut self,
         flash: &mut F,
         index: u8,
         via: Via,
         n: u16,
         part: &[u8],
         mark: u64,
-    ) -> Result<(HeldSlots, Heard), Idles>
+    ) -> Result<Heard, Failed>
         requires index { index < 4 }
-        requires range { 4 * self.layout.span ≤ F.room flash.old }
-        ensures answer { (table : SessionTable) → PlacesStand self table
+        requires range { 4 * self.old.layout.span ≤ F.room flash.old }
+        ensures answer { (table : SessionTable) → PlacesStand self.old table
             → IfOk result
-            (λ r. r.1 ≡ answer_of (drop_cause (session_at table index) via n part.now)
+            (λ heard. heard ≡ answer_of (drop_cause (session_at table index) via n part.now)
             (news_in (session_at table index) n part.now mark)) }
-        ensures stands { (table : SessionTable) → PlacesStand self table
-            → IfOk result
-            (λ r. PlacesStand r.0 (table_after_fragment index via n part.now mark table)) }
+        ensures stands { (table : SessionTable) → PlacesStand self.old table
+            → OnOk result
+            (PlacesStand self.new (table_after_fragment index via n part.now mark table)) }
         ensures stored { (table : SessionTable)
-            → AreHeld self table (F.holds flash.old)
+            → AreHeld self.old table (F.holds flash.old)
             (F.left_since flash.old (F.moment flash.old))
-            → IfOk result
-            (λ r. AreHeld r.0 (table_after_fragment index via n part.now mark table)
+            → OnOk result (AreHeld self.new (table_after_fragment index via n part.now mark table)
             (F.holds flash.new) (F.left_since flash.new (F.moment flash.new))) }
         // A stop at any moment leaves the sessions as they were, or that one followed by the fragment.
         ensures any_moment { (table : SessionTable)
-            → AreHeld self table (F.holds flash.old)
+            → AreHeld self.old table (F.holds flash.old)
             (F.left_since flash.old (F.moment flash.old))
             → LeavesOnly
-            (λ c. TableLies self.layout table c
-            ⊎ TableLies self.layout
+            (λ c. TableLies self.old.layout table c
+            ⊎ TableLies self.old.layout
             (table_after_fragment index via n part.now mark table) c)
             (F.moment flash.old) (F.moment flash.new) (F.left_since flash.old)
             (F.left_since flash.new) }
         ensures dropped { IfOk result
-            (λ r. (c : _) → r.1 ≡ Heard.Dropped c
-            → (r.0 ≡ self) × (flash.new ≡ flash.old)) }
-        ensures layout { IfOk result (λ r. r.0.layout ≡ self.layout) }
-        ensures area { IfErr result (AreIdle self.layout.area) }
+            (λ heard. (c : _) → heard ≡ Heard.Dropped c
+            → (self.new ≡ self.old) × (flash.new ≡ flash.old)) }
+        ensures layout { self.new.layout ≡ self.old.layout }
         ensures size { F.room flash.new ≡ F.room flash.old }
         ensures cause { HasCause (F.faults flash.old) (F.faults flash.new) result }
     {
-        let (held, others) = self.parted(index);
-        match held.hear(flash, via, n, part, mark) {
-            Ok((held, heard)) => Ok((others.filled(index, held), heard)),
-            Err(idle) => Err(others.ended(idle)),
+        let at = usize::from(index);
+        match self.sessions[at]
+            .take()
+            .unwrap()
+            .hear(flash, via, n, part, mark)
+        {
+            Ok((held, heard)) => {
+                self.sessions[at] = Some(held);
+                Ok(heard)
+            }
+            Err(idle) => {
+                self.sessions[at] = Some(unopened(self.layout, index, idle));
+                Err(Failed)
+            }
         }
     }
 
-    /// Ends a session; false exactly where there is none. At Err the memory is handed back: open the sessions again.
-    pub fn delete<F: Flash>(self, flash: &mut F, index: u8) -> Result<(HeldSlots, bool), Idles>
+    /// Ends a session; false exactly where there is none. At Err nothing is known of it: open the sessions again.
+    pub fn delete<F: Flash>(&mut self, flash: &mut F, index: u8) -> Result<bool, Failed>
         requires index { index < 4 }
-        requires range { 4 * self.layout.span ≤ F.room flash.old }
-        ensures answer { (table : SessionTable) → PlacesStand self table
-            → IfOk result (λ r. r.1 ≡ is_some (session_at table index)) }
-        ensures stands { (table : SessionTable) → PlacesStand self table
-            → IfOk result (λ r. PlacesStand r.0 (with_session table index None)) }
+        requires range { 4 * self.old.layout.span ≤ F.room flash.old }
+        ensures answer { (table : SessionTable) → PlacesStand self.old table
+            → IfOk result (λ lived. lived ≡ is_some (session_at table index)) }
+        ensures stands { (table : SessionTable) → PlacesStand self.old table
+            → OnOk result (PlacesStand self.new (with_session table index None)) }
         ensures stored { (table : SessionTable)
-            → AreHeld self table (F.holds flash.old)
+            → AreHeld self.old table (F.holds flash.old)
             (F.left_since flash.old (F.moment flash.old))
-            → IfOk result
-            (λ r. AreHeld r.0 (with_session table index None) (F.holds flash.new)
+            → OnOk result (AreHeld self.new (with_session table index None) (F.holds flash.new)
             (F.left_since flash.new (F.moment flash.new))) }
         // A stop at any moment leaves the sessions as they were, or none at that index.
         ensures any_moment { (table : SessionTable)
-            → AreHeld self table (F.holds flash.old)
+            → AreHeld self.old table (F.holds flash.old)
             (F.left_since flash.old (F.moment flash.old))
             → LeavesOnly
-            (λ c. TableLies self.layout table c
-            ⊎ TableLies self.layout (with_session table index None) c)
+            (λ c. TableLies self.old.layout table c
+            ⊎ TableLies self.old.layout (with_session table index None) c)
             (F.moment flash.old) (F.moment flash.new) (F.left_since flash.old)
             (F.left_since flash.new) }
-        ensures layout { IfOk result (λ r. r.0.layout ≡ self.layout) }
-        ensures area { IfErr result (AreIdle self.layout.area) }
+        ensures layout { self.new.layout ≡ self.old.layout }
         ensures size { F.room flash.new ≡ F.room flash.old }
         ensures cause { HasCause (F.faults flash.old) (F.faults flash.new) result }
     {
-        let (held, others) = self.parted(index);
-        match held.delete(flash) {
-            Ok((held, lived)) => Ok((others.filled(index, held), lived)),
-            Err(idle) => Err(others.ended(idle)),
+        let at = usize::from(index);
+        match self.sessions[at].take().unwrap().delete(flash) {
+            Ok((held, lived)) => {
+                self.sessions[at] = Some(held);
+                Ok(lived)
+            }
+            Err(idle) => {
+                self.sessions[at] = Some(unopened(self.layout, index, idle));
+                Err(Failed)
+            }
         }
     }
 
@@ -363,11 +328,9 @@ impl HeldSlots {
             → result ≡ status_of (session_at table index) via all }
         ensures few { IfSome result (λ a. a.received ≤ 16383) }
     {
-        match index {
-            0 => self.first.status(via, all),
-            1 => self.second.status(via, all),
-            2 => self.third.status(via, all),
-            _ => self.fourth.status(via, all),
+        match &self.sessions[usize::from(index)] {
+            Some(held) => held.status(via, all),
+            None => None,
         }
     }
 
@@ -378,11 +341,9 @@ impl HeldSlots {
             → option_map seen result ≡ view_of (session_at table index) }
         ensures within { IfSome result (λ v. length v.file.now ≤ self.now.layout.area) }
     {
-        match index {
-            0 => self.first.view(),
-            1 => self.second.view(),
-            2 => self.third.view(),
-            _ => self.fourth.view(),
+        match &self.sessions[usize::from(index)] {
+            Some(held) => held.view(),
+            None => None,
         }
     }
 
@@ -407,136 +368,30 @@ impl HeldSlots {
         ensures { AreIdle self.layout.area result }
     {
         let HeldSlots {
-            first,
-            second,
-            third,
-            fourth,
+            mut sessions,
             layout: _layout,
         } = self;
         Idles {
-            first: first.close(),
-            second: second.close(),
-            third: third.close(),
-            fourth: fourth.close(),
-        }
-    }
-
-    /// The session of an index, and the others.
-    fn parted(self, index: u8) -> (Held<ROW_WORDS, ROW_BYTES>, Others)
-        requires { index < 4 }
-        ensures whole { filled index result.1 result.0 ≡ self }
-        ensures places { ArePlaces (filled index result.1 result.0) }
-    {
-        let HeldSlots {
-            first,
-            second,
-            third,
-            fourth,
-            layout,
-        } = self;
-        match index {
-            0 => (
-                first,
-                Others {
-                    one: second,
-                    two: third,
-                    three: fourth,
-                    layout,
-                },
-            ),
-            1 => (
-                second,
-                Others {
-                    one: first,
-                    two: third,
-                    three: fourth,
-                    layout,
-                },
-            ),
-            2 => (
-                third,
-                Others {
-                    one: first,
-                    two: second,
-                    three: fourth,
-                    layout,
-                },
-            ),
-            _ => (
-                fourth,
-                Others {
-                    one: first,
-                    two: second,
-                    three: third,
-                    layout,
-                },
-            ),
+            first: sessions[0].take().unwrap().close(),
+            second: sessions[1].take().unwrap().close(),
+            third: sessions[2].take().unwrap().close(),
+            fourth: sessions[3].take().unwrap().close(),
         }
     }
 }
 
-impl Others {
-    /// All four, with this one at an index.
-    fn filled(self, index: u8, held: Held<ROW_WORDS, ROW_BYTES>) -> HeldSlots
-        requires index { index < 4 }
-        requires places { ArePlaces (filled index self held) }
-        ensures { result ≡ filled index self held }
-    {
-        let Others {
-            one,
-            two,
-            three,
-            layout,
-        } = self;
-        match index {
-            0 => HeldSlots {
-                first: held,
-                second: one,
-                third: two,
-                fourth: three,
-                layout,
-            },
-            1 => HeldSlots {
-                first: one,
-                second: held,
-                third: two,
-                fourth: three,
-                layout,
-            },
-            2 => HeldSlots {
-                first: one,
-                second: two,
-                third: held,
-                fourth: three,
-                layout,
-            },
-            _ => HeldSlots {
-                first: one,
-                second: two,
-                third: three,
-                fourth: held,
-                layout,
-            },
-        }
-    }
-
-    /// The memory of all four, with that of the one at an index.
-    fn ended(self, idle: Idle<ROW_WORDS, ROW_BYTES>) -> Idles
-        requires idle { idle ≡ extent_for self.layout.area }
-        requires others { AreOthers self }
-        ensures { AreIdle self.layout.area result }
-    {
-        let Others {
-            one,
-            two,
-            three,
-            layout: _layout,
-        } = self;
-        Idles {
-            first: idle,
-            second: one.close(),
-            third: two.close(),
-            fourth: three.close(),
-        }
-    }
+/// A place for the session of an index, of which nothing is known.
+fn unopened(
+    layout: Layout,
+    index: u8,
+    idle: Idle<ROW_WORDS, ROW_BYTES>,
+) -> Held<ROW_WORDS, ROW_BYTES>
+    requires index { index < 4 }
+    requires range { 4 * layout.span < 2 ^ 32 }
+    requires long { records_place ≤ layout.span }
+    requires idle { idle ≡ extent_for layout.area }
+    ensures { IsPlace result layout (base_at layout index) }
+{
+    let base = u32::from(index) * layout.span;
+    Held::unopened(base, layout.span, idle, layout.limits)
 }

@@ -24,27 +24,17 @@ pub const ROW_BYTES: usize = 61_184;
 /// A slot for each session, with all memory that it will ever need.
 #[derive(Drop)]
 pub struct SessionSlots {
-    first: Slot<ROW_WORDS, ROW_BYTES>,
-    second: Slot<ROW_WORDS, ROW_BYTES>,
-    third: Slot<ROW_WORDS, ROW_BYTES>,
-    fourth: Slot<ROW_WORDS, ROW_BYTES>,
+    slots: [Slot<ROW_WORDS, ROW_BYTES>; 4],
 }
 
 impl Model for SessionSlots {
-    ghost use Rattle.frag_session.specs.HeldSteps.{extent_of};
-    ghost use Rattle.session_store.specs.HeldSessions.{HeldSessions, HaveArea};
+    ghost use Rattle.session_store.specs.HeldSessions.{HeldSessions, HaveArea, held_in};
 
     ghost Value = { HeldSessions };
 
-    ghost view = { λ s. record {
-      first = s.first;
-      second = s.second;
-      third = s.third;
-      fourth = s.fourth;
-      area = (extent_of s.first).area;
-    } };
+    ghost view = { λ s. held_in s.slots };
 
-    ghost invariant = { λ s. HaveArea (extent_of s.first).area s.first s.second s.third s.fourth };
+    ghost invariant = { λ s. HaveArea (held_in s.slots) };
 }
 
 impl SessionSlots {
@@ -54,10 +44,12 @@ impl SessionSlots {
         ensures area { IfOk result (λ s. s.area ≡ area) }
     {
         Ok(SessionSlots {
-            first: slot(alloc, area)?,
-            second: slot(alloc, area)?,
-            third: slot(alloc, area)?,
-            fourth: slot(alloc, area)?,
+            slots: [
+                slot(alloc, area)?,
+                slot(alloc, area)?,
+                slot(alloc, area)?,
+                slot(alloc, area)?,
+            ],
         })
     }
 
@@ -69,12 +61,7 @@ impl SessionSlots {
             (table_after_setup limits (room_in self.old) req) }
         ensures area { self.new.area ≡ self.old.area }
     {
-        match req.index {
-            0 => self.first.setup(req, limits),
-            1 => self.second.setup(req, limits),
-            2 => self.third.setup(req, limits),
-            _ => self.fourth.setup(req, limits),
-        }
+        self.slots[usize::from(req.index)].setup(req, limits)
     }
 
     /// A session hears a fragment, or drops it.
@@ -88,12 +75,7 @@ impl SessionSlots {
         ensures dropped { (c : _) → result ≡ Heard.Dropped c → self.new ≡ self.old }
         ensures area { self.new.area ≡ self.old.area }
     {
-        match index {
-            0 => self.first.fragment(via, n, part, mark),
-            1 => self.second.fragment(via, n, part, mark),
-            2 => self.third.fragment(via, n, part, mark),
-            _ => self.fourth.fragment(via, n, part, mark),
-        }
+        self.slots[usize::from(index)].fragment(via, n, part, mark)
     }
 
     /// What a session answers to a status request, if anything.
@@ -103,12 +85,7 @@ impl SessionSlots {
             → result ≡ status_of (session_at table index) via all }
         ensures few { IfSome result (λ a. a.received ≤ 16383) }
     {
-        match index {
-            0 => self.first.status(via, all),
-            1 => self.second.status(via, all),
-            2 => self.third.status(via, all),
-            _ => self.fourth.status(via, all),
-        }
+        self.slots[usize::from(index)].status(via, all)
     }
 
     /// Ends a session; false exactly where there is none.
@@ -119,12 +96,7 @@ impl SessionSlots {
         ensures stands { TableBecomes self.old self.new (λ table. with_session table index None) }
         ensures area { self.new.area ≡ self.old.area }
     {
-        match index {
-            0 => self.first.delete(),
-            1 => self.second.delete(),
-            2 => self.third.delete(),
-            _ => self.fourth.delete(),
-        }
+        self.slots[usize::from(index)].delete()
     }
 
     /// What a session shows; None exactly where there is none.
@@ -134,12 +106,7 @@ impl SessionSlots {
             → option_map seen result ≡ view_of (session_at table index) }
         ensures within { IfSome result (λ v. length v.file.now ≤ self.now.area) }
     {
-        match index {
-            0 => self.first.view(),
-            1 => self.second.view(),
-            2 => self.third.view(),
-            _ => self.fourth.view(),
-        }
+        self.slots[usize::from(index)].view()
     }
 }
 

@@ -9,7 +9,7 @@ ghost use Rattle.flash_session.specs.Contents.{Same, Follows, HasRisen, HasCause
 ghost use Rattle.flash_session.specs.Moments.{Elapses, LeavesOnly};
 ghost use Rattle.session_store.specs.SessionTable.{SessionTable, no_sessions, session_at, with_session, table_after_setup, table_after_fragment};
 ghost use Rattle.session_store.specs.HeldForeign.{NoneForeign, IsForeignIn};
-ghost use Rattle.session_store.specs.HeldPlaces.{AreIdle, PlacesStand, TableLies};
+ghost use Rattle.session_store.specs.HeldPlaces.{HeldPlaces, AreIdle, PlacesStand, TableLies};
 ghost use Rattle.session_store.specs.HeldStore.{IsUp, IsDown, IsInFlash, StateFits, StateStands, StateIsStored, StateIsHeld, HasRanges, IsLaidOut, store_room};
 ghost use Rattle.session_store.specs.Whole.{is_complete, is_whole, whole_of, none_whole};
 ghost use Rattle.session_store.specs.declared.store.State.TheVariants.{Down};
@@ -179,22 +179,14 @@ impl<F: Flash + Drop> SessionStore<F> {
         ensures size { F.room self.new.flash ≡ F.room self.old.flash }
         ensures cause { HasCause (F.faults self.old.flash) (F.faults self.new.flash) result }
     {
-        if !self.held {
-            if let Some(State::Memory(slots)) = &mut self.state {
-                return Ok(slots.setup(req, self.layout.limits));
-            }
-            unreachable!()
-        }
-        match self.state.take() {
+        match &mut self.state {
+            Some(State::Memory(slots)) => Ok(slots.setup(req, self.layout.limits)),
             Some(State::Flash(slots)) => {
-                let whole = whole_now(&slots);
+                let whole = whole_now(slots);
                 match slots.setup(&mut self.flash, req) {
-                    Ok((slots, bits)) => {
-                        put_slots(&mut self.state, slots);
-                        Ok(bits)
-                    }
-                    Err(idles) => {
-                        put_idles(&mut self.state, idles, whole);
+                    Ok(bits) => Ok(bits),
+                    Err(_) => {
+                        go_down(&mut self.state, whole);
                         Err(FlashFault)
                     }
                 }
@@ -249,22 +241,14 @@ impl<F: Flash + Drop> SessionStore<F> {
         ensures size { F.room self.new.flash ≡ F.room self.old.flash }
         ensures cause { HasCause (F.faults self.old.flash) (F.faults self.new.flash) result }
     {
-        if !self.held {
-            if let Some(State::Memory(slots)) = &mut self.state {
-                return Ok(slots.fragment(index, via, n, part, mark));
-            }
-            unreachable!()
-        }
-        match self.state.take() {
+        match &mut self.state {
+            Some(State::Memory(slots)) => Ok(slots.fragment(index, via, n, part, mark)),
             Some(State::Flash(slots)) => {
-                let whole = whole_now(&slots);
+                let whole = whole_now(slots);
                 match slots.fragment(&mut self.flash, index, via, n, part, mark) {
-                    Ok((slots, heard)) => {
-                        put_slots(&mut self.state, slots);
-                        Ok(heard)
-                    }
-                    Err(idles) => {
-                        put_idles(&mut self.state, idles, whole);
+                    Ok(heard) => Ok(heard),
+                    Err(_) => {
+                        go_down(&mut self.state, whole);
                         Err(FlashFault)
                     }
                 }
@@ -305,22 +289,14 @@ impl<F: Flash + Drop> SessionStore<F> {
         ensures size { F.room self.new.flash ≡ F.room self.old.flash }
         ensures cause { HasCause (F.faults self.old.flash) (F.faults self.new.flash) result }
     {
-        if !self.held {
-            if let Some(State::Memory(slots)) = &mut self.state {
-                return Ok(slots.delete(index));
-            }
-            unreachable!()
-        }
-        match self.state.take() {
+        match &mut self.state {
+            Some(State::Memory(slots)) => Ok(slots.delete(index)),
             Some(State::Flash(slots)) => {
-                let whole = whole_now(&slots);
+                let whole = whole_now(slots);
                 match slots.delete(&mut self.flash, index) {
-                    Ok((slots, lived)) => {
-                        put_slots(&mut self.state, slots);
-                        Ok(lived)
-                    }
-                    Err(idles) => {
-                        put_idles(&mut self.state, idles, whole);
+                    Ok(lived) => Ok(lived),
+                    Err(_) => {
+                        go_down(&mut self.state, whole);
                         Err(FlashFault)
                     }
                 }
@@ -459,6 +435,18 @@ fn put_idles(place: &mut Option<State>, idles: Idles, whole: Whole)
     ensures { place.new ≡ Some (Down idles whole) }
 {
     *place = Some(State::Down(idles, whole));
+}
+
+/// Puts sessions down that are up in flash, with which had their file whole. It stands alone, so that no call that passes
+/// clears room for their memory.
+#[inline(never)]
+fn go_down(place: &mut Option<State>, whole: Whole)
+    ensures { (slots : HeldPlaces) → place.old ≡ Some (State.Flash slots)
+        → (idles : _) × (place.new ≡ Some (Down idles whole)) × AreIdle slots.layout.area idles }
+{
+    if let Some(State::Flash(slots)) = place.take() {
+        *place = Some(State::Down(slots.close(), whole));
+    }
 }
 
 /// The memory of sessions that are held in flash, and which had their file whole.

@@ -1,12 +1,12 @@
 //! A session in flash is opened.
 
-ghost use Rattle.std.specs.Prelude.{◌≡◌, ℕ, ◌+◌, ◌≤◌, List, Option, OnOk, IfOk, IfErr, MatchResult};
+ghost use Rattle.std.specs.Prelude.{◌≡◌, ℕ, ◌+◌, ◌≤◌, List, Option, None, OnOk, IfOk, IfErr, MatchResult};
 ghost use Rattle.flash_session.specs.Contents.{Same, Follows, IsKept, HasRisen};
 ghost use Rattle.flash_session.specs.Layout.{records_place};
 ghost use Rattle.flash_session.specs.Moments.{Elapses};
 ghost use Rattle.flash_session.specs.Opening.{IsFirstForeign, NothingForeign};
 ghost use Rattle.flash_session.specs.Replayed.{place_in, IsPlaceOf};
-ghost use Rattle.flash_session.specs.Sessions.{IsHeldAs, IsHeldBut, LiesForAs};
+ghost use Rattle.flash_session.specs.Sessions.{HeldStandsAs, IsHeldAs, IsHeldBut, LiesForAs};
 ghost use Rattle.frag_session.specs.Session.{Session};
 
 use super::Held;
@@ -77,6 +77,22 @@ impl<const W: usize, const B: usize> Held<W, B> {
                 records: counts.records,
                 tallies: counts.tallies,
             }),
+        }
+    }
+
+    /// A place of which nothing is known, whatever lies in its range: memory for a session, until the range is opened.
+    pub fn unopened(base: u32, span: u32, idle: Idle<W, B>, limits: Limits) -> Held<W, B>
+        requires long { records_place ≤ span }
+        ensures none { HeldStandsAs result None }
+        ensures place { IsPlaceOf result W B base span limits idle.entry }
+    {
+        Held {
+            slot: Slot::new(idle),
+            limits,
+            base,
+            span,
+            records: 0,
+            tallies: 0,
         }
     }
 }

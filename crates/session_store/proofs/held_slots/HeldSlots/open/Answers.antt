@@ -1,8 +1,12 @@
-use Rattle.std.proofs.Common.{◌*◌, ◌∙◌, arith}
+use Rattle.std.proofs.Common.{◌*◌, [], ◌∷◌, get_or, None, Some, refl, ◌∙◌, arith}
+use Rattle.flash_session.specs.Sessions.{IsHeldAs}
+use Rattle.session_store.specs.SessionTable.{session_at}
+use Rattle.session_store.specs.HeldPlaces.{IsPlace, Holding, base_at}
+use Rattle.session_store.proofs.ByIndex.{each4}
 use Rattle.flash_session.proofs.Still.{same_joined, elapsed, risen_behind}
 use Rattle.session_store.specs.HeldForeign as foreign
 use Rattle.session_store.proofs.ForeignSteps.{none_still, none_last, first_foreign}
-use Rattle.session_store.proofs.PlaceSteps.{opened_place, opened_for_last}
+use Rattle.session_store.proofs.PlaceSteps.{opened_place, opened_for_last, placed}
 use Rattle.session_store.proofs.held_slots.HeldSlots.open.Goals as goal
 
 pub returns-in-Err-open-clause-held : goal.returns-in-Err-open-clause-held
@@ -35,14 +39,17 @@ returns-in-Ok-open-3-clause-opened g c = λ table b now lies.
     let third = c.open-4.ensures.held in
     let second = same_joined _ _ _ c.open-3.ensures.held third in
     let first = same_joined _ _ _ c.open-2.ensures.held second in
+    let sessions = Some c.in-Ok.held ∷ Some c.in-Ok-open.held ∷ Some c.in-Ok-open-2.held ∷ Some c.in-Ok-open-3.fourth ∷ [] in
+    let flash = c.open-4.new.flash in
     record {
-      first = opened_place c.in-Ok.held c.args.layout (0) c.args.idles.first table.first _ _ _ _ c.requires.idle.first
-          c.in-Ok.ensures.opened c.in-Ok.ensures.place c.requires.long first kept b now lies.first;
-      second = opened_place c.in-Ok-open.held c.args.layout (c.args.layout.span) c.args.idles.second table.second _ _ _ _ c.requires.idle.second
-          c.in-Ok-open.ensures.opened c.in-Ok-open.ensures.place c.requires.long second kept b now lies.second;
-      third = opened_place c.in-Ok-open-2.held c.args.layout (2 * c.args.layout.span) c.args.idles.third table.third _ _ _ _ c.requires.idle.third
-          c.in-Ok-open-2.ensures.opened c.in-Ok-open-2.ensures.place c.requires.long third kept b now lies.third;
-      fourth = (opened_for_last c.in-Ok-open-3.fourth c.args.layout (3 * c.args.layout.span) c.args.idles.fourth table.fourth _ _ c.requires.idle.fourth
+      each = each4 (λ i. Holding (λ k. IsHeldAs k (session_at table i) (g.F.Flash.holds flash) (g.F.Flash.left_since flash (g.F.Flash.moment flash))) (get_or sessions i None))
+          (opened_place c.in-Ok.held c.args.layout (0) c.args.idles.first table.first _ _ _ _ c.requires.idle.first
+          c.in-Ok.ensures.opened c.in-Ok.ensures.place c.requires.long first kept b now lies.first)
+          (opened_place c.in-Ok-open.held c.args.layout (c.args.layout.span) c.args.idles.second table.second _ _ _ _ c.requires.idle.second
+          c.in-Ok-open.ensures.opened c.in-Ok-open.ensures.place c.requires.long second kept b now lies.second)
+          (opened_place c.in-Ok-open-2.held c.args.layout (2 * c.args.layout.span) c.args.idles.third table.third _ _ _ _ c.requires.idle.third
+          c.in-Ok-open-2.ensures.opened c.in-Ok-open-2.ensures.place c.requires.long third kept b now lies.third)
+          (opened_for_last c.in-Ok-open-3.fourth c.args.layout (3 * c.args.layout.span) c.args.idles.fourth table.fourth _ _ c.requires.idle.fourth
           c.in-Ok-open-3.ensures.opened b now lies.fourth);
     }
 
@@ -117,3 +124,17 @@ returns-in-Err-clause-held g c = c.open.ensures.held
 
 pub returns-in-Err-clause-stops : goal.returns-in-Err-clause-stops
 returns-in-Err-clause-stops g c = c.open.ensures.stops
+
+pub invariant_of-result : goal.invariant_of-result
+invariant_of-result g c =
+    let l = c.args.layout in
+    let sessions = Some c.in-Ok.held ∷ Some c.in-Ok-open.held ∷ Some c.in-Ok-open-2.held ∷ Some c.in-Ok-open-3.fourth ∷ [] in
+    record {
+      four = refl;
+      each = each4 (λ i. Holding (λ k. IsPlace k l (base_at l i)) (get_or sessions i None))
+          (placed c.in-Ok.held l 0 c.args.idles.first c.requires.idle.first c.in-Ok.ensures.place)
+          (placed c.in-Ok-open.held l l.span c.args.idles.second c.requires.idle.second c.in-Ok-open.ensures.place)
+          (placed c.in-Ok-open-2.held l (2 * l.span) c.args.idles.third c.requires.idle.third c.in-Ok-open-2.ensures.place)
+          (placed c.in-Ok-open-3.fourth l (3 * l.span) c.args.idles.fourth c.requires.idle.fourth c.in-Ok-open-3.ensures.place);
+      long = c.requires.long;
+    }
