@@ -12,6 +12,7 @@ ghost use Rattle.flash_session.specs.Fronts.{IsFront};
 use crate::flash::{Failed, Flash};
 use crate::layout::OPEN;
 use frag_session::SetupReq;
+use memchr::memchr;
 
 /// How many gates are read at a time: a call of a part that lies behind a bus costs far more than a byte of its answer.
 const STRETCH: usize = 64;
@@ -149,12 +150,10 @@ fn next_open(gates: &[u8], from: usize) -> Option<usize>
         (λ n. (from ≤ n) × (n < length gates.now) × (slice_index gates.now n ≡ open_gate)
         × ((k : ℕ) → from ≤ k → k < n → slice_index gates.now k ≢ open_gate)) }
 {
-    for k in from..gates.len() {
-        if gates[k] == OPEN {
-            return Some(k);
-        }
+    match memchr(OPEN, &gates[from..]) {
+        Some(k) => Some(from + k),
+        None => None,
     }
-    None
 }
 
 /// The number and the mark that a record begins with.
