@@ -41,12 +41,6 @@ holding P Q R (Some h) to p q = to h p q
 
 -- ---- where they lie
 
-base_is : (l : Layout) (j : ℕ) → j < 4 → base_at l j ≡ j * l.span
-base_is l = each4 (λ j. base_at l j ≡ j * l.span) (omega arith) (omega arith) (omega arith) (omega arith)
-
-base_within : (l : Layout) (j : ℕ) → j < 4 → base_at l j + l.span ≤ 4 * l.span
-base_within l = each4 (λ j. base_at l j + l.span ≤ 4 * l.span) (omega arith) (omega arith) (omega arith) (omega arith)
-
 ranges_apart : (l : Layout) (i : ℕ) → i < 4 → (j : ℕ) → j < 4 → i ≢ j → (base_at l i + l.span ≤ base_at l j) ⊎ (base_at l j + l.span ≤ base_at l i)
 ranges_apart l =
     let Apart : ℕ → ℕ → Type 0 = λ i j. i ≢ j → (base_at l i + l.span ≤ base_at l j) ⊎ (base_at l j + l.span ≤ base_at l i) in
@@ -106,16 +100,13 @@ put_back p j h k at same =
     (ap (λ (y : HeldSession). set p.sessions j (Some y)) same ∙ ap (λ (o : Option HeldSession). set p.sessions j o) (sym at) ∙ set-get_or p.sessions j None)
 
 module _ (p : HeldPlaces) (j : ℕ) (h : HeldSession) (lj : j < 4) (at : get_or p.sessions j None ≡ Some h) (are : ArePlaces p) where
-  pub is_place : IsPlace h p.layout (base_at p.layout j)
+  is_place : IsPlace h p.layout (base_at p.layout j)
   is_place = here (λ k. IsPlace k p.layout (base_at p.layout j)) _ h at (are.each j lj)
-
-  pub range_in : (room : ℕ) → 4 * p.layout.span ≤ room → h.base + h.span ≤ room
-  range_in room all = omega (arith, all, base_within p.layout j lj, is_place.base_is, is_place.span_is)
 
   pub extent_held : extent_of h.slot ≡ extent_for p.layout.area
   extent_held = is_place.extent_is
 
-  pub room_is : room_in h ≡ room_at p.layout
+  room_is : room_in h ≡ room_at p.layout
   room_is = λ i. record { words = is_place.words_are i; bytes = is_place.bytes_are i; extent = is_place.extent_is i; span = Some (is_place.span_is i) }
 
   -- what a setup makes of the session there
