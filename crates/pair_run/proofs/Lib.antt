@@ -6,3 +6,4 @@ pub mod HeardPair
 pub mod CountsUnread
 pub mod Frames
 pub mod ReadAlone
+pub mod WorkedTwo

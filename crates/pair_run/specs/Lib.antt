@@ -7,6 +7,7 @@ pub mod Counting
 pub mod Crossing
 pub mod PairLines
 pub mod PairReport
+pub mod WorkedTwo
 pub mod Sides
 pub mod HeldPair
 pub mod HeardPair

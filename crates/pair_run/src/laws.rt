@@ -3,6 +3,7 @@
 ghost use Rattle.pair_run.specs.Counting.{CountersAreUnread};
 ghost use Rattle.pair_run.specs.Crossing.{FramesCrossAsPayloads};
 ghost use Rattle.pair_run.specs.PairLines.{EachReadsItsLines};
+ghost use Rattle.pair_run.specs.WorkedTwo.{ArePairsReported, ArePairsSessions, ArePairsRefused};
 
 /// Whatever two images and accepted script there are: each campaign is the one that its own image, and what the lines say to
 /// it, define. So the laws of one campaign over its lines hold of each.
@@ -21,4 +22,11 @@ pub fn frames_cross_as_payloads()
 #[tactic(auto, using(crate::proofs::CountsUnread::unread))]
 pub fn counters_are_unread()
     ensures { CountersAreUnread }
+{}
+
+/// Reports of two campaigns, and the first refused lines of their scripts, worked out.
+pub fn worked_two()
+    ensures reports { ArePairsReported }
+    ensures sessions { ArePairsSessions }
+    ensures refused { ArePairsRefused }
 {}

@@ -20,7 +20,9 @@ mod report;
 mod steps;
 mod targets;
 
-pub use laws::{counters_are_unread, each_campaign_reads_its_lines, frames_cross_as_payloads};
+pub use laws::{
+    counters_are_unread, each_campaign_reads_its_lines, frames_cross_as_payloads, worked_two,
+};
 pub use owners::Owner;
 pub use pair::Pair;
 pub use report_lines::LineFault;

@@ -1,14 +1,15 @@
 -- Texts worked out.
-use Rattle.std.proofs.Common.{refl, ap}
+use Rattle.std.proofs.Common.{refl, ap, [], Ok}
 use Rattle.std.specs.Fmt.{digits}
 use Rattle.std.specs.Int.{int_wrap}
 use Rattle.hex.specs.Hex.{encode_with, decode_pairs}
 use Rattle.frag_model.specs.Verdict.{verdict, missing}
 use Rattle.frag_session.specs.Session.{shape_of, shown_verdict, shown_file, seen_of, view_of}
-use Rattle.script_lines.specs.Lines.{words_of, word}
+use Rattle.script_lines.specs.Lines.{lines_of, words_of, word}
 use Rattle.script_lines.specs.Numbers.{decimal_of}
 use Rattle.payload_replay.specs.PayloadLines.{payload_of, payload_by}
-use Rattle.payload_replay.specs.Decode.{commands_text}
+use Rattle.report_lines.specs.Lines.{TakesLines}
+use Rattle.payload_replay.specs.Decode.{commands_text, Decodes}
 use Rattle.payload_replay.specs.Headed.{rows_of}
 use Rattle.payload_replay.specs.Replay.{replay_text}
 use Rattle.wire_base.specs.Numbers.{number_at}
@@ -16,11 +17,11 @@ use Rattle.sync_wire.specs.Tests as sync
 use Rattle.sync_wire.specs.Reading.{clock_down}
 use Rattle.package_grammar.specs.Reading.{reading_of, read_from, command_at, named_at, is_known, stop_at}
 use Rattle.capture_read.proofs.WorkedEntries as entries
-use Rattle.payload_replay.specs.Capture.{entry_by, line_entry, capture_text}
+use Rattle.payload_replay.specs.Capture.{entry_by, line_entry, after_entry, capture_text}
 use Rattle.payload_replay.specs.WorkedTexts.{AreTexts, AreCaptures}
 
 pub texts_are : AreTexts
-unfolding digits encode_with decode_pairs verdict missing shape_of shown_verdict shown_file seen_of view_of words_of word decimal_of payload_of payload_by commands_text rows_of replay_text
+unfolding Decodes TakesLines lines_of digits encode_with decode_pairs verdict missing shape_of shown_verdict shown_file seen_of view_of words_of word decimal_of payload_of payload_by commands_text rows_of replay_text
 texts_are = record {
   port = refl;
   unknown = refl;
@@ -29,6 +30,7 @@ texts_are = record {
   none = refl;
   commands = refl;
   numbered = refl;
+  no_lines = (Ok [], refl, refl);
   payload = refl;
   empty = refl;
   either_case = refl;
@@ -40,12 +42,13 @@ texts_are = record {
   many_rows = refl;
   other_header = refl;
   no_decimal = refl;
+  hearer = refl;
   replay = refl;
   other_replay = refl;
 }
 
 pub captures_are : AreCaptures
-unfolding digits int_wrap encode_with verdict missing shape_of shown_verdict shown_file seen_of view_of words_of word decimal_of commands_text rows_of replay_text capture_text line_entry reading_of read_from command_at named_at is_known stop_at sync.is_known sync.samples clock_down number_at
+unfolding digits int_wrap encode_with verdict missing shape_of shown_verdict shown_file seen_of view_of words_of word decimal_of commands_text rows_of replay_text capture_text after_entry line_entry reading_of read_from command_at named_at is_known stop_at sync.is_known sync.samples clock_down number_at
 captures_are = record {
   rows = refl;
   replay_header = refl;
@@ -60,5 +63,7 @@ captures_are = record {
   heard = refl;
   upward = refl;
   other_port = refl;
+  passed_upward = refl;
+  passed = refl;
   text = refl;
 }

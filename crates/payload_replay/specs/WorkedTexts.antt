@@ -9,13 +9,15 @@ use Rattle.sync_wire.specs.declared.cmd.Cmd.TheVariants.{AppTimeAns, DevVersionR
 use Rattle.cast_wire.specs.declared.cmd.Cmd.TheVariants.{DataFragment}
 use Rattle.package_grammar.specs.declared.command.Command.TheVariants.{Sync, Cast}
 use Rattle.frag_session.specs.Session.{Session}
+use Rattle.mc_keys.specs.declared.root_kind.RootKind.TheVariants.{V10}
+use Rattle.device_core.specs.declared.config.Class.TheVariants as class
 use Rattle.device_core.specs.Device.{DeviceState}
 use Rattle.report_lines.specs.declared.faults.LineWhy.TheVariants as why
 use Rattle.payload_replay.specs.PayloadLines.{payload_of}
-use Rattle.payload_replay.specs.Decode.{payload_text, numbered_text}
+use Rattle.payload_replay.specs.Decode.{payload_text, numbered_text, Decodes}
 use Rattle.payload_replay.specs.Headed.{rows_of}
 use Rattle.payload_replay.specs.Replay.{header_rows, replay_device, replay_text}
-use Rattle.payload_replay.specs.Capture.{line_entry, entry_text, is_heard, capture_text}
+use Rattle.payload_replay.specs.Capture.{line_entry, entry_text, is_heard, after_entry, capture_text}
 
 -- a session for so many pieces of a byte, that heard none yet
 abbrev pub worked_session : (index nb_frag : ℕ) → Session
@@ -47,6 +49,8 @@ pub record AreTexts : Type 0 where
   pub commands : payload_text (Ok (Sync (AppTimeAns (pos 5) 3) ∷ Sync DevVersionReq ∷ Cast (DataFragment 0 1 (0x5a ∷ [])) ∷ []))
       ≡ codes "AppTimeAns correction=5 token=3\nDevVersionReq\nDataFragment index=0 n=1 bytes=5a\n"
   pub numbered : numbered_text 12 (codes "DevVersionReq\n") ≡ codes "line 12\nDevVersionReq\n"
+  -- a file of no lines
+  pub no_lines : Decodes 202 Down [] (Ok (codes "end\n"))
   -- a line's payload, and the causes of a refused line
   pub payload : payload_of 3 (codes "08010011") ≡ Ok (0x08 ∷ 0x01 ∷ 0x00 ∷ 0x11 ∷ [])
   pub empty : payload_of 3 [] ≡ Ok []
@@ -60,6 +64,22 @@ pub record AreTexts : Type 0 where
   pub many_rows : header_rows (codes "replay 1 257") ≡ Err why.Range
   pub other_header : header_rows (codes "replay 2 0") ≡ Err why.Syntax
   pub no_decimal : header_rows (codes "replay 1 01") ≡ Err why.Syntax
+  -- the device that hears the payloads
+  pub hearer : (replay_device 7).config ≡ record {
+    class = class.C;
+    hw = 0;
+    formats = 2;
+    rows = 7;
+    offset = 0;
+    key = replicate 16 0;
+    root = V10;
+    descriptor = None;
+    sessions = 4;
+    groups = 4;
+    area = 262382;
+    held = false;
+    span = 0;
+  }
   -- two sessions, the counts before them
   pub replay : replay_text worked_device ≡ codes
       "fuota replay 1\ncounts deaf 0 refused 1 full 2 dropped 3\nsession 0 received 0 missing 2 receiving\nsession 2 received 0 missing 1 receiving\nend\n"
@@ -95,6 +115,9 @@ pub record AreCaptures : Type 0 where
   pub heard : is_heard (empty_entry 201 Down) ≡ true
   pub upward : is_heard (empty_entry 201 Up) ≡ false
   pub other_port : is_heard (empty_entry 200 Down) ≡ false
+  -- what it does not hear leaves it as it is
+  pub passed_upward : after_entry 12 (empty_entry 201 Up) worked_device ≡ worked_device
+  pub passed : after_entry 12 (empty_entry 200 Down) worked_device ≡ worked_device
   -- the text over what was caught
   pub text : capture_text (record { text = codes "line 2 7 up\nrefused 0 port\n"; device = worked_device }) ≡ codes
       "fuota capture 1\nline 2 7 up\nrefused 0 port\ncounts deaf 0 refused 1 full 2 dropped 3\nsession 0 received 0 missing 2 receiving\nsession 2 received 0 missing 1 receiving\nend\n"

@@ -1,0 +1,101 @@
+-- The two worked campaigns come out so.
+use Rattle.std.proofs.Common.{refl}
+use Rattle.std.specs.Fmt.{digits}
+use Rattle.std.specs.Int.{int_wrap}
+use Rattle.hex.specs.Hex.{decode_pairs}
+use Rattle.wire_base.specs.Numbers.{number_at}
+use Rattle.cast_wire.specs.Tests as cast
+use Rattle.cast_wire.specs.Reading.{fragment_down, fragment_up, group_down, group_up}
+use Rattle.sync_wire.specs.Tests as sync
+use Rattle.sync_wire.specs.Reading.{clock_down, clock_up, firmware_down, firmware_up}
+use Rattle.image_slots.specs.Image.{format_of, further, lowest_of, highest_of, is_for, firmware_of}
+use Rattle.image_slots.specs.Slots.{after_swap, after_raise}
+use Rattle.package_grammar.specs.Reading.{named_at, command_at, is_known, stop_at, read_from, reading_of}
+use Rattle.frag_session.specs.Session.{view_of}
+use Rattle.device_core.specs.Answers.{after_answers}
+use Rattle.device_core.specs.Clock.{answer_step}
+use Rattle.device_core.specs.ClassSessions.{hears}
+use Rattle.device_core.specs.Firmware.{version_step, after_due_reboot, after_migration}
+use Rattle.device_core.specs.Step.{command_step, step, after_commands}
+use Rattle.device_core.specs.Deliver.{message_delivery, read_delivery, heard_delivery, time_asking, delivery, waking}
+use Rattle.campaign_server.specs.Asking.{request_at, request_of}
+use Rattle.campaign_server.specs.Answers.{stage_after, stage_after_all}
+use Rattle.campaign_server.specs.Fragments.{next_fragment, after_fragment, status_to_all, after_status_to_all}
+use Rattle.campaign_server.specs.Time.{time_answer}
+use Rattle.campaign_server.specs.Uplinks.{read_uplink, uplink_step}
+use Rattle.script_lines.specs.Lines.{lines_of, words_of, word}
+use Rattle.script_lines.specs.Numbers.{decimal_of, key_of, hex_number_of, hex_bytes_of}
+use Rattle.script_lines.specs.Forms.{form_of}
+use Rattle.script_lines.specs.Ranges.{in_range}
+use Rattle.campaign_world.specs.Causes.{form_cause, cause_of}
+use Rattle.campaign_world.specs.Making.{with_device, after_form}
+use Rattle.campaign_world.specs.Script.{read_line, read_lines, campaign_of}
+use Rattle.campaign_world.specs.Report.{device_parts, report_of}
+use Rattle.row_elimination.specs.Room.{has_room, words_for}
+use Rattle.frag_model.specs.Verdict.{verdict, missing}
+use Rattle.frag_session.specs.Setup.{setup_bits, wrong_coding, too_large, other_descriptor, same_setup, lives}
+use Rattle.frag_session.specs.Session.{new_session, renewed, after_setup, excludes, cause_of as session_cause, drop_cause, followed, after_fragment as session_after_fragment, shape_of, shown_verdict, shown_file, seen_of}
+use Rattle.device_core.specs.Fragments.{setup_step, fragment_step, heard_step}
+use Rattle.device_core.specs.Radio.{brought, radio}
+use Rattle.mc_frames.specs.Opening.{fault_without_group}
+use Rattle.script_lines.specs.PairForms.{pair_form_of}
+use Rattle.pair_run.specs.PairCauses.{common_cause, pair_cause_of}
+use Rattle.pair_run.specs.PairMaking.{after_target}
+use Rattle.pair_run.specs.Targets.{target_of}
+use Rattle.pair_run.specs.PairScript.{after_pair_line, read_pair_line, read_pair_lines, campaigns_of}
+use Rattle.pair_run.specs.PairReport.{pair_parts, pair_report_of}
+use Rattle.pair_run.specs.WorkedTwo.{ArePairsReported, ArePairsSessions, ArePairsRefused}
+
+pub reported_so : ArePairsReported
+unfolding campaigns_of read_pair_lines read_pair_line after_pair_line pair_form_of common_cause pair_cause_of after_target target_of pair_parts pair_report_of digits int_wrap campaign_of read_lines read_line cause_of form_cause in_range after_form with_device report_of device_parts view_of lines_of words_of word decimal_of key_of hex_number_of hex_bytes_of decode_pairs form_of next_fragment after_fragment status_to_all after_status_to_all request_of request_at is_for lowest_of highest_of further format_of firmware_of number_at uplink_step read_uplink reading_of read_from command_at named_at stop_at is_known sync.is_known sync.samples cast.is_known cast.samples clock_up clock_down firmware_up firmware_down fragment_up fragment_down group_up group_down stage_after_all stage_after time_answer delivery heard_delivery read_delivery message_delivery after_due_reboot after_migration after_raise after_swap hears after_commands step command_step after_answers answer_step version_step waking time_asking radio brought fault_without_group
+reported_so = record {
+  nobody = refl;
+  one_each = refl;
+  turned = refl;
+}
+
+pub sessions_so : ArePairsSessions
+unfolding campaigns_of read_pair_lines read_pair_line after_pair_line pair_form_of common_cause pair_cause_of after_target target_of pair_parts pair_report_of digits int_wrap campaign_of read_lines read_line cause_of form_cause in_range after_form with_device report_of device_parts view_of lines_of words_of word decimal_of key_of hex_number_of hex_bytes_of decode_pairs form_of next_fragment after_fragment status_to_all after_status_to_all request_of request_at is_for lowest_of highest_of further format_of firmware_of number_at uplink_step read_uplink reading_of read_from command_at named_at stop_at is_known sync.is_known sync.samples cast.is_known cast.samples clock_up clock_down firmware_up firmware_down fragment_up fragment_down group_up group_down stage_after_all stage_after time_answer delivery heard_delivery read_delivery message_delivery after_due_reboot after_migration after_raise after_swap hears after_commands step command_step after_answers answer_step version_step waking time_asking verdict missing shape_of shown_verdict shown_file seen_of setup_bits wrong_coding too_large other_descriptor has_room words_for new_session renewed after_setup same_setup lives excludes session_cause drop_cause followed session_after_fragment setup_step fragment_step heard_step
+sessions_so = record {
+  each = refl;
+}
+
+pub refused_so : ArePairsRefused
+unfolding campaigns_of read_pair_lines read_pair_line after_pair_line pair_form_of common_cause pair_cause_of after_target target_of pair_parts pair_report_of digits int_wrap campaign_of read_lines read_line cause_of form_cause in_range after_form with_device report_of device_parts view_of lines_of words_of word decimal_of key_of hex_number_of hex_bytes_of decode_pairs form_of next_fragment after_fragment status_to_all after_status_to_all request_of request_at is_for lowest_of highest_of further format_of firmware_of number_at uplink_step read_uplink reading_of read_from command_at named_at stop_at is_known sync.is_known sync.samples cast.is_known cast.samples clock_up clock_down firmware_up firmware_down fragment_up fragment_down group_up group_down stage_after_all stage_after time_answer delivery heard_delivery read_delivery message_delivery after_due_reboot after_migration after_raise after_swap hears after_commands step command_step after_answers answer_step version_step waking time_asking radio brought fault_without_group
+refused_so = record {
+  no_end = refl;
+  one_campaign = refl;
+  no_letter = refl;
+  strangers = refl;
+  b_before_a = refl;
+  a_behind_b = refl;
+  no_plan_of_b = refl;
+  no_device_of_b = refl;
+  no_device_of_a = refl;
+  device_behind_an_event = refl;
+  behind_the_end = refl;
+  order_before_range = refl;
+  index = refl;
+  same_index = refl;
+  next_id = refl;
+  same_group = refl;
+  same_address = refl;
+  other_group = refl;
+  group_of_b_alone = refl;
+  range_before_device = refl;
+  device = refl;
+  device_of_no_payload = refl;
+  fifth_flash = refl;
+  payload = refl;
+  of_the_other = refl;
+  uplink_of_the_other = refl;
+  sent_to_one = refl;
+  no_frame = refl;
+  time = refl;
+  fragments_of_a = refl;
+  long_line = refl;
+  longest_line = refl;
+  last_line = refl;
+  many_lines = refl;
+  many_lines_of_b = refl;
+}
