@@ -149,6 +149,7 @@ fn config_of(fields: &ConfigFields) -> DeviceConfig
 pub extern "C" fn fuota_device_free(handle: &mut DeviceHandle, alloc: Global)
     ensures { handle.new.held ≡ None }
 {
+    // Dropped here, and its memory with it.
     let _device = handle.take(alloc);
 }
 

@@ -68,6 +68,7 @@ fn made(alloc: Global) -> Option<Box<Receiver>>
 pub extern "C" fn fuota_receiver_free(handle: &mut ReceiverHandle, alloc: Global)
     ensures { handle.new.held ≡ None }
 {
+    // Dropped here, and its memory with it.
     let _receiver = handle.take(alloc);
 }
 

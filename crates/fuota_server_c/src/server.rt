@@ -90,6 +90,7 @@ fn boxed(
 pub extern "C" fn fuota_server_free(handle: &mut ServerHandle, alloc: Global)
     ensures { handle.new.held ≡ None }
 {
+    // Dropped here, and its memory with it.
     let _server = handle.take(alloc);
 }
 
