@@ -197,24 +197,36 @@ pub fn words_for(cols: u16) -> usize
     (cols as usize + 63) / 64
 }
 
-/// Holds so many words, all zero.
+/// Holds so many words, all zero. They are copied in by the stretch: pushes one by one take twelve instructions each.
 fn zero_words<const N: usize>(words: &mut ArrayVec<u64, N>, n: usize)
     requires { n ≤ N }
     ensures { words.new.items ≡ replicate n 0 }
 {
+    let zeros = [0; 32];
     words.clear();
-    for done in 0..n {
-        words.push(0);
+    let mut done = 0;
+    while done < n {
+        let count = (n - done).min(32);
+        match words.try_extend_from_slice(&zeros[..count]) {
+            Ok(()) => done += count,
+            Err(_) => unreachable!(),
+        }
     }
 }
 
-/// Holds so many bytes, all zero.
+/// Holds so many bytes, all zero, copied in as words are.
 fn zero_bytes<const N: usize>(bytes: &mut ArrayVec<u8, N>, n: usize)
     requires { n ≤ N }
     ensures { bytes.new.items ≡ replicate n 0 }
 {
+    let zeros = [0; 256];
     bytes.clear();
-    for done in 0..n {
-        bytes.push(0);
+    let mut done = 0;
+    while done < n {
+        let count = (n - done).min(256);
+        match bytes.try_extend_from_slice(&zeros[..count]) {
+            Ok(()) => done += count,
+            Err(_) => unreachable!(),
+        }
     }
 }
