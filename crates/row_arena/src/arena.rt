@@ -34,7 +34,11 @@ impl<const WORDS: usize, const BYTES: usize> Model for RowArena<WORDS, BYTES> {
 
     ghost Value = { Arena };
 
-    ghost view = { λ a. record { cols = a.cols; cell = a.cell; rows = rows_in a.rows (words_for a.cols) a.cell a.words.items a.bytes.items } };
+    ghost view = { λ a. record {
+      cols = a.cols;
+      cell = a.cell;
+      rows = rows_in a.rows (words_for a.cols) a.cell a.words.items a.bytes.items;
+    } };
 
     ghost invariant = { λ a. IsArena a.rows a.cols a.cell a.words.items a.bytes.items };
 }
