@@ -459,7 +459,7 @@ static VALUES: [(u8, Direction, &str, &str); 5] = [
     ),
 ];
 
-/// Whether the next command's text is written behind what is there; false where none is left.
+/// Whether the next command's text is written after what is there; false where none is left.
 fn shows_next(
     rt: &impl Abort,
     message: &mut Message,

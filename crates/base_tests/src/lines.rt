@@ -274,7 +274,7 @@ fn other_lines_of_two_campaigns_spell_no_form(rt: HostRuntime) {
     }
 }
 
-/// A line of a device, and what stands behind the key: its descriptor, and whether `v1`, `k11` and `flash` stand there.
+/// A line of a device, and what stands after the key: its descriptor, and whether `v1`, `k11` and `flash` stand there.
 struct Tail<'a> {
     line: &'a str,
     descriptor: Option<u32>,
@@ -283,7 +283,7 @@ struct Tail<'a> {
     flash: bool,
 }
 
-/// Whether the line is device 1 with the key 0 and this behind it.
+/// Whether the line is device 1 with the key 0 and this after it.
 fn is_device(tail: &Tail) -> bool {
     match form(tail.line.as_bytes()) {
         Some(
@@ -315,7 +315,7 @@ fn is_device(tail: &Tail) -> bool {
     }
 }
 
-/// `k11` stands behind `v1` where that is there, and `flash` last.
+/// `k11` stands after `v1` where that is there, and `flash` last.
 static TAILS: [Tail<'static>; 10] = [
     Tail {
         line: "device 1 c 2 3 4 00000000000000000000000000000000",
@@ -396,7 +396,7 @@ fn the_last_words_of_a_device_are_read(rt: HostRuntime) {
     }
 }
 
-/// Whether a line ends behind so many of the bytes.
+/// Whether a line ends after so many of the bytes.
 fn ends(lines: &mut Lines, bytes: &[u8], count: usize, line: &[u8]) -> bool {
     lines.take(bytes) == (count, Cut::Line) && lines.line() == line
 }

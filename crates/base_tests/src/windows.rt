@@ -43,7 +43,7 @@ fn hears_in_slot(rt: &impl Abort, beacon: u32, addr: u32, periodicity: u8, slot:
     assert!(rt; !hears(rt, beacon, addr, periodicity, begin + 30));
 }
 
-/// It hears in the slot and in the last one of the beacon period; a slot behind that lies past slot 4,095, and none
+/// It hears in the slot and in the last one of the beacon period; a slot after that lies past slot 4,095, and none
 /// begins before 2,120 ms.
 fn hears_in_slots(rt: &impl Abort, beacon: u32, addr: u32, periodicity: u8, offset: u16) {
     assert!(rt; periodicity < 8 && offset < 4096);

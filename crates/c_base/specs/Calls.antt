@@ -1,4 +1,4 @@
--- What a call makes of the object behind a handle, if there is one.
+-- What a call makes of the object of a handle, if there is one.
 use Rattle.std.specs.Prelude.{Option, None, Some}
 
 -- the call makes of the object what P says; where there is none there is none after it, and N holds

@@ -47,7 +47,7 @@ abbrev joined : List ℕ → List (List ℕ) → List ℕ
 joined w [] = w
 joined w (v ∷ ws) = w ++ 32 ∷ joined v ws
 
--- and with a line feed behind them
+-- and with a line feed after them
 abbrev ended : List ℕ → List (List ℕ) → List ℕ
 ended w [] = w ++ 10 ∷ []
 ended w (v ∷ ws) = w ++ 32 ∷ ended v ws
@@ -74,7 +74,7 @@ joined_without w (v ∷ vs) here all =
 
 -- ---- a text and the forms of its lines
 
--- whatever stands behind a text, its lines come first, spell these forms, and are short
+-- whatever stands after a text, its lines come first, spell these forms, and are short
 pub record Reads (text : List ℕ) (forms : List Form) : Type 0 where
   pub lines : List (List ℕ)
   pub split : (rest : List ℕ) → slice_split (λ b. b == 10) (text ++ rest) ≡ lines ++ slice_split (λ b. b == 10) rest

@@ -31,7 +31,7 @@ image_of seed = file_of 1 (firmware_of_seed seed) (body_of seed) (bytes_from (st
 unfoldable pub size_of : ℕ → ℕ
 size_of seed = 49 + body_of seed
 
--- the state behind the draws of the image
+-- the state after the draws of the image
 unfoldable pub after_image : ℕ → ℕ
 after_image seed = after_draws (stepped seed) (body_of seed)
 

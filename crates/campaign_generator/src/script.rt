@@ -11,7 +11,7 @@ use std::alloc::{AllocError, Global};
 /// The devices of every script.
 const DEVICES: u32 = 8;
 
-/// The coded fragments behind the pieces.
+/// The coded fragments after the pieces.
 const PARITY: u32 = 128;
 
 /// Of the pieces, as many are skipped at most for a device.

@@ -116,7 +116,7 @@ numbered_there xs n x y is = there_by xs (n - 1) x y (n == 0) is
 
 -- ---- lines
 
--- the item behind the first n
+-- the item after the first n
 get_next : {A : Type 0} (xs : List A) (n : ℕ) (x : A) (rest : List A) → drop n xs ≡ x ∷ rest
     → (slice_get xs n ≡ Some x) × (drop (suc n) xs ≡ rest)
 get_next [] zero x rest is = absurd cc
@@ -135,7 +135,7 @@ numbered_next xs n x rest is =
       ap (λ (k : ℕ). drop k xs) one ∙ r.1,
     )
 
--- the first n, and the item behind them
+-- the first n, and the item after them
 pub take_next : {A : Type 0} (xs : List A) (n : ℕ) (x : A) (rest : List A) → drop n xs ≡ x ∷ rest
     → take (suc n) xs ≡ take n xs ++ x ∷ []
 take_next [] zero x rest is = absurd cc

@@ -120,7 +120,7 @@ pub asked_of : (server : ServerState) (dev : ℕ) (device : PlanDevice) (stage :
 unfolding request_of
 asked_of server dev device stage numbers stands = rw (numbers, stands) refl
 
--- the server behind a message of a device that is numbered
+-- the server after a message of a device that is numbered
 pub moved_by : (server : ServerState) (dev t : ℕ) (cs : List Command) (stage : Stage) → ledger server dev ≡ Some stage
     → (read_uplink server dev t (Ok cs)).server ≡ record server { stages = slice_set server.stages (dev - 1) (stage_after_all server.plan server.image stage cs) }
 unfolding read_uplink

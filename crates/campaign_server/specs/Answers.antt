@@ -83,7 +83,7 @@ is_class_b (Some window) = kind_is_b window.kind
     kind_is_b kind.C = false
     kind_is_b (kind.B periodicity) = true
 
--- the stage behind a command of an uplink: an answer moves its own stage alone
+-- the stage after a command of an uplink: an answer moves its own stage alone
 unfoldable pub stage_after : Plan → (image : List ℕ) → Stage → Command → Stage
 stage_after plan image (At Version) (Sync (DevVersionAns firmware hardware)) = after_version plan image hardware
 stage_after plan image (At Group) (Cast (McGroupSetupAns id error)) = after_group plan id error
@@ -100,7 +100,7 @@ stage_after plan image (At Reboot) (Sync (DevRebootCountdownAns count)) = At Che
 stage_after plan image (At Check) (Sync (DevVersionAns firmware hardware)) = after_check image firmware
 stage_after plan image stage command = stage
 
--- the stage behind the commands of an uplink, one after another
+-- the stage after the commands of an uplink, one after another
 unfoldable pub stage_after_all : Plan → (image : List ℕ) → Stage → List Command → Stage
 stage_after_all plan image stage [] = stage
 stage_after_all plan image stage (c ∷ cs) = stage_after_all plan image (stage_after plan image stage c) cs

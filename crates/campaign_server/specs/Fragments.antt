@@ -26,7 +26,7 @@ abbrev pub next_count : Option PlanGroup → (count : ℕ) → ℕ
 next_count None count = count
 next_count (Some group) count = count + 1
 
--- the server behind a payload to all
+-- the server after a payload to all
 abbrev pub after_count : ServerState → ServerState
 after_count server = record server { count = next_count server.plan.group server.count }
 

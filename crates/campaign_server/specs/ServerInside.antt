@@ -46,7 +46,7 @@ pub record IsCut (plan : Plan) (encoder : Encoding) : Type 0 where
   pub fine : IsPlan (length encoder.file) plan
   pub cuts : encoder.frag_size ≡ plan.frag_size
 
--- each device has a stage, and the next fragment is one of those that are sent, or behind them
+-- each device has a stage, and the next fragment is one of those that are sent, or after them
 pub record IsServer (plan : Plan) (encoder : Encoding) (stages : List Stage) (next count : ℕ) : Type 0 where
   pub cut : IsCut plan encoder
   pub staged : length stages ≡ length plan.devices

@@ -10,12 +10,12 @@ use Rattle.campaign_server.specs.Asking.{by_unicast}
 use Rattle.campaign_server.specs.Answers.{stage_after_all}
 use Rattle.campaign_server.specs.Time.{time_answer}
 
--- the server behind an uplink, and what it answers
+-- the server after an uplink, and what it answers
 pub record UplinkStep : Type 0 where
   pub server : ServerState
   pub answer : Result (Option DownlinkCommand) Refusal
 
--- the device's stage behind the commands
+-- the device's stage after the commands
 abbrev pub with_answers : ServerState → (dev : ℕ) → List Command → Option Stage → ServerState
 with_answers server dev cs None = server
 with_answers server dev cs (Some stage) =

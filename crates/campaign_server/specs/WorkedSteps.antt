@@ -258,7 +258,7 @@ pub record PlanSteps : Type 0 where
   pub parity : bad_field 52 (record alone { parity = 513 }) ≡ Some field.Parity
   pub last_index : bad_field 52 (record alone { index = 3 }) ≡ None
   pub index : bad_field 52 (record alone { index = 4 }) ≡ Some field.Index
-  -- behind the parity, and before the group
+  -- after the parity, and before the group
   pub index_second : bad_field 52 (record alone { parity = 513; index = 4 }) ≡ Some field.Parity
   pub index_first : bad_field 52 (record grouped { index = 4; group = Some (record worked_group { min = 7 }) }) ≡ Some field.Index
   pub last_id : bad_field 52 (record grouped { group = Some (record worked_group { id = 3 }) }) ≡ None

@@ -13,7 +13,7 @@ use image_slots::{firmware, is_for};
 use package_grammar::{Command, Message};
 use wire_base::flag_value;
 
-/// The stage behind the commands of an uplink, one after another.
+/// The stage after the commands of an uplink, one after another.
 pub fn stage_after_all(plan: &Plan, image: &[u8], stage: Stage, mut message: Message) -> Stage
     requires { 49 + further image.now ≤ length image.now }
     ensures { result ≡ stage_after_all plan.now image.now stage message.entry.commands }
@@ -25,7 +25,7 @@ pub fn stage_after_all(plan: &Plan, image: &[u8], stage: Stage, mut message: Mes
     at
 }
 
-/// The stage behind a command of an uplink: an answer moves its own stage alone.
+/// The stage after a command of an uplink: an answer moves its own stage alone.
 #[tactic(auto, unfolding(crate::specs::Answers::stage_after))]
 fn stage_after(plan: &Plan, image: &[u8], stage: Stage, command: &Command) -> Stage
     requires { 49 + further image.now ≤ length image.now }
@@ -40,7 +40,7 @@ fn stage_after(plan: &Plan, image: &[u8], stage: Stage, command: &Command) -> St
     }
 }
 
-/// The stage behind a command of firmware management.
+/// The stage after a command of firmware management.
 #[tactic(auto, unfolding(crate::specs::Answers::stage_after))]
 fn after_sync(plan: &Plan, image: &[u8], request: Request, cmd: &sync_wire::Cmd) -> Stage
     requires { 49 + further image.now ≤ length image.now }
@@ -63,7 +63,7 @@ fn after_sync(plan: &Plan, image: &[u8], request: Request, cmd: &sync_wire::Cmd)
     }
 }
 
-/// The stage behind a command of fragments or multicast setup.
+/// The stage after a command of fragments or multicast setup.
 #[tactic(auto, unfolding(crate::specs::Answers::stage_after))]
 fn after_cast(plan: &Plan, image: &[u8], request: Request, cmd: &Cmd) -> Stage
     ensures { result ≡ stage_after plan.now image.now (At request) (Cast cmd.now) }

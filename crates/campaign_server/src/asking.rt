@@ -105,9 +105,9 @@ fn group_request(device: &PlanDevice, group: &PlanGroup, down: &mut Downlink)
     ensures { down.new ≡ unicast_of (Cast (group_request device.now group.now)) }
 {
     // each read here, so that the command is known to have numbers of four bytes
-    let _addr = group.addr;
-    let _min = group.min;
-    let _max = group.max;
+    let _addr = group.addr; // four bytes
+    let _min = group.min; // four bytes
+    let _max = group.max; // four bytes
     let command = Command::Cast(Cmd::McGroupSetupReq {
         id: group.id,
         addr: group.addr,
@@ -134,6 +134,7 @@ fn wrapped(device: &PlanDevice, key: &Key) -> Key
 fn told_block(block: &Key)
     ensures { IsBlock block.now }
 {
+    // a block that is read is known to have its 16 bytes
     let _first = first_byte(block);
 }
 
@@ -181,8 +182,8 @@ fn window_request(id: u8, window: &PlanWindow, down: &mut Downlink)
     ensures { down.new ≡ unicast_of (Cast (window_request id window.now)) }
 {
     // each read here, so that the command is known to have numbers of its widths
-    let _start = window.start;
-    let _dr = window.dr;
+    let _start = window.start; // four bytes
+    let _dr = window.dr; // one byte
     let cmd = match window.kind {
         Kind::C => Cmd::McClassCSessionReq {
             id,

@@ -100,7 +100,7 @@ fn fits_bits(window: &PlanWindow) -> bool
     ensures { result ≡ fits_bits window.now }
 {
     // both read here: their types alone keep them within their bits
-    let _start = window.start;
-    let _dr = window.dr;
+    let _start = window.start; // four bytes
+    let _dr = window.dr; // one byte
     is_kind(window.kind) && window.timeout <= 15 && window.freq < 1 << 24
 }

@@ -15,13 +15,16 @@ use arrayvec::ArrayVec;
 use cast_wire::{Cmd, FRAGMENT_PORT, FragmentBytes};
 use frag_encoder::{Beyond, Encoder, MAX_FRAGMENT};
 use package_grammar::{Command, Downlink, To};
+use thiserror::Error;
 
 /// Why no fragment is sent.
-#[derive(Clone, Copy, Debug, PartialEq, Eq)]
+#[derive(Clone, Copy, Debug, PartialEq, Eq, Error)]
 pub enum Spent {
     /// All were sent.
+    #[error("all fragments were sent")]
     Fragments,
     /// The group's frame counts are used up.
+    #[error("the group's frame counts are used up")]
     Counts,
 }
 
@@ -48,7 +51,7 @@ pub fn has_no_count(group: Option<PlanGroup>, count: u32) -> bool
     }
 }
 
-/// The frame count behind this one.
+/// The frame count after this one.
 pub fn next_count(group: Option<PlanGroup>, count: u32) -> u32
     requires within { IsCount group count }
     requires more { has_no_count group count ≡ false }

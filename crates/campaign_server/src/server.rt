@@ -31,14 +31,17 @@ use mc_frames::{Frame, Keys, frame};
 use package_grammar::{Downlink, Message, To};
 use std::alloc::{AllocError, Global};
 use std::marker::Model;
+use thiserror::Error;
 use wire_base::{Direction, Refusal};
 
 /// Why there is no server.
-#[derive(Clone, Copy, Debug, PartialEq, Eq)]
+#[derive(Clone, Copy, Debug, PartialEq, Eq, Error)]
 pub enum ServerError {
     /// There was not enough memory.
+    #[error("out of memory")]
     Memory,
     /// The first field of the plan that is wrong.
+    #[error("out of bounds in the plan: {0:?}")]
     BadPlan(Field),
 }
 

@@ -31,7 +31,7 @@ one_more k l j ms found out rest None read is = absurd (cc)
 one_more k l j ms found out rest (Some d) read is =
     rest (put l d found) is ∙ later (text.get_member k ms) (cond (bytes_eq l k) (Some j) None) _ _ (put_at (bytes_eq l k) k l j d found refl read)
 
--- of members that were read behind others, the last of a name counts
+-- of members that were read after others, the last of a name counts
 members_read : (k : List ℕ) (ms : json.Members) (found out : Members) → of_members ms found ≡ Some out
     → get_member k out ≡ last_or (text.get_member k ms) (get_member k found)
 members_read k json.no_members found out is = let same : out ≡ found = cc in ap (get_member k) same

@@ -1,5 +1,6 @@
 //! Entries, and why a line is none.
 
+use thiserror::Error;
 use wire_base::{Direction, Payload};
 
 /// What a line of a capture tells: a payload, the port that it came on and its direction.
@@ -11,21 +12,26 @@ pub struct Entry {
 }
 
 /// Why a line is no entry: the first of these that holds.
-#[derive(Clone, Copy, Debug, PartialEq, Eq)]
+#[derive(Clone, Copy, Debug, PartialEq, Eq, Error)]
 pub enum EntryFault {
     /// No JSON object, or a member is missing or of another kind.
+    #[error("no entry of a capture")]
     Syntax,
     /// The port is not from 0 to 255.
+    #[error("the port is above 255")]
     Range,
     /// The payload is longer than a frame can carry.
+    #[error("the payload has more than 242 bytes")]
     Limit,
 }
 
 /// Why no entry was read.
-#[derive(Clone, Copy, Debug, PartialEq, Eq)]
+#[derive(Clone, Copy, Debug, PartialEq, Eq, Error)]
 pub enum EntryError {
     /// The line is refused.
+    #[error(transparent)]
     Refused(EntryFault),
     /// Memory was wanting.
+    #[error("out of memory")]
     Memory,
 }

@@ -25,7 +25,7 @@ pub fn whole(text: &str) -> Option<u64>
     Numeral::scan(bytes).to_u64()
 }
 
-/// Whether a number's text, behind its sign, has at most 19 bytes and no exponent.
+/// Whether a number's text, after its sign, has at most 19 bytes and no exponent.
 fn is_short(text: &str) -> bool
     ensures { IsTrue result → IsRead text.now }
 {

@@ -37,7 +37,7 @@ pub fn plain_entry(alloc: Global, scratch: &mut Scratch, line: &[u8]) -> Option<
     entry
 }
 
-/// The entry that a value is behind which nothing stands.
+/// The entry that a value is after which nothing stands.
 fn last_entry(alloc: Global, reader: &mut Reader<'_>, value: &Value<'_>) -> Option<Entry>
     ensures { IfSome result (λ e. (reader.old ≡ []) × IsEntry (value_view value.now) e) }
 {

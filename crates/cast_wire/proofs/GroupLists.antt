@@ -70,7 +70,7 @@ groups_lie bytes at skip (suc count) next ends within =
       ),
     )
 
--- groups that lie there are those from the place on, and end behind them
+-- groups that lie there are those from the place on, and end after them
 pub groups_known : (groups : List GroupAddress) (bytes : List ℕ) (at skip next : ℕ) → PartsLie bytes at skip (group_parts groups) next
     → (groups_at bytes (at + skip) (length groups) ≡ groups) × (next ≡ at + skip + 5 * length groups) × (next ≤ length bytes)
 unfolding groups_at

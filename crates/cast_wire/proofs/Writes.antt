@@ -33,7 +33,7 @@ four_put n is =
     let fourth : n / 16777216 ≡ n / 256 / 256 / 256 = omega arith in
     rw (is, third, fourth) refl
 
--- where there is room for both, what is put behind x stands behind what stood before x
+-- where there is room for both, what is put after x stands after what stood before x
 pub then_last : {a b c x y : List ℕ} {u : Unit {0}} {r : Result (Unit {0}) Full} → Appends a b x (Ok u) → Appends b c y r → length a + (length x + length y) ≤ 242 → Appends a c (x ++ y) r
 then_last {r = Ok v} first second fits = then first second
 then_last {a} {b} {c} {x} {y} {r = Err full} first second fits =

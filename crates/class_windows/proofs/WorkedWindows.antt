@@ -91,7 +91,7 @@ answers = record {
   refused = refl;
 }
 
--- at 2,810 ms and 2,840 ms behind the beacon at 1,024 s
+-- at 2,810 ms and 2,840 ms after the beacon at 1,024 s
 pub ping_slot : is_ping_slot 1026810 0x11223344 0 ≡ true
 unfolding is_in_slot is_ping_slot
 ping_slot = rw rand_1024 refl

@@ -5,7 +5,7 @@ use Rattle.class_windows.specs.Open.{is_in_slot, is_open_a, is_open_b, is_open_c
 use Rattle.class_windows.specs.Sessions.{error_bits, time_to_start, start_answer}
 
 pub record WorkedWindows : Type 0 where
-  -- class A, behind an uplink that was due at 5,000 ms
+  -- class A, after an uplink that was due at 5,000 ms
   pub a_none : is_open_a None 6000 ≡ false
   pub a_5000 : is_open_a (Some 5000) 5000 ≡ false
   pub a_5999 : is_open_a (Some 5000) 5999 ≡ false
@@ -23,7 +23,7 @@ pub record WorkedWindows : Type 0 where
   pub c_behind : is_open_c 1010 2 1014000 ≡ false
   pub c_round : is_open_c (2 ^ 32 - 1) 1 999 ≡ true
   pub c_behind_the_round : is_open_c (2 ^ 32 - 1) 1 1000 ≡ false
-  -- class B: slots of 30 ms from 2,120 ms behind the beacon on
+  -- class B: slots of 30 ms from 2,120 ms after the beacon on
   pub beacon : beacon_at 1279 ≡ 1152
   pub shortest : ping_period 0 ≡ 32
   pub longest : ping_period 7 ≡ 4096
@@ -43,7 +43,7 @@ pub record WorkedSlots : Type 0 where
   -- a session of 1,030 s runs from the beacon at 1,024 s on
   pub b_open : is_open_b 1030 0 1 (1024000 + 2120 + 30 * 23) 0x11223344 ≡ true
   pub b_before : is_open_b 1030 0 1 (896000 + 2120 + 30 * 18) 0x11223344 ≡ false
-  -- with TimeOut 1 it lasts 256 s, so that the last slot of the second beacon is its last; the third beacon's first is behind it
+  -- with TimeOut 1 it lasts 256 s, so that the last slot of the second beacon is its last; the third beacon's first is after it
   pub b_last : is_open_b 1030 0 1 (1152000 + 2120 + 30 * 4083 + 29) 0x11223344 ≡ true
   pub b_behind_the_slot : is_open_b 1030 0 1 (1152000 + 2120 + 30 * 4083 + 30) 0x11223344 ≡ false
   pub b_behind : is_open_b 1030 0 1 (1280000 + 2120 + 30 * 11) 0x11223344 ≡ false

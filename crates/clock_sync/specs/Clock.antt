@@ -22,7 +22,7 @@ device_time clock t = (t / 1000 + clock.offset) % 2 ^ 32
 abbrev pub device_millis : Clock → (t : ℕ) → ℕ
 device_millis clock t = (t + 1000 * clock.offset) % (1000 * 2 ^ 32)
 
--- a clock behind an AppTimeAns: with its token the correction is added to its offset modulo 2^32, and the token is raised
+-- a clock after an AppTimeAns: with its token the correction is added to its offset modulo 2^32, and the token is raised
 -- modulo 16; with any other token nothing changes
 abbrev pub after_answer : ℤ → (token : ℕ) → Clock → Clock
 after_answer correction token clock =

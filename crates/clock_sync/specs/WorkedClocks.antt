@@ -7,7 +7,7 @@ abbrev pub ahead : Clock
 ahead = first_clock 5
 
 pub record WorkedClocks : Type 0 where
-  -- its time at 10,999 ms, and that of a clock 1 s behind, which begins anew
+  -- its time at 10,999 ms, and that of a clock 1 s after, which begins anew
   pub seconds : device_time ahead 10999 ≡ 15
   pub millis : device_millis ahead 10999 ≡ 15999
   pub round : device_time (first_clock (2 ^ 32 - 1)) 3000 ≡ 2

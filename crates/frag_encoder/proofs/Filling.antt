@@ -1,4 +1,4 @@
--- A file and the zeros behind it.
+-- A file and the zeros after it.
 use Rattle.std.proofs.Common.{◌≡◌, ℕ, ◌+◌, ◌-◌, ◌*◌, ◌/◌, ◌%◌, ◌<◌, List, ◌++◌, length, take, drop, replicate, sym, ap, ap₂, ◌∙◌, subst, inl, inr, zero, suc, refl, suc-mul, length-take, arith}
 use Rattle.std.proofs.lemmas.Bool.{cases_eq}
 use Rattle.std.proofs.lemmas.Nat.{div-mul-add, mod-mul-add}

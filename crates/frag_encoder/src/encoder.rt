@@ -89,7 +89,7 @@ impl Encoder {
         self.padding
     }
 
-    /// Replaces what `out` holds by the data of fragment `n`: piece `n`, counted from 1, and behind the last piece the XOR of
+    /// Replaces what `out` holds by the data of fragment `n`: piece `n`, counted from 1, and after the last piece the XOR of
     /// the pieces in the line of coded fragment `n` (TS004-1.0.0). `Beyond`, with `out` as it was, comes exactly where `n` is 0
     /// or more than 8,380 above the number of pieces.
     pub fn fragment(&self, n: u16, out: &mut ArrayVec<u8, MAX_FRAGMENT>) -> Result<(), Beyond>
@@ -171,7 +171,7 @@ impl Encoder {
     }
 }
 
-/// The file, and so many zeros behind it.
+/// The file, and so many zeros after it.
 fn fill(alloc: Global, file: &[u8], padding: usize) -> Result<Vec<u8>, AllocError>
     requires { length file.now + padding < 2 ^ 63 }
     ensures { IfOk result (λ bytes. bytes.items ≡ file.now ++ replicate padding 0) }
@@ -188,6 +188,7 @@ fn replace(out: &mut ArrayVec<u8, MAX_FRAGMENT>, part: &[u8])
     ensures { out.new.items ≡ part.now }
 {
     out.clear();
+    // (there is room: a part has at most 239 bytes)
     let _ = out.try_extend_from_slice(part);
 }
 

@@ -75,7 +75,7 @@ enters x lt = elim (zero_or_one (new_bit x) (new_bit-lt x)) [
   | inr one ↦ ap (λ n. bit_at n 22) (with_top x one) ∙ top_bit 22 (x / 2) (omega arith) ∙ sym one
 ]
 
--- the state so many steps behind x
+-- the state so many steps after x
 unfoldable after : ℕ → ℕ → ℕ
 after x zero = x
 after x (suc k) = after (prbs23 x) k
@@ -206,7 +206,7 @@ forces cols x power least here next = elim (zero_or_one (bit_at x 5) (bit_at-lt 
 passes : ℕ → ℕ → Bool
 passes cols r = ltb r cols
 
--- the columns among the residues of so many states behind x
+-- the columns among the residues of so many states after x
 found : ℕ → ℕ → ℕ → List ℕ
 found cols x count = filter (passes cols) (map (λ y. y % modulus cols) (states_after x count))
 

@@ -66,7 +66,7 @@ more_In : (n : ℕ) (f : Fragment) (xs : List Fragment) → (n ≡ f.number) ⊎
 unfolding numbers_of
 more_In n f xs m = m
 
--- the same fragment behind both
+-- the same fragment after both
 pub knows_more : (shape : Shape) (f : Fragment) (xs ys : List Fragment) → KnowTheSame shape xs ys → KnowTheSame shape (f ∷ xs) (f ∷ ys)
 knows_more shape f xs ys k = record {
   fits = λ b. (

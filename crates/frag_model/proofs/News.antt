@@ -67,7 +67,7 @@ same_lacking : (shape : Shape) (xs ys : List Fragment) → gain shape xs ≡ gai
 unfolding lacking
 same_lacking shape xs ys e = ap (λ (g : ℕ). shape.nb_frag - g) e
 
--- behind a verdict
+-- after a verdict
 decided_verdict : (shape : Shape) (f : Fragment) (older : List Fragment) → is_receiving (verdict shape older) ≡ false → verdict shape (f ∷ older) ≡ verdict shape older
 decided_verdict shape f older e = verdict_more shape f older ∙ stays (verdict shape older) (verdict_now shape (f ∷ older) f.mark) e
 

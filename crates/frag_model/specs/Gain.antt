@@ -17,7 +17,7 @@ abbrev pub IsSum : ℕ → List ℕ → Type 0
 IsSum x [] = x ≡ 0
 IsSum x (line ∷ lines) = IsSum x lines ⊎ IsSum (bit_xor line x) lines
 
--- how many lines are no sum of those behind them
+-- how many lines are no sum of those after them
 unfoldable pub gain_of_lines : List ℕ → ℕ
 gain_of_lines [] = 0
 gain_of_lines (line ∷ older) = gain_of_lines older + (if is_sum line older then 0 else 1)

@@ -8,7 +8,7 @@ use Rattle.std.specs.Int.{bit_at, is_power_of_two}
 abbrev pub prbs23 : ℕ → ℕ
 prbs23 x = x / 2 + bit_xor (bit_at x 0) (bit_at x 5) * 2 ^ 22
 
--- the next so many states of the register behind x
+-- the next so many states of the register after x
 unfoldable pub states_after : ℕ → ℕ → List ℕ
 states_after x zero = []
 states_after x (suc count) = prbs23 x ∷ states_after (prbs23 x) count

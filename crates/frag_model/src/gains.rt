@@ -24,7 +24,7 @@ pub fn plain_is_sum(x: u64, lines: &[u64]) -> bool
     }
 }
 
-/// How many lines are no sum of those behind them.
+/// How many lines are no sum of those after them.
 pub fn plain_gain(lines: &[u64]) -> usize
     ensures value { result ≡ gain_of_lines lines.now }
     ensures most { result ≤ length lines.now }

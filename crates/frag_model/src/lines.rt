@@ -10,7 +10,7 @@ pub const MAX_PARITY_INDEX: u16 = 8380;
 /// The most pieces of a file (this project's profile).
 pub const MAX_PIECES: u16 = 4096;
 
-/// The next state of the 23-bit register behind `x` (TS004-1.0.0).
+/// The next state of the 23-bit register after `x` (TS004-1.0.0).
 pub fn plain_prbs23(x: u32) -> u32
     requires { x < 2 ^ 23 }
     ensures { result ≡ prbs23 x }

@@ -38,7 +38,7 @@ unfolding missing missing_now missing_next lacking gain gain_of gain_of_lines nu
 still_lacking shape [] is = let none : shape.nb_frag ≡ shape.nb_frag - 0 = omega arith in none
 still_lacking shape (f ∷ older) is = rw (older_open shape f older is, is) refl
 
--- ---- behind one
+-- ---- after one
 
 kept : (v : Verdict) (kept next : ℕ) → v ≢ receiving → missing_next v kept next ≡ kept
 unfolding missing_next

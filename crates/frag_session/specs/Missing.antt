@@ -5,7 +5,7 @@ use Rattle.frag_model.specs.Gain.{gain}
 use Rattle.frag_session.specs.declared.answers.Verdict.TheVariants.{Receiving, Complete}
 use Rattle.frag_session.specs.Session.{Session, shape_of, seen_of}
 
--- the session behind one fragment more
+-- the session after one fragment more
 abbrev pub behind : Session → Fragment → Session
 behind s f = record s { heard = f ∷ s.heard }
 

@@ -27,6 +27,7 @@ impl Model for ServerHandle {
 impl Drop for ServerHandle {
     /// Frees the server, if there is one.
     fn drop(self) {
+        // dropped at the end of this block
         let _server = self.into_box();
     }
 }

@@ -1,5 +1,5 @@
 -- Image files of two formats, and what one is to a device. (This project's profile.)
--- 0: FUIM; 4: the format, 1 or 2; 5: the hardware version, in format 2 the lowest and behind it the highest one; then, in
+-- 0: FUIM; 4: the format, 1 or 2; 5: the hardware version, in format 2 the lowest and after it the highest one; then, in
 -- format 2 four bytes further on: 9: firmware version, not 0; 13: the body's length; 17: the body's SHA-256; 49: the body,
 -- to the end. A file is within 262,144 bytes. Numbers are of 4 bytes, little-endian.
 use Rattle.std.specs.Prelude.{ℕ, ◌+◌, ◌-◌, Bool, ◌&&◌, ◌||◌, not, ◌==◌, nat_le, if◌then◌else◌, List, [], ◌∷◌, ◌++◌, length, take, drop, slice_index, codes}
@@ -16,7 +16,7 @@ image_start format = codes "FUIM" ++ format ∷ []
 unfoldable pub format_of : List ℕ → ℕ
 format_of file = slice_index file 4
 
--- how much further on the fields behind the lowest hardware version lie
+-- how much further on the fields after the lowest hardware version lie
 unfoldable pub further : List ℕ → ℕ
 further file = if format_of file == 2 then 4 else 0
 

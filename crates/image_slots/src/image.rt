@@ -15,7 +15,7 @@ const HEAD: usize = 49;
 /// The most bytes of an image file.
 pub const MAX_IMAGE: usize = 262_144;
 
-/// How much further on the fields behind the lowest hardware version lie: 4 bytes in format 2.
+/// How much further on the fields after the lowest hardware version lie: 4 bytes in format 2.
 #[tactic(auto, unfolding(crate::specs::Image::further, crate::specs::Image::format_of))]
 fn further(file: &[u8]) -> u16
     requires { 49 ≤ length file.now }

@@ -6,9 +6,11 @@ ghost use Rattle.image_slots.specs.Slots.{first_slots, without_next, after_offer
 use crate::view::{ImageState, ImageView};
 use std::alloc::Global;
 use std::marker::Model;
+use thiserror::Error;
 
 /// There was not enough memory.
-#[derive(Clone, Copy, Debug, PartialEq, Eq)]
+#[derive(Clone, Copy, Debug, PartialEq, Eq, Error)]
+#[error("out of memory")]
 pub struct Memory;
 
 /// What a device runs, and the file that it received to run next. Its memory is taken once.

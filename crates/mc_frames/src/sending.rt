@@ -94,5 +94,6 @@ fn put<const N: usize>(to: &mut ArrayVec<u8, N>, bytes: &[u8])
     requires { length to.old.items + length bytes.now ≤ N }
     ensures { to.new.items ≡ to.old.items ++ bytes.now }
 {
+    // (it fits, as is asked for)
     let _fits = to.try_extend_from_slice(bytes);
 }

@@ -8,7 +8,7 @@ use crate::group::Group;
 use crate::table::GroupTable;
 use mc_keys::{Key, RootKind, kek, wrap_key};
 
-/// The key that is wrapped for a device is the one that its table holds behind the setup, by either kind of root key.
+/// The key that is wrapped for a device is the one that its table holds after the setup, by either kind of root key.
 pub fn the_wrapped_key_is_held(
     table: &mut GroupTable,
     gen_app_key: &Key,

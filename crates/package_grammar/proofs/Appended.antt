@@ -1,4 +1,4 @@
--- Texts that are put one behind the other.
+-- Texts that are put one after the other.
 use Rattle.std.proofs.Common.{◌≡◌, ℕ, List, ◌++◌, Result, Ok, Err, ap, ◌∙◌}
 use Rattle.std.specs.Prelude.{OnOk}
 use mathlib.Core.List.{append_assoc}

@@ -49,7 +49,7 @@ stands_at cs port dir bytes at read inside all = record {
   spells = subst (λ (xs : List Command). SpellsTo xs port dir bytes at (length bytes)) (sym (left_is cs port dir bytes at all)) all;
 }
 
--- a command that was read is the first that was left, and the cursor may stand behind it
+-- a command that was read is the first that was left, and the cursor may stand after it
 pub first_left : (port : ℕ) (dir : Direction) (bytes : List ℕ) (at : ℕ) (r : Result (Command × ℕ) Refusal) (c : Command) (next : ℕ) → IsAt port dir bytes at → at ≢ length bytes
     → ((d : Command) (end : ℕ) → length bytes ≤ 242 → Spells d port dir bytes at end → r ≡ Ok (d, end)) → r ≡ Ok (c, next) → next ≤ length bytes
     → (commands_left port dir bytes at ≡ c ∷ commands_left port dir bytes next) × IsAt port dir bytes next

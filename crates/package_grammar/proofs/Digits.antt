@@ -1,4 +1,4 @@
--- Digits that are put behind a text.
+-- Digits that are put after a text.
 use Rattle.std.proofs.Common.{◌≡◌, ℕ, ◌+◌, ◌<◌, List, [], ◌∷◌, ◌++◌, Result, Ok, Err, is_ok, if◌then◌else◌, ap, sym, ◌∙◌, Bool, true, ◌&&◌, nat_lt, refl}
 use Rattle.std.specs.Prelude.{OnOk}
 use Rattle.std.specs.Str.{IsAscii, IsUtf8}

@@ -6,7 +6,7 @@ use Rattle.package_grammar.specs.declared.command.Command.{Command}
 use Rattle.package_grammar.specs.Grammar.{Spells, SpellsTo, NoneSpelled}
 use Rattle.package_grammar.proofs.Tables.{within, moves}
 
--- behind the end nothing is spelled
+-- after the end nothing is spelled
 pub none_left : (cs : List Command) (port : ℕ) (dir : Direction) (bytes : List ℕ) (at : ℕ) → at ≡ length bytes → SpellsTo cs port dir bytes at (length bytes) → cs ≡ []
 none_left [] port dir bytes at ends all = refl
 none_left (c ∷ cs) port dir bytes at ends all =

@@ -100,7 +100,7 @@ cause port dir bytes at read = by_test (is_known port dir (number_at bytes at 1)
     by_test true known = record { why = (read, known.0 refl); place = refl }
     by_test false known = record { why = (read, λ k. absurd (let t = known.1 k in cc)); place = refl }
 
--- a command in front of what is read behind it
+-- a command in front of what is read after it
 in_front : (command : Command) (port : ℕ) (dir : Direction) (bytes : List ℕ) (at next : ℕ) (r : Reading) → Spells command port dir bytes at next
     → IsReadFrom port dir bytes next r → IsReadFrom port dir bytes at (with_first command r)
 in_front command port dir bytes at next (Ok commands) spells behind = (next, spells, behind)
@@ -108,7 +108,7 @@ in_front command port dir bytes at next (Err refusal) spells behind =
     let stop = behind.2 in
     (command ∷ behind.0, behind.1, record { reached = (next, spells, stop.reached); inside = stop.inside; none = stop.none; cause = stop.cause })
 
--- the same behind a place, in so many steps
+-- the same after a place, in so many steps
 abbrev IsReadBehind : (steps : ℕ) → ℕ → Direction → List ℕ → (at : ℕ) → Type 0
 IsReadBehind steps port dir bytes at = (next : ℕ) → at < next → next ≤ length bytes → IsReadFrom port dir bytes next (read_from steps port dir bytes next)
 

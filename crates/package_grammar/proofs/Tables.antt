@@ -72,7 +72,7 @@ not_sync cmd port dir bytes at next first second spells =
 pub within : (c : Command) (port : ℕ) (dir : Direction) (bytes : List ℕ) (at next : ℕ) → Spells c port dir bytes at next → next ≤ length bytes
 within c port dir bytes at next spells = (parts_before (row c).parts bytes at 1 next spells.lies.parts_lie).0
 
--- and behind its place
+-- and after its place
 pub moves : (c : Command) (port : ℕ) (dir : Direction) (bytes : List ℕ) (at next : ℕ) → Spells c port dir bytes at next → at < next
 moves c port dir bytes at next spells = omega (arith, (parts_before (row c).parts bytes at 1 next spells.lies.parts_lie).1)
 

@@ -41,7 +41,7 @@ pub record IsPort (port : ℕ) : Type 0 where
   pub low : 200 ≤ port
   pub high : port ≤ 203
 
--- from a place to another the payload spells these commands, one behind another
+-- from a place to another the payload spells these commands, one after another
 abbrev pub SpellsTo : List Command → ℕ → Direction → List ℕ → (at end : ℕ) → Type 0
 SpellsTo [] port direction bytes at end = at ≡ end
 SpellsTo (c ∷ cs) port direction bytes at end =
@@ -71,7 +71,7 @@ IsRefusal port direction bytes at refusal = table.IsRefusal row IsPort port dire
 abbrev pub NoneSpelled : ℕ → Direction → List ℕ → ℕ → Type 0
 NoneSpelled port direction bytes at = (c : Command) (next : ℕ) → Spells c port direction bytes at next → ⊥
 
--- behind these commands there is a place before the end at which none is spelled, and that is why
+-- after these commands there is a place before the end at which none is spelled, and that is why
 pub record IsStopAt (port : ℕ) (direction : Direction) (bytes : List ℕ) (from : ℕ) (refusal : Refusal)
     (read : List Command) (at : ℕ) : Type 0 where
   pub reached : SpellsTo read port direction bytes from at
@@ -79,7 +79,7 @@ pub record IsStopAt (port : ℕ) (direction : Direction) (bytes : List ℕ) (fro
   pub none : NoneSpelled port direction bytes at
   pub cause : IsRefusal port direction bytes at refusal
 
--- reading from a place on stops behind some commands
+-- reading from a place on stops after some commands
 abbrev pub StopsFrom : ℕ → Direction → List ℕ → (from : ℕ) → Refusal → Type 0
 StopsFrom port direction bytes from refusal =
     (read : List Command) × (at : ℕ) × IsStopAt port direction bytes from refusal read at

@@ -30,7 +30,7 @@ there (Some n) = decimal n
 abbrev pub group_text : (id addr : ℕ) → List ℕ
 group_text id addr = decimal id ++ (codes ":" ++ number_hex addr)
 
--- groups behind the first
+-- groups after the first
 abbrev pub other_groups : List GroupAddress → List ℕ
 other_groups [] = []
 other_groups (g ∷ gs) = codes "," ++ (group_text g.id g.addr ++ other_groups gs)

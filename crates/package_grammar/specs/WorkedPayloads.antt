@@ -116,7 +116,7 @@ pub record WorkedMessages : Type 0 where
       ≡ Err (record { at = 5; why = Short })
   pub not_up : reading_of 201 Up (0x08 ∷ 0x01 ∷ 0x00 ∷ 0x11 ∷ [])
       ≡ Err (record { at = 0; why = UnknownCommand })
-  -- a status of 3 wants the next version behind it
+  -- a status of 3 wants the next version after it
   pub no_version : reading_of 203 Up (0x04 ∷ 0x03 ∷ 0x02 ∷ 0x00 ∷ 0x00 ∷ [])
       ≡ Err (record { at = 5; why = Short })
   pub no_next : reading_of 203 Up (0x04 ∷ 0x02 ∷ []) ≡ Ok (Sync (s.DevUpgradeImageAns 2 None) ∷ [])

@@ -1,8 +1,10 @@
 //! A payload on its way to devices, and whom it is for.
 
-ghost use Rattle.std.specs.Prelude.{◌≡◌, []};
+ghost use Rattle.std.specs.Prelude.{◌≡◌, ◌≤◌, [], length};
+ghost use Rattle.wire_base.specs.Payload.{max_payload};
 ghost use Rattle.package_grammar.specs.declared.downlink.To.TheVariants as to;
 
+use std::marker::Model;
 use wire_base::Payload;
 
 /// Whom a downlink is for.
@@ -32,6 +34,80 @@ impl Downlink {
             to: To::Unicast,
             port: 0,
             payload: Payload::new(),
+        }
+    }
+}
+
+/// A payload on its way to devices, whose bytes are borrowed. Contracts see the downlink that it is.
+#[derive(Drop)]
+pub struct DownlinkRef<'a> {
+    to: To,
+    port: u8,
+    bytes: &'a [u8],
+}
+
+impl<'a> Model for DownlinkRef<'a> {
+    ghost use Rattle.std.specs.Prelude.{◌≤◌, length};
+    ghost use Rattle.wire_base.specs.Payload.{max_payload};
+    ghost use Rattle.package_grammar.specs.declared.downlink.Downlink.{Downlink};
+
+    ghost Value = { Downlink };
+
+    ghost view = { λ d. record { to = d.to; port = d.port; payload = d.bytes.now } };
+
+    ghost invariant = { λ d. length d.bytes.now ≤ max_payload };
+}
+
+impl<'a> DownlinkRef<'a> {
+    /// A payload of at most `MAX_PAYLOAD` bytes.
+    pub fn new(to: To, port: u8, bytes: &'a [u8]) -> Self
+        requires { length bytes.now ≤ max_payload }
+        ensures { result ≡ record { to = to; port = port; payload = bytes.now } }
+    {
+        DownlinkRef { to, port, bytes }
+    }
+
+    /// One whose bytes lie in a downlink.
+    pub fn of(down: &'a Downlink) -> Self
+        ensures { result ≡ down.now }
+    {
+        DownlinkRef {
+            to: down.to,
+            port: down.port,
+            bytes: down.payload.as_slice(),
+        }
+    }
+
+    /// Whom it is for.
+    pub fn to(&self) -> To
+        ensures { result ≡ self.now.to }
+    {
+        self.to
+    }
+
+    /// The port of its package.
+    pub fn port(&self) -> u8
+        ensures { result ≡ self.now.port }
+    {
+        self.port
+    }
+
+    /// Its bytes.
+    pub fn bytes(&self) -> &'a [u8]
+        ensures value { result.now ≡ self.now.payload }
+        ensures within { length result.now ≤ max_payload }
+    {
+        self.bytes
+    }
+
+    /// A downlink of its own with the same bytes.
+    pub fn copied(&self) -> Downlink
+        ensures { result ≡ self.now }
+    {
+        Downlink {
+            to: self.to,
+            port: self.port,
+            payload: Payload::from_slice(self.bytes),
         }
     }
 }

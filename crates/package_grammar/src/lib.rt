@@ -28,7 +28,7 @@ mod writing;
 
 pub use checking::check;
 pub use command::{Command, valid};
-pub use downlink::{Downlink, To};
+pub use downlink::{Downlink, DownlinkRef, To};
 pub use laws::{
     reading_has_one_answer, reading_is_exact, worked_payloads, worked_texts, written_is_message,
     written_is_read,

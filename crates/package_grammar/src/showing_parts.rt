@@ -130,7 +130,7 @@ fn put_group(group: &GroupAddress, text: &mut String) -> Result<(), AllocError>
     put_number_hex(group.addr, text)
 }
 
-/// Puts the groups behind the first at the end.
+/// Puts the groups after the first at the end.
 fn put_other_groups(groups: &[GroupAddress], text: &mut String) -> Result<(), AllocError>
     ensures { OnOk result
         (string_bytes text.new ≡ string_bytes text.old ++ other_groups groups.now) }

@@ -15,7 +15,7 @@ use std::alloc::AllocError;
 use sync_wire::{CLOCK_PORT, FIRMWARE_PORT};
 use wire_base::Direction;
 
-/// Puts the text of the command at a place of a payload at the end, and says which place is behind it; None exactly where
+/// Puts the text of the command at a place of a payload at the end, and says which place is after it; None exactly where
 /// none is spelled there. The command is looked at where it was read, and not moved.
 #[tactic(auto, using(crate::proofs::Tables::not_sync, crate::proofs::Tables::not_cast))]
 pub(crate) fn put_at(

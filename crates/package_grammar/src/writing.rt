@@ -14,6 +14,7 @@ pub fn write_one(port: u8, dir: Direction, command: &Command, out: &mut Payload)
     requires listed { IsListed (row command.now) port dir }
     ensures { Appends out.old out.new (canonical command.now) result }
 {
+    // where the command goes matters to what is asked for alone
     let _where = (port, dir);
     match command {
         Command::Sync(cmd) => sync_wire::write_one(cmd, out),
@@ -29,6 +30,7 @@ pub fn spell(port: u8, direction: Direction, command: &Command, payload: &mut Pa
     requires empty { payload.old ≡ [] }
     ensures { payload.new ≡ canonical command.now }
 {
+    // (one command fits an empty payload)
     let _fits = write_one(port, direction, command, payload);
 }
 

@@ -13,7 +13,7 @@ use std::sync::ledger::Ledger;
 /// How many states lie in one number after the one that it begins with.
 const AHEAD: u16 = 18;
 
-/// The next state of the 23-bit register behind `x`: all bits move down by one, and the sum of bit 0 and bit 5 comes in
+/// The next state of the 23-bit register after `x`: all bits move down by one, and the sum of bit 0 and bit 5 comes in
 /// as bit 22 (TS004-1.0.0). A state is below 2^23.
 pub fn prbs23(x: u32) -> u32
     ensures { result ≡ prbs23 x }

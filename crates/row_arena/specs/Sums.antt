@@ -1,7 +1,7 @@
 -- Sums of many pieces, and lines without many columns. (This project's profile.)
 use Rattle.std.specs.Prelude.{◌≡◌, ℕ, ◌+◌, ◌*◌, ◌^◌, ◌<◌, ◌≤◌, List, [], ◌∷◌, length, get_or, slice_index, bit_xor}
 
--- byte i, which was b, after byte i of each of these pieces was added; they lie one behind the other
+-- byte i, which was b, after byte i of each of these pieces was added; they lie one after the other
 unfoldable pub after_pieces : ℕ → List ℕ → ℕ → ℕ → List ℕ → ℕ
 after_pieces size area i b [] = b
 after_pieces size area i b (k ∷ ks) = after_pieces size area i (bit_xor b (get_or area (k * size + i) 0)) ks

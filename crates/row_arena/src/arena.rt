@@ -12,9 +12,11 @@ use crate::stretches::{
 };
 use arrayvec::ArrayVec;
 use std::marker::Model;
+use thiserror::Error;
 
 /// The rows do not fit in the storage.
-#[derive(Clone, Copy, Debug, PartialEq, Eq)]
+#[derive(Clone, Copy, Debug, PartialEq, Eq, Error)]
+#[error("the storage is too small")]
 pub struct NoRoom;
 
 /// Rows of one shape: each has a line, a bit for each of its columns, and bytes beside it. All lie in the value itself, in

@@ -37,7 +37,7 @@ fn sum_short(area: &[u8], picks: &[u16], part: &[u8], rest: &mut [u8])
     rest.copy_from_slice(&sum.to_array()[..size]);
 }
 
-/// The 16 bytes from a place on; behind the last of the slice they are zero.
+/// The 16 bytes from a place on; after the last of the slice they are zero.
 #[inline(always)]
 fn lanes_at(bytes: &[u8], at: usize) -> u8x16
     requires inside { at ≤ length bytes.now }

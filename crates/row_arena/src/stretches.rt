@@ -1,4 +1,4 @@
-//! The stretches of a slice: rows of one length, one behind the other.
+//! The stretches of a slice: rows of one length, one after the other.
 
 ghost use Rattle.std.specs.Prelude.{◌≡◌, ◌≢◌, ℕ, ◌+◌, ◌*◌, ◌<◌, ◌≤◌, length, bit_xor, replicate};
 ghost use Rattle.std.specs.Simd.Lanes.{zip2};

@@ -19,16 +19,19 @@ use row_arena::words_for;
 use std::alloc::Global;
 use std::marker::{Brand, Model};
 use std::sync::ledger::{Blank, Ledger};
+use thiserror::Error;
 
 /// The most bytes of a fragment.
 pub const MAX_FRAG_SIZE: usize = 239;
 
 /// There was not enough memory.
-#[derive(Clone, Copy, Debug, PartialEq, Eq)]
+#[derive(Clone, Copy, Debug, PartialEq, Eq, Error)]
+#[error("out of memory")]
 pub struct Memory;
 
 /// The storage or the area is too small, or the file has more pieces than there is memory for.
-#[derive(Clone, Copy, Debug, PartialEq, Eq)]
+#[derive(Clone, Copy, Debug, PartialEq, Eq, Error)]
+#[error("the storage is too small")]
 pub struct NoRoom;
 
 /// Recovers one file at a time from fragments, in storage that is taken once: `W` words of 64 coefficients (at most
@@ -147,6 +150,7 @@ impl<const W: usize, const B: usize> Solver<W, B> {
         ensures refused { OnErr result (self.new ≡ self.old) }
         ensures extent { self.new.extent ≡ self.old.extent }
     {
+        // the padding matters to who takes the file out, and not here
         let _ = padding;
         if !self.fits(nb_frag, frag_size, rows) {
             return Err(NoRoom);
@@ -230,7 +234,7 @@ impl<const W: usize, const B: usize> Solver<W, B> {
         self.kept.table.pieces()
     }
 
-    /// The bytes of all pieces, one behind the other, padding included. The solver must be complete.
+    /// The bytes of all pieces, one after the other, padding included. The solver must be complete.
     pub fn block(&self) -> &[u8]
         requires { self.now.stage ≡ Stage.Complete }
         ensures content { result.now ≡ self.now.content }

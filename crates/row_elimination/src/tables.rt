@@ -27,7 +27,7 @@ use std::sync::ledger::Ledger;
 /// How many words of 64 columns the line of the largest file takes.
 pub const LINE_WORDS: usize = MAX_PIECES as usize / 64;
 
-/// How many bytes behind a piece the area grows at once.
+/// How many bytes beyond a piece the area grows at once.
 const AHEAD: usize = 1792;
 
 /// All that is held of a file: a piece, a row or nothing for each of its columns. Rows have `W` words and `B` bytes in all.
@@ -421,6 +421,7 @@ impl<const W: usize, const B: usize> Table<W, B> {
         free_all(&mut self.columns, nb_frag as usize);
         spare_all(&mut self.spare, rows);
         forget(&mut self.known, words_for(nb_frag));
+        // (the rows fit, as is asked for)
         let _ = self.arena.shape(rows, nb_frag, frag_size as u16);
         self.nb_frag = nb_frag;
         self.frag_size = frag_size;
@@ -477,7 +478,7 @@ fn forget(known: &mut Vec<u64>, words: usize)
     clear_bits(known);
 }
 
-/// Writes its own place to each of so many; what lies behind them is not used.
+/// Writes its own place to each of so many; what lies after them is not used.
 fn count_up(spare: &mut [u16], rows: u16)
     requires { rows ≤ length spare.old }
     ensures { (i : ℕ) → i < rows → get_or spare.new i 0 ≡ i }

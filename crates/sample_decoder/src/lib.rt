@@ -8,14 +8,17 @@ ghost use Rattle.sample_decoder.specs.Lines.{lines_of};
 
 use package_grammar::{Message, show};
 use std::alloc::{AllocError, Global};
+use thiserror::Error;
 use wire_base::{Direction, Refusal};
 
 // sample
 /// Why there is no text.
-#[derive(Clone, Copy, Debug, PartialEq, Eq)]
+#[derive(Clone, Copy, Debug, PartialEq, Eq, Error)]
 pub enum DecodeError {
     /// The payload spells no commands: at which byte reading it stops, counted from 0, and why.
+    #[error(transparent)]
     Refused(Refusal),
+    #[error("out of memory")]
     Memory,
 }
 

@@ -19,7 +19,7 @@ use wire_base::{Direction, Payload};
 /// Bytes of a piece. A payload has 3 more, which makes 51, the most at the slowest data rates of EU868.
 const FRAG_SIZE: u8 = 48;
 
-/// Coded fragments behind the pieces, which make losses good.
+/// Coded fragments after the pieces, which make losses good.
 const PARITY: u16 = 16;
 
 /// A sender of the file. `BadSize` comes exactly where it is empty or has more than 196,608 bytes.
@@ -49,7 +49,7 @@ pub fn setup(encoder: &Encoder, descriptor: u32) -> Payload
     spelled(FRAGMENT_PORT, Direction::Down, &Command::Cast(request))
 }
 
-/// DataFragment `n`: the pieces in order from 1 on, and behind them the coded fragments; None where there is none of this
+/// DataFragment `n`: the pieces in order from 1 on, and after them the coded fragments; None where there is none of this
 /// number.
 pub fn fragment(encoder: &Encoder, n: u16) -> Option<Payload>
     requires { encoder.now.frag_size ≡ 48 }

@@ -64,7 +64,7 @@ pub fn queue_of(server: &Server, device: u8) -> Option<Downlink>
 }
 
 /// What goes into the queue of the group, with the frame count that stands in it: the next fragment, once all devices have
-/// their window; None behind the last of them, or where the group's counts are spent.
+/// their window; None after the last of them, or where the group's counts are spent.
 pub fn queue_of_group(server: &mut Server) -> Option<Downlink>
     ensures fragment { result ≡ down_of (result_ok (next_fragment server.old)) }
     ensures moved { server.new ≡ after_fragment server.old }

@@ -21,7 +21,7 @@ cut_more (l ∷ lines) line = ap (λ (ls : List (List ℕ)). cut l ∷ ls) (cut_
 same_line : (o : Option (List ℕ)) (one other : List ℕ) → o ≡ Some one → o ≡ Some other → one ≡ other
 same_line o one other first second = cc
 
--- a line that was handed out and heard stands behind those heard before
+-- a line that was handed out and heard stands after those heard before
 hears_line : {W : Type 0} (Step : W → List ℕ → W → Type 0) (before all : List (List ℕ)) (line heard : List ℕ) (o : Option (List ℕ)) (first now next : W)
     → HearsAll Step first (cut_lines before) now → all ≡ before ++ line ∷ [] → o ≡ Some (cut line) → o ≡ Some heard → Step now heard next → HearsAll Step first (cut_lines all) next
 hears_line Step before all line heard o first now next so_far are handed told step =
@@ -59,7 +59,7 @@ pub heard_none : {W : Type 0} (Step : W → List ℕ → W → Type 0) (first : 
 unfolding HearsAll ended_of
 heard_none Step first = refl
 
--- one piece behind another
+-- one piece after another
 pub hears_on : {W : Type 0} (Step : W → List ℕ → W → Type 0) (old mid new : HeldLines) (before between now : W) (xs ys : List ℕ)
     → Hears Step old mid before between xs → Hears Step mid new between now ys → Hears Step old new before now (xs ++ ys)
 hears_on Step old mid new before between now xs ys one other first stream so_far =

@@ -41,7 +41,7 @@ pub hex_before_word : (bytes payload : List ℕ) (end random : ℕ) → words_of
     → hex_bytes_of (take end bytes) ≡ Some payload → decimal_of (drop (end + 1) bytes) ≡ Some random → WordLast hex_bytes_of bytes payload random
 hex_before_word bytes payload end random words is word_is = before_word hex_bytes_of bytes payload end random words is word_is
 
--- a decimal, and what stands behind it
+-- a decimal, and what stands after it
 pub two_words : {A : Type 0} {spelled_by : List ℕ → Option A} {bytes behind : List ℕ} {n : ℕ} {value : A} {random : ℕ}
     (first : DecimalFirst bytes n behind) (last : WordLast spelled_by behind value random) → words_of bytes ≡ first.digits ∷ last.first ∷ last.more
 two_words first last = first.words ∙ ap (λ (ws : List (List ℕ)). first.digits ∷ ws) last.words

@@ -25,7 +25,7 @@ digit_by c i x y z false false false = refl
 digit_read : (c i : ℕ) → is_ok (value_at c i) ≡ is_ascii_hexdigit c
 digit_read c i = digit_by c i (c - 55) (c - 87) (c - 48) (nat_le 65 c && nat_le c 70) (nat_le 97 c && nat_le c 102) (nat_le 48 c && nat_le c 57)
 
--- a byte and those behind it are read where both digits are, and those
+-- a byte and those after it are read where both digits are, and those
 glued : (high low : Result ℕ FromHexError) (rest : Result (List ℕ) FromHexError)
     → is_ok ((high >>= λ h. low >>= λ l. Ok (h * 16 + l)) >>= λ byte. rest >>= λ bytes. Ok (byte ∷ bytes))
     ≡ (is_ok high && (is_ok low && is_ok rest))

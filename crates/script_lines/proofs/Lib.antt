@@ -5,7 +5,7 @@ pub mod Heard
 pub mod HexWords
 pub mod CutWords
 pub mod HeldWords
-pub mod OftenForms
+pub mod FastForms
 pub mod WorkedLines
 pub mod WorkedPairs
 pub mod WorkedRanges

@@ -60,7 +60,7 @@ still_open stream bytes none =
     let open_bytes = joined_open some.0 some.1 bytes in
     rw (split_on stream bytes, slice_split_none is_feed bytes none, some.2) open_bytes
 
--- and with a line feed behind them they end it
+-- and with a line feed after them they end it
 pub now_ended : (stream bytes : List ℕ) → All (λ b. is_feed b ≡ false) bytes
     → (ended_of (stream ++ (bytes ++ 10 ∷ [])) ≡ ended_of stream ++ (open_of stream ++ bytes) ∷ []) × (open_of (stream ++ (bytes ++ 10 ∷ [])) ≡ [])
 unfolding ended_of open_of
@@ -69,7 +69,7 @@ now_ended stream bytes none =
     let ended_bytes = joined_ended some.0 some.1 bytes in
     rw (split_on stream (bytes ++ 10 ∷ []), slice_split_at is_feed bytes 10 [] none refl, some.2) ended_bytes
 
--- whatever comes behind, the lines that ended stay
+-- whatever comes after, the lines that ended stay
 stretch_on : (x : List ℕ) (xs : List (List ℕ)) (y : List ℕ) (ys : List (List ℕ)) → (a : List ℕ) × (others : List (List ℕ)) × (joined (x ∷ xs) (y ∷ ys) ≡ a ∷ others)
 stretch_on x [] y ys = (x ++ y, ys, refl)
 stretch_on x (z ∷ zs) y ys = (x, joined (z ∷ zs) (y ∷ ys), refl)
@@ -95,7 +95,7 @@ ended_more stream bytes =
 no_feed : All (λ b. is_feed b ≡ false) []
 no_feed = All-from_get_or (λ b. is_feed b ≡ false) [] 0 (λ i below. absurd (omega (arith, below)))
 
--- behind the last line feed the open line begins anew
+-- after the last line feed the open line begins anew
 pub open_behind : (stream before rest : List ℕ) → All (λ b. is_feed b ≡ false) rest → open_of (stream ++ (before ++ (10 ∷ rest))) ≡ rest
 open_behind stream before rest none =
     let anew = (now_ended (stream ++ before) [] no_feed).1 in

@@ -1,4 +1,4 @@
--- The form that a line spells (this project's profile): its first word says which, and so many words stand behind it.
+-- The form that a line spells (this project's profile): its first word says which, and so many words stand after it.
 use Rattle.std.specs.Prelude.{ℕ, ◌+◌, ◌-◌, Bool, true, false, ◌&&◌, ◌==◌, nat_lt, if◌then◌else◌, List, length, codes, Option, Some, None}
 use Rattle.script_lines.specs.declared.forms.Class.{Class}
 use Rattle.script_lines.specs.declared.forms.Class.TheVariants as class
@@ -99,7 +99,7 @@ window_from line k =
 abbrev pub window_form : List ℕ → Option Form
 window_form line = window_from line 1
 
--- device ID CLASS HW ROWS OFFSET KEY, with DESCRIPTOR behind it or none; and whether v1 stands behind that, then k11, and flash
+-- device ID CLASS HW ROWS OFFSET KEY, with DESCRIPTOR after it or none; and whether v1 stands after that, then k11, and flash
 -- at the end; CLASS stands at a place
 abbrev pub device_words : List ℕ → (k : ℕ) → Option ℕ → (v1 k11 flash : Bool) → Option Form
 device_words line k descriptor v1 k11 flash = do
@@ -158,7 +158,7 @@ ask_form line = with_decimal line (λ device. Ask device)
 abbrev pub up_form : List ℕ → Option Form
 up_form line = with_decimal line (λ number. Up number)
 
--- down S D, with WORD behind it or none, which is 0
+-- down S D, with WORD after it or none, which is 0
 abbrev pub down_words : List ℕ → Option ℕ → (random : ℕ) → Option Form
 down_words line payload random = do
   number ← payload
@@ -175,7 +175,7 @@ down_of line payload =
 abbrev pub down_form : List ℕ → Option Form
 down_form line = down_of line (decimal_at line 1)
 
--- raw D PORT HEX, with WORD behind it or none, which is 0
+-- raw D PORT HEX, with WORD after it or none, which is 0
 abbrev pub raw_words : List ℕ → ℕ → Option Form
 raw_words line random = do
   device ← decimal_at line 1
@@ -197,7 +197,7 @@ in_the_air form = None
 abbrev pub air_form : List ℕ → Option Form
 air_form line = in_the_air (down_form line)
 
--- rawair D HEX, with WORD behind it or none, which is 0
+-- rawair D HEX, with WORD after it or none, which is 0
 abbrev pub raw_air_words : List ℕ → ℕ → Option Form
 raw_air_words line random = do
   device ← decimal_at line 1

@@ -11,7 +11,7 @@ pub record HeldLines : Type 0 where
   pub open_line : List ℕ
   pub line : Option (List ℕ)
 
--- it stands for every stream whose stretch behind its last line feed is the open line, once cut
+-- it stands for every stream whose stretch after its last line feed is the open line, once cut
 abbrev pub LinesStand : HeldLines → List ℕ → Type 0
 LinesStand held stream = held.open_line ≡ cut (open_of stream)
 
@@ -50,7 +50,7 @@ line_in bytes true = Some bytes
 abbrev pub held_as : List ℕ → Bool → HeldLines
 held_as bytes ended = record { open_line = open_in bytes ended; line = line_in bytes ended }
 
--- the last line feed is at this place: there is one, and none behind it
+-- the last line feed is at this place: there is one, and none after it
 pub record IsLastFeed (piece : List ℕ) (end : ℕ) : Type 0 where
   pub inside : end < length piece
   pub feed : is_feed (get_or piece end 0) ≡ true

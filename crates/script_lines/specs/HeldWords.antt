@@ -19,7 +19,7 @@ random_of [] = Some 0
 random_of (digits ∷ []) = decimal_of digits
 random_of (digits ∷ another ∷ more) = None
 
--- the first word spells this, and [WORD] stands behind it
+-- the first word spells this, and [WORD] stands after it
 pub record WordLast {A : Type 0} (spelled_by : List ℕ → Option A) (bytes : List ℕ) (value : A) (random : ℕ) : Type 0 where
   pub first : List ℕ
   pub more : List (List ℕ)

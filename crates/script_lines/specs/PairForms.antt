@@ -56,7 +56,7 @@ pair_group line = if count_of line == 7 then decimal_at line 2 >>= (λ id. group
 abbrev pub pair_alone : List ℕ → Form → Option Form
 pair_alone line form = if count_of line == 2 then Some form else None
 
--- down XS D, with WORD behind it or none, which is 0; air XS D, as down has it
+-- down XS D, with WORD after it or none, which is 0; air XS D, as down has it
 abbrev pub pair_down : List ℕ → Option Form
 pair_down line = down_of line (number_behind (word line 1))
 

@@ -15,7 +15,7 @@ last [] = []
 last (xs ∷ []) = xs
 last (xs ∷ ys ∷ zss) = last (ys ∷ zss)
 
--- the lines that a line feed ended, and the stretch behind the last line feed
+-- the lines that a line feed ended, and the stretch after the last line feed
 unfoldable pub ended_of : List ℕ → List (List ℕ)
 ended_of stream = front (slice_split is_feed stream)
 

@@ -19,7 +19,7 @@ pub trait HearsLine {
         ensures { IsTrue result → (line : List ℕ) → hears self.now line self.now };
 }
 
-/// Hands out the lines that end in a piece; behind one after which no more are wanted, none.
+/// Hands out the lines that end in a piece; after one after which no more are wanted, none.
 pub fn hear_piece<W: HearsLine>(lines: &mut Lines, piece: &[u8], hearer: &mut W)
     ensures { Hears W.hears lines.old lines.new hearer.old hearer.new piece.now }
 {

@@ -1,6 +1,7 @@
 //! The lines of a campaign's script (this project's profile): the stretches between line feeds, the form that a line
 //! spells, and the ranges of its numbers. `form` gives exactly the form that the bytes spell, None where they spell none,
-//! and `in_range` is the table of ranges; `pair_form` does the same for the script of two campaigns. What a form makes of a campaign, and when it may come, is left to the world above.
+//! and `in_range` is the table of ranges; `pair_form` does the same for the script of two campaigns. What a form makes of
+//! a campaign, and when it may come, is left to the world above.
 //!
 //!     match form(b"down 5 1") {
 //!         Some(read) if in_range(&read) => ..,                 // Form::Down { .. }
@@ -8,15 +9,16 @@
 //!     }
 #![tactic(auto)]
 
+mod fast_forms;
 mod forms;
 mod hearing;
 mod hex_bytes;
 mod laws;
 mod lines;
 mod numbers;
-mod often;
 mod pairs;
 mod pieces;
+mod plan_forms;
 mod ranges;
 mod reading;
 mod words;

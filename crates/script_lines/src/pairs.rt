@@ -4,12 +4,12 @@ ghost use Rattle.std.specs.Prelude.{◌≡◌};
 ghost use Rattle.script_lines.specs.Lines.{word};
 ghost use Rattle.script_lines.specs.PairForms.{pair_form_of, pair_event_form, pair_sent_form, campaign_at, letter_of, number_behind, of_none, of_named, pair_header, pair_image, pair_group, pair_alone, pair_down, pair_up};
 
+use crate::fast_forms::{asked_device, migrated_device, powered_device, time_at, woken_device};
 use crate::forms::{Campaign, Form, PairForm};
 use crate::numbers::decimal;
-use crate::often::{asked_device, migrated_device, powered_device, time_at, woken_device};
+use crate::plan_forms::{device_from, group_words, image_words, window_from};
 use crate::reading::{
-    alone, ask_form, at_form, device_from, down_of, group_words, image_words, in_the_air,
-    is_keyword, migrate_form, power_form, wake_form, window_from,
+    alone, ask_form, at_form, down_of, in_the_air, is_keyword, migrate_form, power_form, wake_form,
 };
 use crate::words::{count_words, is_word, word};
 
@@ -54,7 +54,7 @@ fn any_pair_form(line: &[u8]) -> Option<PairForm<'_>>
     }
 }
 
-/// The form of a line behind those of the plan: the moment, and what happens to a device.
+/// The form of a line after those of the plan: the moment, and what happens to a device.
 #[inline(always)]
 fn pair_event_form<'a>(line: &'a [u8], keyword: &[u8]) -> Option<PairForm<'a>>
     requires { keyword.now ≡ word line.now 0 }
@@ -75,7 +75,7 @@ fn pair_event_form<'a>(line: &'a [u8], keyword: &[u8]) -> Option<PairForm<'a>>
     }
 }
 
-/// The form of a line behind those: of a campaign that the line names, and the end.
+/// The form of a line after those: of a campaign that the line names, and the end.
 #[inline(always)]
 fn pair_sent_form<'a>(line: &'a [u8], keyword: &[u8]) -> Option<PairForm<'a>>
     requires { keyword.now ≡ word line.now 0 }
@@ -147,7 +147,7 @@ fn letter_of(word: &[u8]) -> Option<Campaign>
     }
 }
 
-/// The number behind the letter.
+/// The number after the letter.
 fn number_behind(word: &[u8]) -> Option<u64>
     ensures { result ≡ number_behind word.now }
 {

@@ -77,7 +77,7 @@ impl Lines {
     }
 
     /// Where no line is open and a whole one begins a piece, of no more bytes than are held: the place of its line feed. Such
-    /// a line may be handed out where it lies, and then `self` stands behind it as it is.
+    /// a line may be handed out where it lies, and then `self` stands after it as it is.
     pub(crate) fn whole_line(&self, piece: &[u8]) -> Option<usize>
         ensures { IfSome result (λ end. IsWholeLine self.now piece.now end) }
     {
@@ -140,7 +140,7 @@ fn open(held: &mut ArrayVec<u8, HELD>, ended: bool)
     }
 }
 
-/// Puts bytes behind those that are held, as many as there is room for.
+/// Puts bytes after those that are held, as many as there is room for.
 fn hold(held: &mut ArrayVec<u8, HELD>, bytes: &[u8])
     requires { length held.old.items ≤ 601 }
     ensures held { held.new.items ≡ cut (held.old.items ++ bytes.now) }
@@ -148,5 +148,6 @@ fn hold(held: &mut ArrayVec<u8, HELD>, bytes: &[u8])
 {
     let room = HELD - held.len();
     let front = &bytes[..room.min(bytes.len())];
+    // (the front is cut to the room)
     let _fits = held.try_extend_from_slice(front);
 }

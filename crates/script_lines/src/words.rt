@@ -34,7 +34,7 @@ pub fn word(line: &[u8], place: usize) -> &[u8]
     }
 }
 
-/// The place of the first space, behind which the second word begins.
+/// The place of the first space, after which the second word begins.
 pub(crate) fn first_space(line: &[u8]) -> Option<usize>
     ensures within { IfSome result (λ end. end < length line.now) }
     ensures some { IfSome result

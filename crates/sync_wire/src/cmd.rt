@@ -22,7 +22,7 @@ pub enum Cmd {
     },
     /// TS003-1.0.0, from the server.
     AppTimeAns {
-        /// TimeCorrection, the seconds that the device's clock is behind; negative where it is ahead.
+        /// TimeCorrection, the seconds that the device's clock is after; negative where it is ahead.
         correction: i32,
         /// TokenAns, the token of the request that is answered, 0 to 15.
         token: u8,

@@ -4,7 +4,7 @@ use Rattle.std.proofs.lemmas.List.{get_or-append-add, get_or_append_left}
 use Rattle.std.proofs.lemmas.Nat.{shr_below}
 use Rattle.wire_base.specs.Numbers.{number_at, number_bytes}
 
--- a number behind other bytes
+-- a number after other bytes
 pub number_at-append_right : (xs ys : List ℕ) (i width : ℕ) → number_at (xs ++ ys) (length xs + i) width ≡ number_at ys i width
 unfolding number_at
 number_at-append_right xs ys i zero = refl

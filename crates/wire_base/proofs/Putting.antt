@@ -4,7 +4,7 @@ use Rattle.std.proofs.lemmas.Bool.{false≢true}
 use Rattle.wire_base.specs.declared.payload.Full.{Full}
 use Rattle.wire_base.specs.Payload.{Appends}
 
--- what is put behind x stands behind what stood before x
+-- what is put after x stands after what stood before x
 pub then : {a b c x y : List ℕ} {u v : Unit {0}} → Appends a b x (Ok u) → Appends b c y (Ok v) → Appends a c (x ++ y) (Ok v)
 then {a} {b} {c} {x} {y} first second =
     let longer : length b ≡ length a + length x = ap length first.appended ∙ length-append a x in

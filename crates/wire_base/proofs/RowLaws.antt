@@ -1,4 +1,4 @@
--- Commands that were written lie where they were written, and lie there still when more is put behind.
+-- Commands that were written lie where they were written, and lie there still when more is put after.
 use Rattle.std.proofs.Common.{◌≡◌, ℕ, ◌+◌, ◌-◌, ◌*◌, ◌/◌, ◌%◌, ◌^◌, ◌<◌, ◌≤◌, true, false, List, [], ◌∷◌, ◌++◌, length, get_or, refl, sym, ap, subst, ◌∙◌, append_assoc, arith, length-append, leb}
 use Rattle.std.proofs.lemmas.Bool.{and_parts, leb-true}
 use Rattle.std.proofs.lemmas.List.{append-nil, drop_at, get_or-append-add, get_or_append_left}
@@ -58,7 +58,7 @@ packed_lies width fields before after at is apart fit =
 
 -- ---- the parts of a body
 
--- the front part lies there, and the others lie behind it
+-- the front part lies there, and the others lie after it
 joined : (p : Part) (ps : List Part) (before after : List ℕ) (at skip next : ℕ) → length before ≡ at + skip
     → PartLies (before ++ (part_bytes p ++ (parts_bytes ps ++ after))) (at + skip) p
     → ((front : List ℕ) → length front ≡ at + (skip + size p) → PartsLie (front ++ (parts_bytes ps ++ after)) at (skip + size p) ps next)
@@ -108,7 +108,7 @@ row_written row before after formed fit small alone =
           (parts_written row.parts (before ++ row.cid ∷ []) after (length before) 1 (length before + length (spelling row)) one_more ends formed fit alone);
     }
 
--- ---- more bytes behind
+-- ---- more bytes after
 
 -- parts that lie there end within the bytes, and not before their place
 pub parts_before : (ps : List Part) (bytes : List ℕ) (at skip next : ℕ) → PartsLie bytes at skip ps next → (next ≤ length bytes) × (at + skip ≤ next)

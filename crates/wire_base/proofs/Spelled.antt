@@ -1,4 +1,4 @@
--- What is spelled at a place is valid and ends behind it: its fields were read from bytes.
+-- What is spelled at a place is valid and ends after it: its fields were read from bytes.
 use Rattle.std.proofs.Common.{◌≡◌, ℕ, zero, suc, ◌+◌, ◌*◌, ◌/◌, ◌^◌, ◌<◌, List, [], ◌∷◌, get_or, Result, Ok, Err, subst, arith}
 use Rattle.std.specs.Result.{IfOk}
 use Rattle.std.proofs.lemmas.Nat.{pow_pos, pow-add, mod_below, mul-add-lt}

@@ -3,11 +3,11 @@
 use Rattle.std.specs.Prelude.{ℕ, ◌+◌, Bool, nat_le, if◌then◌else◌, List, length, Option, Some, None}
 use Rattle.wire_base.specs.Numbers.{number_at, bits_of, has_bit}
 
--- a command and the place behind it, or none
+-- a command and the place after it, or none
 abbrev pub Found : Type 0 → Type 0
 Found C = Option (C × ℕ)
 
--- the command and the place behind it, where so many bytes are there; else none
+-- the command and the place after it, where so many bytes are there; else none
 abbrev pub within : {C : Type 0} → List ℕ → (at len : ℕ) → C → Found C
 within bytes at len c = if nat_le (at + len) (length bytes) then Some (c, at + len) else None
 

@@ -134,7 +134,7 @@ takes_rest (packed width fields ∷ ps) = takes_rest ps
 takes_rest (block bytes ∷ ps) = takes_rest ps
 takes_rest (rest bytes ∷ ps) = true
 
--- the fields of each number are apart within it, and nothing stands behind the part that takes the rest
+-- the fields of each number are apart within it, and nothing stands after the part that takes the rest
 abbrev pub is_well_formed : List Part → Bool
 is_well_formed [] = true
 is_well_formed (number width value ∷ ps) = is_well_formed ps

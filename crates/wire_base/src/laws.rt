@@ -20,7 +20,7 @@ pub fn row_written_lies()
         (length before) (length before + length (spelling row)) }
 {}
 
-/// A command that doesn't take the rest lies there still when more bytes are put behind.
+/// A command that doesn't take the rest lies there still when more bytes are put after.
 pub fn row_lies_before_more()
     ensures { (row : Row) (bytes more : List ℕ) (at next : ℕ) → takes_rest row.parts ≡ false
         → Lies row bytes at next → Lies row (bytes ++ more) at next }

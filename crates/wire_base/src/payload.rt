@@ -5,12 +5,14 @@ ghost use Rattle.wire_base.specs.Payload.{max_payload, Appends};
 
 use arrayvec::ArrayVec;
 use std::marker::Model;
+use thiserror::Error;
 
 /// The most bytes that a payload of an application package has (this project's profile).
 pub const MAX_PAYLOAD: usize = 242;
 
 /// The payload has too few free bytes.
-#[derive(Clone, Copy, Debug, PartialEq, Eq)]
+#[derive(Clone, Copy, Debug, PartialEq, Eq, Error)]
+#[error("the payload has too few free bytes")]
 pub struct Full;
 
 /// The bytes of one frame, at most `MAX_PAYLOAD`. They lie in the value itself. Contracts see their list.
@@ -48,6 +50,7 @@ impl Payload {
         ensures { result ≡ bytes.now }
     {
         let mut payload = Payload::new();
+        // (an empty payload has room, as is asked for)
         let _fits = payload.append(bytes);
         payload
     }
@@ -89,7 +92,7 @@ impl Payload {
         Payload::from_slice(self.as_slice())
     }
 
-    /// Puts the bytes behind those that are there; where they don't fit in what is left of the 242 nothing changes.
+    /// Puts the bytes after those that are there; where they don't fit in what is left of the 242 nothing changes.
     pub fn append(&mut self, bytes: &[u8]) -> Result<(), Full>
         ensures { Appends self.old self.new bytes.now result }
     {

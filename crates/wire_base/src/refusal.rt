@@ -4,6 +4,7 @@ ghost use Rattle.std.specs.Prelude.{◌≡◌, ◌≤◌, length};
 ghost use Rattle.wire_base.specs.Payload.{max_payload};
 
 use crate::payload::MAX_PAYLOAD;
+use thiserror::Error;
 
 /// Which way a payload goes.
 #[derive(Clone, Copy, Debug, PartialEq, Eq)]
@@ -15,20 +16,25 @@ pub enum Direction {
 }
 
 /// Why a payload isn't read.
-#[derive(Clone, Copy, Debug, PartialEq, Eq)]
+#[derive(Clone, Copy, Debug, PartialEq, Eq, Error)]
 pub enum Why {
     /// The port carries no package that the reader knows.
+    #[error("the port carries no known package")]
     Port,
     /// The command's identifier isn't in the table for that port and direction.
+    #[error("no command has this identifier")]
     UnknownCommand,
     /// The payload ends within the command.
+    #[error("the payload ends within a command")]
     Short,
     /// The payload has more bytes than `MAX_PAYLOAD`.
+    #[error("the payload has more than 242 bytes")]
     TooLong,
 }
 
 /// A payload is refused at a place, counted in bytes from 0.
-#[derive(Clone, Copy, Debug, PartialEq, Eq)]
+#[derive(Clone, Copy, Debug, PartialEq, Eq, Error)]
+#[error("byte {at}: {why}")]
 pub struct Refusal {
     /// 0 at `Port`, 242 at `TooLong`, the identifier's place at `UnknownCommand`, and the payload's length at `Short`.
     pub at: u16,

@@ -1,6 +1,6 @@
 use Rattle.std.proofs.Common.{rules}
 use Rattle.script_lines.proofs.CutWords.{front_is}
-use Rattle.script_lines.proofs.often.leading_decimal.Goals as goal
+use Rattle.script_lines.proofs.fast_forms.leading_decimal.Goals as goal
 
 pub returns-clause-decimal : goal.returns-clause-decimal
 returns-clause-decimal c =

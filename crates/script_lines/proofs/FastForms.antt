@@ -10,7 +10,7 @@ use Rattle.script_lines.specs.HeldWords.{DecimalFirst, WordLast, random_of, IsFo
 use Rattle.script_lines.proofs.CutWords.{last_word, whole_decimal}
 use Rattle.script_lines.proofs.HeldWords.{two_words}
 
--- ---- the words behind a keyword
+-- ---- the words after a keyword
 
 behind_down : (rest : List ℕ) → words_of (codes "down " ++ rest) ≡ codes "down" ∷ words_of rest
 unfolding words_of

@@ -18,7 +18,7 @@ struct Leading {
     end: usize,
 }
 
-/// A decimal with a space behind it at the front of bytes, and what stands behind that.
+/// A decimal with a space after it at the front of bytes, and what stands after that.
 #[derive(Clone, Copy)]
 struct Spaced<'a> {
     number: u64,
@@ -214,9 +214,9 @@ pub fn time_at(line: &[u8]) -> Option<u64>
     }
 }
 
-/// The numbers behind the keyword of a line `down S D [WORD]` or `air S D [WORD]`.
+/// The numbers after the keyword of a line `down S D [WORD]` or `air S D [WORD]`.
 #[inline(always)]
-#[tactic(auto, using(crate::proofs::OftenForms::down_line, crate::proofs::OftenForms::air_line))]
+#[tactic(auto, using(crate::proofs::FastForms::down_line, crate::proofs::FastForms::air_line))]
 fn numbers_behind(rest: &[u8]) -> Option<DownNumbers>
     ensures down { IfSome result
         (λ n. form_of (codes "down " ++ rest.now) ≡ Some (Down n.number n.device n.random)) }
@@ -232,8 +232,8 @@ fn numbers_behind(rest: &[u8]) -> Option<DownNumbers>
     })
 }
 
-/// The parts behind the keyword of a line `raw D PORT HEX [WORD]`.
-#[tactic(auto, using(crate::proofs::OftenForms::raw_line))]
+/// The parts after the keyword of a line `raw D PORT HEX [WORD]`.
+#[tactic(auto, using(crate::proofs::FastForms::raw_line))]
 fn raw_behind(rest: &[u8]) -> Option<RawParts<'_>>
     ensures { IfSome result
         (λ r. form_of (codes "raw " ++ rest.now) ≡ Some (Raw r.device r.port r.payload r.random)) }
@@ -249,8 +249,8 @@ fn raw_behind(rest: &[u8]) -> Option<RawParts<'_>>
     })
 }
 
-/// The parts behind the keyword of a line `rawair D HEX [WORD]`.
-#[tactic(auto, using(crate::proofs::OftenForms::raw_air_line))]
+/// The parts after the keyword of a line `rawair D HEX [WORD]`.
+#[tactic(auto, using(crate::proofs::FastForms::raw_air_line))]
 fn raw_air_behind(rest: &[u8]) -> Option<RawAirParts<'_>>
     ensures { IfSome result
         (λ r. form_of (codes "rawair " ++ rest.now) ≡ Some (RawAir r.device r.bytes r.random)) }
@@ -310,7 +310,7 @@ fn decimal_tail(bytes: &[u8]) -> Option<DecimalTail>
     })
 }
 
-/// A decimal with a space behind it at the front of bytes.
+/// A decimal with a space after it at the front of bytes.
 #[inline(always)]
 fn spaced_decimal(bytes: &[u8]) -> Option<Spaced<'_>>
     ensures { IfSome result (λ s. DecimalFirst bytes.now s.number s.rest.now) }
@@ -325,9 +325,9 @@ fn spaced_decimal(bytes: &[u8]) -> Option<Spaced<'_>>
     })
 }
 
-/// Whether nothing stands behind a keyword.
+/// Whether nothing stands after a keyword.
 #[inline(always)]
-#[tactic(auto, using(crate::proofs::OftenForms::frag_line, crate::proofs::OftenForms::status_line))]
+#[tactic(auto, using(crate::proofs::FastForms::frag_line, crate::proofs::FastForms::status_line))]
 fn is_no_more(rest: &[u8]) -> bool
     ensures frag { IsTrue result → form_of (codes "frag" ++ rest.now) ≡ Some Frag }
     ensures status { IsTrue result → form_of (codes "status" ++ rest.now) ≡ Some Status }
@@ -335,9 +335,9 @@ fn is_no_more(rest: &[u8]) -> bool
     rest.is_empty()
 }
 
-/// The decimal that stands behind a keyword, the last word of its line. Callers take it by `?`, since a proof knows what it
+/// The decimal that stands after a keyword, the last word of its line. Callers take it by `?`, since a proof knows what it
 /// makes of the line only where the number is at hand.
-#[tactic(auto, using(crate::proofs::OftenForms::decimal_last))]
+#[tactic(auto, using(crate::proofs::FastForms::decimal_last))]
 fn lone_decimal(rest: &[u8]) -> Option<u64>
     ensures { IfSome result (λ n. DecimalLast rest.now n) }
 {
@@ -348,7 +348,7 @@ fn lone_decimal(rest: &[u8]) -> Option<u64>
     Some(found.number)
 }
 
-/// The decimal that the first digits of bytes are, whatever stands behind them.
+/// The decimal that the first digits of bytes are, whatever stands after them.
 fn leading_decimal(bytes: &[u8]) -> Option<Leading>
     ensures within { IfSome result (λ f. f.end ≤ length bytes.now) }
     ensures decimal { IfSome result (λ f. decimal_of (take f.end bytes.now) ≡ Some f.number) }

@@ -2,7 +2,7 @@ use Rattle.std.proofs.Common.{◌≡◌, ◌≤◌, ◌-◌, ◌^◌, min, take,
 use Rattle.std.specs.List.{list_all}
 use Rattle.std.specs.Char.{is_ascii_digit}
 use Rattle.script_lines.specs.Numbers.{decimal_number}
-use Rattle.script_lines.proofs.often.leading_decimal.Given as goal
+use Rattle.script_lines.proofs.fast_forms.leading_decimal.Given as goal
 
 -- digits so far, and their number
 abbrev pub invariant-loop-end : goal.invariant-loop-end
