@@ -1,10 +1,11 @@
 -- A record and then its gate, each written and synced.
 use Rattle.std.proofs.Common.{◌⊎◌, inl, inr, ◌≡◌, ℕ, ◌+◌, ◌<◌, List, [], ◌∷◌, length, ap, ◌∙◌, subst, arith}
 use Rattle.frag_model.specs.Fragments.{Fragment}
-use Rattle.flash_session.specs.Contents.{byte_at, SameOutside, Same, Put, Follows, IsKept}
+use Rattle.flash_session.specs.Contents.{byte_at, SameOutside, Same, Put, Follows}
 use Rattle.flash_session.specs.Layout.{open_gate, gates_at, tallies_at, most_tallies, spelled}
-use Rattle.flash_session.specs.Lies.{Stored, SpelledAt, record_at, Lies, Fits, with_record, with_tally, IsBeforeOrAfter, IsStored}
+use Rattle.flash_session.specs.Lies.{Stored, SpelledAt, record_at, Lies, Fits, with_record, with_tally, IsStored}
 use Rattle.flash_session.proofs.Places.{lies_within, lies_behind, gate_torn, tally_torn}
+use Rattle.flash_session.specs.Seen.{FlashSeen, left, IsKept}
 
 -- the same everywhere, and then outside of some places
 pub outside_same : (at n : ℕ) (b d c : List ℕ) → Same b d → SameOutside at n d c → SameOutside at n b c
@@ -14,24 +15,24 @@ outside_same at n b d c same out = record {
 }
 
 module _ (base span : ℕ) (s : Stored) (f : Fragment) (piece : List ℕ) (is : piece ≡ spelled f) (room : length s.records < s.most) (sized : length f.part ≡ s.size)
-    (holds0 left0 : List ℕ → Type 0) (stored : IsStored base span s holds0 left0) where
+    (seen0 : FlashSeen) (stored : IsStored base span s seen0) where
   at : ℕ
   at = record_at base s.size (length s.records)
 
   -- what a stop leaves before the call
-  pub lies_before : (c : List ℕ) → left0 c → Lies base s c
+  pub lies_before : (c : List ℕ) → left seen0 c → Lies base s c
   lies_before c left =
       let from = stored.kept.from c left in
       lies_within base span s stored.fits from.0 c from.2 (stored.read from.0 from.1)
 
   -- and while the record is written
-  pub lies_during : (place : ℕ) → place ≡ record_at base s.size (length s.records) → (d c : List ℕ) → left0 d → SameOutside place (length piece) d c → Lies base s c
+  pub lies_during : (place : ℕ) → place ≡ record_at base s.size (length s.records) → (d c : List ℕ) → left seen0 d → SameOutside place (length piece) d c → Lies base s c
   lies_during place here d c left out =
       lies_behind base span s stored.fits d c (length piece) (subst (λ (j : ℕ). SameOutside j (length piece) d c) here out) (lies_before d left)
 
-  module _ (holds1 : List ℕ → Type 0) (place : ℕ) (here : place ≡ record_at base s.size (length s.records)) (written : Follows (Put place piece) holds0 holds1) where
-    -- a read gives the session and, behind it, the record
-    pub record_read : (b : List ℕ) → holds1 b → Lies base s b × SpelledAt b (record_at base s.size (length s.records)) (spelled f)
+  module _ (seen1 : FlashSeen) (place : ℕ) (here : place ≡ record_at base s.size (length s.records)) (written : Follows (Put place piece) seen0.holds seen1.holds) where
+    -- a read gives the session and, after it, the record
+    pub record_read : (b : List ℕ) → seen1.holds b → Lies base s b × SpelledAt b (record_at base s.size (length s.records)) (spelled f)
     record_read b holds =
         let from = written.from b holds in
         let put : Put (record_at base s.size (length s.records)) piece from.0 b = subst (λ (j : ℕ). Put j piece from.0 b) here from.2 in (
@@ -40,16 +41,16 @@ module _ (base span : ℕ) (s : Stored) (f : Fragment) (piece : List ℕ) (is : 
         )
 
     -- while the gate is written
-    pub gate_during : (left1 : List ℕ → Type 0) → IsKept holds1 left1 → (gate : ℕ) → gate ≡ gates_at base + length s.records
-        → (d c : List ℕ) → left1 d → SameOutside gate 1 d c → IsBeforeOrAfter base s f c
-    gate_during left1 kept gate there d c left out =
+    pub gate_during : IsKept seen1 → (gate : ℕ) → gate ≡ gates_at base + length s.records
+        → (d c : List ℕ) → left seen1 d → SameOutside gate 1 d c → Lies base s c ⊎ Lies base (with_record s f) c
+    gate_during kept gate there d c left out =
         let from = kept.from d left in
         let lies = record_read from.0 from.1 in
         gate_torn base span s stored.fits f from.0 c room sized lies.0 lies.1
         (subst (λ (j : ℕ). SameOutside j 1 from.0 c) there (outside_same gate 1 from.0 d c from.2 out))
 
     -- and when it is open
-    pub gate_read : (holds2 : List ℕ → Type 0) (gate : ℕ) → gate ≡ gates_at base + length s.records → Follows (Put gate (open_gate ∷ [])) holds1 holds2
+    pub gate_read : (holds2 : List ℕ → Type 0) (gate : ℕ) → gate ≡ gates_at base + length s.records → Follows (Put gate (open_gate ∷ [])) seen1.holds holds2
         → (c : List ℕ) → holds2 c → Lies base (with_record s f) c
     gate_read holds2 gate there opened c holds =
         let from = opened.from c holds in
@@ -63,10 +64,10 @@ module _ (base span : ℕ) (s : Stored) (f : Fragment) (piece : List ℕ) (is : 
         ]
 
 -- the session with the record is stored
-pub stored_after : (base span : ℕ) (s : Stored) (f : Fragment) (holds left : List ℕ → Type 0) → Fits span s → ((c : List ℕ) → holds c → Lies base (with_record s f) c) → IsKept holds left
-    → IsStored base span (with_record s f) holds left
+pub stored_after : (base span : ℕ) (s : Stored) (f : Fragment) (seen : FlashSeen) → Fits span s → ((c : List ℕ) → seen.holds c → Lies base (with_record s f) c) → IsKept seen
+    → IsStored base span (with_record s f) seen
 unfolding with_record
-stored_after base span s f holds left fits read kept = record {
+stored_after base span s f seen fits read kept = record {
   fits = record { body = fits.body; most = fits.most; room = fits.room };
   read = read;
   kept = record { from = λ c left_now. let from = kept.from c left_now in (from.0, from.1, record { within = λ i lt. from.2.all (base + i) }) };
@@ -74,20 +75,20 @@ stored_after base span s f holds left fits read kept = record {
 
 -- ---- a tally
 
-module _ (base span : ℕ) (s : Stored) (room : s.tallies < most_tallies) (holds0 left0 : List ℕ → Type 0) (stored : IsStored base span s holds0 left0) where
-  tally_before : (c : List ℕ) → left0 c → Lies base s c
+module _ (base span : ℕ) (s : Stored) (room : s.tallies < most_tallies) (seen0 : FlashSeen) (stored : IsStored base span s seen0) where
+  tally_before : (c : List ℕ) → left seen0 c → Lies base s c
   tally_before c left =
       let from = stored.kept.from c left in
       lies_within base span s stored.fits from.0 c from.2 (stored.read from.0 from.1)
 
-  pub tally_left : (c : List ℕ) → left0 c → Lies base s c ⊎ Lies base (with_tally s) c
+  pub tally_left : (c : List ℕ) → left seen0 c → Lies base s c ⊎ Lies base (with_tally s) c
   tally_left c left = inl (tally_before c left)
 
-  pub tally_during : (gate : ℕ) → gate ≡ tallies_at base + s.tallies → (d c : List ℕ) → left0 d → SameOutside gate 1 d c → Lies base s c ⊎ Lies base (with_tally s) c
+  pub tally_during : (gate : ℕ) → gate ≡ tallies_at base + s.tallies → (d c : List ℕ) → left seen0 d → SameOutside gate 1 d c → Lies base s c ⊎ Lies base (with_tally s) c
   tally_during gate there d c left out =
       tally_torn base span s stored.fits d c room (tally_before d left) (subst (λ (j : ℕ). SameOutside j 1 d c) there out)
 
-  pub tally_read : (holds : List ℕ → Type 0) (gate : ℕ) → gate ≡ tallies_at base + s.tallies → Follows (Put gate (open_gate ∷ [])) holds0 holds → (c : List ℕ) → holds c → Lies base (with_tally s) c
+  pub tally_read : (holds : List ℕ → Type 0) (gate : ℕ) → gate ≡ tallies_at base + s.tallies → Follows (Put gate (open_gate ∷ [])) seen0.holds holds → (c : List ℕ) → holds c → Lies base (with_tally s) c
   tally_read holds gate there opened c now =
       let from = opened.from c now in
       let put : Put (tallies_at base + s.tallies) (open_gate ∷ []) from.0 c = subst (λ (j : ℕ). Put j (open_gate ∷ []) from.0 c) there from.2 in
@@ -98,10 +99,10 @@ module _ (base span : ℕ) (s : Stored) (room : s.tallies < most_tallies) (holds
         | inr after ↦ after
       ]
 
-pub tallied_after : (base span : ℕ) (s : Stored) (holds left : List ℕ → Type 0) → Fits span s → ((c : List ℕ) → holds c → Lies base (with_tally s) c) → IsKept holds left
-    → IsStored base span (with_tally s) holds left
+pub tallied_after : (base span : ℕ) (s : Stored) (seen : FlashSeen) → Fits span s → ((c : List ℕ) → seen.holds c → Lies base (with_tally s) c) → IsKept seen
+    → IsStored base span (with_tally s) seen
 unfolding with_tally
-tallied_after base span s holds left fits read kept = record {
+tallied_after base span s seen fits read kept = record {
   fits = record { body = fits.body; most = fits.most; room = fits.room };
   read = read;
   kept = record { from = λ c left_now. let from = kept.from c left_now in (from.0, from.1, record { within = λ i lt. from.2.all (base + i) }) };

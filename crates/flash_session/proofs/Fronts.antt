@@ -20,7 +20,7 @@ gates_same at n most d b same gates = record {
   shut = λ k le lt is. gates.shut k le lt (sym (same.all (at + k)) ∙ is);
 }
 
--- those before are open, and those behind are not
+-- those before are open, and those after are not
 pub front_of : (holds : List ℕ → Type 0) (at n most : ℕ) → AreOpen holds at 0 n → AreShut holds at n most → n ≤ most → (b : List ℕ) → holds b → GatesOpen b at n most
 front_of holds at n most opened shut few b now = record {
   few = few;

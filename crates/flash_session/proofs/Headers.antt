@@ -2,21 +2,22 @@
 use Rattle.std.proofs.Common.{◌≡◌, ◌⊎◌, ℕ, ◌+◌, ◌-◌, ◌<◌, ◌≤◌, List, [], ◌∷◌, length, replicate, None, Some, sym, ap, ◌∙◌, subst, inl, inr, arith}
 use Rattle.std.proofs.lemmas.Bool.{cases_eq}
 use Rattle.std.proofs.lemmas.List.{get_or-replicate, length-replicate}
-use Rattle.flash_session.specs.Contents.{byte_at, SameOutside, SameWithin, Put, Follows, IsKept}
+use Rattle.flash_session.specs.Contents.{byte_at, SameOutside, SameWithin, Put, Follows}
 use Rattle.flash_session.specs.Layout.{open_gate, body_at, gates_at, tallies_at}
 use Rattle.flash_session.specs.Lies.{Stored, Lies, Fits, NoSession, IsStoredAs, IsCleared, new_stored}
 use Rattle.flash_session.proofs.Places.{lies_kept, lies_within, spelled_kept}
+use Rattle.flash_session.specs.Seen.{FlashSeen, left, IsKept}
 
 -- a stop that leaves what a read gives leaves it in the range
-pub kept_within : (base span : ℕ) (holds left : List ℕ → Type 0) → IsKept holds left → Follows (SameWithin base span) holds left
-kept_within base span holds left kept = record { from = λ c now. let from = kept.from c now in (from.0, from.1, record { within = λ i lt. from.2.all (base + i) }) }
+pub kept_within : (base span : ℕ) (seen : FlashSeen) → IsKept seen → Follows (SameWithin base span) seen.holds (left seen)
+kept_within base span seen kept = record { from = λ c now. let from = kept.from c now in (from.0, from.1, record { within = λ i lt. from.2.all (base + i) }) }
 
 -- without a session
-pub none_stored : (base span : ℕ) (holds left : List ℕ → Type 0) → ((b : List ℕ) → holds b → NoSession base b) → IsKept holds left → IsStoredAs base span None holds left
-none_stored base span holds left read kept = record { fits = tt; read = read; kept = kept_within base span holds left kept }
+pub none_stored : (base span : ℕ) (seen : FlashSeen) → ((b : List ℕ) → seen.holds b → NoSession base b) → IsKept seen → IsStoredAs base span None seen
+none_stored base span seen read kept = record { fits = tt; read = read; kept = kept_within base span seen kept }
 
-pub none_left : (base span : ℕ) (holds left : List ℕ → Type 0) → 0 < span → IsStoredAs base span None holds left → (c : List ℕ) → left c → NoSession base c
-none_left base span holds left some stored c now is =
+pub none_left : (base span : ℕ) (seen : FlashSeen) → 0 < span → IsStoredAs base span None seen → (c : List ℕ) → left seen c → NoSession base c
+none_left base span seen some stored c now is =
     let from = stored.kept.from c now in
     let same : byte_at c base ≡ byte_at from.0 base = subst (λ (j : ℕ). byte_at c j ≡ byte_at from.0 j) (omega arith) (from.2.within 0 some) in
     stored.read from.0 from.1 (sym same ∙ is)
@@ -26,14 +27,14 @@ none_behind base at n behind d c same none is = none (sym (same.below base behin
 
 -- ---- closing
 
-pub lives_left : (base span : ℕ) (s : Stored) (holds left : List ℕ → Type 0) → IsStoredAs base span (Some s) holds left → (c : List ℕ) → left c → Lies base s c
-lives_left base span s holds left stored c now =
+pub lives_left : (base span : ℕ) (s : Stored) (seen : FlashSeen) → IsStoredAs base span (Some s) seen → (c : List ℕ) → left seen c → Lies base s c
+lives_left base span s seen stored c now =
     let from = stored.kept.from c now in
     lies_within base span s stored.fits from.0 c from.2 (stored.read from.0 from.1)
 
-pub closing : (base span : ℕ) (s : Stored) (holds left : List ℕ → Type 0) → IsStoredAs base span (Some s) holds left → (d c : List ℕ) → left d → SameOutside base 1 d c → Lies base s c ⊎ NoSession base c
-closing base span s holds left stored d c now same =
-    let before : Lies base s d = lives_left base span s holds left stored d now in
+pub closing : (base span : ℕ) (s : Stored) (seen : FlashSeen) → IsStoredAs base span (Some s) seen → (d c : List ℕ) → left seen d → SameOutside base 1 d c → Lies base s c ⊎ NoSession base c
+closing base span s seen stored d c now same =
+    let before : Lies base s d = lives_left base span s seen stored d now in
     elim (cases_eq (byte_at c base) open_gate) [
       | inr shut ↦ inr shut
       | inl opened ↦ inl (lies_kept base span s stored.fits d c (λ i le lt. elim (cases_eq i base) [
@@ -90,10 +91,10 @@ cleared_kept base span body sized long b c same cleared = record {
   gates = λ k lt. same (gates_at base + k) (omega arith) (omega (arith, lt, long)) ∙ cleared.gates k lt;
 }
 
-pub opening : (base span : ℕ) (body : List ℕ) (most size : ℕ) → Fits span (new_stored body most size) → 24640 ≤ span → (holds left : List ℕ → Type 0)
-    → ((b : List ℕ) → holds b → IsCleared base body b) → IsStoredAs base span None holds left → (d c : List ℕ) → left d → SameOutside base 1 d c
+pub opening : (base span : ℕ) (body : List ℕ) (most size : ℕ) → Fits span (new_stored body most size) → 24640 ≤ span → (seen : FlashSeen)
+    → ((b : List ℕ) → seen.holds b → IsCleared base body b) → IsStoredAs base span None seen → (d c : List ℕ) → left seen d → SameOutside base 1 d c
     → NoSession base c ⊎ Lies base (new_stored body most size) c
-opening base span body most size fits long holds left cleared stored d c now same =
+opening base span body most size fits long seen cleared stored d c now same =
     let from = stored.kept.from d now in
     elim (cases_eq (byte_at c base) open_gate) [
       | inr shut ↦ inl shut

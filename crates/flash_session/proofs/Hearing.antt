@@ -6,7 +6,7 @@ use Rattle.frag_model.specs.Fragments.{Fragment}
 use Rattle.frag_model.specs.Laws.{AreNumbered}
 use Rattle.flash_session.specs.Moments.{LeavesOnly}
 use Rattle.flash_session.specs.InRange.{AllInRange}
-use Rattle.flash_session.specs.Lies.{Stored, Lies, IsStored, with_record, with_tally, IsBeforeOrAfter}
+use Rattle.flash_session.specs.Lies.{Stored, Lies, IsStored, with_record, with_tally}
 use Rattle.flash_session.proofs.Moments.{stays, weaker}
 use Rattle.frag_model.specs.News.{is_new, news}
 use Rattle.frag_model.proofs.News.{means_more, same_news, few}
@@ -24,6 +24,9 @@ use Rattle.frag_session.proofs.Calls.{can_hear}
 use Rattle.flash_session.specs.Body.{IsBody}
 use Rattle.flash_session.specs.HeldSession.{HeldSession}
 use Rattle.flash_session.specs.Sessions.{stored_of, IsCount, IsOpenable, LiesFor, LiesForAs, hearing, StandsBut, HeldStands, HeldStandsAs, CountsAs, IsHeldAs}
+use Rattle.flash_session.specs.HeldCalls.{OldOrNew}
+use Rattle.flash_session.specs.Ranges.{WasOrIs, Growing, Tallied}
+use Rattle.flash_session.specs.Seen.{FlashSeen}
 use Rattle.flash_session.proofs.Openable.{openable_room, openable_same, numbered_in, cause_unicast, lies_for}
 
 -- a slot gives one answer
@@ -77,7 +80,7 @@ module _ (way : Via) (n : ℕ) (part : List ℕ) (mark : ℕ) where
   unfolding after_fragment drop_cause
   after_heard s e = ap (λ (o : Option Cause). if is_none o then Some (followed s n part mark) else Some s) e
 
-  -- the slot, behind it
+  -- the slot, after it
   stands_more : (x new : HeldSlot) (s : Session) → cause_of s.setup way n part ≡ None → StandsBut x s → ((o : Option Session) → Stands x o → Stands new (after_fragment o way n part mark)) → StandsBut new (followed s n part mark)
   unfolding hearing followed shape_of
   stands_more x new s e k stands = record {
@@ -86,7 +89,7 @@ module _ (way : Via) (n : ℕ) (part : List ℕ) (mark : ℕ) where
     means = means_more (shape_of s) (fragment n part mark) k.fed s.heard k.means;
   }
 
-  -- the records, behind it
+  -- the records, after it
   news_new : (s : Session) → is_new (shape_of s) (fragment n part mark) s.heard ≡ true → news (shape_of s) (fragment n part mark ∷ s.heard) ≡ fragment n part mark ∷ news (shape_of s) s.heard
   unfolding news
   news_new s e = ap (λ (b : Bool). if b then fragment n part mark ∷ news (shape_of s) s.heard else news (shape_of s) s.heard) e
@@ -215,7 +218,7 @@ module _ (way : Via) (n : ℕ) (part : List ℕ) (mark : ℕ) where
         room = subst (λ (z : ℕ). 24640 + (10 + z) * (h.records + 1) ≤ h.span) (sym can.2) (omega (arith, product, parts.room));
       }
 
-  -- ---- what is held in memory, behind it
+  -- ---- what is held in memory, after it
 
   module _ (h : HeldSession) (slot : HeldSlot) (area : extent_of slot ≡ extent_of h.slot) (stands : (o : Option Session) → Stands h.slot o → Stands slot (after_fragment o way n part mark)) where
     pub stands_new : n < 2 ^ 16 → mark < 2 ^ 64 → (o : Option Session) → HeldStandsAs h o → Answers h.slot (answer.Fed told.New)
@@ -238,12 +241,12 @@ module _ (way : Via) (n : ℕ) (part : List ℕ) (mark : ℕ) where
         → HeldStands (record h { slot = slot; tallies = u }) (followed s n part mark)
     old_stands u s held k most =
         let can = can_hear s.setup way n part k.cause in
-        let old = is_old_told (is_new (shape_of s) (fragment n part mark) s.heard) k.answered in
+        let known = is_old_told (is_new (shape_of s) (fragment n part mark) s.heard) k.answered in
         record {
           slot = stands_more h.slot slot s k.cause held.slot stands;
           openable = openable_same h (record h { slot = slot; tallies = u }) (followed s n part mark) refl area refl refl refl
-              (openable_more h s k.cause (ranged_old s old held.openable.ranged) held.openable);
-          records = omega (arith, held.records, ap length (news_more s ∙ news_old s old));
+              (openable_more h s k.cause (ranged_old s known held.openable.ranged) held.openable);
+          records = omega (arith, held.records, ap length (news_more s ∙ news_old s known));
           few = most;
         }
 
@@ -278,10 +281,10 @@ module _ (way : Via) (n : ℕ) (part : List ℕ) (mark : ℕ) where
   counts_old h slot u None held counts answers now = absurd (none_fed told.Old (news_in None n part mark) (answers None held))
   counts_old h slot u (Some s) held counts answers now =
       let k = hears s told.Old (slot_answer h (Some s) (answer.Fed told.Old) held answers) in
-      let old = is_old_told (is_new (shape_of s) (fragment n part mark) s.heard) k.answered in
+      let known = is_old_told (is_new (shape_of s) (fragment n part mark) s.heard) k.answered in
       let now' : (u ≡ h.tallies + 1) ⊎ ((u ≡ h.tallies) × (16383 ≤ length (news (shape_of s) s.heard) + h.tallies)) =
       elim now [ inl one ↦ inl one | inr full ↦ inr (full.0, omega (arith, full.1, held.records)) ] in
-      subst (CountsAs (record h { slot = slot; tallies = u })) (sym (after_heard s k.cause)) (count_old s h.tallies u old counts now')
+      subst (CountsAs (record h { slot = slot; tallies = u })) (sym (after_heard s k.cause)) (count_old s h.tallies u known counts now')
 
   pub counts_dropped : (h : HeldSession) (slot : HeldSlot) (o : Option Session) (c : Cause) → HeldStandsAs h o → CountsAs h o → Answers h.slot (answer.Dropped c)
       → CountsAs (record h { slot = slot }) (after_fragment o way n part mark)
@@ -331,52 +334,51 @@ module _ (way : Via) (n : ℕ) (part : List ℕ) (mark : ℕ) where
         room = omega (arith, room_new s can.0 (numbered_in s held.openable) new, held.records, most_of s b h.tallies);
       }
 
-  abbrev pub Before : HeldSession → Option Session → List ℕ → Type 0
-  Before h o c = LiesForAs h o c ⊎ LiesForAs h (after_fragment o way n part mark) c
+  abbrev pub After : Option Session → Option Session
+  After o = after_fragment o way n part mark
 
-  pub new_moments : n < 2 ^ 16 → mark < 2 ^ 64 → (h : HeldSession) (o : Option Session) (holds left : List ℕ → Type 0) → IsHeldAs h o holds left → Answers h.slot (answer.Fed told.New)
-      → (m p : ℕ) (past since : ℕ → List ℕ → Type 0)
-      → ((s : Stored) → s.size ≡ length part → length s.records ≡ h.records → h.records < s.most → IsStored h.base h.span s holds left → LeavesOnly (IsBeforeOrAfter h.base s (fragment n part mark)) m p past since)
-      → LeavesOnly (Before h o) m p past since
-  new_moments fits_n fits_mark h None holds left held answers m p past since leaves = absurd (none_fed told.New (news_in None n part mark) (answers None held.stands))
-  new_moments fits_n fits_mark h (Some s) holds left held answers m p past since leaves =
+  pub new_moments : n < 2 ^ 16 → mark < 2 ^ 64 → (h : HeldSession) (o : Option Session) {old new : FlashSeen} → IsHeldAs h o old → Answers h.slot (answer.Fed told.New)
+      → ((x : Growing (length part) h.records) → IsStored h.base h.span x.session old → LeavesOnly (WasOrIs h.base (Some x.session) (Some (with_record x.session (fragment n part mark)))) old new)
+      → LeavesOnly (OldOrNew h o (After o)) old new
+  new_moments fits_n fits_mark h None {old} {new} held answers leaves = absurd (none_fed told.New (news_in None n part mark) (answers None held.stands))
+  new_moments fits_n fits_mark h (Some s) {old} {new} held answers leaves =
       let stands = held.stands in
       let b = held.body in
       let k = hears s told.New (slot_answer h (Some s) (answer.Fed told.New) stands answers) in
       let can = can_hear s.setup way n part k.cause in
-      let new = is_new_told (is_new (shape_of s) (fragment n part mark) s.heard) k.answered in
+      let fresh = is_new_told (is_new (shape_of s) (fragment n part mark) s.heard) k.answered in
       let its = stores h s b stands k in
-      let after_open = openable_more h s k.cause (ranged_new s fits_n fits_mark new stands.openable.ranged) stands.openable in
+      let after_open = openable_more h s k.cause (ranged_new s fits_n fits_mark fresh stands.openable.ranged) stands.openable in
       let before : (c : List ℕ) → Lies h.base (stored_of s b h.tallies) c → LiesFor h s c = λ (c : List ℕ) (lies : Lies h.base (stored_of s b h.tallies) c).
       record { openable = stands.openable; body = b; tallies = h.tallies; its_body = held.its_body; counted = held.counted; lies = lies } in
       let after : (c : List ℕ) → Lies h.base (stored_of (followed s n part mark) b h.tallies) c → LiesFor h (followed s n part mark) c = λ (c : List ℕ) (lies : Lies h.base (stored_of (followed s n part mark) b h.tallies) c).
-      record { openable = after_open; body = b; tallies = h.tallies; its_body = body_more s b held.its_body; counted = count_new s h.tallies new held.counted; lies = lies } in
-      weaker (IsBeforeOrAfter h.base (stored_of s b h.tallies) (fragment n part mark)) (Before h (Some s)) m p past since
+      record { openable = after_open; body = b; tallies = h.tallies; its_body = body_more s b held.its_body; counted = count_new s h.tallies fresh held.counted; lies = lies } in
+      weaker (WasOrIs h.base (Some (stored_of s b h.tallies)) (Some (with_record (stored_of s b h.tallies) (fragment n part mark)))) (OldOrNew h (Some s) (After (Some s)))
       (λ c lies. elim lies [
         | inl was ↦ inl (before c was)
         | inr now ↦ inr (subst (λ (o : Option Session). LiesForAs h o c) (sym (after_heard s k.cause))
-            (after c (subst (λ (x : Stored). Lies h.base x c) (new_stored_of s b h.tallies new) now)))
+            (after c (subst (λ (x : Stored). Lies h.base x c) (new_stored_of s b h.tallies fresh) now)))
       ])
-      (leaves (stored_of s b h.tallies) its.size_is its.count its.room held.stored)
+      (leaves (record { session = stored_of s b h.tallies; size_is = its.size_is; count = its.count; room = its.room }) held.stored)
 
-  pub new_kept : n < 2 ^ 16 → mark < 2 ^ 64 → (h : HeldSession) (slot : HeldSlot) (o : Option Session) (holds left holds' left' : List ℕ → Type 0) → IsHeldAs h o holds left → Answers h.slot (answer.Fed told.New)
+  pub new_kept : n < 2 ^ 16 → mark < 2 ^ 64 → (h : HeldSession) (slot : HeldSlot) (o : Option Session) {old new : FlashSeen} → IsHeldAs h o old → Answers h.slot (answer.Fed told.New)
       → extent_of slot ≡ extent_of h.slot → ((o : Option Session) → Stands h.slot o → Stands slot (after_fragment o way n part mark))
-      → ((s : Stored) → s.size ≡ length part → length s.records ≡ h.records → h.records < s.most → IsStored h.base h.span s holds left → IsStored h.base h.span (with_record s (fragment n part mark)) holds' left')
-      → IsHeldAs (record h { slot = slot; records = h.records + 1 }) (after_fragment o way n part mark) holds' left'
-  new_kept fits_n fits_mark h slot None holds left holds' left' held answers area stands acked = absurd (none_fed told.New (news_in None n part mark) (answers None held.stands))
-  new_kept fits_n fits_mark h slot (Some s) holds left holds' left' held answers area stands acked =
+      → ((x : Growing (length part) h.records) → IsStored h.base h.span x.session old → IsStored h.base h.span (with_record x.session (fragment n part mark)) new)
+      → IsHeldAs (record h { slot = slot; records = h.records + 1 }) (after_fragment o way n part mark) new
+  new_kept fits_n fits_mark h slot None {old} {new} held answers area stands acked = absurd (none_fed told.New (news_in None n part mark) (answers None held.stands))
+  new_kept fits_n fits_mark h slot (Some s) {old} {new} held answers area stands acked =
       let b = held.body in
       let k = hears s told.New (slot_answer h (Some s) (answer.Fed told.New) held.stands answers) in
-      let new = is_new_told (is_new (shape_of s) (fragment n part mark) s.heard) k.answered in
+      let fresh = is_new_told (is_new (shape_of s) (fragment n part mark) s.heard) k.answered in
       let its = stores h s b held.stands k in
-      let after : IsStored h.base h.span (stored_of (followed s n part mark) b h.tallies) holds' left' =
-      subst (λ (x : Stored). IsStored h.base h.span x holds' left') (new_stored_of s b h.tallies new)
-      (acked (stored_of s b h.tallies) its.size_is its.count its.room held.stored) in
+      let after : IsStored h.base h.span (stored_of (followed s n part mark) b h.tallies) new =
+      subst (λ (x : Stored). IsStored h.base h.span x new) (new_stored_of s b h.tallies fresh)
+      (acked (record { session = stored_of s b h.tallies; size_is = its.size_is; count = its.count; room = its.room }) held.stored) in
       let is = after_heard s k.cause in
-      subst (λ (x : Option Session). IsHeldAs (record h { slot = slot; records = h.records + 1 }) x holds' left') (sym is)
+      subst (λ (x : Option Session). IsHeldAs (record h { slot = slot; records = h.records + 1 }) x new) (sym is)
       (record {
         stands = subst (HeldStandsAs (record h { slot = slot; records = h.records + 1 })) is (stands_new h slot area stands fits_n fits_mark (Some s) held.stands answers);
-        counted = count_new s h.tallies new held.counted;
+        counted = count_new s h.tallies fresh held.counted;
         body = b;
         its_body = body_more s b held.its_body;
         stored = after;
@@ -384,78 +386,77 @@ module _ (way : Via) (n : ℕ) (part : List ℕ) (mark : ℕ) where
 
   -- ---- and what `tally` says
 
-  pub old_moments : (h : HeldSession) (o : Option Session) (holds left : List ℕ → Type 0) → IsHeldAs h o holds left → Answers h.slot (answer.Fed told.Old)
-      → (m p : ℕ) (past since : ℕ → List ℕ → Type 0)
-      → ((s : Stored) → s.tallies ≡ h.tallies → IsStored h.base h.span s holds left → LeavesOnly (λ c. Lies h.base s c ⊎ Lies h.base (with_tally s) c) m p past since)
-      → LeavesOnly (Before h o) m p past since
-  old_moments h None holds left held answers m p past since leaves = absurd (none_fed told.Old (news_in None n part mark) (answers None held.stands))
-  old_moments h (Some s) holds left held answers m p past since leaves =
+  pub old_moments : (h : HeldSession) (o : Option Session) {old new : FlashSeen} → IsHeldAs h o old → Answers h.slot (answer.Fed told.Old)
+      → ((x : Tallied h.tallies) → IsStored h.base h.span x.session old → LeavesOnly (WasOrIs h.base (Some x.session) (Some (with_tally x.session))) old new)
+      → LeavesOnly (OldOrNew h o (After o)) old new
+  old_moments h None {old} {new} held answers leaves = absurd (none_fed told.Old (news_in None n part mark) (answers None held.stands))
+  old_moments h (Some s) {old} {new} held answers leaves =
       let stands = held.stands in
       let b = held.body in
       let k = hears s told.Old (slot_answer h (Some s) (answer.Fed told.Old) stands answers) in
       let can = can_hear s.setup way n part k.cause in
-      let old = is_old_told (is_new (shape_of s) (fragment n part mark) s.heard) k.answered in
-      let after_open = openable_more h s k.cause (ranged_old s old stands.openable.ranged) stands.openable in
+      let known = is_old_told (is_new (shape_of s) (fragment n part mark) s.heard) k.answered in
+      let after_open = openable_more h s k.cause (ranged_old s known stands.openable.ranged) stands.openable in
       let before : (c : List ℕ) → Lies h.base (stored_of s b h.tallies) c → LiesFor h s c = λ (c : List ℕ) (lies : Lies h.base (stored_of s b h.tallies) c).
       record { openable = stands.openable; body = b; tallies = h.tallies; its_body = held.its_body; counted = held.counted; lies = lies } in
       let after : (c : List ℕ) → Lies h.base (stored_of (followed s n part mark) b (h.tallies + 1)) c → LiesFor h (followed s n part mark) c = λ (c : List ℕ) (lies : Lies h.base (stored_of (followed s n part mark) b (h.tallies + 1)) c).
-      record { openable = after_open; body = b; tallies = h.tallies + 1; its_body = body_more s b held.its_body; counted = count_old s h.tallies (h.tallies + 1) old held.counted (inl refl); lies = lies } in
-      weaker (λ c. Lies h.base (stored_of s b h.tallies) c ⊎ Lies h.base (with_tally (stored_of s b h.tallies)) c) (Before h (Some s)) m p past since
+      record { openable = after_open; body = b; tallies = h.tallies + 1; its_body = body_more s b held.its_body; counted = count_old s h.tallies (h.tallies + 1) known held.counted (inl refl); lies = lies } in
+      weaker (WasOrIs h.base (Some (stored_of s b h.tallies)) (Some (with_tally (stored_of s b h.tallies)))) (OldOrNew h (Some s) (After (Some s)))
       (λ c lies. elim lies [
         | inl was ↦ inl (before c was)
         | inr now ↦ inr (subst (λ (o : Option Session). LiesForAs h o c) (sym (after_heard s k.cause))
-            (after c (subst (λ (x : Stored). Lies h.base x c) (tallied_stored_of s b h.tallies old) now)))
+            (after c (subst (λ (x : Stored). Lies h.base x c) (tallied_stored_of s b h.tallies known) now)))
       ])
-      (leaves (stored_of s b h.tallies) (tallies_of s b h.tallies) held.stored)
+      (leaves (record { session = stored_of s b h.tallies; count = tallies_of s b h.tallies }) held.stored)
 
-  pub old_kept : (h : HeldSession) (slot : HeldSlot) (o : Option Session) (holds left holds' left' : List ℕ → Type 0) → IsHeldAs h o holds left → Answers h.slot (answer.Fed told.Old) → h.tallies < 16383
+  pub old_kept : (h : HeldSession) (slot : HeldSlot) (o : Option Session) {old new : FlashSeen} → IsHeldAs h o old → Answers h.slot (answer.Fed told.Old) → h.tallies < 16383
       → extent_of slot ≡ extent_of h.slot → ((o : Option Session) → Stands h.slot o → Stands slot (after_fragment o way n part mark))
-      → ((s : Stored) → s.tallies ≡ h.tallies → IsStored h.base h.span s holds left → IsStored h.base h.span (with_tally s) holds' left')
-      → IsHeldAs (record h { slot = slot; tallies = h.tallies + 1 }) (after_fragment o way n part mark) holds' left'
-  old_kept h slot None holds left holds' left' held answers less area stands acked = absurd (none_fed told.Old (news_in None n part mark) (answers None held.stands))
-  old_kept h slot (Some s) holds left holds' left' held answers less area stands acked =
+      → ((x : Tallied h.tallies) → IsStored h.base h.span x.session old → IsStored h.base h.span (with_tally x.session) new)
+      → IsHeldAs (record h { slot = slot; tallies = h.tallies + 1 }) (after_fragment o way n part mark) new
+  old_kept h slot None {old} {new} held answers less area stands acked = absurd (none_fed told.Old (news_in None n part mark) (answers None held.stands))
+  old_kept h slot (Some s) {old} {new} held answers less area stands acked =
       let b = held.body in
       let k = hears s told.Old (slot_answer h (Some s) (answer.Fed told.Old) held.stands answers) in
-      let old = is_old_told (is_new (shape_of s) (fragment n part mark) s.heard) k.answered in
-      let after : IsStored h.base h.span (stored_of (followed s n part mark) b (h.tallies + 1)) holds' left' =
-      subst (λ (x : Stored). IsStored h.base h.span x holds' left') (tallied_stored_of s b h.tallies old)
-      (acked (stored_of s b h.tallies) (tallies_of s b h.tallies) held.stored) in
+      let known = is_old_told (is_new (shape_of s) (fragment n part mark) s.heard) k.answered in
+      let after : IsStored h.base h.span (stored_of (followed s n part mark) b (h.tallies + 1)) new =
+      subst (λ (x : Stored). IsStored h.base h.span x new) (tallied_stored_of s b h.tallies known)
+      (acked (record { session = stored_of s b h.tallies; count = tallies_of s b h.tallies }) held.stored) in
       let is = after_heard s k.cause in
-      subst (λ (x : Option Session). IsHeldAs (record h { slot = slot; tallies = h.tallies + 1 }) x holds' left') (sym is)
+      subst (λ (x : Option Session). IsHeldAs (record h { slot = slot; tallies = h.tallies + 1 }) x new) (sym is)
       (record {
         stands = subst (HeldStandsAs (record h { slot = slot; tallies = h.tallies + 1 })) is (stands_old h slot area stands less (Some s) held.stands answers);
-        counted = count_old s h.tallies (h.tallies + 1) old held.counted (inl refl);
+        counted = count_old s h.tallies (h.tallies + 1) known held.counted (inl refl);
         body = b;
         its_body = body_more s b held.its_body;
         stored = after;
       })
 
   -- where the count is full nothing is written
-  pub full_kept : (h : HeldSession) (slot : HeldSlot) (o : Option Session) (holds left : List ℕ → Type 0) → IsHeldAs h o holds left → Answers h.slot (answer.Fed told.Old) → 16383 ≤ h.records + h.tallies
+  pub full_kept : (h : HeldSession) (slot : HeldSlot) (o : Option Session) {seen : FlashSeen} → IsHeldAs h o seen → Answers h.slot (answer.Fed told.Old) → 16383 ≤ h.records + h.tallies
       → extent_of slot ≡ extent_of h.slot → ((o : Option Session) → Stands h.slot o → Stands slot (after_fragment o way n part mark))
-      → IsHeldAs (record h { slot = slot }) (after_fragment o way n part mark) holds left
-  full_kept h slot None holds left held answers full area stands = absurd (none_fed told.Old (news_in None n part mark) (answers None held.stands))
-  full_kept h slot (Some s) holds left held answers full area stands =
+      → IsHeldAs (record h { slot = slot }) (after_fragment o way n part mark) seen
+  full_kept h slot None {seen} held answers full area stands = absurd (none_fed told.Old (news_in None n part mark) (answers None held.stands))
+  full_kept h slot (Some s) {seen} held answers full area stands =
       let b = held.body in
       let k = hears s told.Old (slot_answer h (Some s) (answer.Fed told.Old) held.stands answers) in
-      let old = is_old_told (is_new (shape_of s) (fragment n part mark) s.heard) k.answered in
+      let known = is_old_told (is_new (shape_of s) (fragment n part mark) s.heard) k.answered in
       let is = after_heard s k.cause in
-      subst (λ (x : Option Session). IsHeldAs (record h { slot = slot }) x holds left) (sym is)
+      subst (λ (x : Option Session). IsHeldAs (record h { slot = slot }) x seen) (sym is)
       (record {
         stands = subst (HeldStandsAs (record h { slot = slot })) is (stands_full h slot area stands full (Some s) held.stands answers);
-        counted = count_old s h.tallies h.tallies old held.counted (inr (refl, omega (arith, full, held.stands.records)));
+        counted = count_old s h.tallies h.tallies known held.counted (inr (refl, omega (arith, full, held.stands.records)));
         body = b;
         its_body = body_more s b held.its_body;
-        stored = subst (λ (x : Stored). IsStored h.base h.span x holds left) (old_stored_of s b h.tallies old) held.stored;
+        stored = subst (λ (x : Stored). IsStored h.base h.span x seen) (old_stored_of s b h.tallies known) held.stored;
       })
 
   -- no flash call was made
-  pub no_call : (h : HeldSession) (o : Option Session) (holds : List ℕ → Type 0) (m : ℕ) (left : ℕ → List ℕ → Type 0) → 0 < h.span → IsHeldAs h o holds (left m) → LeavesOnly (Before h o) m m left left
-  no_call h o holds m left some held = stays (Before h o) m left (λ c now. inl (lies_for h o holds (left m) some held c now))
+  pub no_call : (h : HeldSession) (o : Option Session) {seen : FlashSeen} → 0 < h.span → IsHeldAs h o seen → LeavesOnly (OldOrNew h o (After o)) seen seen
+  no_call h o {seen} some held = stays (OldOrNew h o (After o)) (λ c now. inl (lies_for h o seen some held c now))
 
   -- nothing was heard
-  pub dropped_kept : (h : HeldSession) (slot : HeldSlot) (o : Option Session) (holds left : List ℕ → Type 0) (c : Cause) → IsHeldAs h o holds left → slot ≡ h.slot
-      → Answers h.slot (answer.Dropped c) → IsHeldAs (record h { slot = slot }) (after_fragment o way n part mark) holds left
-  dropped_kept h slot o holds left c held same answers =
-      subst (λ (x : Option Session). IsHeldAs (record h { slot = slot }) x holds left) (sym (dropped_same o c (slot_answer h o (answer.Dropped c) held.stands answers)))
-      (subst (λ (x : HeldSlot). IsHeldAs (record h { slot = x }) o holds left) (sym same) held)
+  pub dropped_kept : (h : HeldSession) (slot : HeldSlot) (o : Option Session) {seen : FlashSeen} (c : Cause) → IsHeldAs h o seen → slot ≡ h.slot
+      → Answers h.slot (answer.Dropped c) → IsHeldAs (record h { slot = slot }) (after_fragment o way n part mark) seen
+  dropped_kept h slot o {seen} c held same answers =
+      subst (λ (x : Option Session). IsHeldAs (record h { slot = slot }) x seen) (sym (dropped_same o c (slot_answer h o (answer.Dropped c) held.stands answers)))
+      (subst (λ (x : HeldSlot). IsHeldAs (record h { slot = x }) o seen) (sym same) held)

@@ -11,6 +11,7 @@ pub mod Okay
 pub mod Openable
 pub mod Opened
 pub mod Places
+pub mod Serves
 pub mod Still
 pub mod Renewing
 pub mod HeardAgain

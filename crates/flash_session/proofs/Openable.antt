@@ -20,6 +20,7 @@ use Rattle.flash_session.specs.HeldSession.{HeldSession, room_in}
 use Rattle.flash_session.specs.Lies.{Fits}
 use Rattle.flash_session.specs.Sessions.{stored_of, AreHearable, IsOpenable, LiesForAs, IsHeldAs}
 use Rattle.flash_session.proofs.Places.{lies_within}
+use Rattle.flash_session.specs.Seen.{FlashSeen, left}
 
 -- its records and gates have room
 pub record HasPlaces (h : HeldSession) (s : Session) : Type 0 where
@@ -81,12 +82,12 @@ openable_same h k s limits area span words bytes o =
     }
 
 -- what a stop leaves of a session that is held
-pub lies_for : (h : HeldSession) (o : Option Session) (holds left : List ℕ → Type 0) → 0 < h.span → IsHeldAs h o holds left → (c : List ℕ) → left c → LiesForAs h o c
-lies_for h None holds left some held c now = λ is.
+pub lies_for : (h : HeldSession) (o : Option Session) (seen : FlashSeen) → 0 < h.span → IsHeldAs h o seen → (c : List ℕ) → left seen c → LiesForAs h o c
+lies_for h None seen some held c now = λ is.
     let from = held.stored.kept.from c now in
     let same : byte_at c h.base ≡ byte_at from.0 h.base = subst (λ (j : ℕ). byte_at c j ≡ byte_at from.0 j) (omega arith) (from.2.within 0 some) in
     held.stored.read from.0 from.1 (sym same ∙ is)
-lies_for h (Some s) holds left some held c now =
+lies_for h (Some s) seen some held c now =
     let from = held.stored.kept.from c now in
     record {
       openable = held.stands.openable;

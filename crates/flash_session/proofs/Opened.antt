@@ -16,7 +16,7 @@ use Rattle.frag_session.specs.Session.{Session, shape_of, new_session, cause_of,
 use Rattle.frag_session.specs.Setup.{setup_bits}
 use Rattle.frag_session.specs.HeldSteps.{extent_of}
 use Rattle.flash_session.specs.Body.{IsBody}
-use Rattle.flash_session.specs.Contents.{Same, IsKept}
+use Rattle.flash_session.specs.Contents.{Same}
 use Rattle.flash_session.specs.declared.fault.OpenFault.{OpenFault}
 use Rattle.flash_session.specs.declared.fault.OpenFault.TheVariants as fault
 use Rattle.flash_session.specs.HeldSession.{HeldSession, room_in}
@@ -27,6 +27,7 @@ use Rattle.flash_session.specs.Opening as foreign
 use Rattle.flash_session.specs.Opening.{IsFed, IsForeign, IsFirstForeign, NothingForeign, setup_there}
 use Rattle.flash_session.specs.Replayed.{AllFed, HasHeader, IsOpened, IsEmpty}
 use Rattle.flash_session.specs.Sessions.{stored_of, AreHearable, IsOpenable, LiesFor, LiesForAs, hearing, HeldStands, HeldStandsAs, IsCount, IsHeldBut, IsHeldAs}
+use Rattle.flash_session.specs.Seen.{FlashSeen, IsKept}
 use Rattle.flash_session.proofs.Found.{setup_read, nothing_foreign}
 use Rattle.flash_session.proofs.Fronts.{one_count}
 use Rattle.flash_session.proofs.Headers.{kept_within}
@@ -95,24 +96,24 @@ means_back shape xs ys m = record {
 
 -- ---- without a session
 
-module _ (h : HeldSession) (holds left : List ℕ → Type 0) (kept : IsKept holds left) where
-  module _ (empty : IsEmpty h h.slot holds) where
-    pub empty_held : IsHeldAs h None holds left
-    empty_held = record { stands = empty.stands; counted = tt; body = []; its_body = tt; stored = record { fits = tt; read = empty.none; kept = kept_within h.base h.span holds left kept } }
+module _ (h : HeldSession) (seen : FlashSeen) (kept : IsKept seen) where
+  module _ (empty : IsEmpty h h.slot seen.holds) where
+    pub empty_held : IsHeldAs h None seen
+    empty_held = record { stands = empty.stands; counted = tt; body = []; its_body = tt; stored = record { fits = tt; read = empty.none; kept = kept_within h.base h.span seen kept } }
 
-    pub empty_opened : (o : Option Session) (b : List ℕ) → holds b → LiesForAs h o b → IsHeldAs h o holds left
+    pub empty_opened : (o : Option Session) (b : List ℕ) → seen.holds b → LiesForAs h o b → IsHeldAs h o seen
     empty_opened None b now lies = empty_held
     empty_opened (Some s) b now lies = absurd (empty.none b now lies.lies.header)
 
-    pub empty_but : (o : Option Session) × IsHeldBut h o holds left
+    pub empty_but : (o : Option Session) × IsHeldBut h o seen
     empty_but = (None, record { stands = empty_held.stands; body = []; its_body = tt; stored = empty_held.stored })
 
-    pub empty_fine : (b : List ℕ) → holds b → NothingForeign h b
+    pub empty_fine : (b : List ℕ) → seen.holds b → NothingForeign h b
     empty_fine b now header = absurd (empty.none b now header)
 
   -- ---- with one
 
-  module _ (opened : IsOpened h h.slot holds (record { records = h.records; tallies = h.tallies })) where
+  module _ (opened : IsOpened h h.slot seen.holds (record { records = h.records; tallies = h.tallies })) where
     abbrev pub S : Session
     S = new_session h.limits opened.setup
 
@@ -128,7 +129,7 @@ module _ (h : HeldSession) (holds left : List ℕ → Type 0) (kept : IsKept hol
     its_news = all_news S opened.found.replayed.records opened.found.replayed.fed
 
     -- what lies there for a session of this setup that heard a list with these records
-    lie_for : (heard : List Fragment) → news (shape_of S) heard ≡ opened.found.replayed.records → (b : List ℕ) → holds b → Lies h.base (stored_of (hearing S heard) opened.body h.tallies) b
+    lie_for : (heard : List Fragment) → news (shape_of S) heard ≡ opened.found.replayed.records → (b : List ℕ) → seen.holds b → Lies h.base (stored_of (hearing S heard) opened.body h.tallies) b
     unfolding stored_of hearing new_session shape_of
     lie_for heard is b now = record {
       header = opened.header b now;
@@ -152,11 +153,11 @@ module _ (h : HeldSession) (holds left : List ℕ → Type 0) (kept : IsKept hol
     }
 
     stored_for : (heard : List Fragment) → news (shape_of S) heard ≡ opened.found.replayed.records → IsOpenable h (hearing S heard)
-        → IsStoredAs h.base h.span (Some (stored_of (hearing S heard) opened.body h.tallies)) holds left
+        → IsStoredAs h.base h.span (Some (stored_of (hearing S heard) opened.body h.tallies)) seen
     stored_for heard is openable = record {
       fits = openable_fits h (hearing S heard) opened.body h.tallies opened.its_body.sized openable;
       read = lie_for heard is;
-      kept = kept_within h.base h.span holds left kept;
+      kept = kept_within h.base h.span seen kept;
     }
 
     body_for : (heard : List Fragment) → IsBody opened.body (hearing S heard).setup
@@ -175,7 +176,7 @@ module _ (h : HeldSession) (holds left : List ℕ → Type 0) (kept : IsKept hol
     pub opened_stands : HeldStandsAs h (Some (hearing S opened.found.replayed.records))
     opened_stands = stands_for opened.found.replayed.records its_news its_openable
 
-    pub opened_but : (o : Option Session) × IsHeldBut h o holds left
+    pub opened_but : (o : Option Session) × IsHeldBut h o seen
     opened_but = (
       Some (hearing S opened.found.replayed.records),
       record {
@@ -186,19 +187,19 @@ module _ (h : HeldSession) (holds left : List ℕ → Type 0) (kept : IsKept hol
       },
     )
 
-    header_of : (b : List ℕ) → holds b → HasHeader h opened.setup b
+    header_of : (b : List ℕ) → seen.holds b → HasHeader h opened.setup b
     header_of b now = record {
       header = opened.header b now;
       setup_is = setup_read b (body_at h.base) opened.body opened.its_body.sized (opened.spelled_there b now) ∙ opened.its_body.reads;
       fine = opened.fine;
     }
 
-    pub opened_fine : (b : List ℕ) → holds b → NothingForeign h b
+    pub opened_fine : (b : List ℕ) → seen.holds b → NothingForeign h b
     opened_fine b now header = nothing_foreign h opened.setup b (header_of b now) (setup_places h opened.setup opened.fine).most h.records (opened.found.gates b now)
         h.tallies (opened.found.tallies b now) opened.found.replayed.records opened.found.replayed.count (opened.found.replayed.lie b now) opened.found.replayed.ranged opened.found.replayed.fed
 
     -- what lies for a session, opened
-    for_list : (heard : List Fragment) (b : List ℕ) → holds b → LiesFor h (hearing S heard) b → IsHeldAs h (Some (hearing S heard)) holds left
+    for_list : (heard : List Fragment) (b : List ℕ) → seen.holds b → LiesFor h (hearing S heard) b → IsHeldAs h (Some (hearing S heard)) seen
     unfolding stored_of hearing new_session shape_of
     for_list heard b now lies =
         let count : h.records ≡ length (news (shape_of S) heard) = one_count b (gates_at h.base) h.records (length (news (shape_of S) heard)) (2 * opened.setup.nb_frag + 1) (opened.found.gates b now) lies.lies.gates in
@@ -218,13 +219,13 @@ module _ (h : HeldSession) (holds left : List ℕ → Type 0) (kept : IsKept hol
     unfolding hearing new_session
     session_is s e rows = λ i. record { setup = sym e i; rows = (rows ∙ ap (λ (x : SetupReq). min h.limits.rows x.nb_frag) (sym e)) i; heard = s.heard }
 
-    pub opened_for : (o : Option Session) (b : List ℕ) → holds b → LiesForAs h o b → IsHeldAs h o holds left
+    pub opened_for : (o : Option Session) (b : List ℕ) → seen.holds b → LiesForAs h o b → IsHeldAs h o seen
     unfolding stored_of
     opened_for None b now lies = absurd (lies (opened.header b now))
     opened_for (Some s) b now lies =
         let setup : opened.setup ≡ s.setup = sym (header_of b now).setup_is ∙ setup_read b (body_at h.base) lies.body lies.its_body.sized lies.lies.body ∙ lies.its_body.reads in
         let it : s ≡ hearing S s.heard = session_is s setup lies.openable.rows in
-        subst (λ (x : Session). IsHeldAs h (Some x) holds left) (sym it) (for_list s.heard b now (subst (λ (x : Session). LiesFor h x b) it lies))
+        subst (λ (x : Session). IsHeldAs h (Some x) seen) (sym it) (for_list s.heard b now (subst (λ (x : Session). LiesFor h x b) it lies))
 
 -- ---- what lies for a session is not foreign
 

@@ -6,7 +6,7 @@ use Rattle.std.specs.Int.{to_le_bytes}
 use Rattle.frag_model.specs.Fragments.{Fragment}
 use Rattle.flash_session.specs.Contents.{byte_at, SameOutside, SameWithin}
 use Rattle.flash_session.specs.Layout.{open_gate, body_at, gates_at, tallies_at, most_tallies, records_at, spelled}
-use Rattle.flash_session.specs.Lies.{Stored, SpelledAt, GatesOpen, record_at, RecordsLie, Lies, Fits, with_record, with_tally, IsBeforeOrAfter}
+use Rattle.flash_session.specs.Lies.{Stored, SpelledAt, GatesOpen, record_at, RecordsLie, Lies, Fits, with_record, with_tally}
 
 -- bytes that stay still lie there
 pub spelled_kept : (c d : List ℕ) (at : ℕ) (piece : List ℕ) → ((i : ℕ) → i < length piece → byte_at d (at + i) ≡ byte_at c (at + i)) → SpelledAt c at piece → SpelledAt d at piece
@@ -65,7 +65,7 @@ module _ (base span : ℕ) (s : Stored) (fits : Fits span s) where
       let back : base + (i - base) ≡ i = omega (arith, le) in
       subst (λ (j : ℕ). byte_at d j ≡ byte_at c j) back (same.within (i - base) (omega (arith, lt, le, inside)))) lies
 
-  -- a record behind the last is not read
+  -- a record after the last is not read
   pub lies_behind : (c d : List ℕ) (n : ℕ) → SameOutside (record_at base s.size (length s.records)) n c d → Lies base s c → Lies base s d
   lies_behind c d n same lies = lies_kept c d (λ i le lt. same.below i lt) lies
 
@@ -81,7 +81,7 @@ module _ (base span : ℕ) (s : Stored) (fits : Fits span s) where
 
   -- the record is written, and its gate has whatever byte: the session as it was, or with the record
   pub gate_torn : (f : Fragment) (c d : List ℕ) → length s.records < s.most → length f.part ≡ s.size → Lies base s c
-      → SpelledAt c (record_at base s.size (length s.records)) (spelled f) → SameOutside (gates_at base + length s.records) 1 c d → IsBeforeOrAfter base s f d
+      → SpelledAt c (record_at base s.size (length s.records)) (spelled f) → SameOutside (gates_at base + length s.records) 1 c d → Lies base s d ⊎ Lies base (with_record s f) d
   unfolding with_record
   gate_torn f c d room sized lies written same =
       let n : ℕ = length s.records in

@@ -20,10 +20,13 @@ use Rattle.frag_session.specs.HeldSteps.{extent_of}
 use Rattle.frag_session.proofs.Calls.{accepted}
 use Rattle.flash_session.specs.Body.{setup_bytes, setup_from, IsBody, FieldsFit}
 use Rattle.flash_session.specs.HeldSession.{HeldSession, room_in}
-use Rattle.flash_session.specs.Lies.{Stored, Lies, LiesAs, Fits, NoSession, IsStoredAs, IsOldNoneOrNew, new_stored}
+use Rattle.flash_session.specs.Lies.{Stored, Lies, LiesAs, Fits, NoSession, IsStoredAs, new_stored}
 use Rattle.flash_session.specs.Moments.{LeavesOnly}
-use Rattle.flash_session.specs.Sessions.{stored_of, stored_as, IsOpenable, LiesFor, LiesForAs, hearing, HeldStands, HeldStandsAs, IsCount, CountsAs, IsHeldAs}
+use Rattle.flash_session.specs.Sessions.{stored_of, stored_as, IsOpenable, LiesForAs, hearing, HeldStands, HeldStandsAs, IsCount, CountsAs, IsHeldAs}
 use Rattle.flash_session.proofs.Moments.{stays, weaker}
+use Rattle.flash_session.specs.HeldCalls.{OldOrNew, OldNoneOrNew}
+use Rattle.flash_session.specs.Ranges.{WasOrIs, WasNoneOrIs, Beginning}
+use Rattle.flash_session.specs.Seen.{FlashSeen}
 use Rattle.flash_session.proofs.Openable.{openable_fits, lies_for}
 
 -- ---- what the slot stands for
@@ -49,9 +52,9 @@ pub none_held : (h : HeldSession) (o : Option Session) → HeldStandsAs h o → 
 none_held h None held e = held
 none_held h (Some s) held e = let no : ⊥ = cc in absurd no
 
-pub none_there : (h : HeldSession) (o : Option Session) (holds left : List ℕ → Type 0) → IsHeldAs h o holds left → is_some o ≡ false → IsHeldAs h None holds left
-none_there h None holds left held e = held
-none_there h (Some s) holds left held e = let no : ⊥ = cc in absurd no
+pub none_there : (h : HeldSession) (o : Option Session) (seen : FlashSeen) → IsHeldAs h o seen → is_some o ≡ false → IsHeldAs h None seen
+none_there h None seen held e = held
+none_there h (Some s) seen held e = let no : ⊥ = cc in absurd no
 
 pub some_held : (h : HeldSession) (b : Bool) → b ≡ true → HeldStandsAs h None → ((o : Option Session) → HeldStandsAs h o → b ≡ is_some o) → ⊥
 some_held h b e held is = let no : true ≡ false = sym e ∙ is None held in cc
@@ -108,9 +111,9 @@ body_written req fit = record {
 }
 
 -- what lies there as it is stored lies there for the session
-pub old_lies : (h : HeldSession) (o : Option Session) (holds left : List ℕ → Type 0) (held : IsHeldAs h o holds left) (c : List ℕ) → LiesAs h.base (stored_as o held.body h.tallies) c → LiesForAs h o c
-old_lies h None holds left held c lies = lies
-old_lies h (Some s) holds left held c lies = record {
+pub old_lies : (h : HeldSession) (o : Option Session) (seen : FlashSeen) (held : IsHeldAs h o seen) (c : List ℕ) → LiesAs h.base (stored_as o held.body h.tallies) c → LiesForAs h o c
+old_lies h None seen held c lies = lies
+old_lies h (Some s) seen held c lies = record {
   openable = held.stands.openable;
   body = held.body;
   tallies = h.tallies;
@@ -157,65 +160,70 @@ module _ (h : HeldSession) (req : SetupReq) (fine : setup_bits h.limits (room_in
   pub new_fits : FieldsFit req → Fits h.span (new_stored (setup_bytes req) (2 * req.nb_frag + 1) req.frag_size)
   new_fits fit = subst (Fits h.span) (sym new_stored_is) (openable_fits h (new_session h.limits req) (setup_bytes req) 0 (new_body fit).sized new_openable)
 
-  pub new_held : FieldsFit req → (slot : HeldSlot) (holds left : List ℕ → Type 0) → Stands slot (Some (new_session h.limits req)) → extent_of slot ≡ extent_of h.slot
-      → IsStoredAs h.base h.span (Some (new_stored (setup_bytes req) (2 * req.nb_frag + 1) req.frag_size)) holds left
-      → IsHeldAs (record h { slot = slot; records = 0; tallies = 0 }) (Some (new_session h.limits req)) holds left
-  new_held fit slot holds left stands area stored = record {
+  pub new_held : FieldsFit req → (slot : HeldSlot) (seen : FlashSeen) → Stands slot (Some (new_session h.limits req)) → extent_of slot ≡ extent_of h.slot
+      → IsStoredAs h.base h.span (Some (new_stored (setup_bytes req) (2 * req.nb_frag + 1) req.frag_size)) seen
+      → IsHeldAs (record h { slot = slot; records = 0; tallies = 0 }) (Some (new_session h.limits req)) seen
+  new_held fit slot seen stands area stored = record {
     stands = new_stands slot stands area;
     counted = new_counted;
     body = setup_bytes req;
     its_body = new_body fit;
-    stored = subst (λ (x : Stored). IsStoredAs h.base h.span (Some x) holds left) new_stored_is stored;
+    stored = subst (λ (x : Stored). IsStoredAs h.base h.span (Some x) seen) new_stored_is stored;
   }
 
-  -- what a stop leaves of a setup
-  abbrev pub OldNoneOrNew : Option Session → List ℕ → Type 0
-  OldNoneOrNew o c = LiesForAs h o c ⊎ NoSession h.base c ⊎ LiesFor h (new_session h.limits req) c
+  -- it begins with this body, in the place of what is held
+  abbrev pub beginning : FieldsFit req → (o : Option Session) {seen : FlashSeen} (held : IsHeldAs h o seen) (b : Bool) → ((s : Option Session) → Stands h.slot s → b ≡ is_some s) → Beginning h.span b (setup_bytes req)
+  beginning fit o {seen} held b is = record {
+    before = stored_as o held.body h.tallies;
+    as_told = lives_as h o b held.stands is ∙ sym (stored_lives o held.body h.tallies);
+    most = 2 * req.nb_frag + 1;
+    size = req.frag_size;
+    fits = new_fits fit;
+  }
 
-  pub new_moments : FieldsFit req → (o : Option Session) (holds left : List ℕ → Type 0) (held : IsHeldAs h o holds left) (m p : ℕ) (past since : ℕ → List ℕ → Type 0)
-      → LeavesOnly (IsOldNoneOrNew h.base (stored_as o held.body h.tallies) (new_stored (setup_bytes req) (2 * req.nb_frag + 1) req.frag_size)) m p past since
-      → LeavesOnly (OldNoneOrNew o) m p past since
-  new_moments fit o holds left held m p past since leaves =
-      weaker (IsOldNoneOrNew h.base (stored_as o held.body h.tallies) (new_stored (setup_bytes req) (2 * req.nb_frag + 1) req.frag_size)) (OldNoneOrNew o) m p past since
+  pub new_moments : FieldsFit req → (o : Option Session) {old new : FlashSeen} (held : IsHeldAs h o old)
+      → LeavesOnly (WasNoneOrIs h.base (stored_as o held.body h.tallies) (Some (new_stored (setup_bytes req) (2 * req.nb_frag + 1) req.frag_size))) old new
+      → LeavesOnly (OldNoneOrNew h o (Some (new_session h.limits req))) old new
+  new_moments fit o {old} {new} held leaves =
+      weaker (WasNoneOrIs h.base (stored_as o held.body h.tallies) (Some (new_stored (setup_bytes req) (2 * req.nb_frag + 1) req.frag_size))) (OldNoneOrNew h o (Some (new_session h.limits req)))
       (λ c lies. elim lies [
-        | inl old ↦ inl (old_lies h o holds left held c old)
+        | inl was ↦ inl (old_lies h o old held c was)
         | inr others ↦ elim others [
           | inl none ↦ inr (inl none)
-          | inr new ↦ inr (inr (record {
+          | inr is ↦ inr (inr (record {
             openable = new_openable;
             body = setup_bytes req;
             tallies = 0;
             its_body = new_body fit;
             counted = new_counted;
-            lies = subst (λ (x : Stored). Lies h.base x c) new_stored_is new;
+            lies = subst (λ (x : Stored). Lies h.base x c) new_stored_is is;
           }))
         ]
       ])
       leaves
 
 -- no flash was called
-pub unmoved : (h : HeldSession) (o : Option Session) (Q : List ℕ → Type 0) (holds : List ℕ → Type 0) (m : ℕ) (left : ℕ → List ℕ → Type 0) → 24640 ≤ h.span → IsHeldAs h o holds (left m)
-    → LeavesOnly (λ c. LiesForAs h o c ⊎ Q c) m m left left
-unmoved h o Q holds m left long held = stays (λ c. LiesForAs h o c ⊎ Q c) m left (λ c now. inl (lies_for h o holds (left m) (omega (arith, long)) held c now))
+pub unmoved : (h : HeldSession) (o : Option Session) (Q : List ℕ → Type 0) {seen : FlashSeen} → 24640 ≤ h.span → IsHeldAs h o seen
+    → LeavesOnly (λ c. LiesForAs h o c ⊎ Q c) seen seen
+unmoved h o Q {seen} long held = stays (λ c. LiesForAs h o c ⊎ Q c) (λ c now. inl (lies_for h o seen (omega (arith, long)) held c now))
 
 -- ---- a deletion
 
-pub deleted_moments : (h : HeldSession) (o : Option Session) (holds left : List ℕ → Type 0) (held : IsHeldAs h o holds left) (b : Bool) → b ≡ true → ((s : Option Session) → Stands h.slot s → b ≡ is_some s)
-    → (m p : ℕ) (past since : ℕ → List ℕ → Type 0)
-    → ((s : Stored) → IsStoredAs h.base h.span (Some s) holds left → LeavesOnly (λ c. Lies h.base s c ⊎ NoSession h.base c) m p past since)
-    → LeavesOnly (λ c. LiesForAs h o c ⊎ NoSession h.base c) m p past since
-deleted_moments h None holds left held b e is m p past since leaves = let no : true ≡ false = sym e ∙ is None held.stands in let z : ⊥ = cc in absurd z
-deleted_moments h (Some s) holds left held b e is m p past since leaves =
-    weaker (λ c. Lies h.base (stored_of s held.body h.tallies) c ⊎ NoSession h.base c) (λ c. LiesForAs h (Some s) c ⊎ NoSession h.base c) m p past since
-    (λ c lies. elim lies [ inl old ↦ inl (old_lies h (Some s) holds left held c old) | inr none ↦ inr none ])
+pub deleted_moments : (h : HeldSession) (o : Option Session) {old new : FlashSeen} (held : IsHeldAs h o old) (b : Bool) → b ≡ true → ((s : Option Session) → Stands h.slot s → b ≡ is_some s)
+    → ((s : Stored) → IsStoredAs h.base h.span (Some s) old → LeavesOnly (WasOrIs h.base (Some s) None) old new)
+    → LeavesOnly (OldOrNew h o None) old new
+deleted_moments h None {old} {new} held b e is leaves = let no : true ≡ false = sym e ∙ is None held.stands in let z : ⊥ = cc in absurd z
+deleted_moments h (Some s) {old} {new} held b e is leaves =
+    weaker (WasOrIs h.base (Some (stored_of s held.body h.tallies)) None) (OldOrNew h (Some s) None)
+    (λ c lies. elim lies [ inl was ↦ inl (old_lies h (Some s) old held c was) | inr none ↦ inr none ])
     (leaves (stored_of s held.body h.tallies) held.stored)
 
-pub deleted_held : (h : HeldSession) (o : Option Session) (slot : HeldSlot) (holds left holds' left' : List ℕ → Type 0) (held : IsHeldAs h o holds left) (b : Bool) → b ≡ true
+pub deleted_held : (h : HeldSession) (o : Option Session) (slot : HeldSlot) {old new : FlashSeen} (held : IsHeldAs h o old) (b : Bool) → b ≡ true
     → ((s : Option Session) → Stands h.slot s → b ≡ is_some s) → Stands slot None
-    → ((s : Stored) → IsStoredAs h.base h.span (Some s) holds left → IsStoredAs h.base h.span None holds' left')
-    → IsHeldAs (record h { slot = slot; records = 0; tallies = 0 }) None holds' left'
-deleted_held h None slot holds left holds' left' held b e is stands ended = let no : true ≡ false = sym e ∙ is None held.stands in let z : ⊥ = cc in absurd z
-deleted_held h (Some s) slot holds left holds' left' held b e is stands ended = record {
+    → ((s : Stored) → IsStoredAs h.base h.span (Some s) old → IsStoredAs h.base h.span None new)
+    → IsHeldAs (record h { slot = slot; records = 0; tallies = 0 }) None new
+deleted_held h None slot {old} {new} held b e is stands ended = let no : true ≡ false = sym e ∙ is None held.stands in let z : ⊥ = cc in absurd z
+deleted_held h (Some s) slot {old} {new} held b e is stands ended = record {
   stands = stands;
   counted = tt;
   body = [];
@@ -276,8 +284,8 @@ answered_as h (Some s) way all n a held counts e answered =
 pub stands_equal : (h : HeldSession) (o p : Option Session) → p ≡ o → HeldStandsAs h o → HeldStandsAs h p
 stands_equal h o p e held = subst (HeldStandsAs h) (sym e) held
 
-pub held_equal : (h : HeldSession) (o p : Option Session) (holds left : List ℕ → Type 0) → p ≡ o → IsHeldAs h o holds left → IsHeldAs h p holds left
-held_equal h o p holds left e held = subst (λ (x : Option Session). IsHeldAs h x holds left) (sym e) held
+pub held_equal : (h : HeldSession) (o p : Option Session) (seen : FlashSeen) → p ≡ o → IsHeldAs h o seen → IsHeldAs h p seen
+held_equal h o p seen e held = subst (λ (x : Option Session). IsHeldAs h x seen) (sym e) held
 
 -- what the fields say is said of what is held
 pub bits_of : (h k : HeldSession) (req : SetupReq) (b : ℕ) → h ≡ k → b ≡ setup_bits h.limits (room_in h) req → b ≡ setup_bits k.limits (room_in k) req
@@ -287,17 +295,11 @@ pub keeps_of : (h k : HeldSession) (req : SetupReq) (b : Bool) → h ≡ k → (
     → (o : Option Session) → HeldStandsAs k o → b ≡ lives (option_map (λ (y : Session). y.setup) o) req
 keeps_of h k req b e is o held = keeps_as h o req b (subst (λ (x : HeldSession). HeldStandsAs x o) (sym e) held) is
 
-pub moments_equal : (h : HeldSession) (o p : Option Session) (m n : ℕ) (past since : ℕ → List ℕ → Type 0) → p ≡ o
-    → LeavesOnly (λ c. LiesForAs h o c ⊎ NoSession h.base c ⊎ LiesForAs h o c) m n past since → LeavesOnly (λ c. LiesForAs h o c ⊎ NoSession h.base c ⊎ LiesForAs h p c) m n past since
-moments_equal h o p m n past since e leaves = subst (λ (x : Option Session). LeavesOnly (λ c. LiesForAs h o c ⊎ NoSession h.base c ⊎ LiesForAs h x c) m n past since) (sym e) leaves
+pub moments_new : (h : HeldSession) (o p q : Option Session) {old new : FlashSeen} → p ≡ q → LeavesOnly (OldNoneOrNew h o q) old new → LeavesOnly (OldNoneOrNew h o p) old new
+moments_new h o p q {old} {new} e leaves = subst (λ (x : Option Session). LeavesOnly (OldNoneOrNew h o x) old new) (sym e) leaves
 
-pub moments_new : (h : HeldSession) (o p q : Option Session) (m n : ℕ) (past since : ℕ → List ℕ → Type 0) → p ≡ q
-    → LeavesOnly (λ c. LiesForAs h o c ⊎ NoSession h.base c ⊎ LiesForAs h q c) m n past since → LeavesOnly (λ c. LiesForAs h o c ⊎ NoSession h.base c ⊎ LiesForAs h p c) m n past since
-moments_new h o p q m n past since e leaves = subst (λ (x : Option Session). LeavesOnly (λ c. LiesForAs h o c ⊎ NoSession h.base c ⊎ LiesForAs h x c) m n past since) (sym e) leaves
-
-pub unmoved_setup : (h k : HeldSession) (o p : Option Session) (holds : List ℕ → Type 0) (m : ℕ) (left : ℕ → List ℕ → Type 0) → h ≡ k → 24640 ≤ h.span → IsHeldAs k o holds (left m)
-    → LeavesOnly (λ c. LiesForAs k o c ⊎ NoSession k.base c ⊎ LiesForAs k p c) m m left left
-unmoved_setup h k o p holds m left e long held = unmoved k o (λ c. NoSession k.base c ⊎ LiesForAs k p c) holds m left (subst (λ (x : HeldSession). 24640 ≤ x.span) e long) held
+pub unmoved_setup : (h k : HeldSession) (o p : Option Session) {seen : FlashSeen} → h ≡ k → 24640 ≤ h.span → IsHeldAs k o seen → LeavesOnly (OldNoneOrNew k o p) seen seen
+unmoved_setup h k o p {seen} e long held = unmoved k o (λ c. NoSession k.base c ⊎ LiesForAs k p c) (subst (λ (x : HeldSession). 24640 ≤ x.span) e long) held
 
 -- the slot's view and answer are told of what is held
 pub at_view : (h k : HeldSession) (v : Option Seen) → h ≡ k → ((s : Option Session) → Stands h.slot s → v ≡ view_of s) → (s : Option Session) → Stands k.slot s → v ≡ view_of s

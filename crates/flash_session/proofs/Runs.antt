@@ -1,24 +1,25 @@
--- How runs of calls go on, one behind the other.
-use Rattle.std.proofs.Common.{ℕ, ◌+◌, ◌≤◌, List, inl, inr, refl, ◌∙◌, arith}
-use Rattle.flash_session.specs.Contents.{SameOutside, Follows}
+-- How runs of calls go on, one after the other.
+use Rattle.std.proofs.Common.{ℕ, ◌+◌, ◌≤◌, List, length, inl, inr, refl, ◌∙◌, arith}
+use Rattle.flash_session.specs.Contents.{SameOutside, Same, Put, Follows}
 use Rattle.flash_session.specs.Moments.{Elapses}
+use Rattle.flash_session.specs.Seen.{FlashSeen, left}
 
 -- nothing was called
-pub no_call : (step : List ℕ → List ℕ → Type 0) (m : ℕ) (left : ℕ → List ℕ → Type 0) → ((c : List ℕ) → step c c) → Elapses step m m left left
-no_call step m left stays = record {
+pub no_call : {step : List ℕ → List ℕ → Type 0} {seen : FlashSeen} → ((c : List ℕ) → step c c) → Elapses step seen seen
+no_call {step} {seen} stays = record {
   later = omega arith;
   each = λ t c le now. inl now;
   last = λ c now. (c, now, stays c);
 }
 
--- one run behind another
-pub one_more : (first second both : List ℕ → List ℕ → Type 0) (m n o : ℕ) (past mid since : ℕ → List ℕ → Type 0)
+-- one run after another
+pub one_more : {first second both : List ℕ → List ℕ → Type 0} {old mid new : FlashSeen}
     → ((c d : List ℕ) → first c d → both c d) → ((c d e : List ℕ) → first c d → second d e → both c e)
-    → Elapses first m n past mid → Elapses second n o mid since → Elapses both m o past since
-one_more first second both m n o past mid since alone joined run call =
-    let later : m ≤ o = omega (arith, run.later, call.later) in
-    let behind : (d e : List ℕ) → mid n d → second d e → (c : List ℕ) × past m c × both c e =
-    λ (d : List ℕ) (e : List ℕ) (left : mid n d) (goes : second d e). let from = run.last d left in (from.0, from.1, joined from.0 d e from.2 goes) in
+    → Elapses first old mid → Elapses second mid new → Elapses both old new
+one_more {first} {second} {both} {old} {mid} {new} alone joined run call =
+    let later : old.moment ≤ new.moment = omega (arith, run.later, call.later) in
+    let behind : (d e : List ℕ) → left mid d → second d e → (c : List ℕ) × left old c × both c e =
+    λ (d : List ℕ) (e : List ℕ) (now : left mid d) (goes : second d e). let from = run.last d now in (from.0, from.1, joined from.0 d e from.2 goes) in
     record {
       later = later;
       each = λ t c le now. elim (call.each t c (omega (arith, le, run.later)) now) [
@@ -30,6 +31,15 @@ one_more first second both m n o past mid since alone joined run call =
       ];
       last = λ c now. let from = call.last c now in behind from.0 c from.1 from.2;
     }
+
+pub follows_joined : {first second both : List ℕ → List ℕ → Type 0} {a b c : List ℕ → Type 0} → ((x y z : List ℕ) → first x y → second y z → both x z)
+    → Follows first a b → Follows second b c → Follows both a c
+follows_joined {first} {second} {both} {a} {b} {c} joined one two = record {
+  from = λ z now.
+      let y = two.from z now in
+      let x = one.from y.0 y.1 in
+      (x.0, x.1, joined x.0 y.0 z x.2 y.2);
+}
 
 -- ---- places
 
@@ -49,16 +59,17 @@ outside_joined at n c d e one two = record {
   above = λ i le. two.above i le ∙ one.above i le;
 }
 
--- two runs that write nothing outside a range
-pub both_in_range : (at n : ℕ) (m o p : ℕ) (past mid since : ℕ → List ℕ → Type 0)
-    → Elapses (SameOutside at n) m o past mid → Elapses (SameOutside at n) o p mid since → Elapses (SameOutside at n) m p past since
-both_in_range at n m o p past mid since =
-    one_more (SameOutside at n) (SameOutside at n) (SameOutside at n) m o p past mid since (λ c d same. same) (λ c d e. outside_joined at n c d e)
+pub same_after : (c d e : List ℕ) → Same c d → Same d e → Same c e
+same_after c d e one two = record { all = λ i. two.all i ∙ one.all i }
 
-pub both_outside : (at n : ℕ) (a b c : List ℕ → Type 0) → Follows (SameOutside at n) a b → Follows (SameOutside at n) b c → Follows (SameOutside at n) a c
-both_outside at n a b c one two = record {
-  from = λ z now.
-      let y = two.from z now in
-      let x = one.from y.0 y.1 in
-      (x.0, x.1, outside_joined at n x.0 y.0 z x.2 y.2);
+pub same_stays : (c : List ℕ) → Same c c
+same_stays c = record { all = λ i. refl }
+
+pub same_outside : (at n : ℕ) (c d : List ℕ) → Same c d → SameOutside at n c d
+same_outside at n c d same = record { below = λ i lt. same.all i; above = λ i le. same.all i }
+
+pub put_same : (at : ℕ) (piece c d e : List ℕ) → Put at piece c d → Same d e → Put at piece c e
+put_same at piece c d e put same = record {
+  outside = outside_joined at (length piece) c d e put.outside (same_outside at (length piece) d e same);
+  inside = λ i lt. same.all (at + i) ∙ put.inside i lt;
 }

@@ -7,7 +7,8 @@ use Rattle.flash_session.specs.declared.log.Step.{Step}
 use Rattle.flash_session.specs.declared.log.Step.TheVariants.{Was, Synced}
 use Rattle.flash_session.specs.Contents.{byte_at, SameOutside, Same, Put}
 use Rattle.flash_session.specs.Moments.{Elapses}
-use Rattle.flash_session.specs.Log.{was, loose, LeftAt, LeftSince}
+use Rattle.flash_session.specs.Log.{was, loose, LeftAt, LeftSince, seen_in}
+use Rattle.flash_session.specs.Seen.{FlashSeen}
 use Rattle.flash_session.proofs.Runs.{one_more, outside_wider, outside_joined}
 
 pub was_push : (log : List Step) (at byte i now : ℕ) → was (log ++ Was at byte ∷ []) i now ≡ was log i (if at == i then byte else now)
@@ -46,7 +47,7 @@ module _ (log : List Step) (step : Step) (old new : List ℕ) (sized : length ne
   -- a run of one step, whose last moment is known
   pub one_step : (change : List ℕ → List ℕ → Type 0)
       → ((c : List ℕ) → LeftAt (log ++ step ∷ []) new (length log + 1) c → (d : List ℕ) × LeftAt log old (length log) d × change d c)
-      → Elapses change (length log) (length (log ++ step ∷ [])) (LeftSince log old) (LeftSince (log ++ step ∷ []) new)
+      → Elapses change (seen_in log old 0) (seen_in (log ++ step ∷ []) new 0)
   one_step change last =
       let longer : length (log ++ step ∷ []) ≡ length log + 1 = length-append log (step ∷ []) in
       let now : (c : List ℕ) (k : ℕ) → length log < k → k ≤ length (log ++ step ∷ []) → LeftAt (log ++ step ∷ []) new k c → (d : List ℕ) × LeftSince log old (length log) d × change d c =
@@ -87,7 +88,7 @@ module _ (log : List Step) (old new : List ℕ) (at byte : ℕ) (within : at < l
         ∙ ap (λ (j : ℕ). get_or (set old at byte) j 0) (omega arith) ∙ get_or-set_same old at byte 0 within ∙ sym (ap (λ (j : ℕ). get_or (byte ∷ []) j 0) first);
   }
 
-  -- what a stop may leave behind it had another byte there before
+  -- what a stop may leave after it had another byte there before
   byte_from : (c : List ℕ) → LeftAt (log ++ Was at (get_or old at 0) ∷ []) new (length log + 1) c → (d : List ℕ) × LeftAt log old (length log) d × SameOutside at 1 d c
   byte_from c left =
       let sized : length c ≡ length old = left.sized ∙ same_size in
@@ -117,7 +118,7 @@ module _ (log : List Step) (old new : List ℕ) (at byte : ℕ) (within : at < l
         },
       )
 
-  pub byte_stops : Elapses (SameOutside at 1) (length log) (length (log ++ Was at (get_or old at 0) ∷ [])) (LeftSince log old) (LeftSince (log ++ Was at (get_or old at 0) ∷ []) new)
+  pub byte_stops : Elapses (SameOutside at 1) (seen_in log old 0) (seen_in (log ++ Was at (get_or old at 0) ∷ []) new 0)
   byte_stops = one_step log (Was at (get_or old at 0)) old new same_size
       (λ later i. was_push later at (get_or old at 0) i (byte_at new i) ∙ ap (was later i) (put_back i)) (SameOutside at 1) byte_from
 
@@ -144,7 +145,7 @@ module _ (log : List Step) (bytes : List ℕ) where
     record { all = λ i. refl },
   )
 
-  pub sync_stops : Elapses Same (length log) (length (log ++ Synced ∷ [])) (LeftSince log bytes) (LeftSince (log ++ Synced ∷ []) bytes)
+  pub sync_stops : Elapses Same (seen_in log bytes 0) (seen_in (log ++ Synced ∷ []) bytes 0)
   sync_stops = one_step log Synced bytes bytes refl (λ later i. was_synced later i (byte_at bytes i)) Same sync_from
 
   pub sync_keeps : (c : List ℕ) → LeftSince (log ++ Synced ∷ []) bytes (length (log ++ Synced ∷ [])) c → Same bytes c
@@ -181,16 +182,14 @@ pub zeros_more : (n : ℕ) → replicate {A = ℕ} (n + 1) 0 ≡ replicate n 0 +
 zeros_more n = ap (λ (k : ℕ). replicate {A = ℕ} k 0) (add-one n) ∙ replicate_push n 0
 
 -- the stops of one byte more
-pub stops_one_more : (at i byte : ℕ) (start : ℕ) (past : ℕ → List ℕ → Type 0) (log later : List Step) (old new : List ℕ)
+pub stops_one_more : (at i byte : ℕ) (first : FlashSeen) (log later : List Step) (old new : List ℕ)
     → at + i < length old → new ≡ set old (at + i) byte → later ≡ log ++ Was (at + i) (get_or old (at + i) 0) ∷ []
-    → Elapses (SameOutside at i) start (length log) past (LeftSince log old)
-    → Elapses (SameOutside at (i + 1)) start (length later) past (LeftSince later new)
-stops_one_more at i byte start past log later old new within is longer run =
-    let call : Elapses (SameOutside (at + i) 1) (length log) (length later) (LeftSince log old) (LeftSince later new) =
-    subst (λ (l : List Step). Elapses (SameOutside (at + i) 1) (length log) (length l) (LeftSince log old) (LeftSince l new)) (sym longer)
+    → Elapses (SameOutside at i) first (seen_in log old 0) → Elapses (SameOutside at (i + 1)) first (seen_in later new 0)
+stops_one_more at i byte first log later old new within is longer run =
+    let call : Elapses (SameOutside (at + i) 1) (seen_in log old 0) (seen_in later new 0) =
+    subst (λ (l : List Step). Elapses (SameOutside (at + i) 1) (seen_in log old 0) (seen_in l new 0)) (sym longer)
     (byte_stops log old new (at + i) byte within is) in
-    one_more (SameOutside at i) (SameOutside (at + i) 1) (SameOutside at (i + 1)) start (length log) (length later) past (LeftSince log old) (LeftSince later new)
-    (λ c d. outside_wider at i at (i + 1) c d (omega arith) (omega arith))
+    one_more (λ c d. outside_wider at i at (i + 1) c d (omega arith) (omega arith))
     (λ c d e one two. outside_joined at (i + 1) c d e
     (outside_wider at i at (i + 1) c d (omega arith) (omega arith) one) (outside_wider (at + i) 1 at (i + 1) d e (omega arith) (omega arith) two))
     run call

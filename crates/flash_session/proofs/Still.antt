@@ -1,34 +1,21 @@
 -- Runs of reads.
-use Rattle.std.proofs.Common.{◌≡◌, ℕ, ◌+◌, ◌≤◌, List, Option, Some, None, MatchOption, IfOk, IfErr, OnOk, OnErr, Result, Ok, Err, refl, sym, subst, ◌∙◌, arith}
-use Rattle.flash_session.specs.Contents.{Same, Follows, StillHolds, IsKept, HasRisen, HasCause}
+use Rattle.std.proofs.Common.{◌≡◌, ℕ, ◌+◌, ◌≤◌, Bool, true, false, List, Option, Some, None, MatchOption, IfOk, IfErr, OnOk, OnErr, Result, Ok, Err, sym, subst, ◌∙◌, arith}
+use Rattle.std.specs.Bool.{MatchBool}
+use Rattle.flash_session.specs.Contents.{Same, Follows, HasRisen, HasCause}
 use Rattle.flash_session.specs.Gates.{AreOpen, AreShut}
 use Rattle.flash_session.specs.Moments.{Elapses}
-use Rattle.flash_session.proofs.Runs.{one_more}
+use Rattle.flash_session.specs.Seen.{FlashSeen, IsKept}
+use Rattle.flash_session.proofs.Runs.{one_more, follows_joined, same_after, same_stays}
 
-pub same_joined : (a b c : List ℕ → Type 0) → Follows Same a b → Follows Same b c → Follows Same a c
-same_joined a b c one two = record {
-  from = λ z now.
-      let y = two.from z now in
-      let x = one.from y.0 y.1 in
-      (x.0, x.1, record { all = λ i. y.2.all i ∙ x.2.all i });
-}
+pub same_joined : {a b c : List ℕ → Type 0} → Follows Same a b → Follows Same b c → Follows Same a c
+same_joined {a} {b} {c} = follows_joined same_after
 
-pub still_joined : {a b c : List ℕ → Type 0} → StillHolds a b → StillHolds b c → StillHolds a c
-still_joined {a} {b} {c} one two = record {
-  held = same_joined a b c one.held two.held;
-  stays = same_joined c b a two.stays one.stays;
-}
-
-pub still_self : (a : List ℕ → Type 0) → StillHolds a a
-still_self a = record {
-  held = record { from = λ c now. (c, now, record { all = λ i. refl }) };
-  stays = record { from = λ c now. (c, now, record { all = λ i. refl }) };
-}
+pub same_self : (a : List ℕ → Type 0) → Follows Same a a
+same_self a = record { from = λ c now. (c, now, same_stays c) }
 
 -- nothing is written by a run of reads
-pub elapsed : {m n o : ℕ} {past mid since : ℕ → List ℕ → Type 0} → Elapses Same m n past mid → Elapses Same n o mid since → Elapses Same m o past since
-elapsed {m} {n} {o} {past} {mid} {since} one two =
-    one_more Same Same Same m n o past mid since (λ c d s. s) (λ c d e s t. record { all = λ i. t.all i ∙ s.all i }) one two
+pub elapsed : {old mid new : FlashSeen} → Elapses Same old mid → Elapses Same mid new → Elapses Same old new
+elapsed {old} {mid} {new} = one_more (λ c d s. s) same_after
 
 -- gates that are shut still are
 pub shut_kept : (holds0 holds : List ℕ → Type 0) (at from k : ℕ) → AreShut holds0 at from k → Follows Same holds0 holds → AreShut holds at from k
@@ -57,6 +44,12 @@ found_some {A} P Q o k is found = subst (λ (x : Option A). MatchOption x P Q) i
 pub found_none : {A : Type 0} (P : Type 0) (Q : A → Type 0) (o : Option A) → o ≡ None → MatchOption o P Q → P
 found_none {A} P Q o is found = subst (λ (x : Option A). MatchOption x P Q) is found
 
+pub found_true : (P Q : Type 0) (b : Bool) → b ≡ true → MatchBool b P Q → P
+found_true P Q b is found = subst (λ (x : Bool). MatchBool x P Q) is found
+
+pub found_false : (P Q : Type 0) (b : Bool) → b ≡ false → MatchBool b P Q → Q
+found_false P Q b is found = subst (λ (x : Bool). MatchBool x P Q) is found
+
 -- what is told of an Err
 pub on_err : {T E : Type 0} {P Q : E → Type 0} → ((e : E) → P e → Q e) → (r : Result T E) → IfErr r P → IfErr r Q
 on_err to (Ok x) p = tt
@@ -65,6 +58,10 @@ on_err to (Err e) p = to e p
 pub on_ok : {T E : Type 0} {P Q : T → Type 0} → ((x : T) → P x → Q x) → (r : Result T E) → IfOk r P → IfOk r Q
 on_ok to (Ok x) p = to x p
 on_ok to (Err e) p = tt
+
+pub on_err_to : {T E : Type 0} {X Y : Type 0} → (X → Y) → (r : Result T E) → OnErr r X → OnErr r Y
+on_err_to to (Ok x) p = tt
+on_err_to to (Err e) p = to p
 
 pub on_err_any : {T E : Type 0} {P : Type 0} → P → (r : Result T E) → OnErr r P
 on_err_any p (Ok x) = tt
@@ -75,13 +72,13 @@ on_ok_any p (Ok x) = p
 on_ok_any p (Err e) = tt
 
 -- what a stop leaves stays what a read gives, while nothing is written
-pub kept_reads : {h1 h2 : List ℕ → Type 0} {m n : ℕ} {past since : ℕ → List ℕ → Type 0} → IsKept h1 (past m) → StillHolds h1 h2 → Elapses Same m n past since → IsKept h2 (since n)
-kept_reads kept still elapses = record {
-  from = λ c left.
-      let d = elapses.last c left in
+pub kept_reads : {old new : FlashSeen} → IsKept old → Follows Same new.holds old.holds → Elapses Same old new → IsKept new
+kept_reads {old} {new} kept stays elapses = record {
+  from = λ c now.
+      let d = elapses.last c now in
       let e = kept.from d.0 d.1 in
-      let f = still.stays.from e.0 e.1 in
-      (f.0, f.1, record { all = λ i. d.2.all i ∙ e.2.all i ∙ f.2.all i });
+      let f = stays.from e.0 e.1 in
+      (f.0, f.1, same_after f.0 e.0 c f.2 (same_after e.0 d.0 c e.2 d.2));
 }
 
 -- what is told of an Ok, and of what an Ok promises

@@ -27,15 +27,6 @@ pub record Put (at : ℕ) (piece old new : List ℕ) : Type 0 where
 pub record Follows (step : List ℕ → List ℕ → Type 0) (old new : List ℕ → Type 0) : Type 0 where
   pub from : (c : List ℕ) → new c → (d : List ℕ) × old d × step d c
 
--- what is held is what was held, byte for byte
-pub record StillHolds (old new : List ℕ → Type 0) : Type 0 where
-  pub held : Follows Same old new
-  pub stays : Follows Same new old
-
--- a stop leaves what a read gives
-abbrev pub IsKept : (holds left : List ℕ → Type 0) → Type 0
-IsKept holds left = Follows Same holds left
-
 -- a count that has risen, or stands at its type's end
 abbrev pub HasRisen : ℕ → ℕ → Type 0
 HasRisen before now = min (before + 1) (2 ^ 64 - 1) ≤ now

@@ -23,6 +23,6 @@ pub record KnowsAll (k : Held) (s : Session) : Type 0 where
   pub gain_is : gained_held k.solver.places ≡ gain (shape_of s) s.heard
   pub marked : (c : ℕ) → c < s.setup.nb_frag → IsMarked k.solver c ↔ In (suc c) (numbers_of s.heard)
 
--- whenever a session is held, behind an opening too, and it receives
+-- whenever a session is held, after an opening too, and it receives
 abbrev pub FixedMemory : Type 0
 FixedMemory = (h : HeldSession) (s : Session) (k : Held) → h.slot ≡ kept.receiving k → HeldStands h s → KnowsAll k s

@@ -2,6 +2,7 @@
 use Rattle.std.specs.Prelude.{◌≡◌, ℕ, ◌+◌, ◌-◌, ◌^◌, ◌<◌, ◌≤◌, min, Bool, true, ◌||◌, ◌==◌, nat_lt, List, length, if◌then◌else◌}
 use Rattle.std.specs.List.{list_any}
 use Rattle.flash_session.specs.declared.log.Step.{Step}
+use Rattle.flash_session.specs.Seen.{FlashSeen}
 
 -- what a flash in memory tells of its calls: how many steps it has room for and has taken, the numbers of the calls that fail,
 -- and how many calls there were, up to the count's end
@@ -30,6 +31,16 @@ pub record Cells : Type 0 where
   pub bytes : List ℕ
   pub small : length bytes < 2 ^ 32
 
+-- of a stop they tell nothing, and no call fails
+abbrev pub cells_seen : List ℕ → FlashSeen
+cells_seen bytes = record {
+  holds = λ c. c ≡ bytes;
+  since = λ t c. ⊥;
+  moment = 0;
+  faults = 0;
+  room = length bytes;
+}
+
 -- the number of the next call; the first is 1
 abbrev pub next_call : ℕ → ℕ
 next_call made = min (made + 1) (2 ^ 64 - 1)
@@ -38,7 +49,7 @@ next_call made = min (made + 1) (2 ^ 64 - 1)
 abbrev pub fails_next : Calls → (steps : ℕ) → Bool
 fails_next c steps = nat_lt (c.room - c.taken) steps || list_any (λ n. n == next_call c.made) c.fails
 
--- what it tells behind that call
+-- what it tells after that call
 abbrev pub after_call : Calls → (steps : ℕ) → Calls
 after_call c steps = record c {
   taken = if fails_next c steps then c.taken else c.taken + steps;

@@ -6,7 +6,7 @@ use Rattle.flash_session.specs.Contents.{byte_at}
 use Rattle.flash_session.specs.Layout.{open_gate}
 use Rattle.flash_session.specs.Lies.{GatesOpen}
 
--- gate k is open behind the first that is not, and no other gate before it is
+-- gate k is open after the first that is not, and no other gate before it is
 pub record IsFirstStray (c : List ℕ) (at most n k : ℕ) : Type 0 where
   pub behind : n < k
   pub within : k < most

@@ -9,7 +9,7 @@ use Rattle.frag_model.specs.Fragments.{Fragment}
 abbrev pub open_gate : ℕ
 open_gate = 0xa5
 
--- the header's gate is the first byte, and the setup's body lies behind it
+-- the header's gate is the first byte, and the setup's body lies after it
 abbrev pub body_place : ℕ
 body_place = 1
 

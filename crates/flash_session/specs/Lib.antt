@@ -5,6 +5,7 @@ pub mod FixedMemory
 pub mod Flashes
 pub mod Fronts
 pub mod Gates
+pub mod HeldCalls
 pub mod HeldInside
 pub mod HeldSession
 pub mod InRange
@@ -13,5 +14,8 @@ pub mod Lies
 pub mod Log
 pub mod Moments
 pub mod Opening
+pub mod Ranges
 pub mod Replayed
+pub mod Seen
+pub mod Serving
 pub mod Sessions

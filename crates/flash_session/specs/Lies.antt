@@ -1,7 +1,8 @@
 -- What the bytes of a range stand for, place by place.
-use Rattle.std.specs.Prelude.{◌≡◌, ◌≢◌, ◌⊎◌, ℕ, ◌+◌, ◌*◌, ◌<◌, ◌≤◌, List, [], ◌∷◌, length, get_or, Option, None, Some}
+use Rattle.std.specs.Prelude.{◌≡◌, ◌≢◌, ℕ, ◌+◌, ◌*◌, ◌<◌, ◌≤◌, List, [], ◌∷◌, length, get_or, Option, None, Some}
 use Rattle.frag_model.specs.Fragments.{Fragment}
 use Rattle.flash_session.specs.Contents.{byte_at, SameWithin, Follows}
+use Rattle.flash_session.specs.Seen.{FlashSeen, left}
 use Rattle.flash_session.specs.Layout.{open_gate, body_size, most_records, gates_size, records_place}
 use Rattle.flash_session.specs.Layout.{body_at, gates_at, tallies_at, most_tallies, records_at, spelled}
 
@@ -56,13 +57,9 @@ with_record s f = record s { records = f ∷ s.records }
 unfoldable pub with_tally : Stored → Stored
 with_tally s = record s { tallies = s.tallies + 1 }
 
--- before the record or with it
-abbrev pub IsBeforeOrAfter : ℕ → Stored → Fragment → List ℕ → Type 0
-IsBeforeOrAfter base s f c = Lies base s c ⊎ Lies base (with_record s f) c
-
 -- ---- with a session or without
 
--- there is no session: the header's gate is not open, whatever lies behind it
+-- there is no session: the header's gate is not open, whatever lies after it
 abbrev pub NoSession : ℕ → List ℕ → Type 0
 NoSession base c = byte_at c base ≢ open_gate
 
@@ -75,23 +72,19 @@ FitsAs span None = Unit {0}
 FitsAs span (Some s) = Fits span s
 
 -- a read gives the session, or that there is none, and a stop leaves in the range what a read gives
-pub record IsStoredAs (base span : ℕ) (o : Option Stored) (holds left : List ℕ → Type 0) : Type 0 where
+pub record IsStoredAs (base span : ℕ) (o : Option Stored) (seen : FlashSeen) : Type 0 where
   pub fits : FitsAs span o
-  pub read : (b : List ℕ) → holds b → LiesAs base o b
-  pub kept : Follows (SameWithin base span) holds left
+  pub read : (b : List ℕ) → seen.holds b → LiesAs base o b
+  pub kept : Follows (SameWithin base span) seen.holds (left seen)
 
-abbrev pub IsStored : (base span : ℕ) → Stored → (holds left : List ℕ → Type 0) → Type 0
-IsStored base span s holds left = IsStoredAs base span (Some s) holds left
+abbrev pub IsStored : (base span : ℕ) → Stored → FlashSeen → Type 0
+IsStored base span s seen = IsStoredAs base span (Some s) seen
 
 -- a session that heard nothing
 abbrev pub new_stored : List ℕ → ℕ → ℕ → Stored
 new_stored body most size = record { body = body; most = most; size = size; records = []; tallies = 0 }
 
--- what a stop in a setup leaves: what was there, no session, or the new one
-abbrev pub IsOldNoneOrNew : ℕ → Option Stored → Stored → List ℕ → Type 0
-IsOldNoneOrNew base o new c = LiesAs base o c ⊎ NoSession base c ⊎ Lies base new c
-
--- the parts of a session that heard nothing lie behind the header's gate
+-- the parts of a session that heard nothing lie after the header's gate
 pub record IsCleared (base : ℕ) (body : List ℕ) (c : List ℕ) : Type 0 where
   pub body_is : SpelledAt c (body_at base) body
   pub gates : (k : ℕ) → k < gates_size → byte_at c (gates_at base + k) ≡ 0

@@ -26,7 +26,7 @@ session_there h c = new_session h.limits (setup_there h c)
 abbrev pub records_of : HeldSession → List ℕ → ℕ
 records_of h c = 2 * (setup_there h c).nb_frag + 1
 
--- of the gates from a place on, fewer than `most`, the one of number k is open behind one that is closed
+-- of the gates from a place on, fewer than `most`, the one of number k is open after one that is closed
 pub record IsStray (c : List ℕ) (at most k : ℕ) : Type 0 where
   pub within : k < most
   pub opened : byte_at c (at + k) ≡ open_gate

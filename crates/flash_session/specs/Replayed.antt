@@ -1,5 +1,5 @@
 -- What is found in a range when it is opened.
-use Rattle.std.specs.Prelude.{◌≡◌, ℕ, ◌+◌, ◌*◌, ◌≤◌, List, [], ◌∷◌, length, Some, None}
+use Rattle.std.specs.Prelude.{◌≡◌, ℕ, ◌+◌, ◌*◌, ◌≤◌, List, [], ◌∷◌, length, Option, Some, None, MatchOption}
 use Rattle.frag_model.specs.Fragments.{Fragment}
 use Rattle.frag_session.specs.declared.setups.Limits.{Limits}
 use Rattle.frag_session.specs.declared.setups.SetupReq.{SetupReq}
@@ -17,6 +17,7 @@ use Rattle.flash_session.specs.InRange.{InRange, AllInRange}
 use Rattle.flash_session.specs.Layout.{open_gate, body_at, gates_at, tallies_at, most_tallies, spelled}
 use Rattle.flash_session.specs.Lies.{RecordsLie, SpelledAt, GatesOpen, NoSession, record_at}
 use Rattle.flash_session.specs.Opening.{IsFed, setup_there}
+use Rattle.flash_session.specs.Seen.{FlashSeen}
 use Rattle.flash_session.specs.Sessions.{hearing}
 
 -- each tells something new after those before it
@@ -33,7 +34,7 @@ pub record Replayed (s : Session) (x : HeldSlot) (holds : List ℕ → Type 0) (
   pub fed : AllFed s records
   pub stands : Stands x (Some (hearing s records))
 
--- the record behind them is dropped, or tells nothing new
+-- the record after them is dropped, or tells nothing new
 pub record StopsAt (s : Session) (holds : List ℕ → Type 0) (base size k : ℕ) : Type 0 where
   pub records : List Fragment
   pub count : length records ≡ k
@@ -65,7 +66,7 @@ pub record HasHeader (h : HeldSession) (setup : SetupReq) (c : List ℕ) : Type 
   pub setup_is : setup_there h c ≡ setup
   pub fine : setup_bits h.limits (room_in h) setup ≡ 0
 
--- behind it lie so many records and tallies, and the slot heard the records
+-- after it lie so many records and tallies, and the slot heard the records
 pub record IsFound (limits : Limits) (setup : SetupReq) (x : HeldSlot) (holds : List ℕ → Type 0) (base : ℕ) (counts : Counts) : Type 0 where
   pub replayed : Replayed (new_session limits setup) x holds base setup.frag_size counts.records
   pub gates : (b : List ℕ) → holds b → GatesOpen b (gates_at base) counts.records (2 * setup.nb_frag + 1)
@@ -86,6 +87,10 @@ pub record IsOpened (h : HeldSession) (x : HeldSlot) (holds : List ℕ → Type 
 pub record IsEmpty (h : HeldSession) (x : HeldSlot) (holds : List ℕ → Type 0) : Type 0 where
   pub none : (b : List ℕ) → holds b → NoSession h.base b
   pub stands : Stands x None
+
+-- one or the other
+abbrev pub Finds : HeldSession → HeldSlot → Option Counts → FlashSeen → Type 0
+Finds h x o seen = MatchOption o (IsEmpty h x seen.holds) (λ c. IsOpened h x seen.holds c)
 
 -- what is held is this place
 pub record IsPlaceOf (h : HeldSession) (words bytes base span : ℕ) (limits : Limits) (extent : Extent) : Type 0 where

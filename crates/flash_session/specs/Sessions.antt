@@ -14,6 +14,7 @@ use Rattle.flash_session.specs.HeldSession.{HeldSession, room_in}
 use Rattle.flash_session.specs.InRange.{AllInRange}
 use Rattle.flash_session.specs.Layout.{most_tallies}
 use Rattle.flash_session.specs.Lies.{Stored, Lies, NoSession, IsStoredAs}
+use Rattle.flash_session.specs.Seen.{FlashSeen}
 
 -- a session as it is stored: of what it heard, what was new is a record
 unfoldable pub stored_of : Session → (body : List ℕ) → (tallies : ℕ) → Stored
@@ -92,16 +93,16 @@ CountsAs h None = Unit {0}
 CountsAs h (Some s) = IsCount s h.tallies
 
 -- what is held stands for the session but for the count, and is what a read gives, and what a stop leaves in the range
-pub record IsHeldBut (h : HeldSession) (o : Option Session) (holds left : List ℕ → Type 0) : Type 0 where
+pub record IsHeldBut (h : HeldSession) (o : Option Session) (seen : FlashSeen) : Type 0 where
   pub stands : HeldStandsAs h o
   pub body : List ℕ
   pub its_body : IsBodyOf body o
-  pub stored : IsStoredAs h.base h.span (stored_as o body h.tallies) holds left
+  pub stored : IsStoredAs h.base h.span (stored_as o body h.tallies) seen
 
 -- and all this is what a read gives, and what a stop leaves in the range
-pub record IsHeldAs (h : HeldSession) (o : Option Session) (holds left : List ℕ → Type 0) : Type 0 where
+pub record IsHeldAs (h : HeldSession) (o : Option Session) (seen : FlashSeen) : Type 0 where
   pub stands : HeldStandsAs h o
   pub counted : CountsAs h o
   pub body : List ℕ
   pub its_body : IsBodyOf body o
-  pub stored : IsStoredAs h.base h.span (stored_as o body h.tallies) holds left
+  pub stored : IsStoredAs h.base h.span (stored_as o body h.tallies) seen

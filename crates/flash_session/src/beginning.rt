@@ -1,63 +1,35 @@
 //! A session begins and ends: its header's gate is closed before anything else of it is written.
 
-ghost use Rattle.std.specs.Prelude.{◌≡◌, ◌⊎◌, ℕ, ◌+◌, ◌*◌, ◌<◌, ◌≤◌, List, length, is_some, Option, None, Some, OnOk};
-ghost use Rattle.flash_session.specs.Contents.{SameOutside, Put, Follows, IsKept, HasCause};
-ghost use Rattle.flash_session.specs.Moments.{Elapses, LeavesOnly};
+ghost use Rattle.std.specs.Prelude.{◌≡◌, ℕ, ◌+◌, ◌≤◌, List, length, None, Some, OnOk};
 ghost use Rattle.flash_session.specs.Layout.{body_size, records_place};
-ghost use Rattle.flash_session.specs.Lies.{Stored, Fits, Lies, LiesAs, IsStoredAs, NoSession, IsCleared};
-ghost use Rattle.flash_session.specs.Lies.{IsOldNoneOrNew, new_stored};
+ghost use Rattle.flash_session.specs.Lies.{Stored, IsCleared, new_stored};
+ghost use Rattle.flash_session.specs.Ranges.{RangeServes, WasOrIs, WasNoneOrIs, Living, Opening, Beginning};
+ghost use Rattle.flash_session.specs.Seen.{IsKept};
 
 use crate::flash::{Failed, Flash};
 use crate::layout::{BODY, GATES, OPEN, RECORD_GATES};
 use crate::storing::write_synced;
 
-/// Closes the header's gate of a session that lives.
-fn close<F: Flash>(flash: &mut F, base: u32, span: u32) -> Result<(), Failed>
-    requires range { base + span ≤ F.room flash.old }
+/// Ends a session that lives: closes its header's gate.
+pub fn end<F: Flash>(flash: &mut F, base: u32, span: u32) -> Result<(), Failed>
+    requires range { base + span ≤ (F.seen flash.old).room }
     requires long { records_place ≤ span }
-    ensures ended { (s : Stored)
-        → IsStoredAs base span (Some s) (F.holds flash.old)
-        (F.left_since flash.old (F.moment flash.old))
-        → OnOk result
-        (IsStoredAs base span None (F.holds flash.new)
-        (F.left_since flash.new (F.moment flash.new))) }
-    ensures any_moment { (s : Stored)
-        → IsStoredAs base span (Some s) (F.holds flash.old)
-        (F.left_since flash.old (F.moment flash.old))
-        → LeavesOnly (λ c. Lies base s c ⊎ NoSession base c) (F.moment flash.old)
-        (F.moment flash.new) (F.left_since flash.old) (F.left_since flash.new) }
-    ensures kept { OnOk result
-        (IsKept (F.holds flash.new) (F.left_since flash.new (F.moment flash.new))) }
-    ensures held { Follows (SameOutside base span) (F.holds flash.old) (F.holds flash.new) }
-    ensures stops { Elapses (SameOutside base span) (F.moment flash.old) (F.moment flash.new)
-        (F.left_since flash.old) (F.left_since flash.new) }
-    ensures size { F.room flash.new ≡ F.room flash.old }
-    ensures cause { HasCause (F.faults flash.old) (F.faults flash.new) result }
+    ensures ended { RangeServes base span (WasOrIs base) (λ (s : Stored). Some s) (λ s. None)
+        (F.seen flash.old) (F.seen flash.new) result }
+    ensures kept { OnOk result (IsKept (F.seen flash.new)) }
 {
     write_synced(flash, base, &[0])
 }
 
 /// The first step of a setup: no session lives. A gate that is closed is not written again, since a stop could leave it open.
-fn close_if<F: Flash>(flash: &mut F, base: u32, span: u32, lives: bool) -> Result<(), Failed>
-    requires range { base + span ≤ F.room flash.old }
+fn end_if<F: Flash>(flash: &mut F, base: u32, span: u32, lives: bool) -> Result<(), Failed>
+    requires range { base + span ≤ (F.seen flash.old).room }
     requires long { records_place ≤ span }
-    ensures ended { (o : Option Stored) → lives ≡ is_some o
-        → IsStoredAs base span o (F.holds flash.old) (F.left_since flash.old (F.moment flash.old))
-        → OnOk result
-        (IsStoredAs base span None (F.holds flash.new)
-        (F.left_since flash.new (F.moment flash.new))) }
-    ensures any_moment { (o : Option Stored) → lives ≡ is_some o
-        → IsStoredAs base span o (F.holds flash.old) (F.left_since flash.old (F.moment flash.old))
-        → LeavesOnly (λ c. LiesAs base o c ⊎ NoSession base c) (F.moment flash.old)
-        (F.moment flash.new) (F.left_since flash.old) (F.left_since flash.new) }
-    ensures held { Follows (SameOutside base span) (F.holds flash.old) (F.holds flash.new) }
-    ensures stops { Elapses (SameOutside base span) (F.moment flash.old) (F.moment flash.new)
-        (F.left_since flash.old) (F.left_since flash.new) }
-    ensures size { F.room flash.new ≡ F.room flash.old }
-    ensures cause { HasCause (F.faults flash.old) (F.faults flash.new) result }
+    ensures ended { RangeServes base span (WasOrIs base) (λ (x : Living lives). x.before)
+        (λ x. None) (F.seen flash.old) (F.seen flash.new) result }
 {
     if lives {
-        close(flash, base, span)
+        end(flash, base, span)
     } else {
         Ok(())
     }
@@ -65,24 +37,13 @@ fn close_if<F: Flash>(flash: &mut F, base: u32, span: u32, lives: bool) -> Resul
 
 /// Clears all gates but the header's, and writes the setup's body.
 fn clear<F: Flash>(flash: &mut F, base: u32, span: u32, body: &[u8]) -> Result<(), Failed>
-    requires range { base + span ≤ F.room flash.old }
+    requires range { base + span ≤ (F.seen flash.old).room }
     requires long { records_place ≤ span }
     requires body { length body.now ≡ body_size }
-    ensures cleared { OnOk result ((b : List ℕ) → F.holds flash.new b → IsCleared base body.now b) }
-    ensures none { IsStoredAs base span None (F.holds flash.old)
-        (F.left_since flash.old (F.moment flash.old))
-        → OnOk result
-        (IsStoredAs base span None (F.holds flash.new)
-        (F.left_since flash.new (F.moment flash.new))) }
-    ensures any_moment { IsStoredAs base span None (F.holds flash.old)
-        (F.left_since flash.old (F.moment flash.old))
-        → LeavesOnly (NoSession base) (F.moment flash.old) (F.moment flash.new)
-        (F.left_since flash.old) (F.left_since flash.new) }
-    ensures held { Follows (SameOutside base span) (F.holds flash.old) (F.holds flash.new) }
-    ensures stops { Elapses (SameOutside base span) (F.moment flash.old) (F.moment flash.new)
-        (F.left_since flash.old) (F.left_since flash.new) }
-    ensures size { F.room flash.new ≡ F.room flash.old }
-    ensures cause { HasCause (F.faults flash.old) (F.faults flash.new) result }
+    ensures cleared { OnOk result
+        ((b : List ℕ) → (F.seen flash.new).holds b → IsCleared base body.now b) }
+    ensures none { RangeServes base span (WasOrIs base) (λ (x : Unit {0}). None) (λ x. None)
+        (F.seen flash.old) (F.seen flash.new) result }
 {
     flash.fill(base + RECORD_GATES, GATES)?;
     write_synced(flash, base + BODY, body)
@@ -90,29 +51,12 @@ fn clear<F: Flash>(flash: &mut F, base: u32, span: u32, body: &[u8]) -> Result<(
 
 /// Opens the header's gate of a session that is cleared.
 fn open<F: Flash>(flash: &mut F, base: u32, span: u32) -> Result<(), Failed>
-    requires range { base + span ≤ F.room flash.old }
+    requires range { base + span ≤ (F.seen flash.old).room }
     requires long { records_place ≤ span }
-    ensures begun { (body : List ℕ) (most size : ℕ) → Fits span (new_stored body most size)
-        → ((b : List ℕ) → F.holds flash.old b → IsCleared base body b)
-        → IsStoredAs base span None (F.holds flash.old)
-        (F.left_since flash.old (F.moment flash.old))
-        → OnOk result
-        (IsStoredAs base span (Some (new_stored body most size)) (F.holds flash.new)
-        (F.left_since flash.new (F.moment flash.new))) }
-    ensures any_moment { (body : List ℕ) (most size : ℕ) → Fits span (new_stored body most size)
-        → ((b : List ℕ) → F.holds flash.old b → IsCleared base body b)
-        → IsStoredAs base span None (F.holds flash.old)
-        (F.left_since flash.old (F.moment flash.old))
-        → LeavesOnly (λ c. NoSession base c ⊎ Lies base (new_stored body most size) c)
-        (F.moment flash.old) (F.moment flash.new) (F.left_since flash.old)
-        (F.left_since flash.new) }
-    ensures kept { OnOk result
-        (IsKept (F.holds flash.new) (F.left_since flash.new (F.moment flash.new))) }
-    ensures held { Follows (SameOutside base span) (F.holds flash.old) (F.holds flash.new) }
-    ensures stops { Elapses (SameOutside base span) (F.moment flash.old) (F.moment flash.new)
-        (F.left_since flash.old) (F.left_since flash.new) }
-    ensures size { F.room flash.new ≡ F.room flash.old }
-    ensures cause { HasCause (F.faults flash.old) (F.faults flash.new) result }
+    ensures begun { RangeServes base span (WasOrIs base)
+        (λ (x : Opening base span (F.seen flash.old)). None)
+        (λ x. Some (new_stored x.body x.most x.size)) (F.seen flash.old) (F.seen flash.new) result }
+    ensures kept { OnOk result (IsKept (F.seen flash.new)) }
 {
     write_synced(flash, base, &[OPEN])
 }
@@ -126,55 +70,16 @@ pub fn begin<F: Flash>(
     lives: bool,
     body: &[u8],
 ) -> Result<(), Failed>
-    requires range { base + span ≤ F.room flash.old }
+    requires range { base + span ≤ (F.seen flash.old).room }
     requires long { records_place ≤ span }
     requires body { length body.now ≡ body_size }
-    ensures begun { (o : Option Stored) (most size : ℕ) → Fits span (new_stored body.now most size)
-        → lives ≡ is_some o
-        → IsStoredAs base span o (F.holds flash.old) (F.left_since flash.old (F.moment flash.old))
-        → OnOk result
-        (IsStoredAs base span (Some (new_stored body.now most size)) (F.holds flash.new)
-        (F.left_since flash.new (F.moment flash.new))) }
-    ensures any_moment { (o : Option Stored) (most size : ℕ)
-        → Fits span (new_stored body.now most size) → lives ≡ is_some o
-        → IsStoredAs base span o (F.holds flash.old) (F.left_since flash.old (F.moment flash.old))
-        → LeavesOnly (IsOldNoneOrNew base o (new_stored body.now most size)) (F.moment flash.old)
-        (F.moment flash.new) (F.left_since flash.old) (F.left_since flash.new) }
-    ensures kept { OnOk result
-        (IsKept (F.holds flash.new) (F.left_since flash.new (F.moment flash.new))) }
-    ensures held { Follows (SameOutside base span) (F.holds flash.old) (F.holds flash.new) }
-    ensures stops { Elapses (SameOutside base span) (F.moment flash.old) (F.moment flash.new)
-        (F.left_since flash.old) (F.left_since flash.new) }
-    ensures size { F.room flash.new ≡ F.room flash.old }
-    ensures cause { HasCause (F.faults flash.old) (F.faults flash.new) result }
+    ensures begun { RangeServes base span (WasNoneOrIs base)
+        (λ (x : Beginning span lives body.now). x.before)
+        (λ x. Some (new_stored body.now x.most x.size)) (F.seen flash.old)
+        (F.seen flash.new) result }
+    ensures kept { OnOk result (IsKept (F.seen flash.new)) }
 {
-    close_if(flash, base, span, lives)?;
+    end_if(flash, base, span, lives)?;
     clear(flash, base, span, body)?;
     open(flash, base, span)
-}
-
-/// Ends a session that lives.
-pub fn end<F: Flash>(flash: &mut F, base: u32, span: u32) -> Result<(), Failed>
-    requires range { base + span ≤ F.room flash.old }
-    requires long { records_place ≤ span }
-    ensures ended { (s : Stored)
-        → IsStoredAs base span (Some s) (F.holds flash.old)
-        (F.left_since flash.old (F.moment flash.old))
-        → OnOk result
-        (IsStoredAs base span None (F.holds flash.new)
-        (F.left_since flash.new (F.moment flash.new))) }
-    ensures any_moment { (s : Stored)
-        → IsStoredAs base span (Some s) (F.holds flash.old)
-        (F.left_since flash.old (F.moment flash.old))
-        → LeavesOnly (λ c. Lies base s c ⊎ NoSession base c) (F.moment flash.old)
-        (F.moment flash.new) (F.left_since flash.old) (F.left_since flash.new) }
-    ensures kept { OnOk result
-        (IsKept (F.holds flash.new) (F.left_since flash.new (F.moment flash.new))) }
-    ensures held { Follows (SameOutside base span) (F.holds flash.old) (F.holds flash.new) }
-    ensures stops { Elapses (SameOutside base span) (F.moment flash.old) (F.moment flash.new)
-        (F.left_since flash.old) (F.left_since flash.new) }
-    ensures size { F.room flash.new ≡ F.room flash.old }
-    ensures cause { HasCause (F.faults flash.old) (F.faults flash.new) result }
-{
-    close(flash, base, span)
 }

@@ -32,17 +32,10 @@ impl CellFlash {
 }
 
 impl Flash for CellFlash {
-    ghost use Rattle.std.specs.Prelude.{◌≡◌, false, length};
+    ghost use Rattle.std.specs.Prelude.{◌≡◌, false};
+    ghost use Rattle.flash_session.specs.Flashes.{cells_seen};
 
-    ghost holds = { λ f c. c ≡ f.bytes };
-
-    ghost left_since = { λ f t c. ⊥ };
-
-    ghost moment = { λ f. 0 };
-
-    ghost faults = { λ f. 0 };
-
-    ghost room = { λ f. length f.bytes };
+    ghost seen = { λ f. cells_seen f.bytes };
 
     ghost tells = { λ old new steps failed. failed ≡ false };
 

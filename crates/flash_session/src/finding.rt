@@ -1,13 +1,14 @@
 //! What lies in a range, as it is found when it is opened.
 
-ghost use Rattle.std.specs.Prelude.{◌≡◌, ℕ, ◌+◌, ◌*◌, ◌<◌, ◌≤◌, List, Option, None, OnOk, IfOk, IfErr, MatchOption};
-ghost use Rattle.flash_session.specs.Contents.{byte_at, Same, StillHolds, Follows, IsKept, HasRisen};
+ghost use Rattle.std.specs.Prelude.{◌≡◌, ℕ, ◌+◌, ◌*◌, ◌<◌, ◌≤◌, List, None, OnOk};
+ghost use Rattle.flash_session.specs.Contents.{byte_at};
 ghost use Rattle.flash_session.specs.HeldSession.{room_in};
 ghost use Rattle.flash_session.specs.Layout.{open_gate, gates_at, tallies_at, most_records, most_tallies, records_place};
 ghost use Rattle.flash_session.specs.Lies.{GatesOpen, NoSession};
-ghost use Rattle.flash_session.specs.Moments.{Elapses};
 ghost use Rattle.flash_session.specs.Opening.{IsFirstForeign};
-ghost use Rattle.flash_session.specs.Replayed.{Replayed, HasHeader, IsFound, IsOpened, IsEmpty, place_in};
+ghost use Rattle.flash_session.specs.Replayed.{Replayed, HasHeader, IsFound, IsOpened, Finds, place_in};
+ghost use Rattle.flash_session.specs.Seen.{IsKept};
+ghost use Rattle.flash_session.specs.Serving.{FlashOpens};
 ghost use Rattle.frag_session.specs.Session.{new_session};
 ghost use Rattle.frag_session.specs.Setup.{setup_bits, memory_room};
 ghost use Rattle.frag_session.specs.HeldHistory.{Stands};
@@ -35,27 +36,14 @@ pub fn find<F: Flash, const W: usize, const B: usize>(
     limits: Limits,
     slot: &mut Slot<W, B>,
 ) -> Result<Option<Counts>, OpenFault>
-    requires range { base + span ≤ F.room flash.old }
+    requires range { base + span ≤ (F.seen flash.old).room }
     requires long { records_place ≤ span }
     requires none { Stands slot.old None }
-    ensures found { IfOk result
-        (λ o. MatchOption o
-        (IsEmpty (place_in W B base span limits (extent_of slot.old)) slot.new
-        (F.holds flash.new))
-        (λ c. IsOpened (place_in W B base span limits (extent_of slot.old)) slot.new
-        (F.holds flash.new) c)) }
-    ensures foreign { IfErr result
-        (λ e. (p : ℕ) → e ≡ OpenFault.Foreign p → (b : List ℕ) → F.holds flash.new b
-        → IsFirstForeign (place_in W B base span limits (extent_of slot.old)) b p) }
-    ensures kept { OnOk result
-        (IsKept (F.holds flash.new) (F.left_since flash.new (F.moment flash.new))) }
-    ensures held { Follows Same (F.holds flash.old) (F.holds flash.new) }
-    ensures stops { Elapses Same (F.moment flash.old) (F.moment flash.new) (F.left_since flash.old)
-        (F.left_since flash.new) }
-    ensures size { F.room flash.new ≡ F.room flash.old }
-    ensures later { F.faults flash.old ≤ F.faults flash.new }
-    ensures fault { IfErr result
-        (λ e. e ≡ OpenFault.Flash → HasRisen (F.faults flash.old) (F.faults flash.new)) }
+    ensures opens { FlashOpens (λ e. e)
+        (Finds (place_in W B base span limits (extent_of slot.old)) slot.new)
+        (IsFirstForeign (place_in W B base span limits (extent_of slot.old)))
+        (F.seen flash.old) (F.seen flash.new) result }
+    ensures kept { OnOk result (IsKept (F.seen flash.new)) }
     ensures extent { extent_of slot.new ≡ extent_of slot.old }
 {
     match flash.sync() {
@@ -72,25 +60,13 @@ fn find_synced<F: Flash, const W: usize, const B: usize>(
     limits: Limits,
     slot: &mut Slot<W, B>,
 ) -> Result<Option<Counts>, OpenFault>
-    requires range { base + span ≤ F.room flash.old }
+    requires range { base + span ≤ (F.seen flash.old).room }
     requires long { records_place ≤ span }
     requires none { Stands slot.old None }
-    ensures found { IfOk result
-        (λ o. MatchOption o
-        (IsEmpty (place_in W B base span limits (extent_of slot.old)) slot.new
-        (F.holds flash.new))
-        (λ c. IsOpened (place_in W B base span limits (extent_of slot.old)) slot.new
-        (F.holds flash.new) c)) }
-    ensures foreign { IfErr result
-        (λ e. (p : ℕ) → e ≡ OpenFault.Foreign p → (b : List ℕ) → F.holds flash.new b
-        → IsFirstForeign (place_in W B base span limits (extent_of slot.old)) b p) }
-    ensures held { StillHolds (F.holds flash.old) (F.holds flash.new) }
-    ensures stops { Elapses Same (F.moment flash.old) (F.moment flash.new) (F.left_since flash.old)
-        (F.left_since flash.new) }
-    ensures size { F.room flash.new ≡ F.room flash.old }
-    ensures later { F.faults flash.old ≤ F.faults flash.new }
-    ensures fault { IfErr result
-        (λ e. e ≡ OpenFault.Flash → HasRisen (F.faults flash.old) (F.faults flash.new)) }
+    ensures opens { FlashOpens (λ e. e)
+        (Finds (place_in W B base span limits (extent_of slot.old)) slot.new)
+        (IsFirstForeign (place_in W B base span limits (extent_of slot.old)))
+        (F.seen flash.old) (F.seen flash.new) result }
     ensures extent { extent_of slot.new ≡ extent_of slot.old }
 {
     match read_byte(flash, base) {
@@ -107,7 +83,7 @@ fn find_synced<F: Flash, const W: usize, const B: usize>(
     }
 }
 
-/// The session that lies behind an open header's gate.
+/// The session that lies after an open header's gate.
 fn find_behind<F: Flash, const W: usize, const B: usize>(
     flash: &mut F,
     base: u32,
@@ -115,23 +91,14 @@ fn find_behind<F: Flash, const W: usize, const B: usize>(
     limits: Limits,
     slot: &mut Slot<W, B>,
 ) -> Result<Counts, OpenFault>
-    requires range { base + span ≤ F.room flash.old }
+    requires range { base + span ≤ (F.seen flash.old).room }
     requires long { records_place ≤ span }
-    ensures found { ((b : List ℕ) → F.holds flash.new b → byte_at b base ≡ open_gate)
-        → IfOk result
-        (λ c. IsOpened (place_in W B base span limits (extent_of slot.old)) slot.new
-        (F.holds flash.new) c) }
-    ensures foreign { IfErr result
-        (λ e. (p : ℕ) → e ≡ OpenFault.Foreign p → (b : List ℕ) → F.holds flash.new b
-        → byte_at b base ≡ open_gate
-        → IsFirstForeign (place_in W B base span limits (extent_of slot.old)) b p) }
-    ensures held { StillHolds (F.holds flash.old) (F.holds flash.new) }
-    ensures stops { Elapses Same (F.moment flash.old) (F.moment flash.new) (F.left_since flash.old)
-        (F.left_since flash.new) }
-    ensures size { F.room flash.new ≡ F.room flash.old }
-    ensures later { F.faults flash.old ≤ F.faults flash.new }
-    ensures fault { IfErr result
-        (λ e. e ≡ OpenFault.Flash → HasRisen (F.faults flash.old) (F.faults flash.new)) }
+    ensures opens { FlashOpens (λ e. e)
+        (λ c seen. ((b : List ℕ) → seen.holds b → byte_at b base ≡ open_gate)
+        → IsOpened (place_in W B base span limits (extent_of slot.old)) slot.new seen.holds c)
+        (λ b p. byte_at b base ≡ open_gate
+        → IsFirstForeign (place_in W B base span limits (extent_of slot.old)) b p)
+        (F.seen flash.old) (F.seen flash.new) result }
     ensures extent { extent_of slot.new ≡ extent_of slot.old }
 {
     match read_setup(flash, base + BODY) {
@@ -154,22 +121,15 @@ fn find_session<F: Flash, const W: usize, const B: usize>(
     limits: Limits,
     slot: &mut Slot<W, B>,
 ) -> Result<Counts, OpenFault>
-    requires room { base + records_place + (10 + setup.frag_size) * (2 * setup.nb_frag + 1) ≤ F.room
-        flash.old }
+    requires room { base + records_place + (10 + setup.frag_size) * (2 * setup.nb_frag + 1) ≤
+        (F.seen flash.old).room }
     requires most { 2 * setup.nb_frag + 1 ≤ most_records }
     requires fine { setup_bits limits (memory_room W B (extent_of slot.old)) setup ≡ 0 }
-    ensures found { IfOk result (λ c. IsFound limits setup slot.new (F.holds flash.new) base c) }
-    ensures foreign { IfErr result (λ e. (p : ℕ) → e ≡ OpenFault.Foreign p
-        → (b : List ℕ) → F.holds flash.new b
-        → HasHeader (place_in W B base span limits (extent_of slot.old)) setup b
-        → IsFirstForeign (place_in W B base span limits (extent_of slot.old)) b p) }
-    ensures held { StillHolds (F.holds flash.old) (F.holds flash.new) }
-    ensures stops { Elapses Same (F.moment flash.old) (F.moment flash.new) (F.left_since flash.old)
-        (F.left_since flash.new) }
-    ensures size { F.room flash.new ≡ F.room flash.old }
-    ensures later { F.faults flash.old ≤ F.faults flash.new }
-    ensures fault { IfErr result
-        (λ e. e ≡ OpenFault.Flash → HasRisen (F.faults flash.old) (F.faults flash.new)) }
+    ensures opens { FlashOpens (λ e. e)
+        (λ c seen. IsFound limits setup slot.new seen.holds base c)
+        (λ b p. HasHeader (place_in W B base span limits (extent_of slot.old)) setup b
+        → IsFirstForeign (place_in W B base span limits (extent_of slot.old)) b p)
+        (F.seen flash.old) (F.seen flash.new) result }
     ensures extent { extent_of slot.new ≡ extent_of slot.old }
 {
     match read_front(flash, base + RECORD_GATES, 2 * setup.nb_frag + 1) {
@@ -189,26 +149,19 @@ fn find_tallies<F: Flash, const W: usize, const B: usize>(
     records: u16,
     slot: &mut Slot<W, B>,
 ) -> Result<Counts, OpenFault>
-    requires room { base + records_place + (10 + setup.frag_size) * (2 * setup.nb_frag + 1) ≤ F.room
-        flash.old }
+    requires room { base + records_place + (10 + setup.frag_size) * (2 * setup.nb_frag + 1) ≤
+        (F.seen flash.old).room }
     requires most { 2 * setup.nb_frag + 1 ≤ most_records }
     requires few { records ≤ 2 * setup.nb_frag + 1 }
     requires fine { setup_bits limits (memory_room W B (extent_of slot.old)) setup ≡ 0 }
-    ensures found { ((b : List ℕ) → F.holds flash.new b
+    ensures opens { FlashOpens (λ e. e)
+        (λ c seen. ((b : List ℕ) → seen.holds b
         → GatesOpen b (gates_at base) records (2 * setup.nb_frag + 1))
-        → IfOk result (λ c. IsFound limits setup slot.new (F.holds flash.new) base c) }
-    ensures foreign { IfErr result (λ e. (p : ℕ) → e ≡ OpenFault.Foreign p
-        → (b : List ℕ) → F.holds flash.new b
-        → HasHeader (place_in W B base span limits (extent_of slot.old)) setup b
+        → IsFound limits setup slot.new seen.holds base c)
+        (λ b p. HasHeader (place_in W B base span limits (extent_of slot.old)) setup b
         → GatesOpen b (gates_at base) records (2 * setup.nb_frag + 1)
-        → IsFirstForeign (place_in W B base span limits (extent_of slot.old)) b p) }
-    ensures held { StillHolds (F.holds flash.old) (F.holds flash.new) }
-    ensures stops { Elapses Same (F.moment flash.old) (F.moment flash.new) (F.left_since flash.old)
-        (F.left_since flash.new) }
-    ensures size { F.room flash.new ≡ F.room flash.old }
-    ensures later { F.faults flash.old ≤ F.faults flash.new }
-    ensures fault { IfErr result
-        (λ e. e ≡ OpenFault.Flash → HasRisen (F.faults flash.old) (F.faults flash.new)) }
+        → IsFirstForeign (place_in W B base span limits (extent_of slot.old)) b p)
+        (F.seen flash.old) (F.seen flash.new) result }
     ensures extent { extent_of slot.new ≡ extent_of slot.old }
 {
     match read_front(flash, base + TALLY_GATES, MAX_TALLIES) {
@@ -233,27 +186,19 @@ fn find_records<F: Flash, const W: usize, const B: usize>(
     records: u16,
     slot: &mut Slot<W, B>,
 ) -> Result<(), OpenFault>
-    requires room { base + records_place + (10 + setup.frag_size) * (2 * setup.nb_frag + 1) ≤ F.room
-        flash.old }
+    requires room { base + records_place + (10 + setup.frag_size) * (2 * setup.nb_frag + 1) ≤
+        (F.seen flash.old).room }
     requires most { 2 * setup.nb_frag + 1 ≤ most_records }
     requires few { records ≤ 2 * setup.nb_frag + 1 }
     requires fine { setup_bits limits (memory_room W B (extent_of slot.old)) setup ≡ 0 }
-    ensures found { OnOk result
-        (Replayed (new_session limits setup) slot.new (F.holds flash.new) base setup.frag_size
-        records) }
-    ensures foreign { IfErr result (λ e. (p : ℕ) → e ≡ OpenFault.Foreign p
-        → (b : List ℕ) → F.holds flash.new b
-        → HasHeader (place_in W B base span limits (extent_of slot.old)) setup b
+    ensures opens { FlashOpens (λ e. e)
+        (λ done seen. Replayed (new_session limits setup) slot.new seen.holds base setup.frag_size
+        records)
+        (λ b p. HasHeader (place_in W B base span limits (extent_of slot.old)) setup b
         → GatesOpen b (gates_at base) records (2 * setup.nb_frag + 1)
         → (t : ℕ) → GatesOpen b (tallies_at base) t most_tallies
-        → IsFirstForeign (place_in W B base span limits (extent_of slot.old)) b p) }
-    ensures held { StillHolds (F.holds flash.old) (F.holds flash.new) }
-    ensures stops { Elapses Same (F.moment flash.old) (F.moment flash.new) (F.left_since flash.old)
-        (F.left_since flash.new) }
-    ensures size { F.room flash.new ≡ F.room flash.old }
-    ensures later { F.faults flash.old ≤ F.faults flash.new }
-    ensures fault { IfErr result
-        (λ e. e ≡ OpenFault.Flash → HasRisen (F.faults flash.old) (F.faults flash.new)) }
+        → IsFirstForeign (place_in W B base span limits (extent_of slot.old)) b p)
+        (F.seen flash.old) (F.seen flash.new) result }
     ensures extent { extent_of slot.new ≡ extent_of slot.old }
 {
     slot.renew(setup, limits);

@@ -4,7 +4,7 @@ ghost use Rattle.std.specs.Prelude.{◌≡◌, ℕ, ◌+◌, ◌^◌, ◌<◌, �
 ghost use Rattle.std.specs.Prelude.{slice_set, vec_len, vec_capacity};
 ghost use Rattle.flash_session.specs.Contents.{SameOutside, Same, Put};
 ghost use Rattle.flash_session.specs.Moments.{Elapses};
-ghost use Rattle.flash_session.specs.Log.{LeftAt, LeftSince};
+ghost use Rattle.flash_session.specs.Log.{LeftSince, seen_in};
 
 /// One step: a byte was overwritten, at this place, and it was this; or all that was written was synced.
 #[derive(Clone, Copy)]
@@ -45,9 +45,8 @@ pub fn put_all(bytes: &mut [u8], log: &mut Vec<Step>, at: usize, piece: &[u8])
     requires small { length bytes.old < 2 ^ 32 }
     requires room { vec_len log.old + length piece.now ≤ vec_capacity log.old }
     ensures put { Put at piece.now bytes.old bytes.new }
-    ensures stops { Elapses (SameOutside at (length piece.now)) (length log.old.items)
-        (length log.new.items)
-        (LeftSince log.old.items bytes.old) (LeftSince log.new.items bytes.new) }
+    ensures stops { Elapses (SameOutside at (length piece.now)) (seen_in log.old.items bytes.old 0)
+        (seen_in log.new.items bytes.new 0) }
     ensures len { vec_len log.new ≡ vec_len log.old + length piece.now }
     ensures capacity { vec_capacity log.old ≤ vec_capacity log.new }
 {
@@ -62,8 +61,8 @@ pub fn put_zeros(bytes: &mut [u8], log: &mut Vec<Step>, at: usize, n: usize)
     requires small { length bytes.old < 2 ^ 32 }
     requires room { vec_len log.old + n ≤ vec_capacity log.old }
     ensures put { Put at (replicate n 0) bytes.old bytes.new }
-    ensures stops { Elapses (SameOutside at n) (length log.old.items) (length log.new.items)
-        (LeftSince log.old.items bytes.old) (LeftSince log.new.items bytes.new) }
+    ensures stops { Elapses (SameOutside at n) (seen_in log.old.items bytes.old 0)
+        (seen_in log.new.items bytes.new 0) }
     ensures len { vec_len log.new ≡ vec_len log.old + n }
     ensures capacity { vec_capacity log.old ≤ vec_capacity log.new }
 {
@@ -77,8 +76,8 @@ pub fn note_sync(bytes: &[u8], log: &mut Vec<Step>)
     requires room { vec_len log.old < vec_capacity log.old }
     ensures kept { (c : List ℕ) → LeftSince log.new.items bytes.now (length log.new.items) c
         → Same bytes.now c }
-    ensures stops { Elapses Same (length log.old.items) (length log.new.items)
-        (LeftSince log.old.items bytes.now) (LeftSince log.new.items bytes.now) }
+    ensures stops { Elapses Same (seen_in log.old.items bytes.now 0)
+        (seen_in log.new.items bytes.now 0) }
     ensures len { vec_len log.new ≡ vec_len log.old + 1 }
     ensures capacity { vec_capacity log.old ≤ vec_capacity log.new }
 {

@@ -62,19 +62,10 @@ impl MemFlash {
 }
 
 impl Flash for MemFlash {
-    ghost use Rattle.std.specs.Prelude.{◌≡◌, length};
     ghost use Rattle.flash_session.specs.Flashes.{IsCounted};
-    ghost use Rattle.flash_session.specs.Log.{LeftSince};
+    ghost use Rattle.flash_session.specs.Log.{seen_in};
 
-    ghost holds = { λ f c. c ≡ f.bytes };
-
-    ghost left_since = { λ f. LeftSince f.log f.bytes };
-
-    ghost moment = { λ f. length f.log };
-
-    ghost faults = { λ f. f.faults };
-
-    ghost room = { λ f. length f.bytes };
+    ghost seen = { λ f. seen_in f.log f.bytes f.faults };
 
     ghost tells = { λ old new. IsCounted old.calls new.calls };
 

@@ -1,8 +1,8 @@
 //! What is read of a session when it is opened.
 
-ghost use Rattle.std.specs.Prelude.{◌≡◌, ◌≢◌, ℕ, ◌+◌, ◌<◌, ◌≤◌, List, ◌++◌, length, slice_index, true, false, IfOk, MatchOption};
-ghost use Rattle.flash_session.specs.Contents.{byte_at, Same, StillHolds, HasCause};
-ghost use Rattle.flash_session.specs.Moments.{Elapses};
+ghost use Rattle.std.specs.Prelude.{◌≡◌, ◌≢◌, ℕ, ◌+◌, ◌<◌, ◌≤◌, List, ◌++◌, length, slice_index, true, false, MatchOption};
+ghost use Rattle.flash_session.specs.Contents.{byte_at};
+ghost use Rattle.flash_session.specs.Serving.{FlashReads};
 ghost use Rattle.flash_session.specs.Layout.{open_gate, spelled};
 ghost use Rattle.std.specs.Int.{to_le_bytes, w16, w64};
 ghost use Rattle.flash_session.specs.Lies.{SpelledAt};
@@ -19,13 +19,9 @@ const STRETCH: usize = 64;
 
 /// The byte at a place.
 pub fn read_byte<F: Flash>(flash: &mut F, at: u32) -> Result<u8, Failed>
-    requires { at < F.room flash.old }
-    ensures byte { IfOk result (λ x. (b : List ℕ) → F.holds flash.new b → byte_at b at ≡ x) }
-    ensures held { StillHolds (F.holds flash.old) (F.holds flash.new) }
-    ensures stops { Elapses Same (F.moment flash.old) (F.moment flash.new) (F.left_since flash.old)
-        (F.left_since flash.new) }
-    ensures size { F.room flash.new ≡ F.room flash.old }
-    ensures cause { HasCause (F.faults flash.old) (F.faults flash.new) result }
+    requires { at < (F.seen flash.old).room }
+    ensures reads { FlashReads (λ x holds. (b : List ℕ) → holds b → byte_at b at ≡ x)
+        (F.seen flash.old) (F.seen flash.new) result }
 {
     let mut buf = [0];
     flash.read(at, &mut buf)?;
@@ -34,15 +30,11 @@ pub fn read_byte<F: Flash>(flash: &mut F, at: u32) -> Result<u8, Failed>
 
 /// A record that lies at a place: its number and its mark. `part` takes its data.
 pub fn read_record<F: Flash>(flash: &mut F, at: u32, part: &mut [u8]) -> Result<(u16, u64), Failed>
-    requires { at + 10 + length part.old ≤ F.room flash.old }
-    ensures lies { IfOk result
-        (λ r. (b : List ℕ) → F.holds flash.new b
-        → SpelledAt b at (spelled (record { number = r.0; part = part.new; mark = r.1 }))) }
-    ensures held { StillHolds (F.holds flash.old) (F.holds flash.new) }
-    ensures stops { Elapses Same (F.moment flash.old) (F.moment flash.new) (F.left_since flash.old)
-        (F.left_since flash.new) }
-    ensures size { F.room flash.new ≡ F.room flash.old }
-    ensures cause { HasCause (F.faults flash.old) (F.faults flash.new) result }
+    requires { at + 10 + length part.old ≤ (F.seen flash.old).room }
+    ensures reads { FlashReads
+        (λ r holds. (b : List ℕ) → holds b
+        → SpelledAt b at (spelled (record { number = r.0; part = part.new; mark = r.1 })))
+        (F.seen flash.old) (F.seen flash.new) result }
 {
     let mut head = [0; 10];
     flash.read(at, &mut head)?;
@@ -52,15 +44,11 @@ pub fn read_record<F: Flash>(flash: &mut F, at: u32, part: &mut [u8]) -> Result<
 
 /// The setup that lies at a place.
 pub fn read_setup<F: Flash>(flash: &mut F, at: u32) -> Result<SetupReq, Failed>
-    requires { at + 10 ≤ F.room flash.old }
-    ensures reads { IfOk result
-        (λ setup. (body : List ℕ) × IsBody body setup
-        × ((b : List ℕ) → F.holds flash.new b → SpelledAt b at body)) }
-    ensures held { StillHolds (F.holds flash.old) (F.holds flash.new) }
-    ensures stops { Elapses Same (F.moment flash.old) (F.moment flash.new) (F.left_since flash.old)
-        (F.left_since flash.new) }
-    ensures size { F.room flash.new ≡ F.room flash.old }
-    ensures cause { HasCause (F.faults flash.old) (F.faults flash.new) result }
+    requires { at + 10 ≤ (F.seen flash.old).room }
+    ensures reads { FlashReads
+        (λ setup holds. (body : List ℕ) × IsBody body setup
+        × ((b : List ℕ) → holds b → SpelledAt b at body))
+        (F.seen flash.old) (F.seen flash.new) result }
 {
     let mut body = [0; 10];
     flash.read(at, &mut body)?;
@@ -88,7 +76,7 @@ fn setup_in(body: [u8; 10]) -> SetupReq
     }
 }
 
-/// What gates are like: the first so many are open and no other, or this one is open behind one that is closed.
+/// What gates are like: the first so many are open and no other, or this one is open after one that is closed.
 #[derive(Clone, Copy)]
 pub enum Front {
     Whole(u16),
@@ -97,13 +85,9 @@ pub enum Front {
 
 /// What the gates from a place on are like.
 pub fn read_front<F: Flash>(flash: &mut F, at: u32, most: u16) -> Result<Front, Failed>
-    requires { at + most ≤ F.room flash.old }
-    ensures found { IfOk result (λ front. IsFront (F.holds flash.new) at most front) }
-    ensures held { StillHolds (F.holds flash.old) (F.holds flash.new) }
-    ensures stops { Elapses Same (F.moment flash.old) (F.moment flash.new) (F.left_since flash.old)
-        (F.left_since flash.new) }
-    ensures size { F.room flash.new ≡ F.room flash.old }
-    ensures cause { HasCause (F.faults flash.old) (F.faults flash.new) result }
+    requires { at + most ≤ (F.seen flash.old).room }
+    ensures reads { FlashReads (λ front holds. IsFront holds at most front) (F.seen flash.old)
+        (F.seen flash.new) result }
 {
     let most = usize::from(most);
     let mut stretch = [0; STRETCH];
@@ -142,7 +126,7 @@ fn leading_open(gates: &[u8], unbroken: bool) -> usize
     gates.len()
 }
 
-/// The first open gate behind the first `from`.
+/// The first open gate after the first `from`.
 fn next_open(gates: &[u8], from: usize) -> Option<usize>
     requires { from ≤ length gates.now }
     ensures { MatchOption result

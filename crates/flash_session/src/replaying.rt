@@ -1,9 +1,8 @@
 //! The records of a session are heard again when it is opened.
 
-ghost use Rattle.std.specs.Prelude.{◌≡◌, ◌≢◌, ◌+◌, ◌*◌, ◌≤◌, [], Some, true, false, IfOk, MatchOption};
+ghost use Rattle.std.specs.Prelude.{◌≡◌, ◌≢◌, ◌+◌, ◌*◌, ◌≤◌, [], Some, true, false, MatchOption};
 ghost use Rattle.std.specs.Bool.{MatchBool};
-ghost use Rattle.flash_session.specs.Contents.{Same, StillHolds, HasCause};
-ghost use Rattle.flash_session.specs.Moments.{Elapses};
+ghost use Rattle.flash_session.specs.Serving.{FlashReads};
 ghost use Rattle.frag_session.specs.Session.{Session};
 ghost use Rattle.frag_session.specs.HeldHistory.{Stands};
 ghost use Rattle.frag_session.specs.HeldSteps.{extent_of};
@@ -23,17 +22,13 @@ pub fn replay<F: Flash, const W: usize, const B: usize>(
     records: u16,
     slot: &mut Slot<W, B>,
 ) -> Result<Option<u16>, Failed>
-    requires { base + records_place + (10 + size) * records ≤ F.room flash.old }
-    ensures replayed { (s : Session) → s.heard ≡ [] → Stands slot.old (Some s)
-        → IfOk result (λ o. MatchOption o
-        (Replayed s slot.new (F.holds flash.new) base size records)
-        (λ k. (k + 1 ≤ records) × StopsAt s (F.holds flash.new) base size k)) }
+    requires { base + records_place + (10 + size) * records ≤ (F.seen flash.old).room }
+    ensures replayed { FlashReads
+        (λ o holds. (s : Session) → s.heard ≡ [] → Stands slot.old (Some s)
+        → MatchOption o (Replayed s slot.new holds base size records)
+        (λ k. (k + 1 ≤ records) × StopsAt s holds base size k))
+        (F.seen flash.old) (F.seen flash.new) result }
     ensures extent { extent_of slot.new ≡ extent_of slot.old }
-    ensures held { StillHolds (F.holds flash.old) (F.holds flash.new) }
-    ensures stops { Elapses Same (F.moment flash.old) (F.moment flash.new) (F.left_since flash.old)
-        (F.left_since flash.new) }
-    ensures size { F.room flash.new ≡ F.room flash.old }
-    ensures cause { HasCause (F.faults flash.old) (F.faults flash.new) result }
 {
     for k in 0..records {
         if !replay_one(flash, base, size, k, slot)? {
@@ -51,17 +46,12 @@ fn replay_one<F: Flash, const W: usize, const B: usize>(
     k: u16,
     slot: &mut Slot<W, B>,
 ) -> Result<bool, Failed>
-    requires { base + records_place + (10 + size) * (k + 1) ≤ F.room flash.old }
-    ensures replayed { (s : Session) → Replayed s slot.old (F.holds flash.old) base size k
-        → IfOk result
-        (λ new. MatchBool new (Replayed s slot.new (F.holds flash.new) base size (k + 1))
-        (StopsAt s (F.holds flash.new) base size k)) }
+    requires { base + records_place + (10 + size) * (k + 1) ≤ (F.seen flash.old).room }
+    ensures replayed { FlashReads
+        (λ new holds. (s : Session) → Replayed s slot.old (F.seen flash.old).holds base size k
+        → MatchBool new (Replayed s slot.new holds base size (k + 1)) (StopsAt s holds base size k))
+        (F.seen flash.old) (F.seen flash.new) result }
     ensures extent { extent_of slot.new ≡ extent_of slot.old }
-    ensures held { StillHolds (F.holds flash.old) (F.holds flash.new) }
-    ensures stops { Elapses Same (F.moment flash.old) (F.moment flash.new) (F.left_since flash.old)
-        (F.left_since flash.new) }
-    ensures size { F.room flash.new ≡ F.room flash.old }
-    ensures cause { HasCause (F.faults flash.old) (F.faults flash.new) result }
 {
     let mut bytes = [0; 255];
     let part = &mut bytes[..size as usize];

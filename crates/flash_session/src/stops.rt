@@ -29,7 +29,7 @@ impl Model for StopFlash {
 }
 
 impl StopFlash {
-    /// A flash that passes the first `k` calls on, and fails each behind them.
+    /// A flash that passes the first `k` calls on, and fails each after them.
     pub fn over(flash: MemFlash, k: u64) -> Self
         ensures { result ≡ record { flash = flash; left = k; failed = 0 } }
     {
@@ -65,19 +65,11 @@ fn passes(left: &mut u64, failed: &mut u64) -> bool
 }
 
 impl Flash for StopFlash {
-    ghost use Rattle.std.specs.Prelude.{◌≡◌, ◌+◌, length};
+    ghost use Rattle.std.specs.Prelude.{◌+◌};
     ghost use Rattle.flash_session.specs.Flashes.{IsPassed};
-    ghost use Rattle.flash_session.specs.Log.{LeftSince};
+    ghost use Rattle.flash_session.specs.Log.{seen_in};
 
-    ghost holds = { λ s c. c ≡ s.flash.bytes };
-
-    ghost left_since = { λ s. LeftSince s.flash.log s.flash.bytes };
-
-    ghost moment = { λ s. length s.flash.log };
-
-    ghost faults = { λ s. s.flash.faults + s.failed };
-
-    ghost room = { λ s. length s.flash.bytes };
+    ghost seen = { λ s. seen_in s.flash.log s.flash.bytes (s.flash.faults + s.failed) };
 
     ghost tells = { IsPassed };
 

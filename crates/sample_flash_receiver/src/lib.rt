@@ -2,19 +2,19 @@
 //! outlasts a stop. It takes files of up to 256 pieces of 48 bytes and keeps 16 rows for coded fragments.
 #![tactic(auto)]
 
-ghost use Rattle.std.specs.Prelude.{◌≡◌, ◌⊎◌, ℕ, ◌<◌, ◌≤◌, List, Option, length, IfOk, IfErr, MatchResult, option_map};
+ghost use Rattle.std.specs.Prelude.{◌≡◌, ℕ, ◌<◌, ◌≤◌, List, Option, length, IfOk, IfErr, MatchResult, option_map};
 ghost use Rattle.wire_base.specs.Payload.{max_payload};
 ghost use Rattle.frag_session.specs.Session.{Session, view_of, after_setup, after_fragment};
 ghost use Rattle.frag_session.specs.Setup.{setup_bits};
 ghost use Rattle.frag_session.specs.declared.answers.Via.TheVariants.{Unicast};
 ghost use Rattle.flash_session.specs.Body.{FieldsFit};
-ghost use Rattle.flash_session.specs.Contents.{HasCause, HasRisen};
-ghost use Rattle.flash_session.specs.Lies.{NoSession};
-ghost use Rattle.flash_session.specs.Moments.{LeavesOnly};
-ghost use Rattle.flash_session.specs.Opening.{IsFirstForeign, NothingForeign};
-ghost use Rattle.flash_session.specs.Sessions.{HeldStandsAs, IsHeldAs, LiesForAs};
+ghost use Rattle.flash_session.specs.HeldCalls.{HeldOpened, OldOrNew, OldNoneOrNew};
+ghost use Rattle.flash_session.specs.Opening.{IsFirstForeign};
+ghost use Rattle.flash_session.specs.Serving.{FlashOpens};
+ghost use Rattle.flash_session.specs.Sessions.{IsHeldAs, LiesForAs};
 ghost use Rattle.sample_receiver.specs.HeldReceiver.{extent, limits, IsFragment, whole_file};
-ghost use Rattle.sample_flash_receiver.specs.HeldReceiver.{span, room, place, IsReceiver, ReceiverStands};
+ghost use Rattle.sample_flash_receiver.specs.HeldReceiver.{span, room, place, IsReceiver};
+ghost use Rattle.sample_flash_receiver.specs.HeldReceiver.{ReceiverStands, ReceiverServes, ReceiverStays};
 
 use cast_wire::fragment_at;
 use flash_session::{Failed, Flash, Held, OpenFault};
@@ -55,26 +55,17 @@ pub fn arena(alloc: Global) -> Result<Arena, Memory>
 /// place.
 pub fn start<F: Flash>(part: &mut F, arena: Arena) -> Result<Receiver, (Arena, OpenFault)>
     requires arena { arena ≡ extent }
-    requires room { span ≤ F.room part.old }
+    requires room { span ≤ (F.seen part.old).room }
     // What lies for a session, as each call leaves it at any moment, opens for that session.
-    ensures opened { (s : Option Session) (b : List ℕ) → F.holds part.new b → LiesForAs place s b
-        → MatchResult result
-        (λ receiver. IsHeldAs receiver s (F.holds part.new)
-        (F.left_since part.new (F.moment part.new)))
+    ensures opened { (s : Option Session) (b : List ℕ) → (F.seen part.new).holds b
+        → LiesForAs place s b
+        → MatchResult result (λ receiver. IsHeldAs receiver s (F.seen part.new))
         (λ e. e.1 ≡ OpenFault.Flash) }
-    // Whatever lies there, it is the receiver of a session or of none, but for the count of what was received.
-    ensures stands { IfOk result (λ receiver. (s : Option Session) × HeldStandsAs receiver s) }
-    ensures receiver { IfOk result IsReceiver }
+    // Whatever lies there, it is the receiver of a session or of none, but for the count of what was received. Foreign comes
+    // exactly where the header's gate is open and something there is no session's.
+    ensures opens { FlashOpens (λ e. e.1) (HeldOpened 64 768 0 span limits extent)
+        (IsFirstForeign place) (F.seen part.old) (F.seen part.new) result }
     ensures arena { IfErr result (λ e. e.0 ≡ extent) }
-    ensures size { F.room part.new ≡ F.room part.old }
-    ensures fault { IfErr result
-        (λ e. e.1 ≡ OpenFault.Flash → HasRisen (F.faults part.old) (F.faults part.new)) }
-    // Foreign comes exactly where the header's gate is open and something there is no session's.
-    ensures nothing_foreign { IfOk result
-        (λ receiver. (b : List ℕ) → F.holds part.new b → NothingForeign place b) }
-    ensures foreign { IfErr result
-        (λ e. (p : ℕ) → e.1 ≡ OpenFault.Foreign p → (b : List ℕ) → F.holds part.new b
-        → IsFirstForeign place b p) }
 {
     Held::open(part, 0, SPAN, arena, LIMITS)
 }
@@ -86,27 +77,13 @@ pub fn set_up<F: Flash>(
     req: SetupReq,
 ) -> Result<(Receiver, u8), Arena>
     requires receiver { IsReceiver receiver }
-    requires room { span ≤ F.room part.old }
+    requires room { span ≤ (F.seen part.old).room }
     requires fields { FieldsFit req }
     ensures bits { IfOk result (λ r. r.1 ≡ setup_bits limits room req) }
-    ensures stands { (s : Option Session) → ReceiverStands receiver s
-        → IfOk result (λ r. ReceiverStands r.0 (after_setup limits room s req)) }
-    ensures stored { (s : Option Session)
-        → IsHeldAs receiver s (F.holds part.old) (F.left_since part.old (F.moment part.old))
-        → IfOk result
-        (λ r. IsHeldAs r.0 (after_setup limits room s req) (F.holds part.new)
-        (F.left_since part.new (F.moment part.new))) }
     // A stop at any moment leaves the session as it was, none, or the new one.
-    ensures any_moment { (s : Option Session)
-        → IsHeldAs receiver s (F.holds part.old) (F.left_since part.old (F.moment part.old))
-        → LeavesOnly
-        (λ c. LiesForAs receiver s c ⊎ NoSession 0 c
-        ⊎ LiesForAs receiver (after_setup limits room s req) c)
-        (F.moment part.old) (F.moment part.new) (F.left_since part.old) (F.left_since part.new) }
-    ensures receiver { IfOk result (λ r. IsReceiver r.0) }
-    ensures arena { IfErr result (λ arena. arena ≡ extent) }
-    ensures size { F.room part.new ≡ F.room part.old }
-    ensures cause { HasCause (F.faults part.old) (F.faults part.new) result }
+    ensures serves { ReceiverServes (λ r. r.0) receiver (λ s. after_setup limits room s req)
+        (OldNoneOrNew receiver) (F.seen part.old) (F.seen part.new) result }
+    ensures stays { ReceiverStays (λ r. r.0) (F.seen part.old) (F.seen part.new) result }
 {
     receiver.setup(part, req)
 }
@@ -120,30 +97,16 @@ pub fn hear<F: Flash>(
     mark: u64,
 ) -> Result<Receiver, Arena>
     requires receiver { IsReceiver receiver }
-    requires room { span ≤ F.room part.old }
+    requires room { span ≤ (F.seen part.old).room }
     requires short { length payload.now ≤ max_payload }
-    ensures stands { (n : ℕ) (piece : List ℕ) (s : Option Session) → IsFragment payload.now n piece
-        → ReceiverStands receiver s
-        → IfOk result (λ r. ReceiverStands r (after_fragment s Unicast n piece mark)) }
-    ensures stored { (n : ℕ) (piece : List ℕ) (s : Option Session) → IsFragment payload.now n piece
-        → IsHeldAs receiver s (F.holds part.old) (F.left_since part.old (F.moment part.old))
-        → IfOk result
-        (λ r. IsHeldAs r (after_fragment s Unicast n piece mark) (F.holds part.new)
-        (F.left_since part.new (F.moment part.new))) }
     // A stop at any moment leaves the session as it was, or followed by the fragment.
-    ensures any_moment { (n : ℕ) (piece : List ℕ) (s : Option Session)
-        → IsFragment payload.now n piece
-        → IsHeldAs receiver s (F.holds part.old) (F.left_since part.old (F.moment part.old))
-        → LeavesOnly
-        (λ c. LiesForAs receiver s c ⊎ LiesForAs receiver (after_fragment s Unicast n piece mark) c)
-        (F.moment part.old) (F.moment part.new) (F.left_since part.old) (F.left_since part.new) }
+    ensures serves { (n : ℕ) (piece : List ℕ) → IsFragment payload.now n piece
+        → ReceiverServes (λ r. r) receiver (λ s. after_fragment s Unicast n piece mark)
+        (OldOrNew receiver) (F.seen part.old) (F.seen part.new) result }
     // Any other payload changes nothing.
     ensures other { ((n : ℕ) (piece : List ℕ) → ¬ IsFragment payload.now n piece)
         → (result ≡ Ok receiver) × (part.new ≡ part.old) }
-    ensures receiver { IfOk result IsReceiver }
-    ensures arena { IfErr result (λ arena. arena ≡ extent) }
-    ensures size { F.room part.new ≡ F.room part.old }
-    ensures cause { HasCause (F.faults part.old) (F.faults part.new) result }
+    ensures stays { ReceiverStays (λ r. r) (F.seen part.old) (F.seen part.new) result }
 {
     let Some(fragment) = fragment_at(payload, 0) else {
         return Ok(receiver);

@@ -30,15 +30,13 @@ pub struct Part<D: Driver + Drop> {
 impl<D: Driver + Drop> Flash for Part<D> {
     ghost use Rattle.std.proofs.Common.{arith};
 
-    ghost holds = { λ part c. ⊥ };
-
-    ghost left_since = { λ part t c. ⊥ };
-
-    ghost moment = { λ part. 0 };
-
-    ghost faults = { λ part. part.failed };
-
-    ghost room = { λ part. span };
+    ghost seen = { λ part. record {
+      holds = λ c. ⊥;
+      since = λ t c. ⊥;
+      moment = 0;
+      faults = part.failed;
+      room = span;
+    } };
 
     ghost tells = { λ old new steps failed. Unit {0} };
 

@@ -1,3 +1,4 @@
 pub mod ByIndex
 pub mod PlaceSteps
 pub mod ForeignSteps
+pub mod StoreSteps

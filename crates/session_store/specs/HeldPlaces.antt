@@ -1,16 +1,20 @@
 -- The sessions of a device in one flash, by their index, each in a range of its own (this project's profile).
-use Rattle.std.specs.Prelude.{◌≡◌, ℕ, ◌*◌, ◌<◌, ◌≤◌, ◌==◌, if◌then◌else◌, List, length, get_or, Option, Some, None}
+use Rattle.std.specs.Prelude.{◌≡◌, ◌⊎◌, ℕ, ◌*◌, ◌<◌, ◌≤◌, ◌==◌, if◌then◌else◌, List, length, get_or, Option, Some, None, Result, OnOk, OnErr}
 use Rattle.frag_session.specs.Session.{Session}
 use Rattle.frag_session.specs.Setup.{Room}
 use Rattle.row_elimination.specs.Room.{extent_for}
+use Rattle.flash_session.specs.Contents.{HasCause}
+use Rattle.flash_session.specs.declared.flash.Failed.{Failed}
 use Rattle.flash_session.specs.HeldSession.{HeldSession}
 use Rattle.flash_session.specs.Layout.{records_place}
+use Rattle.flash_session.specs.Moments.{LeavesOnly}
 use Rattle.flash_session.specs.Replayed.{place_in, IsPlaceOf}
+use Rattle.flash_session.specs.Seen.{FlashSeen}
 use Rattle.flash_session.specs.Sessions.{LiesForAs, HeldStandsAs, CountsAs, IsHeldAs}
 use Rattle.session_store.specs.declared.held_slots.Idles.{Idles}
 use Rattle.session_store.specs.declared.held_slots.Layout.{Layout}
 use Rattle.session_store.specs.Rows.{row_words, row_bytes}
-use Rattle.session_store.specs.SessionTable.{SessionTable, session_at}
+use Rattle.session_store.specs.SessionTable.{SessionTable, session_at, with_session}
 
 -- ---- where they lie
 
@@ -65,8 +69,8 @@ abbrev pub PlacesStand : HeldPlaces → SessionTable → Type 0
 PlacesStand h table = Each PlaceStands h table
 
 -- so it is what a read gives, and what a stop leaves
-abbrev pub AreHeld : HeldPlaces → SessionTable → (holds left : List ℕ → Type 0) → Type 0
-AreHeld h table holds left = Each (λ k o. IsHeldAs k o holds left) h table
+abbrev pub AreHeld : HeldPlaces → SessionTable → FlashSeen → Type 0
+AreHeld h table seen = Each (λ k o. IsHeldAs k o seen) h table
 
 -- the four lie there, so that opening gives them
 pub record TableLies (l : Layout) (table : SessionTable) (c : List ℕ) : Type 0 where
@@ -75,6 +79,14 @@ pub record TableLies (l : Layout) (table : SessionTable) (c : List ℕ) : Type 0
   pub third : LiesForAs (place_at l (2 * l.span)) table.third c
   pub fourth : LiesForAs (place_at l (3 * l.span)) table.fourth c
 
+-- what a stop leaves of a call: those before it, or those after it
+abbrev pub TableOldOrNew : Layout → (old new : SessionTable) → List ℕ → Type 0
+TableOldOrNew l old new c = TableLies l old c ⊎ TableLies l new c
+
+-- or none at an index in between
+abbrev pub TableOldNoneOrNew : Layout → (index : ℕ) → (old new : SessionTable) → List ℕ → Type 0
+TableOldNoneOrNew l index old new c = TableLies l old c ⊎ TableLies l (with_session old index None) c ⊎ TableLies l new c
+
 -- ---- the memory of four
 
 pub record AreIdle (area : ℕ) (idles : Idles) : Type 0 where
@@ -82,3 +94,20 @@ pub record AreIdle (area : ℕ) (idles : Idles) : Type 0 where
   pub second : idles.second ≡ extent_for area
   pub third : idles.third ≡ extent_for area
   pub fourth : idles.fourth ≡ extent_for area
+
+-- ---- a call for one of them
+
+-- A call made of the sessions what `after` makes of them. At Err nothing is known of the one that it was for.
+pub record PlacesServe {Answer : Type 0} (after : SessionTable → SessionTable) (leaves : (old new : SessionTable) → List ℕ → Type 0)
+    (was is : HeldPlaces) (old new : FlashSeen) (result : Result Answer Failed) : Type 0 where
+  -- what is held in memory stands for the sessions after the call
+  pub stands : (table : SessionTable) → PlacesStand was table → OnOk result (PlacesStand is (after table))
+  -- they are what a read gives, and what a stop leaves
+  pub stored : (table : SessionTable) → AreHeld was table old → OnOk result (AreHeld is (after table) new)
+  -- a stop at any moment leaves this alone
+  pub any_moment : (table : SessionTable) → AreHeld was table old → LeavesOnly (leaves table (after table)) old new
+  -- and where the flash failed a read gives this alone
+  pub again : (table : SessionTable) → AreHeld was table old → OnErr result ((b : List ℕ) → new.holds b → leaves table (after table) b)
+  pub layout : is.layout ≡ was.layout
+  pub size : new.room ≡ old.room
+  pub cause : HasCause old.faults new.faults result

@@ -1,6 +1,6 @@
 pub mod SessionTable
 pub mod Rows
-pub mod Whole
+pub mod CompleteFlags
 pub mod HeldSessions
 pub mod HeldPlaces
 pub mod HeldForeign

@@ -1,19 +1,19 @@
 //! The four sessions of a device in one flash (TS004-1.0.0), by their index: that of index i in the `span` bytes from i * span.
 //! A call is for one of them, and leaves the three others as they were.
 
-ghost use Rattle.std.specs.Prelude.{◌≡◌, ◌≢◌, ◌⊎◌, ℕ, ◌*◌, ◌^◌, ◌<◌, ◌≤◌, List, Option, None, OnOk, IfOk, IfErr, IfSome, MatchResult, is_some, option_map, length};
+ghost use Rattle.std.specs.Prelude.{◌≡◌, ℕ, ◌*◌, ◌^◌, ◌<◌, ◌≤◌, List, Option, None, IfOk, IfErr, IfSome, MatchResult, is_some, option_map, length};
 ghost use Rattle.frag_session.specs.Setup.{setup_bits};
 ghost use Rattle.frag_session.specs.Session.{answer_of, drop_cause, news_in, status_of, view_of};
 ghost use Rattle.frag_session.specs.HeldView.{seen};
 ghost use Rattle.row_elimination.specs.Room.{extent_for};
 ghost use Rattle.flash_session.specs.Body.{FieldsFit};
-ghost use Rattle.flash_session.specs.Contents.{Same, Follows, IsKept, HasRisen, HasCause};
-ghost use Rattle.flash_session.specs.HeldSession.{HeldSession};
 ghost use Rattle.flash_session.specs.Layout.{records_place};
-ghost use Rattle.flash_session.specs.Moments.{Elapses, LeavesOnly};
+ghost use Rattle.flash_session.specs.Seen.{left};
+ghost use Rattle.flash_session.specs.Serving.{FlashOpens};
 ghost use Rattle.session_store.specs.SessionTable.{SessionTable, session_at, with_session, table_after_setup, table_after_fragment};
 ghost use Rattle.session_store.specs.HeldForeign.{NoneForeign, IsForeignIn};
 ghost use Rattle.session_store.specs.HeldPlaces.{AreIdle, IsPlace, PlacesStand, AreHeld, TableLies, base_at, room_at};
+ghost use Rattle.session_store.specs.HeldPlaces.{PlacesServe, TableOldOrNew, TableOldNoneOrNew};
 
 use crate::session_slots::{ROW_BYTES, ROW_WORDS};
 use flash_session::{Failed, Flash, Held, OpenFault};
@@ -89,30 +89,19 @@ impl HeldSlots {
         layout: Layout,
     ) -> Result<HeldSlots, (Idles, OpenFault)>
         requires idle { AreIdle layout.area idles }
-        requires range { 4 * layout.span ≤ F.room flash.old }
+        requires range { 4 * layout.span ≤ (F.seen flash.old).room }
         requires long { records_place ≤ layout.span }
         // What lies for these sessions, as each call leaves it at any moment, opens for them.
-        ensures opened { (table : SessionTable) (b : List ℕ) → F.holds flash.new b
+        ensures opened { (table : SessionTable) (b : List ℕ) → (F.seen flash.new).holds b
             → TableLies layout table b
-            → MatchResult result
-            (λ h. AreHeld h table (F.holds flash.new)
-            (F.left_since flash.new (F.moment flash.new)))
+            → MatchResult result (λ h. AreHeld h table (F.seen flash.new))
             (λ e. e.1 ≡ OpenFault.Flash) }
         // Foreign comes exactly where the header's gate of a range is open and something there is no session's.
-        ensures nothing_foreign { OnOk result
-            ((b : List ℕ) → F.holds flash.new b → NoneForeign layout b) }
-        ensures foreign { IfErr result
-            (λ e. (p : ℕ) → e.1 ≡ OpenFault.Foreign p → (b : List ℕ) → F.holds flash.new b
-            → IsForeignIn layout b p) }
+        ensures opens { FlashOpens (λ e. e.1)
+            (λ h seen. (b : List ℕ) → seen.holds b → NoneForeign layout b) (IsForeignIn layout)
+            (F.seen flash.old) (F.seen flash.new) result }
         ensures layout { IfOk result (λ h. h.layout ≡ layout) }
         ensures area { IfErr result (λ e. AreIdle layout.area e.0) }
-        ensures held { Follows Same (F.holds flash.old) (F.holds flash.new) }
-        ensures stops { Elapses Same (F.moment flash.old) (F.moment flash.new)
-            (F.left_since flash.old) (F.left_since flash.new) }
-        ensures size { F.room flash.new ≡ F.room flash.old }
-        ensures later { F.faults flash.old ≤ F.faults flash.new }
-        ensures fault { IfErr result
-            (λ e. e.1 ≡ OpenFault.Flash → HasRisen (F.faults flash.old) (F.faults flash.new)) }
     {
         let Idles {
             first,
@@ -184,32 +173,14 @@ impl HeldSlots {
     /// nothing is known of that session: open the sessions again.
     pub fn setup<F: Flash>(&mut self, flash: &mut F, req: SetupReq) -> Result<u8, Failed>
         requires fields { FieldsFit req }
-        requires range { 4 * self.old.layout.span ≤ F.room flash.old }
+        requires range { 4 * self.old.layout.span ≤ (F.seen flash.old).room }
         ensures bits { IfOk result
             (λ bits. bits ≡ setup_bits self.old.layout.limits (room_at self.old.layout) req) }
-        ensures stands { (table : SessionTable) → PlacesStand self.old table
-            → OnOk result (PlacesStand self.new
-            (table_after_setup self.old.layout.limits (room_at self.old.layout) req table)) }
-        ensures stored { (table : SessionTable)
-            → AreHeld self.old table (F.holds flash.old)
-            (F.left_since flash.old (F.moment flash.old))
-            → OnOk result (AreHeld self.new
-            (table_after_setup self.old.layout.limits (room_at self.old.layout) req table)
-            (F.holds flash.new) (F.left_since flash.new (F.moment flash.new))) }
         // A stop at any moment leaves the sessions as they were, none at that index, or the new one there.
-        ensures any_moment { (table : SessionTable)
-            → AreHeld self.old table (F.holds flash.old)
-            (F.left_since flash.old (F.moment flash.old))
-            → LeavesOnly
-            (λ c. TableLies self.old.layout table c
-            ⊎ TableLies self.old.layout (with_session table req.index None) c
-            ⊎ TableLies self.old.layout
-            (table_after_setup self.old.layout.limits (room_at self.old.layout) req table) c)
-            (F.moment flash.old) (F.moment flash.new) (F.left_since flash.old)
-            (F.left_since flash.new) }
-        ensures layout { self.new.layout ≡ self.old.layout }
-        ensures size { F.room flash.new ≡ F.room flash.old }
-        ensures cause { HasCause (F.faults flash.old) (F.faults flash.new) result }
+        ensures serves { PlacesServe
+            (table_after_setup self.old.layout.limits (room_at self.old.layout) req)
+            (TableOldNoneOrNew self.old.layout req.index) self.old self.new (F.seen flash.old)
+            (F.seen flash.new) result }
     {
         let at = usize::from(req.index);
         match self.sessions[at].take().unwrap().setup(flash, req) {
@@ -235,35 +206,18 @@ impl HeldSlots {
         mark: u64,
     ) -> Result<Heard, Failed>
         requires index { index < 4 }
-        requires range { 4 * self.old.layout.span ≤ F.room flash.old }
+        requires range { 4 * self.old.layout.span ≤ (F.seen flash.old).room }
         ensures answer { (table : SessionTable) → PlacesStand self.old table
             → IfOk result
             (λ heard. heard ≡ answer_of (drop_cause (session_at table index) via n part.now)
             (news_in (session_at table index) n part.now mark)) }
-        ensures stands { (table : SessionTable) → PlacesStand self.old table
-            → OnOk result
-            (PlacesStand self.new (table_after_fragment index via n part.now mark table)) }
-        ensures stored { (table : SessionTable)
-            → AreHeld self.old table (F.holds flash.old)
-            (F.left_since flash.old (F.moment flash.old))
-            → OnOk result (AreHeld self.new (table_after_fragment index via n part.now mark table)
-            (F.holds flash.new) (F.left_since flash.new (F.moment flash.new))) }
-        // A stop at any moment leaves the sessions as they were, or that one followed by the fragment.
-        ensures any_moment { (table : SessionTable)
-            → AreHeld self.old table (F.holds flash.old)
-            (F.left_since flash.old (F.moment flash.old))
-            → LeavesOnly
-            (λ c. TableLies self.old.layout table c
-            ⊎ TableLies self.old.layout
-            (table_after_fragment index via n part.now mark table) c)
-            (F.moment flash.old) (F.moment flash.new) (F.left_since flash.old)
-            (F.left_since flash.new) }
         ensures dropped { IfOk result
             (λ heard. (c : _) → heard ≡ Heard.Dropped c
             → (self.new ≡ self.old) × (flash.new ≡ flash.old)) }
-        ensures layout { self.new.layout ≡ self.old.layout }
-        ensures size { F.room flash.new ≡ F.room flash.old }
-        ensures cause { HasCause (F.faults flash.old) (F.faults flash.new) result }
+        // A stop at any moment leaves the sessions as they were, or that one followed by the fragment.
+        ensures serves { PlacesServe (table_after_fragment index via n part.now mark)
+            (TableOldOrNew self.old.layout) self.old self.new (F.seen flash.old)
+            (F.seen flash.new) result }
     {
         let at = usize::from(index);
         match self.sessions[at]
@@ -285,28 +239,13 @@ impl HeldSlots {
     /// Ends a session; false exactly where there is none. At Err nothing is known of it: open the sessions again.
     pub fn delete<F: Flash>(&mut self, flash: &mut F, index: u8) -> Result<bool, Failed>
         requires index { index < 4 }
-        requires range { 4 * self.old.layout.span ≤ F.room flash.old }
+        requires range { 4 * self.old.layout.span ≤ (F.seen flash.old).room }
         ensures answer { (table : SessionTable) → PlacesStand self.old table
             → IfOk result (λ lived. lived ≡ is_some (session_at table index)) }
-        ensures stands { (table : SessionTable) → PlacesStand self.old table
-            → OnOk result (PlacesStand self.new (with_session table index None)) }
-        ensures stored { (table : SessionTable)
-            → AreHeld self.old table (F.holds flash.old)
-            (F.left_since flash.old (F.moment flash.old))
-            → OnOk result (AreHeld self.new (with_session table index None) (F.holds flash.new)
-            (F.left_since flash.new (F.moment flash.new))) }
         // A stop at any moment leaves the sessions as they were, or none at that index.
-        ensures any_moment { (table : SessionTable)
-            → AreHeld self.old table (F.holds flash.old)
-            (F.left_since flash.old (F.moment flash.old))
-            → LeavesOnly
-            (λ c. TableLies self.old.layout table c
-            ⊎ TableLies self.old.layout (with_session table index None) c)
-            (F.moment flash.old) (F.moment flash.new) (F.left_since flash.old)
-            (F.left_since flash.new) }
-        ensures layout { self.new.layout ≡ self.old.layout }
-        ensures size { F.room flash.new ≡ F.room flash.old }
-        ensures cause { HasCause (F.faults flash.old) (F.faults flash.new) result }
+        ensures serves { PlacesServe (λ table. with_session table index None)
+            (TableOldOrNew self.old.layout) self.old self.new (F.seen flash.old)
+            (F.seen flash.new) result }
     {
         let at = usize::from(index);
         match self.sessions[at].take().unwrap().delete(flash) {
@@ -349,15 +288,10 @@ impl HeldSlots {
 
     /// What a stop between two calls leaves opens for the sessions that are held, and so does what a read gives.
     pub fn lie<F: Flash>(&self, flash: &F)
-        ensures left { (table : SessionTable)
-            → AreHeld self.now table (F.holds flash.now)
-            (F.left_since flash.now (F.moment flash.now))
-            → (c : List ℕ) → F.left_since flash.now (F.moment flash.now) c
-            → TableLies self.now.layout table c }
-        ensures read { (table : SessionTable)
-            → AreHeld self.now table (F.holds flash.now)
-            (F.left_since flash.now (F.moment flash.now))
-            → (b : List ℕ) → F.holds flash.now b → TableLies self.now.layout table b }
+        ensures left { (table : SessionTable) → AreHeld self.now table (F.seen flash.now)
+            → (c : List ℕ) → left (F.seen flash.now) c → TableLies self.now.layout table c }
+        ensures read { (table : SessionTable) → AreHeld self.now table (F.seen flash.now)
+            → (b : List ℕ) → (F.seen flash.now).holds b → TableLies self.now.layout table b }
     {
         let _layout = &self.layout;
         let _flash = flash;

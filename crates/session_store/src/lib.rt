@@ -1,5 +1,5 @@
 //! The four sessions of a device, by their index: in memory alone, or held in one flash, each in a range of its own, or down
-//! until power comes. Whatever call is stopped, opening them again gives the sessions as they were, or as they are behind the
+//! until power comes. Whatever call is stopped, opening them again gives the sessions as they were, or as they are after the
 //! call; of a setup and a delete none at that index, too.
 //!
 //!     let mut store = SessionStore::reserve(alloc, flash, layout, true)?; // all memory; `flash` is a `Flash`
@@ -12,8 +12,10 @@
 
 mod held_slots;
 mod session_slots;
+mod state;
 mod store;
 
 pub use held_slots::{HeldSlots, Idles, Layout};
 pub use session_slots::SessionSlots;
-pub use store::{FlashFault, SessionStore, Whole};
+pub use state::CompleteFlags;
+pub use store::{FlashFault, SessionStore};

@@ -1,47 +1,34 @@
 //! The sessions of a device, wherever they lie, with its flash: in memory alone, in flash, or down until power comes.
 
-ghost use Rattle.std.specs.Prelude.{◌≡◌, ◌≢◌, ◌⊎◌, ℕ, ◌*◌, ◌<◌, ◌≤◌, Bool, List, Option, Some, None, true, false, OnOk, OnErr, IfOk, IfErr, IfSome, MatchResult, is_ok, is_some, option_map, length};
+ghost use Rattle.std.specs.Prelude.{◌≡◌, ℕ, ◌<◌, ◌≤◌, List, Option, None, true, false, IfOk, IfSome, is_some, option_map, length};
 ghost use Rattle.frag_session.specs.Setup.{setup_bits};
 ghost use Rattle.frag_session.specs.Session.{answer_of, drop_cause, news_in, status_of, view_of};
 ghost use Rattle.frag_session.specs.HeldView.{seen};
 ghost use Rattle.flash_session.specs.Body.{FieldsFit};
-ghost use Rattle.flash_session.specs.Contents.{Same, Follows, HasRisen, HasCause};
-ghost use Rattle.flash_session.specs.Moments.{Elapses, LeavesOnly};
+ghost use Rattle.flash_session.specs.Seen.{left};
+ghost use Rattle.flash_session.specs.Serving.{FlashOpens};
+ghost use Rattle.session_store.specs.CompleteFlags.{none_complete};
 ghost use Rattle.session_store.specs.SessionTable.{SessionTable, no_sessions, session_at, with_session, table_after_setup, table_after_fragment};
 ghost use Rattle.session_store.specs.HeldForeign.{NoneForeign, IsForeignIn};
-ghost use Rattle.session_store.specs.HeldPlaces.{HeldPlaces, AreIdle, PlacesStand, TableLies};
-ghost use Rattle.session_store.specs.HeldStore.{IsUp, IsDown, IsInFlash, StateFits, StateStands, StateIsStored, StateIsHeld, HasRanges, IsLaidOut, store_room};
-ghost use Rattle.session_store.specs.Whole.{is_complete, is_whole, whole_of, none_whole};
-ghost use Rattle.session_store.specs.declared.store.State.TheVariants.{Down};
+ghost use Rattle.session_store.specs.HeldPlaces.{TableLies, TableOldOrNew, TableOldNoneOrNew};
+ghost use Rattle.session_store.specs.HeldStore.{IsUp, IsDown, IsInFlash, StateStands, StateIsHeld, HasRanges, StoreServes, StorePowers, store_room};
+ghost use Rattle.session_store.specs.declared.state.State.TheVariants.{Down};
 
-use crate::held_slots::{HeldSlots, Idles, Layout};
-use crate::session_slots::SessionSlots;
+use crate::held_slots::{HeldSlots, Layout};
+use crate::state::{
+    CompleteFlags, State, first_state, flags_now, go_down, put_down, put_idles, put_slots,
+};
 use flash_session::{Flash, OpenFault};
-use frag_session::{Heard, SetupReq, StatusAns, Verdict, Via, View};
+use frag_session::{Heard, SetupReq, StatusAns, Via, View};
 use row_elimination::Memory;
 use std::alloc::Global;
 use std::marker::Model;
+use thiserror::Error;
 
 /// A call of the flash failed. The sessions are down until power comes.
-#[derive(Clone, Copy, Debug, PartialEq, Eq)]
+#[derive(Clone, Copy, Debug, PartialEq, Eq, Error)]
+#[error("a call of the flash failed")]
 pub struct FlashFault;
-
-/// Which sessions had their file whole when the device was last up.
-#[derive(Clone, Copy, Debug, PartialEq, Eq)]
-pub struct Whole {
-    pub first: bool,
-    pub second: bool,
-    pub third: bool,
-    pub fourth: bool,
-}
-
-/// Where the sessions are.
-#[derive(Drop)]
-pub enum State {
-    Memory(SessionSlots),
-    Flash(HeldSlots),
-    Down(Idles, Whole),
-}
 
 /// The four sessions of a device, by their index, 0 to 3, and the flash that they lie in, if they do. Contracts see
 /// where they are, and for which sessions they stand; what is down stands for none.
@@ -49,35 +36,34 @@ pub enum State {
 pub struct SessionStore<F: Flash + Drop> {
     flash: F,
     layout: Layout,
-    held: bool,
     state: Option<State>,
 }
 
 impl<F: Flash + Drop> Model for SessionStore<F> {
     ghost use Rattle.std.specs.Prelude.{◌≡◌, true, is_some};
-    ghost use Rattle.session_store.specs.HeldStore.{HeldStore, kept, StateFits};
+    ghost use Rattle.session_store.specs.HeldStore.{HeldStore, kept, held_in, StateFits};
 
     ghost Value = { HeldStore F };
 
     ghost view = { λ s. record {
       flash = s.flash;
       layout = s.layout;
-      held = s.held;
+      held = held_in (kept s.state);
       state = kept s.state;
     } };
 
     ghost invariant = { λ s. (is_some s.state ≡ true)
-        × StateFits s.layout s.held (F.room s.flash) (kept s.state) };
+        × StateFits s.layout (F.seen s.flash).room (kept s.state) };
 }
 
 impl<F: Flash + Drop> SessionStore<F> {
     /// Where `held` is false in memory alone, and no flash is called; else down over the flash, in four ranges that lie
     /// within it, until `power`. Memory comes where memory is wanting, and the flash is dropped then.
     pub fn reserve(alloc: Global, flash: F, layout: Layout, held: bool) -> Result<Self, Memory>
-        requires { held ≡ true → HasRanges layout (F.room flash) }
+        requires { held ≡ true → HasRanges layout (F.seen flash).room }
         ensures memory { held ≡ false → IfOk result (λ s. StateStands s.state no_sessions) }
         ensures down { held ≡ true
-            → IfOk result (λ s. (idles : _) × (s.state ≡ Down idles none_whole)) }
+            → IfOk result (λ s. (idles : _) × (s.state ≡ Down idles none_complete)) }
         ensures laid { IfOk result (λ s. (s.layout ≡ layout) × (s.held ≡ held)) }
         ensures flash { IfOk result (λ s. s.flash ≡ flash) }
     {
@@ -85,7 +71,6 @@ impl<F: Flash + Drop> SessionStore<F> {
             Ok(state) => Ok(SessionStore {
                 flash,
                 layout,
-                held,
                 state: Some(state),
             }),
             Err(error) => {
@@ -101,10 +86,8 @@ impl<F: Flash + Drop> SessionStore<F> {
         ensures up { result ≡ false → IsUp self.now.state }
         // What a stop between two calls leaves opens for the sessions that are held in flash.
         ensures between { (table : SessionTable)
-            → StateIsHeld self.now.state table (F.holds self.now.flash)
-            (F.left_since self.now.flash (F.moment self.now.flash))
-            → (c : List ℕ) → F.left_since self.now.flash (F.moment self.now.flash) c
-            → TableLies self.now.layout table c }
+            → StateIsHeld self.now.state table (F.seen self.now.flash)
+            → (c : List ℕ) → left (F.seen self.now.flash) c → TableLies self.now.layout table c }
     {
         match &self.state {
             Some(State::Memory(_)) => false,
@@ -122,7 +105,7 @@ impl<F: Flash + Drop> SessionStore<F> {
         ensures in_flash { result ≡ true → IsInFlash self.now.state }
         ensures in_memory { result ≡ false → IsInFlash self.now.state → ⊥ }
     {
-        self.held
+        !matches!(self.state, Some(State::Memory(_)))
     }
 
     /// Gives the flash back.
@@ -132,7 +115,6 @@ impl<F: Flash + Drop> SessionStore<F> {
         let SessionStore {
             flash,
             layout: _layout,
-            held: _held,
             state,
         } = self;
         drop(state);
@@ -146,47 +128,20 @@ impl<F: Flash + Drop> SessionStore<F> {
         ensures bits { IfOk result
             (λ bits. bits ≡ setup_bits self.old.layout.limits
             (store_room self.old.layout self.old.held) req) }
-        ensures stands { (table : SessionTable) → StateStands self.old.state table
-            → OnOk result (StateStands self.new.state
-            (table_after_setup self.old.layout.limits (store_room self.old.layout self.old.held)
-            req table)) }
-        ensures stored { (table : SessionTable)
-            → StateIsStored self.old.state table (F.holds self.old.flash)
-            (F.left_since self.old.flash (F.moment self.old.flash))
-            → OnOk result (StateIsStored self.new.state
-            (table_after_setup self.old.layout.limits (store_room self.old.layout self.old.held)
-            req table)
-            (F.holds self.new.flash) (F.left_since self.new.flash (F.moment self.new.flash))) }
         // A stop at any moment leaves the sessions as they were, none at that index, or the new one there.
-        ensures any_moment { (table : SessionTable)
-            → StateIsHeld self.old.state table (F.holds self.old.flash)
-            (F.left_since self.old.flash (F.moment self.old.flash))
-            → LeavesOnly
-            (λ c. TableLies self.old.layout table c
-            ⊎ TableLies self.old.layout (with_session table req.index None) c
-            ⊎ TableLies self.old.layout
+        ensures serves { StoreServes F.seen
             (table_after_setup self.old.layout.limits
-            (store_room self.old.layout self.old.held) req table) c)
-            (F.moment self.old.flash) (F.moment self.new.flash) (F.left_since self.old.flash)
-            (F.left_since self.new.flash) }
-        ensures up { OnOk result (IsUp self.new.state) }
-        ensures in_flash { IsInFlash self.old.state → OnOk result (IsInFlash self.new.state) }
-        ensures down { (table : SessionTable) → StateStands self.old.state table
-            → OnErr result ((idles : _) × (self.new.state ≡ Down idles (whole_of table))) }
-        ensures laid { IsLaidOut self.old self.new }
-        ensures quiet { self.old.held ≡ false
-            → (is_ok result ≡ true) × (self.new.flash ≡ self.old.flash) }
-        ensures size { F.room self.new.flash ≡ F.room self.old.flash }
-        ensures cause { HasCause (F.faults self.old.flash) (F.faults self.new.flash) result }
+            (store_room self.old.layout self.old.held) req)
+            (TableOldNoneOrNew self.old.layout req.index) self.old self.new result }
     {
         match &mut self.state {
             Some(State::Memory(slots)) => Ok(slots.setup(req, self.layout.limits)),
             Some(State::Flash(slots)) => {
-                let whole = whole_now(slots);
+                let flags = flags_now(slots);
                 match slots.setup(&mut self.flash, req) {
                     Ok(bits) => Ok(bits),
                     Err(_) => {
-                        go_down(&mut self.state, whole);
+                        go_down(&mut self.state, flags);
                         Err(FlashFault)
                     }
                 }
@@ -210,45 +165,20 @@ impl<F: Flash + Drop> SessionStore<F> {
             → IfOk result
             (λ heard. heard ≡ answer_of (drop_cause (session_at table index) via n part.now)
             (news_in (session_at table index) n part.now mark)) }
-        ensures stands { (table : SessionTable) → StateStands self.old.state table
-            → OnOk result (StateStands self.new.state
-            (table_after_fragment index via n part.now mark table)) }
-        ensures stored { (table : SessionTable)
-            → StateIsStored self.old.state table (F.holds self.old.flash)
-            (F.left_since self.old.flash (F.moment self.old.flash))
-            → OnOk result (StateIsStored self.new.state
-            (table_after_fragment index via n part.now mark table)
-            (F.holds self.new.flash) (F.left_since self.new.flash (F.moment self.new.flash))) }
         ensures dropped { IfOk result
             (λ heard. (c : _) → heard ≡ Heard.Dropped c → self.new ≡ self.old) }
         // A stop at any moment leaves the sessions as they were, or that one followed by the fragment.
-        ensures any_moment { (table : SessionTable)
-            → StateIsHeld self.old.state table (F.holds self.old.flash)
-            (F.left_since self.old.flash (F.moment self.old.flash))
-            → LeavesOnly
-            (λ c. TableLies self.old.layout table c
-            ⊎ TableLies self.old.layout
-            (table_after_fragment index via n part.now mark table) c)
-            (F.moment self.old.flash) (F.moment self.new.flash) (F.left_since self.old.flash)
-            (F.left_since self.new.flash) }
-        ensures up { OnOk result (IsUp self.new.state) }
-        ensures in_flash { IsInFlash self.old.state → OnOk result (IsInFlash self.new.state) }
-        ensures down { (table : SessionTable) → StateStands self.old.state table
-            → OnErr result ((idles : _) × (self.new.state ≡ Down idles (whole_of table))) }
-        ensures laid { IsLaidOut self.old self.new }
-        ensures quiet { self.old.held ≡ false
-            → (is_ok result ≡ true) × (self.new.flash ≡ self.old.flash) }
-        ensures size { F.room self.new.flash ≡ F.room self.old.flash }
-        ensures cause { HasCause (F.faults self.old.flash) (F.faults self.new.flash) result }
+        ensures serves { StoreServes F.seen (table_after_fragment index via n part.now mark)
+            (TableOldOrNew self.old.layout) self.old self.new result }
     {
         match &mut self.state {
             Some(State::Memory(slots)) => Ok(slots.fragment(index, via, n, part, mark)),
             Some(State::Flash(slots)) => {
-                let whole = whole_now(slots);
+                let flags = flags_now(slots);
                 match slots.fragment(&mut self.flash, index, via, n, part, mark) {
                     Ok(heard) => Ok(heard),
                     Err(_) => {
-                        go_down(&mut self.state, whole);
+                        go_down(&mut self.state, flags);
                         Err(FlashFault)
                     }
                 }
@@ -263,40 +193,18 @@ impl<F: Flash + Drop> SessionStore<F> {
         requires index { index < 4 }
         ensures answer { (table : SessionTable) → StateStands self.old.state table
             → IfOk result (λ lived. lived ≡ is_some (session_at table index)) }
-        ensures stands { (table : SessionTable) → StateStands self.old.state table
-            → OnOk result (StateStands self.new.state (with_session table index None)) }
-        ensures stored { (table : SessionTable)
-            → StateIsStored self.old.state table (F.holds self.old.flash)
-            (F.left_since self.old.flash (F.moment self.old.flash))
-            → OnOk result (StateIsStored self.new.state (with_session table index None)
-            (F.holds self.new.flash) (F.left_since self.new.flash (F.moment self.new.flash))) }
         // A stop at any moment leaves the sessions as they were, or none at that index.
-        ensures any_moment { (table : SessionTable)
-            → StateIsHeld self.old.state table (F.holds self.old.flash)
-            (F.left_since self.old.flash (F.moment self.old.flash))
-            → LeavesOnly
-            (λ c. TableLies self.old.layout table c
-            ⊎ TableLies self.old.layout (with_session table index None) c)
-            (F.moment self.old.flash) (F.moment self.new.flash) (F.left_since self.old.flash)
-            (F.left_since self.new.flash) }
-        ensures up { OnOk result (IsUp self.new.state) }
-        ensures in_flash { IsInFlash self.old.state → OnOk result (IsInFlash self.new.state) }
-        ensures down { (table : SessionTable) → StateStands self.old.state table
-            → OnErr result ((idles : _) × (self.new.state ≡ Down idles (whole_of table))) }
-        ensures laid { IsLaidOut self.old self.new }
-        ensures quiet { self.old.held ≡ false
-            → (is_ok result ≡ true) × (self.new.flash ≡ self.old.flash) }
-        ensures size { F.room self.new.flash ≡ F.room self.old.flash }
-        ensures cause { HasCause (F.faults self.old.flash) (F.faults self.new.flash) result }
+        ensures serves { StoreServes F.seen (λ table. with_session table index None)
+            (TableOldOrNew self.old.layout) self.old self.new result }
     {
         match &mut self.state {
             Some(State::Memory(slots)) => Ok(slots.delete(index)),
             Some(State::Flash(slots)) => {
-                let whole = whole_now(slots);
+                let flags = flags_now(slots);
                 match slots.delete(&mut self.flash, index) {
                     Ok(lived) => Ok(lived),
                     Err(_) => {
-                        go_down(&mut self.state, whole);
+                        go_down(&mut self.state, flags);
                         Err(FlashFault)
                     }
                 }
@@ -335,175 +243,24 @@ impl<F: Flash + Drop> SessionStore<F> {
     }
 
     /// Opens the sessions of a device that holds them in flash, and says which had their file whole when they were last up.
-    pub fn power(&mut self) -> Result<Whole, OpenFault>
+    pub fn power(&mut self) -> Result<CompleteFlags, OpenFault>
         requires { self.old.held ≡ true }
-        // What lies for these sessions is what they are behind it, or the flash failed.
-        ensures opened { (table : SessionTable) (b : List ℕ) → F.holds self.new.flash b
-            → TableLies self.old.layout table b
-            → MatchResult result
-            (λ w. StateStands self.new.state table
-            × StateIsStored self.new.state table (F.holds self.new.flash)
-            (F.left_since self.new.flash (F.moment self.new.flash)))
-            (λ e. e ≡ OpenFault.Flash) }
-        ensures whole { (table : SessionTable) → StateStands self.old.state table
-            → IfOk result (λ w. w ≡ whole_of table) }
-        ensures was { (idles : _) (w : Whole) → self.old.state ≡ Down idles w
-            → IfOk result (λ now. now ≡ w) }
-        // What lay for the sessions that were held lies there still, so that power at them gives them again.
-        ensures again { (table : SessionTable)
-            → StateIsHeld self.old.state table (F.holds self.old.flash)
-            (F.left_since self.old.flash (F.moment self.old.flash))
-            → (b : List ℕ) → F.holds self.new.flash b → TableLies self.old.layout table b }
+        ensures powers { StorePowers F.seen self.old self.new result }
         // Foreign comes exactly where the header's gate of a range is open and something there is no session's.
-        ensures nothing_foreign { OnOk result
-            ((b : List ℕ) → F.holds self.new.flash b → NoneForeign self.old.layout b) }
-        ensures foreign { IfErr result
-            (λ e. (p : ℕ) → e ≡ OpenFault.Foreign p → (b : List ℕ) → F.holds self.new.flash b
-            → IsForeignIn self.old.layout b p) }
-        ensures held { Follows Same (F.holds self.old.flash) (F.holds self.new.flash) }
-        ensures stops { Elapses Same (F.moment self.old.flash) (F.moment self.new.flash)
-            (F.left_since self.old.flash) (F.left_since self.new.flash) }
-        ensures up { OnOk result (IsUp self.new.state) }
-        ensures in_flash { OnOk result (IsInFlash self.new.state) }
-        ensures down { OnErr result (IsDown self.new.state) }
-        ensures laid { IsLaidOut self.old self.new }
-        ensures size { F.room self.new.flash ≡ F.room self.old.flash }
-        ensures later { F.faults self.old.flash ≤ F.faults self.new.flash }
-        ensures fault { result ≡ Err OpenFault.Flash
-            → HasRisen (F.faults self.old.flash) (F.faults self.new.flash) }
+        ensures opens { FlashOpens (λ e. e)
+            (λ flags seen. (b : List ℕ) → seen.holds b → NoneForeign self.old.layout b)
+            (IsForeignIn self.old.layout) (F.seen self.old.flash) (F.seen self.new.flash) result }
     {
-        match self.state.take() {
-            Some(state) => {
-                let (idles, whole) = put_down(state, &self.flash, self.layout);
-                match HeldSlots::open(&mut self.flash, idles, self.layout) {
-                    Ok(slots) => {
-                        put_slots(&mut self.state, slots);
-                        Ok(whole)
-                    }
-                    Err((idles, fault)) => {
-                        put_idles(&mut self.state, idles, whole);
-                        Err(fault)
-                    }
-                }
+        let (idles, flags) = put_down(self.state.take(), &self.flash, self.layout);
+        match HeldSlots::open(&mut self.flash, idles, self.layout) {
+            Ok(slots) => {
+                put_slots(&mut self.state, slots);
+                Ok(flags)
             }
-            None => unreachable!(),
+            Err((idles, fault)) => {
+                put_idles(&mut self.state, idles, flags);
+                Err(fault)
+            }
         }
-    }
-}
-
-/// Where the sessions of a new device are.
-fn first_state(alloc: Global, layout: Layout, held: bool) -> Result<State, Memory>
-    ensures memory { held ≡ false → IfOk result
-        (λ state. StateStands state no_sessions × StateFits layout false 0 state) }
-    ensures down { held ≡ true
-        → IfOk result (λ state. (idles : _) × (state ≡ Down idles none_whole)
-        × AreIdle layout.area idles) }
-{
-    if held {
-        match Idles::reserve(alloc, layout.area) {
-            Ok(idles) => Ok(State::Down(
-                idles,
-                Whole {
-                    first: false,
-                    second: false,
-                    third: false,
-                    fourth: false,
-                },
-            )),
-            Err(error) => Err(error),
-        }
-    } else {
-        match SessionSlots::reserve(alloc, layout.area) {
-            Ok(slots) => Ok(State::Memory(slots)),
-            Err(error) => Err(error),
-        }
-    }
-}
-
-/// Puts sessions that are held back where they were taken from. It stands alone, so that no session in memory clears room
-/// for those.
-#[inline(never)]
-fn put_slots(place: &mut Option<State>, slots: HeldSlots)
-    ensures { place.new ≡ Some (State.Flash slots) }
-{
-    *place = Some(State::Flash(slots));
-}
-
-/// Puts sessions down where they were taken from.
-#[inline(never)]
-fn put_idles(place: &mut Option<State>, idles: Idles, whole: Whole)
-    ensures { place.new ≡ Some (Down idles whole) }
-{
-    *place = Some(State::Down(idles, whole));
-}
-
-/// Puts sessions down that are up in flash, with which had their file whole. It stands alone, so that no call that passes
-/// clears room for their memory.
-#[inline(never)]
-fn go_down(place: &mut Option<State>, whole: Whole)
-    ensures { (slots : HeldPlaces) → place.old ≡ Some (State.Flash slots)
-        → (idles : _) × (place.new ≡ Some (Down idles whole)) × AreIdle slots.layout.area idles }
-{
-    if let Some(State::Flash(slots)) = place.take() {
-        *place = Some(State::Down(slots.close(), whole));
-    }
-}
-
-/// The memory of sessions that are held in flash, and which had their file whole.
-fn put_down<F: Flash>(state: State, flash: &F, layout: Layout) -> (Idles, Whole)
-    requires there { IsInFlash state }
-    requires fits { StateFits layout true (F.room flash.now) state }
-    ensures idle { AreIdle layout.area result.0 }
-    ensures whole { (table : SessionTable) → StateStands state table
-        → result.1 ≡ whole_of table }
-    ensures was { (idles : _) (whole : _) → state ≡ Down idles whole → result.1 ≡ whole }
-    ensures lies { (table : SessionTable)
-        → StateIsHeld state table (F.holds flash.now)
-        (F.left_since flash.now (F.moment flash.now))
-        → (b : List ℕ) → F.holds flash.now b → TableLies layout table b }
-{
-    match state {
-        State::Memory(_) => unreachable!(),
-        State::Flash(slots) => {
-            slots.lie(flash);
-            let whole = whole_now(&slots);
-            (slots.close(), whole)
-        }
-        State::Down(idles, whole) => (idles, whole),
-    }
-}
-
-/// Which sessions have their file whole now.
-fn whole_now(slots: &HeldSlots) -> Whole
-    ensures { (table : SessionTable) → PlacesStand slots.now table → result ≡ whole_of table }
-{
-    Whole {
-        first: is_whole(slots, 0),
-        second: is_whole(slots, 1),
-        third: is_whole(slots, 2),
-        fourth: is_whole(slots, 3),
-    }
-}
-
-/// Whether the file of a session is whole.
-#[tactic(auto, unfolding(frag_session::specs::HeldView::seen))]
-fn is_whole(slots: &HeldSlots, index: u8) -> bool
-    requires { index < 4 }
-    ensures { (table : SessionTable) → PlacesStand slots.now table
-        → result ≡ is_whole (view_of (session_at table index)) }
-{
-    match slots.view(index) {
-        Some(view) => is_complete(view.verdict),
-        None => false,
-    }
-}
-
-/// Whether the verdict is that the file is whole.
-fn is_complete(verdict: Verdict) -> bool
-    ensures { result ≡ is_complete verdict }
-{
-    match verdict {
-        Verdict::Complete(_) => true,
-        _ => false,
     }
 }

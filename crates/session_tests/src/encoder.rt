@@ -150,7 +150,7 @@ fn coded_fragments_of_an_image(rt: HostRuntime) {
     drop(encoder);
 }
 
-/// The XOR of the bytes at one place of the pieces in the line, zeros behind the file.
+/// The XOR of the bytes at one place of the pieces in the line, zeros after the file.
 fn plain_byte(file: &[u8], line: &[bool], frag_size: u8, place: usize) -> u8 {
     let mut byte = 0;
     let mut at = place;

@@ -69,7 +69,7 @@ fn solver(rt: &impl Abort, alloc: Global) -> SmallIdle {
 
 /// Whether a session from there has room.
 fn fits<F: Flash>(flash: &F, base: u32) -> bool
-    ensures { OnTrue result (base + SPAN ≤ F.room flash.now) }
+    ensures { OnTrue result (base + SPAN ≤ (F.seen flash.now).room) }
 {
     base as u64 + SPAN as u64 <= flash.size() as u64
 }
@@ -320,7 +320,7 @@ fn a_stop_leaves_what_was_or_what_comes(rt: HostRuntime) {
     }
 }
 
-/// A call after others that is stopped behind a call of the flash that wrote a byte, which is not synced then, and what opens
+/// A call after others that is stopped after a call of the flash that wrote a byte, which is not synced then, and what opens
 /// where that byte is left open, and where it is left as any other.
 struct Torn<'a> {
     before: &'a [Call],
@@ -476,7 +476,7 @@ static FOREIGN: [Foreign; 13] = [
         bytes: &[(2, 5)],
         place: Some(1),
     },
-    // A record's gate behind one that is closed, the last that counts, and the first that does not.
+    // A record's gate after one that is closed, the last that counts, and the first that does not.
     Foreign {
         bytes: &[(64 + 3, 0xa5)],
         place: Some(64 + 3),

@@ -24,7 +24,7 @@ static RANGED: [u8; 56] = [
     0x61, 0xf2, 0x00, 0x15, 0xad, 0x61, 0x62, 0x63,
 ];
 
-/// `IMAGE` with a byte behind it.
+/// `IMAGE` with a byte after it.
 fn longer() -> [u8; 53] {
     let mut file = [0; 53];
     file[..52].copy_from_slice(&IMAGE);

@@ -29,7 +29,7 @@ static LINES: [(u16, u16, u64); 9] = [
     (9, 4, 0b1010),
 ];
 
-/// The words behind the line's are zeros.
+/// The words after the line's are zeros.
 fn is_line(rt: &impl Abort, n: u16, cols: u16, word: u64) {
     assert!(rt; 1 <= n && n <= MAX_PARITY_INDEX && 1 <= cols && cols <= 4);
     let mut out = [!0; 3];

@@ -147,7 +147,7 @@ fn is_done(store: &Store) -> bool {
     }
 }
 
-/// What the sessions of a store that gets power show before each call, and behind the last.
+/// What the sessions of a store that gets power show before each call, and after the last.
 fn all_shown_by(rt: &impl Abort, store: &mut Store) -> [Shown; 9] {
     assert!(rt; store.is_down());
     assert!(rt; power(rt, store));
@@ -183,8 +183,8 @@ fn stays_down(rt: &impl Abort, store: &mut Store) {
     assert!(rt; received(store, 3) == None);
 }
 
-/// Power behind a stop in the call `at`; the call from which the update goes on. The sessions are as before that one or
-/// behind it, or, where it sets one up or ends one, with none at its index.
+/// Power after a stop in the call `at`; the call from which the update goes on. The sessions are as before that one or
+/// after it, or, where it sets one up or ends one, with none at its index.
 fn resumes(rt: &impl Abort, store: &mut Store, all: &[Shown; 9], at: usize) -> usize {
     assert!(rt; power(rt, store));
     assert!(rt; at <= 8);
@@ -213,14 +213,14 @@ fn goes_as_far(rt: &impl Abort, first: &mut Store) -> usize {
     at
 }
 
-/// The update goes on behind a stop in the call `at`, to its end.
+/// The update goes on after a stop in the call `at`, to its end.
 fn ends(rt: &impl Abort, again: &mut Store, all: &[Shown; 9], at: usize) {
     let from = resumes(rt, again, all, at);
     assert!(rt; updated(rt, again, from) == 8);
     assert!(rt; is_done(again));
 }
 
-/// The update with a flash that is stopped after so many calls, and power behind it; true where no call was stopped.
+/// The update with a flash that is stopped after so many calls, and power after it; true where no call was stopped.
 fn goes_on(rt: &impl Abort, alloc: Global, all: &[Shown; 9], calls: u64) -> bool {
     let mut first = store(rt, alloc, memory(rt, alloc), calls);
     let at = goes_as_far(rt, &mut first);

@@ -1,15 +1,14 @@
 //! A session in flash hears a fragment.
 
-ghost use Rattle.std.specs.Prelude.{◌≡◌, ◌⊎◌, ℕ, ◌+◌, ◌*◌, ◌<◌, ◌≤◌, length, Option, OnOk, IfOk, IfErr};
-ghost use Rattle.flash_session.specs.Contents.{SameOutside, SameWithin, Follows, IsKept, HasCause};
-ghost use Rattle.flash_session.specs.Moments.{Elapses, LeavesOnly};
+ghost use Rattle.std.specs.Prelude.{◌≡◌, ◌+◌, ◌*◌, ◌<◌, ◌≤◌, length, Option, Some, OnOk, IfOk};
+ghost use Rattle.flash_session.specs.HeldCalls.{HeldServes, OldOrNew};
 ghost use Rattle.flash_session.specs.Layout.{most_records, records_place, spelled};
-ghost use Rattle.flash_session.specs.Lies.{Stored, IsStored, with_record, IsBeforeOrAfter};
+ghost use Rattle.flash_session.specs.Lies.{with_record};
+ghost use Rattle.flash_session.specs.Ranges.{RangeServes, WasOrIs, Growing};
+ghost use Rattle.flash_session.specs.Seen.{IsKept};
+ghost use Rattle.flash_session.specs.Sessions.{HeldStandsAs};
 ghost use Rattle.frag_session.specs.Limits.{max_received};
 ghost use Rattle.frag_session.specs.Session.{Session, fragment, drop_cause, news_in, answer_of, after_fragment};
-ghost use Rattle.frag_session.specs.HeldSteps.{extent_of};
-ghost use Rattle.flash_session.specs.Replayed.{IsPlaceOf};
-ghost use Rattle.flash_session.specs.Sessions.{HeldStandsAs, CountsAs, IsHeldAs, LiesForAs};
 
 use super::{Held, MAX_RECEIVED};
 use crate::flash::{Failed, Flash};
@@ -28,29 +27,13 @@ impl<const W: usize, const B: usize> Held<W, B> {
         part: &[u8],
         mark: u64,
     ) -> Result<(Held<W, B>, Heard), Idle<W, B>>
-        requires range { self.base + self.span ≤ F.room flash.old }
+        requires range { self.base + self.span ≤ (F.seen flash.old).room }
         ensures answer { (o : Option Session) → HeldStandsAs self.entry o
             → IfOk result
             (λ r. r.1 ≡ answer_of (drop_cause o via n part.now) (news_in o n part.now mark)) }
-        ensures stands { (o : Option Session) → HeldStandsAs self.entry o
-            → IfOk result (λ r. HeldStandsAs r.0 (after_fragment o via n part.now mark)) }
-        ensures counted { (o : Option Session) → HeldStandsAs self.entry o → CountsAs self.entry o
-            → IfOk result (λ r. CountsAs r.0 (after_fragment o via n part.now mark)) }
-        ensures acknowledged { (o : Option Session)
-            → IsHeldAs self.entry o (F.holds flash.old)
-            (F.left_since flash.old (F.moment flash.old))
-            → IfOk result
-            (λ r. IsHeldAs r.0 (after_fragment o via n part.now mark) (F.holds flash.new)
-            (F.left_since flash.new (F.moment flash.new))) }
         // A stop at any moment leaves the session as it was, or followed by the fragment.
-        ensures any_moment { (o : Option Session)
-            → IsHeldAs self.entry o (F.holds flash.old)
-            (F.left_since flash.old (F.moment flash.old))
-            → LeavesOnly
-            (λ c. LiesForAs self.entry o c
-            ⊎ LiesForAs self.entry (after_fragment o via n part.now mark) c)
-            (F.moment flash.old) (F.moment flash.new) (F.left_since flash.old)
-            (F.left_since flash.new) }
+        ensures serves { HeldServes W B self.entry (λ o. after_fragment o via n part.now mark)
+            (OldOrNew self.entry) (F.seen flash.old) (F.seen flash.new) result }
         // Nothing is written of what is dropped, nor of what tells nothing new once the count has come to its end.
         ensures dropped { IfOk result
             (λ r. (c : _) → r.1 ≡ Heard.Dropped c → flash.new ≡ flash.old) }
@@ -58,23 +41,6 @@ impl<const W: usize, const B: usize> Held<W, B> {
             (λ r. (c : _) → r.1 ≡ Heard.Dropped c → r.0 ≡ self.entry) }
         ensures full { max_received ≤ self.entry.records + self.entry.tallies
             → IfOk result (λ r. r.1 ≡ Heard.Fed News.Old → flash.new ≡ flash.old) }
-        // What a stop leaves as a read gives it in another range is left so.
-        ensures others { (at n : ℕ)
-            → Follows (SameWithin at n) (F.holds flash.old)
-            (F.left_since flash.old (F.moment flash.old))
-            → OnOk result
-            (Follows (SameWithin at n) (F.holds flash.new)
-            (F.left_since flash.new (F.moment flash.new))) }
-        ensures place { IfOk result
-            (λ r. IsPlaceOf r.0 W B self.entry.base self.entry.span self.entry.limits
-            (extent_of self.entry.slot)) }
-        ensures extent { IfErr result (λ idle. idle ≡ extent_of self.entry.slot) }
-        ensures held { Follows (SameOutside self.entry.base self.entry.span) (F.holds flash.old)
-            (F.holds flash.new) }
-        ensures stops { Elapses (SameOutside self.entry.base self.entry.span) (F.moment flash.old)
-            (F.moment flash.new) (F.left_since flash.old) (F.left_since flash.new) }
-        ensures size { F.room flash.new ≡ F.room flash.old }
-        ensures cause { HasCause (F.faults flash.old) (F.faults flash.new) result }
     {
         let Held {
             mut slot,
@@ -156,28 +122,15 @@ fn keep<F: Flash>(
     part: &[u8],
     mark: u64,
 ) -> Result<(), Failed>
-    requires range { base + span ≤ F.room flash.old }
+    requires range { base + span ≤ (F.seen flash.old).room }
     requires small { length part.now ≤ 239 }
     requires gate { records < most_records }
     requires room { records_place + (10 + length part.now) * (records + 1) ≤ span }
-    ensures acknowledged { (s : Stored) → s.size ≡ length part.now → length s.records ≡ records
-        → records < s.most
-        → IsStored base span s (F.holds flash.old) (F.left_since flash.old (F.moment flash.old))
-        → OnOk result
-        (IsStored base span (with_record s (fragment n part.now mark)) (F.holds flash.new)
-        (F.left_since flash.new (F.moment flash.new))) }
-    ensures any_moment { (s : Stored) → s.size ≡ length part.now → length s.records ≡ records
-        → records < s.most
-        → IsStored base span s (F.holds flash.old) (F.left_since flash.old (F.moment flash.old))
-        → LeavesOnly (IsBeforeOrAfter base s (fragment n part.now mark)) (F.moment flash.old)
-        (F.moment flash.new) (F.left_since flash.old) (F.left_since flash.new) }
-    ensures kept { OnOk result
-        (IsKept (F.holds flash.new) (F.left_since flash.new (F.moment flash.new))) }
-    ensures outside { Follows (SameOutside base span) (F.holds flash.old) (F.holds flash.new) }
-    ensures stops { Elapses (SameOutside base span) (F.moment flash.old) (F.moment flash.new)
-        (F.left_since flash.old) (F.left_since flash.new) }
-    ensures size { F.room flash.new ≡ F.room flash.old }
-    ensures cause { HasCause (F.faults flash.old) (F.faults flash.new) result }
+    ensures stored { RangeServes base span (WasOrIs base)
+        (λ (x : Growing (length part.now) records). Some x.session)
+        (λ x. Some (with_record x.session (fragment n part.now mark)))
+        (F.seen flash.old) (F.seen flash.new) result }
+    ensures kept { OnOk result (IsKept (F.seen flash.new)) }
 {
     let mut bytes = [0; 249];
     let piece = &mut bytes[..10 + part.len()];

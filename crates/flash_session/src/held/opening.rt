@@ -1,12 +1,12 @@
 //! A session in flash is opened.
 
-ghost use Rattle.std.specs.Prelude.{◌≡◌, ℕ, ◌+◌, ◌≤◌, List, Option, None, OnOk, IfOk, IfErr, MatchResult};
-ghost use Rattle.flash_session.specs.Contents.{Same, Follows, IsKept, HasRisen};
+ghost use Rattle.std.specs.Prelude.{◌≡◌, ℕ, ◌+◌, ◌≤◌, List, Option, None, IfErr, MatchResult};
+ghost use Rattle.flash_session.specs.HeldCalls.{HeldOpened};
 ghost use Rattle.flash_session.specs.Layout.{records_place};
-ghost use Rattle.flash_session.specs.Moments.{Elapses};
-ghost use Rattle.flash_session.specs.Opening.{IsFirstForeign, NothingForeign};
+ghost use Rattle.flash_session.specs.Opening.{IsFirstForeign};
 ghost use Rattle.flash_session.specs.Replayed.{place_in, IsPlaceOf};
-ghost use Rattle.flash_session.specs.Sessions.{HeldStandsAs, IsHeldAs, IsHeldBut, LiesForAs};
+ghost use Rattle.flash_session.specs.Serving.{FlashOpens};
+ghost use Rattle.flash_session.specs.Sessions.{HeldStandsAs, IsHeldAs, LiesForAs};
 ghost use Rattle.frag_session.specs.Session.{Session};
 
 use super::Held;
@@ -25,38 +25,17 @@ impl<const W: usize, const B: usize> Held<W, B> {
         idle: Idle<W, B>,
         limits: Limits,
     ) -> Result<Held<W, B>, (Idle<W, B>, OpenFault)>
-        requires range { base + span ≤ F.room flash.old }
+        requires range { base + span ≤ (F.seen flash.old).room }
         requires long { records_place ≤ span }
-
         // What lies for a session, as each call leaves it at any moment, opens for that session.
-        ensures opened { (o : Option Session) (b : List ℕ) → F.holds flash.new b
+        ensures opened { (o : Option Session) (b : List ℕ) → (F.seen flash.new).holds b
             → LiesForAs (place_in W B base span limits idle.entry) o b
-            → MatchResult result
-            (λ h. IsHeldAs h o (F.holds flash.new)
-            (F.left_since flash.new (F.moment flash.new)))
+            → MatchResult result (λ h. IsHeldAs h o (F.seen flash.new))
             (λ e. e.1 ≡ OpenFault.Flash) }
-        // Whatever lies there, what is opened stands for its records, but for the count.
-        ensures held_but { IfOk result
-            (λ h. (o : Option Session)
-            × IsHeldBut h o (F.holds flash.new) (F.left_since flash.new (F.moment flash.new))) }
-        ensures nothing_foreign { IfOk result
-            (λ h. (b : List ℕ) → F.holds flash.new b
-            → NothingForeign (place_in W B base span limits idle.entry) b) }
-        ensures foreign { IfErr result
-            (λ e. (p : ℕ) → e.1 ≡ OpenFault.Foreign p → (b : List ℕ) → F.holds flash.new b
-            → IsFirstForeign (place_in W B base span limits idle.entry) b p) }
-        ensures place { IfOk result (λ h. IsPlaceOf h W B base span limits idle.entry) }
+        ensures opens { FlashOpens (λ e. e.1) (HeldOpened W B base span limits idle.entry)
+            (IsFirstForeign (place_in W B base span limits idle.entry))
+            (F.seen flash.old) (F.seen flash.new) result }
         ensures area { IfErr result (λ e. e.0 ≡ idle.entry) }
-        // A stop behind it leaves all that a read gives, outside the range too.
-        ensures kept { OnOk result
-            (IsKept (F.holds flash.new) (F.left_since flash.new (F.moment flash.new))) }
-        ensures held { Follows Same (F.holds flash.old) (F.holds flash.new) }
-        ensures stops { Elapses Same (F.moment flash.old) (F.moment flash.new)
-            (F.left_since flash.old) (F.left_since flash.new) }
-        ensures size { F.room flash.new ≡ F.room flash.old }
-        ensures later { F.faults flash.old ≤ F.faults flash.new }
-        ensures fault { IfErr result
-            (λ e. e.1 ≡ OpenFault.Flash → HasRisen (F.faults flash.old) (F.faults flash.new)) }
     {
         let mut slot = Slot::new(idle);
         match find(flash, base, span, limits, &mut slot) {

@@ -1,17 +1,13 @@
 //! A session in flash is set up and deleted.
 
-ghost use Rattle.std.specs.Prelude.{◌≡◌, ◌≢◌, ◌⊎◌, ℕ, ◌+◌, ◌≤◌, Option, Some, None, OnOk, IfOk, IfErr, is_some};
-ghost use Rattle.std.specs.Prelude.{option_map, true, false};
+ghost use Rattle.std.specs.Prelude.{◌≡◌, ◌≢◌, ◌+◌, ◌≤◌, Option, Some, None, IfOk, is_some};
+ghost use Rattle.std.specs.Prelude.{option_map, true};
 ghost use Rattle.flash_session.specs.Body.{FieldsFit, setup_bytes};
-ghost use Rattle.flash_session.specs.Contents.{SameOutside, SameWithin, Follows, HasCause};
+ghost use Rattle.flash_session.specs.HeldCalls.{HeldServes, OldOrNew, OldNoneOrNew};
 ghost use Rattle.flash_session.specs.HeldSession.{room_in};
-ghost use Rattle.flash_session.specs.Lies.{NoSession};
-ghost use Rattle.flash_session.specs.Moments.{Elapses, LeavesOnly};
-ghost use Rattle.flash_session.specs.Replayed.{IsPlaceOf};
-ghost use Rattle.flash_session.specs.Sessions.{HeldStandsAs, CountsAs, IsHeldAs, LiesForAs};
+ghost use Rattle.flash_session.specs.Sessions.{HeldStandsAs};
 ghost use Rattle.frag_session.specs.Session.{Session, after_setup, new_session};
 ghost use Rattle.frag_session.specs.Setup.{lives, setup_bits};
-ghost use Rattle.frag_session.specs.HeldSteps.{extent_of};
 
 use super::Held;
 use crate::beginning::{begin, end};
@@ -28,53 +24,19 @@ impl<const W: usize, const B: usize> Held<W, B> {
         flash: &mut F,
         req: SetupReq,
     ) -> Result<(Held<W, B>, u8), Idle<W, B>>
-        requires range { self.base + self.span ≤ F.room flash.old }
+        requires range { self.base + self.span ≤ (F.seen flash.old).room }
         requires fields { FieldsFit req }
-
         ensures bits { IfOk result
             (λ r. r.1 ≡ setup_bits self.entry.limits (room_in self.entry) req) }
-        ensures stands { (o : Option Session) → HeldStandsAs self.entry o
-            → IfOk result
-            (λ r. HeldStandsAs r.0 (after_setup self.entry.limits (room_in self.entry) o req)) }
-        ensures counted { (o : Option Session) → HeldStandsAs self.entry o → CountsAs self.entry o
-            → IfOk result
-            (λ r. CountsAs r.0 (after_setup self.entry.limits (room_in self.entry) o req)) }
-        ensures acknowledged { (o : Option Session)
-            → IsHeldAs self.entry o (F.holds flash.old)
-            (F.left_since flash.old (F.moment flash.old))
-            → IfOk result
-            (λ r. IsHeldAs r.0 (after_setup self.entry.limits (room_in self.entry) o req)
-            (F.holds flash.new) (F.left_since flash.new (F.moment flash.new))) }
         // A stop at any moment leaves the session as it was, none, or the new one.
-        ensures any_moment { (o : Option Session)
-            → IsHeldAs self.entry o (F.holds flash.old)
-            (F.left_since flash.old (F.moment flash.old))
-            → LeavesOnly
-            (λ c. LiesForAs self.entry o c ⊎ NoSession self.entry.base c
-            ⊎ LiesForAs self.entry (after_setup self.entry.limits (room_in self.entry) o req) c)
-            (F.moment flash.old) (F.moment flash.new) (F.left_since flash.old)
-            (F.left_since flash.new) }
+        ensures serves { HeldServes W B self.entry
+            (λ o. after_setup self.entry.limits (room_in self.entry) o req)
+            (OldNoneOrNew self.entry) (F.seen flash.old) (F.seen flash.new) result }
         // Without a new session no flash is called.
         ensures refused { setup_bits self.entry.limits (room_in self.entry) req ≢ 0
             → flash.new ≡ flash.old }
         ensures equal { (o : Option Session) → HeldStandsAs self.entry o
             → lives (option_map (λ (s : Session). s.setup) o) req ≡ true → flash.new ≡ flash.old }
-        ensures others { (at n : ℕ)
-            → Follows (SameWithin at n) (F.holds flash.old)
-            (F.left_since flash.old (F.moment flash.old))
-            → OnOk result
-            (Follows (SameWithin at n) (F.holds flash.new)
-            (F.left_since flash.new (F.moment flash.new))) }
-        ensures place { IfOk result
-            (λ r. IsPlaceOf r.0 W B self.entry.base self.entry.span self.entry.limits
-            (extent_of self.entry.slot)) }
-        ensures extent { IfErr result (λ idle. idle ≡ extent_of self.entry.slot) }
-        ensures held { Follows (SameOutside self.entry.base self.entry.span) (F.holds flash.old)
-            (F.holds flash.new) }
-        ensures stops { Elapses (SameOutside self.entry.base self.entry.span) (F.moment flash.old)
-            (F.moment flash.new) (F.left_since flash.old) (F.left_since flash.new) }
-        ensures size { F.room flash.new ≡ F.room flash.old }
-        ensures cause { HasCause (F.faults flash.old) (F.faults flash.new) result }
     {
         let bits = self.slot.refusal(req, self.limits, Some(self.span));
         if bits != 0 {
@@ -83,50 +45,17 @@ impl<const W: usize, const B: usize> Held<W, B> {
         if self.slot.keeps(req) {
             return Ok((self, 0));
         }
-        match self.renew(flash, req) {
-            Ok(held) => Ok((held, 0)),
-            Err(idle) => Err(idle),
-        }
+        self.renew(flash, req)
     }
 
-    /// Begins a session in the place of whatever lived.
-    fn renew<F: Flash>(self, flash: &mut F, req: SetupReq) -> Result<Held<W, B>, Idle<W, B>>
-        requires range { self.base + self.span ≤ F.room flash.old }
+    /// Begins a session in the place of whatever lived, and answers no refusal bit.
+    fn renew<F: Flash>(self, flash: &mut F, req: SetupReq) -> Result<(Held<W, B>, u8), Idle<W, B>>
+        requires range { self.base + self.span ≤ (F.seen flash.old).room }
         requires fields { FieldsFit req }
         requires fine { setup_bits self.limits (room_in self) req ≡ 0 }
-        ensures counted { IfOk result (λ h. CountsAs h (Some (new_session self.entry.limits req))) }
-        ensures stands { IfOk result
-            (λ h. HeldStandsAs h (Some (new_session self.entry.limits req))) }
-        ensures acknowledged { (o : Option Session)
-            → IsHeldAs self.entry o (F.holds flash.old)
-            (F.left_since flash.old (F.moment flash.old))
-            → IfOk result
-            (λ h. IsHeldAs h (Some (new_session self.entry.limits req)) (F.holds flash.new)
-            (F.left_since flash.new (F.moment flash.new))) }
-        ensures any_moment { (o : Option Session)
-            → IsHeldAs self.entry o (F.holds flash.old)
-            (F.left_since flash.old (F.moment flash.old))
-            → LeavesOnly
-            (λ c. LiesForAs self.entry o c ⊎ NoSession self.entry.base c
-            ⊎ LiesForAs self.entry (Some (new_session self.entry.limits req)) c)
-            (F.moment flash.old) (F.moment flash.new) (F.left_since flash.old)
-            (F.left_since flash.new) }
-        ensures others { (at n : ℕ)
-            → Follows (SameWithin at n) (F.holds flash.old)
-            (F.left_since flash.old (F.moment flash.old))
-            → OnOk result
-            (Follows (SameWithin at n) (F.holds flash.new)
-            (F.left_since flash.new (F.moment flash.new))) }
-        ensures place { IfOk result
-            (λ h. IsPlaceOf h W B self.entry.base self.entry.span self.entry.limits
-            (extent_of self.entry.slot)) }
-        ensures extent { IfErr result (λ idle. idle ≡ extent_of self.entry.slot) }
-        ensures held { Follows (SameOutside self.entry.base self.entry.span) (F.holds flash.old)
-            (F.holds flash.new) }
-        ensures stops { Elapses (SameOutside self.entry.base self.entry.span) (F.moment flash.old)
-            (F.moment flash.new) (F.left_since flash.old) (F.left_since flash.new) }
-        ensures size { F.room flash.new ≡ F.room flash.old }
-        ensures cause { HasCause (F.faults flash.old) (F.faults flash.new) result }
+        ensures bits { IfOk result (λ r. r.1 ≡ 0) }
+        ensures serves { HeldServes W B self.entry (λ o. Some (new_session self.entry.limits req))
+            (OldNoneOrNew self.entry) (F.seen flash.old) (F.seen flash.new) result }
     {
         let Held {
             mut slot,
@@ -140,14 +69,17 @@ impl<const W: usize, const B: usize> Held<W, B> {
         match begin(flash, base, span, lives, &setup_bytes(req)) {
             Ok(()) => {
                 slot.renew(req, limits);
-                Ok(Held {
-                    slot,
-                    limits,
-                    base,
-                    span,
-                    records: 0,
-                    tallies: 0,
-                })
+                Ok((
+                    Held {
+                        slot,
+                        limits,
+                        base,
+                        span,
+                        records: 0,
+                        tallies: 0,
+                    },
+                    0,
+                ))
             }
             Err(_) => Err(slot.end()),
         }
@@ -156,41 +88,14 @@ impl<const W: usize, const B: usize> Held<W, B> {
     /// Ends the session, as FragSessionDeleteReq asks (TS004-1.0.0); false exactly where there is none, and then no flash is
     /// called. At Err the memory is handed back: open the session again.
     pub fn delete<F: Flash>(self, flash: &mut F) -> Result<(Held<W, B>, bool), Idle<W, B>>
-        requires range { self.base + self.span ≤ F.room flash.old }
-
+        requires range { self.base + self.span ≤ (F.seen flash.old).room }
         ensures answer { (o : Option Session) → HeldStandsAs self.entry o
             → IfOk result (λ r. r.1 ≡ is_some o) }
-        ensures stands { IfOk result (λ r. HeldStandsAs r.0 None) }
-        ensures acknowledged { (o : Option Session)
-            → IsHeldAs self.entry o (F.holds flash.old)
-            (F.left_since flash.old (F.moment flash.old))
-            → IfOk result
-            (λ r. IsHeldAs r.0 None (F.holds flash.new)
-            (F.left_since flash.new (F.moment flash.new))) }
+        ensures ended { IfOk result (λ r. HeldStandsAs r.0 None) }
         // A stop at any moment leaves the session as it was, or none.
-        ensures any_moment { (o : Option Session)
-            → IsHeldAs self.entry o (F.holds flash.old)
-            (F.left_since flash.old (F.moment flash.old))
-            → LeavesOnly (λ c. LiesForAs self.entry o c ⊎ NoSession self.entry.base c)
-            (F.moment flash.old) (F.moment flash.new) (F.left_since flash.old)
-            (F.left_since flash.new) }
+        ensures serves { HeldServes W B self.entry (λ o. None) (OldOrNew self.entry)
+            (F.seen flash.old) (F.seen flash.new) result }
         ensures quiet { HeldStandsAs self.entry None → flash.new ≡ flash.old }
-        ensures others { (at n : ℕ)
-            → Follows (SameWithin at n) (F.holds flash.old)
-            (F.left_since flash.old (F.moment flash.old))
-            → OnOk result
-            (Follows (SameWithin at n) (F.holds flash.new)
-            (F.left_since flash.new (F.moment flash.new))) }
-        ensures place { IfOk result
-            (λ r. IsPlaceOf r.0 W B self.entry.base self.entry.span self.entry.limits
-            (extent_of self.entry.slot)) }
-        ensures extent { IfErr result (λ idle. idle ≡ extent_of self.entry.slot) }
-        ensures held { Follows (SameOutside self.entry.base self.entry.span) (F.holds flash.old)
-            (F.holds flash.new) }
-        ensures stops { Elapses (SameOutside self.entry.base self.entry.span) (F.moment flash.old)
-            (F.moment flash.new) (F.left_since flash.old) (F.left_since flash.new) }
-        ensures size { F.room flash.new ≡ F.room flash.old }
-        ensures cause { HasCause (F.faults flash.old) (F.faults flash.new) result }
     {
         if !self.slot.has_session() {
             return Ok((self, false));

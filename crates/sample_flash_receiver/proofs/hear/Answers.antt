@@ -1,19 +1,15 @@
-use Rattle.std.proofs.Common.{◌⊎◌, length}
-use Rattle.flash_session.specs.Moments.{LeavesOnly}
-use Rattle.flash_session.specs.Sessions.{LiesForAs}
+use Rattle.std.proofs.Common.{length, Ok, Err, refl}
+use Rattle.row_elimination.specs.Room.{Extent}
+use Rattle.flash_session.specs.HeldCalls.{OldOrNew}
 use Rattle.frag_session.specs.Session.{after_fragment}
 use Rattle.frag_session.specs.declared.answers.Via.TheVariants.{Unicast}
+use Rattle.sample_flash_receiver.specs.HeldReceiver.{ReceiverServes}
 use Rattle.sample_flash_receiver.proofs.Heard.{as_spelled, is_fragment}
+use Rattle.sample_flash_receiver.proofs.Serves.{ok_serves, failed_serves, ok_stays, failed_stays}
 use Rattle.sample_flash_receiver.proofs.hear.Goals as goal
 
-pub returns-in_default-clause-stands : goal.returns-in_default-clause-stands
-returns-in_default-clause-stands g c = λ n piece s is stands. absurd (c.in_default.ensures.spelled 0 n (length c.args.payload.now) piece is)
-
-pub returns-in_default-clause-stored : goal.returns-in_default-clause-stored
-returns-in_default-clause-stored g c = λ n piece s is held. absurd (c.in_default.ensures.spelled 0 n (length c.args.payload.now) piece is)
-
-pub returns-in_default-clause-any_moment : goal.returns-in_default-clause-any_moment
-returns-in_default-clause-any_moment g c = λ n piece s is held. absurd (c.in_default.ensures.spelled 0 n (length c.args.payload.now) piece is)
+pub returns-in_default-clause-serves : goal.returns-in_default-clause-serves
+returns-in_default-clause-serves g c = λ n piece is. absurd (c.in_default.ensures.spelled 0 n (length c.args.payload.now) piece is)
 
 pub returns-in-Ok-clause-other : goal.returns-in-Ok-clause-other
 returns-in-Ok-clause-other g c = λ no. absurd (no c.in-Some.fragment.n c.in-Some.fragment.bytes.now
@@ -23,9 +19,20 @@ pub returns-in-Err-clause-other : goal.returns-in-Err-clause-other
 returns-in-Err-clause-other g c = λ no. absurd (no c.in-Some.fragment.n c.in-Some.fragment.bytes.now
     (is_fragment c.in-Some.fragment.index c.in-Some.fragment.n c.in-Some.fragment.bytes.now c.args.payload.now c.in-Some.ensures.spelled c.if-fragment-ne0.false))
 
-pub returns-in-Err-clause-any_moment : goal.returns-in-Err-clause-any_moment
-returns-in-Err-clause-any_moment g c = λ n piece s is held.
-    as_spelled (λ m q. LeavesOnly (λ d. LiesForAs c.args.receiver s d ⊎ LiesForAs c.args.receiver (after_fragment s Unicast m q c.args.mark) d)
-    (g.F.Flash.moment c.args.part.now) (g.F.Flash.moment c.hear.new.flash) (g.F.Flash.left_since c.args.part.now) (g.F.Flash.left_since c.hear.new.flash))
+pub returns-in-Ok-clause-serves : goal.returns-in-Ok-clause-serves
+returns-in-Ok-clause-serves g c = λ n piece is.
+    as_spelled (λ m q. ReceiverServes {E = Extent} (λ r. r) c.args.receiver (λ s. after_fragment s Unicast m q c.args.mark) (OldOrNew c.args.receiver) (g.F.Flash.seen c.args.part.now) (g.F.Flash.seen c.hear.new.flash) (Ok c.in-Ok.receiver))
     c.in-Some.fragment.index c.in-Some.fragment.n n c.in-Some.fragment.bytes.now piece c.args.payload.now c.in-Some.ensures.spelled is
-    (c.hear.ensures.any_moment s held)
+    (ok_serves c.args.receiver {of = λ r. r} {x = c.in-Ok._heard} c.in-Ok.receiver refl c.in-Ok.ensures.serves)
+
+pub returns-in-Err-clause-serves : goal.returns-in-Err-clause-serves
+returns-in-Err-clause-serves g c = λ n piece is.
+    as_spelled (λ m q. ReceiverServes {E = Extent} (λ r. r) c.args.receiver (λ s. after_fragment s Unicast m q c.args.mark) (OldOrNew c.args.receiver) (g.F.Flash.seen c.args.part.now) (g.F.Flash.seen c.hear.new.flash) (Err c.in-Err.arena))
+    c.in-Some.fragment.index c.in-Some.fragment.n n c.in-Some.fragment.bytes.now piece c.args.payload.now c.in-Some.ensures.spelled is
+    (failed_serves c.args.receiver {of = λ r. r} c.in-Err.ensures.serves)
+
+pub returns-in-Ok-clause-stays : goal.returns-in-Ok-clause-stays
+returns-in-Ok-clause-stays g c = ok_stays c.args.receiver c.in-Ok.receiver refl c.requires.receiver c.in-Ok.ensures.serves
+
+pub returns-in-Err-clause-stays : goal.returns-in-Err-clause-stays
+returns-in-Err-clause-stays g c = failed_stays c.args.receiver c.requires.receiver c.in-Err.ensures.serves

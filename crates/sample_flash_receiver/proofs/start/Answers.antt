@@ -1,7 +1,7 @@
 use Rattle.sample_flash_receiver.proofs.start.Goals as goal
 
-pub returns-clause-nothing_foreign : goal.returns-clause-nothing_foreign
-returns-clause-nothing_foreign g c = rw c.requires.arena at c.open.ensures.nothing_foreign
+pub returns-clause-opens : goal.returns-clause-opens
+returns-clause-opens g c = rw c.requires.arena at c.open.ensures.opens
 
-pub returns-clause-foreign : goal.returns-clause-foreign
-returns-clause-foreign g c = rw c.requires.arena at c.open.ensures.foreign
+pub returns-clause-opened : goal.returns-clause-opened
+returns-clause-opened g c = rw c.requires.arena at c.open.ensures.opened

@@ -2,7 +2,7 @@ use Rattle.std.proofs.Common.{List, length, sym, subst}
 use Rattle.flash_session.specs.declared.log.Step.{Step}
 use Rattle.flash_session.specs.Contents.{Same}
 use Rattle.flash_session.specs.Moments.{Elapses}
-use Rattle.flash_session.specs.Log.{LeftSince}
+use Rattle.flash_session.specs.Log.{LeftSince, seen_in}
 use Rattle.flash_session.proofs.Steps.{sync_stops, sync_keeps}
 use Rattle.flash_session.proofs.log.note_sync.Goals as goal
 
@@ -11,5 +11,5 @@ returns-clause-kept c = λ b left. sync_keeps c.args.log.now.items c.args.bytes.
     (subst (λ (l : List Step). LeftSince l c.args.bytes.now (length l) b) c.note.ensures.log left)
 
 pub returns-clause-stops : goal.returns-clause-stops
-returns-clause-stops c = subst (λ (l : List Step). Elapses Same (length c.args.log.now.items) (length l) (LeftSince c.args.log.now.items c.args.bytes.now) (LeftSince l c.args.bytes.now))
+returns-clause-stops c = subst (λ (l : List Step). Elapses Same (seen_in c.args.log.now.items c.args.bytes.now 0) (seen_in l c.args.bytes.now 0))
     (sym c.note.ensures.log) (sync_stops c.args.log.now.items c.args.bytes.now)

@@ -17,7 +17,7 @@ loop-i-preserved c =
     put_one_more c.args.at (get_or piece i 0) (take i piece) c.args.bytes.now old c.put.new.bytes (omega (arith, counted, within)) is c.loop-i.invariant.put in
     record {
       put = subst (λ (l : List ℕ). Put c.args.at l c.args.bytes.now c.put.new.bytes) (sym (take_more piece i 0 c.loop-i-test.true)) longer;
-      stops = stops_one_more c.args.at i (get_or piece i 0) _ _ c.loop-i.log.items c.put.new.log.items old c.put.new.bytes within c.put.ensures.bytes c.put.ensures.log c.loop-i.invariant.stops;
+      stops = stops_one_more c.args.at i (get_or piece i 0) _ c.loop-i.log.items c.put.new.log.items old c.put.new.bytes within c.put.ensures.bytes c.put.ensures.log c.loop-i.invariant.stops;
       len = omega arith;
       capacity = omega arith;
     }

@@ -17,7 +17,7 @@ loop-i-preserved c =
     put_one_more c.args.at 0 zeros c.args.bytes.now old c.put.new.bytes (omega (arith, counted, within)) is c.loop-i.invariant.put in
     record {
       put = subst (λ (l : List ℕ). Put c.args.at l c.args.bytes.now c.put.new.bytes) (sym (zeros_more i)) longer;
-      stops = stops_one_more c.args.at i 0 _ _ c.loop-i.log.items c.put.new.log.items old c.put.new.bytes within c.put.ensures.bytes c.put.ensures.log c.loop-i.invariant.stops;
+      stops = stops_one_more c.args.at i 0 _ c.loop-i.log.items c.put.new.log.items old c.put.new.bytes within c.put.ensures.bytes c.put.ensures.log c.loop-i.invariant.stops;
       len = omega arith;
       capacity = omega arith;
     }

@@ -4,7 +4,7 @@ use Rattle.memchr.specs.Find.{Nowhere, Passes, is_byte}
 use Rattle.flash_session.specs.Layout.{open_gate}
 use Rattle.flash_session.proofs.reading.next_open.Goals as goal
 
--- behind the first `from`, a byte stands so much further on
+-- after the first `from`, a byte stands so much further on
 further : (gates : List ℕ) (from k : ℕ) → from ≤ k → get_or (drop from gates) (k - from) 0 ≡ get_or gates k 0
 further gates from k le =
     let there : from + (k - from) ≡ k = omega arith in
@@ -16,7 +16,7 @@ none_up_to : (gates : List ℕ) (from end : ℕ) → Nowhere (Passes (is_byte op
 none_up_to gates from end none k le lt is =
     none (k - from) (omega arith) (omega arith) (ap (λ x. eqb x open_gate) (further gates from k le ∙ is))
 
--- what is looked through is all behind the first `from`
+-- what is looked through is all after the first `from`
 rest_is : (gates : List ℕ) (from : ℕ) → take (length gates - from) (drop from gates) ≡ drop from gates
 rest_is gates from = take_all (length gates - from) (drop from gates) (omega (arith, length-drop from gates))
 

@@ -1,9 +1,13 @@
 use Rattle.std.proofs.Common.{sym, ap, ◌∙◌, arith}
 use Rattle.flash_session.specs.Contents.{byte_at}
+use Rattle.flash_session.proofs.Serves.{serves_ok}
 use Rattle.flash_session.proofs.reading.read_byte.Goals as goal
 
-pub returns-clause-byte : goal.returns-clause-byte
-returns-clause-byte g c = λ b now.
-    let from = c.read.ensures.held.from b now in
-    from.2.all c.args.at
-    ∙ sym (c.in_ok-read.ensures.bytes.bytes from.0 from.1 0 (omega arith) ∙ ap (byte_at from.0) (omega arith))
+pub returns : goal.returns
+returns g c = record {
+  reads = record {
+    told = λ b now. sym (c.in_ok-read.ensures.reads.told.bytes b now 0 (omega arith) ∙ ap (byte_at b) (omega arith));
+    stays = c.read.ensures.reads.stays;
+    serves = serves_ok c.read.ensures.reads.serves;
+  };
+}

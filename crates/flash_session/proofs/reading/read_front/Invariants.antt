@@ -1,6 +1,6 @@
-use Rattle.std.proofs.Common.{◌≡◌, ◌≤◌, ◌-◌}
-use Rattle.flash_session.specs.Contents.{Same, StillHolds}
-use Rattle.flash_session.specs.Moments.{Elapses}
+use Rattle.std.proofs.Common.{◌≤◌, ◌-◌, Ok}
+use Rattle.flash_session.specs.Contents.{Same, Follows}
+use Rattle.flash_session.specs.Serving.{FlashServes}
 use Rattle.flash_session.specs.Gates.{AreOpen, AreShut}
 use Rattle.flash_session.proofs.reading.read_front.Given as goal
 
@@ -13,10 +13,8 @@ invariant-loop-k g l =
     record {
       few : l.k ≤ l.most;
       behind : l.opened ≤ l.k;
-      opened : AreOpen (F.holds l.flash) l.at 0 l.opened;
-      shut : AreShut (F.holds l.flash) l.at l.opened l.k;
-      held : StillHolds (F.holds l.initial.flash) (F.holds l.flash);
-      stops : Elapses Same (F.moment l.initial.flash) (F.moment l.flash) (F.left_since l.initial.flash) (F.left_since l.flash);
-      size : F.room l.flash ≡ F.room l.initial.flash;
-      later : F.faults l.initial.flash ≤ F.faults l.flash;
+      opened : AreOpen (F.seen l.flash).holds l.at 0 l.opened;
+      shut : AreShut (F.seen l.flash).holds l.at l.opened l.k;
+      stays : Follows Same (F.seen l.flash).holds (F.seen l.initial.flash).holds;
+      serves : FlashServes {T = Unit {0}} {E = Unit {0}} Same (F.seen l.initial.flash) (F.seen l.flash) (Ok tt);
     }

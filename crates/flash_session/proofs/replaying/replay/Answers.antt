@@ -1,7 +1,9 @@
-use Rattle.std.proofs.Common.{refl, arith, rules, ◌∙◌}
-use Rattle.flash_session.proofs.Runs.{no_call}
-use Rattle.flash_session.specs.Contents.{Same}
-use Rattle.flash_session.proofs.Still.{still_self, still_joined, elapsed}
+use Rattle.std.proofs.Common.{◌≡◌, ℕ, refl, subst, arith, rules}
+use Rattle.flash_session.specs.Replayed.{Replayed}
+use Rattle.flash_session.proofs.Okay.{none_ok}
+use Rattle.flash_session.proofs.Runs.{same_stays}
+use Rattle.flash_session.proofs.Serves.{serves_none, serves_ok, serves_failed, reads_joined}
+use Rattle.flash_session.proofs.Still.{same_self, same_joined, found_true, found_false}
 use Rattle.flash_session.proofs.HeardAgain.{none_replayed}
 use Rattle.flash_session.proofs.replaying.replay.Goals as goal
 
@@ -9,30 +11,37 @@ pub loop-k-init : goal.loop-k-init
 loop-k-init g c = record {
   replayed = λ s none stands. none_replayed s c.args.slot.now _ c.args.base c.args.size none stands;
   area = refl;
-  held = still_self _;
-  stops = no_call Same _ _ (λ b. record { all = λ i. refl });
-  size = refl;
-  later = omega arith;
+  stays = same_self _;
+  serves = serves_none same_stays;
 }
-
-pub returns-in_err-replay_one-clause-held : goal.returns-in_err-replay_one-clause-held
-returns-in_err-replay_one-clause-held g c = still_joined c.loop-k.invariant.held c.replay_one.ensures.held
-
-pub returns-then-not-branch-clause-held : goal.returns-then-not-branch-clause-held
-returns-then-not-branch-clause-held g c = still_joined c.loop-k.invariant.held c.replay_one.ensures.held
 
 pub loop-k-preserved : goal.loop-k-preserved
 loop-k-preserved g c = record {
-  replayed = search rules;
+  replayed = λ s none stands. found_true _ _ _ c.if-not-branch.false (c.in_ok-replay_one.ensures.replayed.told s (c.loop-k.invariant.replayed s none stands));
   area = search rules;
-  held = still_joined c.loop-k.invariant.held c.replay_one.ensures.held;
-  stops = elapsed c.loop-k.invariant.stops c.replay_one.ensures.stops;
-  size = c.replay_one.ensures.size ∙ c.loop-k.invariant.size;
-  later = omega (arith, c.loop-k.invariant.later, c.replay_one.ensures.cause.later);
+  stays = same_joined c.replay_one.ensures.replayed.stays c.loop-k.invariant.stays;
+  serves = serves_ok (reads_joined c.loop-k.invariant.serves c.replay_one.ensures.replayed.serves);
 }
 
-pub returns-in_err-replay_one-clause-stops : goal.returns-in_err-replay_one-clause-stops
-returns-in_err-replay_one-clause-stops g c = elapsed c.loop-k.invariant.stops c.replay_one.ensures.stops
+pub returns-in_err-replay_one-clause-replayed : goal.returns-in_err-replay_one-clause-replayed
+returns-in_err-replay_one-clause-replayed g c = record {
+  told = none_ok _ _ c.from_residual.ensures.0;
+  stays = same_joined c.replay_one.ensures.replayed.stays c.loop-k.invariant.stays;
+  serves = serves_failed _ (reads_joined c.loop-k.invariant.serves c.in_err-replay_one.ensures.replayed.serves);
+}
 
-pub returns-then-not-branch-clause-stops : goal.returns-then-not-branch-clause-stops
-returns-then-not-branch-clause-stops g c = elapsed c.loop-k.invariant.stops c.replay_one.ensures.stops
+pub returns-then-not-branch-clause-replayed : goal.returns-then-not-branch-clause-replayed
+returns-then-not-branch-clause-replayed g c = record {
+  told = λ s none stands. (omega (arith, c.loop-k-test.true), found_false _ _ _ c.if-not-branch.true (c.in_ok-replay_one.ensures.replayed.told s (c.loop-k.invariant.replayed s none stands)));
+  stays = same_joined c.replay_one.ensures.replayed.stays c.loop-k.invariant.stays;
+  serves = serves_ok (reads_joined c.loop-k.invariant.serves c.replay_one.ensures.replayed.serves);
+}
+
+pub returns-clause-replayed : goal.returns-clause-replayed
+returns-clause-replayed g c = record {
+  told = λ s none stands.
+      let all : c.loop-k.k ≡ c.args.records = omega (arith, c.loop-k-test.false, c.loop-k.auto.k-end) in
+      subst (λ (k : ℕ). Replayed s c.loop-k.slot (g.F.Flash.seen c.loop-k.flash).holds c.args.base c.args.size k) all (c.loop-k.invariant.replayed s none stands);
+  stays = c.loop-k.invariant.stays;
+  serves = serves_ok c.loop-k.invariant.serves;
+}

@@ -1,9 +1,11 @@
-use Rattle.std.proofs.Common.{◌≡◌, ℕ, ◌+◌, ◌*◌, length, sym, ap, ◌∙◌, arith, inl}
+use Rattle.std.proofs.Common.{◌≡◌, ℕ, ◌+◌, ◌*◌, ◌<◌, length, Some, sym, ap, ◌∙◌, arith, inl}
 use Rattle.flash_session.specs.Layout.{gates_at}
-use Rattle.flash_session.specs.Lies.{record_at, IsBeforeOrAfter}
+use Rattle.flash_session.specs.Lies.{record_at, with_record}
+use Rattle.flash_session.specs.Ranges.{WasOrIs}
 use Rattle.flash_session.proofs.Behind.{lies_before, lies_during, gate_during, gate_read, stored_after}
 use Rattle.flash_session.proofs.Moments.{begins, goes_on}
-use Rattle.flash_session.proofs.Okay.{OnOk_both}
+use Rattle.flash_session.proofs.Okay.{OnOk_both, none_ok_on}
+use Rattle.flash_session.proofs.Serves.{in_range, range_joined, serves_failed}
 use Rattle.flash_session.proofs.storing.store.Goals as goal
 
 pub overflow_add-at : goal.overflow_add-at
@@ -19,39 +21,55 @@ pub overflow_add-gate-2 : goal.overflow_add-gate-2
 overflow_add-gate-2 g c = omega (arith, g.met.F.Flash.small c.args.flash.now)
 
 -- stopped at the record
-pub returns-in_err-write_synced-clause-any_moment : goal.returns-in_err-write_synced-clause-any_moment
-returns-in_err-write_synced-clause-any_moment g c = λ s f size count room sized is stored.
-    let sized_as : length f.part ≡ s.size = sized ∙ sym size in
-    let here : c.args.base + 24640 + (10 + c.args.size) * c.args.n ≡ record_at c.args.base s.size (length s.records) =
-    sym (ap (λ (z : ℕ). record_at c.args.base z (length s.records)) size ∙ ap (record_at c.args.base c.args.size) count) in
-    begins (IsBeforeOrAfter c.args.base s f) _ _ _ _ _
-    (λ b left. inl (lies_before c.args.base c.args.span s f c.args.piece.now is (omega (arith, count, room)) sized_as _ _ stored b left))
-    (λ d b left out. inl (lies_during c.args.base c.args.span s f c.args.piece.now is (omega (arith, count, room)) sized_as _ _ stored _ here d b left out))
-    c.write_synced.ensures.stops
+pub returns-in_err-write_synced-clause-stored : goal.returns-in_err-write_synced-clause-stored
+returns-in_err-write_synced-clause-stored g c = record {
+  acknowledged = λ x stored. none_ok_on _ _ c.from_residual.ensures.0;
+  any_moment = λ x stored.
+      let f = x.fragment in
+      let s = x.grows.session in
+      let sized_as : length f.part ≡ s.size = x.sized ∙ sym x.grows.size_is in
+      let here : c.args.base + 24640 + (10 + c.args.size) * c.args.n ≡ record_at c.args.base s.size (length s.records) =
+      sym (ap (λ (z : ℕ). record_at c.args.base z (length s.records)) x.grows.size_is ∙ ap (record_at c.args.base c.args.size) x.grows.count) in
+      let there : c.args.base + 64 + c.args.n ≡ gates_at c.args.base + length s.records = ap (λ (k : ℕ). c.args.base + 64 + k) (sym x.grows.count) in
+      let room : length s.records < s.most = omega (arith, x.grows.count, x.grows.room) in
+      begins (WasOrIs c.args.base (Some s) (Some (with_record s f)))
+      (λ b left. inl (lies_before c.args.base c.args.span s f c.args.piece.now x.spelled_as room sized_as _ stored b left))
+      (λ d b left out. inl (lies_during c.args.base c.args.span s f c.args.piece.now x.spelled_as room sized_as _ stored _ here d b left out))
+      c.write_synced.ensures.serves.stops;
+  serves = in_range _ _ c.args.base c.args.span (omega arith) (omega arith) (serves_failed _ c.in_err-write_synced.ensures.serves);
+}
 
--- or at the gate, or not at all
-pub returns-clause-any_moment : goal.returns-clause-any_moment
-returns-clause-any_moment g c = λ s f size count room sized is stored.
-    let sized_as : length f.part ≡ s.size = sized ∙ sym size in
-    let here : c.args.base + 24640 + (10 + c.args.size) * c.args.n ≡ record_at c.args.base s.size (length s.records) =
-    sym (ap (λ (z : ℕ). record_at c.args.base z (length s.records)) size ∙ ap (record_at c.args.base c.args.size) count) in
-    let there : c.args.base + 64 + c.args.n ≡ gates_at c.args.base + length s.records = ap (λ (k : ℕ). c.args.base + 64 + k) (sym count) in
-    goes_on (IsBeforeOrAfter c.args.base s f) _ _ _ _ _ _ _
-    (begins (IsBeforeOrAfter c.args.base s f) _ _ _ _ _
-    (λ b left. inl (lies_before c.args.base c.args.span s f c.args.piece.now is (omega (arith, count, room)) sized_as _ _ stored b left))
-    (λ d b left out. inl (lies_during c.args.base c.args.span s f c.args.piece.now is (omega (arith, count, room)) sized_as _ _ stored _ here d b left out))
-    c.write_synced.ensures.stops)
-    (λ d b left out. gate_during c.args.base c.args.span s f c.args.piece.now is (omega (arith, count, room)) sized_as _ _ stored _ _ here c.in_ok-write_synced.ensures.written
-    _ c.in_ok-write_synced.ensures.kept _ there d b left out)
-    c.write_synced-2.ensures.stops
-
--- and then the record is in the session
-pub returns-clause-acknowledged : goal.returns-clause-acknowledged
-returns-clause-acknowledged g c = λ s f size count room sized is stored.
-    let sized_as : length f.part ≡ s.size = sized ∙ sym size in
-    let here : c.args.base + 24640 + (10 + c.args.size) * c.args.n ≡ record_at c.args.base s.size (length s.records) =
-    sym (ap (λ (z : ℕ). record_at c.args.base z (length s.records)) size ∙ ap (record_at c.args.base c.args.size) count) in
-    let there : c.args.base + 64 + c.args.n ≡ gates_at c.args.base + length s.records = ap (λ (k : ℕ). c.args.base + 64 + k) (sym count) in
-    OnOk_both (λ written kept. stored_after c.args.base c.args.span s f _ _ stored.fits
-    (λ b holds. gate_read c.args.base c.args.span s f c.args.piece.now is (omega (arith, count, room)) sized_as _ _ stored _ _ here c.in_ok-write_synced.ensures.written _ _ there written b holds)
-    kept) c.write_synced-2.result c.write_synced-2.ensures.written c.write_synced-2.ensures.kept
+-- or at the gate, or not at all, and then the record is in the session
+pub returns-clause-stored : goal.returns-clause-stored
+returns-clause-stored g c = record {
+  acknowledged = λ x stored.
+      let f = x.fragment in
+      let s = x.grows.session in
+      let sized_as : length f.part ≡ s.size = x.sized ∙ sym x.grows.size_is in
+      let here : c.args.base + 24640 + (10 + c.args.size) * c.args.n ≡ record_at c.args.base s.size (length s.records) =
+      sym (ap (λ (z : ℕ). record_at c.args.base z (length s.records)) x.grows.size_is ∙ ap (record_at c.args.base c.args.size) x.grows.count) in
+      let there : c.args.base + 64 + c.args.n ≡ gates_at c.args.base + length s.records = ap (λ (k : ℕ). c.args.base + 64 + k) (sym x.grows.count) in
+      let room : length s.records < s.most = omega (arith, x.grows.count, x.grows.room) in
+      OnOk_both (λ written kept. stored_after c.args.base c.args.span s f _ stored.fits
+      (λ b holds. gate_read c.args.base c.args.span s f c.args.piece.now x.spelled_as room sized_as _ stored (g.F.Flash.seen c.write_synced.new.flash) _ here c.in_ok-write_synced.ensures.written _ _ there written b holds)
+      kept) c.write_synced-2.result c.write_synced-2.ensures.written c.write_synced-2.ensures.kept;
+  any_moment = λ x stored.
+      let f = x.fragment in
+      let s = x.grows.session in
+      let sized_as : length f.part ≡ s.size = x.sized ∙ sym x.grows.size_is in
+      let here : c.args.base + 24640 + (10 + c.args.size) * c.args.n ≡ record_at c.args.base s.size (length s.records) =
+      sym (ap (λ (z : ℕ). record_at c.args.base z (length s.records)) x.grows.size_is ∙ ap (record_at c.args.base c.args.size) x.grows.count) in
+      let there : c.args.base + 64 + c.args.n ≡ gates_at c.args.base + length s.records = ap (λ (k : ℕ). c.args.base + 64 + k) (sym x.grows.count) in
+      let room : length s.records < s.most = omega (arith, x.grows.count, x.grows.room) in
+      goes_on (WasOrIs c.args.base (Some s) (Some (with_record s f)))
+      (begins (WasOrIs c.args.base (Some s) (Some (with_record s f)))
+      (λ b left. inl (lies_before c.args.base c.args.span s f c.args.piece.now x.spelled_as room sized_as _ stored b left))
+      (λ d b left out. inl (lies_during c.args.base c.args.span s f c.args.piece.now x.spelled_as room sized_as _ stored _ here d b left out))
+      c.write_synced.ensures.serves.stops)
+      (λ d b left out. gate_during c.args.base c.args.span s f c.args.piece.now x.spelled_as room sized_as _ stored (g.F.Flash.seen c.write_synced.new.flash) _ here c.in_ok-write_synced.ensures.written
+      c.in_ok-write_synced.ensures.kept _ there d b left out)
+      c.write_synced-2.ensures.serves.stops;
+  serves = range_joined c.args.base c.args.span
+      (in_range _ _ c.args.base c.args.span (omega arith) (omega arith) c.write_synced.ensures.serves)
+      (in_range _ _ c.args.base c.args.span (omega arith) (omega arith) c.write_synced-2.ensures.serves);
+}

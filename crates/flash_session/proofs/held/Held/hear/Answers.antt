@@ -1,8 +1,12 @@
 use Rattle.std.proofs.Common.{inl, inr, refl, ap, ◌∙◌, arith, rules}
 use Rattle.frag_session.specs.declared.answers.Heard.TheVariants as answer
 use Rattle.frag_session.specs.Session.{after_fragment}
-use Rattle.flash_session.proofs.Hearing.{told_as, fed_dropped, new_old, slot_answer, has_room, counts_new, counts_old, counts_dropped, stands_new, stands_old, stands_full, stands_dropped, new_moments, new_kept, old_moments, old_kept, full_kept, dropped_kept, no_call}
+use Rattle.flash_session.proofs.Hearing.{told_as, fed_dropped, new_old, slot_answer, has_room, counts_new, counts_old, counts_dropped, stands_new, stands_old, stands_full, stands_dropped, new_moments, new_kept, old_moments, old_kept, full_kept, dropped_kept, no_call, After}
+use Rattle.flash_session.specs.HeldCalls.{OldOrNew}
 use Rattle.flash_session.proofs.Headers.{kept_within}
+use Rattle.flash_session.proofs.Runs.{outside_stays}
+use Rattle.flash_session.proofs.Serves.{serves_none, serves_ok, serves_failed}
+use Rattle.flash_session.proofs.StillHeld.{given_too, same_old_new}
 use Rattle.flash_session.proofs.held.Held.hear.Goals as goal
 
 pub keep-requires-clause-small : goal.keep-requires-clause-small
@@ -52,66 +56,89 @@ invariant_of-result-then-records-tallies g c = record {
   stands = stands_full c.args.via c.args.n c.args.part.now c.args.mark _ _ c.fragment-heard.ensures.extent c.fragment-heard.ensures.stands (omega arith) c.self.invariant.session c.self.invariant.stands (told_as c.args.via c.args.n c.args.part.now c.args.mark _ _ _ (c.in-Fed-Old.is ∙ ap answer.Fed (rw c.in-Fed-Old.is at c.in-Fed-Old.field-0-is)) c.fragment-heard.ensures.answer);
 }
 
-pub returns-in-Ok-clause-stands : goal.returns-in-Ok-clause-stands
-returns-in-Ok-clause-stands g c = rw (← c.self.view_is) (λ o held. stands_new c.args.via c.args.n c.args.part.now c.args.mark _ _ c.fragment-heard.ensures.extent c.fragment-heard.ensures.stands (search rules) (search rules) o held (told_as c.args.via c.args.n c.args.part.now c.args.mark _ _ _ (c.in-Fed-New.is ∙ ap answer.Fed (rw c.in-Fed-New.is at c.in-Fed-New.field-0-is)) c.fragment-heard.ensures.answer))
+-- it is new, and stored
+pub returns-in-Ok-clause-serves : goal.returns-in-Ok-clause-serves
+returns-in-Ok-clause-serves g c = rw (← c.self.view_is) (let fed = (told_as c.args.via c.args.n c.args.part.now c.args.mark _ _ _ (c.in-Fed-New.is ∙ ap answer.Fed (rw c.in-Fed-New.is at c.in-Fed-New.field-0-is)) c.fragment-heard.ensures.answer) in record {
+  stands = λ o held. stands_new c.args.via c.args.n c.args.part.now c.args.mark _ _ c.fragment-heard.ensures.extent c.fragment-heard.ensures.stands (search rules) (search rules) o held fed;
+  counted = λ o held counts. counts_new c.args.via c.args.n c.args.part.now c.args.mark _ c.fragment-heard.new.self o held counts fed;
+  acknowledged = λ o held. new_kept c.args.via c.args.n c.args.part.now c.args.mark (search rules) (search rules) _ _ o held fed c.fragment-heard.ensures.extent c.fragment-heard.ensures.stands c.in-Ok.ensures.stored.acknowledged;
+  any_moment = λ o held. new_moments c.args.via c.args.n c.args.part.now c.args.mark (search rules) (search rules) _ o held fed c.keep.ensures.stored.any_moment;
+  again = λ o held. tt;
+  others = λ at len was. kept_within at len (g.F.Flash.seen c.keep.new.flash) c.in-Ok.ensures.kept;
+  place = record { words_are = refl; bytes_are = refl; base_is = refl; span_is = refl; limits_are = refl; extent_is = c.fragment-heard.ensures.extent };
+  extent = tt;
+  serves = serves_ok c.keep.ensures.stored.serves;
+})
 
-pub returns-in-Ok-tally-clause-stands : goal.returns-in-Ok-tally-clause-stands
-returns-in-Ok-tally-clause-stands g c = rw (← c.self.view_is) (λ o held. stands_old c.args.via c.args.n c.args.part.now c.args.mark _ _ c.fragment-heard.ensures.extent c.fragment-heard.ensures.stands (omega arith) o held (told_as c.args.via c.args.n c.args.part.now c.args.mark _ _ _ (c.in-Fed-Old.is ∙ ap answer.Fed (rw c.in-Fed-Old.is at c.in-Fed-Old.field-0-is)) c.fragment-heard.ensures.answer))
+pub returns-in-Err-clause-serves : goal.returns-in-Err-clause-serves
+returns-in-Err-clause-serves g c = rw (← c.self.view_is) (let fed = (told_as c.args.via c.args.n c.args.part.now c.args.mark _ _ _ (c.in-Fed-New.is ∙ ap answer.Fed (rw c.in-Fed-New.is at c.in-Fed-New.field-0-is)) c.fragment-heard.ensures.answer) in record {
+  stands = λ o held. tt;
+  counted = λ o held counts. tt;
+  acknowledged = λ o held. tt;
+  any_moment = λ o held. new_moments c.args.via c.args.n c.args.part.now c.args.mark (search rules) (search rules) _ o held fed c.keep.ensures.stored.any_moment;
+  again = λ o held. given_too (OldOrNew _ o (After c.args.via c.args.n c.args.part.now c.args.mark o)) (same_old_new _ o (After c.args.via c.args.n c.args.part.now c.args.mark o))
+      (new_moments c.args.via c.args.n c.args.part.now c.args.mark (search rules) (search rules) _ o held fed c.keep.ensures.stored.any_moment) c.in-Err.ensures.stored.serves.torn;
+  others = λ at len was. tt;
+  place = tt;
+  extent = c.end.ensures ∙ c.fragment-heard.ensures.extent;
+  serves = serves_failed _ c.in-Err.ensures.stored.serves;
+})
 
-pub returns-then-records-tallies-clause-stands : goal.returns-then-records-tallies-clause-stands
-returns-then-records-tallies-clause-stands g c = rw (← c.self.view_is) (λ o held. stands_full c.args.via c.args.n c.args.part.now c.args.mark _ _ c.fragment-heard.ensures.extent c.fragment-heard.ensures.stands (omega arith) o held (told_as c.args.via c.args.n c.args.part.now c.args.mark _ _ _ (c.in-Fed-Old.is ∙ ap answer.Fed (rw c.in-Fed-Old.is at c.in-Fed-Old.field-0-is)) c.fragment-heard.ensures.answer))
+-- or it is counted
+pub returns-in-Ok-tally-clause-serves : goal.returns-in-Ok-tally-clause-serves
+returns-in-Ok-tally-clause-serves g c = rw (← c.self.view_is) (let fed = (told_as c.args.via c.args.n c.args.part.now c.args.mark _ _ _ (c.in-Fed-Old.is ∙ ap answer.Fed (rw c.in-Fed-Old.is at c.in-Fed-Old.field-0-is)) c.fragment-heard.ensures.answer) in record {
+  stands = λ o held. stands_old c.args.via c.args.n c.args.part.now c.args.mark _ _ c.fragment-heard.ensures.extent c.fragment-heard.ensures.stands (omega arith) o held fed;
+  counted = λ o held counts. counts_old c.args.via c.args.n c.args.part.now c.args.mark _ c.fragment-heard.new.self _ o held counts fed (inl refl);
+  acknowledged = λ o held. old_kept c.args.via c.args.n c.args.part.now c.args.mark _ _ o held fed (omega arith) c.fragment-heard.ensures.extent c.fragment-heard.ensures.stands c.in-Ok-tally.ensures.stored.acknowledged;
+  any_moment = λ o held. old_moments c.args.via c.args.n c.args.part.now c.args.mark _ o held fed c.tally.ensures.stored.any_moment;
+  again = λ o held. tt;
+  others = λ at len was. kept_within at len (g.F.Flash.seen c.tally.new.flash) c.in-Ok-tally.ensures.kept;
+  place = record { words_are = refl; bytes_are = refl; base_is = refl; span_is = refl; limits_are = refl; extent_is = c.fragment-heard.ensures.extent };
+  extent = tt;
+  serves = serves_ok c.tally.ensures.stored.serves;
+})
 
-pub returns-in-Dropped-clause-stands : goal.returns-in-Dropped-clause-stands
-returns-in-Dropped-clause-stands g c = rw (← c.self.view_is) (λ o held. stands_dropped c.args.via c.args.n c.args.part.now c.args.mark _ _ o _ (c.fragment-heard.ensures.dropped _ c.in-Dropped.is) held (told_as c.args.via c.args.n c.args.part.now c.args.mark _ _ _ c.in-Dropped.is c.fragment-heard.ensures.answer))
+pub returns-in-Err-tally-clause-serves : goal.returns-in-Err-tally-clause-serves
+returns-in-Err-tally-clause-serves g c = rw (← c.self.view_is) (let fed = (told_as c.args.via c.args.n c.args.part.now c.args.mark _ _ _ (c.in-Fed-Old.is ∙ ap answer.Fed (rw c.in-Fed-Old.is at c.in-Fed-Old.field-0-is)) c.fragment-heard.ensures.answer) in record {
+  stands = λ o held. tt;
+  counted = λ o held counts. tt;
+  acknowledged = λ o held. tt;
+  any_moment = λ o held. old_moments c.args.via c.args.n c.args.part.now c.args.mark _ o held fed c.tally.ensures.stored.any_moment;
+  again = λ o held. given_too (OldOrNew _ o (After c.args.via c.args.n c.args.part.now c.args.mark o)) (same_old_new _ o (After c.args.via c.args.n c.args.part.now c.args.mark o))
+      (old_moments c.args.via c.args.n c.args.part.now c.args.mark _ o held fed c.tally.ensures.stored.any_moment) c.in-Err-tally.ensures.stored.serves.torn;
+  others = λ at len was. tt;
+  place = tt;
+  extent = c.end-in-Err-tally.ensures ∙ c.fragment-heard.ensures.extent;
+  serves = serves_failed _ c.in-Err-tally.ensures.stored.serves;
+})
 
-pub returns-then-records-tallies-clause-any_moment : goal.returns-then-records-tallies-clause-any_moment
-returns-then-records-tallies-clause-any_moment g c = rw (← c.self.view_is) (λ o held. no_call c.args.via c.args.n c.args.part.now c.args.mark _ o _ _ _ (omega (arith, c.self.invariant.long)) held)
+-- or the count is full
+pub returns-then-records-tallies-clause-serves : goal.returns-then-records-tallies-clause-serves
+returns-then-records-tallies-clause-serves g c = rw (← c.self.view_is) (let fed = (told_as c.args.via c.args.n c.args.part.now c.args.mark _ _ _ (c.in-Fed-Old.is ∙ ap answer.Fed (rw c.in-Fed-Old.is at c.in-Fed-Old.field-0-is)) c.fragment-heard.ensures.answer) in record {
+  stands = λ o held. stands_full c.args.via c.args.n c.args.part.now c.args.mark _ _ c.fragment-heard.ensures.extent c.fragment-heard.ensures.stands (omega arith) o held fed;
+  counted = λ o held counts. counts_old c.args.via c.args.n c.args.part.now c.args.mark _ c.fragment-heard.new.self _ o held counts fed (inr (refl, omega arith));
+  acknowledged = λ o held. full_kept c.args.via c.args.n c.args.part.now c.args.mark _ _ o held fed (omega arith) c.fragment-heard.ensures.extent c.fragment-heard.ensures.stands;
+  any_moment = λ o held. no_call c.args.via c.args.n c.args.part.now c.args.mark _ o (omega (arith, c.self.invariant.long)) held;
+  again = λ o held. tt;
+  others = λ at len was. was;
+  place = record { words_are = refl; bytes_are = refl; base_is = refl; span_is = refl; limits_are = refl; extent_is = c.fragment-heard.ensures.extent };
+  extent = tt;
+  serves = serves_none (outside_stays _ _);
+})
 
-pub returns-in-Dropped-clause-any_moment : goal.returns-in-Dropped-clause-any_moment
-returns-in-Dropped-clause-any_moment g c = rw (← c.self.view_is) (λ o held. no_call c.args.via c.args.n c.args.part.now c.args.mark _ o _ _ _ (omega (arith, c.self.invariant.long)) held)
-
-pub returns-in-Ok-clause-any_moment : goal.returns-in-Ok-clause-any_moment
-returns-in-Ok-clause-any_moment g c = rw (← c.self.view_is) (λ o held. new_moments c.args.via c.args.n c.args.part.now c.args.mark (search rules) (search rules) _ o _ _ held (told_as c.args.via c.args.n c.args.part.now c.args.mark _ _ _ (c.in-Fed-New.is ∙ ap answer.Fed (rw c.in-Fed-New.is at c.in-Fed-New.field-0-is)) c.fragment-heard.ensures.answer) _ _ _ _ c.keep.ensures.any_moment)
-
-pub returns-in-Err-clause-any_moment : goal.returns-in-Err-clause-any_moment
-returns-in-Err-clause-any_moment g c = rw (← c.self.view_is) (λ o held. new_moments c.args.via c.args.n c.args.part.now c.args.mark (search rules) (search rules) _ o _ _ held (told_as c.args.via c.args.n c.args.part.now c.args.mark _ _ _ (c.in-Fed-New.is ∙ ap answer.Fed (rw c.in-Fed-New.is at c.in-Fed-New.field-0-is)) c.fragment-heard.ensures.answer) _ _ _ _ c.keep.ensures.any_moment)
-
-pub returns-in-Ok-tally-clause-any_moment : goal.returns-in-Ok-tally-clause-any_moment
-returns-in-Ok-tally-clause-any_moment g c = rw (← c.self.view_is) (λ o held. old_moments c.args.via c.args.n c.args.part.now c.args.mark _ o _ _ held (told_as c.args.via c.args.n c.args.part.now c.args.mark _ _ _ (c.in-Fed-Old.is ∙ ap answer.Fed (rw c.in-Fed-Old.is at c.in-Fed-Old.field-0-is)) c.fragment-heard.ensures.answer) _ _ _ _ c.tally.ensures.any_moment)
-
-pub returns-in-Err-tally-clause-any_moment : goal.returns-in-Err-tally-clause-any_moment
-returns-in-Err-tally-clause-any_moment g c = rw (← c.self.view_is) (λ o held. old_moments c.args.via c.args.n c.args.part.now c.args.mark _ o _ _ held (told_as c.args.via c.args.n c.args.part.now c.args.mark _ _ _ (c.in-Fed-Old.is ∙ ap answer.Fed (rw c.in-Fed-Old.is at c.in-Fed-Old.field-0-is)) c.fragment-heard.ensures.answer) _ _ _ _ c.tally.ensures.any_moment)
-
-pub returns-in-Ok-clause-acknowledged : goal.returns-in-Ok-clause-acknowledged
-returns-in-Ok-clause-acknowledged g c = rw (← c.self.view_is) (λ o held. new_kept c.args.via c.args.n c.args.part.now c.args.mark (search rules) (search rules) _ _ o _ _ _ _ held (told_as c.args.via c.args.n c.args.part.now c.args.mark _ _ _ (c.in-Fed-New.is ∙ ap answer.Fed (rw c.in-Fed-New.is at c.in-Fed-New.field-0-is)) c.fragment-heard.ensures.answer) c.fragment-heard.ensures.extent c.fragment-heard.ensures.stands c.in-Ok.ensures.acknowledged)
-
-pub returns-in-Ok-tally-clause-acknowledged : goal.returns-in-Ok-tally-clause-acknowledged
-returns-in-Ok-tally-clause-acknowledged g c = rw (← c.self.view_is) (λ o held. old_kept c.args.via c.args.n c.args.part.now c.args.mark _ _ o _ _ _ _ held (told_as c.args.via c.args.n c.args.part.now c.args.mark _ _ _ (c.in-Fed-Old.is ∙ ap answer.Fed (rw c.in-Fed-Old.is at c.in-Fed-Old.field-0-is)) c.fragment-heard.ensures.answer) (omega arith) c.fragment-heard.ensures.extent c.fragment-heard.ensures.stands c.in-Ok-tally.ensures.acknowledged)
-
-pub returns-then-records-tallies-clause-acknowledged : goal.returns-then-records-tallies-clause-acknowledged
-returns-then-records-tallies-clause-acknowledged g c = rw (← c.self.view_is) (λ o held. full_kept c.args.via c.args.n c.args.part.now c.args.mark _ _ o _ _ held (told_as c.args.via c.args.n c.args.part.now c.args.mark _ _ _ (c.in-Fed-Old.is ∙ ap answer.Fed (rw c.in-Fed-Old.is at c.in-Fed-Old.field-0-is)) c.fragment-heard.ensures.answer) (omega arith) c.fragment-heard.ensures.extent c.fragment-heard.ensures.stands)
-
-pub returns-in-Dropped-clause-acknowledged : goal.returns-in-Dropped-clause-acknowledged
-returns-in-Dropped-clause-acknowledged g c = rw (← c.self.view_is) (λ o held. dropped_kept c.args.via c.args.n c.args.part.now c.args.mark _ _ o _ _ _ held (c.fragment-heard.ensures.dropped _ c.in-Dropped.is) (told_as c.args.via c.args.n c.args.part.now c.args.mark _ _ _ c.in-Dropped.is c.fragment-heard.ensures.answer))
-
--- the other ranges
-pub returns-in-Ok-clause-others : goal.returns-in-Ok-clause-others
-returns-in-Ok-clause-others g c = λ at len kept. kept_within at len _ _ c.in-Ok.ensures.kept
-
-pub returns-in-Ok-tally-clause-others : goal.returns-in-Ok-tally-clause-others
-returns-in-Ok-tally-clause-others g c = λ at len kept. kept_within at len _ _ c.in-Ok-tally.ensures.kept
-
-pub returns-in-Ok-clause-counted : goal.returns-in-Ok-clause-counted
-returns-in-Ok-clause-counted g c = rw (← c.self.view_is) (λ o held counts. counts_new c.args.via c.args.n c.args.part.now c.args.mark _ c.fragment-heard.new.self o held counts (told_as c.args.via c.args.n c.args.part.now c.args.mark _ _ _ (c.in-Fed-New.is ∙ ap answer.Fed (rw c.in-Fed-New.is at c.in-Fed-New.field-0-is)) c.fragment-heard.ensures.answer))
-
-pub returns-in-Ok-tally-clause-counted : goal.returns-in-Ok-tally-clause-counted
-returns-in-Ok-tally-clause-counted g c = rw (← c.self.view_is) (λ o held counts. counts_old c.args.via c.args.n c.args.part.now c.args.mark _ c.fragment-heard.new.self _ o held counts (told_as c.args.via c.args.n c.args.part.now c.args.mark _ _ _ (c.in-Fed-Old.is ∙ ap answer.Fed (rw c.in-Fed-Old.is at c.in-Fed-Old.field-0-is)) c.fragment-heard.ensures.answer) (inl refl))
-
-pub returns-then-records-tallies-clause-counted : goal.returns-then-records-tallies-clause-counted
-returns-then-records-tallies-clause-counted g c = rw (← c.self.view_is) (λ o held counts. counts_old c.args.via c.args.n c.args.part.now c.args.mark _ c.fragment-heard.new.self _ o held counts (told_as c.args.via c.args.n c.args.part.now c.args.mark _ _ _ (c.in-Fed-Old.is ∙ ap answer.Fed (rw c.in-Fed-Old.is at c.in-Fed-Old.field-0-is)) c.fragment-heard.ensures.answer) (inr (refl, omega arith)))
-
-pub returns-in-Dropped-clause-counted : goal.returns-in-Dropped-clause-counted
-returns-in-Dropped-clause-counted g c = rw (← c.self.view_is) (λ o held counts. counts_dropped c.args.via c.args.n c.args.part.now c.args.mark _ c.fragment-heard.new.self o _ held counts (told_as c.args.via c.args.n c.args.part.now c.args.mark _ _ _ c.in-Dropped.is c.fragment-heard.ensures.answer))
+-- or it is dropped
+pub returns-in-Dropped-clause-serves : goal.returns-in-Dropped-clause-serves
+returns-in-Dropped-clause-serves g c = rw (← c.self.view_is) (let dropped = (told_as c.args.via c.args.n c.args.part.now c.args.mark _ _ _ c.in-Dropped.is c.fragment-heard.ensures.answer) in record {
+  stands = λ o held. stands_dropped c.args.via c.args.n c.args.part.now c.args.mark _ _ o _ (c.fragment-heard.ensures.dropped _ c.in-Dropped.is) held dropped;
+  counted = λ o held counts. counts_dropped c.args.via c.args.n c.args.part.now c.args.mark _ c.fragment-heard.new.self o _ held counts dropped;
+  acknowledged = λ o held. dropped_kept c.args.via c.args.n c.args.part.now c.args.mark _ _ o _ held (c.fragment-heard.ensures.dropped _ c.in-Dropped.is) dropped;
+  any_moment = λ o held. no_call c.args.via c.args.n c.args.part.now c.args.mark _ o (omega (arith, c.self.invariant.long)) held;
+  again = λ o held. tt;
+  others = λ at len was. was;
+  place = record { words_are = refl; bytes_are = refl; base_is = refl; span_is = refl; limits_are = refl; extent_is = c.fragment-heard.ensures.extent };
+  extent = tt;
+  serves = serves_none (outside_stays _ _);
+})
 
 -- what was fed was not dropped
 pub returns-in-Ok-clause-dropped : goal.returns-in-Ok-clause-dropped

@@ -2,6 +2,9 @@ use Rattle.std.proofs.Common.{refl}
 use Rattle.frag_session.specs.Session.{fragment}
 use Rattle.flash_session.proofs.held.hearing.keep.Goals as goal
 
-pub returns-clause-any_moment : goal.returns-clause-any_moment
-returns-clause-any_moment g c = λ s size count room stored.
-    c.store.ensures.any_moment s (fragment c.args.n c.args.part.now c.args.mark) size count room refl c.spell.ensures stored
+pub returns-clause-stored : goal.returns-clause-stored
+returns-clause-stored g c = record {
+  acknowledged = λ x stored. c.store.ensures.stored.acknowledged (record { grows = x; fragment = fragment c.args.n c.args.part.now c.args.mark; sized = refl; spelled_as = c.spell.ensures }) stored;
+  any_moment = λ x stored. c.store.ensures.stored.any_moment (record { grows = x; fragment = fragment c.args.n c.args.part.now c.args.mark; sized = refl; spelled_as = c.spell.ensures }) stored;
+  serves = c.store.ensures.stored.serves;
+}

@@ -1,21 +1,20 @@
-use Rattle.std.proofs.Common.{refl}
-use Rattle.flash_session.proofs.Runs.{no_call}
+use Rattle.std.proofs.Common.{arith, rules}
+use Rattle.std.proofs.lemmas.Grind.{common_steps}
+use Rattle.flash_session.proofs.Runs.{same_stays}
+use Rattle.flash_session.proofs.Still.{same_self}
+use Rattle.flash_session.proofs.InMemory.{refused, read_on}
 use Rattle.flash_session.proofs.memory.MemFlashFlash.read.Goals as goal
 
-pub returns-then-fails_now-clause-held : goal.returns-then-fails_now-clause-held
-returns-then-fails_now-clause-held c = rw (← c.self.view_is) (record { from = λ b now. (b, now, record { all = λ i. refl }) })
+pub returns-then-fails_now-clause-reads : goal.returns-then-fails_now-clause-reads
+returns-then-fails_now-clause-reads c = rw (← c.self.view_is) (record {
+  told = tt;
+  stays = same_self _;
+  serves = refused same_stays c.fails_now.ensures.kept c.if-fails_now.ensures.risen;
+})
 
-pub returns-then-fails_now-clause-stays : goal.returns-then-fails_now-clause-stays
-returns-then-fails_now-clause-stays c = rw (← c.self.view_is) (record { from = λ b now. (b, now, record { all = λ i. refl }) })
-
-pub returns-then-fails_now-clause-stops : goal.returns-then-fails_now-clause-stops
-returns-then-fails_now-clause-stops c = rw (← c.self.view_is) (no_call _ _ _ (λ b. record { all = λ i. refl }))
-
-pub returns-clause-held : goal.returns-clause-held
-returns-clause-held c = rw (← c.self.view_is) (record { from = λ b now. (b, now, record { all = λ i. refl }) })
-
-pub returns-clause-stays : goal.returns-clause-stays
-returns-clause-stays c = rw (← c.self.view_is) (record { from = λ b now. (b, now, record { all = λ i. refl }) })
-
-pub returns-clause-stops : goal.returns-clause-stops
-returns-clause-stops c = rw (← c.self.view_is) (no_call _ _ _ (λ b. record { all = λ i. refl }))
+pub returns-clause-reads : goal.returns-clause-reads
+returns-clause-reads c = rw (← c.self.view_is) (record {
+  told = record { bytes = λ b now i lt. rw now (first_of (search rules, cc, grind (arith, common_steps))) };
+  stays = same_self _;
+  serves = read_on c.fails_now.ensures.kept;
+})

@@ -1,12 +1,9 @@
-use Rattle.std.proofs.Common.{refl}
-use Rattle.flash_session.proofs.Runs.{no_call}
+use Rattle.flash_session.proofs.Runs.{same_stays}
+use Rattle.flash_session.proofs.InMemory.{refused, synced}
 use Rattle.flash_session.proofs.memory.MemFlashFlash.sync.Goals as goal
 
-pub returns-then-fails_now-clause-held : goal.returns-then-fails_now-clause-held
-returns-then-fails_now-clause-held c = rw (← c.self.view_is) (record { from = λ b now. (b, now, record { all = λ i. refl }) })
+pub returns-then-fails_now-clause-serves : goal.returns-then-fails_now-clause-serves
+returns-then-fails_now-clause-serves c = rw (← c.self.view_is) (refused same_stays c.fails_now.ensures.kept c.if-fails_now.ensures.risen)
 
-pub returns-then-fails_now-clause-stops : goal.returns-then-fails_now-clause-stops
-returns-then-fails_now-clause-stops c = rw (← c.self.view_is) (no_call _ _ _ (λ b. record { all = λ i. refl }))
-
-pub returns-clause-held : goal.returns-clause-held
-returns-clause-held c = rw (← c.self.view_is) (record { from = λ b now. (b, now, record { all = λ i. refl }) })
+pub returns-clause-serves : goal.returns-clause-serves
+returns-clause-serves c = rw (← c.self.view_is) (synced c.fails_now.ensures.kept (rw c.deref.ensures.value at c.note_sync.ensures.stops))

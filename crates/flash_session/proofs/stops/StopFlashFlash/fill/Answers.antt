@@ -1,7 +1,13 @@
+use Rattle.std.proofs.Common.{arith}
+use Rattle.flash_session.proofs.Runs.{outside_stays}
+use Rattle.flash_session.proofs.InMemory.{refused, beside}
 use Rattle.flash_session.proofs.stops.StopFlashFlash.fill.Goals as goal
+
+pub returns-then-not-passes-clause-serves : goal.returns-then-not-passes-clause-serves
+returns-then-not-passes-clause-serves c = rw (← c.self.view_is) (refused (outside_stays _ _) (omega (arith, c.passes.ensures.later)) (omega (arith, c.if-not-passes.ensures.risen)))
+
+pub returns-clause-serves : goal.returns-clause-serves
+returns-clause-serves c = rw (← c.self.view_is) (beside c.if-not-passes.ensures.kept c.fill.ensures.serves)
 
 pub returns-clause-written : goal.returns-clause-written
 returns-clause-written c = rw (← c.self.view_is) c.fill.ensures.written
-
-pub returns-clause-held : goal.returns-clause-held
-returns-clause-held c = rw (← c.self.view_is) c.fill.ensures.held

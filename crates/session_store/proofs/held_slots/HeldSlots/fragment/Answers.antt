@@ -1,11 +1,11 @@
-use Rattle.std.proofs.Common.{◌≡◌, ◌⊎◌, get_or, None, Some, inl, inr, arith, rules}
+use Rattle.std.proofs.Common.{◌≡◌, get_or, Option, None, Some, inl, inr, refl, arith, rules}
 use Rattle.std.proofs.lemmas.Grind.{common_steps}
 use Rattle.std.proofs.lemmas.List.{set-set}
-use Rattle.frag_session.specs.Session.{after_fragment}
-use Rattle.flash_session.specs.Sessions.{LiesForAs, IsHeldAs}
-use Rattle.session_store.specs.SessionTable.{session_at, table_after_fragment}
-use Rattle.session_store.specs.HeldPlaces.{HeldPlaces, PlaceStands, TableLies}
-use Rattle.session_store.proofs.PlaceSteps.{places_set, put_back, it_has, stands_on, stored_on, moments_on}
+use Rattle.frag_session.specs.Session.{Session, after_fragment}
+use Rattle.flash_session.specs.HeldCalls.{OldOrNew}
+use Rattle.session_store.specs.SessionTable.{session_at}
+use Rattle.session_store.specs.HeldPlaces.{HeldPlaces, PlaceStands, TableOldOrNew}
+use Rattle.session_store.proofs.PlaceSteps.{places_set, put_back, it_has, answered, refused, same_old_new}
 use Rattle.session_store.proofs.held_slots.HeldSlots.fragment.Goals as goal
 
 pub invariant_of-self-in-Err : goal.invariant_of-self-in-Err
@@ -26,50 +26,18 @@ returns-in-Ok-clause-dropped g c =
     let at : get_or p.sessions c.args.index None ≡ Some c.unwrap.result = first_of (search rules, cc, grind (arith, common_steps)) in
     rw (← c.self.view_is, set-set, c.from-at.ensures) (λ k is. (put_back p c.args.index c.unwrap.result c.in-Ok.held at (c.in-Ok.ensures.same k is), c.in-Ok.ensures.dropped k is))
 
-pub returns-in-Ok-clause-stands : goal.returns-in-Ok-clause-stands
-returns-in-Ok-clause-stands g c =
+pub returns-in-Ok-clause-serves : goal.returns-in-Ok-clause-serves
+returns-in-Ok-clause-serves g c =
     let p : HeldPlaces = record { sessions = c.self.inside.sessions; layout = c.self.inside.layout } in
     let at : get_or p.sessions c.args.index None ≡ Some c.unwrap.result = first_of (search rules, cc, grind (arith, common_steps)) in
-    rw (← c.self.view_is, set-set, c.from-at.ensures) (λ table each.
-    let o = session_at table c.args.index in
-    let was = it_has p c.args.index c.unwrap.result c.requires.index at c.self.invariant PlaceStands table each in
-    stands_on p c.args.index c.unwrap.result c.requires.index at c.self.invariant c.in-Ok.held table (after_fragment o c.args.via c.args.n c.args.part.now c.args.mark) each (record { stands = c.in-Ok.ensures.stands o was.stands; counted = c.in-Ok.ensures.counted o was.stands was.counted }))
+    rw (← c.self.view_is, set-set, c.from-at.ensures) (answered p c.args.index c.unwrap.result c.requires.index at c.self.invariant (λ (o : Option Session). after_fragment o c.args.via c.args.n c.args.part.now c.args.mark) (OldOrNew c.unwrap.result) (TableOldOrNew p.layout)
+    (λ t b lies those again. elim lies [ inl was ↦ inl (again was) | inr is ↦ inr (those _ is) ])
+    (same_old_new p.layout) c.in-Ok.held c.in-Ok.heard c.in-Ok.ensures.serves)
 
-pub returns-in-Ok-clause-stored : goal.returns-in-Ok-clause-stored
-returns-in-Ok-clause-stored g c =
+pub returns-in-Err-clause-serves : goal.returns-in-Err-clause-serves
+returns-in-Err-clause-serves g c =
     let p : HeldPlaces = record { sessions = c.self.inside.sessions; layout = c.self.inside.layout } in
     let at : get_or p.sessions c.args.index None ≡ Some c.unwrap.result = first_of (search rules, cc, grind (arith, common_steps)) in
-    let holds0 = g.F.Flash.holds c.args.flash.now in
-    let left0 = g.F.Flash.left_since c.args.flash.now (g.F.Flash.moment c.args.flash.now) in
-    let holds = g.F.Flash.holds c.hear.new.flash in
-    let left = g.F.Flash.left_since c.hear.new.flash (g.F.Flash.moment c.hear.new.flash) in
-    rw (← c.self.view_is, set-set, c.from-at.ensures) (λ table each.
-    let o = session_at table c.args.index in
-    let was = it_has p c.args.index c.unwrap.result c.requires.index at c.self.invariant (λ k q. IsHeldAs k q holds0 left0) table each in
-    stored_on p c.args.index c.unwrap.result c.requires.index at c.self.invariant c.in-Ok.held table (after_fragment o c.args.via c.args.n c.args.part.now c.args.mark) holds0 left0 holds left each (c.in-Ok.ensures.acknowledged o was) c.hear.ensures.held c.in-Ok.ensures.others)
-
-pub returns-in-Ok-clause-any_moment : goal.returns-in-Ok-clause-any_moment
-returns-in-Ok-clause-any_moment g c =
-    let p : HeldPlaces = record { sessions = c.self.inside.sessions; layout = c.self.inside.layout } in
-    let at : get_or p.sessions c.args.index None ≡ Some c.unwrap.result = first_of (search rules, cc, grind (arith, common_steps)) in
-    let holds0 = g.F.Flash.holds c.args.flash.now in
-    let left0 = g.F.Flash.left_since c.args.flash.now (g.F.Flash.moment c.args.flash.now) in
-    rw (← c.self.view_is) (λ table each.
-    let o = session_at table c.args.index in
-    let was = it_has p c.args.index c.unwrap.result c.requires.index at c.self.invariant (λ k q. IsHeldAs k q holds0 left0) table each in
-    moments_on p c.args.index c.unwrap.result c.requires.index at c.self.invariant table holds0 _ _ _ _ (λ b. LiesForAs c.unwrap.result o b ⊎ LiesForAs c.unwrap.result (after_fragment o c.args.via c.args.n c.args.part.now c.args.mark) b) each c.hear.ensures.stops (c.hear.ensures.any_moment o was)
-    (λ b. TableLies p.layout table b ⊎ TableLies p.layout (table_after_fragment c.args.index c.args.via c.args.n c.args.part.now c.args.mark table) b)
-    (λ b lies those again. elim lies [ inl was ↦ inl (again was) | inr its ↦ inr (those (after_fragment o c.args.via c.args.n c.args.part.now c.args.mark) its) ]))
-
-pub returns-in-Err-clause-any_moment : goal.returns-in-Err-clause-any_moment
-returns-in-Err-clause-any_moment g c =
-    let p : HeldPlaces = record { sessions = c.self.inside.sessions; layout = c.self.inside.layout } in
-    let at : get_or p.sessions c.args.index None ≡ Some c.unwrap.result = first_of (search rules, cc, grind (arith, common_steps)) in
-    let holds0 = g.F.Flash.holds c.args.flash.now in
-    let left0 = g.F.Flash.left_since c.args.flash.now (g.F.Flash.moment c.args.flash.now) in
-    rw (← c.self.view_is) (λ table each.
-    let o = session_at table c.args.index in
-    let was = it_has p c.args.index c.unwrap.result c.requires.index at c.self.invariant (λ k q. IsHeldAs k q holds0 left0) table each in
-    moments_on p c.args.index c.unwrap.result c.requires.index at c.self.invariant table holds0 _ _ _ _ (λ b. LiesForAs c.unwrap.result o b ⊎ LiesForAs c.unwrap.result (after_fragment o c.args.via c.args.n c.args.part.now c.args.mark) b) each c.hear.ensures.stops (c.hear.ensures.any_moment o was)
-    (λ b. TableLies p.layout table b ⊎ TableLies p.layout (table_after_fragment c.args.index c.args.via c.args.n c.args.part.now c.args.mark table) b)
-    (λ b lies those again. elim lies [ inl was ↦ inl (again was) | inr its ↦ inr (those (after_fragment o c.args.via c.args.n c.args.part.now c.args.mark) its) ]))
+    rw (← c.self.view_is) (refused p c.args.index c.unwrap.result c.requires.index at c.self.invariant (λ (o : Option Session). after_fragment o c.args.via c.args.n c.args.part.now c.args.mark) (OldOrNew c.unwrap.result) (TableOldOrNew p.layout)
+    (λ t b lies those again. elim lies [ inl was ↦ inl (again was) | inr is ↦ inr (those _ is) ])
+    (same_old_new p.layout) _ refl c.in-Err.ensures.serves)

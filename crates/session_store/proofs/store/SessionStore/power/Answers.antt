@@ -1,73 +1,66 @@
-use Rattle.std.proofs.Common.{◌≡◌, Option, Some, subst, rules, arith}
-use Rattle.session_store.specs.HeldStore.{StateIsHeld, StateStands, kept}
-use Rattle.session_store.specs.declared.store.State.{State}
-use Rattle.session_store.specs.declared.store.State.TheVariants.{Down}
+use Rattle.std.proofs.Common.{refl, sym, ap}
+use Rattle.session_store.specs.declared.state.CompleteFlags.{CompleteFlags}
+use Rattle.session_store.specs.declared.state.State.TheVariants.{Down}
 use Rattle.session_store.proofs.PlaceSteps.{held_stands, lies_still}
 use Rattle.session_store.proofs.store.SessionStore.power.Goals as goal
 
 pub open-requires-clause-idle : goal.open-requires-clause-idle
 open-requires-clause-idle g c = c.put_down-idles.ensures.idle
 
-pub returns-in-Ok-clause-opened : goal.returns-in-Ok-clause-opened
-returns-in-Ok-clause-opened g c = rw (← c.self.view_is, c.put_slots.ensures) (λ table b now lies.
-    let held = c.in-Ok.ensures.opened table b now lies in
-    (held_stands c.in-Ok.slots table _ _ held, held))
+pub returns-in-Ok-clause-powers : goal.returns-in-Ok-clause-powers
+returns-in-Ok-clause-powers g c = rw (← c.self.view_is, c.put_slots.ensures) (record {
+  opened = λ table b now lies.
+      let held = c.in-Ok.ensures.opened table b now lies in
+      (held_stands c.in-Ok.slots table _ held, held);
+  again = λ table held b now.
+      let from = c.open.ensures.opens.held.from b now in
+      lies_still c.self.inside.layout table from.0 b from.2 (c.put_down-idles.ensures.lies table (rw c.take.ensures.value held) from.0 from.1);
+  whole = λ table stands. c.put_down-idles.ensures.whole table (rw c.take.ensures.value stands);
+  was = λ idles flags at. c.put_down-idles.ensures.was idles flags (rw c.take.ensures.value at);
+  stays = λ table stands. tt;
+  stays_down = λ idles flags at. tt;
+  up = tt;
+  in_flash = tt;
+  down = tt;
+  laid = record { layout = refl; held = sym (rw (sym c.self.view_is) at c.requires) };
+})
 
-pub returns-in-Ok-clause-was : goal.returns-in-Ok-clause-was
-returns-in-Ok-clause-was g c = rw (← c.self.view_is) (λ idles w at.
-    let is : c.self.inside.state ≡ Some c.in-Some.state = first_of (search rules, cc, grind arith) in
-    c.put_down-idles.ensures.was idles w (subst (λ (o : Option State). kept o ≡ Down idles w) is at))
+pub returns-in-Err-clause-powers : goal.returns-in-Err-clause-powers
+returns-in-Err-clause-powers g c = rw (← c.self.view_is, c.put_idles.ensures) (record {
+  opened = λ table b now lies. c.in-Err.ensures.opened table b now lies;
+  again = λ table held b now.
+      let from = c.open.ensures.opens.held.from b now in
+      lies_still c.self.inside.layout table from.0 b from.2 (c.put_down-idles.ensures.lies table (rw c.take.ensures.value held) from.0 from.1);
+  whole = λ table stands. tt;
+  was = λ idles flags at. tt;
+  stays = λ table stands. (c.in-Err.idles, ap (λ (f : CompleteFlags). Down c.in-Err.idles f) (c.put_down-idles.ensures.whole table (rw c.take.ensures.value stands)));
+  stays_down = λ idles flags at. (c.in-Err.idles, ap (λ (f : CompleteFlags). Down c.in-Err.idles f) (c.put_down-idles.ensures.was idles flags (rw c.take.ensures.value at)));
+  up = tt;
+  in_flash = tt;
+  down = tt;
+  laid = record { layout = refl; held = sym (rw (sym c.self.view_is) at c.requires) };
+})
 
-pub returns-in-Err-clause-opened : goal.returns-in-Err-clause-opened
-returns-in-Err-clause-opened g c = rw (← c.self.view_is) (λ table b now lies. c.in-Err.ensures.opened table b now lies)
+pub returns-in-Ok-clause-opens : goal.returns-in-Ok-clause-opens
+returns-in-Ok-clause-opens g c = rw (← c.self.view_is) (record {
+  found = c.in-Ok.ensures.opens.found;
+  foreign = tt;
+  kept = c.in-Ok.ensures.opens.kept;
+  held = c.open.ensures.opens.held;
+  stops = c.open.ensures.opens.stops;
+  size = c.open.ensures.opens.size;
+  later = c.open.ensures.opens.later;
+  fault = tt;
+})
 
-pub returns-in-Ok-clause-again : goal.returns-in-Ok-clause-again
-returns-in-Ok-clause-again g c = rw (← c.self.view_is) (λ table held b now.
-    let is : c.self.inside.state ≡ Some c.in-Some.state = first_of (search rules, cc, grind arith) in
-    let was = subst (λ (o : Option State). StateIsHeld (kept o) table (g.F.Flash.holds c.self.inside.flash)
-    (g.F.Flash.left_since c.self.inside.flash (g.F.Flash.moment c.self.inside.flash))) is held in
-    let from = c.open.ensures.held.from b now in
-    lies_still c.self.inside.layout table from.0 b from.2 (c.put_down-idles.ensures.lies table was from.0 from.1))
-
-pub returns-in-Err-clause-again : goal.returns-in-Err-clause-again
-returns-in-Err-clause-again g c = rw (← c.self.view_is) (λ table held b now.
-    let is : c.self.inside.state ≡ Some c.in-Some.state = first_of (search rules, cc, grind arith) in
-    let was = subst (λ (o : Option State). StateIsHeld (kept o) table (g.F.Flash.holds c.self.inside.flash)
-    (g.F.Flash.left_since c.self.inside.flash (g.F.Flash.moment c.self.inside.flash))) is held in
-    let from = c.open.ensures.held.from b now in
-    lies_still c.self.inside.layout table from.0 b from.2 (c.put_down-idles.ensures.lies table was from.0 from.1))
-
-pub returns-in-Err-clause-foreign : goal.returns-in-Err-clause-foreign
-returns-in-Err-clause-foreign g c = rw (← c.self.view_is) (λ p is b now. c.in-Err.ensures.foreign p is b now)
-
-pub returns-in-Ok-clause-held : goal.returns-in-Ok-clause-held
-returns-in-Ok-clause-held g c = rw (← c.self.view_is) c.open.ensures.held
-
-pub returns-in-Ok-clause-stops : goal.returns-in-Ok-clause-stops
-returns-in-Ok-clause-stops g c = rw (← c.self.view_is) c.open.ensures.stops
-
-pub returns-in-Ok-clause-size : goal.returns-in-Ok-clause-size
-returns-in-Ok-clause-size g c = rw (← c.self.view_is) c.open.ensures.size
-
-pub returns-in-Ok-clause-later : goal.returns-in-Ok-clause-later
-returns-in-Ok-clause-later g c = rw (← c.self.view_is) c.open.ensures.later
-
-pub returns-in-Err-clause-held : goal.returns-in-Err-clause-held
-returns-in-Err-clause-held g c = rw (← c.self.view_is) c.open.ensures.held
-
-pub returns-in-Err-clause-stops : goal.returns-in-Err-clause-stops
-returns-in-Err-clause-stops g c = rw (← c.self.view_is) c.open.ensures.stops
-
-pub returns-in-Err-clause-size : goal.returns-in-Err-clause-size
-returns-in-Err-clause-size g c = rw (← c.self.view_is) c.open.ensures.size
-
-pub returns-in-Err-clause-later : goal.returns-in-Err-clause-later
-returns-in-Err-clause-later g c = rw (← c.self.view_is) c.open.ensures.later
-
-pub returns-in-Ok-clause-nothing_foreign : goal.returns-in-Ok-clause-nothing_foreign
-returns-in-Ok-clause-nothing_foreign g c = rw (← c.self.view_is) c.in-Ok.ensures.nothing_foreign
-
-pub returns-in-Ok-clause-whole : goal.returns-in-Ok-clause-whole
-returns-in-Ok-clause-whole g c = rw (← c.self.view_is) (λ table stands.
-    let is : c.self.inside.state ≡ Some c.in-Some.state = first_of (search rules, cc, grind arith) in
-    c.put_down-idles.ensures.whole table (subst (λ (o : Option State). StateStands (kept o) table) is stands))
+pub returns-in-Err-clause-opens : goal.returns-in-Err-clause-opens
+returns-in-Err-clause-opens g c = rw (← c.self.view_is) (record {
+  found = tt;
+  foreign = c.in-Err.ensures.opens.foreign;
+  kept = λ was. tt;
+  held = c.open.ensures.opens.held;
+  stops = c.open.ensures.opens.stops;
+  size = c.open.ensures.opens.size;
+  later = c.open.ensures.opens.later;
+  fault = c.in-Err.ensures.opens.fault;
+})

@@ -3,7 +3,7 @@ use Rattle.std.specs.Prelude.{Bool, true, false, Option, Some, None}
 use Rattle.frag_session.specs.declared.answers.Verdict.{Verdict}
 use Rattle.frag_session.specs.declared.answers.Verdict.TheVariants as verdict
 use Rattle.frag_session.specs.Session.{Seen, view_of}
-use Rattle.session_store.specs.declared.store.Whole.{Whole}
+use Rattle.session_store.specs.declared.state.CompleteFlags.{CompleteFlags}
 use Rattle.session_store.specs.SessionTable.{SessionTable}
 
 -- the verdict is that the file is whole
@@ -16,8 +16,8 @@ abbrev pub is_whole : Option Seen → Bool
 is_whole None = false
 is_whole (Some seen) = is_complete seen.verdict
 
-abbrev pub whole_of : SessionTable → Whole
-whole_of table = record {
+abbrev pub flags_of : SessionTable → CompleteFlags
+flags_of table = record {
   first = is_whole (view_of table.first);
   second = is_whole (view_of table.second);
   third = is_whole (view_of table.third);
@@ -25,5 +25,5 @@ whole_of table = record {
 }
 
 -- a device that was never up had none
-abbrev pub none_whole : Whole
-none_whole = record { first = false; second = false; third = false; fourth = false }
+abbrev pub none_complete : CompleteFlags
+none_complete = record { first = false; second = false; third = false; fourth = false }

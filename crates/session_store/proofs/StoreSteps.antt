@@ -1,0 +1,56 @@
+-- What a call for sessions in flash makes of the store.
+use Rattle.std.proofs.Common.{◌≡◌, ℕ, Bool, true, false, List, Result, Ok, Err, sym, ap, subst, ◌∙◌}
+use Rattle.flash_session.specs.declared.flash.Failed.{Failed}
+use Rattle.flash_session.specs.Seen.{FlashSeen}
+use Rattle.session_store.specs.declared.held_slots.Idles.{Idles}
+use Rattle.session_store.specs.declared.held_slots.Layout.{Layout}
+use Rattle.session_store.specs.declared.state.CompleteFlags.{CompleteFlags}
+use Rattle.session_store.specs.declared.state.State.{State}
+use Rattle.session_store.specs.declared.state.State.TheVariants.{Flash, Down}
+use Rattle.session_store.specs.declared.store.FlashFault.{FlashFault}
+use Rattle.session_store.specs.CompleteFlags.{flags_of}
+use Rattle.session_store.specs.HeldPlaces.{HeldPlaces, PlacesStand, PlacesServe}
+use Rattle.session_store.specs.HeldStore.{HeldStore, StateStands, StateIsStored, StateIsHeld, IsInFlash, IsUp, StoreServes}
+use Rattle.session_store.specs.SessionTable.{SessionTable}
+
+module _ {F A : Type 0} (seen : F → FlashSeen) (made : Layout → (held : Bool) → SessionTable → SessionTable) (left : Layout → (old new : SessionTable) → List ℕ → Type 0) (old new : HeldStore F) (p q : HeldPlaces)
+    (there : old.state ≡ Flash p) (placed : p.layout ≡ old.layout) (laid : new.layout ≡ old.layout) (held : old.held ≡ true) (still : new.held ≡ true) where
+  -- in the words of the store
+  told : {r : Result A Failed} → PlacesServe (made p.layout true) (left p.layout) p q (seen old.flash) (seen new.flash) r
+      → PlacesServe (made old.layout old.held) (left old.layout) p q (seen old.flash) (seen new.flash) r
+  told {r} serves =
+      subst (λ (b : Bool). PlacesServe (made old.layout b) (left old.layout) p q (seen old.flash) (seen new.flash) r) (sym held)
+      (subst (λ (l : Layout). PlacesServe (made l true) (left l) p q (seen old.flash) (seen new.flash) r) placed serves)
+
+  -- the flash failed: they are down, with which files were whole
+  pub failed : {e : Failed} {x : FlashFault} (down : (idles : Idles) × (flags : CompleteFlags) × (new.state ≡ Down idles flags) × ((t : SessionTable) → PlacesStand p t → flags ≡ flags_of t))
+      → PlacesServe {Answer = A} (made p.layout true) (left p.layout) p q (seen old.flash) (seen new.flash) (Err e) → StoreServes {Answer = A} seen (made old.layout old.held) (left old.layout) old new (Err x)
+  failed {e} {x} down its = let serves = told its in record {
+    stands = λ t stands. tt;
+    stored = λ t stored. tt;
+    any_moment = λ t is. serves.any_moment t (subst (λ (s : State). StateIsHeld s t (seen old.flash)) there is);
+    again = λ t is. serves.again t (subst (λ (s : State). StateIsHeld s t (seen old.flash)) there is);
+    up = tt;
+    in_flash = λ was. tt;
+    down = λ t stands. (down.0, down.2 ∙ ap (λ (f : CompleteFlags). Down down.0 f) (down.3 t (subst (λ (s : State). StateStands s t) there stands)));
+    laid = record { layout = laid; held = still ∙ sym held };
+    quiet = λ none. (let no : true ≡ false = sym held ∙ none in absurd cc);
+    size = serves.size;
+    cause = record { later = serves.cause.later; failed = serves.cause.failed };
+  }
+
+  -- it did not
+  pub answered : {x : A} → new.state ≡ Flash q → PlacesServe (made p.layout true) (left p.layout) p q (seen old.flash) (seen new.flash) (Ok x) → StoreServes seen (made old.layout old.held) (left old.layout) old new (Ok x)
+  answered {x} here its = let serves = told its in record {
+    stands = λ t stands. subst (λ (s : State). StateStands s (made old.layout old.held t)) (sym here) (serves.stands t (subst (λ (s : State). StateStands s t) there stands));
+    stored = λ t stored. subst (λ (s : State). StateIsStored s (made old.layout old.held t) (seen new.flash)) (sym here) (serves.stored t (subst (λ (s : State). StateIsStored s t (seen old.flash)) there stored));
+    any_moment = λ t is. serves.any_moment t (subst (λ (s : State). StateIsHeld s t (seen old.flash)) there is);
+    again = λ t is. tt;
+    up = subst IsUp (sym here) tt;
+    in_flash = λ was. subst IsInFlash (sym here) tt;
+    down = λ t stands. tt;
+    laid = record { layout = laid; held = still ∙ sym held };
+    quiet = λ none. (let no : true ≡ false = sym held ∙ none in absurd cc);
+    size = serves.size;
+    cause = record { later = serves.cause.later; failed = tt };
+  }
