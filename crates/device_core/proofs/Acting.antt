@@ -15,10 +15,11 @@ use Rattle.device_core.specs.Step.{weight, acts, command_step, step, after_comma
 use Rattle.device_core.specs.declared.delivered.Delivered.{Delivered}
 use Rattle.device_core.specs.declared.delivered.Delivered.TheVariants.{Done}
 use Rattle.device_core.specs.Deliver.{message_delivery}
+use Rattle.flash_session.specs.Seen.{FlashSeen}
 use Rattle.session_store.specs.declared.held_slots.Layout.{Layout}
 use Rattle.session_store.specs.declared.store.FlashFault.{FlashFault}
-use Rattle.session_store.specs.declared.store.State.TheVariants.{Down}
-use Rattle.session_store.specs.Whole.{whole_of}
+use Rattle.session_store.specs.declared.state.State.TheVariants.{Down}
+use Rattle.session_store.specs.CompleteFlags.{flags_of}
 use Rattle.device_core.specs.Aside.{IsAside}
 use Rattle.device_core.specs.HeldCalls.{LeavesBesides, Fails, Keeps, FailsAt}
 use Rattle.device_core.specs.HeldDevice.{HeldDevice, DeviceStands, Becomes, Makes, Steps, StepsAside}
@@ -89,16 +90,16 @@ unfolding after_answers step
 skipped_goes here device command is = rw is refl
 
 -- one that acts is its own step
-pub keeps_acting : {F A : Type 0} (holds : F → List ℕ → Type 0) (left : F → ℕ → List ℕ → Type 0) (moment faults : F → ℕ)
+pub keeps_acting : {F A : Type 0} (seen : F → FlashSeen)
     (here : Arrival) (old : HeldDevice F) (new : HeldStore F) (r : Result A FlashFault) (command : Command) → acts here.via command ≡ true
-    → Keeps holds left moment faults old new r (λ d. after_answers (command_step here d command)) (λ d. command_tables here d command)
-    → Keeps holds left moment faults old new r (λ d. after_answers (step here d command)) (λ d. step_tables here d command)
+    → Keeps seen old new r (λ d. after_answers (command_step here d command)) (λ d. command_tables here d command)
+    → Keeps seen old new r (λ d. after_answers (step here d command)) (λ d. step_tables here d command)
 unfolding step step_tables
-keeps_acting holds left moment faults here old new r command is keeps = rw is keeps
+keeps_acting seen here old new r command is keeps = rw is keeps
 
 -- ---- a message
 
--- one command behind others
+-- one command after others
 after_one_more : (here : Arrival) (device : DeviceState) (front : List Command) (c : Command)
     → after_commands here device (front ++ c ∷ []) ≡ after_answers (step here (after_commands here device front) c)
 unfolding after_commands
@@ -107,7 +108,7 @@ after_one_more here device (d ∷ front) c = after_one_more here (after_answers 
 
 -- it has acted on the commands before those that are left: the steps of what is left from here are the steps of all; and its
 -- flash holds, and was left with, what these passed
-pub record HasActed {F : Type 0} (holds : F → List ℕ → Type 0) (left_since : F → ℕ → List ℕ → Type 0) (moment : F → ℕ)
+pub record HasActed {F : Type 0} (seen : F → FlashSeen)
     (here : Arrival) (first held : HeldDevice F) (device : DeviceState) (all left : List Command) : Type 0 where
   pub now : DeviceState
   pub stands : DeviceStands held now
@@ -115,22 +116,19 @@ pub record HasActed {F : Type 0} (holds : F → List ℕ → Type 0) (left_since
   pub front : List Command
   pub parted : all ≡ front ++ left
   pub now_is : now ≡ after_commands here device front
-  pub stored : StateIsStored first.sessions.state device.sessions (holds first.sessions.flash)
-      (left_since first.sessions.flash (moment first.sessions.flash))
-      → StateIsStored held.sessions.state now.sessions (holds held.sessions.flash)
-      (left_since held.sessions.flash (moment held.sessions.flash))
+  pub stored : StateIsStored first.sessions.state device.sessions (seen first.sessions.flash)
+      → StateIsStored held.sessions.state now.sessions (seen held.sessions.flash)
   pub passes : (c : List ℕ) → LiesOneOf first.sessions.layout (tables_of here now left) c
       → LiesOneOf first.sessions.layout (tables_of here device all) c
-  pub moments : StateIsHeld first.sessions.state device.sessions (holds first.sessions.flash)
-      (left_since first.sessions.flash (moment first.sessions.flash))
-      → LeavesBesides (LiesOneOf first.sessions.layout (tables_of here device all)) (moment first.sessions.flash)
-      (moment held.sessions.flash) (left_since first.sessions.flash) (left_since held.sessions.flash)
+  pub moments : StateIsHeld first.sessions.state device.sessions (seen first.sessions.flash)
+      → LeavesBesides (LiesOneOf first.sessions.layout (tables_of here device all)) (seen first.sessions.flash)
+      (seen held.sessions.flash)
 
-pub acted_none : {F : Type 0} (holds : F → List ℕ → Type 0) (left_since : F → ℕ → List ℕ → Type 0) (moment : F → ℕ)
+pub acted_none : {F : Type 0} (seen : F → FlashSeen)
     (here : Arrival) (held : HeldDevice F) (device : DeviceState) (all : List Command)
-    → DeviceStands held device → HasActed holds left_since moment here held held device all all
+    → DeviceStands held device → HasActed seen here held held device all all
 unfolding after_commands
-acted_none holds left_since moment here held device all stands = record {
+acted_none seen here held device all stands = record {
   now = device;
   stands = stands;
   steps = refl;
@@ -139,7 +137,7 @@ acted_none holds left_since moment here held device all stands = record {
   now_is = refl;
   stored = λ was. was;
   passes = λ c lies. lies;
-  moments = λ was. besides_none _ _ _;
+  moments = λ was. besides_none _ _;
 }
 
 -- what a command passes, among all
@@ -156,33 +154,33 @@ unfolding tables_of
 rest_of here l now c cs b lies = lies_right l (step_tables here now c) (tables_of here (after_answers (step here now c)) cs) b lies
 
 -- the run so far and that of one command
-moments_more : {F A : Type 0} (holds : F → List ℕ → Type 0) (left_since : F → ℕ → List ℕ → Type 0) (moment faults : F → ℕ)
+moments_more : {F A : Type 0} (seen : F → FlashSeen)
     (here : Arrival) (first mid : HeldDevice F) (new : HeldStore F) (r : Result A FlashFault) (device : DeviceState) (all : List Command) (c : Command) (cs : List Command)
     → (IsInFlash first.sessions.state → IsInFlash mid.sessions.state) → IsLaidOut first.sessions mid.sessions
-    → HasActed holds left_since moment here first mid device all (c ∷ cs)
-    → Keeps holds left_since moment faults mid new r (λ d. after_answers (step here d c)) (λ d. step_tables here d c)
-    → StateIsHeld first.sessions.state device.sessions (holds first.sessions.flash) (left_since first.sessions.flash (moment first.sessions.flash))
-    → LeavesBesides (LiesOneOf first.sessions.layout (tables_of here device all)) (moment first.sessions.flash)
-    (moment new.flash) (left_since first.sessions.flash) (left_since new.flash)
-moments_more holds left_since moment faults here first mid new r device all c cs flash laid so_far keeps was =
-    let stored = so_far.stored (stored_of first.sessions.state device.sessions _ _ was) in
-    let up = flash (in_flash_of first.sessions.state device.sessions _ _ was) in
-    let held = held_of mid.sessions.state so_far.now.sessions _ _ up stored in
+    → HasActed seen here first mid device all (c ∷ cs)
+    → Keeps seen mid new r (λ d. after_answers (step here d c)) (λ d. step_tables here d c)
+    → StateIsHeld first.sessions.state device.sessions (seen first.sessions.flash)
+    → LeavesBesides (LiesOneOf first.sessions.layout (tables_of here device all)) (seen first.sessions.flash)
+    (seen new.flash)
+moments_more seen here first mid new r device all c cs flash laid so_far keeps was =
+    let stored = so_far.stored (stored_of first.sessions.state device.sessions _ was) in
+    let up = flash (in_flash_of first.sessions.state device.sessions _ was) in
+    let held = held_of mid.sessions.state so_far.now.sessions _ up stored in
     let All : List ℕ → Type 0 = LiesOneOf first.sessions.layout (tables_of here device all) in
     let One : List ℕ → Type 0 = LiesOneOf mid.sessions.layout (step_tables here so_far.now c) in
-    besides_more All One All _ _ _ _ _ _ (λ b lies. lies)
+    besides_more All One All _ _ _ (λ b lies. lies)
     (λ b lies. so_far.passes b (some_of here first.sessions.layout mid.sessions.layout so_far.now c cs b laid.layout lies))
     (so_far.moments was) (keeps.moments so_far.now so_far.stands held)
 
-pub acted_more : {F A : Type 0} (holds : F → List ℕ → Type 0) (left_since : F → ℕ → List ℕ → Type 0) (moment faults : F → ℕ)
+pub acted_more : {F A : Type 0} (seen : F → FlashSeen)
     (here : Arrival) (first mid new : HeldDevice F) (x : A) (device : DeviceState) (all : List Command) (c : Command) (cs : List Command)
     → (IsInFlash first.sessions.state → IsInFlash mid.sessions.state) → IsLaidOut first.sessions mid.sessions
-    → HasActed holds left_since moment here first mid device all (c ∷ cs)
+    → HasActed seen here first mid device all (c ∷ cs)
     → Becomes mid new (λ d. after_answers (step here d c))
-    → Keeps holds left_since moment faults mid new.sessions (Ok x) (λ d. after_answers (step here d c)) (λ d. step_tables here d c)
-    → HasActed holds left_since moment here first new device all cs
+    → Keeps seen mid new.sessions (Ok x) (λ d. after_answers (step here d c)) (λ d. step_tables here d c)
+    → HasActed seen here first new device all cs
 unfolding after_commands
-acted_more holds left_since moment faults here first mid new x device all c cs flash laid so_far goes keeps = record {
+acted_more seen here first mid new x device all c cs flash laid so_far goes keeps = record {
   now = after_answers (step here so_far.now c);
   stands = goes so_far.now so_far.stands;
   steps = so_far.steps;
@@ -191,39 +189,40 @@ acted_more holds left_since moment faults here first mid new x device all c cs f
   now_is = ap (λ (d : DeviceState). after_answers (step here d c)) so_far.now_is ∙ sym (after_one_more here device so_far.front c);
   stored = λ was. keeps.stored so_far.now so_far.stands (so_far.stored was);
   passes = λ b lies. so_far.passes b (rest_of here first.sessions.layout so_far.now c cs b lies);
-  moments = moments_more holds left_since moment faults here first mid new.sessions (Ok x) device all c cs flash laid so_far keeps;
+  moments = moments_more seen here first mid new.sessions (Ok x) device all c cs flash laid so_far keeps;
 }
 
-pub acted_all : {F : Type 0} (holds : F → List ℕ → Type 0) (left_since : F → ℕ → List ℕ → Type 0) (moment : F → ℕ)
+pub acted_all : {F : Type 0} (seen : F → FlashSeen)
     (here : Arrival) (first held : HeldDevice F) (device : DeviceState) (all : List Command)
-    → HasActed holds left_since moment here first held device all [] → DeviceStands held (after_commands here device all)
+    → HasActed seen here first held device all [] → DeviceStands held (after_commands here device all)
 unfolding after_commands
-acted_all holds left_since moment here first held device all acted = rw acted.steps acted.stands
+acted_all seen here first held device all acted = rw acted.steps acted.stands
 
 -- all of it: what the flash holds
-pub keeps_all : {F A : Type 0} (holds : F → List ℕ → Type 0) (left_since : F → ℕ → List ℕ → Type 0) (moment faults : F → ℕ)
+pub keeps_all : {F A : Type 0} (seen : F → FlashSeen)
     (here : Arrival) (first held : HeldDevice F) (x : A) (all : List Command)
     → IsUp held.sessions.state → (IsInFlash first.sessions.state → IsInFlash held.sessions.state) → IsLaidOut first.sessions held.sessions
     → (first.sessions.held ≡ false → held.sessions.flash ≡ first.sessions.flash)
-    → faults first.sessions.flash ≤ faults held.sessions.flash
-    → ((device : DeviceState) → DeviceStands first device → HasActed holds left_since moment here first held device all [])
-    → Keeps holds left_since moment faults first held.sessions (Ok x) (λ d. after_commands here d all) (λ d. tables_of here d all)
+    → (seen first.sessions.flash).faults ≤ (seen held.sessions.flash).faults
+    → ((device : DeviceState) → DeviceStands first device → HasActed seen here first held device all [])
+    → Keeps seen first held.sessions (Ok x) (λ d. after_commands here d all) (λ d. tables_of here d all)
 unfolding after_commands
-keeps_all holds left_since moment faults here first held x all up flash laid quiet later acted = record {
+keeps_all seen here first held x all up flash laid quiet later acted = record {
   up = up;
   in_flash = flash;
   stored = λ device stands was. let a = acted device stands in rw a.steps (a.stored was);
   moments = λ device stands was. (acted device stands).moments was;
+  again = λ device stands was. tt;
   laid = laid;
   quiet = λ memory. (refl, quiet memory);
   cause = record { later = later; failed = tt };
 }
 
 -- the flash failed at a command
-pub failed_at : {F : Type 0} (holds : F → List ℕ → Type 0) (left_since : F → ℕ → List ℕ → Type 0) (moment : F → ℕ)
+pub failed_at : {F : Type 0} (seen : F → FlashSeen)
     (here : Arrival) (first mid new : HeldDevice F) (device : DeviceState) (all : List Command) (c : Command) (cs : List Command)
-    → HasActed holds left_since moment here first mid device all (c ∷ cs) → Fails mid new → FailsAt here device all new
-failed_at holds left_since moment here first mid new device all c cs so_far fails = record {
+    → HasActed seen here first mid device all (c ∷ cs) → Fails mid new → FailsAt here device all new
+failed_at seen here first mid new device all c cs so_far fails = record {
   front = so_far.front;
   failing = c;
   behind = cs;
@@ -232,22 +231,28 @@ failed_at holds left_since moment here first mid new device all c cs so_far fail
       ∙ ap (λ (d : DeviceState). record d { sessions = table }) so_far.now_is;
   down =
       let down = fails.down so_far.now.sessions so_far.stands.sessions in
-      (down.0, down.1 ∙ ap (λ (d : DeviceState). Down down.0 (whole_of d.sessions)) so_far.now_is);
+      (down.0, down.1 ∙ ap (λ (d : DeviceState). Down down.0 (flags_of d.sessions)) so_far.now_is);
 }
 
 -- what it was left with until then
-pub keeps_until : {F A B : Type 0} (holds : F → List ℕ → Type 0) (left_since : F → ℕ → List ℕ → Type 0) (moment faults : F → ℕ)
+pub keeps_until : {F A B : Type 0} (seen : F → FlashSeen)
     (here : Arrival) (first mid : HeldDevice F) (new : HeldStore F) (e f : FlashFault) (all : List Command) (c : Command) (cs : List Command)
     → (IsInFlash first.sessions.state → IsInFlash mid.sessions.state) → IsLaidOut first.sessions mid.sessions
-    → faults first.sessions.flash ≤ faults mid.sessions.flash
-    → ((device : DeviceState) → DeviceStands first device → HasActed holds left_since moment here first mid device all (c ∷ cs))
-    → Keeps {A = A} holds left_since moment faults mid new (Err e) (λ d. after_answers (step here d c)) (λ d. step_tables here d c)
-    → Keeps {A = B} holds left_since moment faults first new (Err f) (λ d. after_commands here d all) (λ d. tables_of here d all)
-keeps_until holds left_since moment faults here first mid new e f all c cs flash laid later acted keeps = record {
+    → (seen first.sessions.flash).faults ≤ (seen mid.sessions.flash).faults
+    → ((device : DeviceState) → DeviceStands first device → HasActed seen here first mid device all (c ∷ cs))
+    → Keeps {A = A} seen mid new (Err e) (λ d. after_answers (step here d c)) (λ d. step_tables here d c)
+    → Keeps {A = B} seen first new (Err f) (λ d. after_commands here d all) (λ d. tables_of here d all)
+keeps_until seen here first mid new e f all c cs flash laid later acted keeps = record {
   up = tt;
   in_flash = λ _. tt;
   stored = λ device stands was. tt;
-  moments = λ device stands was. moments_more holds left_since moment faults here first mid new (Err e) device all c cs flash laid (acted device stands) keeps was;
+  moments = λ device stands was. moments_more seen here first mid new (Err e) device all c cs flash laid (acted device stands) keeps was;
+  again = λ device stands was b now.
+      let so_far = acted device stands in
+      let stored = so_far.stored (stored_of first.sessions.state device.sessions _ was) in
+      let up = flash (in_flash_of first.sessions.state device.sessions _ was) in
+      let held = held_of mid.sessions.state so_far.now.sessions _ up stored in
+      so_far.passes b (some_of here first.sessions.layout mid.sessions.layout so_far.now c cs b laid.layout (keeps.again so_far.now so_far.stands held b now));
   laid = record { layout = keeps.laid.layout ∙ laid.layout; held = keeps.laid.held ∙ laid.held };
   quiet = λ memory. let no : false ≡ true = (keeps.quiet (laid.held ∙ memory)).0 in absurd cc;
   cause = record { later = omega (arith, later, keeps.cause.later); failed = omega (arith, later, keeps.cause.failed) };
@@ -276,25 +281,25 @@ alone_passes : (here : Arrival) (device : DeviceState) (index n : ℕ) (part : L
 unfolding tables_of step_tables command_tables command_step
 alone_passes here device index n part = rw (fragment_acts here.via index n part) refl
 
-pub keeps_alone : {F A : Type 0} (holds : F → List ℕ → Type 0) (left : F → ℕ → List ℕ → Type 0) (moment faults : F → ℕ)
+pub keeps_alone : {F A : Type 0} (seen : F → FlashSeen)
     (here : Arrival) (old : HeldDevice F) (new : HeldStore F) (x : A) (index n : ℕ) (part : List ℕ)
-    → Keeps holds left moment faults old new (Ok x) (λ d. after_answers (fragment_step here d index n part))
+    → Keeps seen old new (Ok x) (λ d. after_answers (fragment_step here d index n part))
     (λ d. d.sessions ∷ (fragment_step here d index n part).device.sessions ∷ [])
-    → Keeps holds left moment faults old new (Ok x) (λ d. after_commands here d (Cast (c.DataFragment index n part) ∷ []))
+    → Keeps seen old new (Ok x) (λ d. after_commands here d (Cast (c.DataFragment index n part) ∷ []))
     (λ d. tables_of here d (Cast (c.DataFragment index n part) ∷ []))
-keeps_alone holds left moment faults here old new x index n part keeps =
-    keeps_as holds left moment faults old new x x _ _ _ _
+keeps_alone seen here old new x index n part keeps =
+    keeps_as seen old new x x _ _ _ _
     (λ device stands. ap (λ (d : DeviceState). d.sessions) (alone_is here device index n part))
     (λ device b stands lies. subst (λ (ts : List SessionTable). LiesOneOf old.sessions.layout ts b) (sym (alone_passes here device index n part)) lies) keeps
 
-pub failed_alone : {F A : Type 0} (holds : F → List ℕ → Type 0) (left : F → ℕ → List ℕ → Type 0) (moment faults : F → ℕ)
+pub failed_alone : {F A : Type 0} (seen : F → FlashSeen)
     (here : Arrival) (old : HeldDevice F) (new : HeldStore F) (e : FlashFault) (index n : ℕ) (part : List ℕ)
-    → Keeps {A = A} holds left moment faults old new (Err e) (λ d. after_answers (fragment_step here d index n part))
+    → Keeps {A = A} seen old new (Err e) (λ d. after_answers (fragment_step here d index n part))
     (λ d. d.sessions ∷ (fragment_step here d index n part).device.sessions ∷ [])
-    → Keeps {A = A} holds left moment faults old new (Err e) (λ d. after_commands here d (Cast (c.DataFragment index n part) ∷ []))
+    → Keeps {A = A} seen old new (Err e) (λ d. after_commands here d (Cast (c.DataFragment index n part) ∷ []))
     (λ d. tables_of here d (Cast (c.DataFragment index n part) ∷ []))
-failed_alone holds left moment faults here old new e index n part keeps =
-    keeps_failed holds left moment faults old new e e _ _ _ _
+failed_alone seen here old new e index n part keeps =
+    keeps_failed seen old new e e _ _ _ _
     (λ device b stands lies. subst (λ (ts : List SessionTable). LiesOneOf old.sessions.layout ts b) (sym (alone_passes here device index n part)) lies) keeps
 
 pub fails_alone : {F : Type 0} (here : Arrival) (old new : HeldDevice F) (device : DeviceState) (cmd : Command) → DeviceStands old device → Fails old new
@@ -331,11 +336,11 @@ pub err_as : {T E P Q : Type 0} (r : Result T E) → (P → Q) → OnErr r P →
 err_as (Ok x) to holds = tt
 err_as (Err e) to holds = to holds
 
-pub keeps_single : {F A : Type 0} (holds : F → List ℕ → Type 0) (left : F → ℕ → List ℕ → Type 0) (moment faults : F → ℕ)
+pub keeps_single : {F A : Type 0} (seen : F → FlashSeen)
     (here : Arrival) (old : HeldDevice F) (new : HeldStore F) (r : Result A FlashFault) (index n : ℕ) (part : List ℕ)
-    → Keeps holds left moment faults old new r (λ d. after_answers (fragment_step here d index n part))
+    → Keeps seen old new r (λ d. after_answers (fragment_step here d index n part))
     (λ d. d.sessions ∷ (fragment_step here d index n part).device.sessions ∷ [])
-    → Keeps holds left moment faults old new r (λ d. after_commands here d (Cast (c.DataFragment index n part) ∷ []))
+    → Keeps seen old new r (λ d. after_commands here d (Cast (c.DataFragment index n part) ∷ []))
     (λ d. tables_of here d (Cast (c.DataFragment index n part) ∷ []))
-keeps_single holds left moment faults here old new (Ok x) index n part keeps = keeps_alone holds left moment faults here old new x index n part keeps
-keeps_single holds left moment faults here old new (Err e) index n part keeps = failed_alone holds left moment faults here old new e index n part keeps
+keeps_single seen here old new (Ok x) index n part keeps = keeps_alone seen here old new x index n part keeps
+keeps_single seen here old new (Err e) index n part keeps = failed_alone seen here old new e index n part keeps

@@ -315,7 +315,7 @@ ComesAt carries line device (HearsBytes t word mark bytes) =
     (mark ≡ line) × ((down : Downlink) → brought device bytes ≡ Ok down → AreCarried carries line down)
 ComesAt carries line device event = Unit {0}
 
--- and it still holds behind any event at a later line
+-- and it still holds after any event at a later line
 pub event_fine : (carries : ℕ → Command → Type 0) (last line : ℕ) (d : DeviceState) (e : Event) → last ≤ line
     → ComesAt carries line d e → AreFine carries last d → AreFine carries line (after_event d e)
 event_fine carries last line d (Wakes t) le comes h =

@@ -18,5 +18,6 @@ pub mod Quiet
 pub mod Stored
 pub mod Powered
 pub mod Downs
-pub mod Empties
+pub mod Payloads
+pub mod Counted
 pub mod Messages

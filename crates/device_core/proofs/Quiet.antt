@@ -3,7 +3,7 @@ use Rattle.std.proofs.Common.{◌≡◌, ℕ, Bool, true, false, List, Option, S
 use Rattle.std.specs.Prelude.{if◌then◌else◌}
 use Rattle.frag_session.specs.Session.{Seen, view_of}
 use Rattle.image_slots.specs.Slots.{Slots}
-use Rattle.session_store.specs.Whole.{whole_of}
+use Rattle.session_store.specs.CompleteFlags.{flags_of}
 use Rattle.device_core.specs.Fragments.{is_complete, is_whole, whole_file, slots_after}
 use Rattle.device_core.specs.SessionTable.{SessionTable}
 use Rattle.device_core.specs.Power.{powered, after_power, PowerIsQuiet}
@@ -17,7 +17,7 @@ one_quiet : (hw : ℕ) (seen : Option Seen) (slots : Slots) → slots_after hw (
 one_quiet hw None slots = refl
 one_quiet hw (Some seen) slots = by_verdict hw (is_complete seen.verdict) seen.file slots
 
-all_quiet : (hw : ℕ) (table : SessionTable) (slots : Slots) → powered hw (whole_of table) table slots ≡ slots
+all_quiet : (hw : ℕ) (table : SessionTable) (slots : Slots) → powered hw (flags_of table) table slots ≡ slots
 all_quiet hw table slots =
     one_quiet hw (view_of table.fourth) _ ∙ one_quiet hw (view_of table.third) _ ∙ one_quiet hw (view_of table.second) _
     ∙ one_quiet hw (view_of table.first) slots

@@ -1,7 +1,7 @@
 -- Answers that a device sends, one after another, and the steps that they make.
 use Rattle.std.proofs.Common.{◌≡◌, ℕ, ◌+◌, ◌≤◌, List, [], ◌∷◌, ◌++◌, length, map, replicate, Option, Some, refl, sym, ap, subst, ◌∙◌, append_assoc, length-append, arith}
 use Rattle.std.proofs.lemmas.List.{map-append, length-map, append-nil, replicate-append-replicate, length-replicate}
-use Rattle.device_core.specs.declared.uplink.UplinkCommand.{UplinkCommand}
+use Rattle.device_core.specs.declared.uplink.Answer.{Answer}
 use Rattle.device_core.specs.SessionTable.{SessionTable}
 use Rattle.device_core.specs.Device.{DeviceState}
 use Rattle.device_core.specs.Answers.{DeviceStep, after_answers, uplink_of, due_after}
@@ -9,13 +9,13 @@ use Rattle.device_core.specs.Deliver.{Outcome}
 use Rattle.device_core.specs.HeldSessions.{HeldStore, StateStands}
 use Rattle.device_core.specs.HeldDevice.{HeldDevice, device_of, DeviceStands, Becomes, Makes, GoesAside, Steps, StepsAside, held_with_answers}
 
-due_more : (last : Option ℕ) (some more : List UplinkCommand)
+due_more : (last : Option ℕ) (some more : List Answer)
     → due_after (due_after last some) more ≡ due_after last (some ++ more)
 due_more last [] more = refl
 due_more last (a ∷ some) more = due_more (Some a.due) some more
 
--- what is sent behind others is sent with them
-pub sent_more : {F : Type 0} (held : HeldDevice F) (some more : List UplinkCommand)
+-- what is sent after others is sent with them
+pub sent_more : {F : Type 0} (held : HeldDevice F) (some more : List Answer)
     → held_with_answers (held_with_answers held some) more ≡ held_with_answers held (some ++ more)
 sent_more held some more =
     rw (due_more held.last_due some more, append_assoc, ← map-append uplink_of some more) refl
@@ -24,13 +24,13 @@ pub sent_none : {F : Type 0} (held : HeldDevice F) → held ≡ held_with_answer
 sent_none held = rw (append-nil held.outbox) refl
 
 -- so many copies of an answer are sent, and one more
-pub sent_again : {F : Type 0} (old now new : HeldDevice F) (n : ℕ) (answer : UplinkCommand)
+pub sent_again : {F : Type 0} (old now new : HeldDevice F) (n : ℕ) (answer : Answer)
     → now ≡ held_with_answers old (replicate n answer) → new ≡ held_with_answers now (answer ∷ [])
     → new ≡ held_with_answers old (replicate (n + 1) answer)
 sent_again old now new n answer so_far one =
     rw (one, so_far, sent_more old (replicate n answer) (answer ∷ []), ← replicate-append-replicate n 1 answer) refl
 
-pub outbox_length : {F : Type 0} (old now : HeldDevice F) (n : ℕ) (answer : UplinkCommand)
+pub outbox_length : {F : Type 0} (old now : HeldDevice F) (n : ℕ) (answer : Answer)
     → now ≡ held_with_answers old (replicate n answer) → length now.outbox ≡ length old.outbox + n
 outbox_length old now n answer is =
     rw is (length-append old.outbox (map uplink_of (replicate n answer))
@@ -67,7 +67,7 @@ pub aside_sessions : {F : Type 0} (old new : HeldDevice F) (after : DeviceState 
 aside_sessions old new after device goes stands =
     ap (λ (d : DeviceState). d.sessions) (ap after stands.rest ∙ sym (goes.rest device.sessions))
 
--- one thing behind another
+-- one thing after another
 pub goes_on : {F : Type 0} (old mid new : HeldDevice F) (first second : DeviceState → DeviceState) → GoesAside old mid first → GoesAside mid new second
     → GoesAside old new (λ d. second (first d))
 goes_on old mid new first second one two = record {
@@ -76,7 +76,7 @@ goes_on old mid new first second one two = record {
 }
 
 -- a step that left the sessions, and whose answers were sent
-pub steps_of : {F : Type 0} (old mid new : HeldDevice F) (weight : ℕ) (answers : List UplinkCommand) (step : DeviceState → DeviceStep)
+pub steps_of : {F : Type 0} (old mid new : HeldDevice F) (weight : ℕ) (answers : List Answer) (step : DeviceState → DeviceStep)
     → new ≡ held_with_answers mid answers → length answers ≤ weight
     → mid.sessions ≡ old.sessions → mid.outbox ≡ old.outbox
     → ((table : SessionTable) → step (device_of old table) ≡ record { device = device_of mid table; answers = answers })
@@ -88,7 +88,7 @@ steps_of old mid new weight answers step is few sessions outbox steps = rw is (r
 })
 
 -- the same with one answer
-pub step_of : {F : Type 0} (old mid new : HeldDevice F) (answer : UplinkCommand) (step : DeviceState → DeviceStep)
+pub step_of : {F : Type 0} (old mid new : HeldDevice F) (answer : Answer) (step : DeviceState → DeviceStep)
     → new ≡ held_with_answers mid (answer ∷ []) → mid.sessions ≡ old.sessions → mid.outbox ≡ old.outbox
     → ((table : SessionTable) → step (device_of old table) ≡ record { device = device_of mid table; answers = answer ∷ [] })
     → StepsAside old new 1 step

@@ -1,4 +1,4 @@
--- What holds of a new session, and of a session with a fragment more, holds behind each setup and each fragment.
+-- What holds of a new session, and of a session with a fragment more, holds after each setup and each fragment.
 use Rattle.std.proofs.Common.{◌≡◌, ℕ, Bool, true, false, cond, ◌==◌, List, Option, None, Some, IfSome, is_none, option_map, refl, eqb-true}
 use Rattle.frag_session.specs.declared.setups.SetupReq.{SetupReq}
 use Rattle.frag_session.specs.declared.setups.Limits.{Limits}

@@ -3,11 +3,12 @@ use Rattle.std.proofs.Common.{◌≡◌, ◌⊎◌, ℕ, ◌==◌, Bool, true, f
 use Rattle.std.specs.Prelude.{is_none}
 use Rattle.frag_session.specs.declared.setups.SetupReq.{SetupReq}
 use Rattle.frag_session.specs.Session.{after_fragment, drop_cause}
-use Rattle.session_store.specs.HeldPlaces.{TableLies}
+use Rattle.flash_session.specs.Seen.{FlashSeen}
+use Rattle.session_store.specs.HeldPlaces.{TableLies, TableOldOrNew, TableOldNoneOrNew}
 use Rattle.session_store.specs.declared.store.FlashFault.{FlashFault}
 use Rattle.device_core.specs.declared.arrival.Arrival.{Arrival}
 use Rattle.device_core.specs.declared.config.DeviceConfig.{DeviceConfig}
-use Rattle.device_core.specs.declared.uplink.UplinkCommand.{UplinkCommand}
+use Rattle.device_core.specs.declared.uplink.Answer.{Answer}
 use Rattle.device_core.specs.Answers.{after_answers}
 use Rattle.device_core.specs.Device.{DeviceState, layout_of}
 use Rattle.device_core.specs.Fragments.{setup_step, delete_step, heard_step, fragment_step}
@@ -18,15 +19,15 @@ use Rattle.device_core.specs.Passed.{LiesOneOf}
 use Rattle.device_core.specs.SessionTable.{SessionTable, session_at, with_session, table_after_setup, table_after_fragment}
 use Rattle.device_core.proofs.Heard.{setup_table_is}
 
--- the store, behind what was sent
-pub sent_sessions : {F : Type 0} (mid new : HeldDevice F) (answers : List UplinkCommand) → new ≡ held_with_answers mid answers → new.sessions ≡ mid.sessions
+-- the store, after what was sent
+pub sent_sessions : {F : Type 0} (mid new : HeldDevice F) (answers : List Answer) → new ≡ held_with_answers mid answers → new.sessions ≡ mid.sessions
 sent_sessions {F} mid new answers is = ap (λ (h : HeldDevice F). h.sessions) is
 
-pub keeps_at : {F A : Type 0} (holds : F → List ℕ → Type 0) (left : F → ℕ → List ℕ → Type 0) (moment faults : F → ℕ)
+pub keeps_at : {F A : Type 0} (seen : F → FlashSeen)
     (old : HeldDevice F) (store new : HeldStore F) (r : Result A FlashFault) (after : DeviceState → DeviceState) (tables : DeviceState → List SessionTable)
-    → new ≡ store → Keeps holds left moment faults old store r after tables → Keeps holds left moment faults old new r after tables
-keeps_at {F} holds left moment faults old store new r after tables is keeps =
-    subst (λ (s : HeldStore F). Keeps holds left moment faults old s r after tables) (sym is) keeps
+    → new ≡ store → Keeps seen old store r after tables → Keeps seen old new r after tables
+keeps_at {F} seen old store new r after tables is keeps =
+    subst (λ (s : HeldStore F). Keeps seen old s r after tables) (sym is) keeps
 
 -- ---- a setup
 
@@ -51,13 +52,8 @@ pub setup_goes : {F : Type 0} (here : Arrival) (old : HeldDevice F) (store : Hel
 unfolding after_answers
 setup_goes here old store config req device is laid held stands = setup_sessions here old store config req device is laid held stands
 
-abbrev pub MaySetUp : {F : Type 0} → HeldStore F → SetupReq → SessionTable → List ℕ → Type 0
-MaySetUp store req t b =
-    TableLies store.layout t b ⊎ TableLies store.layout (with_session t req.index None) b
-    ⊎ TableLies store.layout (setup_table store req t) b
-
 pub setup_passes : {F : Type 0} (here : Arrival) (old : HeldDevice F) (store : HeldStore F) (config : DeviceConfig) (req : SetupReq) (device : DeviceState) (b : List ℕ)
-    → old.config ≡ config → store.layout ≡ layout_of config → store.held ≡ config.held → DeviceStands old device → MaySetUp store req device.sessions b
+    → old.config ≡ config → store.layout ≡ layout_of config → store.held ≡ config.held → DeviceStands old device → TableOldNoneOrNew store.layout req.index device.sessions (setup_table store req device.sessions) b
     → LiesOneOf store.layout (device.sessions ∷ with_session device.sessions req.index None ∷ (setup_step here device req).device.sessions ∷ []) b
 setup_passes here old store config req device b is laid held stands (inl before) = inl before
 setup_passes here old store config req device b is laid held stands (inr (inl between)) = inr (inl between)
@@ -71,11 +67,8 @@ pub delete_goes : (here : Arrival) (index : ℕ) (device : DeviceState)
 unfolding after_answers delete_step
 delete_goes here index device = refl
 
-abbrev pub MayDelete : {F : Type 0} → HeldStore F → ℕ → SessionTable → List ℕ → Type 0
-MayDelete store index t b = TableLies store.layout t b ⊎ TableLies store.layout (with_session t index None) b
-
 pub delete_passes : {F : Type 0} (here : Arrival) (store : HeldStore F) (index : ℕ) (device : DeviceState) (b : List ℕ)
-    → MayDelete store index device.sessions b
+    → TableOldOrNew store.layout device.sessions (with_session device.sessions index None) b
     → LiesOneOf store.layout (device.sessions ∷ with_session device.sessions index None ∷ (delete_step here device index).device.sessions ∷ []) b
 delete_passes here store index device b (inl before) = inl before
 delete_passes here store index device b (inr between) = inr (inl between)
@@ -109,12 +102,8 @@ pub fragment_goes : (here : Arrival) (index n : ℕ) (part : List ℕ) (device :
 unfolding after_answers
 fragment_goes here index n part device = fragment_sessions here index n part device
 
-abbrev pub MayHear : {F : Type 0} → HeldStore F → Arrival → (index n : ℕ) → List ℕ → SessionTable → List ℕ → Type 0
-MayHear store here index n part t b =
-    TableLies store.layout t b ⊎ TableLies store.layout (table_after_fragment index here.via n part here.moment.mark t) b
-
 pub fragment_passes : {F : Type 0} (here : Arrival) (store : HeldStore F) (index n : ℕ) (part : List ℕ) (device : DeviceState) (b : List ℕ)
-    → MayHear store here index n part device.sessions b
+    → TableOldOrNew store.layout device.sessions (table_after_fragment index here.via n part here.moment.mark device.sessions) b
     → LiesOneOf store.layout (device.sessions ∷ (fragment_step here device index n part).device.sessions ∷ []) b
 fragment_passes here store index n part device b (inl before) = inl before
 fragment_passes here store index n part device b (inr behind) =

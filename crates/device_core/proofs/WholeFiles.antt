@@ -27,7 +27,7 @@ kept : (hw : ℕ) (seen : Seen) (slots : Slots) (b : Bool) → is_complete seen.
 kept hw seen slots true is = refl
 kept hw seen slots false is = rw is refl
 
--- the slots behind a fragment, whether it is heard or dropped
+-- the slots after a fragment, whether it is heard or dropped
 slots_behind : (here : Arrival) (device : DeviceState) (index n : ℕ) (part : List ℕ) (before behind : Seen) → IsSeen here device index n part before behind
     → (behind_fragment here device index n part).slots ≡ slots_after device.config.hw (is_complete before.verdict) (whole_file (Some behind)) device.slots
 unfolding command_step fragment_step heard_step

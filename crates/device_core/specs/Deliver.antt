@@ -14,7 +14,7 @@ use Rattle.device_core.specs.declared.delivered.OutboxFull as outbox
 use Rattle.device_core.specs.declared.uplink.Uplink.{Uplink}
 use Rattle.device_core.specs.Device.{DeviceState, outbox_size, after_deaf, after_refused, after_full, with_counts}
 use Rattle.device_core.specs.declared.arrival.Arrival.{Arrival}
-use Rattle.device_core.specs.declared.uplink.UplinkCommand.{UplinkCommand}
+use Rattle.device_core.specs.declared.uplink.Answer.{Answer}
 use Rattle.device_core.specs.Answers.{DeviceStep, after_answers}
 use Rattle.device_core.specs.Clock.{time_request}
 use Rattle.device_core.specs.ClassSessions.{hears}
@@ -22,7 +22,7 @@ use Rattle.device_core.specs.Firmware.{after_due_reboot}
 use Rattle.device_core.specs.Step.{after_commands, weights}
 use Rattle.package_grammar.specs.Reading.{Reading, reading_of}
 
--- what a call makes of a device: the device behind it, and its answer
+-- what a call makes of a device: the device after it, and its answer
 pub record Outcome (A : Type 0) : Type 0 where
   pub device : DeviceState
   pub answer : A
@@ -55,15 +55,6 @@ arrival t word mark down device = record {
   port = down.port;
 }
 
--- how many commands were read
-unfoldable pub commands_read : Reading → ℕ
-commands_read (Ok cs) = length cs
-commands_read (Err refusal) = 0
-
--- how many a downlink has: none where it is refused
-abbrev pub commands_of : Downlink → ℕ
-commands_of down = commands_read (reading_of down.port Down down.payload)
-
 -- a payload that is heard is read, and one that is not is counted
 unfoldable pub heard_delivery : (t word mark : ℕ) → Downlink → DeviceState → Outcome Delivered
 heard_delivery t word mark down device =
@@ -76,7 +67,7 @@ heard_delivery t word mark down device =
 -- AppTimeReq with AnsRequired, on the port of clock synchronization (TS003-1.0.0)
 abbrev pub asks_time : (t : ℕ) → DeviceState → DeviceStep
 asks_time t device =
-    let request : UplinkCommand = record { due = t; port = 202; command = time_request device.clock t true } in
+    let request : Answer = record { due = t; port = 202; command = time_request device.clock t true } in
     record { device = device; answers = request ∷ [] }
 
 -- it asks for the time by itself, where the outbox has room

@@ -19,14 +19,14 @@ pub data Event : Type 0 where
   HearsBytes : (time word line : ℕ) → (bytes : List ℕ) → Event
   Migrates : Event
 
--- the device behind an event, its uplinks in its outbox
+-- the device after an event, its uplinks in its outbox
 abbrev pub event_step : DeviceState → Event → DeviceState
 event_step device Migrates = after_migration device
 event_step device (Wakes time) = (waking time device).device
 event_step device (Receives time word line down) = (delivery time word line down device).device
 event_step device (HearsBytes time word line bytes) = (radio time word line bytes device).device
 
--- behind each event all its uplinks are taken
+-- after each event all its uplinks are taken
 abbrev pub uplinks_taken : DeviceState → DeviceState
 uplinks_taken device = record device { outbox = [] }
 

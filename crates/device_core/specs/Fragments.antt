@@ -10,12 +10,12 @@ use Rattle.frag_session.specs.declared.answers.StatusAns.{StatusAns}
 use Rattle.frag_session.specs.Setup.{setup_bits}
 use Rattle.frag_session.specs.Session.{Seen, drop_cause, status_of, view_of}
 -- the verdict is that the file is whole, and a session has it so
-pub use Rattle.session_store.specs.Whole.{is_complete, is_whole}
+pub use Rattle.session_store.specs.CompleteFlags.{is_complete, is_whole}
 use Rattle.device_core.specs.SessionTable.{session_at, with_session, table_after_setup, table_after_fragment}
 use Rattle.image_slots.specs.Slots.{Slots, after_offer}
 use Rattle.device_core.specs.Device.{DeviceState, room_of, limits_of, after_dropped, with_counts}
 use Rattle.device_core.specs.declared.arrival.Arrival.{Arrival}
-use Rattle.device_core.specs.declared.uplink.UplinkCommand.{UplinkCommand}
+use Rattle.device_core.specs.declared.uplink.Answer.{Answer}
 use Rattle.device_core.specs.Answers.{DeviceStep, no_answer, one_answer}
 
 -- ---- FragSessionSetupReq
@@ -58,7 +58,7 @@ answer_delay via.Unicast word delay = 0
 answer_delay (via.Group g) word delay = 1000 * (word % 2 ^ (delay + 4))
 
 -- its answer, if it does
-abbrev pub status_answers : Arrival → (index : ℕ) → Option StatusAns → List UplinkCommand
+abbrev pub status_answers : Arrival → (index : ℕ) → Option StatusAns → List Answer
 status_answers here index None = []
 status_answers here index (Some status) = record {
   due = here.moment.t + answer_delay here.via here.moment.word status.delay;

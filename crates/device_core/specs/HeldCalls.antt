@@ -1,18 +1,17 @@
 -- What calls of a device promise of its flash, beside what they make of the record.
-use Rattle.std.specs.Prelude.{◌≡◌, ◌⊎◌, ℕ, ◌≤◌, true, false, List, ◌∷◌, ◌++◌, Result, Ok, is_ok, OnOk}
+use Rattle.std.specs.Prelude.{◌≡◌, ◌⊎◌, ℕ, ◌≤◌, true, false, List, ◌∷◌, ◌++◌, Result, Ok, is_ok, OnOk, OnErr}
 use Rattle.wire_base.specs.declared.refusal.Direction.TheVariants as direction
 use Rattle.package_grammar.specs.declared.command.Command.{Command}
 use Rattle.package_grammar.specs.declared.downlink.Downlink.{Downlink}
 use Rattle.package_grammar.specs.Reading.{Reading, reading_of}
 use Rattle.flash_session.specs.Contents.{HasCause}
 use Rattle.flash_session.specs.Moments.{LeavesOnly}
+use Rattle.flash_session.specs.Seen.{FlashSeen, left}
 use Rattle.session_store.specs.declared.held_slots.Idles.{Idles}
 use Rattle.session_store.specs.declared.store.FlashFault.{FlashFault}
-use Rattle.session_store.specs.declared.store.State.{State}
-use Rattle.session_store.specs.declared.store.State.TheVariants.{Memory, Flash, Down}
-use Rattle.session_store.specs.declared.store.Whole.{Whole}
+use Rattle.session_store.specs.declared.state.State.TheVariants.{Down}
 use Rattle.session_store.specs.HeldPlaces.{TableLies}
-use Rattle.session_store.specs.Whole.{whole_of}
+use Rattle.session_store.specs.CompleteFlags.{flags_of}
 use Rattle.device_core.specs.declared.arrival.Arrival.{Arrival}
 use Rattle.device_core.specs.declared.delivered.Delivered.{Delivered}
 use Rattle.device_core.specs.declared.delivered.Delivered.TheVariants.{Done}
@@ -30,67 +29,74 @@ use Rattle.device_core.specs.Step.{after_commands}
 -- ---- what a stop leaves
 
 -- what a stop might leave now is what it might have left before, or has P
-pub record LeavesBesides (P : List ℕ → Type 0) (before now : ℕ) (past since : ℕ → List ℕ → Type 0) : Type 0 where
-  pub later : before ≤ now
-  pub earlier : (t : ℕ) (c : List ℕ) → t ≤ before → since t c → past t c ⊎ P c
+pub record LeavesBesides (P : List ℕ → Type 0) (old new : FlashSeen) : Type 0 where
+  pub later : old.moment ≤ new.moment
+  pub earlier : (t : ℕ) (c : List ℕ) → t ≤ old.moment → new.since t c → old.since t c ⊎ P c
+  -- at the moment now
+  pub last : (c : List ℕ) → left new c → left old c ⊎ P c
 
 -- sessions that are stored are stored as this call leaves the record
-abbrev pub StaysStored : {F : Type 0} → (holds : F → List ℕ → Type 0) → (left_since : F → ℕ → List ℕ → Type 0) → (moment : F → ℕ)
+abbrev pub StaysStored : {F : Type 0} → (seen : F → FlashSeen)
     → (old new : HeldDevice F) → (DeviceState → DeviceState) → Type 0
-StaysStored holds left_since moment old new after = (device : DeviceState) → DeviceStands old device
-    → StateIsStored old.sessions.state device.sessions (holds old.sessions.flash)
-    (left_since old.sessions.flash (moment old.sessions.flash))
-    → StateIsStored new.sessions.state (after device).sessions (holds new.sessions.flash)
-    (left_since new.sessions.flash (moment new.sessions.flash))
+StaysStored seen old new after = (device : DeviceState) → DeviceStands old device
+    → StateIsStored old.sessions.state device.sessions (seen old.sessions.flash)
+    → StateIsStored new.sessions.state (after device).sessions (seen new.sessions.flash)
 
 -- a stop at any moment leaves the sessions that are held as they were, or as one of these tables
-abbrev pub LeavesPassed : {F : Type 0} → (holds : F → List ℕ → Type 0) → (left_since : F → ℕ → List ℕ → Type 0) → (moment : F → ℕ)
+abbrev pub LeavesPassed : {F : Type 0} → (seen : F → FlashSeen)
     → (old new : HeldDevice F) → (DeviceState → List SessionTable) → Type 0
-LeavesPassed holds left_since moment old new tables = (device : DeviceState) → DeviceStands old device
-    → StateIsHeld old.sessions.state device.sessions (holds old.sessions.flash)
-    (left_since old.sessions.flash (moment old.sessions.flash))
+LeavesPassed seen old new tables = (device : DeviceState) → DeviceStands old device
+    → StateIsHeld old.sessions.state device.sessions (seen old.sessions.flash)
     → LeavesOnly
     (λ c. TableLies old.sessions.layout device.sessions c ⊎ LiesOneOf old.sessions.layout (tables device) c)
-    (moment old.sessions.flash) (moment new.sessions.flash) (left_since old.sessions.flash) (left_since new.sessions.flash)
+    (seen old.sessions.flash) (seen new.sessions.flash)
+
+-- a read gives the sessions that were held as they were, or as one of these tables
+abbrev pub GivesPassed : {F : Type 0} → (seen : F → FlashSeen)
+    → (old new : HeldDevice F) → (DeviceState → List SessionTable) → Type 0
+GivesPassed seen old new tables = (device : DeviceState) → DeviceStands old device
+    → StateIsHeld old.sessions.state device.sessions (seen old.sessions.flash)
+    → (b : List ℕ) → (seen new.sessions.flash).holds b
+    → TableLies old.sessions.layout device.sessions b ⊎ LiesOneOf old.sessions.layout (tables device) b
 
 -- ---- a call that may fail
 
 -- the sessions went down, and all else is as it was
 pub record Fails {F : Type 0} (old new : HeldDevice F) : Type 0 where
   pub down : (table : SessionTable) → StateStands old.sessions.state table
-      → (idles : Idles) × (new.sessions.state ≡ Down idles (whole_of table))
+      → (idles : Idles) × (new.sessions.state ≡ Down idles (flags_of table))
   pub rest : (table : SessionTable) → device_of new table ≡ device_of old table
 
--- what its flash holds and may be left with, and why it failed: behind Ok the sessions are stored as they are then
-pub record Keeps {F A : Type 0} (holds : F → List ℕ → Type 0) (left_since : F → ℕ → List ℕ → Type 0) (moment faults : F → ℕ)
+-- what its flash holds and may be left with, and why it failed: after Ok the sessions are stored as they are then
+pub record Keeps {F A : Type 0} (seen : F → FlashSeen)
     (old : HeldDevice F) (new : HeldStore F) (result : Result A FlashFault)
     (after : DeviceState → DeviceState) (tables : DeviceState → List SessionTable) : Type 0 where
   pub up : OnOk result (IsUp new.state)
   pub in_flash : IsInFlash old.sessions.state → OnOk result (IsInFlash new.state)
   pub stored : (device : DeviceState) → DeviceStands old device
-      → StateIsStored old.sessions.state device.sessions (holds old.sessions.flash)
-      (left_since old.sessions.flash (moment old.sessions.flash))
-      → OnOk result (StateIsStored new.state (after device).sessions (holds new.flash)
-      (left_since new.flash (moment new.flash)))
+      → StateIsStored old.sessions.state device.sessions (seen old.sessions.flash)
+      → OnOk result (StateIsStored new.state (after device).sessions (seen new.flash))
   pub moments : (device : DeviceState) → DeviceStands old device
-      → StateIsHeld old.sessions.state device.sessions (holds old.sessions.flash)
-      (left_since old.sessions.flash (moment old.sessions.flash))
-      → LeavesBesides (LiesOneOf old.sessions.layout (tables device)) (moment old.sessions.flash) (moment new.flash)
-      (left_since old.sessions.flash) (left_since new.flash)
+      → StateIsHeld old.sessions.state device.sessions (seen old.sessions.flash)
+      → LeavesBesides (LiesOneOf old.sessions.layout (tables device)) (seen old.sessions.flash) (seen new.flash)
+  -- where the flash failed a read gives one of these tables, so that power gives it
+  pub again : (device : DeviceState) → DeviceStands old device
+      → StateIsHeld old.sessions.state device.sessions (seen old.sessions.flash)
+      → OnErr result ((b : List ℕ) → (seen new.flash).holds b → LiesOneOf old.sessions.layout (tables device) b)
   pub laid : IsLaidOut old.sessions new
   pub quiet : old.sessions.held ≡ false → (is_ok result ≡ true) × (new.flash ≡ old.sessions.flash)
-  pub cause : HasCause (faults old.sessions.flash) (faults new.flash) result
+  pub cause : HasCause (seen old.sessions.flash).faults (seen new.flash).faults result
 
 -- ---- where a payload's commands stopped
 
--- the flash failed at one command: those before it have acted; it made no uplink, and those behind it did not act
+-- the flash failed at one command: those before it have acted; it made no uplink, and those after it did not act
 pub record FailsAt {F : Type 0} (here : Arrival) (device : DeviceState) (cs : List Command) (new : HeldDevice F) : Type 0 where
   pub front : List Command
   pub failing : Command
   pub behind : List Command
   pub parted : cs ≡ front ++ failing ∷ behind
   pub rest : (table : SessionTable) → device_of new table ≡ record (after_commands here device front) { sessions = table }
-  pub down : (idles : Idles) × (new.sessions.state ≡ Down idles (whole_of (after_commands here device front).sessions))
+  pub down : (idles : Idles) × (new.sessions.state ≡ Down idles (flags_of (after_commands here device front).sessions))
 
 -- what was read of it would have acted, and the flash failed at one of its commands
 pub record FailsIn {F : Type 0} (made : Outcome Delivered) (here : Arrival) (device : DeviceState) (reading : Reading)
@@ -100,7 +106,7 @@ pub record FailsIn {F : Type 0} (made : Outcome Delivered) (here : Arrival) (dev
   pub acts : made.answer ≡ Done
   pub fails : FailsAt here device commands new
 
--- of a payload that would have acted: a reboot that was due is carried out before it, and none behind
+-- of a payload that would have acted: a reboot that was due is carried out before it, and none after
 abbrev pub FailsWithin : {F : Type 0} → (t word mark : ℕ) → Downlink → DeviceState → HeldDevice F → Type 0
 FailsWithin t word mark down device new =
     let before = after_due_reboot t device in
@@ -118,11 +124,3 @@ abbrev pub IsPlain : Delivered → Type 0
 IsPlain answer.FlashFault = ⊥
 IsPlain answer.Down = ⊥
 IsPlain delivered = Unit {0}
-
--- ---- power
-
--- these had their file whole when the device was last up: now, or when it went down
-abbrev pub HadWhole : State → Whole → Type 0
-HadWhole (Memory slots) whole = (table : SessionTable) × StateStands (Memory slots) table × (whole ≡ whole_of table)
-HadWhole (Flash slots) whole = (table : SessionTable) × StateStands (Flash slots) table × (whole ≡ whole_of table)
-HadWhole (Down idles was) whole = whole ≡ was

@@ -9,10 +9,10 @@ use Rattle.device_core.specs.declared.config.ReserveError.{ReserveError}
 use Rattle.device_core.specs.declared.config.ReserveError.TheVariants.{BadConfig, Memory}
 use Rattle.device_core.specs.declared.counts.Counts.{Counts}
 use Rattle.device_core.specs.declared.uplink.Uplink.{Uplink}
-use Rattle.device_core.specs.declared.uplink.UplinkCommand.{UplinkCommand}
+use Rattle.device_core.specs.declared.uplink.Answer.{Answer}
 use Rattle.session_store.specs.declared.held_slots.Idles.{Idles}
-use Rattle.session_store.specs.declared.store.State.TheVariants.{Down}
-use Rattle.session_store.specs.Whole.{none_whole}
+use Rattle.session_store.specs.declared.state.State.TheVariants.{Down}
+use Rattle.session_store.specs.CompleteFlags.{none_complete}
 use Rattle.device_core.specs.SessionTable.{SessionTable, no_sessions}
 use Rattle.device_core.specs.Device.{DeviceState, first_device, is_config, has_ranges, layout_of}
 use Rattle.device_core.specs.Answers.{DeviceStep, after_answers, uplink_of, due_after}
@@ -77,7 +77,7 @@ pub record Starts {F : Type 0} (config : DeviceConfig) (flash : F) (held : HeldD
   pub held_is : held.sessions.held ≡ config.held
   pub layout_is : held.sessions.layout ≡ layout_of config
   pub up : config.held ≡ false → DeviceStands held (first_device config)
-  pub down : config.held ≡ true → (idles : Idles) × (held.sessions.state ≡ Down idles none_whole)
+  pub down : config.held ≡ true → (idles : Idles) × (held.sessions.state ≡ Down idles none_complete)
   pub rest : device_of held no_sessions ≡ first_device config
 
 -- each number is within its bounds, and the flash has room
@@ -93,8 +93,8 @@ IsReserved config room flash (Err Memory) = IsTrue (can_reserve config room)
 
 -- ---- what a command makes
 
--- answers lie in the outbox behind what was there
-abbrev pub held_with_answers : {F : Type 0} → HeldDevice F → List UplinkCommand → HeldDevice F
+-- answers lie in the outbox after what was there
+abbrev pub held_with_answers : {F : Type 0} → HeldDevice F → List Answer → HeldDevice F
 held_with_answers held answers = record held {
   outbox = held.outbox ++ map uplink_of answers;
   last_due = due_after held.last_due answers;

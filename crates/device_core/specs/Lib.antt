@@ -22,4 +22,6 @@ pub mod Running
 pub mod Power
 pub mod Passed
 pub mod HeldCalls
+pub mod HeldPayloads
+pub mod HeldPower
 pub mod Aside

@@ -26,7 +26,7 @@ tables_between table (Cast (c.FragSessionSetupReq index mask nb_frag frag_size a
 tables_between table (Cast (c.FragSessionDeleteReq index)) = with_session table index None ∷ []
 tables_between table command = []
 
--- those before a command that acts, between, and behind it
+-- those before a command that acts, between, and after it
 unfoldable pub command_tables : Arrival → DeviceState → Command → List SessionTable
 command_tables here device command =
     device.sessions ∷ tables_between device.sessions command ++ (command_step here device command).device.sessions ∷ []

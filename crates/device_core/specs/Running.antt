@@ -28,7 +28,7 @@ after_call device (Wakes t) = (waking t device).device
 after_call device Takes = (taking device).device
 after_call device Raises = after_migration device
 
--- behind one call after another, and behind one event after another
+-- after one call after another, and after one event after another
 abbrev pub after_calls : DeviceState → List Call → DeviceState
 after_calls device [] = device
 after_calls device (call ∷ calls) = after_calls (after_call device call) calls

@@ -73,7 +73,7 @@ acts (via.Group g) command = false
 unfoldable pub step : Arrival → DeviceState → Command → DeviceStep
 step here device command = if acts here.via command then command_step here device command else no_answer device
 
--- the device behind the commands of a message, one after another
+-- the device after the commands of a message, one after another
 unfoldable pub after_commands : Arrival → DeviceState → List Command → DeviceState
 after_commands here device [] = device
 after_commands here device (c ∷ cs) = after_commands here (after_answers (step here device c)) cs

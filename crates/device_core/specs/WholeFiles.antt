@@ -10,7 +10,7 @@ use Rattle.device_core.specs.SessionTable.{session_at}
 use Rattle.device_core.specs.Device.{DeviceState}
 use Rattle.device_core.specs.Step.{command_step}
 
--- the device behind a fragment
+-- the device after a fragment
 abbrev pub behind_fragment : Arrival → DeviceState → (index n : ℕ) → List ℕ → DeviceState
 behind_fragment here device index n part = (command_step here device (Cast (DataFragment index n part))).device
 
@@ -18,7 +18,7 @@ behind_fragment here device index n part = (command_step here device (Cast (Data
 abbrev pub seen_at : DeviceState → (index : ℕ) → Option Seen
 seen_at device index = view_of (session_at device.sessions index)
 
--- this was seen of a session before a fragment came, and that behind it
+-- this was seen of a session before a fragment came, and that after it
 pub record IsSeen (here : Arrival) (device : DeviceState) (index n : ℕ) (part : List ℕ) (before behind : Seen) : Type 0 where
   pub first : seen_at device index ≡ Some before
   pub last : seen_at (behind_fragment here device index n part) index ≡ Some behind

@@ -20,7 +20,7 @@ use Rattle.device_core.specs.declared.delivered.Delivered.{Delivered}
 use Rattle.device_core.specs.declared.delivered.Delivered.TheVariants.{Deaf, Refused, OutboxFull, Done}
 use Rattle.device_core.specs.Device.{DeviceState, first_device, is_config, counter_after}
 use Rattle.device_core.specs.HeldDevice.{can_reserve}
-use Rattle.device_core.specs.declared.uplink.UplinkCommand.{UplinkCommand}
+use Rattle.device_core.specs.declared.uplink.Answer.{Answer}
 use Rattle.sync_wire.specs.declared.cmd.Cmd.TheVariants.{PackageVersionAns}
 use Rattle.package_grammar.specs.declared.command.Command.TheVariants.{Sync}
 use Rattle.device_core.specs.Answers.{uplink_of, after_answers}
@@ -54,7 +54,7 @@ worked_config class offset = record {
 abbrev pub fresh : DeviceState
 fresh = first_device (worked_config C 0)
 
--- behind a payload by unicast at t ms, with the random word 0, at line 1
+-- after a payload by unicast at t ms, with the random word 0, at line 1
 abbrev pub received : (t port : ℕ) → List ℕ → DeviceState → Outcome Delivered
 received t port payload device = delivery t 0 1 (record { to = Unicast; port = port; payload = payload }) device
 
@@ -85,7 +85,7 @@ abbrev pub eight_held : DeviceState
 eight_held = after 0 202 (0x00 ∷ 0x03 ∷ 0x07 ∷ []) fresh
 
 -- an answer that is due at a moment
-abbrev pub version_due : (due : ℕ) → UplinkCommand
+abbrev pub version_due : (due : ℕ) → Answer
 version_due due = record { due = due; port = 202; command = Sync (PackageVersionAns 1 1) }
 
 pub record UplinkSteps : Type 0 where
@@ -332,7 +332,7 @@ pub record GroupSteps : Type 0 where
 abbrev pub class_b : ClassSession
 class_b = record { id = 0; kind = ClassB 0; time = 1030; timeout = 1 }
 
--- a device behind a payload on a port by the group of its class session
+-- a device after a payload on a port by the group of its class session
 abbrev pub by_group : (port : ℕ) → List ℕ → DeviceState
 by_group port payload =
     (delivery 1010000 109 1 (record { to = Group 0x11223344 0; port = port; payload = payload }) with_session).device
@@ -382,7 +382,7 @@ pub record HearingSteps : Type 0 where
       → is_open session (ClassB periodicity) device_ms addr
       ≡ is_open_b session.time periodicity session.timeout device_ms addr
   pub no_slot : (from_group 1026840 0 [] (record grouped { class_session = Some class_b })).answer ≡ Deaf
-  -- by unicast: class A behind its own uplinks alone
+  -- by unicast: class A after its own uplinks alone
   pub a_none : answer 6000 201 [] (first_device (worked_config A 0)) ≡ Deaf
   pub a_5999 : answer 5999 201 [] (record (first_device (worked_config A 0)) { last_due = Some 5000 }) ≡ Deaf
   pub a_6000 : answer 6000 201 [] (record (first_device (worked_config A 0)) { last_due = Some 5000 }) ≡ Done
@@ -420,10 +420,10 @@ pub record FirmwareSteps : Type 0 where
   pub cancelled : (after 5000 203 (0x02 ∷ 0xff ∷ 0xff ∷ 0xff ∷ 0xff ∷ []) (record ready { reboot = Some 15 })).reboot ≡ None
   pub uncounted : (after 5000 203 (0x03 ∷ 0xff ∷ 0xff ∷ 0xff ∷ []) (record ready { reboot = Some 15 })).reboot ≡ None
   pub at_once : (after 0 203 (0x03 ∷ 0x00 ∷ 0x00 ∷ 0x00 ∷ []) ready).slots ≡ record { formats = 2; version = 2; running = 0x07 ∷ []; next = image.None; next_file = [] }
-  -- a reboot that a command makes due is carried out behind the payload: the version behind it is still the old one
+  -- a reboot that a command makes due is carried out after the payload: the version after it is still the old one
   pub old_version : sends 0 203 (0x03 ∷ 0x00 ∷ 0x00 ∷ 0x00 ∷ 0x01 ∷ []) ready
       ≡ (0x03 ∷ 0x00 ∷ 0x00 ∷ 0x00 ∷ []) ∷ (0x01 ∷ 0x00 ∷ 0x00 ∷ 0x00 ∷ 0x00 ∷ 0x01 ∷ 0x00 ∷ 0x00 ∷ 0x00 ∷ []) ∷ []
-  -- and one that is due before the payload: the version behind it is the new one
+  -- and one that is due before the payload: the version after it is the new one
   pub new_version : sends 15000 203 (0x01 ∷ []) (record ready { reboot = Some 15 }) ≡ (0x01 ∷ 0x02 ∷ 0x00 ∷ 0x00 ∷ 0x00 ∷ 0x01 ∷ 0x00 ∷ 0x00 ∷ 0x00 ∷ []) ∷ []
   -- at first the formats of the configuration are known
   pub first_formats : (first_device (record (worked_config C 0) { formats = 1 })).slots.formats ≡ 1
@@ -437,7 +437,7 @@ pub record FirmwareSteps : Type 0 where
   pub cleared : (waking 15000 (record ready { reboot = Some 15 })).device.reboot ≡ None
   pub cleared_of_none : (waking 15000 (record fresh { reboot = Some 15 })).device.reboot ≡ None
   pub early : (waking 14999 (record ready { reboot = Some 15 })).device.slots.version ≡ 0
-  -- a moment is reached at itself and less than 2^31 s behind it, modulo 2^32
+  -- a moment is reached at itself and less than 2^31 s after it, modulo 2^32
   pub behind : is_reached (2 ^ 31 - 2) (2 ^ 32 - 1) ≡ true
   pub too_far : is_reached (2 ^ 31 - 1) (2 ^ 32 - 1) ≡ false
   pub ahead : is_reached 14 15 ≡ false

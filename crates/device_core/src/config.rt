@@ -6,6 +6,7 @@ ghost use Rattle.device_core.specs.Device.{is_config, has_ranges, limits_of, lay
 use frag_session::Limits;
 use mc_keys::RootKind;
 use session_store::Layout;
+use thiserror::Error;
 
 /// When a device hears unicast payloads (LoRaWAN 1.0).
 #[derive(Clone, Copy, Debug, PartialEq, Eq)]
@@ -57,11 +58,13 @@ pub struct DeviceConfig {
 }
 
 /// Why there is no device.
-#[derive(Clone, Copy, Debug, PartialEq, Eq)]
+#[derive(Clone, Copy, Debug, PartialEq, Eq, Error)]
 pub enum ReserveError {
     /// A number of the configuration is out of its bounds, or the flash has no room for four sessions.
+    #[error("a number of the configuration is out of bounds")]
     BadConfig,
     /// There was not enough memory.
+    #[error("out of memory")]
     Memory,
 }
 

@@ -1,6 +1,7 @@
 //! What became of a payload, of a frame or of waking.
 
 use mc_frames::FrameFault;
+use thiserror::Error;
 use wire_base::Refusal;
 
 /// What became of a payload.
@@ -10,7 +11,7 @@ pub enum Delivered {
     Deaf,
     /// Reading it stops; nothing acted.
     Refused(Refusal),
-    /// The outbox could hold so many uplinks behind it, more than 8; nothing acted.
+    /// The outbox could hold so many uplinks after it, more than 8; nothing acted.
     OutboxFull(u16),
     /// Its commands acted in order.
     Done,
@@ -30,5 +31,6 @@ pub enum Aired {
 }
 
 /// The outbox holds 8 uplinks; nothing was sent.
-#[derive(Clone, Copy, Debug, PartialEq, Eq)]
+#[derive(Clone, Copy, Debug, PartialEq, Eq, Error)]
+#[error("the outbox holds 8 uplinks")]
 pub struct OutboxFull;

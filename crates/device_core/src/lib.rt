@@ -20,11 +20,10 @@ mod config;
 mod counts;
 mod delivered;
 mod device;
-mod held_uplink;
-mod incoming;
 mod laws;
 mod moment;
 mod outbox;
+mod queued_uplink;
 mod uplink;
 
 pub use arrival::Arrival;
@@ -33,11 +32,10 @@ pub use config::{Class, DeviceConfig, MAX_AREA, MAX_ROWS, ReserveError, is_confi
 pub use counts::Counts;
 pub use delivered::{Aired, Delivered, OutboxFull};
 pub use device::Device;
-pub use incoming::Incoming;
 pub use laws::{
     a_frame_is_delivered, a_full_device_wakes_for_its_reboot_alone, a_whole_file_comes_once,
     due_reboot_is_once, power_is_quiet, runs_images_alone, two_commands_act_by_multicast,
     what_does_not_act_is_counted, worked_steps,
 };
 pub use moment::Moment;
-pub use uplink::{Uplink, UplinkCommand};
+pub use uplink::{Answer, Uplink};

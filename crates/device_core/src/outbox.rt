@@ -6,8 +6,8 @@ ghost use Rattle.device_core.specs.Device.{outbox_size};
 ghost use Rattle.device_core.specs.HeldDevice.{TakesOldest};
 ghost use Rattle.device_core.specs.Sendable.{IsSendable, IsUplink};
 
-use crate::held_uplink::HeldUplink;
-use crate::uplink::{Uplink, UplinkCommand};
+use crate::queued_uplink::QueuedUplink;
+use crate::uplink::{Answer, Uplink};
 use arrayvec::ArrayVec;
 use std::marker::Model;
 use wire_base::Payload;
@@ -18,7 +18,7 @@ pub const OUTBOX: usize = 8;
 /// At most 8 uplinks, oldest first, which lie in the value itself. Contracts see their list.
 #[derive(Drop)]
 pub struct Outbox {
-    uplinks: ArrayVec<HeldUplink, OUTBOX>,
+    uplinks: ArrayVec<QueuedUplink, OUTBOX>,
 }
 
 impl Model for Outbox {
@@ -58,13 +58,13 @@ impl Outbox {
         self.uplinks.is_empty()
     }
 
-    /// Puts an answer behind the others.
-    pub fn push(&mut self, answer: UplinkCommand<'_>)
+    /// Puts an answer after the others.
+    pub fn push(&mut self, answer: Answer<'_>)
         requires sendable { IsSendable answer.port answer.command }
         requires room { length self.old < outbox_size }
         ensures { self.new ≡ self.old ++ uplink_of answer.entry ∷ [] }
     {
-        self.uplinks.push(HeldUplink::of(answer));
+        self.uplinks.push(QueuedUplink::of(answer));
     }
 
     /// Lets go of all.

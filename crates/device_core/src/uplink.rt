@@ -5,7 +5,7 @@ use wire_base::Payload;
 
 /// An answer of a device, before it is written: it makes a payload of its own.
 #[derive(Debug, Drop)]
-pub struct UplinkCommand<'a> {
+pub struct Answer<'a> {
     /// The moment at which it is due, in ms of true time.
     pub due: u64,
     /// The port of its package.

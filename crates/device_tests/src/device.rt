@@ -533,7 +533,7 @@ const AHEAD: DeviceConfig = DeviceConfig {
     ..CONFIG
 };
 
-/// What runs at a moment behind commands at 1,000 ms.
+/// What runs at a moment after commands at 1,000 ms.
 fn runs_at(rt: &impl Abort, alloc: Global, payload: &[u8], t: u64) -> u32 {
     let mut device = with_image(rt, alloc, AHEAD);
     assert!(rt; acts(rt, &mut device, 1000, 203, payload));
@@ -559,7 +559,7 @@ fn without_an_image_the_moment_is_cleared_all_the_same(rt: HostRuntime) {
     drop(device);
 }
 
-/// The clock is right behind the answer, whether it was before or not.
+/// The clock is right after the answer, whether it was before or not.
 fn takes_the_correction(rt: &impl Abort, device: &mut Device<CellFlash>) {
     let answer = [0x01, 0xfb, 0xff, 0xff, 0xff, 0x00];
     assert!(rt; acts(rt, device, 10_000, 202, &answer));
@@ -652,7 +652,7 @@ static OF_GROUP_2: [Exchange; 1] = [(
     &[0x02, 0x00],
 )];
 
-/// Whether a status request to a group is answered, 4 s behind its moment; else the device is deaf.
+/// Whether a status request to a group is answered, 4 s after its moment; else the device is deaf.
 fn group_is_heard(
     rt: &impl Abort,
     device: &mut Device<CellFlash>,
@@ -882,7 +882,7 @@ static COMMANDS: [(u8, &[u8]); 16] = [
     (203, &[0x05, 2, 0, 0, 0]),
 ];
 
-/// The command is refused at each cut, alone and behind a whole one; how many payloads that were.
+/// The command is refused at each cut, alone and after a whole one; how many payloads that were.
 fn is_cut(rt: &impl Abort, device: &mut Device<CellFlash>, port: u8, command: &[u8]) -> u64 {
     let mut bytes = [0; 40];
     assert!(rt; command.len() <= 39);
@@ -896,7 +896,7 @@ fn is_cut(rt: &impl Abort, device: &mut Device<CellFlash>, port: u8, command: &[
     refused
 }
 
-/// A command that is cut behind any of its bytes is refused there, also behind a whole command, and the device counts it and
+/// A command that is cut after any of its bytes is refused there, also after a whole command, and the device counts it and
 /// stays as it was: no uplink, no session, the same clock and slots.
 #[test]
 fn cut_commands_change_nothing(rt: HostRuntime) {

@@ -40,7 +40,7 @@ const CONFIG: DeviceConfig = DeviceConfig {
 };
 
 /// The payloads of the update on port 201, which has `IMAGE` in two pieces of 26 bytes: a status request with a setup of
-/// session 0 behind it, piece 1 twice, a setup of session 3, piece 2, and the end of session 3 with a status request behind
+/// session 0 after it, piece 1 twice, a setup of session 3, piece 2, and the end of session 3 with a status request after
 /// it.
 static PAYLOADS: [&[u8]; 6] = [
     &[0x01, 0x01, 0x02, 0x00, 2, 0, 26, 0x00, 0, 0, 0, 0, 0],
@@ -135,7 +135,7 @@ fn is_done(device: &Device<StopFlash>) -> bool {
         && device.slots().next() == ImageState::Valid(2)
 }
 
-/// What the sessions of a device that gets power show before each payload, and behind the last.
+/// What the sessions of a device that gets power show before each payload, and after the last.
 fn all_shown_by(rt: &impl Abort, device: &mut Device<StopFlash>) -> [Shown; 7] {
     assert!(rt; device.is_down());
     assert!(rt; power(rt, device));
@@ -166,8 +166,8 @@ fn updated(rt: &impl Abort, device: &mut Device<StopFlash>, from: usize) -> usiz
     PAYLOADS.len()
 }
 
-/// Power behind a stop in the payload `at`; the payload from which the update goes on. The sessions are as before that
-/// one, behind it, or between where it sets a session up or ends one.
+/// Power after a stop in the payload `at`; the payload from which the update goes on. The sessions are as before that
+/// one, after it, or between where it sets a session up or ends one.
 fn resumes(rt: &impl Abort, device: &mut Device<StopFlash>, all: &[Shown; 7], at: usize) -> usize {
     assert!(rt; power(rt, device));
     assert!(rt; at <= 6);
@@ -192,7 +192,7 @@ fn goes_as_far(rt: &impl Abort, first: &mut Device<StopFlash>) -> usize {
     at
 }
 
-/// The update goes on behind a stop in the payload `at`, to its end.
+/// The update goes on after a stop in the payload `at`, to its end.
 fn ends(rt: &impl Abort, again: &mut Device<StopFlash>, all: &[Shown; 7], at: usize) {
     let from = resumes(rt, again, all, at);
     assert!(rt; updated(rt, again, from) == 6);

@@ -140,7 +140,7 @@ fn the_first_wrong_field_is_named(rt: HostRuntime) {
     }
 }
 
-/// What is asked, by port and bytes, the uplink that answers it, and the stage behind that.
+/// What is asked, by port and bytes, the uplink that answers it, and the stage after that.
 type Asked = (u8, &'static [u8], u8, &'static [u8], Stage);
 
 /// The fragments of the image in pieces of 13 bytes: four uncoded ones, then the sums of pieces
@@ -268,7 +268,7 @@ static GROUP_CAMPAIGN: [Asked; 4] = [
     ),
 ];
 
-/// After so many answers of `CAMPAIGN` another uplink, by port and bytes, and the stage behind it.
+/// After so many answers of `CAMPAIGN` another uplink, by port and bytes, and the stage after it.
 static OTHERS: [(usize, u8, &[u8], Stage); 13] = [
     (
         0,
@@ -398,13 +398,13 @@ static TIMES: [(u64, &[u8], &[u8]); 8] = [
     (10_000, &[0x00, 0x01, 0x01], &[]),
 ];
 
-/// The uplink that moves a fresh device, and with a second command behind it.
+/// The uplink that moves a fresh device, and with a second command after it.
 static VERSION: [u8; 18] = [
     0x01, 0x00, 0x00, 0x00, 0x00, 0x01, 0x00, 0x00, 0x00, 0x01, 0x00, 0x00, 0x00, 0x00, 0x01, 0x00,
     0x00, 0x00,
 ];
 
-/// Foreign uplinks: of another port, with no command, or with one of the server's own behind that of the device.
+/// Foreign uplinks: of another port, with no command, or with one of the server's own after that of the device.
 static FOREIGN: [(u8, &[u8], u16, Why); 8] = [
     (199, &[0x00], 0, Why::Port),
     (204, &[], 0, Why::Port),
@@ -466,7 +466,7 @@ impl OneDevice {
         self.server.ledger(1)
     }
 
-    /// The stage behind an uplink.
+    /// The stage after an uplink.
     fn after(&mut self, rt: &impl Abort, port: u8, payload: &[u8]) -> Stage {
         assert!(rt; self.uplink(port, payload, 0).is_ok());
         self.stage()
@@ -673,7 +673,7 @@ fn frames_reach_a_device_with_the_group(rt: HostRuntime) {
     drop(device);
 }
 
-/// The stage behind an uplink that comes after so many answers of `CAMPAIGN`.
+/// The stage after an uplink that comes after so many answers of `CAMPAIGN`.
 fn moves(rt: &impl Abort, alloc: Global, number: usize, port: u8, payload: &[u8], stage: Stage) {
     let mut campaign = without_group(rt, alloc);
     assert!(rt; number <= 6);

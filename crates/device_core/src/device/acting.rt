@@ -1,16 +1,16 @@
 //! A command to its package, and the weights of a message.
 
-ghost use Rattle.std.specs.Prelude.{◌≡◌, ◌+◌, ◌<◌, ◌≤◌, length, OnOk, OnErr};
+ghost use Rattle.std.specs.Prelude.{◌≡◌, ◌+◌, ◌<◌, ◌≤◌, length};
 ghost use Rattle.package_grammar.specs.declared.command.Command.{Command};
 ghost use Rattle.package_grammar.specs.Grammar.{IsValid};
 ghost use Rattle.sync_wire.specs.declared.cmd.Cmd.TheVariants.{PackageVersionAns};
 ghost use Rattle.cast_wire.specs.declared.cmd.Cmd.TheVariants as cast;
-ghost use Rattle.device_core.specs.Answers.{one_answer, after_answers};
+ghost use Rattle.device_core.specs.Answers.{one_answer};
 ghost use Rattle.device_core.specs.Device.{max_moment};
 ghost use Rattle.device_core.specs.Step.{identifier_of, command_step, acts, step, weight, weights};
 ghost use Rattle.device_core.specs.Passed.{command_tables, step_tables};
 ghost use Rattle.device_core.specs.HeldSessions.{IsUp};
-ghost use Rattle.device_core.specs.HeldCalls.{Fails, Keeps};
+ghost use Rattle.device_core.specs.HeldPayloads.{Attempts};
 ghost use Rattle.device_core.specs.Sendable.{IsSendable, IsReceivable};
 ghost use Rattle.device_core.specs.Aside.{IsAside};
 
@@ -23,7 +23,7 @@ use package_grammar::{Command, Message};
 use session_store::FlashFault;
 
 impl<F: Flash + Drop> Device<F> {
-    ghost use Rattle.device_core.specs.HeldDevice.{Steps, StepsAside};
+    ghost use Rattle.device_core.specs.HeldDevice.{StepsAside};
 
     /// Acts on one command; by multicast only DataFragment and FragSessionStatusReq act (this project's profile). It stands
     /// alone, so that a payload of one fragment sees to nothing of it.
@@ -34,13 +34,8 @@ impl<F: Flash + Drop> Device<F> {
         requires moment { here.moment.t ≤ max_moment }
         requires command { IsReceivable here.port command.now }
         requires room { length self.old.outbox + weight command.now ≤ 8 }
-        ensures steps { OnOk result
-            (Steps self.old self.new (weight command.now)
-            (λ device. step here device command.now)) }
-        ensures fails { OnErr result (Fails self.old self.new) }
-        ensures keeps { Keeps F.holds F.left_since F.moment F.faults self.old self.new.sessions
-            result
-            (λ device. after_answers (step here device command.now))
+        ensures { Attempts F.seen self.old self.new result
+            (weight command.now) (λ device. step here device command.now)
             (λ device. step_tables here device command.now) }
     {
         if acts(here.via, command) {
@@ -56,13 +51,8 @@ impl<F: Flash + Drop> Device<F> {
         requires moment { here.moment.t ≤ max_moment }
         requires command { IsReceivable here.port command.now }
         requires room { length self.old.outbox + weight command.now ≤ 8 }
-        ensures steps { OnOk result
-            (Steps self.old self.new (weight command.now)
-            (λ device. command_step here device command.now)) }
-        ensures fails { OnErr result (Fails self.old self.new) }
-        ensures keeps { Keeps F.holds F.left_since F.moment F.faults self.old self.new.sessions
-            result
-            (λ device. after_answers (command_step here device command.now))
+        ensures { Attempts F.seen self.old self.new result
+            (weight command.now) (λ device. command_step here device command.now)
             (λ device. command_tables here device command.now) }
     {
         match command {
@@ -104,13 +94,8 @@ impl<F: Flash + Drop> Device<F> {
         requires moment { here.moment.t ≤ max_moment }
         requires command { IsReceivable here.port (Command.Cast cmd.now) }
         requires room { length self.old.outbox + weight (Command.Cast cmd.now) ≤ 8 }
-        ensures steps { OnOk result
-            (Steps self.old self.new (weight (Command.Cast cmd.now))
-            (λ device. command_step here device (Command.Cast cmd.now))) }
-        ensures fails { OnErr result (Fails self.old self.new) }
-        ensures keeps { Keeps F.holds F.left_since F.moment F.faults self.old self.new.sessions
-            result
-            (λ device. after_answers (command_step here device (Command.Cast cmd.now)))
+        ensures { Attempts F.seen self.old self.new result
+            (weight (Command.Cast cmd.now)) (λ device. command_step here device (Command.Cast cmd.now))
             (λ device. command_tables here device (Command.Cast cmd.now)) }
     {
         use cast_wire::Cmd;

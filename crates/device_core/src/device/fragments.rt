@@ -1,6 +1,6 @@
 //! Fragmented data blocks on the device (TS004-1.0.0).
 
-ghost use Rattle.std.specs.Prelude.{◌≡◌, ◌+◌, ◌%◌, ◌^◌, ◌<◌, ◌≤◌, [], ◌∷◌, length, None, OnOk, OnErr};
+ghost use Rattle.std.specs.Prelude.{◌≡◌, ◌+◌, ◌%◌, ◌^◌, ◌<◌, ◌≤◌, [], ◌∷◌, length, None};
 ghost use Rattle.package_grammar.specs.declared.command.Command.{Command};
 ghost use Rattle.cast_wire.specs.declared.cmd.Cmd.TheVariants.{FragSessionStatusAns, FragSessionDeleteAns};
 ghost use Rattle.cast_wire.specs.SetupRefusal.{setup_answer};
@@ -8,10 +8,9 @@ ghost use Rattle.frag_session.specs.declared.setups.SetupReq.{SetupReq};
 ghost use Rattle.frag_session.specs.Session.{view_of};
 ghost use Rattle.flash_session.specs.Body.{FieldsFit};
 ghost use Rattle.device_core.specs.SessionTable.{SessionTable, session_at, with_session};
-ghost use Rattle.device_core.specs.Answers.{after_answers};
 ghost use Rattle.device_core.specs.Device.{max_moment};
 ghost use Rattle.device_core.specs.HeldSessions.{IsUp, StateStands};
-ghost use Rattle.device_core.specs.HeldCalls.{Fails, Keeps};
+ghost use Rattle.device_core.specs.HeldPayloads.{Attempts};
 ghost use Rattle.device_core.specs.Fragments.{setup_step, delete_step, answer_delay, status_step, is_complete, is_whole, whole_file, slots_after, fragment_step};
 ghost use Rattle.device_core.specs.Sendable.{IsSendable};
 
@@ -33,12 +32,8 @@ impl<F: Flash + Drop> Device<F> {
         requires port { here.port ≡ 201 }
         requires fields { FieldsFit req }
         requires room { length self.old.outbox < 8 }
-        ensures steps { OnOk result
-            (Steps self.old self.new 1 (λ device. setup_step here device req)) }
-        ensures fails { OnErr result (Fails self.old self.new) }
-        ensures keeps { Keeps F.holds F.left_since F.moment F.faults self.old self.new.sessions
-            result
-            (λ device. after_answers (setup_step here device req))
+        ensures { Attempts F.seen self.old self.new result
+            1 (λ device. setup_step here device req)
             (λ device. device.sessions ∷ with_session device.sessions req.index None
             ∷ (setup_step here device req).device.sessions ∷ []) }
     {
@@ -57,12 +52,8 @@ impl<F: Flash + Drop> Device<F> {
         requires port { here.port ≡ 201 }
         requires index { index < 4 }
         requires room { length self.old.outbox < 8 }
-        ensures steps { OnOk result
-            (Steps self.old self.new 1 (λ device. delete_step here device index)) }
-        ensures fails { OnErr result (Fails self.old self.new) }
-        ensures keeps { Keeps F.holds F.left_since F.moment F.faults self.old self.new.sessions
-            result
-            (λ device. after_answers (delete_step here device index))
+        ensures { Attempts F.seen self.old self.new result
+            1 (λ device. delete_step here device index)
             (λ device. device.sessions ∷ with_session device.sessions index None
             ∷ (delete_step here device index).device.sessions ∷ []) }
     {
@@ -101,12 +92,8 @@ impl<F: Flash + Drop> Device<F> {
     ) -> Result<(), FlashFault>
         requires up { IsUp self.old.sessions.state }
         requires index { index < 4 }
-        ensures steps { OnOk result
-            (Steps self.old self.new 0 (λ device. fragment_step here device index n part.now)) }
-        ensures fails { OnErr result (Fails self.old self.new) }
-        ensures keeps { Keeps F.holds F.left_since F.moment F.faults self.old self.new.sessions
-            result
-            (λ device. after_answers (fragment_step here device index n part.now))
+        ensures { Attempts F.seen self.old self.new result
+            0 (λ device. fragment_step here device index n part.now)
             (λ device. device.sessions
             ∷ (fragment_step here device index n part.now).device.sessions ∷ []) }
     {

@@ -83,7 +83,7 @@ fn start_of(kind: Kind, time: u32) -> u32
     }
 }
 
-/// The class session of a device behind a request.
+/// The class session of a device after a request.
 fn class_session_after(
     bits: u8,
     session: ClassSession,

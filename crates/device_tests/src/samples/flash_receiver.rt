@@ -211,7 +211,7 @@ fn receives(rt: &impl Abort, part: &mut Part<Ram>, empty: Arena)
     drop(receiver);
 }
 
-/// Over a part that fails once, behind so many calls: how often it failed.
+/// Over a part that fails once, after so many calls: how often it failed.
 fn received(rt: &impl Abort, alloc: Global, calls: u32) -> u64 {
     let mut part = part_of(rt, alloc, calls);
     receives(rt, &mut part, empty(rt, alloc));
@@ -222,7 +222,7 @@ fn received(rt: &impl Abort, alloc: Global, calls: u32) -> u64 {
 
 #[test]
 fn a_file_outlasts_a_stop_at_any_call(rt: HostRuntime) {
-    // a start reads behind a sync, a setup takes five calls, and each of three fragments two writes with a sync behind each
+    // a start reads after a sync, a setup takes five calls, and each of three fragments two writes with a sync after each
     let all = 2 + 5 + 3 * 4;
     for calls in 0..all {
         assert!(rt; received(&rt, rt.alloc(), calls) == 1);

@@ -12,14 +12,13 @@ invariant-loop-command g l = record {
   port : l.message.port ≡ l.here.port;
   direction : l.message.direction ≡ Down;
   room : length l.self.outbox + weights l.message.commands ≤ 8;
-  counted : l.steps + length l.message.commands ≡ l.initial.steps + length l.fn.message.commands;
   up : IsUp l.self.sessions.state;
   in_flash : IsInFlash l.fn.self.sessions.state → IsInFlash l.self.sessions.state;
   laid : IsLaidOut l.fn.self.sessions l.self.sessions;
   quiet : l.fn.self.sessions.held ≡ false → l.self.sessions.flash ≡ l.fn.self.sessions.flash;
-  later : g.F.Flash.faults l.fn.self.sessions.flash ≤ g.F.Flash.faults l.self.sessions.flash;
+  later : (g.F.Flash.seen l.fn.self.sessions.flash).faults ≤ (g.F.Flash.seen l.self.sessions.flash).faults;
   acted : (device : DeviceState) → DeviceStands l.fn.self device
-      → HasActed g.F.Flash.holds g.F.Flash.left_since g.F.Flash.moment
+      → HasActed g.F.Flash.seen
       l.here l.fn.self l.self device l.fn.message.commands l.message.commands;
 }
 

@@ -12,16 +12,21 @@ act_aside-requires-clause-aside g c = is_aside c.args.cmd.now (record {
   fragment = c.in_default.not-DataFragment;
 })
 
-pub returns-in_default-clause-steps : goal.returns-in_default-clause-steps
-returns-in_default-clause-steps g c = steps_aside _ _ _ _ c.act_aside.ensures
+pub returns-in_default : goal.returns-in_default
+returns-in_default g c = record {
+  steps = steps_aside _ _ _ _ c.act_aside.ensures;
+  fails = tt;
+  keeps = keeps_untouched g.F.Flash.seen c.args.self.now c.act_aside.new.self.sessions _ _ _
+      c.act_aside.ensures.goes.untouched c.requires.up
+      (λ device stands. aside_sessions c.args.self.now c.act_aside.new.self _ device c.act_aside.ensures.goes stands);
+}
 
-pub returns-in_default-clause-keeps : goal.returns-in_default-clause-keeps
-returns-in_default-clause-keeps g c = keeps_untouched g.F.Flash.holds g.F.Flash.left_since g.F.Flash.moment g.F.Flash.faults c.args.self.now c.act_aside.new.self.sessions _ _ _
-    c.act_aside.ensures.goes.untouched c.requires.up
-    (λ device stands. aside_sessions c.args.self.now c.act_aside.new.self _ device c.act_aside.ensures.goes stands)
-
-pub returns-in-FragSessionStatusReq-clause-keeps : goal.returns-in-FragSessionStatusReq-clause-keeps
+pub returns-in-FragSessionStatusReq : goal.returns-in-FragSessionStatusReq
 unfolding command_step
-returns-in-FragSessionStatusReq-clause-keeps g c = rw c.in-FragSessionStatusReq.is (keeps_untouched g.F.Flash.holds g.F.Flash.left_since g.F.Flash.moment g.F.Flash.faults c.args.self.now c.status.new.self.sessions _ _ _
-    c.status.ensures.untouched c.requires.up
-    (λ device stands. status_goes c.args.here device c.in-FragSessionStatusReq.index c.in-FragSessionStatusReq.all))
+returns-in-FragSessionStatusReq g c = rw c.in-FragSessionStatusReq.is (record {
+  steps = c.status.ensures.steps;
+  fails = tt;
+  keeps = keeps_untouched g.F.Flash.seen c.args.self.now c.status.new.self.sessions _ _ _
+      c.status.ensures.untouched c.requires.up
+      (λ device stands. status_goes c.args.here device c.in-FragSessionStatusReq.index c.in-FragSessionStatusReq.all);
+})

@@ -1,54 +1,57 @@
-use Rattle.std.proofs.Common.{true, false, ◌≡◌, sym, ap, ◌∙◌}
+use Rattle.std.proofs.Common.{true, false, ◌≡◌, refl, sym, ap, ◌∙◌}
 use Rattle.frag_session.specs.declared.answers.Heard.{Heard}
 use Rattle.image_slots.specs.HeldSlots.{HeldSlots}
 use Rattle.device_core.specs.HeldDevice.{HeldDevice}
 use Rattle.device_core.specs.SessionTable.{table_after_fragment}
 use Rattle.device_core.proofs.Heard.{heard_steps, dropped_steps}
-use Rattle.device_core.proofs.Keeping.{keeps_ok, keeps_err, keeps_erring}
-use Rattle.device_core.proofs.Stored.{keeps_at, fragment_goes, fragment_passes, MayHear}
+use Rattle.device_core.proofs.Keeping.{keeps_ok, keeps_err, keeps_erring, not_ok, on_err}
+use Rattle.device_core.proofs.Stored.{keeps_at, fragment_goes, fragment_passes}
 use Rattle.device_core.proofs.device.Device.fragment.Goals as goal
 
-pub returns-in-Fed-clause-keeps : goal.returns-in-Fed-clause-keeps
-returns-in-Fed-clause-keeps g c =
+pub returns-in-Fed : goal.returns-in-Fed
+returns-in-Fed g c =
     let same = ap (λ (h : HeldDevice _). h.sessions) (sym c.self.view_is) in
-    keeps_at g.F.Flash.holds g.F.Flash.left_since g.F.Flash.moment g.F.Flash.faults c.args.self.now c.fragment.new.self _ _ _ _
-    (λ i. c.fragment.new.self)
-    (keeps_ok g.F.Flash.holds g.F.Flash.left_since g.F.Flash.moment g.F.Flash.faults c.args.self.now c.self.inside.sessions c.fragment.new.self _ _ _
-    (table_after_fragment c.args.index c.args.here.via c.args.n c.args.part.now c.args.here.moment.mark) (MayHear c.self.inside.sessions c.args.here c.args.index c.args.n c.args.part.now) same
-    (λ device stands. fragment_goes c.args.here c.args.index c.args.n c.args.part.now device)
-    (λ device b stands lies. fragment_passes c.args.here c.self.inside.sessions c.args.index c.args.n c.args.part.now device b lies)
-    c.in_ok-heard.ensures.up c.in_ok-heard.ensures.in_flash c.in_ok-heard.ensures.stored c.fragment.ensures.any_moment c.fragment.ensures.laid
-    (λ memory. (c.in_ok-heard.ensures.quiet memory).1) c.in_ok-heard.ensures.cause.later)
+    record {
+      steps = rw (← c.self.view_is) (heard_steps c.args.here _ c.fragment.new.self c.offer.new.slots.slots
+          c.self.inside.slots.hw c.args.index c.args.n c.args.part.now c.is_whole-was_whole.result _ c.self.invariant.hw
+          c.is_whole-was_whole.ensures (λ t stands. sym c.in-Fed.is ∙ c.in_ok-heard.ensures.answer t stands) c.in_ok-heard.ensures.serves.stands
+          (λ table stands. ap (λ (s : HeldSlots). s.slots) (c.offer.ensures.offers table stands)));
+      fails = tt;
+      keeps = keeps_at g.F.Flash.seen c.args.self.now c.fragment.new.self _ _ _ _
+          (λ i. c.fragment.new.self)
+          (keeps_ok g.F.Flash.seen c.args.self.now c.self.inside.sessions c.fragment.new.self _ _ _ _
+          (table_after_fragment c.args.index c.args.here.via c.args.n c.args.part.now c.args.here.moment.mark) _ same
+          (λ device stands. fragment_goes c.args.here c.args.index c.args.n c.args.part.now device)
+          (λ device b stands lies. fragment_passes c.args.here c.self.inside.sessions c.args.index c.args.n c.args.part.now device b lies)
+          c.in_ok-heard.ensures.serves);
+    }
 
-pub returns-in-Dropped-clause-keeps : goal.returns-in-Dropped-clause-keeps
-returns-in-Dropped-clause-keeps g c =
+pub returns-in-Dropped : goal.returns-in-Dropped
+returns-in-Dropped g c =
     let same = ap (λ (h : HeldDevice _). h.sessions) (sym c.self.view_is) in
-    keeps_at g.F.Flash.holds g.F.Flash.left_since g.F.Flash.moment g.F.Flash.faults c.args.self.now c.fragment.new.self _ _ _ _
-    (ap (λ (h : HeldDevice _). h.sessions) c.count_dropped.ensures)
-    (keeps_ok g.F.Flash.holds g.F.Flash.left_since g.F.Flash.moment g.F.Flash.faults c.args.self.now c.self.inside.sessions c.fragment.new.self _ _ _
-    (table_after_fragment c.args.index c.args.here.via c.args.n c.args.part.now c.args.here.moment.mark) (MayHear c.self.inside.sessions c.args.here c.args.index c.args.n c.args.part.now) same
-    (λ device stands. fragment_goes c.args.here c.args.index c.args.n c.args.part.now device)
-    (λ device b stands lies. fragment_passes c.args.here c.self.inside.sessions c.args.index c.args.n c.args.part.now device b lies)
-    c.in_ok-heard.ensures.up c.in_ok-heard.ensures.in_flash c.in_ok-heard.ensures.stored c.fragment.ensures.any_moment c.fragment.ensures.laid
-    (λ memory. (c.in_ok-heard.ensures.quiet memory).1) c.in_ok-heard.ensures.cause.later)
-
-pub returns-in-Fed-clause-steps : goal.returns-in-Fed-clause-steps
-returns-in-Fed-clause-steps g c = rw (← c.self.view_is) (heard_steps c.args.here _ c.fragment.new.self c.offer.new.slots.slots
-    c.self.inside.slots.hw c.args.index c.args.n c.args.part.now c.is_whole-was_whole.result _ c.self.invariant.hw
-    c.is_whole-was_whole.ensures (λ t stands. sym c.in-Fed.is ∙ c.in_ok-heard.ensures.answer t stands) c.in_ok-heard.ensures.stands
-    (λ table stands. ap (λ (s : HeldSlots). s.slots) (c.offer.ensures.offers table stands)))
-
-pub returns-in-Dropped-clause-steps : goal.returns-in-Dropped-clause-steps
-returns-in-Dropped-clause-steps g c =
     let kept : c.fragment.new.self ≡ c.self.inside.sessions = c.in_ok-heard.ensures.dropped _ c.in-Dropped.is in
-    rw (← c.self.view_is) (dropped_steps c.args.here _ c.count_dropped.new.self c.args.index c.args.n c.args.part.now c.in-Dropped.field-0
-    (rw (← kept) c.count_dropped.ensures) (λ t stands. sym c.in-Dropped.is ∙ c.in_ok-heard.ensures.answer t stands))
+    record {
+      steps = rw (← c.self.view_is) (dropped_steps c.args.here _ c.count_dropped.new.self c.args.index c.args.n c.args.part.now c.in-Dropped.field-0
+          (rw (← kept) c.count_dropped.ensures) (λ t stands. sym c.in-Dropped.is ∙ c.in_ok-heard.ensures.answer t stands));
+      fails = tt;
+      keeps = keeps_at g.F.Flash.seen c.args.self.now c.fragment.new.self _ _ _ _
+          (ap (λ (h : HeldDevice _). h.sessions) c.count_dropped.ensures)
+          (keeps_ok g.F.Flash.seen c.args.self.now c.self.inside.sessions c.fragment.new.self _ _ _ _
+          (table_after_fragment c.args.index c.args.here.via c.args.n c.args.part.now c.args.here.moment.mark) _ same
+          (λ device stands. fragment_goes c.args.here c.args.index c.args.n c.args.part.now device)
+          (λ device b stands lies. fragment_passes c.args.here c.self.inside.sessions c.args.index c.args.n c.args.part.now device b lies)
+          c.in_ok-heard.ensures.serves);
+    }
 
-pub returns-in_err-heard-clause-keeps : goal.returns-in_err-heard-clause-keeps
-returns-in_err-heard-clause-keeps g c =
+pub returns-in_err-heard : goal.returns-in_err-heard
+returns-in_err-heard g c =
     let same = ap (λ (h : HeldDevice _). h.sessions) (sym c.self.view_is) in
-    keeps_erring {A = Heard} g.F.Flash.holds g.F.Flash.left_since g.F.Flash.moment g.F.Flash.faults c.args.self.now c.fragment.new.self (record {}) c.from_residual.result _ _ c.from_residual.ensures.0
-    (keeps_err {A = Heard} g.F.Flash.holds g.F.Flash.left_since g.F.Flash.moment g.F.Flash.faults c.args.self.now c.self.inside.sessions c.fragment.new.self _ _ _ (MayHear c.self.inside.sessions c.args.here c.args.index c.args.n c.args.part.now) same
-    (λ device b stands lies. fragment_passes c.args.here c.self.inside.sessions c.args.index c.args.n c.args.part.now device b lies)
-    c.fragment.ensures.any_moment c.fragment.ensures.laid
-    (λ memory. let no : false ≡ true = (c.in_err-heard.ensures.quiet memory).0 in absurd cc) c.in_err-heard.ensures.cause.later c.in_err-heard.ensures.cause.failed)
+    record {
+      steps = not_ok _ c.from_residual.result c.from_residual.ensures.0;
+      fails = on_err c.from_residual.result (rw (← c.self.view_is) (record { down = c.in_err-heard.ensures.serves.down; rest = λ table. refl }));
+      keeps = keeps_erring {A = Heard} g.F.Flash.seen c.args.self.now c.fragment.new.self (record {}) c.from_residual.result _ _ c.from_residual.ensures.0
+          (keeps_err {A = Heard} g.F.Flash.seen c.args.self.now c.self.inside.sessions c.fragment.new.self _ _ _ _
+          (table_after_fragment c.args.index c.args.here.via c.args.n c.args.part.now c.args.here.moment.mark) _ same
+          (λ device b stands lies. fragment_passes c.args.here c.self.inside.sessions c.args.index c.args.n c.args.part.now device b lies)
+          c.in_err-heard.ensures.serves);
+    }

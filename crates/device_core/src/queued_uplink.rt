@@ -4,7 +4,7 @@ ghost use Rattle.std.specs.Prelude.{◌≡◌, []};
 ghost use Rattle.device_core.specs.Answers.{uplink_of};
 ghost use Rattle.device_core.specs.Sendable.{IsSendable};
 
-use crate::uplink::{Uplink, UplinkCommand};
+use crate::uplink::{Answer, Uplink};
 use arrayvec::ArrayVec;
 use package_grammar::spell;
 use std::marker::Model;
@@ -15,13 +15,13 @@ const LONGEST: usize = 22;
 
 /// An uplink that is held. Contracts see the uplink.
 #[derive(Drop)]
-pub struct HeldUplink {
+pub struct QueuedUplink {
     due: u64,
     port: u8,
     bytes: ArrayVec<u8, LONGEST>,
 }
 
-impl Model for HeldUplink {
+impl Model for QueuedUplink {
     ghost use Rattle.device_core.specs.declared.uplink.Uplink.{Uplink};
 
     ghost Value = { Uplink };
@@ -30,9 +30,9 @@ impl Model for HeldUplink {
 }
 
 /// A place in which none waits.
-impl Default for HeldUplink {
+impl Default for QueuedUplink {
     fn default() -> Self {
-        HeldUplink {
+        QueuedUplink {
             due: 0,
             port: 0,
             bytes: ArrayVec::new(),
@@ -40,10 +40,10 @@ impl Default for HeldUplink {
     }
 }
 
-impl HeldUplink {
+impl QueuedUplink {
     /// An answer, spelled.
     #[tactic(auto, using(crate::proofs::Lengths::short))]
-    pub fn of(answer: UplinkCommand<'_>) -> Self
+    pub fn of(answer: Answer<'_>) -> Self
         requires { IsSendable answer.port answer.command }
         ensures { result ≡ uplink_of answer.entry }
     {
@@ -54,7 +54,7 @@ impl HeldUplink {
         if bytes.try_extend_from_slice(payload.as_slice()).is_err() {
             unreachable!();
         }
-        HeldUplink {
+        QueuedUplink {
             due: answer.due,
             port: answer.port,
             bytes,
