@@ -16,7 +16,7 @@ use Rattle.campaign_server.proofs.LineItems.{numbered_more}
 use Rattle.campaign_world.specs.declared.numbered.SentPayload.{SentPayload}
 use Rattle.campaign_world.specs.World.{WorldState, first_world}
 use Rattle.campaign_world.specs.Said.{Said, Own, Line, line_of, said_in}
-use Rattle.campaign_world.specs.Causes.{may_come, names_device, may_reach, goes_out, form_cause, line_cause, cause_of}
+use Rattle.campaign_world.specs.Causes.{is_in_order, names_device, may_reach, goes_out, form_cause, line_cause, cause_of}
 use Rattle.campaign_world.specs.Honest.{AreHonest}
 use Rattle.campaign_world.specs.Making.{after_form}
 use Rattle.campaign_world.specs.Script.{one_line_more, after_line, line_result, read_line, read_lines, end_result, campaign_of}
@@ -69,7 +69,7 @@ air_fine w number n word fine goes =
     let names : Bool = names_device (length w.devices) (Air number n word) && true in
     let one : Bool = may_reach n (numbered w.sent number) in
     let more : Bool = goes_out (numbered w.sent number) in
-    more_sent (may_come w.section (Air number n word)) ranged names one more
+    more_sent (is_in_order w.section (Air number n word)) ranged names one more
     (subst (λ (may : Bool). up_to_sent may ranged names one ≡ None) (sym (may_alike w.section number n word)) fine) goes
 
 -- a line that says something is no longer than a line may be

@@ -39,7 +39,7 @@ use Rattle.campaign_world.specs.declared.section.Section.TheVariants as section
 use Rattle.campaign_world.specs.declared.numbered.SentPayload.{SentPayload}
 use Rattle.campaign_world.specs.World.{WorldState, first_world}
 use Rattle.campaign_world.specs.Honest.{is_raw}
-use Rattle.campaign_world.specs.Causes.{may_come, fits_script, names_device, may_reach, is_to_group, goes_out, has_come, is_to_come, fits_payload, has_more, form_cause}
+use Rattle.campaign_world.specs.Causes.{is_in_order, fits_script, names_device, may_reach, is_to_group, goes_out, is_available, is_not_past, fits_payload, has_more, form_cause}
 use Rattle.campaign_world.specs.Making.{with_device, reception, sent_frame, hearing, with_event, with_event_of, at_events, after_form}
 use Rattle.campaign_laws.proofs.HeadlineCommands.{Cut, cut_of, IsGood, IsSentOf, IsCut, sync_high, fragment_good, status_good}
 use Rattle.campaign_laws.proofs.HeadlineForms.{Passes, passes, number_there, device_there, all_numbered, is_strange, late_cut}
@@ -223,7 +223,7 @@ second_of : (a b : Bool) → (a && b) ≡ true → b ≡ true
 second_of true b is = is
 second_of false b is = absurd cc
 
-pub may_alike : (here : Section) (number n word : ℕ) → may_come here (Air number n word) ≡ may_come here (Down number n word)
+pub may_alike : (here : Section) (number n word : ℕ) → is_in_order here (Air number n word) ≡ is_in_order here (Down number n word)
 may_alike section.Header number n word = refl
 may_alike section.Image number n word = refl
 may_alike section.Group number n word = refl
@@ -254,7 +254,7 @@ down_fine w number n word fine =
     let names : Bool = names_device (length w.devices) (Down number n word) && true in
     let one : Bool = may_reach n (numbered w.sent number) in
     let more : Bool = goes_out (numbered w.sent number) in
-    less_sent (may_come w.section (Down number n word)) ranged names one more
+    less_sent (is_in_order w.section (Down number n word)) ranged names one more
     (subst (λ (may : Bool). up_to_sent may ranged names (one && more) ≡ None) (may_alike w.section number n word) fine)
 
 air_there : (o : Option SentPayload) (n : ℕ) → (may_reach n o && goes_out o) ≡ true → (p : SentPayload) × (o ≡ Some p) × (goes_out (Some p) ≡ true)

@@ -34,7 +34,7 @@ events_config : (d : DeviceState) (events : List Event) → (fold after_event d 
 events_config d [] = refl
 events_config d (e ∷ events) = events_config (after_event d e) events ∙ event_config d e
 
--- a device behind some events is configured as before
+-- a device after some events is configured as before
 still_configured : (lines : List Line) (id : ℕ) (o : Option DeviceState) (events : List Event)
     → IfSome o (λ d. IsOfItsLine lines id d.config) → IfSome (folded events o) (λ d. IsOfItsLine lines id d.config)
 still_configured lines id None events h = tt

@@ -116,7 +116,7 @@ heard_crosses own t word mark down d other alone =
     (record { device = with_counts after_deaf d; answer = Deaf })
     (read_crosses own (arrival t word mark down d) d (reading_of down.port Downwards down.payload) other alone) refl
 
--- behind a reboot that is due nothing changes but its counters
+-- after a reboot that is due nothing changes but its counters
 pub crossing : (own t word mark : ℕ) (down : Downlink) (d : DeviceState)
     → are_for_others own (reading_of down.port Downwards down.payload) ≡ true → HasNoOther own d.sessions
     → IsAlike (after_due_reboot t d) (heard_delivery t word mark down (after_due_reboot t d)).device

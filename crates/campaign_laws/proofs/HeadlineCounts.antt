@@ -24,10 +24,10 @@ use Rattle.campaign_world.specs.declared.section.Section.TheVariants as section
 use Rattle.report_lines.specs.declared.faults.LineWhy.{LineWhy}
 use Rattle.report_lines.specs.declared.faults.LineFault.{LineFault}
 use Rattle.campaign_world.specs.declared.numbered.SentPayload.{SentPayload}
-use Rattle.campaign_world.specs.declared.numbered.MadeUplink.{MadeUplink}
+use Rattle.campaign_world.specs.declared.numbered.NumberedUplink.{NumberedUplink}
 use Rattle.campaign_world.specs.World.{WorldState, first_world}
 use Rattle.campaign_world.specs.Said.{Said, Own, Elsewhere, Reached, Line}
-use Rattle.campaign_world.specs.Causes.{is_event_or_end, may_come, takes_events, form_cause, said_cause, line_cause, cause_of}
+use Rattle.campaign_world.specs.Causes.{is_event_or_end, is_in_order, takes_events, form_cause, said_cause, line_cause, cause_of}
 use Rattle.campaign_world.specs.Making.{with_sent, with_device, event_of, after_event_at, with_event_of, after_answer, after_up, at_events, root_of, after_form, after_said}
 use Rattle.campaign_world.specs.Script.{after_line, line_result, read_line, read_lines, campaign_of}
 use Rattle.campaign_laws.specs.Lives.{HasItsDevices}
@@ -114,7 +114,7 @@ read_many w dev t (Ok cs) =
     sent_many w (with_answers w.server dev cs (ledger w.server dev)) (Some dev) _ m.0 m.1
 read_many w dev t (Err refusal) = record { devices = refl; stages = refl; planned = refl }
 
-up_many : (w : WorldState) (o : Option MadeUplink) → IsAsMany w (after_up w o)
+up_many : (w : WorldState) (o : Option NumberedUplink) → IsAsMany w (after_up w o)
 unfolding uplink_step
 up_many w None = record { devices = refl; stages = refl; planned = refl }
 up_many w (Some made) =
@@ -123,14 +123,14 @@ up_many w (Some made) =
 -- ---- a form
 
 -- an event comes where there are devices
-some_there : (w : WorldState) (form : Form) → is_event_or_end form ≡ true → may_come w.section form ≡ true
+some_there : (w : WorldState) (form : Form) → is_event_or_end form ≡ true → is_in_order w.section form ≡ true
     → SomeIn w.section (length w.devices) → 1 ≤ length w.devices
 some_there w form event may k = elim (event_at w.section form event may) [
   | inl is ↦ subst (λ (s : Section). SomeIn s (length w.devices)) is k
   | inr is ↦ subst (λ (s : Section). SomeIn s (length w.devices)) is k
 ]
 
-event_counted : (w v : WorldState) (form : Form) → is_event_or_end form ≡ true → may_come w.section form ≡ true
+event_counted : (w v : WorldState) (form : Form) → is_event_or_end form ≡ true → is_in_order w.section form ≡ true
     → IsCounted w → IsAsMany w v → IsCounted (at_events v)
 event_counted w v form event may k m = record {
   some = subst (λ (n : ℕ). 1 ≤ n) (sym m.devices) (some_there w form event may k.some);
@@ -138,7 +138,7 @@ event_counted w v form event may k m = record {
 }
 
 -- what a form lets happen at a device
-form_event_counted : (w : WorldState) (n : ℕ) (form : Form) → is_event_or_end form ≡ true → may_come w.section form ≡ true
+form_event_counted : (w : WorldState) (n : ℕ) (form : Form) → is_event_or_end form ≡ true → is_in_order w.section form ≡ true
     → IsCounted w → IsCounted (with_event_of w n form)
 form_event_counted w n form event may k =
     let o = event_of w.server.plan.group w.sent w.time (w.lines + 1) form in
@@ -220,7 +220,7 @@ form_counted w End fine k =
 -- ---- a script
 
 -- where events may come, a line may that wakes a device
-takes_wake : (here : Section) → takes_events here ≡ true → may_come here (Wake 1) ≡ true
+takes_wake : (here : Section) → takes_events here ≡ true → is_in_order here (Wake 1) ≡ true
 takes_wake section.Header takes = absurd cc
 takes_wake section.Image takes = absurd cc
 takes_wake section.Group takes = absurd cc

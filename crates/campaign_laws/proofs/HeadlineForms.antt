@@ -28,10 +28,10 @@ use Rattle.campaign_world.specs.declared.section.Section.{Section}
 use Rattle.campaign_world.specs.declared.section.Section.TheVariants as section
 use Rattle.report_lines.specs.declared.faults.LineWhy.{LineWhy}
 use Rattle.campaign_world.specs.declared.numbered.SentPayload.{SentPayload}
-use Rattle.campaign_world.specs.declared.numbered.MadeUplink.{MadeUplink}
+use Rattle.campaign_world.specs.declared.numbered.NumberedUplink.{NumberedUplink}
 use Rattle.campaign_world.specs.World.{WorldState}
 use Rattle.campaign_world.specs.Said.{Said, Own, Elsewhere, Reached}
-use Rattle.campaign_world.specs.Causes.{may_come, fits_script, is_device, names_device, has_flash, may_reach, has_come, form_cause, takes_events, said_cause}
+use Rattle.campaign_world.specs.Causes.{is_in_order, fits_script, is_device, names_device, has_flash, may_reach, is_available, form_cause, takes_events, said_cause}
 use Rattle.campaign_world.specs.Making.{with_sent, with_device, with_event, with_event_of, after_answer, after_up, at_events, after_form, after_said}
 use Rattle.campaign_world.specs.Honest.{are_for_others}
 use Rattle.campaign_server.proofs.Plans.{few_masks}
@@ -47,10 +47,10 @@ use Rattle.campaign_laws.proofs.HeadlineWorlds.{IsPayloadOf, StandsIn, Keeps, is
 
 -- the tests that it passed
 pub record Passes (w : WorldState) (form : Form) : Type 0 where
-  pub may : may_come w.section form ≡ true
+  pub may : is_in_order w.section form ≡ true
   pub ranged : (in_range form && fits_script (length w.server.image) (length w.devices) form) ≡ true
   pub names : names_device (length w.devices) form ≡ true
-  pub come : has_come w.sent w.uplinks w.time form ≡ true
+  pub come : is_available w.sent w.uplinks w.time form ≡ true
 
 test_passed : (b : Bool) (why : LineWhy) (rest : Option LineWhy) → cond (not b) (Some why) rest ≡ None
     → (b ≡ true) × (rest ≡ None)
@@ -67,7 +67,7 @@ passes w form fine =
     let named = and_parts (names_device (length w.devices) form) (has_flash w.flash form) c.0 in
     record { may = a.0; ranged = b.0; names = named.0; come = d.0 }
 
-at_header : (image : List ℕ) (w : WorldState) (here : Section) → may_come here Header ≡ true → StandsIn image w here
+at_header : (image : List ℕ) (w : WorldState) (here : Section) → is_in_order here Header ≡ true → StandsIn image w here
     → (w.sent ≡ []) × (w.devices ≡ [])
 at_header image w section.Header may stands = stands
 at_header image w section.Image may stands = stands
@@ -79,7 +79,7 @@ at_header image w section.Events may stands = absurd cc
 at_header image w section.Ended may stands = absurd cc
 
 at_image : (image : List ℕ) (w : WorldState) (size parity index : ℕ) (here : Section)
-    → may_come here (Image size parity index) ≡ true → StandsIn image w here → (w.sent ≡ []) × (w.devices ≡ [])
+    → is_in_order here (Image size parity index) ≡ true → StandsIn image w here → (w.sent ≡ []) × (w.devices ≡ [])
 at_image image w size parity index section.Header may stands = stands
 at_image image w size parity index section.Image may stands = stands
 at_image image w size parity index section.Group may stands = absurd cc
@@ -90,7 +90,7 @@ at_image image w size parity index section.Events may stands = absurd cc
 at_image image w size parity index section.Ended may stands = absurd cc
 
 at_group : (image : List ℕ) (w : WorldState) (id addr min max : ℕ) (key : List ℕ) (here : Section)
-    → may_come here (Group id addr key min max) ≡ true → StandsIn image w here
+    → is_in_order here (Group id addr key min max) ≡ true → StandsIn image w here
     → (w.sent ≡ []) × (w.devices ≡ []) × IsCut image (cut_of w.server.plan)
 at_group image w id addr min max key section.Header may stands = absurd cc
 at_group image w id addr min max key section.Image may stands = absurd cc
@@ -101,24 +101,24 @@ at_group image w id addr min max key section.Devices may stands = absurd cc
 at_group image w id addr min max key section.Events may stands = absurd cc
 at_group image w id addr min max key section.Ended may stands = absurd cc
 
--- any other form comes behind the image's line
+-- any other form comes after the image's line
 abbrev pub is_early : Form → Bool
 is_early Header = true
 is_early (Image size parity index) = true
 is_early form = false
 
-pub not_header : (form : Form) → is_early form ≡ false → may_come section.Header form ≡ true → ⊥
+pub not_header : (form : Form) → is_early form ≡ false → is_in_order section.Header form ≡ true → ⊥
 not_header Header late may = true≢false late
 not_header (Image size parity index) late may = true≢false late
 not_header form late may = true≢false (sym may)
 
-pub not_image : (form : Form) → is_early form ≡ false → may_come section.Image form ≡ true → ⊥
+pub not_image : (form : Form) → is_early form ≡ false → is_in_order section.Image form ≡ true → ⊥
 not_image Header late may = true≢false late
 not_image (Image size parity index) late may = true≢false late
 not_image form late may = true≢false (sym may)
 
 pub late_cut : (image : List ℕ) (w : WorldState) (form : Form) (here : Section) → is_early form ≡ false
-    → may_come here form ≡ true → StandsIn image w here → IsCut image (cut_of w.server.plan)
+    → is_in_order here form ≡ true → StandsIn image w here → IsCut image (cut_of w.server.plan)
 late_cut image w form section.Header late may stands = absurd (not_header form late may)
 late_cut image w form section.Image late may stands = absurd (not_image form late may)
 late_cut image w form section.Group late may stands = stands.2
@@ -178,7 +178,7 @@ read_turn image said w dev t (Ok cs) other k cut =
 read_turn image said w dev t (Err refusal) other k cut =
     sends_turn image said w w.server None None other (record { is = k; plan = refl }) cut tt
 
-up_turn : (image : List ℕ) (said : Said) (w : WorldState) (o : Option MadeUplink) → is_down said ≡ false
+up_turn : (image : List ℕ) (said : Said) (w : WorldState) (o : Option NumberedUplink) → is_down said ≡ false
     → IsServerOf image w.server → IsCut image (cut_of w.server.plan)
     → Turns image said w (at_events (after_up w o))
 unfolding uplink_step
@@ -226,7 +226,7 @@ pub all_numbered : {A : Type 0} (P : A → Type 0) (xs : List A) (n : ℕ) (x : 
     → numbered xs n ≡ Some x → P x
 all_numbered P xs n x all is = all_by_test P xs (n == 0) (n - 1) x all is
 
--- the device behind an event, its uplinks taken
+-- the device after an event, its uplinks taken
 abbrev taken : DeviceState → DeviceState
 taken d = record d { outbox = [] }
 
@@ -479,7 +479,7 @@ form_turn image w End bytes k fine honest =
 
 -- ---- what a line says
 
--- an event comes behind the image's line
+-- an event comes after the image's line
 pub events_cut : (image : List ℕ) (w : WorldState) (here : Section) → takes_events here ≡ true → StandsIn image w here
     → IsCut image (cut_of w.server.plan)
 events_cut image w section.Header takes stands = absurd (true≢false (sym takes))

@@ -66,7 +66,7 @@ pub alone_is_image : (image : List ℕ) (shape : Shape) (padding : ℕ) (heard :
 alone_is_image image shape padding heard file h all one =
     sym (one.alone image (image_fits image shape padding heard h all))
 
--- what holds of all holds of those behind some
+-- what holds of all holds of those after some
 pub behind : (P : Fragment → Type 0) (newer older : List Fragment) → AllByRecursion P (newer ++ older)
     → AllByRecursion P older
 behind P [] older all = all

@@ -253,7 +253,7 @@ far_moves t word mark to m x is on =
 
 -- ---- what a sent command makes of a device
 
--- the device that a payload comes to: behind a reboot that is due
+-- the device that a payload comes to: after a reboot that is due
 abbrev pub comes_to : (t : ℕ) → DeviceState → DeviceState
 comes_to t d = after_due_reboot t d
 
@@ -273,7 +273,7 @@ Acts image cut t mark d e down =
     ((hears (comes_to t d) t down.to ≡ false) × Stays d e)
     ⊎ ((hears (comes_to t d) t down.to ≡ true) × Hears image cut (way_of t d down.to) mark d e down)
 
--- the device behind the delivery, its uplinks taken
+-- the device after the delivery, its uplinks taken
 abbrev behind : (t word mark : ℕ) → Downlink → DeviceState → DeviceState
 behind t word mark down d = record (delivery t word mark down d).device { outbox = [] }
 

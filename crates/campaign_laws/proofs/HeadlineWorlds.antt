@@ -27,7 +27,7 @@ use Rattle.campaign_laws.proofs.HeadlineEnds.{IsSetFor, HasRows, IsBounded, IsDe
 abbrev pub IsPayloadOf : List ℕ → Cut → SentPayload → Type 0
 IsPayloadOf image cut p = (down : DownlinkCommand) × IsSentOf image cut down × (p.down ≡ downlink_of down)
 
--- until the group is known nothing is sent and there is no device; behind the image's line the image is cut
+-- until the group is known nothing is sent and there is no device; after the image's line the image is cut
 abbrev pub StandsIn : List ℕ → WorldState → Section → Type 0
 StandsIn image w section.Header = (w.sent ≡ []) × (w.devices ≡ [])
 StandsIn image w section.Image = (w.sent ≡ []) × (w.devices ≡ [])
@@ -140,7 +140,7 @@ pub record Turns (image : List ℕ) (said : Said) (w v : WorldState) : Type 0 wh
   pub stands : StandsIn image v v.section
   pub how : IsQuiet image said w v ⊎ (IsBegun said w v ⊎ (IsJoined said w v ⊎ IsReached image said w v))
 
--- ---- and it holds behind each line
+-- ---- and it holds after each line
 
 all_more : {X : Type 0} (P : X → Type 0) (xs ys : List X) → AllByRecursion P xs → AllByRecursion P ys
     → AllByRecursion P (xs ++ ys)

@@ -1,4 +1,4 @@
--- What holds of each honest campaign behind each line, and what its lines are heard as.
+-- What holds of each honest campaign after each line, and what its lines are heard as.
 use Rattle.std.proofs.Common.{◌≡◌, ◌⊎◌, inl, inr, ℕ, ◌+◌, ◌^◌, ◌<◌, ◌≤◌, nat_le, Bool, true, false, cond, List, All, Option, None, Some, Ok, Err, refl, sym, ap, ◌∙◌, subst, arith, true≢false}
 use Rattle.std.proofs.lemmas.Bool.{le-leb, cases_lt}
 use Rattle.script_lines.specs.declared.forms.Form.{Form}
@@ -167,7 +167,7 @@ goes_on_by image index w line said bytes stands is fine fits none honest =
     lines_on v n same k =
         subst (λ (m : ℕ). IsKeyed m v.section v.server v.devices v.sent) same k
 
--- so it is behind the line itself
+-- so it is after the line itself
 pub stands_behind : (image : List ℕ) (index : ℕ) (w : WorldState) (said : Said) → after_said w said ≡ after_said w (heard_said said)
     → Stands image index (one_line_more (after_said w (heard_said said))) → Stands image index (after_line w (Ok said))
 stands_behind image index w said same stands =

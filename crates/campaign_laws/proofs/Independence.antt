@@ -20,7 +20,7 @@ use Rattle.script_lines.specs.declared.forms.Form.TheVariants.{Header, Image, Gr
 use Rattle.report_lines.specs.declared.faults.LineWhy.{LineWhy}
 use Rattle.report_lines.specs.declared.faults.LineFault.{LineFault}
 use Rattle.campaign_world.specs.declared.numbered.SentPayload.{SentPayload}
-use Rattle.campaign_world.specs.declared.numbered.MadeUplink.{MadeUplink}
+use Rattle.campaign_world.specs.declared.numbered.NumberedUplink.{NumberedUplink}
 use Rattle.campaign_world.specs.World.{WorldState, first_world}
 use Rattle.campaign_world.specs.Said.{Said, Own, Elsewhere, Reached, Line}
 use Rattle.campaign_world.specs.Causes.{is_device, may_reach, goes_out, form_cause, said_cause, line_cause, cause_of}
@@ -47,7 +47,7 @@ read_by : (w end : WorldState) (line : Line) (cause : Option LineWhy) (lines : L
 read_by w end line None lines is = (refl, is)
 read_by w end line (Some why) lines is = absurd (no_more _ lines end is)
 
--- the first line is not refused, and the others are read behind it
+-- the first line is not refused, and the others are read after it
 pub read_first : (w end : WorldState) (line : Line) (lines : List Line)
     → read_lines (Ok w) (line ∷ lines) ≡ Ok end
     → (cause_of w line ≡ None) × (read_lines (Ok (after_line w line)) lines ≡ Ok end)
@@ -71,7 +71,7 @@ set_by : {A : Type 0} (xs ys : List A) (k : ℕ) (x y : A) (b : Bool) → cond b
 set_by xs ys k x y true is = absurd cc
 set_by xs ys k x y false is = get_set xs ys k x y is
 
--- another item at a place that is there, with more items behind
+-- another item at a place that is there, with more items after
 set_front : {A : Type 0} (xs ys : List A) (n : ℕ) (x y : A) → numbered xs n ≡ Some x
     → slice_set xs (n - 1) y ++ ys ≡ slice_set (xs ++ ys) (n - 1) y
 set_front xs ys n x y is = set_by xs ys (n - 1) x y (n == 0) is
@@ -138,7 +138,7 @@ read_still w dev t (Ok cs) =
     sends_still w (with_answers w.server dev cs (ledger w.server dev)) (Some dev) (by_unicast (time_answer t cs))
 read_still w dev t (Err refusal) = same_still w _ refl refl refl refl
 
-up_still : (w : WorldState) (o : Option MadeUplink) → IsStill w (after_up w o)
+up_still : (w : WorldState) (o : Option NumberedUplink) → IsStill w (after_up w o)
 unfolding uplink_step
 up_still w None = same_still w _ refl refl refl refl
 up_still w (Some made) =
@@ -159,8 +159,8 @@ airs said = false
 abbrev pub HasGroup : Said → WorldState → Option PlanGroup → Type 0
 HasGroup said w group = airs said ≡ true → w.server.plan.group ≡ group
 
--- what holds behind what a line says that is not refused: the line's number, the time, what was sent, and the record of a
--- device behind what the line tells of it, with these devices and events to come
+-- what holds after what a line says that is not refused: the line's number, the time, what was sent, and the record of a
+-- device after what the line tells of it, with these devices and events to come
 pub record IsTold (id : ℕ) (group : Option PlanGroup) (all : List SentPayload) (w v : WorldState) (said : Said) : Type 0 where
   pub lines : v.lines ≡ w.lines
   pub time : v.time ≡ time_after w.time (Ok said)
@@ -350,7 +350,7 @@ sent_grows w end (line ∷ lines) is =
           ∙ append_assoc w.sent here.0 rest.0,
     )
 
--- the plan's group stays behind the first event
+-- the plan's group stays after the first event
 group_stays : (w end : WorldState) (lines : List Line) → read_lines (Ok w) lines ≡ Ok end → is_planning w.section ≡ false
     → w.server.plan.group ≡ end.server.plan.group
 unfolding read_lines
@@ -367,7 +367,7 @@ group_stays w end (line ∷ lines) is over =
     line_stays w (Ok said) fine over =
         let s = said_settled w said fine over in (s.over, ap (λ (p : Plan). p.group) s.plan)
 
--- a frame comes behind the plan
+-- a frame comes after the plan
 said_group : (w end : WorldState) (said : Said) (lines : List Line) → read_lines (Ok (after_line w (Ok said))) lines ≡ Ok end
     → HasGroup said w end.server.plan.group
 said_group w end (Own (Air number device word)) lines is airs =
@@ -376,7 +376,7 @@ said_group w end (Own (Air number device word)) lines is airs =
     ∙ group_stays (after_line w (Ok (Own (Air number device word)))) end lines is s.over
 said_group w end said lines is airs = absurd cc
 
--- what is told from a line on is what it tells, and what is told behind it
+-- what is told from a line on is what it tells, and what is told after it
 line_told : (id : ℕ) (w end : WorldState) (line : Line) (rest : List Line)
     → line_cause w line ≡ None → Grows w.sent end.sent → read_lines (Ok (after_line w line)) rest ≡ Ok end
     → folded (history_of id end.server.plan.group end.sent (after_line w line).time ((after_line w line).lines + 1) rest)

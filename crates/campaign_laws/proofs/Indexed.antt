@@ -1,4 +1,4 @@
--- Behind its image's line a campaign has the index that the line says.
+-- After its image's line a campaign has the index that the line says.
 use Rattle.std.proofs.Common.{◌≡◌, ℕ, ◌+◌, Bool, true, false, Option, None, Some, Ok, Err, refl, ap, ◌∙◌, sym, true≢false, subst}
 use Rattle.std.specs.Result.{result_ok}
 use Rattle.wire_base.specs.Numbered.{numbered}
@@ -12,7 +12,7 @@ use Rattle.campaign_world.specs.declared.section.Section.{Section}
 use Rattle.campaign_world.specs.declared.section.Section.TheVariants as section
 use Rattle.campaign_world.specs.World.{WorldState}
 use Rattle.campaign_world.specs.Said.{Said, Own, Elsewhere, Reached}
-use Rattle.campaign_world.specs.Causes.{may_come, takes_events, form_cause, said_cause}
+use Rattle.campaign_world.specs.Causes.{is_in_order, takes_events, form_cause, said_cause}
 use Rattle.campaign_world.specs.Making.{after_form, after_said}
 use Rattle.campaign_laws.specs.Fields.{HasFields, LineFits}
 use Rattle.campaign_laws.proofs.HeadlineForms.{passes, is_early, not_header, not_image, reached_passes, is_odd}
@@ -25,7 +25,7 @@ IsIndexed index section.Image plan = Unit {0}
 IsIndexed index here plan = plan.index ≡ index
 
 -- where this form may come, it has
-pub late_index : (index : ℕ) (plan : Plan) (form : Form) (here : Section) → is_early form ≡ false → may_come here form ≡ true
+pub late_index : (index : ℕ) (plan : Plan) (form : Form) (here : Section) → is_early form ≡ false → is_in_order here form ≡ true
     → IsIndexed index here plan → plan.index ≡ index
 late_index index plan form section.Header late may k = absurd (not_header form late may)
 late_index index plan form section.Image late may k = absurd (not_image form late may)
@@ -101,7 +101,7 @@ form_indexed index w (Up number) fine fits k =
     ∙ late_index index w.server.plan (Up number) w.section refl (passes w (Up number) fine).may k
 form_indexed index w End fine fits k = late_index index w.server.plan End w.section refl (passes w End fine).may k
 
--- so it is behind what a line says
+-- so it is after what a line says
 pub said_indexed : (index : ℕ) (w : WorldState) (said : Said) → said_cause w said ≡ None → LineFits index (Ok said)
     → IsIndexed index w.section w.server.plan → IsIndexed index (after_said w said).section (after_said w said).server.plan
 said_indexed index w (Own form) fine fits k = form_indexed index w form fine fits k

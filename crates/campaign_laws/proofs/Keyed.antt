@@ -386,7 +386,7 @@ time_kept plan receiver t cs = answer_kept plan receiver (time_answer t cs) (tim
 
 -- ---- a campaign
 
--- what holds behind so many lines
+-- what holds after so many lines
 pub record IsKeyed (lines : ℕ) (here : Section) (server : ServerState) (ds : List DeviceState) (sent : List SentPayload) : Type 0 where
   pub fit : IsFit server.plan
   pub even : length server.plan.devices ≡ length ds

@@ -1,4 +1,4 @@
--- The keys and counts of a campaign hold behind each form.
+-- The keys and counts of a campaign hold after each form.
 use Rattle.std.proofs.Common.{◌≡◌, ◌⊎◌, inl, inr, ℕ, zero, suc, ◌+◌, ◌-◌, ◌^◌, ◌<◌, ◌≤◌, ◌&&◌, ◌==◌, nat_lt, nat_le, Bool, true, false, cond, List, [], ◌∷◌, ◌++◌, length, slice_get, replicate, Option, None, Some, IfSome, Result, Ok, Err, refl, sym, ap, ◌∙◌, subst, arith, true≢false}
 use Rattle.std.proofs.lemmas.Bool.{and_parts, ltb-true, leb-true}
 use Rattle.std.proofs.lemmas.List.{length-set, length_push}
@@ -32,7 +32,7 @@ use Rattle.script_lines.specs.Ranges.{in_range}
 use Rattle.campaign_world.specs.declared.section.Section.{Section}
 use Rattle.campaign_world.specs.declared.section.Section.TheVariants as section
 use Rattle.campaign_world.specs.declared.numbered.SentPayload.{SentPayload}
-use Rattle.campaign_world.specs.declared.numbered.MadeUplink.{MadeUplink}
+use Rattle.campaign_world.specs.declared.numbered.NumberedUplink.{NumberedUplink}
 use Rattle.campaign_world.specs.World.{WorldState, first_world}
 use Rattle.campaign_world.specs.Said.{Said, Own, Elsewhere, Reached}
 use Rattle.campaign_world.specs.Causes.{is_device, may_reach, form_cause, said_cause}
@@ -61,7 +61,7 @@ numbered_last xs y =
     numbered_at (xs ++ y ∷ []) (length xs + 1) y (omega arith)
     (ap (λ (k : ℕ). slice_get (xs ++ y ∷ []) k) at ∙ last_get xs y)
 
--- what holds of a campaign behind so many lines
+-- what holds of a campaign after so many lines
 abbrev pub Keyed : (lines : ℕ) → WorldState → Type 0
 Keyed lines w = IsKeyed lines w.section w.server w.devices w.sent
 
@@ -233,7 +233,7 @@ read_keyed w dev (Ok cs) k =
 read_keyed w dev (Err refusal) k =
     still_keyed w.lines w.section section.Events w.server w.devices w.sent (λ plan. absurd (true≢false (sym plan))) k
 
-up_keyed : (w : WorldState) (o : Option MadeUplink) → Keyed w.lines w → Keyed (w.lines + 1) (at_events (after_up w o))
+up_keyed : (w : WorldState) (o : Option NumberedUplink) → Keyed w.lines w → Keyed (w.lines + 1) (at_events (after_up w o))
 unfolding uplink_step
 up_keyed w None k =
     still_keyed w.lines w.section section.Events w.server w.devices w.sent (λ plan. absurd (true≢false (sym plan))) k

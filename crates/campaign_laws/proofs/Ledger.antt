@@ -30,7 +30,7 @@ use Rattle.script_lines.specs.Limits.{max_rows, max_devices}
 use Rattle.script_lines.specs.Ranges.{in_range}
 use Rattle.campaign_world.specs.declared.section.Section.{Section}
 use Rattle.campaign_world.specs.declared.numbered.SentPayload.{SentPayload}
-use Rattle.campaign_world.specs.declared.numbered.MadeUplink.{MadeUplink}
+use Rattle.campaign_world.specs.declared.numbered.NumberedUplink.{NumberedUplink}
 use Rattle.campaign_world.specs.World.{WorldState, first_world}
 use Rattle.campaign_world.specs.Said.{Said, Own, Elsewhere, Reached, Line}
 use Rattle.campaign_world.specs.Causes.{form_cause, said_cause, line_cause, cause_of, fits_script}
@@ -109,7 +109,7 @@ abbrev IsOwnPayload : SentPayload → Type 0
 IsOwnPayload p = (down : DownlinkCommand) × IsOwn down × (p.down ≡ downlink_of down)
 
 -- where an uplink tells the image's version, its device runs the image
-abbrev pub MadeTruly : List ℕ → List DeviceState → MadeUplink → Type 0
+abbrev pub MadeTruly : List ℕ → List DeviceState → NumberedUplink → Type 0
 MadeTruly image ds made = TellsTruly image (Runs image ds made.device) made.uplink
 
 -- what holds after each line
@@ -178,7 +178,7 @@ answers_true image ds server dev cs (Some old) is there told stood = λ id at.
     (λ other. stood id (sym other ∙ at))
     (numbered_put server.stages dev id new (first_is server.stages dev old there))
 
-read_holds : (image : List ℕ) (w : WorldState) (made : MadeUplink) (r : Reading) → w.server.image ≡ image
+read_holds : (image : List ℕ) (w : WorldState) (made : NumberedUplink) (r : Reading) → w.server.image ≡ image
     → Holds image w
     → MadeTruly image w.devices made → reading_of made.uplink.port Upward made.uplink.payload ≡ r
     → Holds image (at_events (after_answer w made.device (read_uplink w.server made.device w.time r)))
@@ -192,7 +192,7 @@ read_holds image w made (Ok cs) is h told read =
 read_holds image w made (Err refusal) is h told read =
     record { devices = h.devices; sent = h.sent; uplinks = h.uplinks; ledger = h.ledger }
 
-up_holds : (image : List ℕ) (w : WorldState) (number : ℕ) (o : Option MadeUplink) → numbered w.uplinks number ≡ o
+up_holds : (image : List ℕ) (w : WorldState) (number : ℕ) (o : Option NumberedUplink) → numbered w.uplinks number ≡ o
     → w.server.image ≡ image → Holds image w → Holds image (at_events (after_up w o))
 unfolding uplink_step
 up_holds image w number None there is h =
@@ -222,7 +222,7 @@ runs_put image cut ds n id d e new there goes slots (x, is, runs) =
     (λ other. (x, other ∙ is, runs))
     (numbered_put ds n id new (first_is ds n d there))
 
-made_on : (image : List ℕ) (ds later : List DeviceState) (us : List MadeUplink)
+made_on : (image : List ℕ) (ds later : List DeviceState) (us : List NumberedUplink)
     → ((id : ℕ) → Runs image ds id → Runs image later id) → AllByRecursion (MadeTruly image ds) us
     → AllByRecursion (MadeTruly image later) us
 made_on image ds later [] on all = tt
@@ -492,7 +492,7 @@ the_ledger_is_true image lines world id bytes is fits honest accepted at =
     (all_hold image world.server.plan.index (first_world image) world lines bytes is (first_stands image world.server.plan.index) (first_holds image) fits honest
     (end_is (read_lines (Ok (first_world image)) lines) world accepted)).ledger id at
 
--- so it is with the uplinks that there are behind any lines
+-- so it is with the uplinks that there are after any lines
 pub uplinks_are_true : (image : List ℕ) (index : ℕ) (w : WorldState) (lines : List Line) → All (λ b. b < 2 ^ 8) image
     → is_image image ≡ true → AllFit index lines → AreHonest index lines → read_lines (Ok (first_world image)) lines ≡ Ok w
     → AllByRecursion (MadeTruly image w.devices) w.uplinks

@@ -28,7 +28,7 @@ use Rattle.package_grammar.specs.Reading.{Reading, reading_of}
 use Rattle.device_core.specs.declared.config.DeviceConfig.{DeviceConfig}
 use Rattle.device_core.specs.declared.arrival.Arrival.{Arrival}
 use Rattle.device_core.specs.declared.uplink.Uplink.{Uplink}
-use Rattle.device_core.specs.declared.uplink.UplinkCommand.{UplinkCommand}
+use Rattle.device_core.specs.declared.uplink.Answer.{Answer}
 use Rattle.device_core.specs.SessionTable.{SessionTable, no_sessions, session_at, with_session}
 use Rattle.device_core.specs.Device.{DeviceState, first_device, limits_of, room_of, with_counts, after_deaf, after_refused, after_full, after_dropped}
 use Rattle.device_core.specs.declared.counts.Counts.{Counts}
@@ -262,13 +262,13 @@ command_makes image cut at m (Sync cmd) bytes (inr (inr calm)) k = sync_makes im
 command_makes image cut at m (Cast cmd) bytes (inr (inr calm)) k = cast_makes image cut at m cmd calm k
 
 -- each answer goes out on the port that its command came on
-replicated : (port n : ℕ) (answer : UplinkCommand) → answer.port ≡ port
-    → AllByRecursion (λ (a : UplinkCommand). a.port ≡ port) (replicate n answer)
+replicated : (port n : ℕ) (answer : Answer) → answer.port ≡ port
+    → AllByRecursion (λ (a : Answer). a.port ≡ port) (replicate n answer)
 replicated port zero answer is = tt
 replicated port (suc n) answer is = (is, replicated port n answer is)
 
-AllOn : ℕ → List UplinkCommand → Type 0
-AllOn port answers = AllByRecursion (λ (a : UplinkCommand). a.port ≡ port) answers
+AllOn : ℕ → List Answer → Type 0
+AllOn port answers = AllByRecursion (λ (a : Answer). a.port ≡ port) answers
 
 sync_answers : (at : Arrival) (m : DeviceState) (cmd : SyncCmd) → AllOn at.port (command_step at m (Sync cmd)).answers
 unfolding AllOn command_step answer_step periodicity_step resync_step version_step upgrade_step delete_image_step
@@ -313,7 +313,7 @@ command_answers : (at : Arrival) (m : DeviceState) (x : Command) → AllOn at.po
 command_answers at m (Sync cmd) = sync_answers at m cmd
 command_answers at m (Cast cmd) = cast_answers at m cmd
 
-far_answers : (image : List ℕ) (R : Type 0) (port : ℕ) (answers : List UplinkCommand) → (port ≡ 203 → ⊥)
+far_answers : (image : List ℕ) (R : Type 0) (port : ℕ) (answers : List Answer) → (port ≡ 203 → ⊥)
     → AllOn port answers → AllByRecursion (TellsTruly image R) (map uplink_of answers)
 unfolding AllOn
 far_answers image R port [] far all = tt

@@ -25,10 +25,10 @@ use Rattle.campaign_server.specs.Uplinks.{with_answers, read_uplink, uplink_step
 use Rattle.script_lines.specs.declared.forms.Form.{Form}
 use Rattle.script_lines.specs.declared.forms.Form.TheVariants.{Header, Image, Group, WindowC, WindowB, Device, At as AtTime, Wake, Migrate, Power, Ask, Frag, Status, Down, Raw, Air, RawAir, Up, End}
 use Rattle.campaign_world.specs.declared.numbered.SentPayload.{SentPayload}
-use Rattle.campaign_world.specs.declared.numbered.MadeUplink.{MadeUplink}
+use Rattle.campaign_world.specs.declared.numbered.NumberedUplink.{NumberedUplink}
 use Rattle.campaign_world.specs.World.{WorldState, first_world}
 use Rattle.campaign_world.specs.Said.{Said, Own, Elsewhere, Reached, Line}
-use Rattle.campaign_world.specs.Causes.{may_come, form_cause, said_cause, line_cause}
+use Rattle.campaign_world.specs.Causes.{is_in_order, form_cause, said_cause, line_cause}
 use Rattle.campaign_laws.specs.Ledger.{Runs}
 use Rattle.campaign_world.specs.Making.{with_sent, made_by, with_device, event_of, after_event_at, with_event_of, after_answer, after_up, at_events, after_form, after_said}
 use Rattle.campaign_world.specs.Script.{one_line_more, after_line, read_lines}
@@ -47,7 +47,7 @@ use Rattle.campaign_laws.proofs.Untouched.{number_first, get_all, fragment_same,
 -- stages go on, uplinks stay, and the plan is over
 pub record Goes (w end : WorldState) : Type 0 where
   pub ranks : (id : ℕ) (stage : Stage) → numbered w.server.stages id ≡ Some stage → (later : Stage) × (numbered end.server.stages id ≡ Some later) × (rank stage ≤ rank later)
-  pub uplinks : (more : List MadeUplink) × (end.uplinks ≡ w.uplinks ++ more)
+  pub uplinks : (more : List NumberedUplink) × (end.uplinks ≡ w.uplinks ++ more)
   pub image : end.server.image ≡ w.server.image
   pub over : is_planning end.section ≡ false
 
@@ -62,7 +62,7 @@ same_on old new same image = record {
   image = image;
 }
 
-goes_by : (w end : WorldState) → IsOn w.server end.server → (more : List MadeUplink) → end.uplinks ≡ w.uplinks ++ more → is_planning end.section ≡ false → Goes w end
+goes_by : (w end : WorldState) → IsOn w.server end.server → (more : List NumberedUplink) → end.uplinks ≡ w.uplinks ++ more → is_planning end.section ≡ false → Goes w end
 goes_by w end on more uplinks over = record { ranks = on.ranks; uplinks = (more, uplinks); image = on.image; over = over }
 
 still : (w end : WorldState) → end.server ≡ w.server → end.uplinks ≡ w.uplinks → is_planning end.section ≡ false → Goes w end
@@ -112,7 +112,7 @@ unfolding read_uplink
 read_go w dev (Ok cs) = sends_go w (with_answers w.server dev cs (ledger w.server dev)) (Some dev) (by_unicast (time_answer w.time cs)) (answers_on w.server dev cs (ledger w.server dev) refl)
 read_go w dev (Err refusal) = still w _ refl refl refl
 
-up_go : (w : WorldState) (o : Option MadeUplink) → Goes w (at_events (after_up w o))
+up_go : (w : WorldState) (o : Option NumberedUplink) → Goes w (at_events (after_up w o))
 unfolding uplink_step
 up_go w None = still w _ refl refl refl
 up_go w (Some made) = read_go w made.device (reading_of made.uplink.port Upwards made.uplink.payload)
@@ -175,14 +175,14 @@ all_go w end (line ∷ lines) over read =
     let rest = all_go (after_line w line) end lines here.over first.1 in
     record {
       ranks = λ id stage at. (let one = here.ranks id stage at in let more = rest.ranks id one.0 one.1 in (more.0, more.1, omega (arith, one.2, more.2)));
-      uplinks = (here.uplinks.0 ++ rest.uplinks.0, rest.uplinks.1 ∙ ap (λ (us : List MadeUplink). us ++ rest.uplinks.0) here.uplinks.1 ∙ append_assoc w.uplinks here.uplinks.0 rest.uplinks.0);
+      uplinks = (here.uplinks.0 ++ rest.uplinks.0, rest.uplinks.1 ∙ ap (λ (us : List NumberedUplink). us ++ rest.uplinks.0) here.uplinks.1 ∙ append_assoc w.uplinks here.uplinks.0 rest.uplinks.0);
       image = rest.image ∙ here.image;
       over = rest.over;
     }
 
 -- ---- an uplink of one command
 
--- the stages behind it
+-- the stages after it
 stages_by : (w : WorldState) (dev : ℕ) (x : Command) (r : Reading) → r ≡ Ok (x ∷ [])
     → (after_answer w dev (read_uplink w.server dev w.time r)).server.stages ≡ (with_answers w.server dev (x ∷ []) (ledger w.server dev)).stages
 unfolding read_uplink
@@ -192,7 +192,7 @@ stages_by w dev x r is = rw is (sent (record w { server = with_answers w.server 
     sent v to None = refl
     sent v to (Some down) = refl
 
-stages_are : (w : WorldState) (made : MadeUplink) (x : Command) → reading_of made.uplink.port Upwards made.uplink.payload ≡ Ok (x ∷ [])
+stages_are : (w : WorldState) (made : NumberedUplink) (x : Command) → reading_of made.uplink.port Upwards made.uplink.payload ≡ Ok (x ∷ [])
     → (after_up w (Some made)).server.stages ≡ (with_answers w.server made.device (x ∷ []) (ledger w.server made.device)).stages
 unfolding uplink_step
 stages_are w made x read = stages_by w made.device x (reading_of made.uplink.port Upwards made.uplink.payload) read
@@ -267,7 +267,7 @@ unfolding is_image
 no_image image is none = no_version _ _ _ (rw none at is)
 
 -- an uplink that tells the image's version comes from a device that runs it, and so that was asked for more than its version
-told_later : (image : List ℕ) (w : WorldState) (made : MadeUplink) (x : Command) (stage : Stage) → is_image image ≡ true → Waits w → MadeTruly image w.devices made
+told_later : (image : List ℕ) (w : WorldState) (made : NumberedUplink) (x : Command) (stage : Stage) → is_image image ≡ true → Waits w → MadeTruly image w.devices made
     → reading_of made.uplink.port Upwards made.uplink.payload ≡ Ok (x ∷ []) → numbered w.server.stages made.device ≡ Some stage
     → (hardware : ℕ) → x ≡ Sync (s.DevVersionAns (firmware_of image) hardware) → 1 ≤ rank stage
 told_later image w made x stage file k truly read there hardware tells =
@@ -290,7 +290,7 @@ told_later image w made x stage file k truly read there hardware tells =
     first (At request.Check) at runs = omega arith
     first stage at runs = omega arith
 
-later_by : (image : List ℕ) (world later : WorldState) (made : MadeUplink) (x : Command) (o : Option Stage) → is_image image ≡ true → Waits world → MadeTruly image world.devices made
+later_by : (image : List ℕ) (world later : WorldState) (made : NumberedUplink) (x : Command) (o : Option Stage) → is_image image ≡ true → Waits world → MadeTruly image world.devices made
     → world.server.image ≡ image → later.server.image ≡ image → reading_of made.uplink.port Upwards made.uplink.payload ≡ Ok (x ∷ []) → numbered world.server.stages made.device ≡ o
     → ((id : ℕ) (stage : Stage) → numbered (with_answers world.server made.device (x ∷ []) o).stages id ≡ Some stage → (t : Stage) × (numbered later.server.stages id ≡ Some t) × (rank stage ≤ rank t))
     → (with_answers world.server made.device (x ∷ []) o).stages ≢ world.server.stages → (after_up later (Some made)).server.stages ≡ later.server.stages
@@ -320,14 +320,14 @@ an_uplink_moves_once image line before between number world later made x bytes f
     let here = up_go world (numbered world.uplinks number) in
     let on = all_go next later between refl rest in
     let still : numbered later.uplinks number ≡ Some made =
-    ap (λ (us : List MadeUplink). numbered us number) (on.uplinks.1 ∙ ap (λ (us : List MadeUplink). us ++ on.uplinks.0) here.uplinks.1)
+    ap (λ (us : List NumberedUplink). numbered us number) (on.uplinks.1 ∙ ap (λ (us : List NumberedUplink). us ++ on.uplinks.0) here.uplinks.1)
     ∙ numbered_more (world.uplinks ++ here.uplinks.0) on.uplinks.0 number made (numbered_more world.uplinks here.uplinks.0 number made there) in
     let wi : world.server.image ≡ image = lines_image (first_world image) world before read in
     let li : later.server.image ≡ image = on.image ∙ here.image ∙ wi in
     let truly = get_all (MadeTruly image world.devices) world.uplinks number made (uplinks_are_true image world.server.plan.index world before bytes file fits honest read) there in
     let is : (after_up world (numbered world.uplinks number)).server.stages ≡ (with_answers world.server made.device (x ∷ []) (ledger world.server made.device)).stages =
-    ap (λ (o : Option MadeUplink). (after_up world o).server.stages) there ∙ stages_are world made x single in
-    ap (λ (o : Option MadeUplink). (after_up later o).server.stages) still
+    ap (λ (o : Option NumberedUplink). (after_up world o).server.stages) there ∙ stages_are world made x single in
+    ap (λ (o : Option NumberedUplink). (after_up later o).server.stages) still
     ∙ later_by image world later made x (ledger world.server made.device) file (waits_behind image world.server.plan.index world before bytes fits honest read) truly wi li single refl
     (subst (λ (xs : List Stage). (id : ℕ) (stage : Stage) → numbered xs id ≡ Some stage → (t : Stage) × (numbered later.server.stages id ≡ Some t) × (rank stage ≤ rank t)) is (λ id stage at. on.ranks id stage at))
     (subst (λ (xs : List Stage). xs ≢ world.server.stages) is moved)

@@ -1,4 +1,4 @@
--- Behind the first event the plan's group stays.
+-- After the first event the plan's group stays.
 use Rattle.std.proofs.Common.{◌≡◌, ℕ, ◌+◌, Bool, true, false, cond, List, Option, None, Some, is_ok, is_some, Result, Ok, Err, refl, sym, ap, ◌∙◌}
 use Rattle.std.specs.Result.{result_ok}
 use Rattle.wire_base.specs.declared.refusal.Direction.TheVariants.{Up as Upwards}
@@ -18,10 +18,10 @@ use Rattle.script_lines.specs.declared.forms.Form.{Form}
 use Rattle.script_lines.specs.declared.forms.Form.TheVariants.{Header, Image, Group, WindowC, WindowB, Device, At, Wake, Migrate, Power, Ask, Frag, Status, Down, Raw, Air, RawAir, Up, End}
 use Rattle.campaign_world.specs.declared.section.Section.{Section}
 use Rattle.campaign_world.specs.declared.section.Section.TheVariants as section
-use Rattle.campaign_world.specs.declared.numbered.MadeUplink.{MadeUplink}
+use Rattle.campaign_world.specs.declared.numbered.NumberedUplink.{NumberedUplink}
 use Rattle.campaign_world.specs.World.{WorldState}
 use Rattle.campaign_world.specs.Said.{Said, Own, Elsewhere, Reached}
-use Rattle.campaign_world.specs.Causes.{is_event_or_end, may_come, form_cause, said_cause}
+use Rattle.campaign_world.specs.Causes.{is_event_or_end, is_in_order, form_cause, said_cause}
 use Rattle.campaign_world.specs.Making.{with_sent, with_device, event_of, after_event_at, with_event, with_event_of, after_answer, after_up, at_events, after_form, after_said}
 use Rattle.campaign_laws.proofs.HeadlineForms.{passes}
 
@@ -31,7 +31,7 @@ is_planning section.Events = false
 is_planning section.Ended = false
 is_planning here = true
 
-pub plan_at : (here : Section) (form : Form) → is_event_or_end form ≡ false → may_come here form ≡ true → is_planning here ≡ true
+pub plan_at : (here : Section) (form : Form) → is_event_or_end form ≡ false → is_in_order here form ≡ true → is_planning here ≡ true
 plan_at section.Header form plan may = refl
 plan_at section.Image form plan may = refl
 plan_at section.Group form plan may = refl
@@ -43,7 +43,7 @@ plan_at section.Ended form plan may = absurd cc
 
 -- no line of a plan comes any more
 pub no_plan : {X : Type 0} (w : WorldState) (form : Form) → form_cause w form ≡ None → is_planning w.section ≡ false
-    → (may_come w.section form ≡ true → is_planning w.section ≡ true) → X
+    → (is_in_order w.section form ≡ true → is_planning w.section ≡ true) → X
 no_plan w form fine over plan = absurd (let both : true ≡ false = sym (plan (passes w form fine).may) ∙ over in cc)
 
 -- ---- the plan of a server
@@ -66,7 +66,7 @@ answers_plan s dev cs (Some stage) = refl
 
 -- ---- what stays
 
--- behind an event the plan is what it was
+-- after an event the plan is what it was
 pub record IsSettled (w v : WorldState) : Type 0 where
   pub over : is_planning v.section ≡ false
   pub plan : v.server.plan ≡ w.server.plan
@@ -99,7 +99,7 @@ read_settled w dev t (Ok cs) =
     (answers_plan w.server dev cs (ledger w.server dev))
 read_settled w dev t (Err refusal) = record { over = refl; plan = refl }
 
-pub up_settled : (w : WorldState) (o : Option MadeUplink) → IsSettled w (at_events (after_up w o))
+pub up_settled : (w : WorldState) (o : Option NumberedUplink) → IsSettled w (at_events (after_up w o))
 unfolding uplink_step
 up_settled w None = record { over = refl; plan = refl }
 up_settled w (Some made) = read_settled w made.device w.time (reading_of made.uplink.port Upwards made.uplink.payload)

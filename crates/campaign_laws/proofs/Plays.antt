@@ -15,7 +15,7 @@ use Rattle.campaign_server.specs.Uplinks.{with_answers, read_uplink, uplink_step
 use Rattle.script_lines.specs.declared.forms.Form.{Form}
 use Rattle.script_lines.specs.declared.forms.Form.TheVariants.{Header, Image, Group, WindowC, WindowB, Device, At, Wake, Migrate, Power, Ask, Frag, Status, Down, Raw, Air, RawAir, Up, End}
 use Rattle.campaign_world.specs.declared.numbered.SentPayload.{SentPayload}
-use Rattle.campaign_world.specs.declared.numbered.MadeUplink.{MadeUplink}
+use Rattle.campaign_world.specs.declared.numbered.NumberedUplink.{NumberedUplink}
 use Rattle.script_lines.specs.Forms.{form_of}
 use Rattle.report_lines.specs.declared.faults.LineWhy.{LineWhy}
 use Rattle.report_lines.specs.declared.faults.LineFault.{LineFault}
@@ -46,7 +46,7 @@ none w P p = (w, refl, p)
 pub one : (w : WorldState) (form : Form) (P : WorldState → Type 0) → form_cause w form ≡ None → P (one_line_more (after_form w form)) → To w (form ∷ []) P
 one w form P fine p = (one_line_more (after_form w form), (fine, refl), p)
 
--- one part behind another
+-- one part after another
 pub both : (w : WorldState) (xs ys : List Form) (P Q : WorldState → Type 0) → To w xs P → ((v : WorldState) → P v → To v ys Q) → To w (xs ++ ys) Q
 both w xs ys P Q (v, plays, p) then = let t = then v p in (t.0, plays_on w v t.0 xs ys plays t.1, t.2)
 
@@ -76,7 +76,7 @@ unfolding read_uplink
 reading_keeps w dev t (Ok cs) = sent_keeps w (record w { server = with_answers w.server dev cs (ledger w.server dev) }) (Some dev) (by_unicast (time_answer t cs)) refl
 reading_keeps w dev t (Err refusal) = refl
 
-up_keeps : (w : WorldState) (o : Option MadeUplink) → (after_up w o).lines ≡ w.lines
+up_keeps : (w : WorldState) (o : Option NumberedUplink) → (after_up w o).lines ≡ w.lines
 unfolding uplink_step
 up_keeps w None = refl
 up_keeps w (Some made) = reading_keeps w made.device w.time (reading_of made.uplink.port Upwards made.uplink.payload)

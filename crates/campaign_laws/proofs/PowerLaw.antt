@@ -9,7 +9,7 @@ use Rattle.campaign_world.specs.declared.section.Section.{Section}
 use Rattle.campaign_world.specs.declared.section.Section.TheVariants as section
 use Rattle.campaign_world.specs.World.{WorldState, first_world}
 use Rattle.campaign_world.specs.Said.{Said, Own, Line}
-use Rattle.campaign_world.specs.Causes.{may_come, form_cause, line_cause, said_cause, cause_of}
+use Rattle.campaign_world.specs.Causes.{is_in_order, form_cause, line_cause, said_cause, cause_of}
 use Rattle.campaign_world.specs.Making.{after_form}
 use Rattle.campaign_world.specs.Script.{after_line, read_line, read_lines, end_result, campaign_of}
 use Rattle.campaign_world.proofs.FormCauses.{time_within, of_line}
@@ -23,7 +23,7 @@ use Rattle.campaign_laws.proofs.AirLaw.{read_same}
 
 -- ---- where the one may come, the other may
 
-may_alike : (here : Section) (device time : ℕ) → may_come here (At time) ≡ may_come here (Power device)
+may_alike : (here : Section) (device time : ℕ) → is_in_order here (At time) ≡ is_in_order here (Power device)
 may_alike section.Header device time = refl
 may_alike section.Image device time = refl
 may_alike section.Group device time = refl
@@ -33,7 +33,7 @@ may_alike section.Devices device time = refl
 may_alike section.Events device time = refl
 may_alike section.Ended device time = refl
 
-at_fine : (w : WorldState) → w.time ≤ max_time → may_come w.section (At w.time) ≡ true → form_cause w (At w.time) ≡ None
+at_fine : (w : WorldState) → w.time ≤ max_time → is_in_order w.section (At w.time) ≡ true → form_cause w (At w.time) ≡ None
 unfolding form_cause in_range
 at_fine w low may = rw (may, le-leb w.time max_time low, le-leb w.time w.time (omega arith)) refl
 
@@ -47,14 +47,14 @@ other_read : (w : WorldState) (line other : Line) → w.time ≤ max_time → ca
 other_read w line other low fine (inl same) = ap (read_line w) same ∙ read_same w line fine
 other_read w line other low fine (inr p) =
     let power : form_cause w (Power p.0) ≡ None = ap (line_cause w) (sym p.1) ∙ line_fine w line fine in
-    let may : may_come w.section (At w.time) ≡ true = may_alike w.section p.0 w.time ∙ (passes w (Power p.0) power).may in
+    let may : is_in_order w.section (At w.time) ≡ true = may_alike w.section p.0 w.time ∙ (passes w (Power p.0) power).may in
     let now : Line = Ok (Own (At w.time)) in
     ap (read_line w) p.2
     ∙ read_same w now (of_line w now None (few_lines w line fine) (at_fine w low may))
     ∙ ap (λ (v : WorldState). let r : Result WorldState LineFault = Ok v in r)
     (same_made w p.0 ∙ sym (ap (after_line w) p.1))
 
--- ---- the time behind a line
+-- ---- the time after a line
 
 time_fits : (w : WorldState) (said : Said) → said_cause w said ≡ None → w.time ≤ max_time → time_after w.time (Ok said) ≤ max_time
 time_fits w (Own (At time)) fine low =

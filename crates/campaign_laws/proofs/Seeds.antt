@@ -38,10 +38,10 @@ use Rattle.campaign_world.specs.declared.summary.Totals.{Totals}
 use Rattle.campaign_world.specs.declared.section.Section.{Section}
 use Rattle.campaign_world.specs.declared.section.Section.TheVariants as section
 use Rattle.campaign_world.specs.declared.numbered.SentPayload.{SentPayload}
-use Rattle.campaign_world.specs.declared.numbered.MadeUplink.{MadeUplink}
+use Rattle.campaign_world.specs.declared.numbered.NumberedUplink.{NumberedUplink}
 use Rattle.campaign_world.specs.World.{WorldState, first_world}
 use Rattle.campaign_world.specs.Said.{said_in}
-use Rattle.campaign_world.specs.Causes.{may_come}
+use Rattle.campaign_world.specs.Causes.{is_in_order}
 use Rattle.campaign_world.specs.Making.{device_of, after_form}
 use Rattle.campaign_world.specs.Script.{one_line_more, read_lines, end_result, campaign_of}
 use Rattle.campaign_world.specs.Summary.{has_file, is_updated, with_device, totals_from, nothing_counted}
@@ -164,7 +164,7 @@ numbered_replicate count n x low high =
 
 -- another device may come
 abbrev pub TakesDevice : Section → Type 0
-TakesDevice here = (id hw rows offset : ℕ) (key : List ℕ) (descriptor : Option ℕ) (v1 k11 flash : Bool) → may_come here (Device id class.C hw rows offset key descriptor v1 k11 flash) ≡ true
+TakesDevice here = (id hw rows offset : ℕ) (key : List ℕ) (descriptor : Option ℕ) (v1 k11 flash : Bool) → is_in_order here (Device id class.C hw rows offset key descriptor v1 k11 flash) ≡ true
 
 -- so many devices have joined
 pub record Joined (image : List ℕ) (devices : ℕ) (w : WorldState) : Type 0 where
@@ -284,7 +284,7 @@ joined_stand image w j = record {
   stages = ap (λ (s : ServerState). length s.stages) j.server ∙ all_there;
   takes = j.events (omega arith);
   sent = ap (λ (ss : List SentPayload). length ss) j.sent;
-  ups = ap (λ (us : List MadeUplink). length us) j.ups;
+  ups = ap (λ (us : List NumberedUplink). length us) j.ups;
   next = ap (λ (s : ServerState). s.next) j.server;
   frags = λ n l h. absurd (omega (arith, l, h));
   each = λ n l h. (let o = j.each n l h in (

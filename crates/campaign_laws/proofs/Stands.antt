@@ -30,9 +30,9 @@ use Rattle.campaign_generator.specs.Forms.{forms_of_turn}
 use Rattle.campaign_world.specs.declared.section.Section.{Section}
 use Rattle.campaign_world.specs.declared.section.Section.TheVariants as section
 use Rattle.campaign_world.specs.declared.numbered.SentPayload.{SentPayload}
-use Rattle.campaign_world.specs.declared.numbered.MadeUplink.{MadeUplink}
+use Rattle.campaign_world.specs.declared.numbered.NumberedUplink.{NumberedUplink}
 use Rattle.campaign_world.specs.World.{WorldState}
-use Rattle.campaign_world.specs.Causes.{may_come, is_device, may_reach}
+use Rattle.campaign_world.specs.Causes.{is_in_order, is_device, may_reach}
 use Rattle.campaign_world.specs.Making.{made_by, with_device, after_form}
 use Rattle.campaign_world.proofs.FormCauses.{none as no_cause}
 use Rattle.campaign_server.proofs.LineItems.{numbered_more, numbered_put, numbered_there}
@@ -83,11 +83,11 @@ pub record IsPlan (plan : Plan) : Type 0 where
 
 -- events may come
 pub record Takes (here : Section) : Type 0 where
-  pub ask : (n : ℕ) → may_come here (Ask n) ≡ true
-  pub frag : may_come here Frag ≡ true
-  pub down : (s n word : ℕ) → may_come here (Down s n word) ≡ true
-  pub up : (u : ℕ) → may_come here (Up u) ≡ true
-  pub end : may_come here End ≡ true
+  pub ask : (n : ℕ) → is_in_order here (Ask n) ≡ true
+  pub frag : is_in_order here Frag ≡ true
+  pub down : (s n word : ℕ) → is_in_order here (Down s n word) ≡ true
+  pub up : (u : ℕ) → is_in_order here (Up u) ≡ true
+  pub end : is_in_order here End ≡ true
 
 pub takes_events : Takes section.Events
 takes_events = record { ask = λ n. refl; frag = refl; down = λ s n word. refl; up = λ u. refl; end = refl }
@@ -182,7 +182,7 @@ down_plays w payload n d s may device sent to =
     (no_cause w (Down payload n 0) (record { comes = may.takes.down payload n 0; ranges = refl; fits = refl }) may.device refl (rw sent to) refl refl refl refl)
     (rw (device, sent) refl)
 
--- the server behind an answer of device n
+-- the server after an answer of device n
 abbrev pub moved : ServerState → (n : ℕ) → Stage → Command → ServerState
 moved server n s a = record server { stages = slice_set server.stages (n - 1) (stage_after server.plan server.image s a) }
 
@@ -249,7 +249,7 @@ turn_plays w n d k s c a p may at_0 device key stage ask answer read silent =
     let y : WorldState = reached x n e in
     let ups : y.uplinks ≡ w.uplinks ++ made_by n u ∷ [] = ap (λ (us : List Uplink). w.uplinks ++ map (λ (z : Uplink). made_by n z) us) held in
     let last : numbered y.uplinks (length w.uplinks + 1) ≡ Some (made_by n u) =
-    ap (λ (us : List MadeUplink). numbered us (length w.uplinks + 1)) ups ∙ numbered_last w.uplinks (made_by n u) (length w.uplinks + 1) refl in
+    ap (λ (us : List NumberedUplink). numbered us (length w.uplinks + 1)) ups ∙ numbered_last w.uplinks (made_by n u) (length w.uplinks + 1) refl in
     both w (Ask n ∷ []) (Down (length w.sent + 1) n 0 ∷ Up (length w.uplinks + 1) ∷ []) (λ v. v ≡ x)
     (λ v. v ≡ turned w n (behind (w.lines + 1 + 1) c d) s c a u) (ask_plays w n k s c may key stage ask)
     (λ v is. subst (λ (z : WorldState). To z (Down (length w.sent + 1) n 0 ∷ Up (length w.uplinks + 1) ∷ []) (λ v. v ≡ turned w n (behind (w.lines + 1 + 1) c d) s c a u)) (sym is)
@@ -257,10 +257,10 @@ turn_plays w n d k s c a p may at_0 device key stage ask answer read silent =
     (down_plays x (length w.sent + 1) n d new (record { takes = takes_events; device = may.device }) device (numbered_last w.sent new (length w.sent + 1) refl) (same_test n))
     (λ v is. subst (λ (z : WorldState). To z (Up (length w.uplinks + 1) ∷ []) (λ v. v ≡ turned w n (behind (w.lines + 1 + 1) c d) s c a u)) (sym is)
     (weaker y (Up (length w.uplinks + 1) ∷ []) (λ v. v ≡ upped y n s a) (λ v. v ≡ turned w n (behind (w.lines + 1 + 1) c d) s c a u)
-    (λ v is. is ∙ ap (λ (us : List MadeUplink). record (turned w n e s c a u) { uplinks = us }) ups ∙ ap (λ (z : DeviceState). turned w n z s c a u) e_is)
+    (λ v is. is ∙ ap (λ (us : List NumberedUplink). record (turned w n e s c a u) { uplinks = us }) ups ∙ ap (λ (z : DeviceState). turned w n z s c a u) e_is)
     (up_plays y (length w.uplinks + 1) n p 0 s a takes_events (omega arith) last stage read (subst (λ (t : ℕ). time_answer_to t a ≡ None) (sym at_0) silent))))))
 
--- so it stands behind a turn of device n, where that takes it on and nothing is lost of the others
+-- so it stands after a turn of device n, where that takes it on and nothing is lost of the others
 pub turn_to : (image : List ℕ) (payloads answers from : ℕ) (P P' : ℕ → DeviceState → Stage → Type 0) (w : WorldState) (n : ℕ) → 1 ≤ n → n ≤ 8
     → Stand image payloads answers from P w → ((d : DeviceState) (s : Stage) → P n d s → TakesTurn image (P' n) d s)
     → ((m : ℕ) (d : DeviceState) (s : Stage) → (n ≡ m → ⊥) → P m d s → P' m d s)
@@ -344,7 +344,7 @@ frag_plays image w from takes image_is plan next low =
     (no_cause w Frag (record { comes = takes.frag; ranges = refl; fits = refl }) refl refl refl refl refl refl (rw (image_is, plan.size, plan.parity, plan.index, plan.group, next, more) refl))
     (rw (image_is, plan.size, plan.parity, plan.index, plan.group, next, more) refl)
 
--- so it stands behind the next fragment
+-- so it stands after the next fragment
 pub frag_to : (image : List ℕ) (payloads answers from : ℕ) (P : ℕ → DeviceState → Stage → Type 0) (w : WorldState) → payloads + 1 ≡ 16 + from → 1 ≤ from
     → from ≤ nb_frag_of (length image) 64 + 128 → Stand image payloads answers from P w → To w (Frag ∷ []) (Stand image (payloads + 1) answers (from + 1) P)
 frag_to image payloads answers from P w at first low k =
@@ -382,7 +382,7 @@ frag_to image payloads answers from P w at first low k =
 
 -- ---- a fragment reaches a device
 
--- so it stands behind a delivery of fragment j to device n
+-- so it stands after a delivery of fragment j to device n
 pub down_to : (image : List ℕ) (payloads answers from : ℕ) (P P' : ℕ → DeviceState → Stage → Type 0) (w : WorldState) (n j : ℕ) → 1 ≤ n → n ≤ 8
     → 1 ≤ j → j < from → Stand image payloads answers from P w
     → ((d : DeviceState) (s : Stage) → P n d s → (mark : ℕ) → ((behind mark (fragment_command image j) d).outbox ≡ []) × P' n (behind mark (fragment_command image j) d) s)

@@ -14,7 +14,7 @@ use Rattle.campaign_world.specs.World.{WorldState}
 use Rattle.campaign_world.specs.Report.{image_line, device_part, device_parts, report_of}
 use Rattle.campaign_laws.specs.Told.{report_over, report_with_line}
 
--- the parts of devices are those before one, its own and those behind it
+-- the parts of devices are those before one, its own and those after it
 parts_split : (image : List ℕ) (k from id : ℕ) (stages : List Stage) (devices : List DeviceState) (stage : Stage)
     (device : DeviceState) → slice_get stages k ≡ Some stage → slice_get devices k ≡ Some device → from + k ≡ id
     → device_parts image from stages devices
@@ -36,7 +36,7 @@ parts_split image (suc k) from id (x ∷ xs) (y ∷ ys) stage device s d is =
     ∙ sym (append_assoc (device_part image from x y) (device_parts image (from + 1) (take k xs) (take k ys))
     (device_part image id stage device ++ device_parts image (id + 1) (drop (suc k) xs) (drop (suc k) ys)))
 
--- texts, one behind another
+-- texts, one after another
 parts_on : (a b p x y z q end : List ℕ)
     → a ++ (b ++ ((p ++ ((x ++ (y ++ z)) ++ q)) ++ end)) ≡ (a ++ (b ++ p)) ++ (x ++ (y ++ (z ++ (q ++ end))))
 parts_on a b p x y z q end =
@@ -55,7 +55,7 @@ item_by xs id x true is there = absurd cc
 item_by xs zero x false is there = absurd cc
 item_by xs (suc id) x false is there = (there, omega arith)
 
--- the lines of its sessions stand behind those of the device and of its counts
+-- the lines of its sessions stand after those of the device and of its counts
 pub report_parted : (world : WorldState) (id : ℕ) (stage : Stage) (device : DeviceState)
     → ledger world.server id ≡ Some stage → numbered world.devices id ≡ Some device
     → report_of world ≡ report_over world id stage device (session_lines (same world.server.image) device.sessions)

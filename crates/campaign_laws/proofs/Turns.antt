@@ -1,4 +1,4 @@
--- What the turns of a seed's campaign make of a device: two before the fragments, four behind them.
+-- What the turns of a seed's campaign make of a device: two before the fragments, four after them.
 use Rattle.std.proofs.Common.{◌≡◌, ◌⊎◌, inl, inr, ℕ, zero, suc, ◌+◌, ◌-◌, ◌%◌, ◌^◌, ◌<◌, ◌≤◌, ◌==◌, nat_lt, min, true, false, List, [], None, Some, refl, sym, ap, ◌∙◌, subst, arith}
 use Rattle.frag_session.specs.declared.answers.Verdict.{Verdict as Shown}
 use Rattle.frag_session.specs.declared.answers.Verdict.TheVariants as shown
@@ -253,7 +253,7 @@ image_turn image d s x mark made plain session ours whole (is, next) =
       );
     })
 
--- the device behind its reboot
+-- the device after its reboot
 abbrev rebooted : (image : List ℕ) → DeviceState → DeviceState
 rebooted image d = record d {
   reboot = None;

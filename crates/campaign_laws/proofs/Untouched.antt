@@ -32,11 +32,11 @@ use Rattle.script_lines.specs.declared.forms.Form.TheVariants.{Header, Image, Gr
 use Rattle.campaign_world.specs.declared.section.Section.{Section}
 use Rattle.campaign_world.specs.declared.section.Section.TheVariants as section
 use Rattle.campaign_world.specs.declared.numbered.SentPayload.{SentPayload}
-use Rattle.campaign_world.specs.declared.numbered.MadeUplink.{MadeUplink}
+use Rattle.campaign_world.specs.declared.numbered.NumberedUplink.{NumberedUplink}
 use Rattle.campaign_world.specs.World.{WorldState, first_world}
 use Rattle.campaign_world.specs.Said.{Said, Own, Elsewhere, Reached, Line}
 use Rattle.campaign_world.specs.Honest.{has_raw, AreHonest}
-use Rattle.campaign_world.specs.Causes.{is_event_or_end, may_come, may_reach, form_cause, said_cause, line_cause, cause_of}
+use Rattle.campaign_world.specs.Causes.{is_event_or_end, is_in_order, may_reach, form_cause, said_cause, line_cause, cause_of}
 use Rattle.campaign_world.specs.Making.{with_plan, with_sent, with_device, after_event_at, after_answer, after_up, at_events, device_of, after_form, after_said}
 use Rattle.campaign_world.specs.Script.{one_line_more, after_line, read_lines}
 use Rattle.campaign_server.proofs.LineItems.{numbered_push}
@@ -223,7 +223,7 @@ read_waits w dev (Ok cs) k =
     (time_calm (with_answers w.server dev cs (ledger w.server dev)).stages (Some dev) (time_answer w.time cs) (time_port w.time cs))
 read_waits w dev (Err refusal) k = record { none_sent = λ plan. absurd cc; all = λ plan. absurd cc; devices = k.devices; sent = k.sent }
 
-up_waits : (w : WorldState) (o : Option MadeUplink) → Waits w → Waits (at_events (after_up w o))
+up_waits : (w : WorldState) (o : Option NumberedUplink) → Waits w → Waits (at_events (after_up w o))
 unfolding uplink_step
 up_waits w None k = record { none_sent = λ plan. absurd cc; all = λ plan. absurd cc; devices = k.devices; sent = k.sent }
 up_waits w (Some made) k = read_waits w made.device (reading_of made.uplink.port Upwards made.uplink.payload) k

@@ -139,7 +139,7 @@ opened_by lines group sent id time n t v l bytes line d line_is is at here down 
   },
 )
 
--- ---- a device behind its lines
+-- ---- a device after its lines
 
 comes : (lines : List Line) (group : Option PlanGroup) (sent : List SentPayload) (id time n : ℕ) (line : Line)
     (d : DeviceState) (e : Event) → numbered lines n ≡ Some line → event_in id group sent time n line ≡ Some e
@@ -164,7 +164,7 @@ happens lines group sent id time k line d e line_is is here h =
 
 -- ---- what lines let happen, one line more
 
--- the time behind lines
+-- the time after lines
 times : (time : ℕ) → (lines : List Line) → ℕ
 times time [] = time
 times time (line ∷ lines) = times (time_after time line) lines
@@ -189,7 +189,7 @@ unfolding times
 times_on time [] line = refl
 times_on time (x ∷ xs) line = times_on (time_after time x) xs line
 
--- a device behind so many lines
+-- a device after so many lines
 record IsBehind (lines : List Line) (group : Option PlanGroup) (sent : List SentPayload) (id time k : ℕ) (d : DeviceState) : Type 0 where
   inside : k ≤ length lines
   time_is : time ≡ times 0 (take k lines)

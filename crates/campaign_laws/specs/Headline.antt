@@ -112,7 +112,7 @@ Delivers lines sent id n down = (line : Line) × (number : ℕ) × (word : ℕ) 
 abbrev pub campaign_before : (image : List ℕ) → (lines : List Line) → (n : ℕ) → Result WorldState LineFault
 campaign_before image lines n = read_lines (Ok (first_world image)) (take (n - 1) lines)
 
--- what comes this way to device id at line n, behind a reboot that is due, is heard: its receiver is open, and the server's
+-- what comes this way to device id at line n, after a reboot that is due, is heard: its receiver is open, and the server's
 -- session takes what comes by that group. By unicast a device of class C hears always
 pub record Listens (image : List ℕ) (lines : List Line) (id n : ℕ) (to : To) (world : WorldState) (device : DeviceState) : Type 0 where
   pub before : campaign_before image lines n ≡ Ok world

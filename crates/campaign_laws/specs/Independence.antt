@@ -26,7 +26,7 @@ device_in line = None
 abbrev pub first_devices : (lines : List Line) → List DeviceState
 first_devices lines = filter_map device_in lines
 
--- the time behind a line: an `at` line tells it
+-- the time after a line: an `at` line tells it
 abbrev pub time_after : (now : ℕ) → Line → ℕ
 time_after now (Ok (Own (At time))) = time
 time_after now line = now
@@ -55,14 +55,14 @@ history_of id group sent time number (line ∷ rest) =
     option_to_list (event_in id group sent time number line)
     ++ history_of id group sent (time_after time line) (number + 1) rest
 
--- the device of a script's device line with this ID, behind what these first lines of the script let happen at it
+-- the device of a script's device line with this ID, after what these first lines of the script let happen at it
 abbrev pub record_behind : (lines first : List Line) → Option PlanGroup → List SentPayload → (id : ℕ) → Option DeviceState
 record_behind lines first group sent id =
     option_map (λ device. fold after_event device (history_of id group sent 0 1 first)) (numbered (first_devices lines) id)
 
 -- ---- the law
 
--- after all lines: each device line's device, behind its own history
+-- after all lines: each device line's device, after its own history
 abbrev pub own_record : (lines : List Line) → Option PlanGroup → List SentPayload → (id : ℕ) → Option DeviceState
 own_record lines group sent id = record_behind lines lines group sent id
 

@@ -15,7 +15,7 @@ use Rattle.campaign_server.specs.Plan.{Plan}
 use Rattle.wire_base.specs.Numbered.{numbered}
 use Rattle.campaign_server.specs.Answers.{stage_after}
 use Rattle.script_lines.specs.declared.forms.Form.TheVariants.{Up}
-use Rattle.campaign_world.specs.declared.numbered.MadeUplink.{MadeUplink}
+use Rattle.campaign_world.specs.declared.numbered.NumberedUplink.{NumberedUplink}
 use Rattle.campaign_world.specs.World.{WorldState, first_world}
 use Rattle.campaign_world.specs.Said.{Own, Line}
 use Rattle.campaign_world.specs.Honest.{AreHonest}
@@ -59,7 +59,7 @@ PastMovesNone = (plan : Plan) (image : List ℕ) (stage : Stage) (command : Comm
 -- an uplink of one command that has moved a stage moves none when it comes again, whatever lines came between; those before it
 -- are honest
 abbrev pub MovesOnce : Type 0
-MovesOnce = (image : List ℕ) (line : Line) (before between : List Line) (number : ℕ) (world later : WorldState) (made : MadeUplink) (command : Command)
+MovesOnce = (image : List ℕ) (line : Line) (before between : List Line) (number : ℕ) (world later : WorldState) (made : NumberedUplink) (command : Command)
     → All (λ b. b < 2 ^ 8) image → is_image image ≡ true
     → AllFit world.server.plan.index before → AreHonest world.server.plan.index before → read_lines (Ok (first_world image)) before ≡ Ok world → line ≡ Ok (Own (Up number))
     → read_lines (Ok world) (line ∷ between) ≡ Ok later → numbered world.uplinks number ≡ Some made

@@ -8,7 +8,7 @@ use Rattle.report_lines.specs.Sessions.{same, lines_below, lines_above}
 use Rattle.campaign_world.specs.World.{WorldState}
 use Rattle.campaign_world.specs.Report.{image_line, device_parts}
 
--- the report before the part of a device, and behind it
+-- the report before the part of a device, and after it
 abbrev pub text_before : WorldState → (id : ℕ) → List ℕ
 text_before world id =
     codes "fuota report 1\n" ⧺ image_line world.server

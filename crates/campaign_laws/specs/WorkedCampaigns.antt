@@ -41,7 +41,7 @@ refused line cause = Err (record { line = line; why = cause })
 abbrev pub one_device : List ℕ → List ℕ
 one_device events = codes "fuota 1\nimage 13 0\ndevice 1 c 1 0 5 00000000000000000000000000000000\n" ++ events
 
--- which image formats the devices know behind a script
+-- which image formats the devices know after a script
 abbrev pub formats_behind : (script : List ℕ) → List ℕ
 formats_behind script = known_in (campaign_of worked_image (said_in script))
   where
@@ -49,7 +49,7 @@ formats_behind script = known_in (campaign_of worked_image (said_in script))
     known_in (Err fault) = []
     known_in (Ok world) = map (λ device. device.slots.formats) world.devices
 
--- which kinds of root keys the plan has behind a script, and behind them those of the devices
+-- which kinds of root keys the plan has after a script, and after them those of the devices
 abbrev pub roots_behind : (script : List ℕ) → List RootKind
 roots_behind script = roots_in (campaign_of worked_image (said_in script))
   where

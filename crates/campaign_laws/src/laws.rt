@@ -53,7 +53,7 @@ pub fn worked_campaigns()
     ensures counted { AreCounted }
 {}
 
-/// Whatever image and accepted script there are: the record of each device is its own first one, behind the events of the
+/// Whatever image and accepted script there are: the record of each device is its own first one, after the events of the
 /// script that name it alone, all its uplinks taken after each.
 pub fn devices_are_independent()
     ensures { DevicesAreIndependent }

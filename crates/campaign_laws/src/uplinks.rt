@@ -9,5 +9,6 @@ use campaign_world::World;
 pub fn each_uplink_moves_once(world: &World, number: u64)
     ensures { MovesOnceIn world.now number }
 {
+    // what the call promises of the uplink is what the law tells of
     let _uplink = world.uplink(number);
 }

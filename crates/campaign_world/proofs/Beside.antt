@@ -13,7 +13,7 @@ use Rattle.campaign_world.specs.Report.{named_part, found_lines, numbered_lines}
 use Rattle.campaign_world.specs.HeldWorld.{HeldCampaign, Becomes, Plays}
 use Rattle.campaign_world.specs.PhaseInside.{section_by}
 
--- where events may come, more of them come behind one
+-- where events may come, more of them come after one
 pub plays_on : (lines : ℕ) (has_ended : Bool) (old new : HeldCampaign) (r : Result (Unit {0}) AllocError) (after : WorldState → WorldState)
     → takes_events (section_by has_ended) ≡ true → Plays lines old new r after
     → Becomes lines (section_by has_ended) (section_by has_ended) old new r after

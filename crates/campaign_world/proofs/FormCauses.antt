@@ -20,19 +20,14 @@ use Rattle.report_lines.specs.declared.faults.LineWhy.TheVariants as why
 use Rattle.campaign_world.specs.declared.section.Section.{Section}
 use Rattle.campaign_world.specs.declared.section.Section.TheVariants as place
 use Rattle.campaign_world.specs.World.{WorldState}
-use Rattle.campaign_world.specs.Causes.{is_device, is_event_or_end, may_come, fits_script, names_device, has_flash, has_come, is_to_come, fits_flash, fits_payload, has_more, form_cause, line_cause, cause_of}
+use Rattle.campaign_world.specs.Causes.{is_device, is_event_or_end, is_in_order, fits_script, names_device, has_flash, is_available, is_not_past, fits_flash, fits_payload, has_more, form_cause, line_cause, cause_of}
 use Rattle.campaign_world.specs.Said.{Line, own, line_of}
 use Rattle.script_lines.specs.Forms.{form_of}
-use Rattle.campaign_world.specs.declared.numbered.SentPayload.{SentPayload}
-use Rattle.campaign_world.specs.declared.numbered.MadeUplink.{MadeUplink}
 use Rattle.script_lines.specs.Limits.{max_lines, max_line, max_time, max_rows, max_devices}
 use Rattle.frag_model.specs.Limits.{max_pieces}
 use Rattle.campaign_world.specs.HeldLate.{Late}
 use Rattle.campaign_world.specs.HeldWorld.{HeldCampaign, held_with, world_of, IsFine, IsTested}
-use Rattle.campaign_world.specs.declared.world.planning.Planning.{Planning}
-use Rattle.campaign_world.specs.declared.world.phase.Phase.{Phase}
-use Rattle.campaign_world.specs.declared.world.phase.Phase.TheVariants as phases
-use Rattle.campaign_world.specs.PhaseInside.{IsPhase, IsPlanningOf, held_of, section_of, section_by}
+use Rattle.campaign_world.specs.PhaseInside.{section_by}
 use Rattle.report_lines.specs.declared.faults.LineError.{LineError}
 use Rattle.flash_session.specs.Layout.{records_place}
 use Rattle.campaign_world.specs.Making.{device_of, formats_of, span_of}
@@ -40,71 +35,19 @@ use Rattle.script_lines.specs.declared.forms.Class.{Class}
 use Rattle.script_lines.specs.declared.forms.Class.TheVariants as class
 use Rattle.campaign_world.specs.WorldInside.{IsPlanned, IsPlanning, IsSized, IsWindowed, IsToBegin}
 
-pub order : (world : WorldState) (form : Form) → may_come world.section form ≡ false → form_cause world form ≡ Some why.Order
+pub order : (world : WorldState) (form : Form) → is_in_order world.section form ≡ false → form_cause world form ≡ Some why.Order
 unfolding form_cause
 order world form fails = rw (fails) refl
 
-pub range : (world : WorldState) (form : Form) → may_come world.section form ≡ true → in_range form ≡ false → form_cause world form ≡ Some why.Range
-unfolding form_cause
-range world form comes fails = rw (comes, fails) refl
-
-pub script : (world : WorldState) (form : Form) → may_come world.section form ≡ true → in_range form ≡ true
-    → fits_script (length world.server.image) (length world.devices) form ≡ false → form_cause world form ≡ Some why.Range
-unfolding form_cause
-script world form comes ranges fails = rw (comes, ranges, fails) refl
-
 -- what holds of a form before its device is looked at
 pub record Fits (world : WorldState) (form : Form) : Type 0 where
-  pub comes : may_come world.section form ≡ true
+  pub comes : is_in_order world.section form ≡ true
   pub ranges : in_range form ≡ true
   pub fits : fits_script (length world.server.image) (length world.devices) form ≡ true
 
-pub device : (world : WorldState) (form : Form) → Fits world form → names_device (length world.devices) form ≡ false → form_cause world form ≡ Some why.Device
-unfolding form_cause
-device world form so_far fails = rw (so_far.comes, so_far.ranges, so_far.fits, fails) refl
-
-pub unflashed : (world : WorldState) (form : Form) → Fits world form → names_device (length world.devices) form ≡ true
-    → has_flash world.flash form ≡ false → form_cause world form ≡ Some why.Device
-unfolding form_cause
-unflashed world form so_far names fails = rw (so_far.comes, so_far.ranges, so_far.fits, names, fails) refl
-
-pub unsent : (world : WorldState) (form : Form) → Fits world form → names_device (length world.devices) form ≡ true
-    → has_flash world.flash form ≡ true → has_come world.sent world.uplinks world.time form ≡ false → form_cause world form ≡ Some why.Unsent
-unfolding form_cause
-unsent world form so_far names flash fails = rw (so_far.comes, so_far.ranges, so_far.fits, names, flash, fails) refl
-
-pub time : (world : WorldState) (form : Form) → Fits world form → names_device (length world.devices) form ≡ true
-    → has_flash world.flash form ≡ true → has_come world.sent world.uplinks world.time form ≡ true → is_to_come world.time form ≡ false → form_cause world form ≡ Some why.Time
-unfolding form_cause
-time world form so_far names flash come fails =
-    rw (so_far.comes, so_far.ranges, so_far.fits, names, flash, come, fails) refl
-
-pub full : (world : WorldState) (form : Form) → Fits world form → names_device (length world.devices) form ≡ true
-    → has_flash world.flash form ≡ true → has_come world.sent world.uplinks world.time form ≡ true
-    → is_to_come world.time form ≡ true → fits_flash (length world.flash) form ≡ false → form_cause world form ≡ Some why.Limit
-unfolding form_cause
-full world form so_far names flash come timed fails =
-    rw (so_far.comes, so_far.ranges, so_far.fits, names, flash, come, timed, fails) refl
-
-pub long : (world : WorldState) (form : Form) → Fits world form → names_device (length world.devices) form ≡ true
-    → has_flash world.flash form ≡ true → has_come world.sent world.uplinks world.time form ≡ true
-    → is_to_come world.time form ≡ true → fits_flash (length world.flash) form ≡ true → fits_payload form ≡ false
-    → form_cause world form ≡ Some why.Limit
-unfolding form_cause
-long world form so_far names flash come timed room fails =
-    rw (so_far.comes, so_far.ranges, so_far.fits, names, flash, come, timed, room, fails) refl
-
-pub limit : (world : WorldState) (form : Form) → Fits world form → names_device (length world.devices) form ≡ true
-    → has_flash world.flash form ≡ true → has_come world.sent world.uplinks world.time form ≡ true
-    → is_to_come world.time form ≡ true → fits_flash (length world.flash) form ≡ true → fits_payload form ≡ true
-    → has_more world.server form ≡ false → form_cause world form ≡ Some why.Limit
-unfolding form_cause
-limit world form so_far names flash come timed room short fails =
-    rw (so_far.comes, so_far.ranges, so_far.fits, names, flash, come, timed, room, short, fails) refl
-
 pub none : (world : WorldState) (form : Form) → Fits world form → names_device (length world.devices) form ≡ true
-    → has_flash world.flash form ≡ true → has_come world.sent world.uplinks world.time form ≡ true
-    → is_to_come world.time form ≡ true → fits_flash (length world.flash) form ≡ true → fits_payload form ≡ true
+    → has_flash world.flash form ≡ true → is_available world.sent world.uplinks world.time form ≡ true
+    → is_not_past world.time form ≡ true → fits_flash (length world.flash) form ≡ true → fits_payload form ≡ true
     → has_more world.server form ≡ true → form_cause world form ≡ None
 unfolding form_cause
 none world form so_far names flash come timed room short more =
@@ -128,95 +71,16 @@ counts_left : (group : Option PlanGroup) → is_group group ≡ true → has_no_
 counts_left None fine = refl
 counts_left (Some group) fine = let less = ltb-true group.min group.max (and_parts (nat_lt group.min group.max) (nat_le group.id 3) fine).0 in ne_eqb group.min group.max (omega (arith, less))
 
-first_fragment : (image : List ℕ) (plan : Plan) → is_image image ≡ true → 1 ≤ plan.frag_size → is_group plan.group ≡ true → is_ok (next_fragment (first_server image plan)) ≡ true
+pub first_fragment : (image : List ℕ) (plan : Plan) → is_image image ≡ true → 1 ≤ plan.frag_size → is_group plan.group ≡ true → is_ok (next_fragment (first_server image plan)) ≡ true
 unfolding next_fragment
 first_fragment image plan fine some grouped =
     let bound = (div_ceil_times (length image) plan.frag_size some).0 in
     let pieces : 1 ≤ nb_frag_of (length image) plan.frag_size = some_piece (length image) plan.frag_size (nb_frag_of (length image) plan.frag_size) (omega (arith, image_long image fine)) bound in
     rw (not_below (last_fragment (first_server image plan)) (pieces_and _ _ pieces), counts_left plan.group grouped) refl
 
-first_status : (image : List ℕ) (plan : Plan) → is_group plan.group ≡ true → is_some (status_to_all (first_server image plan)) ≡ true
+pub first_status : (image : List ℕ) (plan : Plan) → is_group plan.group ≡ true → is_some (status_to_all (first_server image plan)) ≡ true
 unfolding status_to_all
 first_status image plan grouped = rw (counts_left plan.group grouped) refl
-
--- before the first event something is left to send for each form that may come
-pub unmade_sends : (image : List ℕ) (section : Section) (plan : Plan) (devices : List Late) (form : Form) → is_image image ≡ true
-    → IsPlanned image section plan devices → may_come section form ≡ true → has_more (first_server image plan) form ≡ true
-unmade_sends image section plan devices form.Frag fine planned comes = by_section section planned comes
-  where
-    sized : IsSized image plan devices → is_ok (next_fragment (first_server image plan)) ≡ true
-    sized is = first_fragment image plan fine (leb-true _ _ (and_parts _ _ (and_parts _ _ is.size).0).0) is.grouped
-
-    by_section : (section : Section) → IsPlanned image section plan devices → may_come section form.Frag ≡ true → is_ok (next_fragment (first_server image plan)) ≡ true
-    by_section place.Header planned comes = absurd cc
-    by_section place.Image planned comes = absurd cc
-    by_section place.Group planned comes = absurd cc
-    by_section place.Window planned comes = absurd cc
-    by_section place.Device planned comes = absurd cc
-    by_section place.Devices planned comes = sized planned.0
-    by_section place.Events planned comes = absurd planned
-    by_section place.Ended planned comes = absurd cc
-unmade_sends image section plan devices (form.Ask device) fine planned comes = refl
-unmade_sends image section plan devices form.Status fine planned comes = by_section section planned comes
-  where
-    by_section : (section : Section) → IsPlanned image section plan devices → may_come section form.Status ≡ true → is_some (status_to_all (first_server image plan)) ≡ true
-    by_section place.Header planned comes = absurd cc
-    by_section place.Image planned comes = absurd cc
-    by_section place.Group planned comes = absurd cc
-    by_section place.Window planned comes = absurd cc
-    by_section place.Device planned comes = absurd cc
-    by_section place.Devices planned comes = first_status image plan planned.0.grouped
-    by_section place.Events planned comes = absurd planned
-    by_section place.Ended planned comes = absurd cc
-unmade_sends image section plan devices form.Header fine planned comes = refl
-unmade_sends image section plan devices (form.Image frag_size parity index) fine planned comes = refl
-unmade_sends image section plan devices (form.Group id addr key min max) fine planned comes = refl
-unmade_sends image section plan devices (form.WindowC start timeout freq dr) fine planned comes = refl
-unmade_sends image section plan devices (form.WindowB start periodicity timeout freq dr) fine planned comes = refl
-unmade_sends image section plan devices (form.Device id class hw rows offset key descriptor v1 k11 flash) fine planned comes = refl
-unmade_sends image section plan devices (form.At time) fine planned comes = refl
-unmade_sends image section plan devices (form.Wake device) fine planned comes = refl
-unmade_sends image section plan devices (form.Migrate device) fine planned comes = refl
-unmade_sends image section plan devices (form.Power device) fine planned comes = refl
-unmade_sends image section plan devices (form.Down number device word) fine planned comes = refl
-unmade_sends image section plan devices (form.Raw device port payload word) fine planned comes = refl
-unmade_sends image section plan devices (form.Air number device word) fine planned comes = refl
-unmade_sends image section plan devices (form.RawAir device bytes word) fine planned comes = refl
-unmade_sends image section plan devices (form.Up number) fine planned comes = refl
-unmade_sends image section plan devices form.End fine planned comes = refl
-
--- so it is where a plan is told
-pub planned_from : (phase : Phase) (planning : Planning) (form : Form) → phase ≡ phases.Planning planning → IsPhase phase → may_come (section_of phase) form ≡ true
-    → has_more (held_of phase).server form ≡ true
-planned_from phase planning form is planned comes =
-    let here : IsPlanningOf planning = rw is at planned in
-    rw (is) (unmade_sends planning.image.items planning.section planning.plan planning.devices.items form here.image_is here.planned (rw is at comes))
-
--- ---- what the tests of the code say, of the campaign that is stood for
-
-pub played_from : (phase : Phase) (campaign : HeldCampaign) (has_ended : Bool) (f : Form) (test : Bool) → phase ≡ phases.Playing campaign has_ended
-    → test ≡ has_more campaign.server f → has_more (held_of phase).server f ≡ test
-played_from phase campaign has_ended f test is gives = rw (is) (sym gives)
-
-pub fits_in : (image : List ℕ) (held : List Late) (devices : List DeviceState) (f : Form) (test : Bool) (size count : ℕ)
-    → size ≡ length image → count ≡ length held → length devices ≡ length held → test ≡ fits_script size count f
-    → fits_script (length image) (length devices) f ≡ test
-fits_in image held devices f test size count size_is count_is long is = rw (long, ← count_is, ← size_is) (sym is)
-
-pub names_in : (held : List Late) (devices : List DeviceState) (f : Form) (test : Bool) (count : ℕ)
-    → count ≡ length held → length devices ≡ length held → test ≡ names_device count f → names_device (length devices) f ≡ test
-names_in held devices f test count count_is long is = rw (long, ← count_is) (sym is)
-
-pub flash_in : (ids : List ℕ) (f : Form) (test : Bool) (found : List ℕ) → found ≡ ids → test ≡ has_flash found f
-    → has_flash ids f ≡ test
-flash_in ids f test found found_is is = rw (← found_is) (sym is)
-
-pub room_in : (ids : List ℕ) (f : Form) (test : Bool) (count : ℕ) (found : List ℕ) → found ≡ ids → test ≡ fits_flash count f
-    → count ≡ length found → fits_flash (length ids) f ≡ test
-room_in ids f test count found found_is is count_is = rw (← found_is, ← count_is) (sym is)
-
-pub timed_in : (now : ℕ) (f : Form) (test : Bool) (t : ℕ) → t ≡ now → test ≡ is_to_come t f → is_to_come now f ≡ test
-timed_in now f test t now_is is = rw (← now_is) (sym is)
 
 -- an image line that is in range has a fragment size from 1 to 239
 pub size_in_range : (f : Form) → in_range f ≡ true → (frag_size parity index : ℕ) → f ≡ form.Image frag_size parity index → (1 ≤ frag_size) × (frag_size ≤ 239)
@@ -274,13 +138,13 @@ the_form world found form cause is gives = rw (is) gives
 -- ---- a form of which no cause holds
 
 pub record Passes (world : WorldState) (form : Form) : Type 0 where
-  pub comes : may_come world.section form ≡ true
+  pub comes : is_in_order world.section form ≡ true
   pub ranges : in_range form ≡ true
   pub fits : fits_script (length world.server.image) (length world.devices) form ≡ true
   pub names : names_device (length world.devices) form ≡ true
   pub flash : has_flash world.flash form ≡ true
-  pub come : has_come world.sent world.uplinks world.time form ≡ true
-  pub timed : is_to_come world.time form ≡ true
+  pub come : is_available world.sent world.uplinks world.time form ≡ true
+  pub timed : is_not_past world.time form ≡ true
   pub room : fits_flash (length world.flash) form ≡ true
   pub short : fits_payload form ≡ true
 
@@ -292,13 +156,13 @@ passed false cause rest is = absurd cc
 pub passes : (world : WorldState) (form : Form) → form_cause world form ≡ None → Passes world form
 unfolding form_cause
 passes world form fine =
-    let one = passed (may_come world.section form) _ _ fine in
+    let one = passed (is_in_order world.section form) _ _ fine in
     let two = passed (in_range form && fits_script (length world.server.image) (length world.devices) form) _ _ one.1 in
     let both = and_parts _ _ two.0 in
     let three = passed (names_device (length world.devices) form && has_flash world.flash form) _ _ two.1 in
     let named = and_parts _ _ three.0 in
-    let four = passed (has_come world.sent world.uplinks world.time form) _ _ three.1 in
-    let five = passed (is_to_come world.time form) _ _ four.1 in
+    let four = passed (is_available world.sent world.uplinks world.time form) _ _ three.1 in
+    let five = passed (is_not_past world.time form) _ _ four.1 in
     let six = passed (fits_flash (length world.flash) form && fits_payload form) _ _ five.1 in
     let last = and_parts _ _ six.0 in
     record {
@@ -318,28 +182,12 @@ passes world form fine =
 named_within : (count device : ℕ) → is_device count device ≡ true → (1 ≤ device) × (device ≤ count)
 named_within count device is = let both = and_parts _ _ is in (leb-true 1 device both.0, leb-true device count both.1)
 
-pub woken_within : (count : ℕ) (f : Form) (device : ℕ) → names_device count f ≡ true → f ≡ form.Wake device → (1 ≤ device) × (device ≤ count)
-woken_within count f device names is = named_within count device (rw is at names)
-
-pub migrated_within : (count : ℕ) (f : Form) (device : ℕ) → names_device count f ≡ true → f ≡ form.Migrate device → (1 ≤ device) × (device ≤ count)
-migrated_within count f device names is = named_within count device (rw is at names)
-
-pub powered_within : (count : ℕ) (f : Form) (device : ℕ) → names_device count f ≡ true → f ≡ form.Power device → (1 ≤ device) × (device ≤ count)
-powered_within count f device names is = named_within count device (rw is at names)
-
-pub asked_within : (count : ℕ) (f : Form) (device : ℕ) → names_device count f ≡ true → f ≡ form.Ask device → (1 ≤ device) × (device ≤ count)
-asked_within count f device names is = named_within count device (rw is at names)
-
-pub reached_within : (count : ℕ) (f : Form) (number device word : ℕ) → names_device count f ≡ true → f ≡ form.Down number device word → (1 ≤ device) × (device ≤ count)
-reached_within count f number device word names is = named_within count device (rw is at names)
-
-pub word_within : (f : Form) (number device word : ℕ) → in_range f ≡ true → f ≡ form.Down number device word → word < 2 ^ 32
-unfolding in_range
-word_within f number device word ranges is = let fits : nat_lt word (2 ^ 32) ≡ true = rw is at ranges in ltb-true _ _ fits
-
-pub struck_within : (count : ℕ) (f : Form) (device port : ℕ) (payload : List ℕ) (word : ℕ) → names_device count f ≡ true
-    → f ≡ form.Raw device port payload word → (1 ≤ device) × (device ≤ count)
-struck_within count f device port payload word names is = named_within count device (rw is at names)
+-- so an ID fits a byte
+pub named_few : (inside held : HeldCampaign) (device : ℕ) → inside ≡ held → length inside.devices ≤ 64
+    → is_device (length held.devices) device ≡ true → device ≤ 64
+named_few inside held device same few is =
+    let last = (named_within (length held.devices) device is).1 in
+    omega (arith, last, subst (λ (h : HeldCampaign). length h.devices ≤ 64) same few)
 
 -- a raw line that is in range has a port and a random word, and one that fits has a payload
 pub record Striking (port word : ℕ) : Type 0 where
@@ -353,29 +201,6 @@ striking f device port payload word ranges is =
     let both = and_parts (nat_le port 255) (nat_lt word (2 ^ 32)) all in
     record { port_fits = leb-true _ _ both.0; word_fits = ltb-true _ _ both.1 }
 
-pub aired_within : (count : ℕ) (f : Form) (number device word : ℕ) → names_device count f ≡ true → f ≡ form.Air number device word
-    → (1 ≤ device) × (device ≤ count)
-aired_within count f number device word names is = named_within count device (rw is at names)
-
-pub air_word_within : (f : Form) (number device word : ℕ) → in_range f ≡ true → f ≡ form.Air number device word → word < 2 ^ 32
-unfolding in_range
-air_word_within f number device word ranges is =
-    let fits : nat_lt word (2 ^ 32) ≡ true = rw is at ranges in ltb-true _ _ fits
-
-pub heard_within : (count : ℕ) (f : Form) (device : ℕ) (bytes : List ℕ) (word : ℕ) → names_device count f ≡ true
-    → f ≡ form.RawAir device bytes word → (1 ≤ device) × (device ≤ count)
-heard_within count f device bytes word names is = named_within count device (rw is at names)
-
-pub raw_air_word_within : (f : Form) (device : ℕ) (bytes : List ℕ) (word : ℕ) → in_range f ≡ true
-    → f ≡ form.RawAir device bytes word → word < 2 ^ 32
-unfolding in_range
-raw_air_word_within f device bytes word ranges is =
-    let fits : nat_lt word (2 ^ 32) ≡ true = rw is at ranges in ltb-true _ _ fits
-
-pub payload_within : (f : Form) (device port : ℕ) (payload : List ℕ) (word : ℕ) → fits_payload f ≡ true → f ≡ form.Raw device port payload word
-    → length payload ≤ 242
-payload_within f device port payload word short is = let fits : nat_le (length payload) 242 ≡ true = rw is at short in leb-true _ _ fits
-
 pub time_within : (f : Form) (time : ℕ) → in_range f ≡ true → f ≡ form.At time → time ≤ max_time
 unfolding in_range
 time_within f time ranges is = let fits : nat_le time max_time ≡ true = rw is at ranges in leb-true _ _ fits
@@ -387,7 +212,7 @@ some_devices zero = ([], refl)
 some_devices (suc n) = let more = some_devices n in (device_of class.C 0 0 0 [] None false false false ∷ more.0, ap suc more.1)
 
 pub fine_of : (lines : ℕ) (section : Section) (kept : Option LineError) (held : HeldCampaign) (form : Form)
-    → IsFine (held_with lines section kept held) form → (may_come section form ≡ true) × IsTested held form
+    → IsFine (held_with lines section kept held) form → (is_in_order section form ≡ true) × IsTested held form
 fine_of lines section kept held form fine =
     let some = some_devices (length held.devices) in
     let all = passes (world_of (held_with lines section kept held) some.0) form (fine some.0 some.1) in (
@@ -396,7 +221,7 @@ fine_of lines section kept held form fine =
         ranges = all.ranges;
         fits = subst (λ (n : ℕ). fits_script (length held.server.image) n form ≡ true) some.1 all.fits;
         names = subst (λ (n : ℕ). names_device n form ≡ true) some.1 all.names;
-        come = all.come;
+        available = all.come;
         short = all.short;
       },
     )
@@ -414,31 +239,31 @@ at_events_only test one two three four five six place.Devices comes = inl refl
 at_events_only test one two three four five six place.Events comes = inr refl
 at_events_only test one two three four five six place.Ended comes = absurd cc
 
-pub event_at : (s : Section) (f : Form) → is_event_or_end f ≡ true → may_come s f ≡ true → (s ≡ place.Devices) ⊎ (s ≡ place.Events)
+pub event_at : (s : Section) (f : Form) → is_event_or_end f ≡ true → is_in_order s f ≡ true → (s ≡ place.Devices) ⊎ (s ≡ place.Events)
 event_at s form.Header event comes = absurd cc
 event_at s (form.Image frag_size parity index) event comes = absurd cc
 event_at s (form.Group id addr key min max) event comes = absurd cc
 event_at s (form.WindowC start timeout freq dr) event comes = absurd cc
 event_at s (form.WindowB start periodicity timeout freq dr) event comes = absurd cc
 event_at s (form.Device id class hw rows offset key descriptor v1 k11 flash) event comes = absurd cc
-event_at s (form.At time) event comes = at_events_only (λ (x : Section). may_come x (form.At time)) refl refl refl refl refl refl s comes
-event_at s (form.Wake device) event comes = at_events_only (λ (x : Section). may_come x (form.Wake device)) refl refl refl refl refl refl s comes
-event_at s (form.Migrate device) event comes = at_events_only (λ (x : Section). may_come x (form.Migrate device)) refl refl refl refl refl refl s comes
-event_at s (form.Power device) event comes = at_events_only (λ (x : Section). may_come x (form.Power device)) refl refl refl refl refl refl s comes
-event_at s (form.Ask device) event comes = at_events_only (λ (x : Section). may_come x (form.Ask device)) refl refl refl refl refl refl s comes
-event_at s form.Frag event comes = at_events_only (λ (x : Section). may_come x form.Frag) refl refl refl refl refl refl s comes
-event_at s form.Status event comes = at_events_only (λ (x : Section). may_come x form.Status) refl refl refl refl refl refl s comes
-event_at s (form.Down number device word) event comes = at_events_only (λ (x : Section). may_come x (form.Down number device word)) refl refl refl refl refl refl s comes
-event_at s (form.Raw device port payload word) event comes = at_events_only (λ (x : Section). may_come x (form.Raw device port payload word)) refl refl refl refl refl refl s comes
+event_at s (form.At time) event comes = at_events_only (λ (x : Section). is_in_order x (form.At time)) refl refl refl refl refl refl s comes
+event_at s (form.Wake device) event comes = at_events_only (λ (x : Section). is_in_order x (form.Wake device)) refl refl refl refl refl refl s comes
+event_at s (form.Migrate device) event comes = at_events_only (λ (x : Section). is_in_order x (form.Migrate device)) refl refl refl refl refl refl s comes
+event_at s (form.Power device) event comes = at_events_only (λ (x : Section). is_in_order x (form.Power device)) refl refl refl refl refl refl s comes
+event_at s (form.Ask device) event comes = at_events_only (λ (x : Section). is_in_order x (form.Ask device)) refl refl refl refl refl refl s comes
+event_at s form.Frag event comes = at_events_only (λ (x : Section). is_in_order x form.Frag) refl refl refl refl refl refl s comes
+event_at s form.Status event comes = at_events_only (λ (x : Section). is_in_order x form.Status) refl refl refl refl refl refl s comes
+event_at s (form.Down number device word) event comes = at_events_only (λ (x : Section). is_in_order x (form.Down number device word)) refl refl refl refl refl refl s comes
+event_at s (form.Raw device port payload word) event comes = at_events_only (λ (x : Section). is_in_order x (form.Raw device port payload word)) refl refl refl refl refl refl s comes
 event_at s (form.Air number device word) event comes =
-    at_events_only (λ (x : Section). may_come x (form.Air number device word)) refl refl refl refl refl refl s comes
+    at_events_only (λ (x : Section). is_in_order x (form.Air number device word)) refl refl refl refl refl refl s comes
 event_at s (form.RawAir device bytes word) event comes =
-    at_events_only (λ (x : Section). may_come x (form.RawAir device bytes word)) refl refl refl refl refl refl s comes
-event_at s (form.Up number) event comes = at_events_only (λ (x : Section). may_come x (form.Up number)) refl refl refl refl refl refl s comes
-event_at s form.End event comes = at_events_only (λ (x : Section). may_come x form.End) refl refl refl refl refl refl s comes
+    at_events_only (λ (x : Section). is_in_order x (form.RawAir device bytes word)) refl refl refl refl refl refl s comes
+event_at s (form.Up number) event comes = at_events_only (λ (x : Section). is_in_order x (form.Up number)) refl refl refl refl refl refl s comes
+event_at s form.End event comes = at_events_only (λ (x : Section). is_in_order x form.End) refl refl refl refl refl refl s comes
 
--- a plan behind which an event may come begins
-pub begins_at : (image : List ℕ) (s : Section) (plan : Plan) (devices : List Late) (f : Form) → is_event_or_end f ≡ true → may_come s f ≡ true
+-- a plan after which an event may come begins
+pub begins_at : (image : List ℕ) (s : Section) (plan : Plan) (devices : List Late) (f : Form) → is_event_or_end f ≡ true → is_in_order s f ≡ true
     → IsPlanning image s plan devices → IsToBegin image plan devices
 begins_at image s plan devices f event comes is = by_section (event_at s f event comes)
   where
@@ -449,14 +274,14 @@ begins_at image s plan devices f event comes is = by_section (event_at s f event
     by_section (inr here) = absurd (subst (λ (x : Section). IsPlanned image x plan devices) here is.planned)
 
 -- what comes where a campaign plays is an event, or the end
-pub event_comes : (has_ended : Bool) (f : Form) → may_come (section_by has_ended) f ≡ true → is_event_or_end f ≡ true
+pub event_comes : (has_ended : Bool) (f : Form) → is_in_order (section_by has_ended) f ≡ true → is_event_or_end f ≡ true
 event_comes false f comes = comes
 event_comes true f comes = absurd cc
 
-pub image_at : (s : Section) (f : Form) (frag_size parity index : ℕ) → f ≡ form.Image frag_size parity index → may_come s f ≡ true → s ≡ place.Image
+pub image_at : (s : Section) (f : Form) (frag_size parity index : ℕ) → f ≡ form.Image frag_size parity index → is_in_order s f ≡ true → s ≡ place.Image
 image_at s f frag_size parity index is comes = by_section s (rw is at comes)
   where
-    by_section : (s : Section) → may_come s (form.Image frag_size parity index) ≡ true → s ≡ place.Image
+    by_section : (s : Section) → is_in_order s (form.Image frag_size parity index) ≡ true → s ≡ place.Image
     by_section place.Header comes = absurd cc
     by_section place.Image comes = refl
     by_section place.Group comes = absurd cc
@@ -466,10 +291,10 @@ image_at s f frag_size parity index is comes = by_section s (rw is at comes)
     by_section place.Events comes = absurd cc
     by_section place.Ended comes = absurd cc
 
-pub header_at : (s : Section) (f : Form) → f ≡ form.Header → may_come s f ≡ true → s ≡ place.Header
+pub header_at : (s : Section) (f : Form) → f ≡ form.Header → is_in_order s f ≡ true → s ≡ place.Header
 header_at s f is comes = by_section s (rw is at comes)
   where
-    by_section : (s : Section) → may_come s form.Header ≡ true → s ≡ place.Header
+    by_section : (s : Section) → is_in_order s form.Header ≡ true → s ≡ place.Header
     by_section place.Header comes = refl
     by_section place.Image comes = absurd cc
     by_section place.Group comes = absurd cc
@@ -484,10 +309,10 @@ alone : (plan : Plan) → plan.group ≡ None → plan.window ≡ None → IsWin
 alone plan no_group no_window = rw (no_group, no_window) refl
 
 pub joins_at : (image : List ℕ) (s : Section) (plan : Plan) (devices : List Late) (f : Form) (id hw rows offset : ℕ) (k : Class) (key : List ℕ) (descriptor : Option ℕ) (v1 k11 flash : Bool)
-    → f ≡ form.Device id k hw rows offset key descriptor v1 k11 flash → may_come s f ≡ true → IsPlanned image s plan devices → IsSized image plan devices × IsWindowed plan
+    → f ≡ form.Device id k hw rows offset key descriptor v1 k11 flash → is_in_order s f ≡ true → IsPlanned image s plan devices → IsSized image plan devices × IsWindowed plan
 joins_at image s plan devices f id hw rows offset k key descriptor v1 k11 flash is comes planned = by_section s (rw is at comes) planned
   where
-    by_section : (s : Section) → may_come s (form.Device id k hw rows offset key descriptor v1 k11 flash) ≡ true → IsPlanned image s plan devices → IsSized image plan devices × IsWindowed plan
+    by_section : (s : Section) → is_in_order s (form.Device id k hw rows offset key descriptor v1 k11 flash) ≡ true → IsPlanned image s plan devices → IsSized image plan devices × IsWindowed plan
     by_section place.Header comes planned = absurd cc
     by_section place.Image comes planned = absurd cc
     by_section place.Group comes planned = (planned.0, alone plan planned.1 planned.2)
@@ -498,10 +323,10 @@ joins_at image s plan devices f id hw rows offset k key descriptor v1 k11 flash 
     by_section place.Ended comes planned = absurd cc
 
 -- where the group's line and its window's line may come
-pub group_at : (s : Section) (f : Form) (id addr min max : ℕ) (key : List ℕ) → f ≡ form.Group id addr key min max → may_come s f ≡ true → s ≡ place.Group
+pub group_at : (s : Section) (f : Form) (id addr min max : ℕ) (key : List ℕ) → f ≡ form.Group id addr key min max → is_in_order s f ≡ true → s ≡ place.Group
 group_at s f id addr min max key is comes = by_section s (rw is at comes)
   where
-    by_section : (s : Section) → may_come s (form.Group id addr key min max) ≡ true → s ≡ place.Group
+    by_section : (s : Section) → is_in_order s (form.Group id addr key min max) ≡ true → s ≡ place.Group
     by_section place.Header comes = absurd cc
     by_section place.Image comes = absurd cc
     by_section place.Group comes = refl
@@ -522,11 +347,11 @@ window_only test one two three four five six seven place.Devices comes = absurd 
 window_only test one two three four five six seven place.Events comes = absurd cc
 window_only test one two three four five six seven place.Ended comes = absurd cc
 
-pub window_c_at : (s : Section) (f : Form) (start timeout freq dr : ℕ) → f ≡ form.WindowC start timeout freq dr → may_come s f ≡ true → s ≡ place.Window
-window_c_at s f start timeout freq dr is comes = window_only (λ (x : Section). may_come x (form.WindowC start timeout freq dr)) refl refl refl refl refl refl refl s (rw is at comes)
+pub window_c_at : (s : Section) (f : Form) (start timeout freq dr : ℕ) → f ≡ form.WindowC start timeout freq dr → is_in_order s f ≡ true → s ≡ place.Window
+window_c_at s f start timeout freq dr is comes = window_only (λ (x : Section). is_in_order x (form.WindowC start timeout freq dr)) refl refl refl refl refl refl refl s (rw is at comes)
 
-pub window_b_at : (s : Section) (f : Form) (start periodicity timeout freq dr : ℕ) → f ≡ form.WindowB start periodicity timeout freq dr → may_come s f ≡ true → s ≡ place.Window
-window_b_at s f start periodicity timeout freq dr is comes = window_only (λ (x : Section). may_come x (form.WindowB start periodicity timeout freq dr)) refl refl refl refl refl refl refl s (rw is at comes)
+pub window_b_at : (s : Section) (f : Form) (start periodicity timeout freq dr : ℕ) → f ≡ form.WindowB start periodicity timeout freq dr → is_in_order s f ≡ true → s ≡ place.Window
+window_b_at s f start periodicity timeout freq dr is comes = window_only (λ (x : Section). is_in_order x (form.WindowB start periodicity timeout freq dr)) refl refl refl refl refl refl refl s (rw is at comes)
 
 -- a group's line that is in range has numbers that a plan takes
 pub record Counting (id min max : ℕ) : Type 0 where
@@ -623,7 +448,7 @@ fitting len count f id hw rows offset k key descriptor v1 k11 flash is ranges fi
       next = omega (arith, is_next, leb-true id max_devices d.1);
     }
 
--- ---- the plan behind the devices has no wrong field
+-- ---- the plan after the devices has no wrong field
 
 pub plans_well : (image : List ℕ) (plan : Plan) (devices : List Late) → IsSized image plan devices → IsWindowed plan → 1 ≤ length devices → bad_field (length image) plan ≡ None
 unfolding bad_field

@@ -1,4 +1,4 @@
--- A world that hears a script's lines, each cut, is behind the script.
+-- A world that hears a script's lines, each cut, is after the script.
 use Rattle.std.proofs.Common.{◌≡◌, inl, inr, ℕ, ◌<◌, List, [], ◌∷◌, length, map, Option, Some, None, Result, Ok, Err, IfErr, refl, sym, ap, subst, ◌∙◌, arith}
 use Rattle.std.proofs.lemmas.Bool.{cases_lt, lt-ltb}
 use Rattle.std.proofs.lemmas.List.{take_all, length-take}
@@ -54,7 +54,7 @@ hears old new line (Err (error.Line fault)) step kept same (Ok world) (inr stand
     inr (subst (λ (o : Outcome). WorldIs new o) (sym (read_by world (line_of line) (Some fault.why) answer.0 ∙ made)) kept)
 hears old new line (Err error.Memory) step kept same (Ok world) (inr stands) = inl kept
 
--- behind a refused line, or want of memory, none does more
+-- after a refused line, or once out of memory, none does more
 pub hears_no_more : (held : HeldWorld) (line : List ℕ) (e : LineError) → held.kept ≡ Some e → HearsScriptLine held line held
 hears_no_more held line e is = hears held held line (Err e) (λ world stands none. absurd cc) is (λ f there. (let same : e ≡ f = cc in ap (λ (x : LineError). let r : Result (Unit {0}) LineError = Err x in r) same, refl))
 
@@ -81,7 +81,7 @@ heard_all [] old new same so_far is = subst (λ (o : Outcome). WorldIsIf new o) 
 heard_all (line ∷ lines) old new heard so_far is =
     subst (λ (o : Outcome). WorldIsIf new o) (sym (read_then so_far (line_of line) (map line_of lines))) (heard_all lines heard.0 new heard.2 (read_lines so_far (line_of line ∷ [])) (heard.1 so_far is))
 
--- the world that heard a script's lines is behind the script
+-- the world that heard a script's lines is after the script
 pub script_heard : (bytes image : List ℕ) (old new : HeldWorld) → HearsLines HearsScriptLine old new bytes → WorldStands old (first_world image) → old.kept ≡ None
     → WorldIsIf new (read_lines (Ok (first_world image)) (said_in bytes))
 script_heard bytes image old new heard first none =

@@ -4,8 +4,9 @@ pub mod Lateness
 pub mod Outboxes
 pub mod Powering
 pub mod OutboxRoom
+pub mod AtRest
 pub mod FormCauses
-pub mod EventCauses
+pub mod CausesByForm
 pub mod Beside
 pub mod Steps
 pub mod Lines

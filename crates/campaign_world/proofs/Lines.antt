@@ -20,14 +20,16 @@ use Rattle.campaign_world.specs.Causes.{line_cause, cause_of, has_ended}
 use Rattle.campaign_world.specs.Making.{after_form}
 use Rattle.campaign_world.specs.Script.{one_line_more, after_line, end_result_at}
 use Rattle.campaign_world.specs.Report.{device_part, device_parts, report_with, report_of}
-use Rattle.campaign_world.specs.HeldWorld.{HeldWorld, WorldStands, WorldBecomes, IsLineAnswer, IsCauseOf, world_of}
+use Rattle.campaign_world.specs.HeldWorld.{HeldWorld, WorldStands, WorldBecomes, IsLineAnswer, world_of}
 use Rattle.campaign_world.specs.HeldLate.{DeviceRests}
 use Rattle.campaign_world.proofs.Zips.{zip_long}
 
 -- ---- a line
 
 -- the cause of what is held is the campaign's
-pub cause_stands : (held : HeldWorld) (world : WorldState) (line : List ℕ) (cause : Option LineWhy) → WorldStands held world → IsCauseOf held line cause → cause_of world (line_of line) ≡ cause
+pub cause_stands : (held : HeldWorld) (world : WorldState) (line : List ℕ) (cause : Option LineWhy) → WorldStands held world
+    → ((devices : List DeviceState) → length devices ≡ length held.devices → cause_of (world_of held devices) (line_of line) ≡ cause)
+    → cause_of world (line_of line) ≡ cause
 cause_stands held world line cause stands is =
     subst (λ (w : WorldState). cause_of w (line_of line) ≡ cause) (sym stands.rest) (is world.devices (zip_long DeviceRests held.devices world.devices stands.devices))
 
@@ -60,6 +62,15 @@ pub line_answer : (world : WorldState) (line : List ℕ) (new : HeldWorld) (resu
 line_answer world line new (Ok done) taken memory = taken
 line_answer world line new (Err error.Memory) taken memory = tt
 line_answer world line new (Err (error.Line fault)) taken memory = absurd cc
+
+-- a line that is refused
+pub line_refused : (old new : HeldWorld) (world : WorldState) (line : List ℕ) (why : LineWhy) (result : Result (Unit {0}) LineError)
+    → WorldStands old world → cause_of world (line_of line) ≡ Some why
+    → result ≡ Err (error.Line (record { line = old.lines + 1; why = why }))
+    → new ≡ record old { kept = Some (error.Line (record { line = old.lines + 1; why = why })) }
+    → IsLineAnswer world line new result
+line_refused old new world line why result stands cause is kept =
+    rw (is, kept) (cause, lines_stand old world stands, record { devices = stands.devices; rest = stands.rest })
 
 -- ---- a report
 

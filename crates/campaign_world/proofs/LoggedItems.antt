@@ -1,4 +1,4 @@
--- Items whose bytes lie one behind the other: those of each stay where they are when others follow.
+-- Items whose bytes lie one after the other: those of each stay where they are when others follow.
 use Rattle.std.proofs.Common.{◌≡◌, ◌≤◌, ◌+◌, ◌-◌, ℕ, List, [], ◌∷◌, ◌++◌, length, map, take, drop, refl, ap, sym, ◌∙◌, arith}
 use Rattle.std.specs.Prelude.{slice_range}
 use Rattle.std.specs.List.{AllByRecursion}
@@ -6,7 +6,7 @@ use Rattle.std.proofs.lemmas.List.{drop-append-le, take-append-le, length-drop, 
 use Rattle.campaign_world.specs.declared.logs.SentHead.{SentHead}
 use Rattle.campaign_world.specs.declared.logs.MadeHead.{MadeHead}
 use Rattle.campaign_world.specs.declared.numbered.SentPayload.{SentPayload}
-use Rattle.campaign_world.specs.declared.numbered.MadeUplink.{MadeUplink}
+use Rattle.campaign_world.specs.declared.numbered.NumberedUplink.{NumberedUplink}
 use Rattle.campaign_world.specs.LogsInside.{Lies, SentLie, MadeLie, sent_at, made_at}
 
 part_still : (bytes more : List ℕ) (at len : ℕ) → at + len ≤ length bytes
@@ -33,7 +33,7 @@ items_still {H} {I} at len item bytes more (h ∷ hs) lie =
     ap (λ (x : I). x ∷ items_of at len item (bytes ++ more) hs) (ap (λ (p : List ℕ). item h p) (part_still bytes more (at h) (len h) lie.0.within))
     ∙ ap (λ (xs : List I). item h (slice_range bytes (at h) (at h + len h)) ∷ xs) (items_still at len item bytes more hs lie.1)
 
--- one more is behind them
+-- one more is after them
 one_more : {H I : Type 0} (at len : H → ℕ) (item : H → List ℕ → I) (bytes more now : List ℕ) (old new : List H) (head : H)
     → AllByRecursion (λ h. Lies bytes (at h) (len h)) old → now ≡ bytes ++ more → new ≡ old ++ head ∷ []
     → at head ≡ length bytes → len head ≡ length more
@@ -56,7 +56,7 @@ one_sent_more bytes more now old new head lie bytes_are are here many =
     one_more (λ (h : SentHead). h.at) (λ (h : SentHead). h.len)
     sent_with bytes more now old new head lie bytes_are are here many
 
-abbrev made_with : MadeHead → (payload : List ℕ) → MadeUplink
+abbrev made_with : MadeHead → (payload : List ℕ) → NumberedUplink
 made_with h payload = record { device = h.device; uplink = record { due = h.due; port = h.port; payload = payload } }
 
 pub one_made_more : (bytes more now : List ℕ) (old new : List MadeHead) (head : MadeHead)

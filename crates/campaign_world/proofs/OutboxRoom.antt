@@ -15,7 +15,7 @@ use Rattle.mc_frames.specs.declared.fault.FrameFault.{FrameFault}
 use Rattle.device_core.specs.Device.{DeviceState}
 use Rattle.device_core.specs.Radio.{brought, after_frame, radio}
 use Rattle.device_core.specs.declared.uplink.Uplink.{Uplink}
-use Rattle.device_core.specs.declared.uplink.UplinkCommand.{UplinkCommand}
+use Rattle.device_core.specs.declared.uplink.Answer.{Answer}
 use Rattle.device_core.specs.declared.arrival.Arrival.{Arrival}
 use Rattle.device_core.specs.Answers.{DeviceStep, no_answer, uplink_of, after_answers}
 use Rattle.device_core.specs.Clock.{answer_step, periodicity_step, resync_step}
@@ -26,15 +26,15 @@ use Rattle.device_core.specs.Firmware.{version_step, upgrade_step, delete_image_
 use Rattle.device_core.specs.Step.{command_step, acts, step, after_commands, weight, weights}
 use Rattle.flash_session.specs.Flashes.{Cells}
 use Rattle.device_core.specs.HeldDevice.{HeldDevice, DeviceStands}
-use Rattle.campaign_world.specs.declared.numbered.MadeUplink.{MadeUplink}
-use Rattle.campaign_world.specs.HeldWorld.{numbered_behind}
+use Rattle.campaign_world.specs.declared.numbered.NumberedUplink.{NumberedUplink}
+use Rattle.campaign_world.specs.HeldEvent.{numbered_after}
 use Rattle.device_core.proofs.Outboxes.{outbox_is}
 use Rattle.device_core.specs.Deliver.{Outcome, message_delivery, read_delivery, heard_delivery, time_asking, delivery, waking}
 
 -- ---- a command
 
 -- its answers are at most so many, and nothing else comes to the outbox
-record IsLight (d : DeviceState) (most : ℕ) (e : DeviceState) (answers : List UplinkCommand) : Type 0 where
+record IsLight (d : DeviceState) (most : ℕ) (e : DeviceState) (answers : List Answer) : Type 0 where
   kept : e.outbox ≡ d.outbox
   few : length answers ≤ most
 
@@ -56,7 +56,7 @@ status_few : (here : Arrival) (index : ℕ) (status : Option StatusAns) → leng
 status_few here index None = omega arith
 status_few here index (Some status) = omega arith
 
-repeated_few : (count : ℕ) (answer : UplinkCommand) → length (replicate count answer) ≤ count
+repeated_few : (count : ℕ) (answer : Answer) → length (replicate count answer) ≤ count
 repeated_few count answer = omega (arith, length-replicate count answer)
 
 sync_light : (here : Arrival) (d : DeviceState) (cmd : SyncCmd) → IsLightStep d (weight (Sync cmd)) (command_step here d (Sync cmd))
@@ -140,7 +140,7 @@ heard_few : (t word mark : ℕ) (down : Downlink) (d : DeviceState) → length d
 unfolding heard_delivery
 heard_few t word mark down d few = few_by _ _ _ (read_few _ d _ few) few
 
--- a device that rests has at most eight uplinks behind a payload
+-- a device that rests has at most eight uplinks after a payload
 pub delivered_few : (t word mark : ℕ) (down : Downlink) (d : DeviceState) → d.outbox ≡ []
     → length (delivery t word mark down d).device.outbox ≤ 8
 unfolding delivery
@@ -152,7 +152,7 @@ delivered_few t word mark down d empty =
       heard_few t word mark down (after_due_reboot t d) few,
     )
 
--- or behind bytes that its radio heard
+-- or after bytes that its radio heard
 frame_few : (t word mark : ℕ) (o : Result Downlink FrameFault) (d : DeviceState) → d.outbox ≡ []
     → length (after_frame t word mark o d).device.outbox ≤ 8
 frame_few t word mark (Ok down) d empty = delivered_few t word mark down d empty
@@ -167,7 +167,7 @@ asked_few : (t : ℕ) (d : DeviceState) → d.outbox ≡ [] → length (time_ask
 unfolding time_asking after_answers
 asked_few t d empty = rw (empty) (omega arith)
 
--- and behind its waking
+-- and after its waking
 pub woken_few : (t : ℕ) (d : DeviceState) → d.outbox ≡ [] → length (waking t d).device.outbox ≤ 8
 unfolding waking
 woken_few t d empty =
@@ -178,7 +178,7 @@ woken_few t d empty =
     )
 
 -- so few as they are, all of them were numbered
-pub numbered_few : (held : HeldDevice Cells) (d : DeviceState) (id : ℕ) (old new : List MadeUplink) → DeviceStands held d → length d.outbox ≤ 8
-    → (length held.outbox ≤ 8 → new ≡ numbered_behind old id held.outbox) → new ≡ numbered_behind old id d.outbox
+pub numbered_few : (held : HeldDevice Cells) (d : DeviceState) (id : ℕ) (old new : List NumberedUplink) → DeviceStands held d → length d.outbox ≤ 8
+    → (length held.outbox ≤ 8 → new ≡ numbered_after old id held.outbox) → new ≡ numbered_after old id d.outbox
 numbered_few held d id old new stands few numbered =
     rw (outbox_is held d stands) (numbered (subst (λ (us : List Uplink). length us ≤ 8) (outbox_is held d stands) few))

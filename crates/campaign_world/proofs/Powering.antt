@@ -1,19 +1,20 @@
 -- Power comes to a device over a flash of cells, for the first time or anew.
-use Rattle.std.proofs.Common.{◌≡◌, ℕ, ◌*◌, zero, suc, true, false, List, get_or, replicate, Result, Ok, Err, MatchResult, refl, sym, ap, subst, ◌∙◌, arith}
+use Rattle.std.proofs.Common.{◌≡◌, ℕ, ◌*◌, zero, suc, true, false, List, get_or, replicate, Result, Ok, Err, IfErr, MatchResult, refl, sym, ap, subst, ◌∙◌, arith}
 use Rattle.frag_session.specs.Session.{view_of}
 use Rattle.flash_session.specs.declared.fault.OpenFault.{OpenFault}
 use Rattle.flash_session.specs.declared.fault.OpenFault.TheVariants as fault
 use Rattle.flash_session.specs.Contents.{byte_at, Same, Follows, HasRisen}
-use Rattle.flash_session.specs.Flashes.{Cells}
+use Rattle.flash_session.specs.Flashes.{Cells, cells_seen}
+use Rattle.flash_session.specs.Seen.{FlashSeen}
 use Rattle.session_store.specs.declared.held_slots.Layout.{Layout}
-use Rattle.session_store.specs.declared.store.State.{State}
-use Rattle.session_store.specs.declared.store.State.TheVariants.{Memory, Flash, Down}
-use Rattle.session_store.specs.declared.store.Whole.{Whole}
+use Rattle.session_store.specs.declared.state.State.{State}
+use Rattle.session_store.specs.declared.state.State.TheVariants.{Memory, Flash, Down}
+use Rattle.session_store.specs.declared.state.CompleteFlags.{CompleteFlags}
 use Rattle.session_store.specs.HeldPlaces.{TableLies}
-use Rattle.session_store.specs.Whole.{none_whole, whole_of}
+use Rattle.session_store.specs.CompleteFlags.{none_complete, flags_of}
 use Rattle.device_core.specs.declared.config.DeviceConfig.{DeviceConfig}
 use Rattle.device_core.specs.Device.{DeviceState, first_device}
-use Rattle.device_core.specs.HeldCalls.{HadWhole}
+use Rattle.device_core.specs.HeldPower.{HadWhole}
 use Rattle.device_core.specs.HeldDevice.{HeldDevice, device_of, DeviceStands, Starts}
 use Rattle.device_core.specs.HeldSessions.{IsInFlash, StateIsStored, StateIsHeld}
 use Rattle.device_core.specs.Power.{after_power}
@@ -21,7 +22,7 @@ use Rattle.device_core.specs.SessionTable.{SessionTable, no_sessions}
 use Rattle.device_core.proofs.Keeping.{no_rise, held_of}
 use Rattle.device_core.proofs.Outboxes.{outbox_is}
 use Rattle.device_core.proofs.Quiet.{power_is_quiet}
-use Rattle.campaign_world.specs.HeldLate.{HeldRests}
+use Rattle.campaign_world.specs.HeldLate.{IsAtRest}
 
 zeros : (n i : ℕ) → ◌≡◌ {A = ℕ} (get_or {A = ℕ} (replicate {A = ℕ} n 0) i 0) 0
 zeros zero i = refl
@@ -41,69 +42,69 @@ nothing_lies l n b same = record {
 }
 
 -- what is not in flash is in memory, where nothing is stored
-stored_memory : (s : State) (t : SessionTable) (holds left : List ℕ → Type 0) → (IsInFlash s → ⊥) → StateIsStored s t holds left
-stored_memory (Memory slots) t holds left not = tt
-stored_memory (Flash slots) t holds left not = absurd (not tt)
-stored_memory (Down idles whole) t holds left not = absurd (not tt)
+stored_memory : (s : State) (t : SessionTable) (flash : FlashSeen) → (IsInFlash s → ⊥) → StateIsStored s t flash
+stored_memory (Memory slots) t flash not = tt
+stored_memory (Flash slots) t flash not = absurd (not tt)
+stored_memory (Down idles whole) t flash not = absurd (not tt)
 
 -- a device that is not held is up from its start
 pub memory_rests : (config : DeviceConfig) (flash : Cells) (held : HeldDevice Cells) → Starts config flash held → held.sessions.held ≡ false
-    → (IsInFlash held.sessions.state → ⊥) → HeldRests held (first_device config)
+    → (IsInFlash held.sessions.state → ⊥) → IsAtRest held (first_device config)
 memory_rests config flash held starts memory not =
     let stands = starts.up (sym starts.held_is ∙ memory) in record {
       stands = stands;
-      stored = stored_memory held.sessions.state no_sessions _ _ not;
+      stored = stored_memory held.sessions.state no_sessions _ not;
       empty = sym (outbox_is held (first_device config) stands);
     }
 
 -- ---- power
 
 -- cells do not fail
-pub no_fault : {P Q : Type 0} (r : Result (Unit {0}) OpenFault) → MatchResult r (λ ok. P × Q) (λ e. e ≡ fault.Flash) → (r ≡ Err fault.Flash → HasRisen 0 0) → P × Q
+pub no_fault : {P Q : Type 0} (r : Result (Unit {0}) OpenFault) → MatchResult r (λ ok. P × Q) (λ e. e ≡ fault.Flash) → IfErr r (λ e. e ≡ fault.Flash → HasRisen 0 0) → P × Q
 no_fault (Ok ok) either rises = either
-no_fault (Err e) either rises = absurd (no_rise (rises (ap (λ (x : OpenFault). Err x) either)))
+no_fault (Err e) either rises = absurd (no_rise (rises either))
 
 -- at first no file is whole
-none_are_whole : whole_of no_sessions ≡ none_whole
+none_are_whole : flags_of no_sessions ≡ none_complete
 unfolding view_of
 none_are_whole = refl
 
-first_quiet : (config : DeviceConfig) → after_power none_whole no_sessions (first_device config) ≡ first_device config
+first_quiet : (config : DeviceConfig) → after_power none_complete no_sessions (first_device config) ≡ first_device config
 first_quiet config =
-    ap (λ (w : Whole). after_power w no_sessions (first_device config)) (sym none_are_whole) ∙ power_is_quiet (first_device config)
+    ap (λ (w : CompleteFlags). after_power w no_sessions (first_device config)) (sym none_are_whole) ∙ power_is_quiet (first_device config)
 
 -- for the first time
 pub first_rests : (config : DeviceConfig) (n : ℕ) (old new : HeldDevice Cells) (r : Result (Unit {0}) OpenFault) → Starts config old.sessions.flash old
     → old.sessions.flash.bytes ≡ replicate n 0 → old.sessions.held ≡ true
-    → ((whole : Whole) → HadWhole old.sessions.state whole → (table : SessionTable) (b : List ℕ) → b ≡ new.sessions.flash.bytes
+    → ((whole : CompleteFlags) → HadWhole old.sessions.state whole → (table : SessionTable) (b : List ℕ) → b ≡ new.sessions.flash.bytes
     → TableLies old.sessions.layout table b
     → MatchResult r
     (λ ok. DeviceStands new (after_power whole table (device_of old table))
-    × StateIsStored new.sessions.state table (λ c. c ≡ new.sessions.flash.bytes) (λ c. ⊥)) (λ e. e ≡ fault.Flash))
+    × StateIsStored new.sessions.state table (cells_seen new.sessions.flash.bytes)) (λ e. e ≡ fault.Flash))
     → Follows Same (λ c. c ≡ old.sessions.flash.bytes) (λ c. c ≡ new.sessions.flash.bytes)
-    → (r ≡ Err fault.Flash → HasRisen 0 0)
-    → HeldRests new (first_device config)
+    → IfErr r (λ e. e ≡ fault.Flash → HasRisen 0 0)
+    → IsAtRest new (first_device config)
 first_rests config n old new r starts blank is_held opened follows rises =
     let down = starts.down (sym starts.held_is ∙ is_held) in
-    let had : HadWhole old.sessions.state none_whole = subst (λ (s : State). HadWhole s none_whole) (sym down.1) refl in
+    let had : HadWhole old.sessions.state none_complete = subst (λ (s : State). HadWhole s none_complete) (sym down.1) refl in
     let from = follows.from new.sessions.flash.bytes refl in
     let same : Same (replicate n 0) new.sessions.flash.bytes = subst (λ (b : List ℕ). Same b new.sessions.flash.bytes) (from.1 ∙ blank) from.2 in
-    let both = no_fault r (opened none_whole had no_sessions new.sessions.flash.bytes refl (nothing_lies old.sessions.layout n new.sessions.flash.bytes same)) rises in
+    let both = no_fault r (opened none_complete had no_sessions new.sessions.flash.bytes refl (nothing_lies old.sessions.layout n new.sessions.flash.bytes same)) rises in
     let stands : DeviceStands new (first_device config) =
     subst (λ (d : DeviceState). DeviceStands new d)
-    (ap (λ (d : DeviceState). after_power none_whole no_sessions d) starts.rest ∙ first_quiet config) both.0 in
+    (ap (λ (d : DeviceState). after_power none_complete no_sessions d) starts.rest ∙ first_quiet config) both.0 in
     record { stands = stands; stored = both.1; empty = sym (outbox_is new (first_device config) stands) }
 
 -- anew
 pub again_rests : (old new : HeldDevice Cells) (r : Result (Unit {0}) OpenFault) → IsInFlash old.sessions.state
     → ((device : DeviceState) → DeviceStands old device
-    → StateIsHeld old.sessions.state device.sessions (λ c. c ≡ old.sessions.flash.bytes) (λ c. ⊥) → (b : List ℕ) → b ≡ new.sessions.flash.bytes
+    → StateIsHeld old.sessions.state device.sessions (cells_seen old.sessions.flash.bytes) → (b : List ℕ) → b ≡ new.sessions.flash.bytes
     → MatchResult r
     (λ ok. DeviceStands new device
-    × StateIsStored new.sessions.state device.sessions (λ c. c ≡ new.sessions.flash.bytes) (λ c. ⊥)) (λ e. e ≡ fault.Flash))
-    → (r ≡ Err fault.Flash → HasRisen 0 0)
-    → (d : DeviceState) → HeldRests old d → HeldRests new d
+    × StateIsStored new.sessions.state device.sessions (cells_seen new.sessions.flash.bytes)) (λ e. e ≡ fault.Flash))
+    → IfErr r (λ e. e ≡ fault.Flash → HasRisen 0 0)
+    → (d : DeviceState) → IsAtRest old d → IsAtRest new d
 again_rests old new r flash again rises d rests =
-    let held = held_of old.sessions.state d.sessions (λ c. c ≡ old.sessions.flash.bytes) (λ c. ⊥) flash rests.stored in
+    let held = held_of old.sessions.state d.sessions (cells_seen old.sessions.flash.bytes) flash rests.stored in
     let both = no_fault r (again d rests.stands held new.sessions.flash.bytes refl) rises in
     record { stands = both.0; stored = both.1; empty = sym (outbox_is new d both.0) ∙ outbox_is old d rests.stands ∙ rests.empty }

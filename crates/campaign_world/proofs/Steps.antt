@@ -1,11 +1,11 @@
 -- What an event makes of a world that stands for a campaign.
-use Rattle.std.proofs.Common.{◌≡◌, ℕ, ◌≤◌, ◌+◌, ◌-◌, Bool, true, false, cond, ◌==◌, List, [], ◌∷◌, ◌++◌, length, slice_get, Option, Some, None, Result, Ok, Err, is_ok, is_some, refl, sym, ap, ◌∙◌, subst, append-nil, arith}
+use Rattle.std.proofs.Common.{◌≡◌, ℕ, ◌≤◌, ◌+◌, ◌-◌, Bool, true, false, cond, ◌==◌, List, [], ◌∷◌, ◌++◌, length, slice_get, slice_set, Option, Some, None, Result, Ok, Err, OnOk, OnErr, is_ok, is_some, refl, sym, ap, ◌∙◌, subst, append-nil, arith}
 use Rattle.std.proofs.lemmas.Bool.Decides.{nat_tests}
 use Rattle.std.specs.Option.{option_map}
 use Rattle.std.specs.declared.alloc.AllocError.{AllocError}
 use Rattle.device_core.specs.Device.{DeviceState, first_device}
-use Rattle.device_core.specs.Events.{Event, Receives, HearsBytes, Migrates, event_step}
-use Rattle.device_core.specs.Firmware.{after_migration}
+use Rattle.device_core.specs.declared.uplink.Uplink.{Uplink}
+use Rattle.device_core.specs.Events.{Event, Receives, HearsBytes, event_step, uplinks_taken}
 use Rattle.device_core.specs.declared.config.DeviceConfig.{DeviceConfig}
 use Rattle.campaign_server.specs.Plan.{Plan}
 use Rattle.campaign_server.specs.Server.{ServerState, first_server, ledger}
@@ -19,21 +19,22 @@ use Rattle.wire_base.specs.declared.refusal.Direction.TheVariants.{Up}
 use Rattle.report_lines.specs.declared.faults.LineError.{LineError}
 use Rattle.report_lines.proofs.Outcomes.{on_ok, on_ok_then}
 use Rattle.campaign_world.specs.declared.numbered.SentPayload.{SentPayload}
-use Rattle.campaign_world.specs.declared.numbered.MadeUplink.{MadeUplink}
+use Rattle.campaign_world.specs.declared.numbered.NumberedUplink.{NumberedUplink}
 use Rattle.campaign_world.specs.declared.section.Section.{Section}
 use Rattle.campaign_world.specs.declared.section.Section.TheVariants as section
 use Rattle.script_lines.specs.declared.forms.Form.{Form}
 use Rattle.script_lines.specs.declared.forms.Form.TheVariants as form
 use Rattle.campaign_world.specs.Causes.{is_event_or_end}
 use Rattle.campaign_world.specs.World.{WorldState}
-use Rattle.campaign_world.specs.Making.{with_joined, with_flash, with_device, after_form, reception, sent_frame, hearing, with_event, at_events}
+use Rattle.campaign_world.specs.Making.{with_joined, with_flash, with_device, after_form, reception, sent_frame, hearing, after_event_at, with_event, at_events}
 use Rattle.campaign_world.specs.Script.{one_line_more}
-use Rattle.campaign_world.specs.HeldWorld.{HeldCampaign, HeldWorld, WorldStands, KeepsEnds, Becomes, Plays, DevicesRest, OneComesToRest, OnesAreNumbered, held_with, world_of}
+use Rattle.campaign_world.specs.HeldWorld.{HeldCampaign, HeldWorld, WorldStands, KeepsEnds, Becomes, Plays, DevicesRest, held_with, world_of}
+use Rattle.campaign_world.specs.HeldEvent.{OneHappens, PlaysEvent, after_happening, numbered_after}
 use Rattle.campaign_world.specs.HeldLate.{Late, DeviceRests}
-use Rattle.campaign_world.specs.WorldInside.{IsCampaign, StayMade}
+use Rattle.campaign_world.specs.WorldInside.{IsCampaign}
 use Rattle.campaign_world.specs.PhaseInside.{is_end, section_by}
 use Rattle.campaign_world.proofs.Lateness.{rests_empty}
-use Rattle.campaign_world.proofs.Zips.{zip_some, zip_more, zip_back}
+use Rattle.campaign_world.proofs.Zips.{zip_some, zip_more, zip_back, set_there}
 
 -- what was found
 pub some_now : {X A : Type 0} (now : X → A) (found : Option X) (item : Option A) (x : X) → option_map now found ≡ item → found ≡ Some x → item ≡ Some (now x)
@@ -49,41 +50,78 @@ numbered_at items n x first there = rw (not_none n first) there
     not_none : (n : ℕ) → 1 ≤ n → (n == 0) ≡ false
     not_none n first = grind (arith, nat_tests)
 
--- what an event at a device is to do to devices and uplinks that are held
-pub record Reaches (held : HeldWorld) (new_devices : List Late) (new_uplinks : List MadeUplink) (device : ℕ) (event : DeviceState → DeviceState) : Type 0 where
-  pub devices : OneComesToRest event device held.devices new_devices
-  pub uplinks : OnesAreNumbered event held.devices device held.uplinks new_uplinks
-
--- the world behind the event
-abbrev Behind : HeldWorld → List Late → List MadeUplink → HeldWorld
+-- the world after the event
+abbrev Behind : HeldWorld → List Late → List NumberedUplink → HeldWorld
 Behind held new_devices new_uplinks = record held { section = section.Events; devices = new_devices; uplinks = new_uplinks }
 
-event_of_held : (held : HeldWorld) (ds : List DeviceState) (new_devices : List Late) (new_uplinks : List MadeUplink) (device : ℕ)
-    (event : DeviceState → DeviceState) (d : DeviceState) → DevicesRest held.devices ds → slice_get ds (device - 1) ≡ Some d
-    → Reaches held new_devices new_uplinks device event
-    → WorldStands (Behind held new_devices new_uplinks) (at_events (with_device (world_of held ds) device (event d)))
-unfolding with_device
-event_of_held held ds new_devices new_uplinks device event d all there reaches =
-    record { devices = reaches.devices ds d all there; rest = rw (reaches.uplinks ds d all there) refl }
+-- what happens at a device of a world that is held
+abbrev HappensIn : HeldWorld → (after : DeviceState → DeviceState) → (device : ℕ) → List Late → List NumberedUplink → Type 0
+HappensIn held after device new_devices new_uplinks = OneHappens after device held.devices new_devices held.uplinks new_uplinks
 
-at_held : (held : HeldWorld) (ds : List DeviceState) (new_devices : List Late) (new_uplinks : List MadeUplink) (device : ℕ)
-    (o : Option Event) (event : Event) → o ≡ Some event → DevicesRest held.devices ds → 1 ≤ device → device ≤ length held.devices
-    → Reaches held new_devices new_uplinks device (λ d. event_step d event)
-    → WorldStands (Behind held new_devices new_uplinks) (with_event (world_of held ds) device o)
-at_held held ds new_devices new_uplinks device o event is all first last reaches =
+event_of_held : (held : HeldWorld) (ds : List DeviceState) (new_devices : List Late) (new_uplinks : List NumberedUplink) (device : ℕ)
+    (after : DeviceState → DeviceState) (d : DeviceState) → DevicesRest held.devices ds → slice_get ds (device - 1) ≡ Some d
+    → HappensIn held after device new_devices new_uplinks
+    → WorldStands (Behind held new_devices new_uplinks) (at_events (with_device (world_of held ds) device (after d)))
+unfolding with_device
+event_of_held held ds new_devices new_uplinks device after d all there happens =
+    record { devices = happens.rests ds d all there; rest = rw (happens.numbered ds d all there) refl }
+
+-- an event that changes no record of a device
+still_held : (held : HeldWorld) (ds : List DeviceState) (new_devices : List Late) (new_uplinks : List NumberedUplink) (device : ℕ)
+    (d : DeviceState) → DevicesRest held.devices ds → slice_get ds (device - 1) ≡ Some d
+    → HappensIn held (λ x. x) device new_devices new_uplinks
+    → WorldStands (Behind held new_devices new_uplinks) (at_events (world_of held ds))
+still_held held ds new_devices new_uplinks device d all there happens =
+    let rests = zip_back DeviceRests held.devices ds (device - 1) d all there in
+    let none : d.outbox ≡ [] = rests_empty rests.0 d rests.1 in
+    let same : uplinks_taken d ≡ d = ap (λ (us : List Uplink). let x : DeviceState = record d { outbox = us } in x) (sym none) in
+    let still : slice_set ds (device - 1) (uplinks_taken d) ≡ ds = ap (λ (x : DeviceState). slice_set ds (device - 1) x) same ∙ set_there ds (device - 1) d there in
+    let uplinks : new_uplinks ≡ held.uplinks =
+    happens.numbered ds d all there ∙ ap (λ (us : List Uplink). numbered_after held.uplinks device us) none ∙ append-nil held.uplinks in
+    record {
+      devices = subst (λ (xs : List DeviceState). DevicesRest new_devices xs) still (happens.rests ds d all there);
+      rest = rw (uplinks) refl;
+    }
+
+at_held : (held : HeldWorld) (ds : List DeviceState) (new_devices : List Late) (new_uplinks : List NumberedUplink) (device : ℕ)
+    (event : Option Event) → DevicesRest held.devices ds → 1 ≤ device → device ≤ length held.devices
+    → HappensIn held (after_happening event) device new_devices new_uplinks
+    → WorldStands (Behind held new_devices new_uplinks) (with_event (world_of held ds) device event)
+at_held held ds new_devices new_uplinks device (Some event) all first last happens =
     let one = zip_some DeviceRests held.devices ds (device - 1) all (omega (arith, first, last)) in
-    rw (is, numbered_at ds device one.0 first one.1)
-    (event_of_held held ds new_devices new_uplinks device (λ d. event_step d event) one.0 all one.1 reaches)
+    rw (numbered_at ds device one.0 first one.1)
+    (event_of_held held ds new_devices new_uplinks device (λ d. event_step d event) one.0 all one.1 happens)
+at_held held ds new_devices new_uplinks device None all first last happens =
+    let one = zip_some DeviceRests held.devices ds (device - 1) all (omega (arith, first, last)) in
+    rw (numbered_at ds device one.0 first one.1) (still_held held ds new_devices new_uplinks device one.0 all one.1 happens)
 
 -- an event that the campaign lets happen at a device
-pub event_at_step : (held : HeldWorld) (world : WorldState) (new_devices : List Late) (new_uplinks : List MadeUplink) (device : ℕ)
-    (o : WorldState → Option Event) (event : Event) → WorldStands held world → 1 ≤ device → device ≤ length held.devices
-    → o (world_of held world.devices) ≡ Some event → Reaches held new_devices new_uplinks device (λ d. event_step d event)
+pub event_at_step : (held : HeldWorld) (world : WorldState) (new_devices : List Late) (new_uplinks : List NumberedUplink) (device : ℕ)
+    (of : WorldState → Option Event) (event : Option Event) → WorldStands held world → 1 ≤ device → device ≤ length held.devices
+    → of (world_of held world.devices) ≡ event → HappensIn held (after_happening event) device new_devices new_uplinks
     → WorldStands (record held { section = section.Events; devices = new_devices; uplinks = new_uplinks })
-    (with_event world device (o world))
-event_at_step held world new_devices new_uplinks device o event stands first last is reaches =
-    subst (λ (w : WorldState). WorldStands (Behind held new_devices new_uplinks) (with_event w device (o w))) (sym stands.rest)
-    (at_held held world.devices new_devices new_uplinks device _ event is stands.devices first last reaches)
+    (with_event world device (of world))
+event_at_step held world new_devices new_uplinks device of event stands first last is happens =
+    subst (λ (w : WorldState). WorldStands (Behind held new_devices new_uplinks) (with_event w device (of w))) (sym stands.rest)
+    (subst (λ (e : Option Event). WorldStands (Behind held new_devices new_uplinks) (with_event (world_of held world.devices) device e)) (sym is)
+    (at_held held world.devices new_devices new_uplinks device event stands.devices first last happens))
+
+-- so it is of a campaign that plays
+pub event_plays : (old : HeldCampaign) (new_devices : List Late) (new_uplinks : List NumberedUplink) (id : ℕ) (event : Option Event)
+    (r : Result (Unit {0}) AllocError) → 1 ≤ id → id ≤ length old.devices
+    → OnOk r (OneHappens (after_happening event) id old.devices new_devices old.uplinks new_uplinks)
+    → PlaysEvent id event old (record old { devices = new_devices; uplinks = new_uplinks }) r
+event_plays old new_devices new_uplinks id event r first last happens lines of is here kept = on_ok r (λ ok. λ world stands.
+    event_at_step (held_with lines here kept old) world new_devices new_uplinks id of event stands first last (is here kept world.devices)
+    (on_ok_then r ok happens))
+
+-- what comes to the same, of each world that is stood for, plays the same
+pub plays_alike : (lines : ℕ) (old new : HeldCampaign) (r : Result (Unit {0}) AllocError) (after other : WorldState → WorldState)
+    → ((here : Section) (kept : Option LineError) (world : WorldState) → WorldStands (held_with lines here kept old) world → after world ≡ other world)
+    → Plays lines old new r after → Plays lines old new r other
+plays_alike lines old new r after other same plays here kept = on_ok r (λ ok. λ world stands.
+    subst (λ (w : WorldState). WorldStands (held_with lines section.Events kept new) w) (same here kept world stands)
+    (on_ok_then r ok (plays here kept) world stands))
 
 -- the frame of a payload that was sent
 pub frame_step : (lines : ℕ) (old new : HeldCampaign) (device number word : ℕ) (bytes : List ℕ) (r : Result (Unit {0}) AllocError)
@@ -91,33 +129,21 @@ pub frame_step : (lines : ℕ) (old new : HeldCampaign) (device number word : �
     → Plays lines old new r (λ world. with_event world device (Some (HearsBytes world.time word (world.lines + 1) bytes)))
     → Plays lines old new r (λ world. with_event world device (hearing world.time word (world.lines + 1)
     (sent_frame world.server.plan.group (numbered world.sent number))))
-frame_step lines old new device number word bytes r is plays here kept =
-    on_ok r (λ ok. λ world stands. heard world stands (on_ok_then r ok (plays here kept) world stands))
-  where
-    heard : (world : WorldState) → WorldStands (held_with lines here kept old) world
-        → WorldStands (held_with lines section.Events kept new)
-        (with_event world device (Some (HearsBytes world.time word (world.lines + 1) bytes)))
-        → WorldStands (held_with lines section.Events kept new)
-        (with_event world device (hearing world.time word (world.lines + 1)
-        (sent_frame world.server.plan.group (numbered world.sent number))))
-    heard world stands comes =
-        let frame : sent_frame world.server.plan.group (numbered world.sent number) ≡ Some bytes =
-        ap (λ (w : WorldState). sent_frame w.server.plan.group (numbered w.sent number)) stands.rest ∙ is in
-        subst (λ (o : Option (List ℕ)). WorldStands (held_with lines section.Events kept new)
-        (with_event world device (hearing world.time word (world.lines + 1) o))) (sym frame) comes
+frame_step lines old new device number word bytes r is =
+    plays_alike lines old new r _ _ (λ here kept world stands.
+    let frame : sent_frame world.server.plan.group (numbered world.sent number) ≡ Some bytes =
+    ap (λ (w : WorldState). sent_frame w.server.plan.group (numbered w.sent number)) stands.rest ∙ is in
+    ap (λ (o : Option (List ℕ)). with_event world device (hearing world.time word (world.lines + 1) o)) (sym frame))
 
--- a device that learns an image format makes no uplink
-pub migrate_reaches : (held : HeldWorld) (new_devices : List Late) (device : ℕ)
-    → OneComesToRest after_migration device held.devices new_devices
-    → Reaches held new_devices held.uplinks device (λ d. event_step d Migrates)
-unfolding after_migration
-migrate_reaches held new_devices device raised = record {
-  devices = raised;
-  uplinks = λ es d stand there.
-      let rests = zip_back DeviceRests held.devices es (device - 1) d stand there in
-      let none : d.outbox ≡ [] = rests_empty rests.0 d rests.1 in
-      rw (none) (sym (append-nil held.uplinks));
-}
+-- power that comes changes nothing
+pub power_step : (lines : ℕ) (old new : HeldCampaign) (device : ℕ) (r : Result (Unit {0}) AllocError)
+    → Plays lines old new r (λ world. with_event world device None) → Plays lines old new r (λ world. at_events world)
+power_step lines old new device r =
+    plays_alike lines old new r _ _ (λ here kept world stands. ap at_events (no_event world device (numbered world.devices device)))
+  where
+    no_event : (world : WorldState) (device : ℕ) (d : Option DeviceState) → after_event_at world device d None ≡ world
+    no_event world device None = refl
+    no_event world device (Some d) = refl
 
 -- a payload that was sent
 pub reception_of : (time word line : ℕ) (o : Option SentPayload) (sent : SentPayload) → o ≡ Some sent
@@ -157,7 +183,7 @@ unfolding uplink_step
 kept_after_uplink server dev port payload t = kept_by_reading server dev t (reading_of port Up payload)
 
 -- so a campaign stays one
-pub stays_campaign : (time : ℕ) (old new : ServerState) (devices : List Late) (uplinks : List MadeUplink) → KeepsPlan old new
+pub stays_campaign : (time : ℕ) (old new : ServerState) (devices : List Late) (uplinks : List NumberedUplink) → KeepsPlan old new
     → IsCampaign time old devices uplinks → IsCampaign time new devices uplinks
 stays_campaign time old new devices uplinks keeps is = record {
   image_is = rw (keeps.image) is.image_is;
@@ -167,17 +193,19 @@ stays_campaign time old new devices uplinks keeps is = record {
   made = is.made;
 }
 
--- and so it does behind an event at a device
-pub stays_reached : (time : ℕ) (server : ServerState) (old new : List Late) (uplinks new_uplinks : List MadeUplink) (id : ℕ)
-    → length new ≡ length old → StayMade id uplinks new_uplinks → id ≤ length old
-    → IsCampaign time server old uplinks → IsCampaign time server new new_uplinks
-stays_reached time server old new uplinks new_uplinks id long stay last is = record {
+-- and so it does after an event at a device
+pub stays_reached : (time : ℕ) (server : ServerState) (old new : List Late) (uplinks new_uplinks : List NumberedUplink) (id : ℕ)
+    (after : DeviceState → DeviceState) (r : Result (Unit {0}) AllocError)
+    → OnOk r (OneHappens after id old new uplinks new_uplinks) → OnErr r (new ≡ old) → OnErr r (new_uplinks ≡ uplinks)
+    → id ≤ length old → IsCampaign time server old uplinks → IsCampaign time server new new_uplinks
+stays_reached time server old new uplinks new_uplinks id after (Ok ok) happens same still last is = record {
   image_is = is.image_is;
   timed = is.timed;
-  few = rw (long) is.few;
-  numbers = is.numbers ∙ sym long;
-  made = rw (long) (stay (length old) last is.made);
+  few = rw (happens.count) is.few;
+  numbers = is.numbers ∙ sym happens.count;
+  made = rw (happens.count) (happens.made (length old) last is.made);
 }
+stays_reached time server old new uplinks new_uplinks id after (Err e) happens same still last is = rw (same, still) is
 
 -- ---- a device joins
 
@@ -215,18 +243,9 @@ join_step lines here kept image plan new_plan devices new_devices ids new_ids id
     (join_held lines here kept image plan new_plan devices new_devices ids new_ids id world.devices config device
     stands.devices plan_is devices_are ids_are joins)
 
--- ---- power that comes anew
-
--- whichever record a device rested as, it rests as that
-pub power_stands : (held : HeldWorld) (new_devices : List Late) (world : WorldState) → WorldStands held world
-    → ((all : List DeviceState) → DevicesRest held.devices all → DevicesRest new_devices all)
-    → WorldStands (record held { section = section.Events; devices = new_devices }) (at_events world)
-power_stands held new_devices world stands rests =
-    record { devices = rests world.devices stands.devices; rest = ap (λ (w : WorldState). at_events w) stands.rest }
-
 -- ---- an event, and the end
 
--- behind an event more of them come, and behind the end none
+-- after an event more of them come, and after the end none
 event_section : (world : WorldState) (f : Form) → is_event_or_end f ≡ true
     → after_form world f ≡ record (at_events (after_form world f)) { section = section_by (is_end f) }
 unfolding after_form
@@ -263,12 +282,12 @@ pub played_step : (lines : ℕ) (here : Section) (old new : HeldCampaign) (r : R
 played_step lines here old new r f event plays kept =
     on_ok r (λ ok. λ world stands. section_stands lines kept new world f event (on_ok_then r ok (plays here kept) world stands))
 
--- behind its line there is one line more
+-- after its line there is one line more
 pub one_more_stands : (held : HeldWorld) (world : WorldState) → WorldStands held world
     → WorldStands (record held { lines = held.lines + 1 }) (one_line_more world)
 one_more_stands held world stands = record { devices = stands.devices; rest = ap one_line_more stands.rest }
 
--- ---- what stays where memory is wanting
+-- ---- what stays where memory is missing
 
 -- devices and server are as they were
 pub ends_alike : (old new : HeldWorld) → new.devices ≡ old.devices → new.server ≡ old.server → KeepsEnds old new

@@ -108,3 +108,9 @@ pub same_set : {A : Type 0} (xs : List A) (i : ℕ) (new old : A) → new ≡ ol
 same_set [] i new old same is = refl
 same_set (x ∷ xs) zero new old same is = let first : new ≡ x = same ∙ is in rw (first) refl
 same_set (x ∷ xs) (suc i) new old same is = ap (λ ys. x ∷ ys) (same_set xs i new old same is)
+
+-- so it is of the one that is found there
+pub set_there : {A : Type 0} (xs : List A) (i : ℕ) (x : A) → slice_get xs i ≡ Some x → slice_set xs i x ≡ xs
+set_there [] i x there = refl
+set_there (a ∷ xs) zero x there = let same : a ≡ x = cc in rw (same) refl
+set_there (a ∷ xs) (suc i) x there = ap (λ ys. a ∷ ys) (set_there xs i x there)

@@ -18,13 +18,13 @@ use Rattle.campaign_world.specs.declared.section.Section.TheVariants as section
 use Rattle.script_lines.specs.Limits.{max_lines, max_flash_devices}
 use Rattle.script_lines.specs.Ranges.{in_range}
 use Rattle.campaign_world.specs.declared.numbered.SentPayload.{SentPayload}
-use Rattle.campaign_world.specs.declared.numbered.MadeUplink.{MadeUplink}
+use Rattle.campaign_world.specs.declared.numbered.NumberedUplink.{NumberedUplink}
 use Rattle.campaign_world.specs.World.{WorldState}
 use Rattle.campaign_world.specs.Said.{Said, Own, Elsewhere, Reached, Line}
 
 -- ---- order
 
--- the lines behind the plan: events, and the end
+-- the lines after the plan: events, and the end
 abbrev pub is_event_or_end : Form → Bool
 is_event_or_end Header = false
 is_event_or_end (Image frag_size parity index) = false
@@ -35,27 +35,27 @@ is_event_or_end (Device id class hw rows offset key descriptor v1 k11 flash) = f
 is_event_or_end form = true
 
 -- the form may come here
-abbrev pub may_come : Section → Form → Bool
-may_come section.Header Header = true
-may_come section.Image (Image frag_size parity index) = true
-may_come section.Group (Group id addr key min max) = true
-may_come section.Group (Device id class hw rows offset key descriptor v1 k11 flash) = true
-may_come section.Window (WindowC start timeout freq dr) = true
-may_come section.Window (WindowB start periodicity timeout freq dr) = true
-may_come section.Device (Device id class hw rows offset key descriptor v1 k11 flash) = true
-may_come section.Devices (Device id class hw rows offset key descriptor v1 k11 flash) = true
-may_come section.Devices form = is_event_or_end form
-may_come section.Events form = is_event_or_end form
-may_come here form = false
+abbrev pub is_in_order : Section → Form → Bool
+is_in_order section.Header Header = true
+is_in_order section.Image (Image frag_size parity index) = true
+is_in_order section.Group (Group id addr key min max) = true
+is_in_order section.Group (Device id class hw rows offset key descriptor v1 k11 flash) = true
+is_in_order section.Window (WindowC start timeout freq dr) = true
+is_in_order section.Window (WindowB start periodicity timeout freq dr) = true
+is_in_order section.Device (Device id class hw rows offset key descriptor v1 k11 flash) = true
+is_in_order section.Devices (Device id class hw rows offset key descriptor v1 k11 flash) = true
+is_in_order section.Devices form = is_event_or_end form
+is_in_order section.Events form = is_event_or_end form
+is_in_order here form = false
 
--- nothing comes behind the end
+-- nothing comes after the end
 abbrev pub has_ended : Section → Bool
 has_ended section.Ended = true
 has_ended here = false
 
 -- ---- range
 
--- an image of this length has at most 4,096 fragments; behind so many devices the ID is the next
+-- an image of this length has at most 4,096 fragments; after so many devices the ID is the next
 abbrev pub fits_script : (len count : ℕ) → Form → Bool
 fits_script len count (Image frag_size parity index) = nat_le (nb_frag_of len frag_size) max_pieces
 fits_script len count (Device id class hw rows offset key descriptor v1 k11 flash) = id == count + 1
@@ -102,25 +102,25 @@ goes_out None = false
 goes_out (Some sent) = is_to_group sent.down.to
 
 -- the uplink was made, and is due by now
-abbrev pub is_due_by : (now : ℕ) → Option MadeUplink → Bool
+abbrev pub is_due_by : (now : ℕ) → Option NumberedUplink → Bool
 is_due_by now None = false
 is_due_by now (Some made) = nat_le made.uplink.due now
 
-abbrev pub has_come : List SentPayload → List MadeUplink → (now : ℕ) → Form → Bool
-has_come sent uplinks now (Down number device word) = may_reach device (numbered sent number)
-has_come sent uplinks now (Air number device word) =
+abbrev pub is_available : List SentPayload → List NumberedUplink → (now : ℕ) → Form → Bool
+is_available sent uplinks now (Down number device word) = may_reach device (numbered sent number)
+is_available sent uplinks now (Air number device word) =
     may_reach device (numbered sent number) && goes_out (numbered sent number)
-has_come sent uplinks now (Up number) = is_due_by now (numbered uplinks number)
-has_come sent uplinks now form = true
+is_available sent uplinks now (Up number) = is_due_by now (numbered uplinks number)
+is_available sent uplinks now form = true
 
 -- the time does not go back
-abbrev pub is_to_come : (now : ℕ) → Form → Bool
-is_to_come now (At time) = nat_le now time
-is_to_come now form = true
+abbrev pub is_not_past : (now : ℕ) → Form → Bool
+is_not_past now (At time) = nat_le now time
+is_not_past now form = true
 
 -- ---- limit, last of all
 
--- behind so many devices with a flash one more has its place
+-- after so many devices with a flash one more has its place
 abbrev pub fits_flash : (count : ℕ) → Form → Bool
 fits_flash count (Device id class hw rows offset key descriptor v1 k11 flash) = not flash || nat_lt count max_flash_devices
 fits_flash count form = true
@@ -140,11 +140,11 @@ has_more server form = true
 
 unfoldable pub form_cause : WorldState → Form → Option LineWhy
 form_cause world form =
-    if not (may_come world.section form) then Some why.Order
+    if not (is_in_order world.section form) then Some why.Order
     else if not (in_range form && fits_script (length world.server.image) (length world.devices) form) then Some why.Range
     else if not (names_device (length world.devices) form && has_flash world.flash form) then Some why.Device
-    else if not (has_come world.sent world.uplinks world.time form) then Some why.Unsent
-    else if not (is_to_come world.time form) then Some why.Time
+    else if not (is_available world.sent world.uplinks world.time form) then Some why.Unsent
+    else if not (is_not_past world.time form) then Some why.Time
     else if not (fits_flash (length world.flash) form && fits_payload form) then Some why.Limit
     else if not (has_more world.server form) then Some why.Limit
     else None

@@ -1,4 +1,4 @@
--- A world behind the lines that it has heard, whatever came of them.
+-- A world after the lines that it has heard, whatever came of them.
 use Rattle.std.specs.Prelude.{◌≡◌, ◌⊎◌, ℕ, List, [], ◌∷◌, None, Some, Result, Ok, Err}
 use Rattle.report_lines.specs.declared.faults.LineError.TheVariants as error
 use Rattle.report_lines.specs.declared.faults.LineFault.{LineFault}
@@ -12,10 +12,10 @@ abbrev pub WorldIs : HeldWorld → Result WorldState LineFault → Type 0
 WorldIs held (Ok world) = (held.kept ≡ None) × WorldStands held world
 WorldIs held (Err fault) = held.kept ≡ Some (error.Line fault)
 
--- or memory was wanting
+-- or memory was missing
 abbrev pub WorldIsIf : HeldWorld → Result WorldState LineFault → Type 0
 WorldIsIf held so_far = (held.kept ≡ Some error.Memory) ⊎ WorldIs held so_far
 
--- it hears a line, whatever it was behind
+-- it hears a line, whatever it was after
 abbrev pub HearsScriptLine : HeldWorld → List ℕ → HeldWorld → Type 0
 HearsScriptLine old line new = (so_far : Result WorldState LineFault) → WorldIsIf old so_far → WorldIsIf new (read_lines so_far (line_of line ∷ []))

@@ -1,7 +1,7 @@
 -- A device of a campaign, whose memory is taken when its first event comes.
 use Rattle.std.specs.Prelude.{◌≡◌, ◌≤◌, ◌<◌, ◌^◌, true, [], Option, Some, None}
 use Rattle.device_core.specs.Device.{DeviceState, first_device}
-use Rattle.flash_session.specs.Flashes.{Cells}
+use Rattle.flash_session.specs.Flashes.{Cells, cells_seen}
 use Rattle.flash_session.specs.Layout.{records_place}
 use Rattle.device_core.specs.HeldDevice.{HeldDevice, DeviceStands}
 use Rattle.device_core.specs.HeldSessions.{StateIsStored}
@@ -10,11 +10,7 @@ use Rattle.device_core.specs.declared.config.DeviceConfig.{DeviceConfig}
 -- what it is configured with, and what it holds from its first event on
 pub record Late : Type 0 where
   pub config : DeviceConfig
-  pub came : Option (HeldDevice Cells)
-
--- its memory is taken
-abbrev pub IsHere : Late → Type 0
-IsHere late = (held : HeldDevice Cells) × (late.came ≡ Some held)
+  pub device : Option (HeldDevice Cells)
 
 -- sessions that are held in flash have ranges there
 abbrev pub HasSpan : DeviceConfig → Type 0
@@ -23,10 +19,10 @@ HasSpan config = config.held ≡ true → (records_place ≤ config.span) × (co
 -- its sessions lie in its cells, if they are held there
 abbrev pub IsStored : HeldDevice Cells → DeviceState → Type 0
 IsStored held device =
-    StateIsStored held.sessions.state device.sessions (λ c. c ≡ held.sessions.flash.bytes) (λ c. ⊥)
+    StateIsStored held.sessions.state device.sessions (cells_seen held.sessions.flash.bytes)
 
 -- a device between two events: it stands for its record, its sessions are stored, and its uplinks are taken
-pub record HeldRests (held : HeldDevice Cells) (device : DeviceState) : Type 0 where
+pub record IsAtRest (held : HeldDevice Cells) (device : DeviceState) : Type 0 where
   pub stands : DeviceStands held device
   pub stored : IsStored held device
   pub empty : held.outbox ≡ []
@@ -34,7 +30,7 @@ pub record HeldRests (held : HeldDevice Cells) (device : DeviceState) : Type 0 w
 -- before its first event it stands for the first record of its configuration
 abbrev pub RestsBy : DeviceConfig → Option (HeldDevice Cells) → DeviceState → Type 0
 RestsBy config None device = device ≡ first_device config
-RestsBy config (Some held) device = HeldRests held device
+RestsBy config (Some held) device = IsAtRest held device
 
 abbrev pub DeviceRests : Late → DeviceState → Type 0
-DeviceRests late device = RestsBy late.config late.came device
+DeviceRests late device = RestsBy late.config late.device device

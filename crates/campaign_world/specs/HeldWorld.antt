@@ -1,24 +1,21 @@
 -- What a world holds, for which campaigns it stands, and what it answers.
-use Rattle.std.specs.Prelude.{◌≡◌, ℕ, ◌+◌, ◌-◌, Bool, false, List, [], ◌∷◌, ◌++◌, length, map, slice_get, slice_set, Option, Some, None, Result, Ok, Err, OnOk, true}
+use Rattle.std.specs.Prelude.{◌≡◌, ℕ, ◌+◌, Bool, false, List, [], ◌∷◌, length, Option, Some, None, Result, Ok, Err, OnOk, true}
 use Rattle.std.specs.List.{AllZip}
 use Rattle.device_core.specs.Device.{DeviceState}
-use Rattle.device_core.specs.declared.uplink.Uplink.{Uplink}
 use Rattle.campaign_server.specs.Server.{ServerState}
 use Rattle.report_lines.specs.declared.faults.LineError.{LineError}
 use Rattle.report_lines.specs.declared.faults.LineError.TheVariants as error
 use Rattle.campaign_world.specs.declared.numbered.SentPayload.{SentPayload}
-use Rattle.campaign_world.specs.declared.numbered.MadeUplink.{MadeUplink}
+use Rattle.campaign_world.specs.declared.numbered.NumberedUplink.{NumberedUplink}
 use Rattle.campaign_world.specs.declared.section.Section.{Section}
 use Rattle.campaign_world.specs.declared.section.Section.TheVariants as section
 use Rattle.campaign_world.specs.World.{WorldState}
 use Rattle.campaign_world.specs.HeldLate.{Late, DeviceRests}
 use Rattle.package_grammar.specs.declared.downlink.Downlink.{Downlink}
 use Rattle.script_lines.specs.declared.forms.Form.{Form}
-use Rattle.report_lines.specs.declared.faults.LineWhy.{LineWhy}
 use Rattle.script_lines.specs.Ranges.{in_range}
-use Rattle.campaign_world.specs.Causes.{fits_script, names_device, has_come, fits_payload, form_cause, cause_of}
+use Rattle.campaign_world.specs.Causes.{fits_script, names_device, is_available, fits_payload, form_cause, cause_of}
 use Rattle.campaign_world.specs.Said.{line_of}
-use Rattle.campaign_world.specs.Making.{made_by}
 use Rattle.campaign_world.specs.Script.{after_line, end_result}
 use Rattle.campaign_world.specs.Report.{report_of}
 use Rattle.campaign_world.specs.Summary.{summary_of}
@@ -30,7 +27,7 @@ pub record HeldCampaign : Type 0 where
   pub devices : List Late
   pub flash : List ℕ
   pub sent : List SentPayload
-  pub uplinks : List MadeUplink
+  pub uplinks : List NumberedUplink
 
 -- a world without them
 pub record HeldWorld : Type 0 where
@@ -41,10 +38,10 @@ pub record HeldWorld : Type 0 where
   pub devices : List Late
   pub flash : List ℕ
   pub sent : List SentPayload
-  pub uplinks : List MadeUplink
+  pub uplinks : List NumberedUplink
   pub kept : Option LineError
 
--- the world behind so many lines, at a section, that holds this campaign
+-- the world after so many lines, at a section, that holds this campaign
 abbrev pub held_with : (lines : ℕ) → Section → (kept : Option LineError) → HeldCampaign → HeldWorld
 held_with lines section kept held = record {
   lines = lines;
@@ -74,37 +71,6 @@ world_of held devices = record {
 abbrev pub DevicesRest : List Late → List DeviceState → Type 0
 DevicesRest = AllZip DeviceRests
 
--- ---- an event at a device, whose uplinks are then taken
-
--- the device without the uplinks that it held
-abbrev pub resting : DeviceState → DeviceState
-resting device = record device { outbox = [] }
-
--- whatever record it rested as, by this relation, it rests as what the event makes of that
-abbrev pub ComesToRest : {H : Type 0} (Rests : H → DeviceState → Type 0) (event : DeviceState → DeviceState)
-    → (old new : H) → Type 0
-ComesToRest Rests event old new = (device : DeviceState) → Rests old device → Rests new (resting (event device))
-
--- the uplinks that a device holds, numbered behind the others
-abbrev pub numbered_behind : List MadeUplink → (id : ℕ) → List Uplink → List MadeUplink
-numbered_behind uplinks id made = uplinks ++ map (λ uplink. made_by id uplink) made
-
--- so are those that the event makes
-abbrev pub AreNumbered : {H : Type 0} (Rests : H → DeviceState → Type 0) (event : DeviceState → DeviceState)
-    → H → (id : ℕ) → (old new : List MadeUplink) → Type 0
-AreNumbered Rests event held id old new =
-    (device : DeviceState) → Rests held device → new ≡ numbered_behind old id (event device).outbox
-
--- the same of the device with this number
-abbrev pub OneComesToRest : (event : DeviceState → DeviceState) → (id : ℕ) → (old new : List Late) → Type 0
-OneComesToRest event id old new = (all : List DeviceState) (device : DeviceState) → DevicesRest old all
-    → slice_get all (id - 1) ≡ Some device → DevicesRest new (slice_set all (id - 1) (resting (event device)))
-
-abbrev pub OnesAreNumbered : (event : DeviceState → DeviceState) → List Late → (id : ℕ)
-    → (old new : List MadeUplink) → Type 0
-OnesAreNumbered event held id old new = (all : List DeviceState) (device : DeviceState) → DevicesRest held all
-    → slice_get all (id - 1) ≡ Some device → new ≡ numbered_behind old id (event device).outbox
-
 -- ---- the world
 
 -- its devices stand for the campaign's, and all else is equal
@@ -125,7 +91,7 @@ pub record EndsStand (held : HeldWorld) (world : WorldState) : Type 0 where
 abbrev pub KeepsEnds : (old new : HeldWorld) → Type 0
 KeepsEnds old new = (world : WorldState) → WorldStands old world → EndsStand new world
 
--- the answer to a line: it was taken, or it is the first refused line with its first cause, or memory was wanting
+-- the answer to a line: it was taken, or it is the first refused line with its first cause, or memory was missing
 abbrev pub IsLineAnswer : WorldState → (line : List ℕ) → (new : HeldWorld) → Result (Unit {0}) LineError → Type 0
 IsLineAnswer world line new (Ok done) = (cause_of world (line_of line) ≡ None) × WorldStands new (after_line world (line_of line)) × (new.kept ≡ None)
 IsLineAnswer world line new (Err (error.Line fault)) = (cause_of world (line_of line) ≡ Some fault.why) × (fault.line ≡ world.lines + 1) × WorldStands new world
@@ -161,10 +127,6 @@ IsEndAnswer world (Err error.Memory) = ⊥
 abbrev pub IsFine : HeldWorld → Form → Type 0
 IsFine held form = (devices : List DeviceState) → length devices ≡ length held.devices → form_cause (world_of held devices) form ≡ None
 
--- the cause of the line, whatever it stands for
-abbrev pub IsCauseOf : HeldWorld → (line : List ℕ) → Option LineWhy → Type 0
-IsCauseOf held line cause = (devices : List DeviceState) → length devices ≡ length held.devices → cause_of (world_of held devices) (line_of line) ≡ cause
-
 -- a payload that was sent, if one was
 abbrev pub sent_by : (receiver : Option ℕ) → Option Downlink → List SentPayload
 sent_by receiver None = []
@@ -185,7 +147,7 @@ pub record IsTested (held : HeldCampaign) (form : Form) : Type 0 where
   pub ranges : in_range form ≡ true
   pub fits : fits_script (length held.server.image) (length held.devices) form ≡ true
   pub names : names_device (length held.devices) form ≡ true
-  pub come : has_come held.sent held.uplinks held.time form ≡ true
+  pub available : is_available held.sent held.uplinks held.time form ≡ true
   pub short : fits_payload form ≡ true
 
 -- where it is Ok, whatever world held the campaign becomes this, from one section to another

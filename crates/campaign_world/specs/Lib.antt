@@ -10,7 +10,8 @@ pub mod Recovery
 pub mod HeldLate
 pub mod HeldLog
 pub mod HeldWorld
-pub mod EventCauses
+pub mod HeldEvent
+pub mod HeldCauses
 pub mod HeardWorld
 pub mod LogsInside
 pub mod WorldInside

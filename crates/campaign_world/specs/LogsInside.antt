@@ -1,11 +1,11 @@
--- The items whose bytes lie one behind the other, and what keeps them there.
+-- The items whose bytes lie one after the other, and what keeps them there.
 use Rattle.std.specs.Prelude.{ℕ, ◌+◌, ◌≤◌, List, length, slice_range}
 use Rattle.std.specs.List.{AllByRecursion}
 use Rattle.wire_base.specs.Payload.{max_payload}
 use Rattle.campaign_world.specs.declared.logs.SentHead.{SentHead}
 use Rattle.campaign_world.specs.declared.logs.MadeHead.{MadeHead}
 use Rattle.campaign_world.specs.declared.numbered.SentPayload.{SentPayload}
-use Rattle.campaign_world.specs.declared.numbered.MadeUplink.{MadeUplink}
+use Rattle.campaign_world.specs.declared.numbered.NumberedUplink.{NumberedUplink}
 
 -- the payload with this head, among the bytes of all
 abbrev pub sent_at : (bytes : List ℕ) → SentHead → SentPayload
@@ -15,13 +15,13 @@ sent_at bytes head = record {
 }
 
 -- the uplink with this head
-abbrev pub made_at : (bytes : List ℕ) → MadeHead → MadeUplink
+abbrev pub made_at : (bytes : List ℕ) → MadeHead → NumberedUplink
 made_at bytes head = record {
   device = head.device;
   uplink = record { due = head.due; port = head.port; payload = slice_range bytes head.at (head.at + head.len) };
 }
 
--- so many bytes lie behind so many others, and are no more than a payload's
+-- so many bytes lie after so many others, and are no more than a payload's
 pub record Lies (bytes : List ℕ) (at len : ℕ) : Type 0 where
   pub within : at + len ≤ length bytes
   pub few : len ≤ max_payload

@@ -29,7 +29,7 @@ use Rattle.script_lines.specs.declared.forms.Form.TheVariants.{Header, Image, Gr
 use Rattle.campaign_world.specs.declared.section.Section.{Section}
 use Rattle.campaign_world.specs.declared.section.Section.TheVariants as section
 use Rattle.campaign_world.specs.declared.numbered.SentPayload.{SentPayload}
-use Rattle.campaign_world.specs.declared.numbered.MadeUplink.{MadeUplink}
+use Rattle.campaign_world.specs.declared.numbered.NumberedUplink.{NumberedUplink}
 use Rattle.campaign_world.specs.World.{WorldState}
 use Rattle.campaign_world.specs.Said.{Said, Own, Elsewhere, Reached}
 
@@ -88,7 +88,7 @@ abbrev pub device_of : Class → (hw rows offset : ℕ) → (key : List ℕ) →
 device_of class hw rows offset key descriptor v1 k11 flash =
     first_device (config_of class hw rows offset key descriptor v1 k11 flash)
 
--- behind its line a device with a flash is one of them
+-- after its line a device with a flash is one of them
 abbrev pub with_flash : (ids : List ℕ) → (id : ℕ) → (flash : Bool) → List ℕ
 with_flash ids id flash = if flash then ids ++ id ∷ [] else ids
 
@@ -113,10 +113,10 @@ with_sent world receiver (Some down) =
 
 -- ---- what comes up
 
-abbrev pub made_by : (device : ℕ) → Uplink → MadeUplink
+abbrev pub made_by : (device : ℕ) → Uplink → NumberedUplink
 made_by device uplink = record { device = device; uplink = uplink }
 
--- behind an event at a device its uplinks are taken, the oldest first, and numbered
+-- after an event at a device its uplinks are taken, the oldest first, and numbered
 unfoldable pub with_device : WorldState → (n : ℕ) → DeviceState → WorldState
 with_device world n device = record world {
   devices = slice_set world.devices (n - 1) (uplinks_taken device);
@@ -157,7 +157,7 @@ abbrev pub after_event_at : WorldState → (n : ℕ) → Option DeviceState → 
 after_event_at world n (Some device) (Some event) = with_device world n (event_step device event)
 after_event_at world n device event = world
 
--- the server behind an uplink sends its answer to the device
+-- the server after an uplink sends its answer to the device
 abbrev pub after_answer : WorldState → (n : ℕ) → UplinkStep → WorldState
 after_answer world n step = with_answer (record world { server = step.server }) step.answer
   where
@@ -165,7 +165,7 @@ after_answer world n step = with_answer (record world { server = step.server }) 
     with_answer world (Ok down) = with_sent world (Some n) down
     with_answer world (Err refusal) = world
 
-abbrev pub after_up : WorldState → Option MadeUplink → WorldState
+abbrev pub after_up : WorldState → Option NumberedUplink → WorldState
 after_up world None = world
 after_up world (Some made) =
     after_answer world made.device (uplink_step world.server made.device made.uplink.port made.uplink.payload world.time)
@@ -173,18 +173,18 @@ after_up world (Some made) =
 abbrev pub at_events : WorldState → WorldState
 at_events world = record world { section = section.Events }
 
--- the device with a number, behind an event
+-- the device with a number, after an event
 abbrev pub with_event : WorldState → (n : ℕ) → Option Event → WorldState
 with_event world n event = at_events (after_event_at world n (numbered world.devices n) event)
 
--- the device with a number, behind what the next line lets happen
+-- the device with a number, after what the next line lets happen
 abbrev pub with_event_of : WorldState → (n : ℕ) → Form → WorldState
 with_event_of world n form =
     with_event world n (event_of world.server.plan.group world.sent world.time (world.lines + 1) form)
 
 -- ---- the table
 
--- the campaign behind a form
+-- the campaign after a form
 unfoldable pub after_form : WorldState → Form → WorldState
 after_form world Header = record world { section = section.Image }
 after_form world (Image frag_size parity index) =
@@ -216,7 +216,7 @@ after_form world End = record world { section = section.Ended }
 
 -- ---- what a line says
 
--- the campaign behind what a line says
+-- the campaign after what a line says
 abbrev pub after_said : WorldState → Said → WorldState
 after_said world (Own form) = after_form world form
 after_said world Elsewhere = world

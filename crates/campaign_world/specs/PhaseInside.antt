@@ -33,7 +33,7 @@ abbrev pub PlanBecomes : (old new : Planning) → (WorldState → WorldState) �
 PlanBecomes old new after = (lines : ℕ) (kept : Option LineError)
     → WorldBecomes (held_with lines old.section kept (planned_by old)) (held_with lines new.section kept (planned_by new)) after
 
--- so does one for which memory may be wanting
+-- so does one for which memory may be missing
 abbrev pub PlanTakes : (lines : ℕ) → (old new : Planning) → {E : Type 0} → Result (Unit {0}) E → (WorldState → WorldState) → Type 0
 PlanTakes lines old new result after =
     Becomes lines old.section new.section (planned_by old) (planned_by new) result after

@@ -6,7 +6,7 @@ use Rattle.device_core.specs.Device.{DeviceState}
 use Rattle.campaign_server.specs.declared.stage.Stage.{Stage}
 use Rattle.campaign_server.specs.Server.{ServerState, ledger}
 use Rattle.wire_base.specs.Numbered.{numbered}
-use Rattle.report_lines.specs.Devices.{◌⧺◌, stage_text, device_line, counts_line}
+use Rattle.report_lines.specs.Devices.{◌⧺◌, device_line, counts_line}
 use Rattle.report_lines.specs.Sessions.{same, session_lines}
 use Rattle.campaign_world.specs.World.{WorldState}
 
@@ -34,15 +34,6 @@ named_part image name stage device =
 -- its name is its ID
 abbrev pub device_part : (image : List ℕ) → (id : ℕ) → Stage → DeviceState → List ℕ
 device_part image id stage device = named_part image (decimal id) stage device
-
--- those of one to which nothing happened yet
-abbrev pub first_text : (name stage : List ℕ) → (offset : ℕ) → List ℕ
-first_text name stage offset =
-    codes "device " ⧺ name ⧺ codes " " ⧺ stage ⧺ codes " clock " ⧺ decimal offset
-    ⧺ codes " token 0 running 0 next none\ncounts deaf 0 refused 0 full 0 dropped 0\n"
-
-abbrev pub first_part : (name : List ℕ) → Stage → (offset : ℕ) → List ℕ
-first_part name stage offset = first_text name (stage_text stage) offset
 
 -- those of the device with a number, counted from 1, under a name; none where there is no such device
 abbrev pub found_lines : (image name : List ℕ) → Option Stage → Option DeviceState → List ℕ

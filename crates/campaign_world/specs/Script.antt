@@ -10,7 +10,7 @@ use Rattle.campaign_world.specs.Causes.{cause_of}
 use Rattle.campaign_world.specs.Said.{Line}
 use Rattle.campaign_world.specs.Making.{after_said}
 
--- the campaign behind a line that is not refused
+-- the campaign after a line that is not refused
 abbrev pub one_line_more : WorldState → WorldState
 one_line_more world = record world { lines = world.lines + 1 }
 
@@ -18,7 +18,7 @@ abbrev pub after_line : WorldState → Line → WorldState
 after_line world (Err cause) = world
 after_line world (Ok said) = one_line_more (after_said world said)
 
--- the campaign behind the next line, or that line's fault
+-- the campaign after the next line, or that line's fault
 abbrev pub line_result : WorldState → Line → Option LineWhy → Result WorldState LineFault
 line_result world line None = Ok (after_line world line)
 line_result world line (Some cause) = Err (record { line = world.lines + 1; why = cause })
@@ -26,13 +26,13 @@ line_result world line (Some cause) = Err (record { line = world.lines + 1; why 
 unfoldable pub read_line : WorldState → Line → Result WorldState LineFault
 read_line world line = line_result world line (cause_of world line)
 
--- the campaign behind all lines, or the fault of the first that is refused
+-- the campaign after all lines, or the fault of the first that is refused
 unfoldable pub read_lines : Result WorldState LineFault → List Line → Result WorldState LineFault
 read_lines (Err fault) lines = Err fault
 read_lines (Ok world) [] = Ok world
 read_lines (Ok world) (line ∷ lines) = read_lines (read_line world line) lines
 
--- without `end` the line behind the last is missing
+-- without `end` the line after the last is missing
 abbrev pub end_result_at : Section → WorldState → Result WorldState LineFault
 end_result_at section.Ended world = Ok world
 end_result_at other world = Err (record { line = world.lines + 1; why = why.Syntax })

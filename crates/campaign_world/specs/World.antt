@@ -2,7 +2,7 @@
 use Rattle.std.specs.Prelude.{ℕ, List, [], None}
 use Rattle.device_core.specs.Device.{DeviceState}
 use Rattle.campaign_world.specs.declared.numbered.SentPayload.{SentPayload}
-use Rattle.campaign_world.specs.declared.numbered.MadeUplink.{MadeUplink}
+use Rattle.campaign_world.specs.declared.numbered.NumberedUplink.{NumberedUplink}
 use Rattle.campaign_server.specs.Plan.{Plan}
 use Rattle.campaign_server.specs.Server.{ServerState, first_server}
 use Rattle.campaign_world.specs.declared.section.Section.{Section}
@@ -19,7 +19,7 @@ pub record WorldState : Type 0 where
   pub devices : List DeviceState
   pub flash : List ℕ
   pub sent : List SentPayload
-  pub uplinks : List MadeUplink
+  pub uplinks : List NumberedUplink
 
 -- nothing is planned
 abbrev pub first_plan : Plan

@@ -1,5 +1,5 @@
 -- What the fields of a world's phases keep true.
-use Rattle.std.specs.Prelude.{◌≡◌, ℕ, ◌≤◌, true, List, [], length, None, is_some}
+use Rattle.std.specs.Prelude.{◌≡◌, ℕ, ◌≤◌, ◌<◌, true, List, [], length, None, is_some}
 use Rattle.std.specs.List.{AllByRecursion}
 use Rattle.image_slots.specs.Image.{is_image}
 use Rattle.device_core.specs.Sendable.{IsUplink}
@@ -7,11 +7,11 @@ use Rattle.campaign_server.specs.Plan.{Plan, is_frag_size, is_group, is_window, 
 use Rattle.campaign_server.specs.Server.{ServerState}
 use Rattle.script_lines.specs.Limits.{max_time}
 use Rattle.campaign_world.specs.HeldLate.{Late}
-use Rattle.campaign_world.specs.declared.numbered.MadeUplink.{MadeUplink}
+use Rattle.campaign_world.specs.declared.numbered.NumberedUplink.{NumberedUplink}
 use Rattle.campaign_world.specs.declared.section.Section.{Section}
 use Rattle.campaign_world.specs.declared.section.Section.TheVariants as section
 
--- the plan behind the image's line: it cuts the image, and its group, if there is one, has frame counts
+-- the plan after the image's line: it cuts the image, and its group, if there is one, has frame counts
 pub record IsSized (image : List ℕ) (plan : Plan) (devices : List Late) : Type 0 where
   pub size : is_frag_size (length image) plan.frag_size ≡ true
   pub few : plan.parity ≤ max_parity
@@ -29,7 +29,7 @@ abbrev pub IsPlanned : (image : List ℕ) → Section → Plan → List Late →
 IsPlanned image section.Header plan devices = (plan.group ≡ None) × (plan.window ≡ None) × (plan.devices ≡ []) × (devices ≡ [])
 IsPlanned image section.Image plan devices = (plan.group ≡ None) × (plan.window ≡ None) × (plan.devices ≡ []) × (devices ≡ [])
 IsPlanned image section.Group plan devices = IsSized image plan devices × (plan.group ≡ None) × (plan.window ≡ None)
--- behind a group its window is to come
+-- after a group its window is to come
 IsPlanned image section.Window plan devices = IsSized image plan devices × (is_some plan.group ≡ true)
 IsPlanned image section.Device plan devices = IsSized image plan devices × IsWindowed plan
 IsPlanned image section.Devices plan devices = IsSized image plan devices × IsWindowed plan × (1 ≤ length devices)
@@ -42,6 +42,12 @@ pub record IsPlanning (image : List ℕ) (section : Section) (plan : Plan) (devi
   pub few : length devices ≤ max_devices
   pub planned : IsPlanned image section plan devices
 
+-- when one device more may join
+pub record IsToJoin (image : List ℕ) (plan : Plan) (devices : List Late) : Type 0 where
+  pub sized : IsSized image plan devices
+  pub windowed : IsWindowed plan
+  pub room : length devices < max_devices
+
 -- when its server is made
 pub record IsToBegin (image : List ℕ) (plan : Plan) (devices : List Late) : Type 0 where
   pub image_is : is_image image ≡ true
@@ -50,21 +56,21 @@ pub record IsToBegin (image : List ℕ) (plan : Plan) (devices : List Late) : Ty
   pub some : 1 ≤ length devices
 
 -- an uplink is one of a device that there is, and one command in its canonical spelling
-pub record IsMadeBy (count : ℕ) (made : MadeUplink) : Type 0 where
+pub record IsMadeBy (count : ℕ) (made : NumberedUplink) : Type 0 where
   pub first : 1 ≤ made.device
   pub last : made.device ≤ count
   pub single : IsUplink made.uplink
 
 -- and all are
-abbrev pub AreMadeBy : (count : ℕ) → List MadeUplink → Type 0
+abbrev pub AreMadeBy : (count : ℕ) → List NumberedUplink → Type 0
 AreMadeBy count uplinks = AllByRecursion (IsMadeBy count) uplinks
 
 -- what is numbered of a device that there is leaves them so
-abbrev pub StayMade : (id : ℕ) → (old new : List MadeUplink) → Type 0
+abbrev pub StayMade : (id : ℕ) → (old new : List NumberedUplink) → Type 0
 StayMade id old new = (count : ℕ) → id ≤ count → AreMadeBy count old → AreMadeBy count new
 
 -- what plays
-pub record IsCampaign (time : ℕ) (server : ServerState) (devices : List Late) (uplinks : List MadeUplink) : Type 0 where
+pub record IsCampaign (time : ℕ) (server : ServerState) (devices : List Late) (uplinks : List NumberedUplink) : Type 0 where
   pub image_is : is_image server.image ≡ true
   pub timed : time ≤ max_time
   pub few : length devices ≤ max_devices

@@ -3,7 +3,7 @@
 ghost use Rattle.std.specs.Prelude.{◌≡◌, ◌≤◌, ◌<◌, ◌^◌, ℕ, length};
 ghost use Rattle.script_lines.specs.declared.forms.Form.TheVariants.{Image};
 ghost use Rattle.image_slots.specs.Image.{max_image};
-ghost use Rattle.campaign_world.specs.Causes.{is_event_or_end, may_come, fits_script, is_device, names_device, has_flash, fits_flash, may_reach, is_to_group, goes_out, is_due_by, has_come, is_to_come, fits_payload};
+ghost use Rattle.campaign_world.specs.Causes.{is_event_or_end, is_in_order, fits_script, is_device, names_device, fits_flash, may_reach, is_to_group, goes_out, is_due_by};
 ghost use Rattle.wire_base.specs.Numbered.{numbered};
 
 use crate::logs::{SentLog, UplinkLog};
@@ -11,12 +11,11 @@ use crate::section::Section;
 use frag_model::lines::MAX_PIECES;
 use package_grammar::To;
 use script_lines::Form;
-use wire_base::MAX_PAYLOAD;
 
 /// The most devices of a script whose sessions are held in flash.
 const MAX_FLASH_DEVICES: usize = 4;
 
-/// Whether the form stands behind the plan: an event, or the end.
+/// Whether the form stands after the plan: an event, or the end.
 pub fn is_event_or_end(form: &Form) -> bool
     ensures { result ≡ is_event_or_end form.now }
 {
@@ -32,8 +31,8 @@ pub fn is_event_or_end(form: &Form) -> bool
 }
 
 /// Whether the form may come in this section.
-pub fn may_come(section: Section, form: &Form) -> bool
-    ensures { result ≡ may_come section form.now }
+pub fn is_in_order(section: Section, form: &Form) -> bool
+    ensures { result ≡ is_in_order section form.now }
 {
     match section {
         Section::Header => matches!(form, Form::Header),
@@ -47,7 +46,7 @@ pub fn may_come(section: Section, form: &Form) -> bool
     }
 }
 
-/// Whether an image of this length has at most 4,096 fragments, and the device's ID is the next behind so many.
+/// Whether an image of this length has at most 4,096 fragments, and the device's ID is the next after so many.
 pub fn fits_script(len: usize, count: usize, form: &Form) -> bool
     requires len { len ≤ max_image }
     requires count { count < 2 ^ 63 }
@@ -84,31 +83,6 @@ pub fn names_device(count: usize, form: &Form) -> bool
         Form::Raw { device, .. } => is_device(count, *device),
         Form::Air { device, .. } => is_device(count, *device),
         Form::RawAir { device, .. } => is_device(count, *device),
-        _ => true,
-    }
-}
-
-/// Whether the device whose power goes, if the form tells of one, is one of those with a flash.
-pub fn has_flash(flash: &[u64], form: &Form) -> bool
-    ensures { result ≡ has_flash flash.now form.now }
-{
-    match form {
-        Form::Power { device } => flash.contains(device),
-        _ => true,
-    }
-}
-
-/// Whether the payload of a `down` was sent and may reach its device, that of an `air` goes out as a frame too, and the uplink
-/// of an `up` was made and is due.
-pub fn has_come(sent: &SentLog, uplinks: &UplinkLog, now: u64, form: &Form) -> bool
-    ensures { result ≡ has_come sent.now.items uplinks.now.items now form.now }
-{
-    match form {
-        Form::Down { number, device, .. } => may_reach(*device, sent, *number),
-        Form::Air { number, device, .. } => {
-            may_reach(*device, sent, *number) && goes_out(sent, *number)
-        }
-        Form::Up { number } => is_due_by(now, uplinks, *number),
         _ => true,
     }
 }
@@ -155,32 +129,12 @@ pub fn is_due_by(now: u64, uplinks: &UplinkLog, number: u64) -> bool
     }
 }
 
-/// Whether the time that the form tells, if it tells one, is not over.
-pub fn is_to_come(now: u64, form: &Form) -> bool
-    ensures { result ≡ is_to_come now form.now }
-{
-    match form {
-        Form::At { time } => now <= *time,
-        _ => true,
-    }
-}
-
-/// Whether a device with a flash, if the form tells of one, has its place behind so many of them.
+/// Whether a device with a flash, if the form tells of one, has its place after so many of them.
 pub fn fits_flash(count: usize, form: &Form) -> bool
     ensures { result ≡ fits_flash count form.now }
 {
     match form {
         Form::Device { flash, .. } => !*flash || count < MAX_FLASH_DEVICES,
-        _ => true,
-    }
-}
-
-/// Whether the payload that the form tells, if it tells one, has at most 242 bytes.
-pub fn fits_payload(form: &Form) -> bool
-    ensures { result ≡ fits_payload form.now }
-{
-    match form {
-        Form::Raw { payload, .. } => payload.len() <= MAX_PAYLOAD,
         _ => true,
     }
 }

@@ -12,23 +12,22 @@
 //!     let file = world.recovered(1);
 #![tactic(auto)]
 
-mod calls;
 mod causes;
-mod deliveries;
+mod happening;
 mod hearing;
 mod late;
-mod lent;
 mod logs;
 mod numbered;
 mod recovery;
 mod report;
 mod section;
 mod summary;
+mod uplink_ref;
 mod world;
 
-pub use causes::{fits_flash, is_device, is_event_or_end, may_come, names_device};
-pub use lent::{LentDownlink, LentUplink};
+pub use causes::{fits_flash, is_device, is_event_or_end, is_in_order, names_device};
 pub use numbered::SentPayload;
 pub use recovery::NoFile;
 pub use section::Section;
+pub use uplink_ref::UplinkRef;
 pub use world::World;

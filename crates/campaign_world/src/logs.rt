@@ -1,4 +1,4 @@
-//! What was sent and made in a campaign: the bytes of all, one behind the other, and of each item where its bytes begin
+//! What was sent and made in a campaign: the bytes of all, one after the other, and of each item where its bytes begin
 //! and how many they are. An item takes 24 bytes and its own.
 
 ghost use Rattle.std.specs.Prelude.{◌≡◌, ◌≤◌, ◌+◌, ◌++◌, ◌∷◌, ℕ, [], length, OnOk, vec_len, vec_capacity, slice_range};
@@ -8,11 +8,11 @@ ghost use Rattle.device_core.specs.Device.{outbox_size};
 ghost use Rattle.campaign_world.specs.HeldLog.{HasRoom};
 ghost use Rattle.campaign_world.specs.LogsInside.{sent_at, made_at, Lies};
 
-use crate::calls::OUTBOX;
-use crate::lent::{LentDownlink, LentUplink};
-use crate::numbered::{MadeUplink, SentPayload, numbered};
+use crate::happening::OUTBOX;
+use crate::numbered::{NumberedUplink, SentPayload, numbered};
+use crate::uplink_ref::UplinkRef;
 use device_core::Uplink;
-use package_grammar::{Downlink, To};
+use package_grammar::{Downlink, DownlinkRef, To};
 use std::alloc::{AllocError, Global};
 use std::marker::Model;
 use wire_base::MAX_PAYLOAD;
@@ -103,7 +103,7 @@ impl SentLog {
         self.bytes.reserve(MAX_PAYLOAD)
     }
 
-    /// Numbers a payload behind the others. There is room for it.
+    /// Numbers a payload after the others. There is room for it.
     pub fn push(&mut self, receiver: Option<u8>, down: &Downlink)
         requires { HasRoom 1 self.old }
         ensures { self.new.items
@@ -130,11 +130,11 @@ pub struct UplinkLog {
 
 impl Model for UplinkLog {
     ghost use Rattle.std.specs.Prelude.{◌-◌, map, vec_len, vec_capacity};
-    ghost use Rattle.campaign_world.specs.declared.numbered.MadeUplink.{MadeUplink};
+    ghost use Rattle.campaign_world.specs.declared.numbered.NumberedUplink.{NumberedUplink};
     ghost use Rattle.campaign_world.specs.HeldLog.{HeldLog};
     ghost use Rattle.campaign_world.specs.LogsInside.{made_at, MadeLie};
 
-    ghost Value = { HeldLog MadeUplink };
+    ghost Value = { HeldLog NumberedUplink };
 
     ghost view = { λ l. record {
       items = map (made_at l.bytes.items) l.heads.items;
@@ -146,7 +146,7 @@ impl Model for UplinkLog {
 }
 
 impl UplinkLog {
-    ghost use Rattle.campaign_world.specs.declared.numbered.MadeUplink.{MadeUplink};
+    ghost use Rattle.campaign_world.specs.declared.numbered.NumberedUplink.{NumberedUplink};
 
     /// One in which nothing is.
     pub fn new(alloc: Global) -> Self
@@ -159,7 +159,7 @@ impl UplinkLog {
     }
 
     /// The uplink with a number, counted from 1; None where none has it.
-    pub fn number(&self, number: u64) -> Option<MadeUplink<'_>>
+    pub fn number(&self, number: u64) -> Option<NumberedUplink<'_>>
         ensures { result ≡ numbered self.now.items number }
     {
         match numbered(&self.heads, number) {
@@ -180,7 +180,7 @@ impl UplinkLog {
         self.bytes.reserve(OUTBOX * MAX_PAYLOAD)
     }
 
-    /// Numbers an uplink of a device behind the others. There is room for it.
+    /// Numbers an uplink of a device after the others. There is room for it.
     pub fn push(&mut self, device: u8, uplink: &Uplink)
         requires { HasRoom 1 self.old }
         ensures items { self.new.items
@@ -207,23 +207,23 @@ fn sent_at<'a>(head: &SentHead, bytes: &'a [u8]) -> SentPayload<'a>
 {
     SentPayload {
         receiver: head.receiver,
-        down: LentDownlink::new(head.to, head.port, part(bytes, head.at, head.len)),
+        down: DownlinkRef::new(head.to, head.port, part(bytes, head.at, head.len)),
     }
 }
 
 /// The uplink with this head, among the bytes of all.
 #[inline(always)]
-fn made_at<'a>(head: &MadeHead, bytes: &'a [u8]) -> MadeUplink<'a>
+fn made_at<'a>(head: &MadeHead, bytes: &'a [u8]) -> NumberedUplink<'a>
     requires { Lies bytes.now head.now.at head.now.len }
     ensures { result ≡ made_at bytes.now head.now }
 {
-    MadeUplink {
+    NumberedUplink {
         device: head.device,
-        uplink: LentUplink::new(head.due, head.port, part(bytes, head.at, head.len)),
+        uplink: UplinkRef::new(head.due, head.port, part(bytes, head.at, head.len)),
     }
 }
 
-/// So many bytes behind so many others.
+/// So many bytes after so many others.
 #[inline(always)]
 fn part(bytes: &[u8], at: usize, len: u8) -> &[u8]
     requires { Lies bytes.now at len }
@@ -233,7 +233,7 @@ fn part(bytes: &[u8], at: usize, len: u8) -> &[u8]
     &bytes[at..at + len as usize]
 }
 
-/// Puts the bytes of a payload behind all others. There is room for them.
+/// Puts the bytes of a payload after all others. There is room for them.
 #[inline(always)]
 fn put(all: &mut Vec<u8>, bytes: &[u8])
     requires few { length bytes.now ≤ max_payload }

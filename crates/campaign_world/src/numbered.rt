@@ -1,24 +1,25 @@
-//! What is sent and made in a campaign, numbered from 1. It is lent where it lies.
+//! What is sent and made in a campaign, numbered from 1. It is borrowed where it lies.
 
 ghost use Rattle.std.specs.Prelude.{◌≡◌, ◌<◌, ◌^◌, length};
 ghost use Rattle.std.specs.Option.{option_map};
 ghost use Rattle.wire_base.specs.Numbered.{numbered};
 
-use crate::lent::{LentDownlink, LentUplink};
+use crate::uplink_ref::UplinkRef;
+use package_grammar::DownlinkRef;
 
 /// A payload that the server sent, to one device or to any.
 #[derive(Drop)]
 pub struct SentPayload<'a> {
     /// The device that it is for, by its ID; None for any.
     pub receiver: Option<u8>,
-    pub down: LentDownlink<'a>,
+    pub down: DownlinkRef<'a>,
 }
 
 /// An uplink that a device made.
 #[derive(Drop)]
-pub struct MadeUplink<'a> {
+pub struct NumberedUplink<'a> {
     pub device: u8,
-    pub uplink: LentUplink<'a>,
+    pub uplink: UplinkRef<'a>,
 }
 
 /// The item with a number, counted from 1.

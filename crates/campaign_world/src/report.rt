@@ -2,18 +2,26 @@
 
 ghost use Rattle.std.specs.Prelude.{◌≡◌, ◌≤◌, ◌++◌, List, IfOk, codes, length, string_bytes};
 ghost use Rattle.std.specs.Fmt.{decimal};
-ghost use Rattle.device_core.specs.Device.{DeviceState};
-ghost use Rattle.device_core.specs.HeldDevice.{DeviceStands};
+ghost use Rattle.device_core.specs.Device.{DeviceState, first_device};
+ghost use Rattle.report_lines.specs.Devices.{◌⧺◌, standing_of, standing_line, counts_line};
 ghost use Rattle.campaign_world.specs.HeldWorld.{DevicesRest};
 ghost use Rattle.campaign_world.specs.HeldLate.{DeviceRests};
-ghost use Rattle.campaign_world.specs.Report.{image_text, image_line, first_text, first_part, named_part, device_parts, report_with};
+ghost use Rattle.campaign_world.specs.Report.{image_text, image_line, named_part, device_parts, report_with};
 
 use crate::late::LateDevice;
 use campaign_server::{Server, Stage};
-use device_core::Device;
-use flash_session::CellFlash;
-use report_lines::{Tail, counts_line, device_line, session_lines, stage_text};
+use device_core::{Counts, DeviceConfig};
+use image_slots::ImageState;
+use report_lines::{Standing, Tail, counts_line, device_line, session_lines};
 use std::alloc::{AllocError, Global};
+
+/// What a device counted to which nothing happened yet.
+const FIRST_COUNTS: Counts = Counts {
+    deaf: 0,
+    refused: 0,
+    full: 0,
+    dropped: 0,
+};
 
 /// The report: what is sent, where each device stands, and what its sessions show.
 pub fn report(
@@ -75,42 +83,56 @@ pub fn device_part(
         → IfOk result (λ text. string_bytes text ≡ named_part image.now name.now stage d) }
 {
     match late.device() {
-        Some(device) => came_part(alloc, image, name, stage, device),
-        None => first_part(alloc, name, stage, late.config().offset),
+        Some(device) => {
+            let sessions = session_lines(alloc, device, Tail::Same(image))?;
+            let counts = device.counts();
+            all_lines(
+                alloc,
+                name,
+                stage,
+                Standing::of(device),
+                counts,
+                sessions.as_str(),
+            )
+        }
+        None => all_lines(
+            alloc,
+            name,
+            stage,
+            first_standing(late.config()),
+            FIRST_COUNTS,
+            "",
+        ),
     }
 }
 
-/// Those of one to which nothing happened yet.
-fn first_part(alloc: Global, name: &str, stage: Stage, offset: u32) -> Result<String, AllocError>
-    ensures { IfOk result (λ text. string_bytes text ≡ first_part name.now stage offset) }
+/// How a device stands to which nothing happened yet.
+fn first_standing(config: DeviceConfig) -> Standing
+    ensures { result ≡ standing_of (first_device config) }
 {
-    let stage = stage_text(alloc, stage)?;
-    first_text(alloc, name, stage.as_str(), offset)
+    Standing {
+        offset: config.offset,
+        token: 0,
+        running: 0,
+        next: ImageState::None,
+    }
 }
 
-fn first_text(alloc: Global, name: &str, stage: &str, offset: u32) -> Result<String, AllocError>
-    ensures { IfOk result (λ text. string_bytes text ≡ first_text name.now stage.now offset) }
-{
-    format!(in alloc;
-        "device {name} {stage} clock {offset} token 0 running 0 next none\ncounts deaf 0 refused 0 full 0 dropped 0\n"
-    )
-}
-
-/// Those of one that something happened to.
-fn came_part(
+/// The lines of a device that stands so, counted this, and has these lines of its sessions.
+fn all_lines(
     alloc: Global,
-    image: &[u8],
     name: &str,
     stage: Stage,
-    device: &Device<CellFlash>,
+    stands: Standing,
+    counts: Counts,
+    sessions: &str,
 ) -> Result<String, AllocError>
-    ensures { (d : DeviceState) → DeviceStands device.now d
-        → IfOk result (λ text. string_bytes text ≡ named_part image.now name.now stage d) }
+    ensures { IfOk result (λ text. string_bytes text
+        ≡ standing_line name.now stage stands ⧺ counts_line counts ⧺ sessions.now) }
 {
-    let stand = device_line(alloc, name, stage, device)?;
-    let counts = counts_line(alloc, device.counts())?;
-    let sessions = session_lines(alloc, device, Tail::Same(image))?;
-    three_texts(alloc, stand.as_str(), counts.as_str(), sessions.as_str())
+    let stand = device_line(alloc, name, stage, stands)?;
+    let counts = counts_line(alloc, counts)?;
+    three_texts(alloc, stand.as_str(), counts.as_str(), sessions)
 }
 
 /// The name of a device in the report: its ID.

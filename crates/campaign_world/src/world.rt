@@ -6,7 +6,6 @@ ghost use Rattle.device_core.specs.Device.{DeviceState};
 ghost use Rattle.device_core.specs.Sendable.{IsUplink};
 ghost use Rattle.wire_base.specs.Numbered.{numbered};
 ghost use Rattle.script_lines.specs.Limits.{max_lines};
-ghost use Rattle.script_lines.specs.Forms.{form_of};
 ghost use Rattle.campaign_world.specs.World.{WorldState, first_world};
 ghost use Rattle.campaign_world.specs.Causes.{form_cause};
 ghost use Rattle.campaign_world.specs.Script.{one_line_more};
@@ -14,22 +13,20 @@ ghost use Rattle.campaign_world.specs.Making.{after_form};
 ghost use Rattle.campaign_world.specs.Recovery.{recovery};
 
 mod beside;
-mod event_causes;
 mod events;
+mod first_cause;
 mod phase;
 mod planning;
+mod sends;
 
 use self::events::Campaign;
 use self::phase::Phase;
 use self::planning::Planning;
-use crate::causes::{
-    fits_flash, fits_payload, fits_script, has_flash, is_to_come, may_come, names_device,
-};
-use crate::lent::LentUplink;
 use crate::numbered::numbered;
 use crate::recovery::{NoFile, recovered_by};
+use crate::uplink_ref::UplinkRef;
 use report_lines::{LineError, LineWhy, MAX_LINE, MAX_LINES, refused_behind};
-use script_lines::{Form, form, in_range};
+use script_lines::{Form, form};
 use std::alloc::{AllocError, Global};
 use std::marker::Model;
 
@@ -57,7 +54,7 @@ impl Model for World {
 
 impl World {
     ghost use Rattle.report_lines.specs.declared.faults.LineError.{LineError};
-    ghost use Rattle.campaign_world.specs.HeldWorld.{WorldStands, WorldBecomes, KeepsEnds, IsLineAnswer, IsReport, IsSummary, IsEnded, IsEndAnswer, IsFine, IsCauseOf, world_of};
+    ghost use Rattle.campaign_world.specs.HeldWorld.{WorldStands, WorldBecomes, KeepsEnds, IsLineAnswer, IsReport, IsSummary, IsEnded, IsEndAnswer, IsFine, world_of};
     ghost use Rattle.report_lines.specs.Texts.{seen_text};
 
     /// A world in which nothing happened yet, around an image file.
@@ -76,8 +73,8 @@ impl World {
     }
 
     /// Takes the next line of the script, without its line feed. After a refused line each later one is
-    /// answered with that fault, and after want of memory with that. All memory that a line needs is taken before a device
-    /// or the server is called, so that both are as they were where it is wanting.
+    /// answered with that fault, and and once out of memory with that. All memory that a line needs is taken before a device
+    /// or the server is called, so that both are as they were where it is missing.
     pub fn line(&mut self, line: &[u8]) -> Result<(), LineError>
         ensures step { (world : WorldState) → WorldStands self.old world → self.old.kept ≡ None
             → IsLineAnswer world line.now self.new result }
@@ -89,17 +86,19 @@ impl World {
         if let Some(kept) = self.kept {
             return Err(kept);
         }
+        if self.lines >= MAX_LINES {
+            return self.refused(LineWhy::Limit);
+        }
+        if line.len() > MAX_LINE {
+            return self.refused(LineWhy::Limit);
+        }
         let read = form(line);
-        match self.refusal(line, &read) {
-            Some(why) => {
-                let fault = self.fault(why);
-                self.kept = Some(fault);
-                Err(fault)
-            }
-            None => match &read {
-                Some(form) => self.take(form),
-                None => unreachable!(),
-            },
+        let Some(form) = &read else {
+            return self.refused(LineWhy::Syntax);
+        };
+        match self.first_cause(form) {
+            Some(why) => self.refused(why),
+            None => self.take(form),
         }
     }
 
@@ -123,7 +122,7 @@ impl World {
         self.first_cause(form)
     }
 
-    /// Carries out a form that is not refused, as a line of the script. Where memory is wanting devices and server are as
+    /// Carries out a form that is not refused, as a line of the script. Where memory is missing devices and server are as
     /// they were.
     pub fn take(&mut self, form: &Form) -> Result<(), LineError>
         requires fine { IsFine self.old form.now }
@@ -215,7 +214,7 @@ impl World {
     }
 
     /// The uplink with a number, counted from 1; None where none has it. It is one command in its canonical spelling.
-    pub fn uplink(&self, number: u64) -> Option<LentUplink<'_>>
+    pub fn uplink(&self, number: u64) -> Option<UplinkRef<'_>>
         ensures found { result
             ≡ option_map (λ made. made.uplink) (numbered self.now.uplinks number) }
         ensures single { IfSome result (λ uplink. IsUplink uplink) }
@@ -226,7 +225,7 @@ impl World {
         }
     }
 
-    /// Whether a line was refused, or memory was wanting: then no line does more.
+    /// Whether a line was refused, or memory was missing: then no line does more.
     pub fn is_over(&self) -> bool
         ensures { result ≡ is_some self.now.kept }
     {
@@ -254,24 +253,18 @@ impl World {
         }
     }
 
-    /// The first cause for which the next line is refused, with what was read of it.
-    fn refusal(&self, line: &[u8], read: &Option<Form>) -> Option<LineWhy>
-        requires read { read.now ≡ form_of line.now }
-        ensures cause { IsCauseOf self.now line.now result }
-        ensures few { result ≡ None → self.now.lines < max_lines }
-        ensures there { result ≡ None → is_some read.now ≡ true }
-        ensures fine { result ≡ None → IfSome read.now (λ form. IsFine self.now form) }
+    /// Refuses the next line, and so each later one.
+    fn refused(&mut self, why: LineWhy) -> Result<(), LineError>
+        ensures fault { result ≡ Err
+            (LineError.Line (record { line = self.old.lines + 1; why = why })) }
+        ensures kept { self.new ≡ record self.old {
+          kept =
+              Some (LineError.Line (record { line = self.old.lines + 1; why = why }));
+        } }
     {
-        if self.lines >= MAX_LINES {
-            return Some(LineWhy::Limit);
-        }
-        if line.len() > MAX_LINE {
-            return Some(LineWhy::Limit);
-        }
-        match read {
-            Some(form) => self.first_cause(form),
-            None => Some(LineWhy::Syntax),
-        }
+        let fault = self.fault(why);
+        self.kept = Some(fault);
+        Err(fault)
     }
 
     /// The first cause for which a form is refused.
@@ -281,61 +274,15 @@ impl World {
             → result ≡ form_cause (world_of self.now devices) form.now }
     {
         match &self.phase {
-            Phase::Planning(_) => self.any_cause(form),
+            Phase::Planning(planning) => planning.first_cause(form),
             Phase::Playing {
                 campaign,
                 has_ended,
             } => {
                 if *has_ended {
-                    self.any_cause(form)
+                    Some(LineWhy::Order)
                 } else {
-                    campaign.event_cause(form)
-                }
-            }
-        }
-    }
-
-    /// The same of any form, cause by cause.
-    #[inline(never)]
-    fn any_cause(&self, form: &Form) -> Option<LineWhy>
-        ensures { (devices : List DeviceState) → length devices ≡ length self.now.devices
-            → result ≡ form_cause (world_of self.now devices) form.now }
-    {
-        let stand = self.phase.stand();
-        if !may_come(stand.section, form) {
-            return Some(LineWhy::Order);
-        }
-        if !in_range(form) {
-            return Some(LineWhy::Range);
-        }
-        if !fits_script(stand.size, stand.count, form) {
-            return Some(LineWhy::Range);
-        }
-        if !names_device(stand.count, form) {
-            return Some(LineWhy::Device);
-        }
-        if !has_flash(stand.flash, form) {
-            return Some(LineWhy::Device);
-        }
-        if !self.phase.has_come(form) {
-            return Some(LineWhy::Unsent);
-        }
-        if !is_to_come(stand.time, form) {
-            return Some(LineWhy::Time);
-        }
-        if !fits_flash(stand.flash.len(), form) {
-            return Some(LineWhy::Limit);
-        }
-        if !fits_payload(form) {
-            return Some(LineWhy::Limit);
-        }
-        match &self.phase {
-            Phase::Planning(_) => None,
-            Phase::Playing { campaign, .. } => {
-                if campaign.has_more(form) {
-                    None
-                } else {
-                    Some(LineWhy::Limit)
+                    campaign.first_cause(form)
                 }
             }
         }

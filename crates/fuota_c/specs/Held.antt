@@ -1,4 +1,4 @@
--- What a handle owns: nothing behind null, and else an object in a block of its own.
+-- What a handle owns: nothing where it is null, and else an object in a block of its own.
 use Rattle.std.specs.Prelude.{Option, None, Some}
 use Rattle.std.specs.declared.alloc.Global.{Global}
 use Rattle.std.specs.contracts.impls.GlobalAllocator.TheImpl.{ghosts}

@@ -54,6 +54,7 @@ fn decode_into(
             if lines.len() > text.len() {
                 return NO_ROOM;
             }
+            // (C is told the count already)
             let _count = put_whole(&lines, text);
             DONE
         }

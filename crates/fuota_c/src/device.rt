@@ -42,7 +42,7 @@ pub struct ConfigFields {
     pub sessions: u8,
     pub groups: u8,
     pub has_descriptor: bool,
-    /// It always hears unicast payloads; else in the two windows behind its uplink.
+    /// It always hears unicast payloads; else in the two windows after its uplink.
     pub is_class_c: bool,
     /// GenAppKey of LoRaWAN 1.0.
     pub key: [u8; 16],

@@ -29,6 +29,7 @@ impl Model for DeviceHandle {
 impl Drop for DeviceHandle {
     /// Frees the device, if there is one.
     fn drop(self) {
+        // dropped at the end of this block
         let _device = self.into_box();
     }
 }

@@ -27,6 +27,7 @@ impl Model for ReceiverHandle {
 impl Drop for ReceiverHandle {
     /// Frees the receiver, if there is one.
     fn drop(self) {
+        // dropped at the end of this block
         let _receiver = self.into_box();
     }
 }

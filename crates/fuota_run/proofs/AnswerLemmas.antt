@@ -194,7 +194,7 @@ sound_image what files name Refused a asks long refused took fault is =
     (subst (λ (x : Answer). Gives files.held what x) (sym is) (refused fault.bytes fault.source fault.within fault.other))
     (subst IsMade (sym is) refused_made) fault.end fault.quiet
 
--- an answer behind a call that left the files as they were, and their count
+-- an answer after a call that left the files as they were, and their count
 pub sound_behind : (what : Option Invocation) (held now : Option Held) (before then after : ℕ) (left : Option (List ℕ)) (a : Answer)
     → now ≡ held → then ≡ before → IsSoundOver now then after left what a → IsSoundOver held before after left what a
 sound_behind what held now before then after left a same quiet sound =
@@ -307,7 +307,7 @@ pub gives_image_refused : (held : Option Held) (what : ScriptForm) (image_name s
 gives_image_refused held what image_name script_name image source within bad =
     by_image held what image_name script_name image image_limit image_refused source (λ script. refused_campaign what image script within bad)
 
--- behind an image file: a script that is too long, and one that was read
+-- after an image file: a script that is too long, and one that was read
 pub gives_script_long : (held : Option Held) (what : ScriptForm) (image_name script_name image : List ℕ) → IsImageRead held image_name image
     → HoldsName held script_name → IsTooLong held script_name 1048576
     → Gives held (Some (plays what image_name script_name)) (too_long 1048576)
@@ -335,7 +335,7 @@ gives_file_long held form name holds long =
     let is = long_source held name 1048576 holds long in
     gives_file held form name is.0 (too_long 1048576) is.2 (file_long (file_text form) is.0 is.1)
 
--- what is said behind the lines of a file of payloads
+-- what is said after the lines of a file of payloads
 pub sound_text : (form : FileForm) (files : OutsideFiles) (name file : List ℕ) (r : Result (List ℕ) LineError) (a : Answer)
     → IsSource files.held name 1048576 file → length file ≤ 1048576 → IsAtEnd files.left → files.after ≡ files.before
     → IsFileText (file_text form) file r → IsTextAnswer r a → IsSoundAnswer (Some (payloads form name)) files a

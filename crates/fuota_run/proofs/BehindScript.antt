@@ -1,4 +1,4 @@
--- What is told behind a script's lines.
+-- What is told after a script's lines.
 use Rattle.std.proofs.Common.{◌≡◌, inl, inr, ℕ, List, ◌++◌, codes, Some, None, Result, Ok, Err, sym, subst}
 use Rattle.std.specs.Fmt.{decimal}
 use Rattle.report_lines.specs.declared.faults.LineFault.{LineFault}
@@ -21,7 +21,7 @@ use Rattle.fuota_run.proofs.Playing.{report_answered, recovery_answered, summary
 abbrev Outcome : Type 0
 Outcome = Result WorldState LineFault
 
--- a report that was made is of a campaign, since behind a refused line there is none
+-- a report that was made is of a campaign, since after a refused line there is none
 pub report_behind : (held : HeldWorld) (what : ScriptForm) (text : List ℕ) (so_far : Outcome) → what ≡ Campaign → ((w : WorldState) → WorldStands held w → held.kept ≡ None → IsReport w (Ok text))
     → ((e : LineError) → held.kept ≡ Some e → ⊥) → WorldIsIf held so_far → IsPlayed (world_answer what) (end_result so_far) (Ok (answer status.Done text))
 report_behind held what text so_far form reports never (inl memory) = absurd (never error.Memory memory)

@@ -105,7 +105,7 @@ takes_no_name keyword s h position kind kinds word words name stray =
 
 -- ---- the program's words
 
--- the program has met the keyword, and keeps the words behind it
+-- the program has met the keyword, and keeps the words after it
 abbrev met : Text → List Text → Walk
 met keyword words = record { held = nothing_held; waiting = idle; position = 1; is_trailing = false; stopped = Some (keyword, words) }
 
@@ -144,7 +144,7 @@ or_else_none : (k : Kinds) → or_else k [] ≡ k
 or_else_none [] = refl
 or_else_none (k ∷ ks) = refl
 
--- the program has met the keyword, and its form reads the words behind it
+-- the program has met the keyword, and its form reads the words after it
 reads_form : (program keyword : Text) (s : Shape) (words : List Text) → turn_fault top.top (names_of top) (walk_from nothing_held) keyword ≡ []
     → walked top.top.rules (names_of top) (walk_from nothing_held) keyword ≡ met keyword [] → asks_at [] (met keyword words) ≡ asks keyword s nothing_held 1 words
     → asked (program ∷ keyword ∷ words) ≡ asks keyword s nothing_held 1 words
@@ -215,7 +215,7 @@ unfolding fuota clap_on_literals
 reads_campaigns program words = reads_form program (codes "campaigns") of_campaigns words refl refl
     (ap (λ (k : Kinds). then_asked (where_none k (Some (codes "campaigns", finished of_campaigns.rules (walk of_campaigns.rules [] nothing_held words).held)))) (or_else_none (level_fault of_campaigns [] nothing_held words false [])))
 
--- what is held behind one name more
+-- what is held after one name more
 abbrev behind : Shape → ℕ → Text → Held → Held
 behind s position word h = (to_positional s.rules (arg_by_index s.rules position) word (at h position) h).held
 

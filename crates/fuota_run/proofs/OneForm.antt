@@ -140,7 +140,7 @@ asked_none_alone text app program (y ∷ ys) e named kinds apart =
     of_kind (inl same) = absurd (apart same)
     of_kind (inr among) = ap then_asked (refused_by _ (kind_of e) _ among)
 
--- ---- the words behind the program's name
+-- ---- the words after the program's name
 
 behind_first : {X : Type 0} (xs : List X) → take (length xs - 1) (drop 1 xs) ≡ drop 1 xs
 behind_first [] = refl

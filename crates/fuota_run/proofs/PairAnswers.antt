@@ -1,4 +1,4 @@
--- What the program answers over two campaigns: to an image of the two, to their script, and behind its lines.
+-- What the program answers over two campaigns: to an image of the two, to their script, and after its lines.
 use Rattle.std.proofs.Common.{◌≡◌, inl, inr, ℕ, ◌<◌, ◌≤◌, false, List, [], length, Option, Some, None, Result, Ok, Err, sym, ap, subst, ◌∙◌}
 use Rattle.image_slots.specs.Image.{is_image}
 use Rattle.script_lines.specs.Lines.{lines_of}
@@ -45,7 +45,7 @@ by_third (Some h) name_a name_b script_name image_a image_b script a first secon
     ∙ ap (λ (i : Option (List ℕ)). campaigns_answer (Some image_a) i (h script_name)) (sym second)
     ∙ ap (λ (i : Option (List ℕ)). campaigns_answer i (h name_b) (h script_name)) (sym first)
 
--- behind the first image: the answer of the second one, and of the script
+-- after the first image: the answer of the second one, and of the script
 abbrev behind_first : (image_b script : Option (List ℕ)) → List ℕ → Answer
 behind_first image_b script a = behind_image image_b (λ b. pair_script_answer a b script)
 
@@ -64,7 +64,7 @@ gives_first_refused held name_a name_b script_name image_a source within bad =
     by_first held name_a name_b script_name image_a image_refused source
     (λ image_b script. image_given_refused image_a (behind_first image_b script) within bad)
 
--- behind a first image file
+-- after a first image file
 first_given : (held : Option Held) (name_a image_a : List ℕ) (image_b script : Option (List ℕ)) → IsImageRead held name_a image_a
     → behind_image image_b (λ b. pair_script_answer image_a b script) ≡ campaigns_answer (Some image_a) image_b script
 unfolding campaigns_answer
@@ -85,7 +85,7 @@ gives_second_refused held name_a name_b script_name image_a image_b read source 
     by_second held name_a name_b script_name image_a image_b image_refused read.source source
     (λ script. image_given_refused image_b (λ b. pair_script_answer image_a b script) within bad ∙ first_given held name_a image_a (Some image_b) script read)
 
--- behind both image files
+-- after both image files
 both_given : (held : Option Held) (name_a name_b image_a image_b : List ℕ) (script : Option (List ℕ)) → IsImageRead held name_a image_a
     → IsImageRead held name_b image_b → pair_script_answer image_a image_b script ≡ campaigns_answer (Some image_a) (Some image_b) script
 both_given held name_a name_b image_a image_b script first second =
@@ -116,7 +116,7 @@ gives_pair held name_a name_b script_name image_a image_b script a first second 
     by_third held name_a name_b script_name image_a image_b script a first.source second.source source
     (is ∙ short_pair image_a image_b script within ∙ both_given held name_a name_b image_a image_b (Some script) first second)
 
--- ---- behind the script
+-- ---- after the script
 
 -- what is told of two campaigns that were all read
 told_of : (pair : PairState) (r : Result (List ℕ) LineError) (a : Answer) → IsPairReport pair r → IsTextAnswer r a
@@ -126,7 +126,7 @@ told_of pair (Ok text) a report said =
 told_of pair (Err (error.Line fault)) a report said = said ∙ sym (ap (played pair_answer) report)
 told_of pair (Err error.Memory) a report said = absurd said
 
--- what is told behind the lines that a pair has heard: its report, or the first refused line
+-- what is told after the lines that a pair has heard: its report, or the first refused line
 told_behind : (held : HeldPair) (r : Result (List ℕ) LineError) (so_far : Result PairState LineFault) (a : Answer)
     → ((pair : PairState) → PairStands held pair → held.kept ≡ None → IsPairReport pair r)
     → ((e : LineError) → held.kept ≡ Some e → r ≡ Err e) → PairIsIf held so_far → IsTextAnswer r a

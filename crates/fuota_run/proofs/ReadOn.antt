@@ -1,4 +1,4 @@
--- Bytes that are read are those behind the ones that were read before.
+-- Bytes that are read are those after the ones that were read before.
 use Rattle.std.proofs.Common.{◌≡◌, List, [], ℕ, ◌++◌, Option, Some, None, IsSome, Result, Ok, Err, OnOk, OnErr, IfSome, is_err, true, false, ◌<◌, length, sym, ap, subst, ◌∙◌, append-nil, append_assoc, length-append, arith}
 use Rattle.std.specs.Io.KnownBytes.{Consumes, IsAtEnd}
 use Rattle.fuota_run.specs.Outside.{Held, HoldsName, IsWhole, IsReadSoFar}

@@ -97,7 +97,7 @@ abbrev pub played : {W : Type 0} → (tell : W → Answer) → Result W LineFaul
 played tell (Ok world) = tell world
 played tell (Err fault) = refused fault
 
--- of an image first that it is too long, then that it is no image file; then the answer behind it
+-- of an image first that it is too long, then that it is no image file; then the answer after it
 abbrev pub behind_image : Option (List ℕ) → (List ℕ → Answer) → Answer
 behind_image None behind = read_fault
 behind_image (Some image) behind =

@@ -40,7 +40,7 @@ pub record SeenSink : Type 0 where
 abbrev pub next_call : ℕ → ℕ
 next_call calls = min (calls + 1) (2 ^ 64 - 1)
 
--- the count of faults behind a call: one more where it failed
+-- the count of faults after a call: one more where it failed
 abbrev pub faults_after : {T E : Type 0} → Result T E → ℕ → ℕ
 faults_after (Ok done) faults = faults
 faults_after (Err failed) faults = next_call faults

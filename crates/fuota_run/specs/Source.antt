@@ -3,7 +3,7 @@ use Rattle.std.specs.Prelude.{◌≡◌, ◌⊎◌, ℕ, ◌<◌, List, length, 
 use Rattle.fuota_run.specs.Outside.{Held, IsReadSoFar}
 use Rattle.fuota_run.specs.Words.{Invocation, plays, payloads, generates, plays_two}
 
--- where it is told what the name holds: all of it, within the limit; or it goes on behind the limit
+-- where it is told what the name holds: all of it, within the limit; or it goes on after the limit
 abbrev pub IsSource : Option Held → List ℕ → ℕ → List ℕ → Type 0
 IsSource None name limit bytes = ⊤
 IsSource (Some held) name limit bytes = held name ≡ Some bytes

@@ -21,7 +21,7 @@ use Rattle.script_lines.specs.Numbers.{decimal_of, ◌>>=◌}
 abbrev pub positional : Text → Rule
 positional name = record (new_rule name) { required = true }
 
--- a form: its keyword, and the words behind it
+-- a form: its keyword, and the words after it
 abbrev pub with_words : App → List Text → App
 with_words app [] = app
 with_words app (name ∷ names) = with_words (with_rule app (positional name)) names

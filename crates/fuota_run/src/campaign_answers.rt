@@ -45,7 +45,7 @@ pub fn seed_answer(
     answer
 }
 
-/// The summary of a campaign behind the lines that it has heard.
+/// The summary of a campaign after the lines that it has heard.
 fn summary_answer(alloc: Global, seed: u32, world: &World) -> Result<Answer, LineError>
     ensures { (so_far : Result WorldState LineFault) → WorldIsIf world.now so_far
         → IsPlayed (summary_answer seed) (end_result so_far) (seen_answer result) }
@@ -77,7 +77,7 @@ fn first_line_of(alloc: Global, seed: u32) -> Result<String, AllocError>
     format!(in alloc; "generate {seed}\n")
 }
 
-/// What is told of a campaign behind the lines that it has heard.
+/// What is told of a campaign after the lines that it has heard.
 pub fn world_answer(alloc: Global, what: ScriptForm, world: &World) -> Result<Answer, LineError>
     ensures { (so_far : Result WorldState LineFault) → WorldIsIf world.now so_far
         → IsPlayed (world_answer what) (end_result so_far) (seen_answer result) }

@@ -4,8 +4,11 @@ ghost use Rattle.std.specs.Prelude.{◌≡◌, ◌≤◌, Bool, true, List, ℕ,
 ghost use Rattle.std.specs.Io.KnownBytes.{ReadConsumes};
 ghost use Rattle.fuota_run.specs.Outside.{Held, HoldsName, IsWhole, HasCause, AtMost};
 
+use thiserror::Error;
+
 /// A call of the outside failed: a file could not be chosen or read, a sink could not be written.
-#[derive(Clone, Copy, Debug, PartialEq, Eq)]
+#[derive(Clone, Copy, Debug, PartialEq, Eq, Error)]
+#[error("a call of the outside failed")]
 pub struct Failed;
 
 /// Files by name. One file is chosen at a time, and read from its start to its end.

@@ -11,16 +11,19 @@ use crate::source::{SourceError, read_source};
 use crate::status::Status;
 use image_slots::is_image;
 use std::alloc::{AllocError, Global};
+use thiserror::Error;
 
 /// The most bytes of an image source.
 const IMAGE_LIMIT: u32 = 262_144;
 
 /// Why an image was not taken.
-#[derive(Clone, Copy, Debug, PartialEq, Eq)]
+#[derive(Clone, Copy, Debug, PartialEq, Eq, Error)]
 pub enum ImageError {
     /// Its source was not read.
+    #[error(transparent)]
     Unread(SourceError),
     /// Its bytes are no image file.
+    #[error("no image file")]
     Refused,
 }
 

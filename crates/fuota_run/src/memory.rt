@@ -103,7 +103,7 @@ pub(crate) fn place_of(files: &[(String, Vec<u8>)], name: &str) -> Option<usize>
     None
 }
 
-/// Reads on behind the first bytes, and says how many were read.
+/// Reads on after the first bytes, and says how many were read.
 pub(crate) fn read_from(bytes: &[u8], from: usize, buf: &mut [u8]) -> usize
     ensures count { result ≡ min (length bytes.now - from) (length buf.new) }
     ensures within { result ≤ length buf.new }

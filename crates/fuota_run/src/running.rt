@@ -200,7 +200,7 @@ fn script<F: Files>(
     answer
 }
 
-/// The answer behind the script that a new campaign hears.
+/// The answer after the script that a new campaign hears.
 fn hear_script<F: Files>(
     alloc: Global,
     files: &mut F,
@@ -288,7 +288,7 @@ fn pair_script<F: Files>(
     answer
 }
 
-/// The answer behind the script that two new campaigns hear.
+/// The answer after the script that two new campaigns hear.
 fn hear_pair<F: Files>(
     alloc: Global,
     files: &mut F,
@@ -341,7 +341,7 @@ fn payloads<F: Files>(
     }
 }
 
-/// The answer behind the file of payloads that a new replay hears.
+/// The answer after the file of payloads that a new replay hears.
 fn hear_replay<F: Files>(
     alloc: Global,
     files: &mut F,
@@ -360,7 +360,7 @@ fn hear_replay<F: Files>(
     }
 }
 
-/// The answer behind the file of payloads that a new decoding hears.
+/// The answer after the file of payloads that a new decoding hears.
 fn hear_decode<F: Files>(
     alloc: Global,
     files: &mut F,
@@ -379,7 +379,7 @@ fn hear_decode<F: Files>(
     }
 }
 
-/// The answer behind the file of JSON lines that a new capture hears.
+/// The answer after the file of JSON lines that a new capture hears.
 fn hear_capture<F: Files>(
     alloc: Global,
     files: &mut F,

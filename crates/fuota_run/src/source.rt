@@ -7,18 +7,22 @@ ghost use Rattle.fuota_run.specs.Source.{IsSource, IsTaken, IsTooLong};
 
 use crate::files::Files;
 use std::alloc::{AllocError, Global};
+use thiserror::Error;
 
 /// How many bytes are asked for at a time.
 pub const PIECE: usize = 4096;
 
 /// Why a source was not read.
-#[derive(Clone, Copy, Debug, PartialEq, Eq)]
+#[derive(Clone, Copy, Debug, PartialEq, Eq, Error)]
 pub enum SourceError {
     /// There was not enough memory.
+    #[error("out of memory")]
     Memory,
     /// A call of the files failed.
+    #[error("a call of the files failed")]
     Failed,
     /// It is longer than the limit: so many bytes, one more than the limit, were taken.
+    #[error("the source is longer than its limit")]
     TooLong(u32),
 }
 

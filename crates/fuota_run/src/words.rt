@@ -287,7 +287,7 @@ fn offered<'a>(
     }
 }
 
-/// What was found: the form that was named, and the words behind it.
+/// What was found: the form that was named, and the words after it.
 fn found_in<'a>(matches: &ArgMatches<'a>) -> Option<Invocation<'a>>
     ensures { seen_asked result
         ≡ option_and_then (λ found. asked_by found.0 found.1) (subcommand_rows_of matches.now) }

@@ -17,11 +17,11 @@ use Rattle.script_lines.specs.declared.forms.Form.{Form}
 use Rattle.script_lines.specs.declared.forms.Form.TheVariants.{Header, Image, Group, WindowC, WindowB, Device, At, Wake, Migrate, Power, Ask, Frag, Status, Down, Raw, Air, RawAir, Up, End}
 use Rattle.report_lines.specs.declared.faults.LineWhy.{LineWhy}
 use Rattle.report_lines.specs.declared.faults.LineWhy.TheVariants as why
-use Rattle.campaign_world.specs.declared.numbered.MadeUplink.{MadeUplink}
+use Rattle.campaign_world.specs.declared.numbered.NumberedUplink.{NumberedUplink}
 use Rattle.campaign_world.specs.declared.section.Section.{Section}
 use Rattle.campaign_world.specs.declared.section.Section.TheVariants as section
 use Rattle.campaign_world.specs.World.{WorldState}
-use Rattle.campaign_world.specs.Causes.{may_come, form_cause}
+use Rattle.campaign_world.specs.Causes.{is_in_order, form_cause}
 use Rattle.campaign_world.specs.Making.{with_sent, with_device, with_event, with_event_of, event_of, made_by, after_answer, after_up, at_events, config_of, after_form}
 use Rattle.campaign_world.proofs.Zips.{numbered_found, numbered_missed, zip_more, zip_set, zip_long}
 use Rattle.pair_run.specs.Counting.{IsAlike}
@@ -91,7 +91,7 @@ read_like w ds here dev t (Ok cs) zip =
     sends_like w ds here (with_answers w.server dev cs (ledger w.server dev)) (Some dev) (by_unicast (time_answer t cs)) zip
 read_like w ds here dev t (Err refusal) zip = still_like w ds here zip
 
-up_like : (w : WorldState) (ds : List DeviceState) (here : Section) (o : Option MadeUplink) → AllZip IsAlike w.devices ds
+up_like : (w : WorldState) (ds : List DeviceState) (here : Section) (o : Option NumberedUplink) → AllZip IsAlike w.devices ds
     → Like (at_events (after_up w o)) (at_events (after_up (with w ds here) o))
 unfolding uplink_step
 up_like w ds here None zip = still_like w ds here zip
@@ -132,14 +132,14 @@ form_like w v form like =
 -- ---- is not refused
 
 -- where events come, devices' lines may come besides
-more_may : (form : Form) → may_come section.Events form ≡ true → may_come section.Devices form ≡ true
+more_may : (form : Form) → is_in_order section.Events form ≡ true → is_in_order section.Devices form ≡ true
 more_may (Device id class hw rows offset key descriptor v1 k11 flash) is = refl
 more_may form is = is
 
-place_may : (here place : Section) (form : Form) → IsPlace here place → may_come here form ≡ true → may_come place form ≡ true
-place_may here place form (inl same) may = subst (λ (s : Section). may_come s form ≡ true) (sym same) may
+place_may : (here place : Section) (form : Form) → IsPlace here place → is_in_order here form ≡ true → is_in_order place form ≡ true
+place_may here place form (inl same) may = subst (λ (s : Section). is_in_order s form ≡ true) (sym same) may
 place_may here place form (inr (events, devices)) may =
-    subst (λ (s : Section). may_come s form ≡ true) (sym devices) (more_may form (subst (λ (s : Section). may_come s form ≡ true) events may))
+    subst (λ (s : Section). is_in_order s form ≡ true) (sym devices) (more_may form (subst (λ (s : Section). is_in_order s form ≡ true) events may))
 
 pub test_passed : (b : Bool) (why : LineWhy) (rest : Option LineWhy) → cond (not b) (Some why) rest ≡ None → (b ≡ true) × (rest ≡ None)
 test_passed true why rest fine = (refl, fine)
@@ -149,7 +149,7 @@ fine_by : (w : WorldState) (ds : List DeviceState) (place : Section) (form : For
     → form_cause w form ≡ None → form_cause (with w ds place) form ≡ None
 unfolding form_cause
 fine_by w ds place form zip is fine =
-    let first = test_passed (may_come w.section form) why.Order _ fine in
+    let first = test_passed (is_in_order w.section form) why.Order _ fine in
     rw (place_may w.section place form is first.0, zip_long IsAlike w.devices ds zip) first.1
 
 pub form_fine : (w v : WorldState) (form : Form) → Like w v → form_cause w form ≡ None → form_cause v form ≡ None

@@ -20,7 +20,7 @@ use Rattle.campaign_world.specs.declared.section.Section.{Section}
 use Rattle.campaign_world.specs.declared.section.Section.TheVariants as section
 use Rattle.campaign_world.specs.World.{WorldState}
 use Rattle.campaign_world.specs.Said.{Said, Own, Elsewhere, Reached}
-use Rattle.campaign_world.specs.Causes.{is_event_or_end, may_come, takes_events, has_begun, is_device, names_device, fits_flash, form_cause, said_cause}
+use Rattle.campaign_world.specs.Causes.{is_event_or_end, is_in_order, takes_events, has_begun, is_device, names_device, fits_flash, form_cause, said_cause}
 use Rattle.campaign_world.specs.Making.{after_form, after_said}
 use Rattle.campaign_world.specs.Script.{after_line}
 use Rattle.campaign_world.specs.Honest.{has_raw}
@@ -275,7 +275,7 @@ clock_behind p t is fine clock =
       low = subst (λ (n : ℕ). n ≤ max_time) (sym a) (time_fits p.a (said_to campaign.A p t) (fine campaign.A) clock.low);
     }
 
--- ---- behind the plan
+-- ---- after the plan
 
 abbrev pub HasBegun : PairState → Type 0
 HasBegun p = (has_begun p.a.section ≡ true) ⊎ (has_begun p.b.section ≡ true)
@@ -320,7 +320,7 @@ begun_behind p (Across campaign.A by number device word) is none = inr (crossing
 begun_behind p (Across campaign.B by number device word) is none = inl (crossing_begins by p.b p.a number device word none)
 begun_behind p Nobody is none = absurd cc
 
-no_more : (here : Section) (f : Form) → has_begun here ≡ true → is_event_or_end f ≡ false → may_come here f ≡ true → ⊥
+no_more : (here : Section) (f : Form) → has_begun here ≡ true → is_event_or_end f ≡ false → is_in_order here f ≡ true → ⊥
 no_more section.Events f begun plan may = true≢false (sym may ∙ plan)
 no_more section.Ended f begun plan may = true≢false (sym may)
 no_more section.Header f begun plan may = true≢false (sym begun)
@@ -353,17 +353,17 @@ never_planned section.Ended begun is = true≢false (sym is)
 abbrev EitherBegun : (a b : Section) → Type 0
 EitherBegun a b = (has_begun a ≡ true) ⊎ (has_begun b ≡ true)
 
-both_no_more : (a b : Section) (f : Form) → is_event_or_end f ≡ false → EitherBegun a b → may_come a f && may_come b f ≡ true → ⊥
-both_no_more a b f plan (inl begun) may = no_more a f begun plan (and_parts (may_come a f) (may_come b f) may).0
-both_no_more a b f plan (inr begun) may = no_more b f begun plan (and_parts (may_come a f) (may_come b f) may).1
+both_no_more : (a b : Section) (f : Form) → is_event_or_end f ≡ false → EitherBegun a b → is_in_order a f && is_in_order b f ≡ true → ⊥
+both_no_more a b f plan (inl begun) may = no_more a f begun plan (and_parts (is_in_order a f) (is_in_order b f) may).0
+both_no_more a b f plan (inr begun) may = no_more b f begun plan (and_parts (is_in_order a f) (is_in_order b f) may).1
 
-a_no_more : (a b : Section) (f : Form) → is_event_or_end f ≡ false → EitherBegun a b → may_come a f && is_unplanned b ≡ true → ⊥
-a_no_more a b f plan (inl begun) may = no_more a f begun plan (and_parts (may_come a f) (is_unplanned b) may).0
-a_no_more a b f plan (inr begun) may = never_unplanned b begun (and_parts (may_come a f) (is_unplanned b) may).1
+a_no_more : (a b : Section) (f : Form) → is_event_or_end f ≡ false → EitherBegun a b → is_in_order a f && is_unplanned b ≡ true → ⊥
+a_no_more a b f plan (inl begun) may = no_more a f begun plan (and_parts (is_in_order a f) (is_unplanned b) may).0
+a_no_more a b f plan (inr begun) may = never_unplanned b begun (and_parts (is_in_order a f) (is_unplanned b) may).1
 
-b_no_more : (a b : Section) (f : Form) → is_event_or_end f ≡ false → EitherBegun a b → may_come b f && is_planned a ≡ true → ⊥
-b_no_more a b f plan (inl begun) may = never_planned a begun (and_parts (may_come b f) (is_planned a) may).1
-b_no_more a b f plan (inr begun) may = no_more b f begun plan (and_parts (may_come b f) (is_planned a) may).0
+b_no_more : (a b : Section) (f : Form) → is_event_or_end f ≡ false → EitherBegun a b → is_in_order b f && is_planned a ≡ true → ⊥
+b_no_more a b f plan (inl begun) may = never_planned a begun (and_parts (is_in_order b f) (is_planned a) may).1
+b_no_more a b f plan (inr begun) may = no_more b f begun plan (and_parts (is_in_order b f) (is_planned a) may).0
 
 no_plan_more : (a b : Section) (named : Option Campaign) (f : Form) → is_event_or_end f ≡ false → EitherBegun a b → plan_may_come a b named f ≡ true → ⊥
 no_plan_more a b named (form.Device id class hw rows offset key descriptor v1 k11 flash) plan begun may =

@@ -1,4 +1,4 @@
--- Two states of a campaign behind the plan that differ in their devices' counters alone, whether an event came yet or not.
+-- Two states of a campaign after the plan that differ in their devices' counters alone, whether an event came yet or not.
 use Rattle.std.proofs.Common.{◌≡◌, ◌⊎◌, inl, inr, ℕ, ◌+◌, ◌≤◌, true, false, List, [], None, Ok, refl, sym, ap, ◌∙◌, subst, arith, true≢false}
 use Rattle.std.specs.List.{AllZip}
 use Rattle.std.proofs.lemmas.Bool.{le-leb}
@@ -13,7 +13,7 @@ use Rattle.campaign_world.specs.declared.section.Section.{Section}
 use Rattle.campaign_world.specs.declared.section.Section.TheVariants as section
 use Rattle.campaign_world.specs.World.{WorldState}
 use Rattle.campaign_world.specs.Said.{Said, Own, Elsewhere, Reached}
-use Rattle.campaign_world.specs.Causes.{is_event_or_end, may_come, takes_events, has_begun, form_cause, said_cause}
+use Rattle.campaign_world.specs.Causes.{is_event_or_end, is_in_order, takes_events, has_begun, form_cause, said_cause}
 use Rattle.campaign_world.specs.Making.{after_form, after_said}
 use Rattle.campaign_world.specs.Script.{one_line_more}
 use Rattle.campaign_world.specs.Honest.{has_raw}
@@ -39,7 +39,7 @@ near_takes here there (inl same) takes = ap takes_events same ∙ takes
 near_takes here there (inr both) takes = both.1
 
 -- an event may come exactly there
-pub event_may : (here : Section) (form : Form) → is_event_or_end form ≡ true → may_come here form ≡ takes_events here
+pub event_may : (here : Section) (form : Form) → is_event_or_end form ≡ true → is_in_order here form ≡ takes_events here
 event_may section.Header Header event = absurd cc
 event_may section.Header form event = refl
 event_may section.Image (Image size parity index) event = absurd cc
@@ -57,7 +57,7 @@ event_may section.Devices form event = event
 event_may section.Events form event = event
 event_may section.Ended form event = refl
 
-near_may : (here there : Section) (form : Form) → IsNear here there → is_event_or_end form ≡ true → may_come here form ≡ true → may_come there form ≡ true
+near_may : (here there : Section) (form : Form) → IsNear here there → is_event_or_end form ≡ true → is_in_order here form ≡ true → is_in_order there form ≡ true
 near_may here there form near event may =
     event_may there form event ∙ near_takes here there near (sym (event_may here form event) ∙ may)
 
@@ -87,7 +87,7 @@ fine_by : (w : WorldState) (ds : List DeviceState) (there : Section) (form : For
     → is_event_or_end form ≡ true → form_cause w form ≡ None → form_cause (record w { devices = ds; section = there }) form ≡ None
 unfolding form_cause
 fine_by w ds there form zip near event fine =
-    let first = test_passed (may_come w.section form) why.Order _ fine in
+    let first = test_passed (is_in_order w.section form) why.Order _ fine in
     rw (near_may w.section there form near event first.0, zip_long IsAlike w.devices ds zip) first.1
 
 pub close_fine : (w v : WorldState) (form : Form) → Close w v → is_event_or_end form ≡ true → form_cause w form ≡ None → form_cause v form ≡ None
@@ -150,10 +150,10 @@ pub quiet_fine : (w v : WorldState) (form : Form) → is_quiet form ≡ true →
     → form_cause v form ≡ None
 unfolding form_cause in_range
 quiet_fine w v (At time) quiet event passed fine =
-    let first = test_passed (may_come w.section (At time)) why.Order _ fine in
+    let first = test_passed (is_in_order w.section (At time)) why.Order _ fine in
     rw (near_may w.section v.section (At time) passed.place refl first.0, passed.time) first.1
 quiet_fine w v End quiet event passed fine =
-    let first = test_passed (may_come w.section End) why.Order _ fine in
+    let first = test_passed (is_in_order w.section End) why.Order _ fine in
     rw (near_may w.section v.section End passed.place refl first.0) first.1
 quiet_fine w v Header quiet event passed fine = absurd cc
 quiet_fine w v form quiet event passed fine = absurd (true≢false (sym quiet))

@@ -16,7 +16,7 @@ use Rattle.campaign_world.specs.declared.section.Section.{Section}
 use Rattle.campaign_world.specs.declared.section.Section.TheVariants as section
 use Rattle.campaign_world.specs.World.{WorldState}
 use Rattle.campaign_world.specs.Said.{Said, Own, Elsewhere, Reached}
-use Rattle.campaign_world.specs.Causes.{has_ended, takes_events, may_come, form_cause, said_cause}
+use Rattle.campaign_world.specs.Causes.{has_ended, takes_events, is_in_order, form_cause, said_cause}
 use Rattle.campaign_world.specs.Making.{after_form, after_said}
 use Rattle.campaign_world.specs.Honest.{is_raw, are_for_others, has_raw, AreHonest}
 use Rattle.campaign_laws.specs.Fields.{LineFits, AllFit}
@@ -117,7 +117,7 @@ line_fits x pair last line lines said t read =
 abbrev Apart : PairState → Type 0
 Apart pair = is_late pair.b.section ≡ true → (is_late pair.a.section ≡ true) × (pair.a.server.plan.index ≡ pair.b.server.plan.index → ⊥)
 
-early_only : (here : Section) (form : Form) → is_late here ≡ false → is_early form ≡ false → may_come here form ≡ true → ⊥
+early_only : (here : Section) (form : Form) → is_late here ≡ false → is_early form ≡ false → is_in_order here form ≡ true → ⊥
 early_only section.Header form early late may = not_header form late may
 early_only section.Image form early late may = not_image form late may
 early_only section.Group form early late may = true≢false early
@@ -137,7 +137,7 @@ events_late section.Devices takes = refl
 events_late section.Events takes = refl
 events_late section.Ended takes = refl
 
--- the line behind which it has its index is that of its image
+-- the line after which it has its index is that of its image
 grown_form : (w : WorldState) (form : Form) → form_cause w form ≡ None → is_late w.section ≡ false → is_late (after_form w form).section ≡ true
     → (a : WorldState) → IsApartFrom a (Own form) → (is_late a.section ≡ true) × (a.server.plan.index ≡ (after_form w form).server.plan.index → ⊥)
 unfolding after_form

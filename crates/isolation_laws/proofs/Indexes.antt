@@ -1,4 +1,4 @@
--- Behind its image's line a campaign has one index to the end, and fields that fit.
+-- After its image's line a campaign has one index to the end, and fields that fit.
 use Rattle.std.proofs.Common.{◌≡◌, ℕ, true, None, Ok, refl, sym, subst, true≢false}
 use Rattle.script_lines.specs.declared.forms.Form.{Form}
 use Rattle.script_lines.specs.declared.forms.Form.TheVariants.{Header, Image, Group, WindowC, WindowB, Device, At, Wake, Migrate, Power, Ask, Frag, Status, Down, Raw, Air, RawAir, Up, End}
@@ -7,7 +7,7 @@ use Rattle.campaign_world.specs.declared.section.Section.{Section}
 use Rattle.campaign_world.specs.declared.section.Section.TheVariants as section
 use Rattle.campaign_world.specs.World.{WorldState}
 use Rattle.campaign_world.specs.Said.{Said, Own, Elsewhere, Reached}
-use Rattle.campaign_world.specs.Causes.{may_come, form_cause, said_cause}
+use Rattle.campaign_world.specs.Causes.{is_in_order, form_cause, said_cause}
 use Rattle.campaign_world.specs.Making.{after_form, after_said}
 use Rattle.campaign_laws.specs.Fields.{HasFields, LineFits}
 use Rattle.campaign_laws.proofs.HeadlineForms.{passes}
@@ -38,7 +38,7 @@ indexed_late index plan section.Ended late k = k
 
 -- ---- once late, always late
 
-at_header : (here : Section) → is_late here ≡ true → may_come here Header ≡ true → ⊥
+at_header : (here : Section) → is_late here ≡ true → is_in_order here Header ≡ true → ⊥
 at_header section.Header late may = true≢false (sym late)
 at_header section.Image late may = true≢false (sym late)
 at_header section.Group late may = true≢false (sym may)
@@ -48,7 +48,7 @@ at_header section.Devices late may = true≢false (sym may)
 at_header section.Events late may = true≢false (sym may)
 at_header section.Ended late may = true≢false (sym may)
 
-at_image : (here : Section) (size parity index : ℕ) → is_late here ≡ true → may_come here (Image size parity index) ≡ true → ⊥
+at_image : (here : Section) (size parity index : ℕ) → is_late here ≡ true → is_in_order here (Image size parity index) ≡ true → ⊥
 at_image section.Header size parity index late may = true≢false (sym late)
 at_image section.Image size parity index late may = true≢false (sym late)
 at_image section.Group size parity index late may = true≢false (sym may)

@@ -16,7 +16,7 @@ use Rattle.campaign_server.specs.Time.{time_answer}
 use Rattle.campaign_server.specs.Uplinks.{with_answers, read_uplink, uplink_step}
 use Rattle.script_lines.specs.declared.forms.Form.{Form}
 use Rattle.script_lines.specs.declared.forms.Form.TheVariants.{Header, Image, Group, WindowC, WindowB, Device, At as Time, Wake, Migrate, Power, Ask, Frag, Status, Down, Raw, Air, RawAir, Up, End}
-use Rattle.campaign_world.specs.declared.numbered.MadeUplink.{MadeUplink}
+use Rattle.campaign_world.specs.declared.numbered.NumberedUplink.{NumberedUplink}
 use Rattle.campaign_world.specs.World.{WorldState}
 use Rattle.campaign_world.specs.Said.{Said, Own, Elsewhere, Reached}
 use Rattle.campaign_world.specs.Causes.{form_cause, said_cause}
@@ -78,7 +78,7 @@ read_rested index w dev t (Ok cs) k =
     sends_rested index w (with_answers w.server dev cs (ledger w.server dev)) (Some dev) (by_unicast (time_answer t cs)) (answer_tame index dev t cs) k
 read_rested index w dev t (Err refusal) k = sends_rested index w w.server None None tt k
 
-up_rested : (index : ℕ) (w : WorldState) (o : Option MadeUplink) → Rested index w → Rested index (at_events (after_up w o))
+up_rested : (index : ℕ) (w : WorldState) (o : Option NumberedUplink) → Rested index w → Rested index (at_events (after_up w o))
 unfolding uplink_step
 up_rested index w None k = record { devices = k.devices; sent = k.sent }
 up_rested index w (Some made) k = read_rested index w made.device w.time (reading_of made.uplink.port direction.Up made.uplink.payload) k

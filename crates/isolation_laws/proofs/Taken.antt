@@ -235,7 +235,7 @@ says_sent campaign.B pair (Across campaign.A by number device word) none = cross
 says_sent campaign.B pair (Across campaign.B by number device word) none = tt
 says_sent x pair Nobody none = tt
 
--- ---- the plan of b comes behind that of a, and has another index
+-- ---- the plan of b comes after that of a, and has another index
 
 -- the image line came
 abbrev pub is_late : Section → Bool

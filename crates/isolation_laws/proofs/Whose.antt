@@ -162,7 +162,7 @@ pub of_other : (x : Campaign) (owners : List Owner) (count_a count_b : ℕ) (nam
 of_other x owners count_a count_b None f event name is = common_of_other x owners f is
 of_other x owners count_a count_b (Some z) f event name is = named_of_other x z owners _ f event name is
 
--- ---- behind whatever devices
+-- ---- after whatever devices
 
 named_alike : (owners : List Owner) (m n : ℕ) (x : Campaign) (f : Form) → is_event_or_end f ≡ true
     → named_target owners m x f ≡ named_target owners n x f

@@ -57,7 +57,7 @@ abbrev pub StandsFor : (is_its : Bool) → PairState → (line other : List ℕ)
 StandsFor true pair line other = IsAtMoment pair other
 StandsFor false pair line other = other ≡ line
 
--- each event that names this campaign, or one of its devices, is `at` its moment: behind this pair so far. All else stays
+-- each event that names this campaign, or one of its devices, is `at` its moment: after this pair so far. All else stays
 abbrev pub AreMoments : Campaign → PairState → (lines others : List (List ℕ)) → Type 0
 AreMoments y pair [] [] = Unit {0}
 AreMoments y pair (line ∷ lines) (other ∷ others) =

@@ -38,7 +38,7 @@ pub record EachHasItsVerdicts : Type 0 where
   pub decided : (x : Campaign) (image_a image_b : List ℕ) (lines : List (List ℕ)) (pair : PairState) (id : ℕ) (device : DeviceState) (index : ℕ) (s : Session)
       → IsSessionOf x image_a image_b lines pair id device index s → IsDecidedAtFirst s
 
--- each device of either is its own first record, behind what the lines let happen at it alone
+-- each device of either is its own first record, after what the lines let happen at it alone
 abbrev pub EachHasItsDevices : Type 0
 EachHasItsDevices = (x : Campaign) (image_a image_b : List ℕ) (lines : List (List ℕ)) (pair : PairState) (id : ℕ)
     → campaigns_of image_a image_b lines ≡ Ok pair

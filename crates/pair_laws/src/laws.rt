@@ -11,7 +11,7 @@ pub fn each_campaign_has_its_verdicts()
     ensures { EachHasItsVerdicts }
 {}
 
-/// Whatever two images and accepted script there are: the record of each device of either campaign is its own first one, behind
+/// Whatever two images and accepted script there are: the record of each device of either campaign is its own first one, after
 /// what the lines let happen at it alone.
 #[tactic(auto, using(crate::proofs::EachCampaign::devices))]
 pub fn each_campaign_has_its_devices()

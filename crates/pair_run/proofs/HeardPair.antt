@@ -1,4 +1,4 @@
--- A pair that hears a script's lines, each cut, is behind the script.
+-- A pair that hears a script's lines, each cut, is after the script.
 use Rattle.std.proofs.Common.{◌≡◌, inl, inr, ℕ, ◌+◌, ◌<◌, List, [], ◌∷◌, length, Option, Some, None, Result, Ok, Err, IfErr, refl, sym, ap, subst, ◌∙◌, arith}
 use Rattle.std.proofs.lemmas.Bool.{cases_lt}
 use Rattle.std.proofs.lemmas.List.{take_all, length-take}
@@ -61,7 +61,7 @@ hears old new line (Err (error.Line fault)) step kept same (Ok pair) (inr stands
     inr (subst (λ (o : Outcome). PairIs new o) (sym (read_by pair line (Some fault.why) answer.0 ∙ made)) kept)
 hears old new line (Err error.Memory) step kept same (Ok pair) (inr stands) = inl kept
 
--- behind a refused line, or want of memory, none does more
+-- after a refused line, or want of memory, none does more
 pub hears_no_more : (held : HeldPair) (line : List ℕ) (e : LineError) → held.kept ≡ Some e → HearsPairLine held line held
 hears_no_more held line e is =
     hears held held line (Err e) (λ pair stands none. absurd cc) is
@@ -103,7 +103,7 @@ heard_all (line ∷ lines) old new heard so_far is =
     subst (λ (o : Outcome). PairIsIf new o) (sym (read_then so_far line lines))
     (heard_all lines heard.0 new heard.2 (read_pair_lines so_far (line ∷ [])) (heard.1 so_far is))
 
--- the pair that heard a script's lines is behind the script
+-- the pair that heard a script's lines is after the script
 pub script_heard : (bytes image_a image_b : List ℕ) (old new : HeldPair) → HearsLines HearsPairLine old new bytes
     → PairStands old (first_pair image_a image_b) → old.kept ≡ None
     → PairIsIf new (read_pair_lines (Ok (first_pair image_a image_b)) (lines_of bytes))

@@ -1,4 +1,4 @@
--- A pair behind the lines that it has heard, whatever came of them.
+-- A pair after the lines that it has heard, whatever came of them.
 use Rattle.std.specs.Prelude.{◌≡◌, ◌⊎◌, ℕ, List, [], ◌∷◌, None, Some, Result, Ok, Err}
 use Rattle.report_lines.specs.declared.faults.LineError.TheVariants as error
 use Rattle.report_lines.specs.declared.faults.LineFault.{LineFault}
@@ -15,7 +15,7 @@ PairIs held (Err fault) = held.kept ≡ Some (error.Line fault)
 abbrev pub PairIsIf : HeldPair → Result PairState LineFault → Type 0
 PairIsIf held so_far = (held.kept ≡ Some error.Memory) ⊎ PairIs held so_far
 
--- it hears a line, whatever it was behind
+-- it hears a line, whatever it was after
 abbrev pub HearsPairLine : HeldPair → List ℕ → HeldPair → Type 0
 HearsPairLine old line new =
     (so_far : Result PairState LineFault) → PairIsIf old so_far → PairIsIf new (read_pair_lines so_far (line ∷ []))

@@ -18,7 +18,7 @@ use Rattle.campaign_world.specs.declared.numbered.SentPayload.{SentPayload}
 use Rattle.campaign_world.specs.declared.section.Section.{Section}
 use Rattle.campaign_world.specs.declared.section.Section.TheVariants as section
 use Rattle.campaign_world.specs.World.{WorldState}
-use Rattle.campaign_world.specs.Causes.{is_event_or_end, may_come, takes_events, is_device, names_device, fits_flash, is_to_group, form_cause}
+use Rattle.campaign_world.specs.Causes.{is_event_or_end, is_in_order, takes_events, is_device, names_device, fits_flash, is_to_group, form_cause}
 use Rattle.pair_run.specs.declared.targets.Way.{Way}
 use Rattle.pair_run.specs.declared.targets.Way.TheVariants as way
 use Rattle.pair_run.specs.declared.targets.Target.{Target}
@@ -43,10 +43,10 @@ is_planned here = false
 abbrev pub plan_may_come : (a b : Section) → Option Campaign → Form → Bool
 plan_may_come a b named (form.Device id class hw rows offset key descriptor v1 k11 flash) =
     let device : Form = form.Device id class hw rows offset key descriptor v1 k11 flash in
-    may_come a device && may_come b device
-plan_may_come a b None f = may_come a f && may_come b f
-plan_may_come a b (Some campaign.A) f = may_come a f && is_unplanned b
-plan_may_come a b (Some campaign.B) f = may_come b f && is_planned a
+    is_in_order a device && is_in_order b device
+plan_may_come a b None f = is_in_order a f && is_in_order b f
+plan_may_come a b (Some campaign.A) f = is_in_order a f && is_unplanned b
+plan_may_come a b (Some campaign.B) f = is_in_order b f && is_planned a
 
 -- an event, or the end, may come where both campaigns have devices, and neither has ended
 abbrev pub pair_may_come : (a b : Section) → Option Campaign → Form → Bool
@@ -66,7 +66,7 @@ is_apart plan (Some campaign.B) (form.Image frag_size parity index) = not (index
 is_apart plan (Some campaign.B) (form.Group id addr key min max) = is_other_group plan.group id addr
 is_apart plan named f = true
 
--- behind so many devices in all the ID is the next
+-- after so many devices in all the ID is the next
 abbrev pub is_next : (count : ℕ) → Form → Bool
 is_next count (form.Device id class hw rows offset key descriptor v1 k11 flash) = id == count + 1
 is_next count f = true

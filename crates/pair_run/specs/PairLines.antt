@@ -13,7 +13,7 @@ use Rattle.pair_run.specs.PairCauses.{target_in}
 use Rattle.pair_run.specs.PairMaking.{said_to}
 use Rattle.pair_run.specs.PairScript.{after_pair_line, campaigns_of}
 
--- what a line says to a campaign, behind the lines before it
+-- what a line says to a campaign, after the lines before it
 abbrev pub form_to : Campaign → PairState → Option PairForm → Line
 form_to x pair None = Err why.Syntax
 form_to x pair (Some pair_form) = Ok (said_to x pair (target_in pair pair_form))

@@ -32,7 +32,7 @@ said_to x pair (Across y by number device word) =
     if is_same x y then Elsewhere else reached_by device word (numbered (side pair y).sent number)
 said_to x pair Nobody = Elsewhere
 
--- a campaign behind the line
+-- a campaign after the line
 abbrev pub behind : Campaign → PairState → Target → WorldState
 behind x pair target = one_line_more (after_said (side pair x) (said_to x pair target))
 
@@ -45,7 +45,7 @@ abbrev pub newcomers : Target → List Owner
 newcomers (One x f) = joined x f
 newcomers target = []
 
--- both behind the line
+-- both after the line
 unfoldable pub after_target : PairState → Target → PairState
 after_target pair target = record {
   a = behind campaign.A pair target;

@@ -19,7 +19,7 @@ after_pair_form pair (Some pair_form) = after_target pair (target_in pair pair_f
 unfoldable pub after_pair_line : PairState → (line : List ℕ) → PairState
 after_pair_line pair line = after_pair_form pair (pair_form_of line)
 
--- both behind the next line, or that line's fault
+-- both after the next line, or that line's fault
 abbrev pub pair_line_result : PairState → (line : List ℕ) → Option LineWhy → Result PairState LineFault
 pair_line_result pair line None = Ok (after_pair_line pair line)
 pair_line_result pair line (Some cause) = Err (record { line = pair.a.lines + 1; why = cause })
@@ -27,13 +27,13 @@ pair_line_result pair line (Some cause) = Err (record { line = pair.a.lines + 1;
 unfoldable pub read_pair_line : PairState → (line : List ℕ) → Result PairState LineFault
 read_pair_line pair line = pair_line_result pair line (pair_cause_of pair line)
 
--- both behind all lines, or the fault of the first that is refused
+-- both after all lines, or the fault of the first that is refused
 unfoldable pub read_pair_lines : Result PairState LineFault → List (List ℕ) → Result PairState LineFault
 read_pair_lines (Err fault) lines = Err fault
 read_pair_lines (Ok pair) [] = Ok pair
 read_pair_lines (Ok pair) (line ∷ lines) = read_pair_lines (read_pair_line pair line) lines
 
--- without `end`, which both take, the line behind the last is missing
+-- without `end`, which both take, the line after the last is missing
 abbrev pub pair_has_ended : PairState → Bool
 pair_has_ended pair = has_ended pair.a.section && has_ended pair.b.section
 

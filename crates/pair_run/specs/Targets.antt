@@ -53,7 +53,7 @@ named_target owners count x (form.Device id class hw rows offset key descriptor 
     One x (form.Device (count + 1) class hw rows offset key descriptor v1 k11 flash)
 named_target owners count x f = One x f
 
--- behind so many devices of the one and of the other
+-- after so many devices of the one and of the other
 abbrev pub count_of : (count_a count_b : ℕ) → Campaign → ℕ
 count_of count_a count_b campaign.A = count_a
 count_of count_a count_b campaign.B = count_b

@@ -40,7 +40,7 @@ two_groups rest = codes
     "fuota 2\nimage a 13 0 0\ngroup a 1 11223344 00000000000000000000000000000000 0 10\nwindow a c 1000 0 8695250 0\nimage b 26 0 1\n"
     ++ rest
 
--- two campaigns in which nothing happened, behind so many lines of the one and of the other
+-- two campaigns in which nothing happened, after so many lines of the one and of the other
 abbrev pub lines_of_both : (a b : ℕ) → PairState
 lines_of_both a b =
     let pair = first_pair worked_image ranged_image in

@@ -6,7 +6,7 @@ ghost use Rattle.campaign_world.specs.Causes.{takes_events};
 
 use crate::targets::Way;
 use campaign_server::{Plan, PlanGroup};
-use campaign_world::{Section, SentPayload, is_event_or_end, may_come};
+use campaign_world::{Section, SentPayload, is_event_or_end, is_in_order};
 use package_grammar::To;
 use script_lines::{Campaign, Form};
 
@@ -29,11 +29,11 @@ fn plan_may_come(a: Section, b: Section, campaign: Option<Campaign>, form: &Form
     ensures { result ≡ plan_may_come a b campaign form.now }
 {
     match form {
-        Form::Device { .. } => may_come(a, form) && may_come(b, form),
+        Form::Device { .. } => is_in_order(a, form) && is_in_order(b, form),
         _ => match campaign {
-            None => may_come(a, form) && may_come(b, form),
-            Some(Campaign::A) => may_come(a, form) && is_unplanned(b),
-            Some(Campaign::B) => may_come(b, form) && is_planned(a),
+            None => is_in_order(a, form) && is_in_order(b, form),
+            Some(Campaign::A) => is_in_order(a, form) && is_unplanned(b),
+            Some(Campaign::B) => is_in_order(b, form) && is_planned(a),
         },
     }
 }
@@ -80,7 +80,7 @@ pub fn is_apart(plan: &Plan, campaign: Option<Campaign>, form: &Form) -> bool
     }
 }
 
-/// Whether a device line tells the next ID behind so many.
+/// Whether a device line tells the next ID after so many.
 pub fn is_next(count: usize, form: &Form) -> bool
     requires { count < 2 ^ 63 }
     ensures { result ≡ is_next count form.now }

@@ -205,7 +205,7 @@ impl Pair {
         )
     }
 
-    /// Whether its fields are in range, behind the devices of both and what the first one plans.
+    /// Whether its fields are in range, after the devices of both and what the first one plans.
     fn is_in_range(&self, pair_form: &PairForm) -> bool
         ensures { result ≡ (in_range pair_form.now.form
             && is_next (length self.now.owners) pair_form.now.form
@@ -226,7 +226,7 @@ impl Pair {
         names_device(owners.len(), form)
     }
 
-    /// Whether there is flash for its device behind those of both that have one.
+    /// Whether there is flash for its device after those of both that have one.
     fn fits_flash(&self, form: &Form) -> bool
         ensures { result ≡ fits_flash (length self.now.a.flash + length self.now.b.flash) form.now }
     {

@@ -85,9 +85,10 @@ fn carry(from: &World, to: &mut World, number: u64, device: u64, word: u64) -> R
         (λ world. after_line world (Ok (reached_by device word (numbered from.now.sent number))))) }
     ensures ends { OnErr result (KeepsEnds to.old to.new) }
 {
+    // there are at most 64, so that the number of a device fits a byte
     let _few = to.count();
     let Some(sent) = from.sent(number) else {
         unreachable!()
     };
-    to.reach(device as u8, &sent.down.incoming(), word as u32)
+    to.reach(device as u8, &sent.down, word as u32)
 }

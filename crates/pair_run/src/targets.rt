@@ -43,7 +43,7 @@ pub enum Target<'a> {
     Nobody,
 }
 
-/// What a line says to which campaign, behind so many devices of the one and of the other.
+/// What a line says to which campaign, after so many devices of the one and of the other.
 #[tactic(auto, unfolding(crate::specs::Targets::target_of))]
 pub fn target_of<'a>(
     owners: &[Owner],

@@ -74,11 +74,11 @@ line_heard lines device next line payload rest outcome is hears behind =
     subst (λ (r : Result (List ℕ) LineWhy). BehindLine Hears lines device r
     (λ more. TakesLines payload_of Hears (lines + 1) more rest) outcome) (sym is) (next, hears, behind)
 
--- the texts of entries go behind what was written
+-- the texts of entries go after what was written
 texts_on : (text one rest : List ℕ) → (text ++ one) ++ rest ≡ text ++ (one ++ rest)
 texts_on text one rest = append_assoc text one rest
 
--- the device behind the entries is that behind their payloads, and the text has the entries one after another
+-- the device after the entries is that after their payloads, and the text has the entries one after another
 record EndsSo (n : ℕ) (items : List Entry) (digits : List (List ℕ)) (now end : Caught) : Type 0 where
   device : TakesLines payload_of Hears n now.device digits (Ok end.device)
   text : end.text ≡ now.text ++ entries_text n items

@@ -73,13 +73,13 @@ captured_refused old before after line e =
     headed_refused (codes "capture") line_entry Catches (λ rows. first_caught rows) CaughtStands old before after line e
     (reads_cut line_entry entry_beyond)
 
--- behind a refused line, or want of memory
+-- after a refused line, or want of memory
 pub captured_kept : (old : HeldHeaded HeldCaught) (line : List ℕ) (e : LineError) → old.kept ≡ Some e → HearsCaptured old line old
 captured_kept = headed_kept (codes "capture") line_entry Catches (λ rows. first_caught rows) CaughtStands
 
--- ---- what it tells behind all lines
+-- ---- what it tells after all lines
 
--- the text of what was caught behind them
+-- the text of what was caught after them
 pub captured_text : (held : HeldHeaded HeldCaught) (state : HeldCaught) (file : List ℕ) (r : Result (Vec ℕ Global) LineError)
     → held.kept ≡ None → held.state ≡ Some state
     → ((all : Caught) → CaughtStands state all → IfOk r (λ text. text.items ≡ capture_text all)) → IfErr r (λ e. e ≡ error.Memory)
@@ -94,7 +94,7 @@ captured_text held state file (Ok text) none some text_is memory stands =
 captured_text held state file (Err e) none some text_is memory stands =
     subst (λ (x : LineError). IsFileText Captures file (Err x)) (sym memory) tt
 
--- the closing lines go behind what is held
+-- the closing lines go after what is held
 pub text_behind : (held : HeldCaught) (all : Caught) → CaughtStands held all
     → held.text ++ closing_text all.device ≡ capture_text all
 unfolding capture_text

@@ -1,4 +1,4 @@
--- A file behind a header: it leads to one state, or one of its lines is the first that is refused.
+-- A file after a header: it leads to one state, or one of its lines is the first that is refused.
 use Rattle.std.proofs.Common.{◌≡◌, inl, inr, ℕ, ◌+◌, ◌<◌, true, nat_lt, List, [], ◌∷◌, ◌++◌, length, Option, Some, None, Result, Ok, Err, refl, sym, ap, subst, ◌∙◌, length-append, arith}
 use Rattle.std.proofs.lemmas.Bool.{cases_lt, lt-ltb}
 use Rattle.std.proofs.lemmas.List.{take_all, length-take}
@@ -8,7 +8,7 @@ use Rattle.report_lines.specs.declared.faults.LineWhy.TheVariants as why
 use Rattle.report_lines.specs.declared.faults.LineFault.{LineFault}
 use Rattle.report_lines.specs.declared.faults.LineError.{LineError}
 use Rattle.report_lines.specs.declared.faults.LineError.TheVariants as error
-use Rattle.report_lines.specs.Behind.{GoesBehind}
+use Rattle.report_lines.specs.After.{GoesBehind}
 use Rattle.report_lines.specs.Lines.{LineReading, Step, TakesLines, IsLineRefused}
 use Rattle.report_lines.proofs.Lines.{LeadsOnce, LeadsOn, line_behind, refused_behind, lines_stop, lines_once, lines_lead}
 use Rattle.payload_replay.specs.Headed.{rows_of, TakesBehind, TakesFile}
@@ -44,7 +44,7 @@ file_leads keyword reading Takes first [] leads = (Err (record { line = 1; why =
 file_leads keyword reading Takes first (header ∷ lines) leads =
     behind_leads reading Takes first (rows_of keyword header) lines leads
 
--- ---- lines behind others
+-- ---- lines after others
 
 behind_then : {P S : Type 0} (reading : LineReading P) (Takes : Step P S) (first : ℕ → S) (rows : Result ℕ LineWhy) (lines rest : List (List ℕ))
     (mid : S) (outcome : Result S LineFault)
@@ -87,7 +87,7 @@ behind_stop : {P S : Type 0} (reading : LineReading P) (Takes : Step P S) (first
 behind_stop reading Takes first (Err cause) lines rest fault behind = behind
 behind_stop reading Takes first (Ok rows) lines rest fault behind = lines_stop reading Takes rest fault 1 (first rows) lines behind
 
--- behind the first refused line nothing more comes of any
+-- after the first refused line nothing more comes of any
 file_stop : {P S : Type 0} (keyword : List ℕ) (reading : LineReading P) (Takes : Step P S) (first : ℕ → S) (lines rest : List (List ℕ))
     (fault : LineFault) → 0 < length lines → TakesFile keyword reading Takes first lines (Err fault)
     → TakesFile keyword reading Takes first (lines ++ rest) (Err fault)
@@ -103,7 +103,7 @@ unfolding TakesFile
 file_by keyword reading Takes first header rest rows outcome is behind =
     subst (λ (r : Result ℕ LineWhy). TakesBehind reading Takes first r rest outcome) (sym is) behind
 
--- behind the header alone there is the first state
+-- after the header alone there is the first state
 file_first : {P S : Type 0} (keyword : List ℕ) (reading : LineReading P) (Takes : Step P S) (first : ℕ → S) (header : List ℕ) (rows : ℕ)
     → rows_of keyword header ≡ Ok rows → TakesFile keyword reading Takes first (header ∷ []) (Ok (first rows))
 unfolding TakesLines
@@ -196,7 +196,7 @@ headed_refused {P} {S} {H} keyword reading Takes first Stands old before after l
     )
 headed_refused keyword reading Takes first Stands old before after line error.Memory reads none some refused lines whole same stands = tt
 
--- behind a refused line, or want of memory
+-- after a refused line, or want of memory
 pub headed_kept : {P S H : Type 0} (keyword : List ℕ) (reading : LineReading P) (Takes : Step P S) (first : ℕ → S) (Stands : H → S → Type 0)
     (old : HeldHeaded H) (line : List ℕ) (e : LineError) → old.kept ≡ Some e
     → GoesBehind (HeadedStands (TakesFile keyword reading Takes first) Stands) old line old
@@ -212,7 +212,7 @@ headed_kept {P} {S} {H} keyword reading Takes first Stands old line e kept lines
     )
     stays error.Memory refused = tt
 
--- ---- behind all lines
+-- ---- after all lines
 
 -- the state that is stood for
 pub headed_state : {P S H : Type 0} (keyword : List ℕ) (reading : LineReading P) (Takes : Step P S) (first : ℕ → S) (Stands : H → S → Type 0)

@@ -17,7 +17,7 @@ use Rattle.payload_replay.specs.HeldDecoding.{HeldDecoding, IsDecodedBy, Decodin
 use Rattle.payload_replay.proofs.PayloadLines.{payload_cut}
 use Rattle.report_lines.proofs.Lines.{line_behind, refused_behind, lines_stop, lines_once, lines_lead}
 
--- texts that were written one behind another
+-- texts that were written one after another
 pub three_on : (text one two rest : List ℕ) → ((text ++ one) ++ two) ++ rest ≡ text ++ (one ++ (two ++ rest))
 three_on text one two rest = append_assoc (text ++ one) two rest ∙ append_assoc text one (two ++ rest)
 
@@ -67,7 +67,7 @@ decoded_refused old text line (error.Line fault) none refused port direction lin
 decoded_refused old text line error.Memory none refused port direction lines whole same stands =
     record { port_is = stands.port_is; direction_is = stands.direction_is; behind = tt }
 
--- behind a refused line, or want of memory
+-- after a refused line, or want of memory
 pub decoded_kept : (old : HeldDecoding) (line : List ℕ) (e : LineError) → old.kept ≡ Some e → HearsDecoded old line old
 decoded_kept old line e kept port direction lines whole same stands =
     record {
@@ -81,7 +81,7 @@ decoded_kept old line e kept port direction lines whole same stands =
     stays (error.Line fault) refused = lines_stop payload_of (Writes old.port old.direction) (whole ∷ []) fault 0 [] lines refused
     stays error.Memory refused = tt
 
--- ---- what it tells behind all lines
+-- ---- what it tells after all lines
 
 pub decoded_told : (held : HeldDecoding) (port : ℕ) (direction : Direction) (file text : List ℕ) (r : Result (Vec ℕ Global) LineError)
     → held.kept ≡ None → text ≡ held.text → IfOk r (λ all. all.items ≡ text ++ codes "end\n") → IfErr r (λ e. e ≡ error.Memory)

@@ -111,7 +111,7 @@ fed_there config index s x f none is =
     fed s x f none
     (subst (λ (b : Bool). cond b (after_fragment s Unicast f.number f.part f.mark) s ≡ Some x) (eq-eqb index index refl) is)
 
--- a session that is there behind all commands heard it
+-- a session that is there after all commands heard it
 pub all_heard : (config : DeviceConfig) (index : ℕ) (t : Session) (f : Fragment) (before behind : List CarriedCommand)
     → AllByRecursion (λ c. leaves index c.command ≡ true) behind → cause_of t.setup Unicast f.number f.part ≡ None
     → session_behind config index None (before ++ carried f.mark (Cast (DataFragment index f.number f.part)) ∷ behind) ≡ Some t

@@ -70,13 +70,13 @@ pub replayed_refused : (old : HeldHeaded (HeldDevice Cells)) (before : HeldDevic
 replayed_refused old before after line e =
     headed_refused (codes "replay") payload_of Hears (λ rows. replay_device rows) DeviceStands old before after line e payload_cut
 
--- behind a refused line, or want of memory
+-- after a refused line, or want of memory
 pub replayed_kept : (old : HeldHeaded (HeldDevice Cells)) (line : List ℕ) (e : LineError) → old.kept ≡ Some e → HearsReplayed old line old
 replayed_kept = headed_kept (codes "replay") payload_of Hears (λ rows. replay_device rows) DeviceStands
 
--- ---- what it tells behind all lines
+-- ---- what it tells after all lines
 
--- the text of the device behind them
+-- the text of the device after them
 pub replayed_text : (held : HeldHeaded (HeldDevice Cells)) (device : HeldDevice Cells) (file : List ℕ) (r : Result (Vec ℕ Global) LineError)
     → held.kept ≡ None → held.state ≡ Some device
     → ((d : DeviceState) → DeviceStands device d → IfOk r (λ text. text.items ≡ replay_text d)) → IfErr r (λ e. e ≡ error.Memory)

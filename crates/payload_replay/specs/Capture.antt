@@ -60,7 +60,7 @@ is_down Up = false
 abbrev pub is_heard : Entry → Bool
 is_heard item = item.port == 201 && is_down item.dir
 
--- behind some lines: what is written of them, and the device
+-- after some lines: what is written of them, and the device
 pub record Caught : Type 0 where
   pub text : List ℕ
   pub device : DeviceState
@@ -69,7 +69,7 @@ pub record Caught : Type 0 where
 unfoldable pub after_entry : (number : ℕ) → Entry → DeviceState → DeviceState
 after_entry number item device = if is_heard item then after_payload number item.payload device else device
 
--- an entry's text goes behind what is written so far, and the device hears it or stays as it is
+-- an entry's text goes after what is written so far, and the device hears it or stays as it is
 abbrev pub caught_next : (number : ℕ) → Entry → Caught → Caught
 caught_next number item all =
     record { text = all.text ++ entry_text number item; device = after_entry number item all.device }
@@ -81,7 +81,7 @@ Catches number item all next = next ≡ caught_next number item all
 abbrev pub first_caught : (rows : ℕ) → Caught
 first_caught rows = record { text = []; device = replay_device rows }
 
--- what is caught behind all lines, or the first refused line
+-- what is caught after all lines, or the first refused line
 abbrev pub CatchesAll : List (List ℕ) → Result Caught LineFault → Type 0
 CatchesAll lines outcome = TakesFile (codes "capture") line_entry Catches (λ rows. first_caught rows) lines outcome
 

@@ -36,7 +36,7 @@ pub record IsReplayOf (capture replay : List ℕ) (items : List Entry) : Type 0 
   pub replay_rows : rows_of (codes "replay") replay_header ≡ Ok rows
   pub hex : AreHexOf items lines hex_lines
 
--- the texts of entries, of which the first stands on the line behind so many
+-- the texts of entries, of which the first stands on the line after so many
 abbrev pub entries_text : (lines : ℕ) → List Entry → List ℕ
 entries_text lines [] = []
 entries_text lines (item ∷ items) = entry_text (lines + 1) item ++ entries_text (lines + 1) items

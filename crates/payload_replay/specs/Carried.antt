@@ -39,9 +39,9 @@ unfoldable pub carried_after : ℕ → List (List ℕ) → List CarriedCommand
 carried_after lines [] = []
 carried_after lines (line ∷ rest) = carried_in (lines + 1) (payload_of lines line) ++ carried_after (lines + 1) rest
 
--- ---- what a session is behind them
+-- ---- what a session is after them
 
--- behind a command at a line: a setup, a deletion or a fragment of its index changes it, and nothing else does
+-- after a command at a line: a setup, a deletion or a fragment of its index changes it, and nothing else does
 unfoldable pub after_command : DeviceConfig → (index line : ℕ) → Option Session → Command → Option Session
 after_command config index line s (Cast (FragSessionSetupReq i mask nb_frag frag_size algo delay padding descriptor)) =
     if i == index
@@ -52,7 +52,7 @@ after_command config index line s (Cast (DataFragment i n part)) =
     if i == index then after_fragment s Unicast n part line else s
 after_command config index line s command = s
 
--- behind commands, one after another
+-- after commands, one after another
 unfoldable pub session_behind : DeviceConfig → (index : ℕ) → Option Session → List CarriedCommand → Option Session
 session_behind config index s [] = s
 session_behind config index s (c ∷ cs) = session_behind config index (after_command config index c.line s c.command) cs

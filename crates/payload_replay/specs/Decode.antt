@@ -41,7 +41,7 @@ payload_text (Err refusal) = stop_text refusal
 abbrev pub numbered_text : ℕ → List ℕ → List ℕ
 numbered_text n shown = codes "line " ++ (decimal n ++ (codes "\n" ++ shown))
 
--- the line's number and its payload's text go behind what is written so far
+-- the line's number and its payload's text go after what is written so far
 abbrev pub Writes : ℕ → Direction → ℕ → List ℕ → List ℕ → List ℕ → Type 0
 Writes port direction n payload text next = next ≡ text ++ numbered_text n (payload_text (reading_of port direction payload))
 

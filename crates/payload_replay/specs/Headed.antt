@@ -1,4 +1,4 @@
--- Files of lines behind a header: a keyword, 1 and the coded fragments that a session holds. (This project's profile.)
+-- Files of lines after a header: a keyword, 1 and the coded fragments that a session holds. (This project's profile.)
 use Rattle.std.specs.Prelude.{◌≡◌, ℕ, ◌&&◌, ◌==◌, nat_lt, nat_le, if◌then◌else◌, List, [], ◌∷◌, length, codes, Option, Some, None, Result, Ok, Err}
 use Rattle.device_core.specs.Device.{max_rows}
 use Rattle.script_lines.specs.Limits.{max_line}
@@ -24,15 +24,15 @@ rows_of keyword line =
     then rows_by (decimal_of (word line 2))
     else Err why.Syntax
 
--- ---- the lines behind it
+-- ---- the lines after it
 
--- the rows make the first state, which the lines behind the header take on; or the header is refused
+-- the rows make the first state, which the lines after the header take on; or the header is refused
 abbrev pub TakesBehind : {P S : Type 0} → LineReading P → Step P S → (first : ℕ → S) → Result ℕ LineWhy
     → List (List ℕ) → Result S LineFault → Type 0
 TakesBehind reading Takes first (Err cause) lines outcome = outcome ≡ Err (record { line = 1; why = cause })
 TakesBehind reading Takes first (Ok rows) lines outcome = TakesLines reading Takes 1 (first rows) lines outcome
 
--- the state behind all lines, or the first refused line
+-- the state after all lines, or the first refused line
 unfoldable pub TakesFile : {P S : Type 0} → (keyword : List ℕ) → LineReading P → Step P S → (first : ℕ → S)
     → List (List ℕ) → Result S LineFault → Type 0
 TakesFile keyword reading Takes first [] outcome = outcome ≡ Err (record { line = 1; why = why.Syntax })

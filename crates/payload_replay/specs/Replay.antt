@@ -57,7 +57,7 @@ Hears n payload device next = next ≡ after_payload n payload device
 abbrev pub ReachesBehind : Result ℕ LineWhy → List (List ℕ) → Result DeviceState LineFault → Type 0
 ReachesBehind rows lines outcome = TakesBehind payload_of Hears (λ rows. replay_device rows) rows lines outcome
 
--- the device behind all lines, or the first refused line
+-- the device after all lines, or the first refused line
 abbrev pub Reaches : List (List ℕ) → Result DeviceState LineFault → Type 0
 Reaches lines outcome = TakesFile (codes "replay") payload_of Hears (λ rows. replay_device rows) lines outcome
 

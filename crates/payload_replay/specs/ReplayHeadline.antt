@@ -25,7 +25,7 @@ use Rattle.payload_replay.specs.Replay.{header_rows, replay_device, Reaches, rep
 use Rattle.payload_replay.specs.Carried.{CarriedCommand, carried, carried_after, session_behind, leaves}
 use Rattle.frag_session.specs.FirstMoment.{AfterEach, IsOpen, IsWhole, Overflows, NoFileFits, FirstAt, IsDecidedAtFirst}
 
--- the device behind a file has this session
+-- the device after a file has this session
 pub record IsReplayed (file : List ℕ) (device : DeviceState) (index : ℕ) (s : Session) : Type 0 where
   pub accepted : Reaches (lines_of file) (Ok device)
   pub index_is : index < 4
@@ -52,7 +52,7 @@ pub record IsSince (payloads : List (List ℕ)) (index : ℕ) (f : Fragment) (be
   pub there : carried_after 1 payloads ≡ before ++ carried f.mark (Cast (DataFragment index f.number f.part)) ∷ behind
   pub left : AllByRecursion (λ c. leaves index c.command ≡ true) behind
 
--- the text in which this is said of the session of an index, with what stands before it and behind
+-- the text in which this is said of the session of an index, with what stands before it and after
 abbrev pub text_saying : DeviceState → (index : ℕ) → (lines : List ℕ) → List ℕ
 text_saying device index lines =
     codes "fuota replay 1\n" ⧺ counts_line device.counts ⧺ lines_below whole device.sessions index ⧺ lines

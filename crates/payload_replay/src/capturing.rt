@@ -32,8 +32,8 @@ const HEAD_ROOM: usize = 32;
 ///
 /// The first line of the file is `capture 1 ROWS`, with ROWS (decimal, 0 to 256) the coded fragments that a session
 /// holds. Lines 2 to 20,000, each of at most 600 bytes, are JSON objects (RFC 8259) with `port` (0 to 255), `dir`
-/// (`down` or `up`) and `hex`, the digits of a payload of 0 to 242 bytes in the order sent. Behind the first line
-/// that is refused, and behind want of memory, no line does more. (TS004-1.0.0; the file and the text are this
+/// (`down` or `up`) and `hex`, the digits of a payload of 0 to 242 bytes in the order sent. After the first line
+/// that is refused, and after want of memory, no line does more. (TS004-1.0.0; the file and the text are this
 /// project's profile.)
 #[derive(Drop)]
 pub struct Capturing {
@@ -86,7 +86,7 @@ impl HearsLine for Capturing {
 }
 
 impl Capturing {
-    /// Behind no line.
+    /// After no line.
     pub fn new(alloc: Global) -> Self
         ensures { CapturingStands result [] }
     {
@@ -138,7 +138,7 @@ impl Capturing {
         }
     }
 
-    /// The text of a file, behind all its lines: of each object its line's number, counted from 1, its port and
+    /// The text of a file, after all its lines: of each object its line's number, counted from 1, its port and
     /// direction, and what its payload says; then, as in a replay, the counts of the device and its sessions.
     ///
     /// `LineError::Line` names the first line that is refused and its first cause: `LineWhy::Limit` where the number

@@ -23,7 +23,7 @@ use wire_base::{Direction, Why};
 /// reading stops, counted from 0, and why.
 ///
 /// The file has at most 20,000 lines of at most 600 bytes, each the hex digits of a payload of 0 to 242 bytes in the order
-/// sent. Behind the first line that is none, and behind want of memory, no line does more. (The text is this project's
+/// sent. After the first line that is none, and after want of memory, no line does more. (The text is this project's
 /// profile.)
 #[derive(Drop)]
 pub struct Decoding {
@@ -75,7 +75,7 @@ impl HearsLine for Decoding {
 }
 
 impl Decoding {
-    /// Behind no line.
+    /// After no line.
     pub fn new(alloc: Global, port: u8, dir: Direction) -> Self
         ensures { DecodingStands port dir result [] }
     {
@@ -120,7 +120,7 @@ impl Decoding {
         self.kept.is_some()
     }
 
-    /// The whole text of a file, behind all its lines. `LineError::Line` names the first line that is refused, with
+    /// The whole text of a file, after all its lines. `LineError::Line` names the first line that is refused, with
     /// `LineWhy::Limit` where a bound is exceeded and else `LineWhy::Syntax`; `LineError::Memory` comes where memory was
     /// wanting.
     pub fn text(self) -> Result<Vec<u8>, LineError>

@@ -1,4 +1,4 @@
-//! The device that hears captured payloads: made over a header, told of behind all lines.
+//! The device that hears captured payloads: made over a header, told of after all lines.
 
 ghost use Rattle.report_lines.specs.Texts.{IsText};
 ghost use Rattle.std.specs.Prelude.{◌≡◌, ◌≤◌, ◌++◌, length, codes};
@@ -10,10 +10,10 @@ ghost use Rattle.payload_replay.specs.Replay.{replay_device, after_payload, clos
 ghost use Rattle.payload_replay.specs.HeldHeaded.{IsBegun};
 
 use cast_wire::FRAGMENT_PORT;
-use device_core::{Class, Device, DeviceConfig, Incoming, MAX_AREA, MAX_ROWS};
+use device_core::{Class, Device, DeviceConfig, MAX_AREA, MAX_ROWS};
 use flash_session::CellFlash;
 use mc_keys::RootKind;
-use package_grammar::To;
+use package_grammar::{DownlinkRef, To};
 use report_lines::{
     LineError, LineWhy, MAX_LINE, Tail, counts_line, refused_behind, session_lines,
 };
@@ -89,7 +89,8 @@ pub fn hear(device: &mut Device<CellFlash>, payload: &[u8], mark: u64)
     requires { length payload.now ≤ max_payload }
     ensures { Becomes device.old device.new (λ before. after_payload mark payload.now before) }
 {
-    let down = Incoming::new(To::Unicast, FRAGMENT_PORT, payload);
+    let down = DownlinkRef::new(To::Unicast, FRAGMENT_PORT, payload);
+    // (a replay tells of what the session shows, not of the answer)
     let _delivered = device.receive(0, &down, 0, mark);
     device.drop_uplinks();
 }

@@ -23,8 +23,8 @@ use std::marker::Model;
 /// payloads by unicast on port 201, downwards, at moment 0 ms.
 ///
 /// The first line of the file is `replay 1 ROWS`, with ROWS (decimal, 0 to 256) the coded fragments that a session holds.
-/// Lines 2 to 20,000, each of at most 600 bytes, are the hex digits of a payload of 0 to 242 bytes in the order sent. Behind
-/// the first line that is refused, and behind want of memory, no line does more. (TS004-1.0.0; the file and the text are
+/// Lines 2 to 20,000, each of at most 600 bytes, are the hex digits of a payload of 0 to 242 bytes in the order sent. After
+/// the first line that is refused, and after want of memory, no line does more. (TS004-1.0.0; the file and the text are
 /// this project's profile.)
 #[derive(Drop)]
 pub struct Replaying {
@@ -64,7 +64,7 @@ impl HearsLine for Replaying {
 }
 
 impl Replaying {
-    /// Behind no line.
+    /// After no line.
     pub fn new(alloc: Global) -> Self
         ensures { ReplayingStands result [] }
     {
@@ -117,7 +117,7 @@ impl Replaying {
         }
     }
 
-    /// The text of a file, behind all its lines: the counts of the device, and of each session its verdict, with the number
+    /// The text of a file, after all its lines: the counts of the device, and of each session its verdict, with the number
     /// of the line that decided it, and its file in hex where it is whole.
     ///
     /// `LineError::Line` names the first line that is refused and its first cause: `LineWhy::Limit` where a bound is

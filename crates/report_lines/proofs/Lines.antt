@@ -31,7 +31,7 @@ none_left : {P S : Type 0} (reading : LineReading P) (Takes : Step P S) (lines :
 unfolding TakesLines
 none_left reading Takes lines state = refl
 
--- ---- lines behind others
+-- ---- lines after others
 
 behind_taken : {P S : Type 0} (Takes : Step P S) (lines : ℕ) (state mid : S) (said : Result P LineWhy)
     (goes_on goes_further : S → Result S LineFault → Type 0) (outcome : Result S LineFault)
@@ -64,7 +64,7 @@ behind_refused Takes lines state (Err cause) goes_on goes_further fault further 
 behind_refused Takes lines state (Ok said) goes_on goes_further fault further behind =
     (behind.0, behind.1, further behind.0 behind.2)
 
--- behind the first refused line nothing more comes of any
+-- after the first refused line nothing more comes of any
 pub lines_stop : {P S : Type 0} (reading : LineReading P) (Takes : Step P S) (rest : List (List ℕ)) (fault : LineFault) (lines : ℕ) (state : S)
     (before : List (List ℕ)) → TakesLines reading Takes lines state before (Err fault)
     → TakesLines reading Takes lines state (before ++ rest) (Err fault)

@@ -5,7 +5,7 @@ use Rattle.frag_session.specs.Session.{view_of}
 use Rattle.report_lines.specs.Devices.{◌⧺◌}
 use Rattle.report_lines.specs.Sessions.{ToldFile, session_line, session_lines, lines_below, lines_above}
 
--- behind those below its index, and before those above it
+-- after those below its index, and before those above it
 pub line_by_index : (index : ℕ) (tail : ToldFile) (table : SessionTable) → index < 4
     → session_lines tail table
     ≡ lines_below tail table index ⧺ session_line tail index (view_of (session_at table index)) ⧺ lines_above tail table index

@@ -5,6 +5,7 @@ use Rattle.image_slots.specs.declared.view.ImageState.{ImageState}
 use Rattle.image_slots.specs.declared.view.ImageState.TheVariants as image
 use Rattle.device_core.specs.declared.counts.Counts.{Counts}
 use Rattle.device_core.specs.Device.{DeviceState}
+use Rattle.report_lines.specs.declared.devices.Standing.{Standing}
 use Rattle.campaign_server.specs.declared.stage.Stage.{Stage}
 use Rattle.campaign_server.specs.declared.stage.Stage.TheVariants.{At, Updated, Refused}
 use Rattle.campaign_server.specs.declared.stage.Request.{Request}
@@ -46,9 +47,21 @@ device_text name stage offset token running next =
     codes "device " ⧺ name ⧺ codes " " ⧺ stage ⧺ codes " clock " ⧺ decimal offset ⧺ codes " token " ⧺ decimal token
     ⧺ codes " running " ⧺ decimal running ⧺ codes " next " ⧺ next ⧺ codes "\n"
 
+-- what it shows of a device
+abbrev pub standing_of : DeviceState → Standing
+standing_of device = record {
+  offset = device.clock.offset;
+  token = device.clock.token;
+  running = device.slots.version;
+  next = device.slots.next;
+}
+
+abbrev pub standing_line : (name : List ℕ) → Stage → Standing → List ℕ
+standing_line name stage stands =
+    device_text name (stage_text stage) stands.offset stands.token stands.running (next_text stands.next)
+
 abbrev pub device_line : (name : List ℕ) → Stage → DeviceState → List ℕ
-device_line name stage device =
-    device_text name (stage_text stage) device.clock.offset device.clock.token device.slots.version (next_text device.slots.next)
+device_line name stage device = standing_line name stage (standing_of device)
 
 -- counts deaf A refused B full C dropped D
 abbrev pub counts_line : Counts → List ℕ

@@ -4,5 +4,5 @@ pub mod Devices
 pub mod Sessions
 pub mod HeldTail
 pub mod Lines
-pub mod Behind
+pub mod After
 pub mod WorkedLines

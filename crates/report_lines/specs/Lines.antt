@@ -20,7 +20,7 @@ abbrev pub BehindLine : {S P : Type 0} → Step P S → ℕ → S → Result P L
 BehindLine Takes lines state (Err cause) goes_on outcome = outcome ≡ Err (record { line = lines + 1; why = cause })
 BehindLine {S} Takes lines state (Ok said) goes_on outcome = (next : S) × Takes (lines + 1) said state next × goes_on next outcome
 
--- behind so many lines the state is this one: what comes of those that are left, the last state or the first refused line
+-- after so many lines the state is this one: what comes of those that are left, the last state or the first refused line
 unfoldable pub TakesLines : {P S : Type 0} → LineReading P → Step P S → ℕ → S → List (List ℕ) → Result S LineFault → Type 0
 TakesLines reading Takes lines state [] outcome = outcome ≡ Ok state
 TakesLines reading Takes lines state (line ∷ rest) outcome =

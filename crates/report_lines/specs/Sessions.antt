@@ -28,7 +28,7 @@ file_line (verdict.Conflict line) file = []
 
 -- ---- lines
 
--- the verdict; of a whole file what stands behind the line may be more
+-- the verdict; of a whole file what stands after the line may be more
 abbrev pub verdict_text : Verdict → (behind : List ℕ) → List ℕ
 verdict_text verdict.Receiving behind = codes "receiving"
 verdict_text (verdict.Complete line) behind = codes "complete at " ⧺ decimal line ⧺ behind
@@ -41,7 +41,7 @@ session_text index received missing verdict =
     codes "session " ⧺ decimal index ⧺ codes " received " ⧺ decimal received ⧺ codes " missing " ⧺ decimal missing ⧺ codes " "
     ⧺ verdict ⧺ codes "\n"
 
--- what a session shows: same or other by its file, or the file behind its line
+-- what a session shows: same or other by its file, or the file after its line
 abbrev pub seen_line : ToldFile → (index : ℕ) → Seen → List ℕ
 seen_line (same image) index seen =
     session_text index seen.received seen.missing (verdict_text seen.verdict (same_word (bytes_eq seen.file image)))

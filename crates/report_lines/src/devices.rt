@@ -2,10 +2,8 @@
 
 ghost use Rattle.std.specs.Prelude.{◌≡◌, codes};
 ghost use Rattle.std.specs.Fmt.{decimal};
-ghost use Rattle.device_core.specs.Device.{DeviceState};
-ghost use Rattle.device_core.specs.HeldDevice.{DeviceStands};
 ghost use Rattle.report_lines.specs.Texts.{IsText};
-ghost use Rattle.report_lines.specs.Devices.{◌⧺◌, request_word, stage_text, next_text, device_text, device_line, counts_line};
+ghost use Rattle.report_lines.specs.Devices.{◌⧺◌, request_word, stage_text, next_text, standing_of, standing_line, counts_line};
 
 use campaign_server::{Request, Stage};
 use device_core::{Counts, Device};
@@ -13,23 +11,51 @@ use flash_session::Flash;
 use image_slots::ImageState;
 use std::alloc::{AllocError, Global};
 
-/// Where a device stands: its name in the report (the ID), its stage, its clock's offset in s, the token of its next
-/// request for the time, the version that it runs and what it runs next.
-pub fn device_line<F: Flash + Drop>(
+/// What a device's line shows of it.
+#[derive(Clone, Copy, Debug, PartialEq, Eq)]
+pub struct Standing {
+    /// Of its clock, in s.
+    pub offset: u32,
+    /// Of its next request for the time.
+    pub token: u8,
+    /// The version that it runs.
+    pub running: u32,
+    /// What it runs next.
+    pub next: ImageState,
+}
+
+impl Standing {
+    ghost use Rattle.device_core.specs.Device.{DeviceState};
+    ghost use Rattle.device_core.specs.HeldDevice.{DeviceStands};
+
+    /// How a device stands.
+    pub fn of<F: Flash + Drop>(device: &Device<F>) -> Self
+        ensures { (d : DeviceState) → DeviceStands device.now d → result ≡ standing_of d }
+    {
+        let (offset, token) = device.clock();
+        Standing {
+            offset,
+            token,
+            running: device.slots().running().0,
+            next: device.slots().next(),
+        }
+    }
+}
+
+/// The line of a device: its name in the report (the ID), its stage, its clock's offset in s, the token of its next request
+/// for the time, the version that it runs and what it runs next.
+pub fn device_line(
     alloc: Global,
     name: &str,
     stage: Stage,
-    device: &Device<F>,
+    stands: Standing,
 ) -> Result<String, AllocError>
-    ensures { (d : DeviceState) → DeviceStands device.now d
-        → IsText result (device_line name.now stage d) }
+    ensures { IsText result (standing_line name.now stage stands) }
 {
     let stage = stage_text(alloc, stage)?;
-    let next = next_text(alloc, device.slots().next())?;
-    let (offset, token) = device.clock();
-    let running = device.slots().running().0;
-    let stands = stands_text(alloc, name, stage.as_str(), offset, token)?;
-    device_text(alloc, stands.as_str(), running, next.as_str())
+    let next = next_text(alloc, stands.next)?;
+    let first = stands_text(alloc, name, stage.as_str(), stands.offset, stands.token)?;
+    device_text(alloc, first.as_str(), stands.running, next.as_str())
 }
 
 fn stands_text(
@@ -55,7 +81,7 @@ fn device_text(alloc: Global, stands: &str, running: u32, next: &str) -> Result<
 }
 
 /// Where a device stands in the campaign, as its line says it.
-pub fn stage_text(alloc: Global, stage: Stage) -> Result<String, AllocError>
+fn stage_text(alloc: Global, stage: Stage) -> Result<String, AllocError>
     ensures { IsText result (stage_text stage) }
 {
     match stage {

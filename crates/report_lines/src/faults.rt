@@ -7,6 +7,8 @@ ghost use Rattle.report_lines.specs.Texts.{IsText};
 ghost use Rattle.report_lines.specs.Faults.{why_word, fault_line};
 
 use std::alloc::{AllocError, Global};
+use std::fmt::{self, Display, Formatter, Write};
+use thiserror::Error;
 
 /// The most lines of a script or of a file of payloads.
 pub const MAX_LINES: u32 = 20_000;
@@ -18,7 +20,7 @@ pub const MAX_LINE: usize = 600;
 #[derive(Clone, Copy, Debug, PartialEq, Eq)]
 pub enum LineWhy {
     /// The line's number is above 20,000, or it has more than 600 bytes; and last of all: it has a device with a flash
-    /// behind four of them, a payload of more than 242 bytes, or nothing is left to send.
+    /// after four of them, a payload of more than 242 bytes, or nothing is left to send.
     Limit,
     /// It spells no form, entry or payload, or the script ended without `end`.
     Syntax,
@@ -35,17 +37,28 @@ pub enum LineWhy {
     Time,
 }
 
+impl Display for LineWhy {
+    fn fmt<W: Write>(&self, f: &mut Formatter<W>) -> fmt::Result {
+        f.write_str(why_word(*self))
+    }
+}
+
+impl std::error::Error for LineWhy {}
+
 /// The first refused line, counted from 1, and its first cause.
-#[derive(Clone, Copy, Debug, PartialEq, Eq)]
+#[derive(Clone, Copy, Debug, PartialEq, Eq, Error)]
+#[error("line {line} {why}")]
 pub struct LineFault {
     pub line: u32,
     pub why: LineWhy,
 }
 
 /// Why a call over lines answers nothing else.
-#[derive(Clone, Copy, Debug, PartialEq, Eq)]
+#[derive(Clone, Copy, Debug, PartialEq, Eq, Error)]
 pub enum LineError {
+    #[error("out of memory")]
     Memory,
+    #[error(transparent)]
     Line(LineFault),
 }
 
@@ -60,7 +73,7 @@ impl From<AllocError> for LineError {
     }
 }
 
-/// The refusal of the line that comes behind so many.
+/// The refusal of the line that comes after so many.
 pub fn refused_behind(lines: u32, why: LineWhy) -> LineError
     requires { lines ≤ max_lines }
     ensures { result ≡ LineError.Line (record { line = lines + 1; why = why }) }

@@ -3,7 +3,7 @@
 //! Each call gives exactly the text that its definition says, or wants memory. What a campaign is, and what captured
 //! payloads make of a device, is left to the crates above.
 //!
-//!     let stands = device_line(alloc, "3", stage, &device)?;          // device 3 updated clock 0 token 0 ..
+//!     let stands = device_line(alloc, "3", stage, Standing::of(&device))?; // device 3 updated clock 0 token 0 ..
 //!     let counts = counts_line(alloc, device.counts())?;              // counts deaf 0 refused 0 full 0 dropped 0
 //!     let sessions = session_lines(alloc, &device, Tail::Same(&image))?;
 //!     let said = fault_line(alloc, fault)?;                           // line 5 unsent
@@ -14,7 +14,7 @@ mod faults;
 mod laws;
 mod sessions;
 
-pub use devices::{counts_line, device_line, stage_text};
+pub use devices::{Standing, counts_line, device_line};
 pub use faults::{LineError, LineFault, LineWhy, MAX_LINE, MAX_LINES, fault_line, refused_behind};
 pub use laws::lines_read_so;
 pub use sessions::{Tail, session_lines};

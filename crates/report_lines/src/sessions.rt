@@ -19,7 +19,7 @@ use std::alloc::{AllocError, Global};
 /// What is told of a whole file.
 #[derive(Clone, Copy)]
 pub enum Tail<'a> {
-    /// Whether it is this image: ` same` or ` other` behind the line that completed it.
+    /// Whether it is this image: ` same` or ` other` after the line that completed it.
     Same(&'a [u8]),
     /// Its bytes in hex, on a line of their own: `file HEX`.
     File,
@@ -42,7 +42,7 @@ pub fn session_lines<F: Flash + Drop>(
     Ok(text)
 }
 
-/// Puts the line of a session behind those before it, if there is one.
+/// Puts the line of a session after those before it, if there is one.
 fn put_line<F: Flash + Drop>(
     alloc: Global,
     device: &Device<F>,
@@ -95,7 +95,7 @@ fn compared_line(alloc: Global, index: u8, view: View, image: &[u8]) -> Result<S
     session_text(alloc, index, view.received, view.missing, verdict.as_str())
 }
 
-/// The line of a session, with its file behind it.
+/// The line of a session, with its file after it.
 #[tactic(auto, unfolding(frag_session::specs::HeldView::seen))]
 fn whole_lines(alloc: Global, index: u8, view: View) -> Result<String, AllocError>
     ensures { IsText result (session_line whole index (Some (seen view.entry))) }
@@ -124,7 +124,7 @@ fn session_text(
     format!(in alloc; "session {index} received {received} missing {missing} {verdict}\n")
 }
 
-/// The verdict; of a whole file what stands behind its line may be more.
+/// The verdict; of a whole file what stands after its line may be more.
 fn verdict_text(alloc: Global, verdict: Verdict, behind: &str) -> Result<String, AllocError>
     ensures { IsText result (verdict_text verdict behind.now) }
 {

@@ -67,7 +67,7 @@ fn script_of(rt: &impl Abort, alloc: Global, outside: &Outside) -> Vec<u8> {
     }
 }
 
-/// A file under a name, behind the others.
+/// A file under a name, after the others.
 fn adds(
     rt: &impl Abort,
     alloc: Global,
@@ -86,7 +86,7 @@ fn failing(rt: &impl Abort, alloc: Global, call: u64) -> Vec<u64> {
     }
 }
 
-/// The two files, and behind them an empty one under each word, which is found where the two have other names.
+/// The two files, and after them an empty one under each word, which is found where the two have other names.
 fn files(rt: &impl Abort, alloc: Global, words: &[&str], outside: &Outside) -> MemFiles {
     let mut files = Vec::new(alloc);
     adds(
@@ -264,7 +264,7 @@ fn each_call_outside_may_fail(rt: HostRuntime) {
     fails(&rt, rt.alloc(), 0, 2, Status::WriteFault, REPORT);
 }
 
-/// The update of a device to its end: the file is whole at line 22, and runs behind the reboot.
+/// The update of a device to its end: the file is whole at line 22, and runs after the reboot.
 const UPDATE: &str =
     "ask 1\ndown 1 1\nup 1\nask 1\ndown 2 1\nup 2\nfrag\nfrag\nfrag\nfrag\nfrag\nfrag\nfrag\nfrag\ndown 3 1\ndown 5 1\ndown 9 1\ndown 10 1\nask 1\ndown 11 1\nup 3\nask 1\ndown 12 1\nup 4\nask 1\ndown 13 1\nup 5\nask 1\ndown 14 1\nup 6\nend\n";
 
@@ -299,7 +299,7 @@ static UPDATES: [(u64, u64, u32, Status, &str); 24] = [
     (6, 0, 5, Status::WriteFault, "read "),
 ];
 
-/// An update in which the call of each side with this number fails; behind the last one that comes, none does.
+/// An update in which the call of each side with this number fails; after the last one that comes, none does.
 #[test]
 fn an_update_says_what_failed(rt: HostRuntime) {
     for (read_fails, write_fails, room, status, text) in &UPDATES {
@@ -470,7 +470,7 @@ fn pieces_make_the_texts_of_the_whole(rt: HostRuntime) {
     );
 }
 
-/// A line of 602 digits behind one of two, and a third one.
+/// A line of 602 digits after one of two, and a third one.
 fn long_lines() -> [u8; 609] {
     let mut lines = [b'0'; 609];
     lines[2] = b'\n';

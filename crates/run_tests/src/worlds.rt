@@ -111,7 +111,7 @@ const FAULT: LineError = LineError::Line(LineFault {
     why: LineWhy::Device,
 });
 
-/// A line that is refused is answered again by each line behind it, and by the report.
+/// A line that is refused is answered again by each line after it, and by the report.
 #[test]
 fn a_refused_line_is_kept(rt: HostRuntime) {
     let mut world = world(&rt, rt.alloc());

@@ -15,7 +15,7 @@ use super::phase::Phase;
 use crate::numbered::SentPayload;
 use crate::section::Section;
 use campaign_server::{Plan, Server};
-use device_core::Incoming;
+use package_grammar::DownlinkRef;
 use report_lines::LineError;
 use std::alloc::{AllocError, Global};
 
@@ -27,7 +27,7 @@ impl World {
     pub fn section(&self) -> Section
         ensures { result ≡ self.now.section }
     {
-        self.phase.stand().section
+        self.phase.section()
     }
 
     /// How many devices there are, at most 64.
@@ -35,7 +35,7 @@ impl World {
         ensures count { result ≡ length self.now.devices }
         ensures few { result ≤ max_devices }
     {
-        self.phase.stand().count
+        self.phase.count()
     }
 
     /// How many of them have a flash.
@@ -43,7 +43,7 @@ impl World {
         ensures count { result ≡ length self.now.flash }
         ensures few { result < 2 ^ 63 }
     {
-        self.phase.stand().flash.len()
+        self.phase.flash().len()
     }
 
     /// What its server is to do, as far as it is planned.
@@ -74,9 +74,9 @@ impl World {
         self.phase.sent(number)
     }
 
-    /// A payload of another campaign's server reaches a device, by a line of the script. Where memory is wanting devices and
+    /// A payload of another campaign's server reaches a device, by a line of the script. Where memory is missing devices and
     /// server are as they were.
-    pub fn reach(&mut self, device: u8, down: &Incoming<'_>, word: u32) -> Result<(), LineError>
+    pub fn reach(&mut self, device: u8, down: &DownlinkRef<'_>, word: u32) -> Result<(), LineError>
         requires comes { takes_events self.old.section ≡ true }
         requires first { 1 ≤ device }
         requires last { device ≤ length self.old.devices }

@@ -1,47 +1,38 @@
 //! A campaign that plays, and its events.
 
-ghost use Rattle.std.specs.Prelude.{◌≡◌, ◌≤◌, ◌<◌, ◌+◌, ◌++◌, ◌^◌, ℕ, true, List, [], length, None, Some, IfOk, IfSome, OnOk, OnErr, option_map, string_bytes, Option};
-ghost use Rattle.std.specs.Result.{result_ok};
+ghost use Rattle.std.specs.Prelude.{◌≡◌, ◌≤◌, ◌<◌, ◌+◌, ℕ, true, List, [], length, None, Some, IfOk, IfSome, OnErr, option_map, string_bytes};
 ghost use Rattle.wire_base.specs.Numbered.{numbered};
 ghost use Rattle.image_slots.specs.Image.{is_image};
 ghost use Rattle.script_lines.specs.Limits.{max_lines};
-ghost use Rattle.device_core.specs.Device.{DeviceState};
-ghost use Rattle.device_core.specs.Events.{Wakes, Receives, HearsBytes, Migrates};
+ghost use Rattle.device_core.specs.Device.{DeviceState, max_moment};
+ghost use Rattle.device_core.specs.Events.{Wakes, Receives, HearsBytes};
 ghost use Rattle.device_core.specs.Sendable.{IsUplink};
 ghost use Rattle.campaign_server.specs.Plan.{max_devices};
-ghost use Rattle.campaign_server.specs.Asking.{request_of};
-ghost use Rattle.campaign_server.specs.Fragments.{next_fragment, after_fragment, status_to_all, after_status_to_all};
-ghost use Rattle.campaign_server.specs.Uplinks.{uplink_step};
-ghost use Rattle.campaign_server.specs.Sent.{down_of, written};
-ghost use Rattle.campaign_world.specs.Causes.{is_event_or_end, has_more};
-ghost use Rattle.campaign_world.specs.Making.{with_sent, with_event, reception, raw_down, sent_frame, hearing, after_up, at_events, after_form};
+ghost use Rattle.campaign_world.specs.Causes.{is_event_or_end};
+ghost use Rattle.campaign_world.specs.Making.{with_event, reception, raw_down, sent_frame, hearing, at_events, after_form};
 ghost use Rattle.campaign_world.specs.Report.{numbered_lines, report_with};
 ghost use Rattle.campaign_world.specs.Summary.{summary_with};
-ghost use Rattle.campaign_world.specs.HeldWorld.{sent_by, answered, is_answered};
-ghost use Rattle.campaign_world.specs.HeldLog.{HasRoom};
+ghost use Rattle.campaign_world.specs.HeldEvent.{happening_of, time_of, PlaysEvent};
 ghost use Rattle.campaign_world.specs.declared.numbered.SentPayload.{SentPayload};
-ghost use Rattle.campaign_world.specs.declared.numbered.MadeUplink.{MadeUplink};
 
-use crate::deliveries::{deliver, hear_bytes, migrate, restart, wake};
+use super::sends::sent_frame;
+use crate::happening::{Event, happen};
 use crate::late::LateDevice;
-use crate::lent::LentUplink;
 use crate::logs::{SentLog, UplinkLog};
-use crate::numbered::MadeUplink;
 use crate::report::{device_part, report};
 use crate::summary::summary;
+use crate::uplink_ref::UplinkRef;
 use campaign_server::Server;
-use device_core::{Incoming, Moment};
-use mc_frames::Frame;
-use package_grammar::{Downlink, To};
+use device_core::Moment;
+use package_grammar::{Downlink, DownlinkRef, To};
 use script_lines::{Form, HexBytes, MAX_HEX_BYTES};
 use std::alloc::{AllocError, Global};
 use std::marker::Model;
-use wire_base::{Payload, Refusal};
 
 /// A campaign that plays: its server and its devices, what was sent, and what came up.
 #[derive(Drop)]
 pub struct Campaign {
-    alloc: Global,
+    pub(super) alloc: Global,
     /// In ms.
     pub(super) time: u64,
     pub(super) server: Server,
@@ -51,7 +42,7 @@ pub struct Campaign {
     pub(super) sent: SentLog,
     pub(super) uplinks: UplinkLog,
     /// Where the server writes a payload, before it is numbered.
-    line: Downlink,
+    pub(super) line: Downlink,
 }
 
 impl Model for Campaign {
@@ -101,7 +92,7 @@ impl Campaign {
         }
     }
 
-    /// Carries out an event, behind so many lines. The end changes nothing of what is held.
+    /// Carries out an event, after so many lines. The end changes nothing of what is held.
     #[tactic(auto, unfolding(crate::specs::Making::after_form))]
     pub fn event(&mut self, lines: u32, form: &Form) -> Result<(), AllocError>
         requires event { is_event_or_end form.now ≡ true }
@@ -111,15 +102,16 @@ impl Campaign {
             (λ world. at_events (after_form world form.now)) }
         ensures ends { OnErr result (SameEnds self.old self.new) }
     {
-        let _ = &self.alloc;
+        // a field that is read tells of all what is true of them: that the devices are few
+        let _few = &self.alloc;
         match form {
             Form::At { time } => {
                 self.time = *time;
                 Ok(())
             }
             Form::Wake { device } => self.wake(*device as u8),
-            Form::Migrate { device } => self.migrate(*device as u8),
-            Form::Power { device } => self.power(*device as u8),
+            Form::Migrate { device } => self.happen_rarely(*device as u8, &Event::Raise),
+            Form::Power { device } => self.happen_rarely(*device as u8, &Event::Power),
             Form::Ask { device } => self.ask(*device as u8),
             Form::Frag => self.frag(),
             Form::Status => self.status(),
@@ -149,56 +141,38 @@ impl Campaign {
         }
     }
 
-    /// The server sends the request of its stage to a device.
-    #[inline(never)]
-    fn ask(&mut self, device: u8) -> Result<(), AllocError>
+    /// An event happens at a device, whose uplinks are then numbered, oldest first. Each caller knows its event, so that no
+    /// match on it is left in the built code.
+    #[inline(always)]
+    fn happen(&mut self, device: u8, event: &Event<'_>) -> Result<(), AllocError>
         requires first { 1 ≤ device }
         requires last { device ≤ length self.old.devices }
-        ensures taken { (lines : ℕ) → Plays lines self.old self.new result
-            (λ world. at_events (with_sent world (Some device) (request_of world.server device))) }
+        requires moment { time_of event.now ≤ max_moment }
+        ensures taken { PlaysEvent device (happening_of event.now) self.old self.new result }
         ensures ends { OnErr result (SameEnds self.old self.new) }
     {
-        match self.sent.reserve() {
-            Ok(()) => {}
-            Err(error) => return Err(error),
-        }
-        send_request(&mut self.sent, &mut self.line, &self.server, device);
-        Ok(())
+        happen(
+            &mut self.devices,
+            self.alloc,
+            &mut self.uplinks,
+            device,
+            event,
+        )
     }
 
-    /// The server sends the next fragment, to any device.
+    /// The same of a rarer event. It stands alone, so that there is one body for all of them.
     #[inline(never)]
-    fn frag(&mut self) -> Result<(), AllocError>
-        ensures taken { (lines : ℕ) → Plays lines self.old self.new result (λ world. at_events
-            (with_sent (record world { server = after_fragment world.server }) None
-            (result_ok (next_fragment world.server)))) }
+    fn happen_rarely(&mut self, device: u8, event: &Event<'_>) -> Result<(), AllocError>
+        requires first { 1 ≤ device }
+        requires last { device ≤ length self.old.devices }
+        requires moment { time_of event.now ≤ max_moment }
+        ensures taken { PlaysEvent device (happening_of event.now) self.old self.new result }
         ensures ends { OnErr result (SameEnds self.old self.new) }
     {
-        match self.sent.reserve() {
-            Ok(()) => {}
-            Err(error) => return Err(error),
-        }
-        send_fragment(&mut self.sent, &mut self.line, &mut self.server);
-        Ok(())
+        self.happen(device, event)
     }
 
-    /// The server asks all devices for their status.
-    #[inline(never)]
-    fn status(&mut self) -> Result<(), AllocError>
-        ensures taken { (lines : ℕ) → Plays lines self.old self.new result (λ world. at_events
-            (with_sent (record world { server = after_status_to_all world.server }) None
-            (status_to_all world.server))) }
-        ensures ends { OnErr result (SameEnds self.old self.new) }
-    {
-        match self.sent.reserve() {
-            Ok(()) => {}
-            Err(error) => return Err(error),
-        }
-        send_status(&mut self.sent, &mut self.line, &mut self.server);
-        Ok(())
-    }
-
-    /// A device wakes, and its uplinks are then numbered, oldest first.
+    /// A device wakes.
     #[inline(never)]
     fn wake(&mut self, device: u8) -> Result<(), AllocError>
         requires first { 1 ≤ device }
@@ -207,40 +181,25 @@ impl Campaign {
             (λ world. with_event world device (Some (Wakes world.time))) }
         ensures ends { OnErr result (SameEnds self.old self.new) }
     {
-        wake(
-            &mut self.devices,
-            self.alloc,
-            &mut self.uplinks,
-            device,
-            self.time,
-        )
+        let time = self.time;
+        self.happen(device, &Event::Wake(time))
     }
 
-    /// A device knows both image formats from now on.
-    #[inline(never)]
-    fn migrate(&mut self, device: u8) -> Result<(), AllocError>
-        requires first { 1 ≤ device }
-        requires last { device ≤ length self.old.devices }
-        ensures taken { (lines : ℕ) → Plays lines self.old self.new result
-            (λ world. with_event world device (Some Migrates)) }
-        ensures ends { OnErr result (SameEnds self.old self.new) }
+    /// The moment of the line that comes after so many.
+    #[inline(always)]
+    fn moment(&self, lines: u32, word: u32) -> Moment
+        requires room { lines < max_lines }
+        ensures value { result ≡ record { t = self.now.time; word = word; mark = lines + 1 } }
+        ensures within { self.now.time ≤ max_moment }
     {
-        migrate(&mut self.devices, self.alloc, device)
+        Moment {
+            t: self.time,
+            word,
+            mark: u64::from(lines) + 1,
+        }
     }
 
-    /// Power comes to a device anew: all is as it was.
-    #[inline(never)]
-    fn power(&mut self, device: u8) -> Result<(), AllocError>
-        requires first { 1 ≤ device }
-        requires last { device ≤ length self.old.devices }
-        ensures taken { (lines : ℕ) → Plays lines self.old self.new result
-            (λ world. at_events world) }
-        ensures ends { OnErr result (SameEnds self.old self.new) }
-    {
-        restart(&mut self.devices, self.alloc, device)
-    }
-
-    /// Payload S reaches a device, whose uplinks are then numbered, oldest first.
+    /// Payload S reaches a device.
     #[inline(never)]
     fn down(&mut self, lines: u32, number: u64, device: u8, word: u32) -> Result<(), AllocError>
         requires first { 1 ≤ device }
@@ -251,32 +210,25 @@ impl Campaign {
             (reception world.time word (world.lines + 1) (numbered world.sent number))) }
         ensures ends { OnErr result (SameEnds self.old self.new) }
     {
-        let mark = mark_behind(lines);
-        let coming = Moment {
-            t: self.time,
-            word,
-            mark,
-        };
+        let moment = self.moment(lines, word);
         let Some(sent) = self.sent.number(number) else {
             unreachable!()
         };
-        deliver(
+        happen(
             &mut self.devices,
             self.alloc,
             &mut self.uplinks,
             device,
-            &sent.down.incoming(),
-            coming,
+            &Event::Deliver(&sent.down, moment),
         )
     }
 
-    /// Anybody's payload reaches a device, whose uplinks are then numbered, oldest first. It is no sent payload, and has no
-    /// number.
+    /// Anybody's payload reaches a device. It is no sent payload, and has no number.
     pub fn raw(
         &mut self,
         lines: u32,
         device: u8,
-        down: &Incoming<'_>,
+        down: &DownlinkRef<'_>,
         word: u32,
     ) -> Result<(), AllocError>
         requires first { 1 ≤ device }
@@ -286,23 +238,11 @@ impl Campaign {
             (Some (Receives world.time word (world.lines + 1) down.now))) }
         ensures ends { OnErr result (SameEnds self.old self.new) }
     {
-        let mark = mark_behind(lines);
-        let coming = Moment {
-            t: self.time,
-            word,
-            mark,
-        };
-        deliver(
-            &mut self.devices,
-            self.alloc,
-            &mut self.uplinks,
-            device,
-            down,
-            coming,
-        )
+        let moment = self.moment(lines, word);
+        self.happen(device, &Event::Deliver(down, moment))
     }
 
-    /// The same of a payload that a line says.
+    /// The same of a payload that a line says. It stands alone, so that no other event keeps room for its bytes.
     #[inline(never)]
     fn raw_form(
         &mut self,
@@ -322,11 +262,11 @@ impl Campaign {
     {
         let mut bytes = [0; MAX_HEX_BYTES];
         let count = payload.put(&mut bytes);
-        let down = Incoming::new(To::Unicast, port, &bytes[..count]);
+        let down = DownlinkRef::new(To::Unicast, port, &bytes[..count]);
         self.raw(lines, device, &down, word)
     }
 
-    /// Sent payload S reaches the radio of a device as its frame, and its uplinks are then numbered, oldest first.
+    /// Sent payload S reaches the radio of a device as its frame. It stands alone, so that no other event keeps room for it.
     #[inline(never)]
     fn air(&mut self, lines: u32, number: u64, device: u8, word: u32) -> Result<(), AllocError>
         requires first { 1 ≤ device }
@@ -343,7 +283,7 @@ impl Campaign {
         }
     }
 
-    /// Anybody's bytes reach the radio of a device.
+    /// Anybody's bytes reach the radio of a device. It stands alone, so that no other event keeps room for them.
     #[inline(never)]
     fn raw_air(
         &mut self,
@@ -364,7 +304,7 @@ impl Campaign {
         self.hear(lines, device, &spelled[..count], word)
     }
 
-    /// Bytes reach the radio of a device, whose uplinks are then numbered, oldest first.
+    /// Bytes reach the radio of a device.
     fn hear(&mut self, lines: u32, device: u8, bytes: &[u8], word: u32) -> Result<(), AllocError>
         requires first { 1 ≤ device }
         requires last { device ≤ length self.old.devices }
@@ -373,60 +313,12 @@ impl Campaign {
             (Some (HearsBytes world.time word (world.lines + 1) bytes.now))) }
         ensures ends { OnErr result (SameEnds self.old self.new) }
     {
-        let mark = mark_behind(lines);
-        let coming = Moment {
-            t: self.time,
-            word,
-            mark,
-        };
-        hear_bytes(
-            &mut self.devices,
-            self.alloc,
-            &mut self.uplinks,
-            device,
-            bytes,
-            coming,
-        )
-    }
-
-    /// Uplink U reaches the server, which may answer.
-    #[inline(never)]
-    fn up(&mut self, number: u64) -> Result<(), AllocError>
-        requires made { (m : MadeUplink) × (numbered self.old.uplinks number ≡ Some m) }
-        ensures taken { (lines : ℕ) → Plays lines self.old self.new result
-            (λ world. at_events (after_up world (numbered world.uplinks number))) }
-        ensures ends { OnErr result (SameEnds self.old self.new) }
-    {
-        match self.sent.reserve() {
-            Ok(()) => {}
-            Err(error) => return Err(error),
-        }
-        let Some(made) = self.uplinks.number(number) else {
-            unreachable!()
-        };
-        send_answer(
-            &mut self.sent,
-            &mut self.line,
-            &mut self.server,
-            &made,
-            self.time,
-        );
-        Ok(())
-    }
-
-    /// Whether something is left to send for the form.
-    pub fn has_more(&self, form: &Form) -> bool
-        ensures { result ≡ has_more self.now.server form.now }
-    {
-        match form {
-            Form::Frag => self.server.has_fragment(),
-            Form::Status => self.server.has_status(),
-            _ => true,
-        }
+        let moment = self.moment(lines, word);
+        self.happen_rarely(device, &Event::Radio(bytes, moment))
     }
 
     /// The uplink with a number, counted from 1; None where none has it.
-    pub fn uplink(&self, number: u64) -> Option<LentUplink<'_>>
+    pub fn uplink(&self, number: u64) -> Option<UplinkRef<'_>>
         ensures found { result
             ≡ option_map (λ made. made.uplink) (numbered self.now.uplinks number) }
         ensures single { IfSome result (λ uplink. IsUplink uplink) }
@@ -468,116 +360,4 @@ impl Campaign {
     {
         summary(alloc, &self.server, self.sent.len(), &self.devices)
     }
-}
-
-/// The frame of a sent payload, where it has one.
-fn sent_frame(server: &Server, sent: &SentLog, number: u64) -> Option<Frame>
-    ensures { option_map (λ frame. frame.items) result
-        ≡ sent_frame server.now.plan.group (numbered sent.now.items number) }
-{
-    match sent.number(number) {
-        Some(found) => frame_of(server, &found.down.copied()),
-        None => None,
-    }
-}
-
-/// The frame of a payload, where it has one.
-fn frame_of(server: &Server, down: &Downlink) -> Option<Frame>
-    ensures { (receiver : Option ℕ) → option_map (λ frame. frame.items) result ≡ sent_frame
-        server.now.plan.group (Some (record { receiver = receiver; down = down.now })) }
-{
-    if server.has_frame(down) {
-        Some(server.frame(down))
-    } else {
-        None
-    }
-}
-
-/// Numbers the request of the stage of a device, where there is one. There is room for it.
-fn send_request(sent: &mut SentLog, line: &mut Downlink, server: &Server, device: u8)
-    requires first { 1 ≤ device }
-    requires last { device ≤ length server.now.plan.devices }
-    requires room { HasRoom 1 sent.old }
-    ensures { sent.new.items
-        ≡ sent.old.items ++ sent_by (Some device) (down_of (request_of server.now device)) }
-{
-    line.payload = Payload::new();
-    let asked = server.ask_into(device, line);
-    keep(sent, Some(device), line, asked);
-}
-
-/// Numbers the next fragment, where there is one. There is room for it.
-fn send_fragment(sent: &mut SentLog, line: &mut Downlink, server: &mut Server)
-    requires { HasRoom 1 sent.old }
-    ensures sent { sent.new.items
-        ≡ sent.old.items ++ sent_by None (down_of (result_ok (next_fragment server.old))) }
-    ensures moved { server.new ≡ after_fragment server.old }
-{
-    line.payload = Payload::new();
-    let made = server.next_fragment_into(line);
-    keep(sent, None, line, made.is_ok());
-}
-
-/// Numbers the status request to all devices, where there is one. There is room for it.
-fn send_status(sent: &mut SentLog, line: &mut Downlink, server: &mut Server)
-    requires { HasRoom 1 sent.old }
-    ensures sent { sent.new.items
-        ≡ sent.old.items ++ sent_by None (down_of (status_to_all server.old)) }
-    ensures moved { server.new ≡ after_status_to_all server.old }
-{
-    line.payload = Payload::new();
-    let asked = server.status_all_into(line);
-    keep(sent, None, line, asked);
-}
-
-/// Numbers what the server answers to an uplink, nothing to one that it refuses. There is room for it.
-fn send_answer(
-    sent: &mut SentLog,
-    line: &mut Downlink,
-    server: &mut Server,
-    made: &MadeUplink<'_>,
-    t: u64,
-)
-    requires first { 1 ≤ made.now.device }
-    requires last { made.now.device ≤ length server.old.plan.devices }
-    requires room { HasRoom 1 sent.old }
-    ensures sent { sent.new.items ≡ sent.old.items ++ sent_by (Some made.now.device)
-        (down_of (answered (uplink_step server.old made.now.device made.now.uplink.port
-        made.now.uplink.payload t).answer)) }
-    ensures moved { server.new ≡ (uplink_step server.old made.now.device made.now.uplink.port
-        made.now.uplink.payload t).server }
-{
-    line.payload = Payload::new();
-    let device = made.device;
-    let uplink = &made.uplink;
-    let heard = server.uplink_into(device, uplink.port(), uplink.bytes(), t, line);
-    keep(sent, Some(device), line, is_answered(heard));
-}
-
-/// Whether an uplink was taken and is answered.
-fn is_answered(heard: Result<bool, Refusal>) -> bool
-    ensures { result ≡ is_answered heard }
-{
-    match heard {
-        Ok(answered) => answered,
-        Err(_) => false,
-    }
-}
-
-/// Numbers a payload that was written, and else nothing. There is room for it.
-fn keep(sent: &mut SentLog, receiver: Option<u8>, down: &Downlink, wrote: bool)
-    requires { HasRoom 1 sent.old }
-    ensures { sent.new.items ≡ sent.old.items ++ sent_by receiver (written wrote down.now) }
-{
-    if wrote {
-        sent.push(receiver, down);
-    }
-}
-
-/// The mark of the line that comes behind so many.
-fn mark_behind(lines: u32) -> u64
-    requires { lines < max_lines }
-    ensures { result ≡ lines + 1 }
-{
-    u64::from(lines) + 1
 }

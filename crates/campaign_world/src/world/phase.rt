@@ -1,22 +1,21 @@
 //! Where a script is: it plans a campaign, or plays it.
 
-ghost use Rattle.std.specs.Prelude.{◌≡◌, ◌≤◌, ◌<◌, ℕ, true, [], length, OnErr};
+ghost use Rattle.std.specs.Prelude.{◌≡◌, ◌≤◌, ◌<◌, true, length, OnErr};
 ghost use Rattle.wire_base.specs.Numbered.{numbered};
-ghost use Rattle.image_slots.specs.Image.{max_image};
 ghost use Rattle.script_lines.specs.Limits.{max_lines};
 ghost use Rattle.campaign_server.specs.Plan.{max_devices};
-ghost use Rattle.campaign_world.specs.Causes.{may_come, takes_events, has_come};
+ghost use Rattle.campaign_world.specs.Causes.{is_in_order, takes_events};
 ghost use Rattle.campaign_world.specs.Said.{Reached};
 ghost use Rattle.campaign_world.specs.Making.{after_form, after_said};
 ghost use Rattle.campaign_world.specs.PhaseInside.{section_by, is_end, is_planned};
 
 use super::events::Campaign;
 use super::planning::Planning;
-use crate::causes::{has_come, is_event_or_end};
+use crate::causes::is_event_or_end;
 use crate::late::LateDevice;
 use crate::numbered::SentPayload;
 use crate::section::Section;
-use device_core::Incoming;
+use package_grammar::DownlinkRef;
 use script_lines::Form;
 use std::alloc::{AllocError, Global};
 
@@ -24,33 +23,19 @@ use std::alloc::{AllocError, Global};
 #[derive(Drop)]
 pub enum Phase {
     Planning(Planning),
-    /// Behind the end nothing more is played.
+    /// After the end nothing more is played.
     Playing { campaign: Campaign, has_ended: bool },
-}
-
-/// What a form is tested against.
-#[derive(Clone, Copy)]
-pub struct Stand<'a> {
-    pub section: Section,
-    /// Bytes of the image.
-    pub size: usize,
-    /// Devices so far.
-    pub count: usize,
-    /// Those of them that have a flash.
-    pub flash: &'a [u64],
-    /// In ms.
-    pub time: u64,
 }
 
 impl Phase {
     ghost use Rattle.campaign_world.specs.HeldWorld.{SameEnds, IsTested};
     ghost use Rattle.campaign_world.specs.PhaseInside.{IsPhase, PhaseTakes, held_of, section_of};
 
-    /// Carries out a form behind so many lines: a line of the plan, or an event, the first of which begins the campaign.
+    /// Carries out a form after so many lines: a line of the plan, or an event, the first of which begins the campaign.
     /// All memory that it needs is taken before a device or the server is called.
     pub fn take(&mut self, alloc: Global, lines: u32, form: &Form) -> Result<(), AllocError>
         requires phase { IsPhase self.old }
-        requires comes { may_come (section_of self.old) form.now ≡ true }
+        requires in_order { is_in_order (section_of self.old) form.now ≡ true }
         requires tested { IsTested (held_of self.old) form.now }
         requires room { lines < max_lines }
         ensures phase { IsPhase self.new }
@@ -75,7 +60,7 @@ impl Phase {
     fn plan(&mut self, alloc: Global, lines: u32, form: &Form) -> Result<(), AllocError>
         requires planned { is_planned self.old ≡ true }
         requires phase { IsPhase self.old }
-        requires comes { may_come (section_of self.old) form.now ≡ true }
+        requires in_order { is_in_order (section_of self.old) form.now ≡ true }
         requires tested { IsTested (held_of self.old) form.now }
         requires room { lines < max_lines }
         ensures phase { IsPhase self.new }
@@ -101,14 +86,14 @@ impl Phase {
         played
     }
 
-    /// A payload of another campaign's server reaches a device, behind so many lines. It may be the first event. All memory
+    /// A payload of another campaign's server reaches a device, after so many lines. It may be the first event. All memory
     /// that it needs is taken before the device is called.
     pub fn reach(
         &mut self,
         alloc: Global,
         lines: u32,
         device: u8,
-        down: &Incoming<'_>,
+        down: &DownlinkRef<'_>,
         word: u32,
     ) -> Result<(), AllocError>
         requires phase { IsPhase self.old }
@@ -138,48 +123,35 @@ impl Phase {
         }
     }
 
-    /// What a form is tested against.
-    pub fn stand(&self) -> Stand<'_>
-        requires { IsPhase self.now }
-        ensures section { result.section ≡ section_of self.now }
-        ensures size { result.size ≡ length (held_of self.now).server.image }
-        ensures count { result.count ≡ length (held_of self.now).devices }
-        ensures flash { result.flash.now ≡ (held_of self.now).flash }
-        ensures time { result.time ≡ (held_of self.now).time }
-        ensures short { result.size ≤ max_image }
-        ensures few { result.count ≤ max_devices }
+    /// What may come next.
+    pub fn section(&self) -> Section
+        ensures { result ≡ section_of self.now }
     {
         match self {
-            Phase::Planning(planning) => Stand {
-                section: planning.section,
-                size: planning.image.len(),
-                count: planning.devices.len(),
-                flash: &planning.flash,
-                time: 0,
-            },
-            Phase::Playing {
-                campaign,
-                has_ended,
-            } => Stand {
-                section: section_by(*has_ended),
-                size: campaign.server.image().len(),
-                count: campaign.devices.len(),
-                flash: &campaign.flash,
-                time: campaign.time,
-            },
+            Phase::Planning(planning) => planning.section,
+            Phase::Playing { has_ended, .. } => section_by(*has_ended),
         }
     }
 
-    /// Whether what the form tells of was sent and may come, or was made and is due.
-    pub fn has_come(&self, form: &Form) -> bool
-        ensures { result ≡ has_come (held_of self.now).sent (held_of self.now).uplinks
-            (held_of self.now).time form.now }
+    /// How many devices there are.
+    pub fn count(&self) -> usize
+        requires { IsPhase self.now }
+        ensures count { result ≡ length (held_of self.now).devices }
+        ensures few { result ≤ max_devices }
     {
         match self {
-            Phase::Planning(_) => is_of_nothing(form),
-            Phase::Playing { campaign, .. } => {
-                has_come(&campaign.sent, &campaign.uplinks, campaign.time, form)
-            }
+            Phase::Planning(planning) => planning.devices.len(),
+            Phase::Playing { campaign, .. } => campaign.devices.len(),
+        }
+    }
+
+    /// Those of the devices that have a flash.
+    pub fn flash(&self) -> &[u64]
+        ensures { result.now ≡ (held_of self.now).flash }
+    {
+        match self {
+            Phase::Planning(planning) => &planning.flash,
+            Phase::Playing { campaign, .. } => &campaign.flash,
         }
     }
 
@@ -213,13 +185,6 @@ fn section_by(has_ended: bool) -> Section
     } else {
         Section::Events
     }
-}
-
-/// Whether the form tells of no payload that was sent, and of no uplink.
-fn is_of_nothing(form: &Form) -> bool
-    ensures { (now : ℕ) → result ≡ has_come [] [] now form.now }
-{
-    !matches!(form, Form::Down { .. } | Form::Air { .. } | Form::Up { .. })
 }
 
 /// Whether the form is the end.

@@ -2,11 +2,11 @@
 
 ghost use Rattle.std.specs.Prelude.{◌≡◌, ◌≤◌, ◌<◌, ◌++◌, ◌∷◌, [], ℕ, true, false, length, Option, Some, IfOk, OnOk, OnErr};
 ghost use Rattle.image_slots.specs.Image.{is_image};
-ghost use Rattle.campaign_server.specs.Plan.{is_frag_size, fits_bits, max_devices};
+ghost use Rattle.campaign_server.specs.Plan.{is_frag_size, fits_bits};
 ghost use Rattle.campaign_server.specs.Server.{first_server};
 ghost use Rattle.campaign_world.specs.HeldLate.{HasSpan};
 ghost use Rattle.campaign_world.specs.World.{first_plan};
-ghost use Rattle.campaign_world.specs.Causes.{is_event_or_end, may_come};
+ghost use Rattle.campaign_world.specs.Causes.{is_event_or_end, is_in_order};
 ghost use Rattle.device_core.specs.Device.{is_config};
 ghost use Rattle.campaign_world.specs.Making.{with_plan, with_joined, with_flash, class_of, formats_of, root_of, span_of, after_form};
 ghost use Rattle.campaign_world.specs.declared.section.Section.TheVariants as section;
@@ -43,7 +43,7 @@ pub struct Planning {
 
 impl Planning {
     ghost use Rattle.campaign_world.specs.HeldWorld.{SameEnds, IsTested};
-    ghost use Rattle.campaign_world.specs.WorldInside.{IsSized, IsWindowed, IsToBegin};
+    ghost use Rattle.campaign_world.specs.WorldInside.{IsToJoin, IsToBegin};
     ghost use Rattle.campaign_world.specs.PhaseInside.{IsPlanningOf, PlanBecomes, PlanTakes, planned_by};
 
     /// Nothing is planned yet but the image.
@@ -74,7 +74,7 @@ impl Planning {
     pub fn line(&mut self, lines: u32, form: &Form) -> Result<(), AllocError>
         requires plan { is_event_or_end form.now ≡ false }
         requires planning { IsPlanningOf self.old }
-        requires comes { may_come self.old.section form.now ≡ true }
+        requires in_order { is_in_order self.old.section form.now ≡ true }
         requires tested { IsTested (planned_by self.old) form.now }
         ensures planning { IsPlanningOf self.new }
         ensures taken { PlanTakes lines self.old self.new result
@@ -197,7 +197,7 @@ impl Planning {
         self.section = Section::Group;
     }
 
-    /// The group's line, behind which its window is to come.
+    /// The group's line, after which its window is to come.
     fn group(&mut self, group: PlanGroup)
         requires here { self.old.section ≡ section.Group }
         requires planning { IsPlanningOf self.old }
@@ -229,9 +229,7 @@ impl Planning {
         requires fine { is_config config ≡ true }
         requires span { HasSpan config }
         requires planning { IsPlanningOf self.old }
-        requires sized { IsSized self.old.image.items self.old.plan self.old.devices.items }
-        requires windowed { IsWindowed self.old.plan }
-        requires room { length self.old.devices.items < max_devices }
+        requires joins { IsToJoin self.old.image.items self.old.plan self.old.devices.items }
         ensures planning { IsPlanningOf self.new }
         ensures taken { (lines : ℕ) → PlanTakes lines self.old self.new result
             (λ world. with_joined world id config) }
@@ -258,7 +256,7 @@ impl Planning {
         }
     }
 
-    /// The campaign that was planned, before its first event. Where memory is wanting the plan is as it was.
+    /// The campaign that was planned, before its first event. Where memory is missing the plan is as it was.
     pub fn begin(&mut self, alloc: Global) -> Result<Campaign, AllocError>
         requires { IsToBegin self.old.image.items self.old.plan self.old.devices.items }
         ensures begun { IfOk result (λ campaign. campaign ≡ planned_by self.old) }

@@ -5,8 +5,8 @@ use Rattle.campaign_world.proofs.FormCauses.{fine_of}
 use Rattle.campaign_world.proofs.Steps.{one_more_stands}
 use Rattle.campaign_world.proofs.world.World.take.Goals as goal
 
-pub take-requires-clause-comes : goal.take-requires-clause-comes
-take-requires-clause-comes c =
+pub take-requires-clause-in_order : goal.take-requires-clause-in_order
+take-requires-clause-in_order c =
     (fine_of c.self.inside.lines (section_of c.self.inside.phase) c.self.inside.kept (held_of c.self.inside.phase) c.args.form.now
     (subst (λ (h : HeldWorld). IsFine h c.args.form.now) (sym c.self.view_is) c.requires.fine)).0
 

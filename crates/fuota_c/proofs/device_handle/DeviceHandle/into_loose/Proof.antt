@@ -1,4 +1,4 @@
--- `into_loose` tests the pointer, and gives what is behind it.
+-- `into_loose` tests the pointer, and gives what it points to.
 use Rattle.std.proofs.Common.{◌≡◌, List, [], ◌∷◌, ◌++◌, refl, sym, ap, ◌∙◌, subst, lit<}
 use mir.Val.{Val, vptr, vnull, vcons, vnil}
 use base.Logic.{SProp, ent, emp, id⊢}

@@ -1,7 +1,10 @@
-use Rattle.std.proofs.Common.{◌≤◌, length, arith, subst}
+use Rattle.std.proofs.Common.{◌^◌, None, Some, refl, arith}
+use Rattle.std.proofs.lemmas.Bool.{leb-true, ltb-true}
+use Rattle.device_core.specs.Events.{Migrates}
+use Rattle.script_lines.specs.Ranges.{in_range}
 use Rattle.campaign_world.specs.Making.{after_form}
-use Rattle.campaign_world.specs.HeldWorld.{HeldCampaign}
-use Rattle.campaign_world.proofs.FormCauses.{woken_within, migrated_within, powered_within, asked_within, reached_within, struck_within, striking, payload_within, word_within, aired_within, air_word_within, heard_within, raw_air_word_within, time_within}
+use Rattle.campaign_world.proofs.FormCauses.{named_few, striking, time_within}
+use Rattle.campaign_world.proofs.Steps.{power_step}
 use Rattle.campaign_world.proofs.world.events.Campaign.event.Goals as goal
 
 pub invariant_of-self : goal.invariant_of-self
@@ -14,25 +17,48 @@ invariant_of-self c = record {
 }
 
 pub overflow_cast-device : goal.overflow_cast-device
-overflow_cast-device c = let both = woken_within _ _ _ c.requires.tested.names c.in-Wake.is in omega (arith, both.1, subst (λ (h : HeldCampaign). length h.devices ≤ 64) c.self.view_is c.self.invariant.few)
+overflow_cast-device c =
+    omega (arith, named_few _ _ c.in-Wake.device c.self.view_is c.self.invariant.few (rw c.in-Wake.is at c.requires.tested.names))
 
 pub overflow_cast-device-in-Migrate : goal.overflow_cast-device-in-Migrate
-overflow_cast-device-in-Migrate c = let both = migrated_within _ _ _ c.requires.tested.names c.in-Migrate.is in omega (arith, both.1, subst (λ (h : HeldCampaign). length h.devices ≤ 64) c.self.view_is c.self.invariant.few)
+overflow_cast-device-in-Migrate c =
+    omega (arith, named_few _ _ c.in-Migrate.device c.self.view_is c.self.invariant.few (rw c.in-Migrate.is at c.requires.tested.names))
 
 pub overflow_cast-device-in-Power : goal.overflow_cast-device-in-Power
-overflow_cast-device-in-Power c = let both = powered_within _ _ _ c.requires.tested.names c.in-Power.is in omega (arith, both.1, subst (λ (h : HeldCampaign). length h.devices ≤ 64) c.self.view_is c.self.invariant.few)
+overflow_cast-device-in-Power c =
+    omega (arith, named_few _ _ c.in-Power.device c.self.view_is c.self.invariant.few (rw c.in-Power.is at c.requires.tested.names))
 
 pub overflow_cast-device-in-Ask : goal.overflow_cast-device-in-Ask
-overflow_cast-device-in-Ask c = let both = asked_within _ _ _ c.requires.tested.names c.in-Ask.is in omega (arith, both.1, subst (λ (h : HeldCampaign). length h.devices ≤ 64) c.self.view_is c.self.invariant.few)
+overflow_cast-device-in-Ask c =
+    omega (arith, named_few _ _ c.in-Ask.device c.self.view_is c.self.invariant.few (rw c.in-Ask.is at c.requires.tested.names))
 
 pub overflow_cast-device-in-Down : goal.overflow_cast-device-in-Down
-overflow_cast-device-in-Down c = let both = reached_within _ _ _ _ _ c.requires.tested.names c.in-Down.is in omega (arith, both.1, subst (λ (h : HeldCampaign). length h.devices ≤ 64) c.self.view_is c.self.invariant.few)
-
-pub overflow_cast-word : goal.overflow_cast-word
-overflow_cast-word c = let small = word_within _ _ _ _ c.requires.tested.ranges c.in-Down.is in omega (arith, small)
+overflow_cast-device-in-Down c =
+    omega (arith, named_few _ _ c.in-Down.device c.self.view_is c.self.invariant.few (rw c.in-Down.is at c.requires.tested.names))
 
 pub overflow_cast-device-in-Raw : goal.overflow_cast-device-in-Raw
-overflow_cast-device-in-Raw c = let both = struck_within _ _ _ _ _ _ c.requires.tested.names c.in-Raw.is in omega (arith, both.1, subst (λ (h : HeldCampaign). length h.devices ≤ 64) c.self.view_is c.self.invariant.few)
+overflow_cast-device-in-Raw c =
+    omega (arith, named_few _ _ c.in-Raw.device c.self.view_is c.self.invariant.few (rw c.in-Raw.is at c.requires.tested.names))
+
+pub overflow_cast-device-in-Air : goal.overflow_cast-device-in-Air
+overflow_cast-device-in-Air c =
+    omega (arith, named_few _ _ c.in-Air.device c.self.view_is c.self.invariant.few (rw c.in-Air.is at c.requires.tested.names))
+
+pub overflow_cast-device-in-RawAir : goal.overflow_cast-device-in-RawAir
+overflow_cast-device-in-RawAir c =
+    omega (arith, named_few _ _ c.in-RawAir.device c.self.view_is c.self.invariant.few (rw c.in-RawAir.is at c.requires.tested.names))
+
+pub overflow_cast-word : goal.overflow_cast-word
+unfolding in_range
+overflow_cast-word c = omega (arith, ltb-true c.in-Down.word (2 ^ 32) (rw c.in-Down.is at c.requires.tested.ranges))
+
+pub overflow_cast-word-in-Air : goal.overflow_cast-word-in-Air
+unfolding in_range
+overflow_cast-word-in-Air c = omega (arith, ltb-true c.in-Air.word (2 ^ 32) (rw c.in-Air.is at c.requires.tested.ranges))
+
+pub overflow_cast-word-in-RawAir : goal.overflow_cast-word-in-RawAir
+unfolding in_range
+overflow_cast-word-in-RawAir c = omega (arith, ltb-true c.in-RawAir.word (2 ^ 32) (rw c.in-RawAir.is at c.requires.tested.ranges))
 
 pub overflow_cast-port : goal.overflow_cast-port
 overflow_cast-port c = let fits = striking _ _ _ _ _ c.requires.tested.ranges c.in-Raw.is in omega (arith, fits.port_fits)
@@ -41,19 +67,21 @@ pub overflow_cast-word-in-Raw : goal.overflow_cast-word-in-Raw
 overflow_cast-word-in-Raw c = let fits = striking _ _ _ _ _ c.requires.tested.ranges c.in-Raw.is in omega (arith, fits.word_fits)
 
 pub raw_form-requires-clause-short : goal.raw_form-requires-clause-short
-raw_form-requires-clause-short c = payload_within _ _ _ _ _ c.requires.tested.short c.in-Raw.is
+raw_form-requires-clause-short c = leb-true _ 242 (rw c.in-Raw.is at c.requires.tested.short)
+
+pub returns-in-Migrate-clause-taken : goal.returns-in-Migrate-clause-taken
+unfolding after_form
+returns-in-Migrate-clause-taken c =
+    rw (c.in-Migrate.is) (c.happen_rarely.ensures.taken c.args.lines (λ w. Some Migrates) (λ here kept devices. refl))
+
+pub returns-in-Power-clause-taken : goal.returns-in-Power-clause-taken
+unfolding after_form
+returns-in-Power-clause-taken c =
+    rw (c.in-Power.is) (power_step c.args.lines _ _ _ _ (c.happen_rarely-in-Power.ensures.taken c.args.lines (λ w. None) (λ here kept devices. refl)))
 
 pub returns-in-Wake-clause-taken : goal.returns-in-Wake-clause-taken
 unfolding after_form
 returns-in-Wake-clause-taken c = rw (c.in-Wake.is) (c.wake.ensures.taken c.args.lines)
-
-pub returns-in-Migrate-clause-taken : goal.returns-in-Migrate-clause-taken
-unfolding after_form
-returns-in-Migrate-clause-taken c = rw (c.in-Migrate.is) (c.migrate.ensures.taken c.args.lines)
-
-pub returns-in-Power-clause-taken : goal.returns-in-Power-clause-taken
-unfolding after_form
-returns-in-Power-clause-taken c = rw (c.in-Power.is) (c.power.ensures.taken c.args.lines)
 
 pub returns-in-Ask-clause-taken : goal.returns-in-Ask-clause-taken
 unfolding after_form
@@ -75,22 +103,6 @@ pub returns-in-Raw-clause-taken : goal.returns-in-Raw-clause-taken
 unfolding after_form
 returns-in-Raw-clause-taken c = rw (c.in-Raw.is) c.raw_form.ensures.taken
 
-pub returns-in-Up-clause-taken : goal.returns-in-Up-clause-taken
-unfolding after_form
-returns-in-Up-clause-taken c = rw (c.in-Up.is) (c.up.ensures.taken c.args.lines)
-
-pub overflow_cast-device-in-Air : goal.overflow_cast-device-in-Air
-overflow_cast-device-in-Air c = let both = aired_within _ _ _ _ _ c.requires.tested.names c.in-Air.is in omega (arith, both.1, subst (λ (h : HeldCampaign). length h.devices ≤ 64) c.self.view_is c.self.invariant.few)
-
-pub overflow_cast-word-in-Air : goal.overflow_cast-word-in-Air
-overflow_cast-word-in-Air c = let small = air_word_within _ _ _ _ c.requires.tested.ranges c.in-Air.is in omega (arith, small)
-
-pub overflow_cast-device-in-RawAir : goal.overflow_cast-device-in-RawAir
-overflow_cast-device-in-RawAir c = let both = heard_within _ _ _ _ _ c.requires.tested.names c.in-RawAir.is in omega (arith, both.1, subst (λ (h : HeldCampaign). length h.devices ≤ 64) c.self.view_is c.self.invariant.few)
-
-pub overflow_cast-word-in-RawAir : goal.overflow_cast-word-in-RawAir
-overflow_cast-word-in-RawAir c = let small = raw_air_word_within _ _ _ _ c.requires.tested.ranges c.in-RawAir.is in omega (arith, small)
-
 pub returns-in-Air-clause-taken : goal.returns-in-Air-clause-taken
 unfolding after_form
 returns-in-Air-clause-taken c = rw (c.in-Air.is) c.air.ensures.taken
@@ -98,3 +110,7 @@ returns-in-Air-clause-taken c = rw (c.in-Air.is) c.air.ensures.taken
 pub returns-in-RawAir-clause-taken : goal.returns-in-RawAir-clause-taken
 unfolding after_form
 returns-in-RawAir-clause-taken c = rw (c.in-RawAir.is) c.raw_air.ensures.taken
+
+pub returns-in-Up-clause-taken : goal.returns-in-Up-clause-taken
+unfolding after_form
+returns-in-Up-clause-taken c = rw (c.in-Up.is) (c.up.ensures.taken c.args.lines)

@@ -1,19 +1,7 @@
-use Rattle.std.proofs.Common.{◌≤◌, ◌+◌, length, Some, refl, sym, subst}
+use Rattle.std.proofs.Common.{◌+◌, Some, refl}
 use Rattle.device_core.specs.Events.{HearsBytes}
-use Rattle.campaign_world.specs.HeldWorld.{HeldCampaign}
-use Rattle.report_lines.proofs.Outcomes.{on_ok, on_ok_then}
-use Rattle.campaign_world.proofs.Steps.{event_at_step, stays_reached}
 use Rattle.campaign_world.proofs.world.events.Campaign.hear.Goals as goal
 
-pub invariant_of-self : goal.invariant_of-self
-invariant_of-self c = stays_reached _ _ _ _ _ _ c.args.device c.hear_bytes.ensures.count c.hear_bytes.ensures.made
-    (subst (λ (h : HeldCampaign). c.args.device ≤ length h.devices) (sym c.self.view_is) c.requires.last) c.self.invariant
-
 pub returns-clause-taken : goal.returns-clause-taken
-returns-clause-taken c = rw (← c.self.view_is) (λ here kept. on_ok c.hear_bytes.result (λ ok. λ world stands. event_at_step _ world _ _ c.args.device
-    (λ w. Some (HearsBytes w.time c.args.word (w.lines + 1) c.args.bytes.now)) _ stands c.requires.first
-    (subst (λ (h : HeldCampaign). c.args.device ≤ length h.devices) (sym c.self.view_is) c.requires.last) refl
-    (record {
-      devices = rw (← c.mark_behind-mark.ensures) (on_ok_then c.hear_bytes.result ok c.hear_bytes.ensures.devices);
-      uplinks = rw (← c.mark_behind-mark.ensures) (on_ok_then c.hear_bytes.result ok c.hear_bytes.ensures.uplinks);
-    })))
+returns-clause-taken c = c.happen_rarely.ensures.taken c.args.lines (λ w. Some (HearsBytes w.time c.args.word (w.lines + 1) c.args.bytes.now))
+    (λ here kept devices. rw (c.moment-moment.ensures.value) refl)

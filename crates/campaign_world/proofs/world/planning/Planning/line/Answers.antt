@@ -12,7 +12,7 @@ pub overflow_cast-parity : goal.overflow_cast-parity
 overflow_cast-parity c = let cuts = causes.cuts_well c.args.self.now.image.items (length c.args.self.now.devices.items) c.args.form.now c.in-Image.frag_size c.in-Image.parity c.in-Image.index c.in-Image.is c.requires.tested.ranges c.requires.tested.fits in omega (arith, cuts.2)
 
 pub cut-requires-clause-here : goal.cut-requires-clause-here
-cut-requires-clause-here c = causes.image_at c.args.self.now.section c.args.form.now c.in-Image.frag_size c.in-Image.parity c.in-Image.index c.in-Image.is c.requires.comes
+cut-requires-clause-here c = causes.image_at c.args.self.now.section c.args.form.now c.in-Image.frag_size c.in-Image.parity c.in-Image.index c.in-Image.is c.requires.in_order
 
 pub cut-requires-clause-size : goal.cut-requires-clause-size
 cut-requires-clause-size c = let cuts = causes.cuts_well c.args.self.now.image.items (length c.args.self.now.devices.items) c.args.form.now c.in-Image.frag_size c.in-Image.parity c.in-Image.index c.in-Image.is c.requires.tested.ranges c.requires.tested.fits in cuts.0
@@ -41,14 +41,11 @@ add_device-requires-clause-fine c = let fit = causes.fitting (length c.args.self
 pub add_device-requires-clause-span : goal.add_device-requires-clause-span
 add_device-requires-clause-span c = rw (c.span_of.ensures) (causes.spans c.in-Device.flash)
 
-pub add_device-requires-clause-sized : goal.add_device-requires-clause-sized
-add_device-requires-clause-sized c = (causes.joins_at c.args.self.now.image.items c.args.self.now.section c.args.self.now.plan c.args.self.now.devices.items c.args.form.now c.in-Device.id c.in-Device.hw c.in-Device.rows c.in-Device.offset c.in-Device.class c.in-Device.key c.in-Device.descriptor c.in-Device.v1 c.in-Device.k11 c.in-Device.flash c.in-Device.is c.requires.comes c.requires.planning.planned).0
-
-pub add_device-requires-clause-windowed : goal.add_device-requires-clause-windowed
-add_device-requires-clause-windowed c = (causes.joins_at c.args.self.now.image.items c.args.self.now.section c.args.self.now.plan c.args.self.now.devices.items c.args.form.now c.in-Device.id c.in-Device.hw c.in-Device.rows c.in-Device.offset c.in-Device.class c.in-Device.key c.in-Device.descriptor c.in-Device.v1 c.in-Device.k11 c.in-Device.flash c.in-Device.is c.requires.comes c.requires.planning.planned).1
-
-pub add_device-requires-clause-room : goal.add_device-requires-clause-room
-add_device-requires-clause-room c = let fit = causes.fitting (length c.args.self.now.image.items) (length c.args.self.now.devices.items) c.args.form.now c.in-Device.id c.in-Device.hw c.in-Device.rows c.in-Device.offset c.in-Device.class c.in-Device.key c.in-Device.descriptor c.in-Device.v1 c.in-Device.k11 c.in-Device.flash c.in-Device.is c.requires.tested.ranges c.requires.tested.fits in fit.next
+pub add_device-requires-clause-joins : goal.add_device-requires-clause-joins
+add_device-requires-clause-joins c =
+    let both = causes.joins_at c.args.self.now.image.items c.args.self.now.section c.args.self.now.plan c.args.self.now.devices.items c.args.form.now c.in-Device.id c.in-Device.hw c.in-Device.rows c.in-Device.offset c.in-Device.class c.in-Device.key c.in-Device.descriptor c.in-Device.v1 c.in-Device.k11 c.in-Device.flash c.in-Device.is c.requires.in_order c.requires.planning.planned in
+    let fit = causes.fitting (length c.args.self.now.image.items) (length c.args.self.now.devices.items) c.args.form.now c.in-Device.id c.in-Device.hw c.in-Device.rows c.in-Device.offset c.in-Device.class c.in-Device.key c.in-Device.descriptor c.in-Device.v1 c.in-Device.k11 c.in-Device.flash c.in-Device.is c.requires.tested.ranges c.requires.tested.fits in
+    record { sized = both.0; windowed = both.1; room = fit.next }
 
 pub overflow_cast-min : goal.overflow_cast-min
 overflow_cast-min c = let count = causes.counting c.args.form.now c.in-Group.id c.in-Group.addr c.in-Group.min c.in-Group.max c.in-Group.key c.in-Group.is c.requires.tested.ranges in omega (arith, count.first)
@@ -57,7 +54,7 @@ pub overflow_cast-max : goal.overflow_cast-max
 overflow_cast-max c = let count = causes.counting c.args.form.now c.in-Group.id c.in-Group.addr c.in-Group.min c.in-Group.max c.in-Group.key c.in-Group.is c.requires.tested.ranges in omega (arith, count.last)
 
 pub group-requires-clause-here : goal.group-requires-clause-here
-group-requires-clause-here c = causes.group_at c.args.self.now.section c.args.form.now c.in-Group.id c.in-Group.addr c.in-Group.min c.in-Group.max c.in-Group.key c.in-Group.is c.requires.comes
+group-requires-clause-here c = causes.group_at c.args.self.now.section c.args.form.now c.in-Group.id c.in-Group.addr c.in-Group.min c.in-Group.max c.in-Group.key c.in-Group.is c.requires.in_order
 
 pub group-requires-clause-counts : goal.group-requires-clause-counts
 group-requires-clause-counts c = let count = causes.counting c.args.form.now c.in-Group.id c.in-Group.addr c.in-Group.min c.in-Group.max c.in-Group.key c.in-Group.is c.requires.tested.ranges in count.some
@@ -81,7 +78,7 @@ pub overflow_cast-dr : goal.overflow_cast-dr
 overflow_cast-dr c = let opens = causes.opening_c c.args.form.now c.in-WindowC.start c.in-WindowC.timeout c.in-WindowC.freq c.in-WindowC.dr c.in-WindowC.is c.requires.tested.ranges in omega (arith, opens.dr_fits)
 
 pub window-requires-clause-here : goal.window-requires-clause-here
-window-requires-clause-here c = causes.window_c_at c.args.self.now.section c.args.form.now c.in-WindowC.start c.in-WindowC.timeout c.in-WindowC.freq c.in-WindowC.dr c.in-WindowC.is c.requires.comes
+window-requires-clause-here c = causes.window_c_at c.args.self.now.section c.args.form.now c.in-WindowC.start c.in-WindowC.timeout c.in-WindowC.freq c.in-WindowC.dr c.in-WindowC.is c.requires.in_order
 
 pub window-requires-clause-fits : goal.window-requires-clause-fits
 window-requires-clause-fits c = let opens = causes.opening_c c.args.form.now c.in-WindowC.start c.in-WindowC.timeout c.in-WindowC.freq c.in-WindowC.dr c.in-WindowC.is c.requires.tested.ranges in opens.test
@@ -102,7 +99,7 @@ pub overflow_cast-dr-in-WindowB : goal.overflow_cast-dr-in-WindowB
 overflow_cast-dr-in-WindowB c = let opens = causes.opening_b c.args.form.now c.in-WindowB.start c.in-WindowB.periodicity c.in-WindowB.timeout c.in-WindowB.freq c.in-WindowB.dr c.in-WindowB.is c.requires.tested.ranges in omega (arith, opens.0.dr_fits)
 
 pub window-requires-in-WindowB-clause-here : goal.window-requires-in-WindowB-clause-here
-window-requires-in-WindowB-clause-here c = causes.window_b_at c.args.self.now.section c.args.form.now c.in-WindowB.start c.in-WindowB.periodicity c.in-WindowB.timeout c.in-WindowB.freq c.in-WindowB.dr c.in-WindowB.is c.requires.comes
+window-requires-in-WindowB-clause-here c = causes.window_b_at c.args.self.now.section c.args.form.now c.in-WindowB.start c.in-WindowB.periodicity c.in-WindowB.timeout c.in-WindowB.freq c.in-WindowB.dr c.in-WindowB.is c.requires.in_order
 
 pub window-requires-in-WindowB-clause-fits : goal.window-requires-in-WindowB-clause-fits
 window-requires-in-WindowB-clause-fits c = let opens = causes.opening_b c.args.form.now c.in-WindowB.start c.in-WindowB.periodicity c.in-WindowB.timeout c.in-WindowB.freq c.in-WindowB.dr c.in-WindowB.is c.requires.tested.ranges in rw (le-leb c.in-WindowB.periodicity 7 opens.1) opens.0.test

@@ -1,0 +1,8 @@
+use Rattle.std.proofs.Common.{Option, None, ap, ◌∙◌, ◌++◌}
+use Rattle.package_grammar.specs.declared.downlink.Downlink.{Downlink}
+use Rattle.campaign_world.specs.HeldWorld.{sent_by}
+use Rattle.campaign_world.proofs.world.sends.send_status.Goals as goal
+
+pub returns-clause-sent : goal.returns-clause-sent
+returns-clause-sent c = c.keep.ensures
+    ∙ ap (λ (d : Option Downlink). c.args.sent.now.items ++ sent_by None d) c.status_all_into-asked.ensures.sent

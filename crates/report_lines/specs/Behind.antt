@@ -1,8 +1,0 @@
--- A consumer of the lines of a stream, and the lines that it stands behind.
-use Rattle.std.specs.Prelude.{◌≡◌, ℕ, List, [], ◌∷◌, ◌++◌}
-use Rattle.script_lines.specs.Pieces.{cut}
-
--- whatever lines it stood behind, it stands behind one line more, of which it hears what is handed out
-abbrev pub GoesBehind : {W : Type 0} → (W → List (List ℕ) → Type 0) → W → List ℕ → W → Type 0
-GoesBehind Stands old line new =
-    (lines : List (List ℕ)) (whole : List ℕ) → line ≡ cut whole → Stands old lines → Stands new (lines ++ whole ∷ [])
