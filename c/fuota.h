@@ -8,7 +8,7 @@
  *   - a handle begins as { 0 }, as by its ..._NONE. It is not copied, and what is in it is neither read nor written by
  *     C;
  *   - one call at a time uses a handle, and all calls on one handle come from one thread;
- *   - a pointer is to a value of its type, or to so many bytes as the length behind it says, set before the call even
+ *   - a pointer is to a value of its type, or to so many bytes as the length after it says, set before the call even
  *     where the call only writes there; nothing else reads or writes there during the call. It is not NULL, also at
  *     length 0;
  *   - a bool is 0 or 1;
@@ -28,7 +28,7 @@
 extern "C" {
 #endif
 
-/* What a call answers, where it says nothing else. Behind each answer but FUOTA_DONE what C handed in to be written to
+/* What a call answers, where it says nothing else. After each answer but FUOTA_DONE what C handed in to be written to
  * is as it was, unless the call says otherwise. */
 enum fuota_answer {
     FUOTA_DONE = 0,
@@ -129,7 +129,7 @@ typedef struct fuota_config {
     uint8_t sessions;    /* session indices, 1 to 4 */
     uint8_t groups;      /* multicast groups, 1 to 4 */
     bool has_descriptor;
-    bool is_class_c;     /* it always hears unicast payloads; else in the two windows behind its uplink */
+    bool is_class_c;     /* it always hears unicast payloads; else in the two windows after its uplink */
     uint8_t key[16];     /* GenAppKey of LoRaWAN 1.0, in the order of the standard's keys */
 } fuota_config;
 
@@ -147,7 +147,7 @@ typedef struct fuota_uplink {
     uint64_t due;         /* ms of true time */
     size_t length;        /* bytes of payload */
     uint8_t port;
-    uint8_t payload[242]; /* in the order in which they are sent; the bytes behind `length` are as they were */
+    uint8_t payload[242]; /* in the order in which they are sent; the bytes after `length` are as they were */
 } fuota_uplink;
 
 /* Frees what was there, and puts a new device into the handle, with all memory that it will ever need: FUOTA_DONE;
@@ -159,13 +159,13 @@ void fuota_device_free(fuota_device *handle);
 
 /* A payload comes: FUOTA_DONE, where its commands acted; FUOTA_DEAF, FUOTA_REFUSED, FUOTA_FULL, where they did not,
  * which is counted; FUOTA_RANGE at more than 242 bytes, and at a `t` out of range; FUOTA_NO_OBJECT. A reboot that is
- * due at `t` is carried out before the payload and behind it, also where its commands do not act, but not at
+ * due at `t` is carried out before the payload and after it, also where its commands do not act, but not at
  * FUOTA_RANGE. */
 uint8_t fuota_device_deliver(fuota_device *handle, uint8_t port, const uint8_t *payload, size_t length,
                              const fuota_arrival *arrival);
 
 /* The device wakes at `t` ms of true time and asks for the time: FUOTA_DONE; FUOTA_FULL where it holds 8 uplinks;
- * FUOTA_RANGE at a `t` out of range; FUOTA_NO_OBJECT. A reboot that is due at `t` is carried out before and behind, but
+ * FUOTA_RANGE at a `t` out of range; FUOTA_NO_OBJECT. A reboot that is due at `t` is carried out before and after, but
  * not at FUOTA_RANGE. */
 uint8_t fuota_device_wake(fuota_device *handle, uint64_t t);
 
@@ -180,7 +180,7 @@ uint8_t fuota_device_view(fuota_device *handle, uint8_t index, fuota_view *out);
  * their count, 0 also at another index and without a device. */
 size_t fuota_device_file(fuota_device *handle, uint8_t index, size_t offset, uint8_t *into, size_t room);
 
-/* The version of the firmware that runs, 0 at first, and another behind a reboot (deliver, wake) into a received image:
+/* The version of the firmware that runs, 0 at first, and another after a reboot (deliver, wake) into a received image:
  * FUOTA_DONE; FUOTA_NO_OBJECT. */
 uint8_t fuota_device_running(fuota_device *handle, uint32_t *version);
 
@@ -229,7 +229,7 @@ typedef struct fuota_down {
     uint32_t count;
     uint8_t port;
     bool is_group;        /* to a multicast group; else by unicast */
-    uint8_t payload[242]; /* in the order in which they are sent; the bytes behind `length` are as they were */
+    uint8_t payload[242]; /* in the order in which they are sent; the bytes after `length` are as they were */
 } fuota_down;
 
 /* Where a device stands. */
@@ -257,7 +257,7 @@ typedef struct fuota_stage {
 } fuota_stage;
 
 /* Frees what was there, and puts a server at the start of a campaign into the handle: FUOTA_DONE. There is no server
- * behind FUOTA_REFUSED, where the image is no image file; FUOTA_RANGE, where a field of the plan is wrong, with the
+ * after FUOTA_REFUSED, where the image is no image file; FUOTA_RANGE, where a field of the plan is wrong, with the
  * first of them, as enum fuota_field says, in *field; and FUOTA_NO_MEMORY. `keys` has the GenAppKeys of the 1 to 64
  * devices in turn, 16 bytes each; a rest of fewer is left out. */
 uint8_t fuota_server_new(fuota_server *handle, const fuota_plan *plan, const uint8_t *keys, size_t keys_length,
@@ -301,7 +301,7 @@ typedef struct fuota_decoded {
     uint8_t why;   /* a value of enum fuota_why, at FUOTA_REFUSED */
 } fuota_decoded;
 
-/* The commands of a payload of port 200 to 203, each on a line, at the front of `text`, with no 0 behind it:
+/* The commands of a payload of port 200 to 203, each on a line, at the front of `text`, with no 0 after it:
  * FUOTA_DONE, and out->length bytes of text; FUOTA_REFUSED; FUOTA_NO_ROOM, where the text has more than `room` bytes,
  * and its length is in out->length; FUOTA_NO_MEMORY. `up` says which way the payload goes: from a device, or to one. */
 uint8_t fuota_decode(uint8_t port, bool up, const uint8_t *payload, size_t length, uint8_t *text, size_t room,
