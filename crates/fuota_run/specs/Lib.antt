@@ -1,6 +1,7 @@
 pub mod Limits
 pub mod Outside
 pub mod Source
+pub mod HeldReading
 pub mod Memory
 pub mod Sure
 pub mod System

@@ -4,7 +4,8 @@ ghost use Rattle.std.specs.Prelude.{◌≡◌, ◌≢◌, ℕ, ◌+◌, ◌<◌,
 ghost use Rattle.std.specs.Io.KnownBytes.{IsAtEnd};
 ghost use Rattle.script_lines.specs.Hearing.{HearsLines};
 ghost use Rattle.fuota_run.specs.Outside.{HoldsName, HasRisen, IsReadSoFar};
-ghost use Rattle.fuota_run.specs.Source.{IsSource, IsTaken, IsTooLong};
+ghost use Rattle.fuota_run.specs.HeldReading.{ReadsSource};
+ghost use Rattle.fuota_run.specs.Source.{IsSource};
 ghost use Rattle.fuota_run.specs.Hearing.{HearsOn};
 
 use crate::files::{Failed, Files};
@@ -20,22 +21,12 @@ pub fn hear_source<F: Files, W: HearsLine>(
 ) -> Result<(), SourceError>
     requires held { HoldsName (F.held files.old) name.now }
     requires limit { limit + 1 < 2 ^ 32 }
-
-    ensures heard { OnOk result ((bytes : List ℕ) × IsSource (F.held files.old) name.now limit bytes
-        × (length bytes ≤ limit) × HearsLines W.hears hearer.old hearer.new bytes) }
-    ensures end { OnOk result (IsAtEnd (F.left files.new)) }
-
-    ensures long { (taken : ℕ) → IsErrOf result (SourceError.TooLong taken)
-        → IsTooLong (F.held files.old) name.now limit }
-    ensures taken { (taken : ℕ) → IsErrOf result (SourceError.TooLong taken) → taken ≡ limit + 1 }
-    ensures consumed { (taken : ℕ) → IsErrOf result (SourceError.TooLong taken)
-        → IsTaken (F.held files.old) name.now taken (F.left files.new) }
-    ensures failed { IsErrOf result SourceError.Failed
-        → HasRisen (F.faults files.old) (F.faults files.new) }
-    ensures quiet { result ≢ Err SourceError.Failed → F.faults files.new ≡ F.faults files.old }
+    ensures reads { ReadsSource (λ done. (bytes : List ℕ)
+        × IsSource (F.held files.old) name.now limit bytes × (length bytes ≤ limit)
+        × HearsLines W.hears hearer.old hearer.new bytes)
+        (F.held files.old) (F.held files.new) (F.faults files.old) (F.faults files.new)
+        (F.left files.new) name.now limit result }
     ensures no_memory { result ≢ Err SourceError.Memory }
-
-    ensures held { F.held files.new ≡ F.held files.old }
 {
     if files.choose(name).is_err() {
         return Err(SourceError::Failed);

@@ -3,7 +3,8 @@
 ghost use Rattle.std.specs.Prelude.{◌≡◌, ◌≢◌, ℕ, ◌+◌, ◌<◌, ◌≤◌, ◌^◌, true, List, length, vec_len, Err, IfOk, OnOk, IsErrOf};
 ghost use Rattle.std.specs.Io.KnownBytes.{IsAtEnd};
 ghost use Rattle.fuota_run.specs.Outside.{HoldsName, HasRisen, IsReadSoFar};
-ghost use Rattle.fuota_run.specs.Source.{IsSource, IsTaken, IsTooLong};
+ghost use Rattle.fuota_run.specs.HeldReading.{ReadsSource};
+ghost use Rattle.fuota_run.specs.Source.{IsSource};
 
 use crate::files::Files;
 use std::alloc::{AllocError, Global};
@@ -35,22 +36,10 @@ pub fn read_source<F: Files>(
 ) -> Result<Vec<u8>, SourceError>
     requires held { HoldsName (F.held files.old) name.now }
     requires limit { limit + 1 < 2 ^ 32 }
-
-    ensures source { IfOk result (λ bytes. IsSource (F.held files.old) name.now limit bytes.items) }
-    ensures within { IfOk result (λ bytes. length bytes.items ≤ limit) }
-    ensures end { OnOk result (IsAtEnd (F.left files.new)) }
-
-    ensures long { (taken : ℕ) → IsErrOf result (SourceError.TooLong taken)
-        → IsTooLong (F.held files.old) name.now limit }
-    ensures taken { (taken : ℕ) → IsErrOf result (SourceError.TooLong taken) → taken ≡ limit + 1 }
-    ensures consumed { (taken : ℕ) → IsErrOf result (SourceError.TooLong taken)
-        → IsTaken (F.held files.old) name.now taken (F.left files.new) }
-    ensures failed { IsErrOf result SourceError.Failed
-        → HasRisen (F.faults files.old) (F.faults files.new) }
-
-    ensures quiet { result ≢ Err SourceError.Failed → F.faults files.new ≡ F.faults files.old }
-
-    ensures held { F.held files.new ≡ F.held files.old }
+    ensures { ReadsSource (λ bytes. IsSource (F.held files.old) name.now limit bytes.items
+        × (length bytes.items ≤ limit))
+        (F.held files.old) (F.held files.new) (F.faults files.old) (F.faults files.new)
+        (F.left files.new) name.now limit result }
 {
     if files.choose(name).is_err() {
         return Err(SourceError::Failed);
